@@ -1,0 +1,10 @@
+pub mod Attributes
+pub mod Batches
+pub mod Counts
+pub mod Padded
+pub mod Refusals
+pub mod Slots
+pub mod Tables
+pub mod Tags
+pub mod Texts
+pub mod TextsKept

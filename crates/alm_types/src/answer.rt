@@ -1,0 +1,70 @@
+//! Answers.
+
+ghost use Rattle.std.specs.Prelude.{◌≡◌, ◌<◌, ◌≤◌, OnOk, OnErr, vec_capacity, [], None, false};
+ghost use Rattle.alm_types.specs.Counts.{one_more};
+ghost use Rattle.alm_types.specs.declared.shown.Shown.TheVariants.{Normal};
+
+use crate::shown::Shown;
+use std::alloc::{AllocError, Global};
+
+/// What a plant answers to a query. Of the fields only those that the query asks for are of use.
+#[derive(Drop)]
+pub struct Answer {
+    pub shown: Shown,
+    /// Whether the alarm's condition holds.
+    pub active: bool,
+    /// 1 shelved, 2 by design, 4 out of service, added.
+    pub flags: u8,
+    /// The moment at which the shelving ends.
+    pub until: Option<u64>,
+    /// How many annunciations an area had in the last 600 seconds.
+    pub window: u64,
+    pub flood: bool,
+    pub list: Vec<u32>,
+    /// How many growths of the list were refused, up to the greatest number.
+    pub refused: u64,
+}
+
+impl Answer {
+    /// An answer that tells nothing yet; it takes no memory.
+    pub fn new(alloc: Global) -> Self
+        ensures alarm { (result.shown ≡ Normal) × (result.active ≡ false) × (result.flags ≡ 0) × (result.until ≡ None) }
+        ensures flood { (result.window ≡ 0) × (result.flood ≡ false) }
+        ensures list { result.list.items ≡ [] }
+        ensures refused { result.refused ≡ 0 }
+    {
+        Answer {
+            shown: Shown::Normal,
+            active: false,
+            flags: 0,
+            until: None,
+            window: 0,
+            flood: false,
+            list: Vec::new(alloc),
+            refused: 0,
+        }
+    }
+
+    /// Takes room for a list of so many alarms, and counts a refused growth; all else stays.
+    pub fn reserve(&mut self, alarms: usize) -> Result<(), AllocError>
+        ensures room { OnOk result (alarms ≤ vec_capacity self.new.list) }
+        ensures whole { OnOk result (self.new.refused ≡ self.old.refused) }
+        ensures refused { OnErr result (self.new.refused ≡ one_more self.old.refused) }
+        ensures missing { OnErr result (vec_capacity self.old.list < alarms) }
+        ensures list { self.new.list.items ≡ self.old.list.items }
+        ensures alarm { (self.new.shown ≡ self.old.shown) × (self.new.active ≡ self.old.active) × (self.new.flags ≡ self.old.flags) × (self.new.until ≡ self.old.until) }
+        ensures flood { (self.new.window ≡ self.old.window) × (self.new.flood ≡ self.old.flood) }
+    {
+        let held = self.list.len();
+        if alarms <= held {
+            return Ok(());
+        }
+        match self.list.try_reserve(alarms - held) {
+            Ok(()) => Ok(()),
+            Err(error) => {
+                self.refused = self.refused.saturating_add(1);
+                Err(error)
+            }
+        }
+    }
+}

@@ -1,0 +1,77 @@
+//! Attributes.
+
+ghost use Rattle.std.specs.Prelude.{◌≡◌, ◌<◌, ◌≤◌, None, Some, IfOk, IfErr, OnOk, ◌≤ℤ◌, pos, negsuc, IsTrue};
+ghost use Rattle.alm_types.specs.Texts.{is_tag, is_text};
+ghost use Rattle.alm_types.specs.Attributes.{attr_fault, deadband_limit};
+
+use crate::attr_fault::AttrFault;
+use crate::kind::Kind;
+use crate::reading::Reading;
+use crate::settings::Settings;
+use crate::tag::Tag;
+use crate::text::Text;
+
+/// The attributes of an alarm, each in its limits.
+#[derive(Clone, Copy, Debug)]
+pub struct Attr {
+    pub kind: Kind,
+    pub setpoint: Reading,
+    /// How far a value has to go back behind the setpoint; 0 for a discrete alarm.
+    pub deadband: u64,
+    /// 1, the highest, to 4.
+    pub priority: u8,
+    /// The operating position, below 64.
+    pub area: u8,
+    /// Whether the alarm, once acknowledged and gone, stays annunciated until it is reset.
+    pub latching: bool,
+    /// The longest shelving in seconds; 0 where the alarm may not be shelved.
+    pub max_shelve: u32,
+    pub tag: Tag,
+    pub text: Text,
+    ghost setpoint_low: { negsuc 999999999999 ≤ℤ setpoint },
+    ghost setpoint_high: { setpoint ≤ℤ pos 1000000000000 },
+    ghost deadband_limit: { deadband ≤ deadband_limit kind },
+    ghost priority_limits: { (1 ≤ priority) × (priority ≤ 4) },
+    ghost area_limit: { area < 64 },
+    ghost max_shelve_limit: { max_shelve ≤ 604800 },
+    ghost tag_limits: { IsTrue (is_tag tag) },
+    ghost text_limits: { IsTrue (is_text text) },
+}
+
+impl Attr {
+    /// Attributes in their limits, or the first that is not: setpoint, deadband, priority, area, max_shelve, tag, text.
+    pub fn new(settings: Settings, tag: &[u8], text: &[u8]) -> Result<Self, AttrFault>
+        ensures good { OnOk result (attr_fault settings tag.now text.now ≡ None) }
+        ensures fault { IfErr result (λ fault. attr_fault settings tag.now text.now ≡ Some fault) }
+        ensures settings { IfOk result (λ a. record { kind = a.kind; setpoint = a.setpoint; deadband = a.deadband; priority = a.priority; area = a.area; latching = a.latching; max_shelve = a.max_shelve } ≡ settings) }
+        ensures tag { IfOk result (λ a. a.tag ≡ tag.now) }
+        ensures text { IfOk result (λ a. a.text ≡ text.now) }
+    {
+        let setpoint = Reading::new(settings.setpoint).ok_or(AttrFault::Setpoint)?;
+        if settings.deadband > settings.kind.deadband_limit() {
+            return Err(AttrFault::Deadband);
+        }
+        if settings.priority < 1 || settings.priority > 4 {
+            return Err(AttrFault::Priority);
+        }
+        if settings.area >= 64 {
+            return Err(AttrFault::Area);
+        }
+        if settings.max_shelve > 604_800 {
+            return Err(AttrFault::MaxShelve);
+        }
+        let tag = Tag::new(tag).ok_or(AttrFault::Tag)?;
+        let text = Text::new(text).ok_or(AttrFault::Text)?;
+        Ok(Attr {
+            kind: settings.kind,
+            setpoint,
+            deadband: settings.deadband,
+            priority: settings.priority,
+            area: settings.area,
+            latching: settings.latching,
+            max_shelve: settings.max_shelve,
+            tag,
+            text,
+        })
+    }
+}

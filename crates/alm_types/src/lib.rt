@@ -1,0 +1,65 @@
+//! The values of the alarm server, each in its range by construction.
+//!
+//! | value | range | made by |
+//! |---|---|---|
+//! | [`Moment`] | below 2^40 seconds | `Moment::new` |
+//! | [`Reading`] | -10^12 to 10^12 | `Reading::new` |
+//! | [`Slot`] | 0 to 15 consoles, 16 the feed, 17 the clock | `Slot::new` |
+//! | [`Tag`], [`Text`] | 1 to 32 and 0 to 80 bytes that print | `Tag::new`, `Text::new` |
+//! | [`Attr`] | the limits of each attribute | `Attr::new` |
+//! | [`Table`] | 1 to 16,384 alarms in 1 to 64 areas | `Table::new` |
+//! | [`Batch`] | at most 256 entries, their room reserved | `Batch::new` |
+//!
+//! Beside them stand the words that pass between the parts of the server: [`Action`], [`Request`], [`Verdict`],
+//! [`Refusal`], [`Entry`], [`Query`] and [`Answer`].
+//!
+//! What is used above: a value is in its range. An `AlarmId` is any number; whether there is such an alarm is for the
+//! plant to say. Limits, formats and refusals are this project's own.
+#![tactic(auto)]
+
+mod action;
+mod alarm_id;
+mod answer;
+mod attr;
+mod attr_fault;
+mod batch;
+mod entry;
+mod kind;
+mod moment;
+mod printed;
+mod query;
+mod reading;
+mod refusal;
+mod request;
+mod role;
+mod settings;
+mod shown;
+mod slot;
+mod table;
+mod table_fault;
+mod tag;
+mod text;
+mod verdict;
+
+pub use action::Action;
+pub use alarm_id::AlarmId;
+pub use answer::Answer;
+pub use attr::Attr;
+pub use attr_fault::AttrFault;
+pub use batch::Batch;
+pub use entry::Entry;
+pub use kind::Kind;
+pub use moment::Moment;
+pub use query::Query;
+pub use reading::Reading;
+pub use refusal::Refusal;
+pub use request::Request;
+pub use role::Role;
+pub use settings::Settings;
+pub use shown::Shown;
+pub use slot::Slot;
+pub use table::Table;
+pub use table_fault::TableFault;
+pub use tag::Tag;
+pub use text::Text;
+pub use verdict::Verdict;
