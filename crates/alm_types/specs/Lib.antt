@@ -3,6 +3,7 @@ pub mod Batches
 pub mod Counts
 pub mod Padded
 pub mod Refusals
+pub mod Reports
 pub mod Slots
 pub mod Tables
 pub mod Tags

@@ -1,0 +1,93 @@
+-- What an action makes of an alarm, and why the alarm refuses it.
+use Rattle.std.specs.Prelude.{ℕ, ◌+◌, Bool, true, false, not, ◌||◌, Option, Some, None, is_some, is_none, nat_lt, ◌==◌, if◌then◌else◌}
+use Rattle.alm_types.specs.declared.attr.Attr.{Attr}
+use Rattle.alm_types.specs.declared.action.Action.{Action}
+use Rattle.alm_types.specs.declared.action.Action.TheVariants.{Clock, Value, Ack, Reset, Shelve, Unshelve, Oos, Design}
+use Rattle.alm_types.specs.declared.refusal.Refusal.{Refusal}
+use Rattle.alm_types.specs.declared.refusal.Refusal.TheVariants.{NotUnacknowledged, NotResettable, AlreadyShelved, NotShelved, ShelveLength, AlreadySet, NotSet, NoChange}
+use Rattle.alm_state.specs.Rows.{State, is_suppressed, is_annunciated}
+use Rattle.alm_state.specs.Table.{next_core}
+use Rattle.alm_state.specs.Detection.{detected}
+use Rattle.alm_state.specs.declared.core_state.Core.{Core}
+use Rattle.alm_state.specs.declared.core_state.Core.TheVariants.{Normal, Unack}
+use Rattle.alm_state.specs.declared.happening.Happening.{Happening}
+use Rattle.alm_state.specs.declared.happening.Happening.TheVariants as happening
+use Rattle.alm_state.specs.declared.outcome.Outcome.{Outcome}
+use Rattle.alm_state.specs.declared.outcome.Outcome.TheVariants.{Changed, Annunciated, Shelved}
+
+-- a refusal where the test fails
+abbrev pub unless : Bool → Refusal → Option Refusal
+unless passed refusal = if passed then None else Some refusal
+
+-- the first of two refusals
+abbrev pub or_else : Option Refusal → Option Refusal → Option Refusal
+or_else None later = later
+or_else (Some first) later = Some first
+
+-- why a flag is not set or cleared
+abbrev pub flag_refusal : Bool → Bool → Option Refusal
+flag_refusal true true = Some AlreadySet
+flag_refusal false false = Some NotSet
+flag_refusal true false = None
+flag_refusal false true = None
+
+-- why the alarm that an action names refuses it
+abbrev pub row_refusal : Action → Attr → State → Option Refusal
+row_refusal (Clock t) a s = None
+row_refusal (Value i v) a s = unless (is_some (detected a s.active v)) NoChange
+row_refusal (Ack i) a s = unless (is_some (next_core a.latching happening.Ack s.core)) NotUnacknowledged
+row_refusal (Reset i) a s = unless (is_some (next_core a.latching happening.Reset s.core)) NotResettable
+row_refusal (Shelve i seconds) a s =
+    or_else (unless (is_none s.shelved_until) AlreadyShelved) (unless (not (seconds == 0 || nat_lt a.max_shelve seconds)) ShelveLength)
+row_refusal (Unshelve i) a s = unless (is_some s.shelved_until) NotShelved
+row_refusal (Oos i on) a s = flag_refusal on s.out_of_service
+row_refusal (Design i on) a s = flag_refusal on s.by_design
+
+-- the row annunciated anew, with the next stamp
+abbrev pub annunciated_anew : ℕ → State → Outcome
+annunciated_anew stamp s = Annunciated (record s { core = Unack; stamp = stamp })
+
+-- the row in another core state; what is annunciated no more has no stamp
+abbrev pub moved : Core → State → State
+moved c s = record s { core = c; stamp = if is_annunciated c then s.stamp else 0 }
+
+-- the row where the table of the core states leads it; only a condition that comes leads to Unack
+abbrev pub led : ℕ → Option Core → State → Outcome
+led stamp None s = Changed s
+led stamp (Some Unack) s = annunciated_anew stamp s
+led stamp (Some c) s = Changed (moved c s)
+
+-- the row under flags that have changed: Normal while one is set; when the last one falls, an active alarm is annunciated anew
+abbrev pub reflagged : ℕ → State → Outcome
+reflagged stamp s =
+    if is_suppressed s then Changed (record s { core = Normal; stamp = if is_some s.shelved_until then s.stamp else 0 })
+    else if s.active then annunciated_anew stamp s
+    else Changed (record s { core = Normal; stamp = 0 })
+
+abbrev pub unshelved : ℕ → State → Outcome
+unshelved stamp s = reflagged stamp (record s { shelved_until = None })
+
+-- the row after its condition came or went; under a flag the condition is only followed
+abbrev pub followed : ℕ → Attr → State → Option Bool → Outcome
+followed stamp a s None = Changed s
+followed stamp a s (Some active) =
+    if is_suppressed s then Changed (record s { active = active })
+    else led stamp (next_core a.latching (if active then happening.Comes else happening.Goes) s.core) (record s { active = active })
+
+-- what an action at a moment makes of the alarm that it names, where this is the next stamp
+abbrev pub outcome : ℕ → ℕ → Action → Attr → State → Outcome
+outcome now stamp (Clock t) a s = Changed s
+outcome now stamp (Value i v) a s = followed stamp a s (detected a s.active v)
+outcome now stamp (Ack i) a s = led stamp (next_core a.latching happening.Ack s.core) s
+outcome now stamp (Reset i) a s = led stamp (next_core a.latching happening.Reset s.core) s
+outcome now stamp (Shelve i seconds) a s = Shelved (record s { core = Normal; shelved_until = Some (now + seconds); stamp = stamp })
+outcome now stamp (Unshelve i) a s = unshelved stamp s
+outcome now stamp (Oos i on) a s = reflagged stamp (record s { out_of_service = on })
+outcome now stamp (Design i on) a s = reflagged stamp (record s { by_design = on })
+
+-- whether the condition holds after something happened
+abbrev pub active_after : Happening → Bool → Bool
+active_after happening.Comes active = true
+active_after happening.Goes active = false
+active_after happening.Ack active = active
+active_after happening.Reset active = active

@@ -1,0 +1,61 @@
+//! Rows.
+
+use crate::core_state::Core;
+use std::marker::Model;
+
+/// What changes of an alarm.
+///
+/// While a flag is set the core is Normal; without one the alarm is active exactly in Unack and Acked. The stamp is above 0
+/// exactly where the alarm is annunciated or shelved.
+#[derive(Clone, Copy, Debug, PartialEq, Eq)]
+pub struct Row {
+    /// Whether the condition holds; it is followed under flags too.
+    pub active: bool,
+    pub core: Core,
+    /// The moment at which the shelving ends; `None` where the alarm isn't shelved.
+    pub shelved_until: Option<u64>,
+    /// Suppressed by design.
+    pub by_design: bool,
+    pub out_of_service: bool,
+    /// The stamp of the last annunciation while annunciated, that of the shelving while shelved, else 0.
+    pub stamp: u64,
+}
+
+impl Model for Row {
+    ghost use Rattle.alm_state.specs.Rows.{State, IsState};
+
+    ghost Value = { State };
+
+    ghost view = { λ r. record { active = r.active; core = r.core; shelved_until = r.shelved_until; by_design = r.by_design; out_of_service = r.out_of_service; stamp = r.stamp } };
+
+    ghost invariant = { λ r. IsState (record { active = r.active; core = r.core; shelved_until = r.shelved_until; by_design = r.by_design; out_of_service = r.out_of_service; stamp = r.stamp }) };
+
+    ghost inverse = { λ s. record { active = s.active; core = s.core; shelved_until = s.shelved_until; by_design = s.by_design; out_of_service = s.out_of_service; stamp = s.stamp } };
+}
+
+impl Row {
+    ghost use Rattle.std.specs.Prelude.{◌≡◌, None, false};
+    ghost use Rattle.alm_state.specs.Rows.{is_suppressed, is_annunciated};
+    ghost use Rattle.alm_state.specs.declared.core_state.Core.TheVariants.{Normal};
+
+    /// An alarm without a condition.
+    pub fn new() -> Self
+        ensures { result ≡ record { active = false; core = Normal; shelved_until = None; by_design = false; out_of_service = false; stamp = 0 } }
+    {
+        Row {
+            active: false,
+            core: Core::Normal,
+            shelved_until: None,
+            by_design: false,
+            out_of_service: false,
+            stamp: 0,
+        }
+    }
+
+    /// Whether some flag is set.
+    pub fn is_suppressed(&self) -> bool
+        ensures { result ≡ is_suppressed self.now }
+    {
+        self.shelved_until.is_some() || self.by_design || self.out_of_service
+    }
+}
