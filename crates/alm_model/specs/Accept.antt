@@ -1,0 +1,59 @@
+-- Which requests are accepted.
+use Rattle.std.specs.Prelude.{ℕ, ◌^◌, Bool, true, false, Option, Some, None, Result, Ok, Err, slice_get, nat_lt}
+use Rattle.alm_types.specs.declared.attr.Attr.{Attr}
+use Rattle.alm_types.specs.declared.role.Role.{Role}
+use Rattle.alm_types.specs.declared.role.Role.TheVariants as role
+use Rattle.alm_types.specs.declared.action.Action.{Action}
+use Rattle.alm_types.specs.declared.action.Action.TheVariants.{Clock, Value, Ack, Reset, Shelve, Unshelve, Oos, Design}
+use Rattle.alm_types.specs.declared.request.Request.{Request}
+use Rattle.alm_types.specs.declared.refusal.Refusal.{Refusal}
+use Rattle.alm_types.specs.declared.refusal.Refusal.TheVariants.{NoSuchAlarm, ClockBack, WrongRole, Exhausted}
+use Rattle.alm_types.specs.Slots.{role_of}
+use Rattle.alm_state.specs.Rows.{State}
+use Rattle.alm_state.specs.Outcome.{row_refusal, or_else, unless}
+use Rattle.alm_model.specs.Plant.{Panel}
+
+-- the feed sends values and suppresses by design, the clock moves the time, a console does the rest
+abbrev pub may_ask : Role → Action → Bool
+may_ask role.Clock (Clock t) = true
+may_ask role.Feed (Value i v) = true
+may_ask role.Feed (Design i on) = true
+may_ask role.Console (Ack i) = true
+may_ask role.Console (Reset i) = true
+may_ask role.Console (Shelve i s) = true
+may_ask role.Console (Unshelve i) = true
+may_ask role.Console (Oos i on) = true
+may_ask _ _ = false
+
+-- the alarm that an action names
+abbrev pub alarm_of : Action → ℕ
+alarm_of (Clock t) = 0
+alarm_of (Value i v) = i.0
+alarm_of (Ack i) = i.0
+alarm_of (Reset i) = i.0
+alarm_of (Shelve i seconds) = i.0
+alarm_of (Unshelve i) = i.0
+alarm_of (Oos i on) = i.0
+alarm_of (Design i on) = i.0
+
+-- why an alarm refuses an action, or that there is no such alarm
+abbrev pub alarm_refusal : Action → Option Attr → Option State → Option Refusal
+alarm_refusal action (Some a) (Some s) = row_refusal action a s
+alarm_refusal action _ _ = Some NoSuchAlarm
+
+-- why the clock or the alarm that is named refuses an action
+abbrev pub own_refusal : Panel → Action → Option Refusal
+own_refusal p (Clock t) = unless (nat_lt p.now t) ClockBack
+own_refusal p action = alarm_refusal action (slice_get p.attrs (alarm_of action)) (slice_get p.rows (alarm_of action))
+
+-- why an action is refused, whoever asks; the last reason is that the actions are spent
+abbrev pub refusal : Panel → Action → Option Refusal
+refusal p action = or_else (own_refusal p action) (unless (nat_lt p.count (2 ^ 48)) Exhausted)
+
+-- a value, or the reason against it
+abbrev pub answer : {A : Type 0} → A → Option Refusal → Result A Refusal
+answer a None = Ok a
+answer a (Some r) = Err r
+
+abbrev pub accept : Panel → Request → Result Action Refusal
+accept p r = answer r.want (or_else (unless (may_ask (role_of r.slot) r.want) WrongRole) (refusal p r.want))

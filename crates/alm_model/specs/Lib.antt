@@ -1,0 +1,16 @@
+pub mod Accept
+pub mod Condense
+pub mod Counted
+pub mod Keeping
+pub mod Lists
+pub mod Look
+pub mod Measured
+pub mod New
+pub mod Ordering
+pub mod Parts
+pub mod Plain
+pub mod Plant
+pub mod Rising
+pub mod Rules
+pub mod Sound
+pub mod Step

@@ -1,0 +1,70 @@
+-- What a plant answers to a query.
+use Rattle.std.specs.Prelude.{◌≡◌, ℕ, List, Bool, true, false, Option, Some, None, Result, Ok, Err, slice_get, sum, map, if◌then◌else◌}
+use Rattle.alm_types.specs.declared.refusal.Refusal.{Refusal}
+use Rattle.alm_types.specs.declared.refusal.Refusal.TheVariants.{NoSuchAlarm, NoSuchList, OutOfMemory}
+use Rattle.alm_types.specs.declared.query.Query.{Query}
+use Rattle.alm_types.specs.declared.query.Query.TheVariants.{State, Priority, Area, Wheel, Flood, Stale, Chatter}
+use Rattle.alm_types.specs.declared.answer.Answer.{Answer}
+use Rattle.alm_types.specs.Reports.{Report, report, flood, alarms}
+use Rattle.alm_types.specs.Counts.{one_more}
+use Rattle.alm_state.specs.Rows.{State as RowState}
+use Rattle.alm_state.specs.Showing.{report_of}
+use Rattle.alm_model.specs.Plant.{Condensed}
+use Rattle.alm_model.specs.Lists.{exists, list_of}
+use Rattle.alm_model.specs.declared.list.List.{List as Choice}
+use Rattle.alm_model.specs.declared.list.List.TheVariants as choice
+
+-- the list that a query asks for
+abbrev pub asks_list : Query → Option Choice
+asks_list (State i) = None
+asks_list (Flood a) = None
+asks_list (Priority n) = Some (choice.Priority n)
+asks_list (Area n) = Some (choice.Area n)
+asks_list (Wheel n) = Some (choice.Wheel n)
+asks_list Stale = Some choice.Stale
+asks_list Chatter = Some choice.Chatter
+
+abbrev pub state_report : Option RowState → Result Report Refusal
+state_report None = Err NoSuchAlarm
+state_report (Some s) = Ok (report_of s)
+
+-- the window and the flood of an area
+abbrev pub flood_report : Option (List ℕ) → Option Bool → Result Report Refusal
+flood_report (Some ages) (Some on) = Ok (flood (sum ages) on)
+flood_report _ _ = Err NoSuchList
+
+abbrev pub list_report : Choice → Condensed → Result Report Refusal
+list_report list q = if exists list q then Ok (alarms (list_of list q)) else Err NoSuchList
+
+-- what a plant reports, or why not
+abbrev pub look : Condensed → Query → Result Report Refusal
+look q (State i) = state_report (slice_get q.panel.rows i.0)
+look q (Flood a) = flood_report (slice_get q.kept.ages a) (slice_get q.floods a)
+look q (Priority n) = list_report (choice.Priority n) q
+look q (Area n) = list_report (choice.Area n) q
+look q (Wheel n) = list_report (choice.Wheel n) q
+look q Stale = list_report choice.Stale q
+look q Chatter = list_report choice.Chatter q
+
+-- an answer that tells what it told before
+pub record IsUnchanged (before after : Answer) : Type 0 where
+  pub alarm : (after.shown ≡ before.shown) × (after.active ≡ before.active) × (after.flags ≡ before.flags) × (after.until ≡ before.until)
+  pub flood : (after.window ≡ before.window) × (after.flood ≡ before.flood)
+  pub list : after.list.items ≡ before.list.items
+
+-- the same for a list alone
+abbrev pub IsListed : Condensed → Choice → Answer → Answer → Result ℕ Refusal → Type 0
+IsListed q list before after (Ok n) = (exists list q ≡ true) × (after.list.items ≡ list_of list q) × (n ≡ q.panel.count) × (after.refused ≡ before.refused)
+IsListed q list before after (Err OutOfMemory) = (exists list q ≡ true) × IsUnchanged before after × (after.refused ≡ one_more before.refused)
+IsListed q list before after (Err refusal) = (exists list q ≡ false) × (refusal ≡ NoSuchList) × (after ≡ before)
+
+-- a list that is there was asked for
+abbrev pub asks_for : Condensed → Option Choice → Bool
+asks_for q None = false
+asks_for q (Some list) = exists list q
+
+-- what may be answered: what the plant tells, under its count, or its refusal; or for a list that is there want of memory, where a growth was refused
+abbrev pub IsLook : Condensed → Query → Answer → Answer → Result ℕ Refusal → Type 0
+IsLook q query before after (Ok n) = (look q query ≡ Ok (report query after)) × (n ≡ q.panel.count) × (after.refused ≡ before.refused)
+IsLook q query before after (Err OutOfMemory) = (asks_for q (asks_list query) ≡ true) × IsUnchanged before after × (after.refused ≡ one_more before.refused)
+IsLook q query before after (Err refusal) = (look q query ≡ Err refusal) × (after ≡ before)

@@ -1,0 +1,45 @@
+//! The plant: its definitions, the trait that every plant has, and the plain plant that computes them.
+//!
+//! The definitions stand in specs/, for contracts and for readers:
+//!
+//! | file | what it defines |
+//! |---|---|
+//! | Plant | the plant: clock, count, next stamp, alarms by number, annunciations (all of them, or condensed), flood flags |
+//! | Accept | which requests are accepted, and the first refusal of each other |
+//! | Step | what an action does: `after` on the whole plant, `step` on the condensed one, `run` for a list of actions |
+//! | Lists | the lists by priority, area and wheel slot, and those of the measures |
+//! | Keeping, Condense, Counted | windows, floods and chattering, from all annunciations and condensed |
+//! | Rules | the one record of what every plant keeps |
+//! | New, Parts | the new plant of a table, and the plant of its parts |
+//!
+//! What is used above: a plant that is [`Alarms`] is one value, the condensed plant, and each call says what it does to
+//! that value: `check` is the acceptance of the definitions, `apply` their step, `fill` their lists. Only `new`, `build`
+//! and `copy` take memory. [`PlainPlant`] keeps rows by number and makes each list by filter and sort: it is slow, and
+//! faster plants are compared with it. Nothing is promised of time.
+#![tactic(auto)]
+
+mod ages;
+mod alarms;
+mod floods;
+pub mod laws;
+mod list;
+mod lists;
+mod queries;
+mod order;
+mod plain_plant;
+mod plain_rows;
+mod plant_parts;
+mod recent;
+mod roles;
+mod run;
+mod wanted;
+
+pub use ages::Ages;
+pub use alarms::Alarms;
+pub use list::List;
+pub use queries::look;
+pub use plain_plant::PlainPlant;
+pub use plant_parts::PlantParts;
+pub use recent::Recent;
+pub use roles::may_ask;
+pub use run::apply_all;

@@ -1,0 +1,66 @@
+//! Why plain rows refuse an action.
+
+ghost use Rattle.std.specs.Prelude.{◌≡◌, ◌<◌, ◌^◌, slice_get, None, IfOk, OnOk};
+ghost use Rattle.alm_model.specs.Accept.{own_refusal, refusal, answer, accept, alarm_refusal};
+
+use crate::plain_rows::PlainRows;
+use crate::roles::may_ask;
+use alm_state::row_refusal;
+use alm_types::{Action, AlarmId, Refusal, Request};
+
+impl PlainRows {
+    fn alarm_refusal(&self, id: AlarmId, action: &Action) -> Option<Refusal>
+        ensures { result ≡ alarm_refusal action.now (slice_get self.now.panel.attrs id.0) (slice_get self.now.panel.rows id.0) }
+    {
+        let index = id.0 as usize;
+        match (self.attrs.get(index), self.rows.get(index)) {
+            (Some(attr), Some(row)) => row_refusal(action, attr, row),
+            _ => Some(Refusal::NoSuchAlarm),
+        }
+    }
+
+    fn own_refusal(&self, action: &Action) -> Option<Refusal>
+        ensures { result ≡ own_refusal self.now.panel action.now }
+    {
+        match *action {
+            Action::Clock(moment) => {
+                if self.clock < moment {
+                    None
+                } else {
+                    Some(Refusal::ClockBack)
+                }
+            }
+            Action::Value(id, _)
+            | Action::Ack(id)
+            | Action::Reset(id)
+            | Action::Shelve(id, _)
+            | Action::Unshelve(id)
+            | Action::Oos(id, _)
+            | Action::Design(id, _) => self.alarm_refusal(id, action),
+        }
+    }
+
+    /// The first reason against an action, whoever asks.
+    pub fn admits(&self, action: &Action) -> Result<(), Refusal>
+        ensures { result ≡ answer tt (refusal self.now.panel action.now) }
+    {
+        match self.own_refusal(action) {
+            Some(refusal) => Err(refusal),
+            None if self.count >= 1 << 48 => Err(Refusal::Exhausted),
+            None => Ok(()),
+        }
+    }
+
+    /// The action, or the first reason against the request.
+    pub fn check(&self, request: &Request) -> Result<Action, Refusal>
+        ensures verdict { result ≡ accept self.now.panel request.now }
+        ensures admitted { IfOk result (λ action. refusal self.now.panel action ≡ None) }
+        ensures counted { OnOk result (self.now.panel.count < 2 ^ 48) }
+    {
+        if !may_ask(request.slot, &request.want) {
+            return Err(Refusal::WrongRole);
+        }
+        self.admits(&request.want)?;
+        Ok(request.want)
+    }
+}
