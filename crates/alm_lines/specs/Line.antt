@@ -1,0 +1,119 @@
+-- What a line asks.
+use Rattle.std.specs.Prelude.{ℕ, ◌+◌, ◌-◌, ◌*◌, ◌^◌, List, [], ◌∷◌, Bool, true, false, ◌||◌, ◌&&◌, Option, Some, None, length, take, drop, position, option_map, option_and_then, unwrap_or, ℤ, pos, neg_ℤ, nat_eq, codes, nat_lt, nat_le, ◌==◌, if◌then◌else◌}
+use Rattle.std.specs.Cmp.Lexicographic.{pointwise}
+use Rattle.alm_types.specs.declared.alarm_id.AlarmId.{AlarmId}
+use Rattle.alm_types.specs.declared.action.Action.TheVariants.{Clock, Value, Ack, Reset, Shelve, Unshelve, Oos, Design}
+use Rattle.alm_types.specs.declared.refusal.Refusal.TheVariants.{BadLine, LineTooLong}
+use Rattle.alm_types.specs.declared.query.Query.TheVariants.{State, Priority, Area, Wheel, Flood, Stale, Chatter}
+use Rattle.alm_lines.specs.declared.line.Line.{Line}
+use Rattle.alm_lines.specs.declared.ask.Ask.{Ask}
+use Rattle.alm_lines.specs.declared.ask.Ask.TheVariants.{Act, Look, Bad}
+
+-- the value of digits behind others
+abbrev pub value : ℕ → List ℕ → Option ℕ
+value n [] = Some n
+value n (d ∷ digits) = if nat_le 48 d && nat_le d 57 then value (n * 10 + (d - 48)) digits else None
+
+-- a value below a limit
+abbrev pub up_to : ℕ → Option ℕ → Option ℕ
+up_to limit None = None
+up_to limit (Some n) = if nat_lt n limit then Some n else None
+
+-- a number below a limit: 0, or digits that begin with another one
+abbrev pub number : ℕ → List ℕ → Option ℕ
+number limit [] = None
+number limit (d ∷ []) = up_to limit (value 0 (d ∷ []))
+number limit (d ∷ e ∷ digits) = if d == 48 then None else up_to limit (value 0 (d ∷ e ∷ digits))
+
+-- a number of 32 bits
+abbrev pub word : List ℕ → Option ℕ
+word = number (2 ^ 32)
+
+abbrev pub alarm : List ℕ → Option AlarmId
+alarm digits = option_map (λ n. record { 0 = n }) (word digits)
+
+-- a moment
+abbrev pub moment : List ℕ → Option ℕ
+moment = number (2 ^ 40)
+
+-- minus and a number that is not 0
+abbrev pub negative : Option ℕ → Option ℤ
+negative None = None
+negative (Some n) = if n == 0 then None else Some (neg_ℤ (pos n))
+
+-- a value of the process, with or without minus
+abbrev pub reading : List ℕ → Option ℤ
+reading [] = None
+reading (d ∷ digits) = if d == 45 then negative (number 1000000000001 digits) else option_map pos (number 1000000000001 (d ∷ digits))
+
+abbrev pub same : List ℕ → List ℕ → Bool
+same = pointwise nat_eq
+
+-- on or off
+abbrev pub switch : List ℕ → Option Bool
+switch field = if same field (codes "ON") then Some true else if same field (codes "OFF") then Some false else None
+
+-- what stands before the first space, and what behind it
+abbrev pub cut_at : List ℕ → Option ℕ → List ℕ × Option (List ℕ)
+cut_at bytes None = (bytes, None)
+cut_at bytes (Some at) = (take at bytes, Some (drop (at + 1) bytes))
+
+abbrev pub cut : List ℕ → List ℕ × Option (List ℕ)
+cut bytes = cut_at bytes (position (λ b. b == 32) bytes)
+
+-- what a word asks alone
+abbrev pub of_none : List ℕ → Option Ask
+of_none name =
+  if same name (codes "STALE") then Some (Look Stale)
+  else if same name (codes "CHATTER") then Some (Look Chatter)
+  else None
+
+-- and of one field
+abbrev pub of_one : List ℕ → List ℕ → Option Ask
+of_one name first =
+  if same name (codes "ACK") then option_map (λ i. Act (Ack i)) (alarm first)
+  else if same name (codes "RESET") then option_map (λ i. Act (Reset i)) (alarm first)
+  else if same name (codes "UNSHELVE") then option_map (λ i. Act (Unshelve i)) (alarm first)
+  else if same name (codes "CLOCK") then option_map (λ t. Act (Clock t)) (moment first)
+  else if same name (codes "STATE") then option_map (λ i. Look (State i)) (alarm first)
+  else if same name (codes "FLOOD") then option_map (λ a. Look (Flood a)) (word first)
+  else None
+
+-- the list that a letter names
+abbrev pub of_letter : List ℕ → ℕ → Option Ask
+of_letter letter n =
+  if same letter (codes "P") then Some (Look (Priority n))
+  else if same letter (codes "A") then Some (Look (Area n))
+  else if same letter (codes "S") then Some (Look (Wheel n))
+  else None
+
+-- and of two
+abbrev pub of_two : List ℕ → List ℕ → List ℕ → Option Ask
+of_two name first second =
+  if same name (codes "VAL") then option_and_then (λ i. option_map (λ v. Act (Value i v)) (reading second)) (alarm first)
+  else if same name (codes "SHELVE") then option_and_then (λ i. option_map (λ s. Act (Shelve i s)) (word second)) (alarm first)
+  else if same name (codes "OOS") then option_and_then (λ i. option_map (λ on. Act (Oos i on)) (switch second)) (alarm first)
+  else if same name (codes "DESIGN") then option_and_then (λ i. option_map (λ on. Act (Design i on)) (switch second)) (alarm first)
+  else if same name (codes "LIST") then option_and_then (of_letter first) (word second)
+  else None
+
+abbrev pub of_fields : List ℕ → List ℕ × Option (List ℕ) → Option Ask
+of_fields name (first, None) = of_one name first
+of_fields name (first, Some second) = of_two name first second
+
+abbrev pub of_rest : List ℕ × Option (List ℕ) → Option Ask
+of_rest (name, None) = of_none name
+of_rest (name, Some fields) = of_fields name (cut fields)
+
+-- what stands behind the id
+abbrev pub asked : Option (List ℕ) → Option Ask
+asked None = None
+asked (Some rest) = of_rest (cut rest)
+
+-- a line whose id is read asks what stands behind it; another, and one that is too long, has id 0
+abbrev pub line_under : Option ℕ → Option (List ℕ) → Line
+line_under None rest = record { id = 0; ask = Bad BadLine }
+line_under (Some id) rest = record { id = id; ask = unwrap_or (asked rest) (Bad BadLine) }
+
+abbrev pub line_of : List ℕ → Line
+line_of bytes = if nat_lt 127 (length bytes) then record { id = 0; ask = Bad LineTooLong } else line_under (word (cut bytes).0) (cut bytes).1

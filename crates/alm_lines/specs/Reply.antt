@@ -1,0 +1,83 @@
+-- Reply lines.
+use Rattle.std.specs.Prelude.{ℕ, List, [], ◌∷◌, ◌++◌, Bool, Option, Some, None, length, codes, decimal, if◌then◌else◌, ◌==◌}
+use Rattle.std.specs.List.{flat_map}
+use Rattle.alm_types.specs.Refusals.{number_of}
+use Rattle.alm_types.specs.declared.refusal.Refusal.{Refusal}
+use Rattle.alm_types.specs.declared.shown.Shown.{Shown}
+use Rattle.alm_types.specs.declared.shown.Shown.TheVariants.{OutOfService, ByDesign, Shelved, Normal, Unack, Acked, RtnUnack, LatchUnack, LatchAcked}
+use Rattle.alm_types.specs.declared.query.Query.{Query}
+use Rattle.alm_types.specs.declared.query.Query.TheVariants.{State, Priority, Area, Wheel, Flood, Stale, Chatter}
+use Rattle.alm_types.specs.Reports.{Report, alarm, flood, alarms, report}
+use Rattle.alm_lines.specs.declared.reply.Reply.{Reply}
+use Rattle.alm_lines.specs.declared.reply.Reply.TheVariants.{Ok, No, Told}
+
+-- the word of what is shown
+abbrev pub shown_word : Shown → List ℕ
+shown_word OutOfService = codes "OOSRV"
+shown_word ByDesign = codes "DSUPR"
+shown_word Shelved = codes "SHLVD"
+shown_word Normal = codes "NORM"
+shown_word Unack = codes "UNACK"
+shown_word Acked = codes "ACKED"
+shown_word RtnUnack = codes "RTNUN"
+shown_word LatchUnack = codes "LATUN"
+shown_word LatchAcked = codes "LATAK"
+
+-- the letters of flags: 1 is S, 2 is D, 4 is O
+abbrev pub letters : ℕ → List ℕ
+letters flags =
+  if flags == 0 then codes "-"
+  else if flags == 1 then codes "S"
+  else if flags == 2 then codes "D"
+  else if flags == 3 then codes "DS"
+  else if flags == 4 then codes "O"
+  else if flags == 5 then codes "OS"
+  else if flags == 6 then codes "OD"
+  else codes "ODS"
+
+-- the moment of a deadline, or -
+abbrev pub deadline : Option ℕ → List ℕ
+deadline None = codes "-"
+deadline (Some t) = decimal t
+
+-- 1 or 0
+abbrev pub digit : Bool → ℕ
+digit b = if b then 1 else 0
+
+-- each number after a space
+abbrev pub spaced : List ℕ → List ℕ
+spaced = flat_map (λ i. 32 ∷ decimal i)
+
+-- the word of a reply
+abbrev pub query_word : Query → List ℕ
+query_word (State i) = codes " STATE "
+query_word (Priority n) = codes " LIST "
+query_word (Area n) = codes " LIST "
+query_word (Wheel n) = codes " LIST "
+query_word (Flood n) = codes " FLOOD "
+query_word Stale = codes " STALE "
+query_word Chatter = codes " CHATTER "
+
+-- what follows the count, without the line's end
+abbrev pub report_text : Report → List ℕ
+report_text (alarm shown active flags until) = codes " " ++ shown_word shown ++ codes " " ++ decimal (digit active) ++ codes " " ++ letters flags ++ codes " " ++ deadline until
+report_text (flood window on) = codes " " ++ decimal window ++ codes " " ++ decimal (digit on)
+report_text (alarms list) = codes " " ++ decimal (length list) ++ spaced list
+
+-- an accepted action, by its number
+abbrev pub ok_text : ℕ → ℕ → List ℕ
+ok_text id n = decimal id ++ codes " OK " ++ decimal n ++ codes "\n"
+
+-- a refusal, by its number
+abbrev pub no_text : ℕ → Refusal → List ℕ
+no_text id refusal = decimal id ++ codes " NO " ++ decimal (number_of refusal) ++ codes "\n"
+
+-- the answer to a query, under the count of the plant
+abbrev pub query_text : ℕ → ℕ → Query → Report → List ℕ
+query_text id n query said = decimal id ++ query_word query ++ decimal n ++ report_text said ++ codes "\n"
+
+-- a reply
+abbrev pub text_of : Reply → List ℕ
+text_of (Ok id n) = ok_text id n
+text_of (No id refusal) = no_text id refusal
+text_of (Told id n query answer) = query_text id n query (report query answer.now)

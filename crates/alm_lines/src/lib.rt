@@ -1,0 +1,39 @@
+//! Request lines and reply lines: the texts that pass between a console and the server.
+//!
+//! A line ends with LF. Its fields are separated by one space, with none before the first or after the last:
+//!
+//! ```text
+//! <id> ACK <alarm>            <id> RESET <alarm>
+//! <id> SHELVE <alarm> <secs>  <id> UNSHELVE <alarm>
+//! <id> OOS <alarm> ON|OFF     <id> DESIGN <alarm> ON|OFF
+//! <id> VAL <alarm> <value>    <id> CLOCK <moment>
+//! <id> STATE <alarm>          <id> LIST P|A|S <number>
+//! <id> FLOOD <area>           <id> STALE
+//! <id> CHATTER
+//! ```
+//!
+//! `id`, `alarm`, `secs`, `number` and `area` are decimal digits up to 4294967295 without a leading zero; `moment` is below
+//! 2^40; `value` is from -10^12 to 10^12, never `-0`. Any other line is a `BadLine`, with the line's id where it begins with
+//! an id and a space or its end, else with id 0. A line of more than 128 bytes with its LF is a `LineTooLong` with id 0,
+//! answered at its LF.
+//!
+//! What is used above: a [`Decoder`] gives the lines of the stream that it was fed, however the stream was cut, and
+//! [`print_reply`] writes exactly a reply's text. Nothing here takes memory. Whether an action is admitted is no matter of
+//! its line. Lines and texts are this project's own.
+#![tactic(auto)]
+
+mod ask;
+mod decoder;
+mod grammar;
+mod line;
+mod numbers;
+mod printing;
+mod reply;
+
+pub use ask::Ask;
+pub use decoder::Decoder;
+pub use grammar::{cut, line_of};
+pub use line::Line;
+pub use numbers::number;
+pub use printing::{letters, print_reply, shown_word};
+pub use reply::Reply;

@@ -1,0 +1,97 @@
+//! Numbers in digits.
+
+ghost use Rattle.std.specs.Prelude.{◌≡◌, ◌<◌, ◌≤◌, ◌^◌, length, ℕ};
+ghost use Rattle.alm_lines.specs.Line.{value, up_to, number, word, alarm, moment, reading, switch};
+
+use alm_types::{AlarmId, Moment, Reading};
+
+/// The value of digits, below a limit.
+#[tactic(auto, using(crate::proofs::Digits::too_large, crate::proofs::Digits::one_more))]
+fn value(digits: &[u8], limit: u64) -> Option<u64>
+    requires some { 0 < length digits.now }
+    requires limit { limit ≤ 2 ^ 56 }
+    ensures { result ≡ up_to limit (value 0 digits.now) }
+{
+    let mut value: u64 = 0;
+    for digit in digits {
+        if !digit.is_ascii_digit() {
+            return None;
+        }
+        value = value * 10 + u64::from(*digit - b'0');
+        if value >= limit {
+            return None;
+        }
+    }
+    Some(value)
+}
+
+/// A number below a limit, without leading zeros.
+pub fn number(digits: &[u8], limit: u64) -> Option<u64>
+    requires { limit ≤ 2 ^ 56 }
+    ensures { result ≡ number limit digits.now }
+{
+    match digits {
+        [] => None,
+        [b'0', _, ..] => None,
+        _ => value(digits, limit),
+    }
+}
+
+/// A number of 32 bits.
+pub fn word(digits: &[u8]) -> Option<u32>
+    ensures { result ≡ word digits.now }
+{
+    match number(digits, 1 << 32) {
+        Some(n) => Some(n as u32),
+        None => None,
+    }
+}
+
+/// An alarm's number.
+pub fn alarm(digits: &[u8]) -> Option<AlarmId>
+    ensures { result ≡ alarm digits.now }
+{
+    match word(digits) {
+        Some(n) => Some(AlarmId(n)),
+        None => None,
+    }
+}
+
+pub fn moment(digits: &[u8]) -> Option<Moment>
+    ensures { result ≡ moment digits.now }
+{
+    match number(digits, 1 << 40) {
+        Some(seconds) => Moment::new(seconds),
+        None => None,
+    }
+}
+
+/// A value of the process, with or without minus.
+pub fn reading(digits: &[u8]) -> Option<Reading>
+    ensures { result ≡ reading digits.now }
+{
+    match digits {
+        [b'-', digits @ ..] => match number(digits, 1_000_000_000_001) {
+            Some(0) => None,
+            Some(n) => Reading::new(-(n as i64)),
+            None => None,
+        },
+        _ => match number(digits, 1_000_000_000_001) {
+            Some(n) => Reading::new(n as i64),
+            None => None,
+        },
+    }
+}
+
+/// On or off.
+pub fn switch(field: &[u8]) -> Option<bool>
+    ensures { result ≡ switch field.now }
+{
+    if field == b"ON".as_slice() {
+        return Some(true);
+    }
+    if field == b"OFF".as_slice() {
+        return Some(false);
+    }
+    None
+}
