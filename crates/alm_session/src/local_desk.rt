@@ -1,0 +1,122 @@
+//! A desk that answers each line of 18 slots before the next.
+
+ghost use Rattle.std.specs.Prelude.{◌≡◌, IfOk, IfErr, OnOk, [], replicate, false};
+
+use crate::answering::answer_line;
+use crate::backend::Backend;
+use crate::counted_writer::CountedWriter;
+use crate::course::Course;
+use crate::desk_fault::DeskFault;
+use crate::feeding::feed_slot;
+use alm_lines::{Decoder, line_of};
+use alm_types::{Answer, Slot};
+use std::alloc::{AllocError, Global};
+use std::io::Write;
+use std::marker::Model;
+
+/// A desk over a backend.
+#[derive(Drop)]
+pub struct LocalDesk<B: Backend + Drop> {
+    backend: B,
+    decoders: Vec<Decoder>,
+    answer: Answer,
+    closed: bool,
+}
+
+impl<B: Backend + Drop> Model for LocalDesk<B> {
+    ghost use Rattle.std.specs.Prelude.{◌≡◌, length};
+    ghost use Rattle.alm_session.specs.Desks.{Desk};
+
+    ghost Value = { Desk };
+
+    ghost view = { λ d. record { standing = record { plant = B.stands d.backend; refused = d.answer.refused }; helds = d.decoders.items; closed = d.closed } };
+
+    ghost invariant = { λ d. length d.decoders.items ≡ 18 };
+}
+
+/// Decoders that hold nothing.
+fn no_lines(alloc: Global) -> Result<Vec<Decoder>, AllocError>
+    ensures { IfOk result (λ decoders. decoders.items ≡ replicate 18 []) }
+{
+    let mut decoders = Vec::with_capacity(alloc, 18)?;
+    for _slot in 0..18_usize {
+        decoders.push(Decoder::new())?;
+    }
+    Ok(decoders)
+}
+
+impl<B: Backend + Drop> LocalDesk<B> {
+    ghost use Rattle.std.specs.Prelude.{◌≡◌, ◌++◌, OnOk, IfErr, IfOk, is_none, false, [], replicate, codes, decimal};
+    ghost use Rattle.std.specs.Io.KnownBytes.{Appends};
+    ghost use Rattle.alm_lines.specs.Line.{line_of};
+    ghost use Rattle.alm_session.specs.Answers.{reply, after};
+    ghost use Rattle.alm_session.specs.Desks.{IsFed, HasFailed, tag};
+
+    pub fn new(alloc: Global, backend: B) -> Result<Self, AllocError>
+        ensures { IfOk result (λ desk. desk ≡ record { standing = record { plant = B.stands backend; refused = 0 }; helds = replicate 18 []; closed = false }) }
+    {
+        Ok(LocalDesk {
+            backend,
+            decoders: no_lines(alloc)?,
+            answer: Answer::new(alloc),
+            closed: false,
+        })
+    }
+
+    /// Whether the storage has stopped.
+    pub fn stopped(&self) -> bool
+        ensures { result ≡ is_none self.now.standing.plant }
+    {
+        self.backend.is_stopped()
+    }
+
+    /// Takes bytes at a slot, and answers each line that they end before the next.
+    pub fn feed<W: Write + Drop>(
+        &mut self,
+        slot: Slot,
+        piece: &[u8],
+        writer: &mut CountedWriter<W>,
+    ) -> Result<(), DeskFault>
+        ensures fed { OnOk result (IsFed self.old (tag slot piece.now) (W.contents writer.old.inner) self.new (W.contents writer.new.inner)) }
+        ensures whole { OnOk result (writer.new.failed ≡ writer.old.failed) }
+        ensures fault { IfErr result (λ e. HasFailed e self.old.closed self.new.closed writer.old.failed writer.new.failed) }
+    {
+        if self.closed {
+            return Err(DeskFault::Closed);
+        }
+        let decoder = &mut self.decoders[slot.number() as usize];
+        match feed_slot(&mut self.backend, &mut self.answer, decoder, slot, piece, writer) {
+            Ok(()) => Ok(()),
+            Err(_) => {
+                self.closed = true;
+                Err(DeskFault::Write)
+            }
+        }
+    }
+
+    /// Answers a whole line at a slot, whatever is held there: what came in its way.
+    pub fn answer<W: Write + Drop>(
+        &mut self,
+        slot: Slot,
+        line: &[u8],
+        writer: &mut CountedWriter<W>,
+    ) -> Result<Course, DeskFault>
+        ensures text { IfOk result (λ course. Appends (W.contents writer.old.inner) (W.contents writer.new.inner) (reply self.old.standing (record { said = record { slot = slot; line = line_of line.now }; course = course }))) }
+        ensures standing { IfOk result (λ course. self.new ≡ record self.old { standing = after self.old.standing (record { said = record { slot = slot; line = line_of line.now }; course = course }) }) }
+        ensures open { OnOk result (self.old.closed ≡ false) }
+        ensures whole { OnOk result (writer.new.failed ≡ writer.old.failed) }
+        ensures fault { IfErr result (λ e. HasFailed e self.old.closed self.new.closed writer.old.failed writer.new.failed) }
+    {
+        if self.closed {
+            return Err(DeskFault::Closed);
+        }
+        let line = line_of(line);
+        match answer_line(&mut self.backend, &mut self.answer, slot, line, writer) {
+            Ok(course) => Ok(course),
+            Err(_) => {
+                self.closed = true;
+                Err(DeskFault::Write)
+            }
+        }
+    }
+}

@@ -1,0 +1,39 @@
+//! A plant in memory as what a desk stands on.
+
+use crate::backend::Backend;
+use crate::judged::Judged;
+use crate::stopped::Stopped;
+use alm_model::{Alarms, PlainPlant, look};
+use alm_types::{Answer, Query, Refusal, Request, Verdict};
+
+/// A plant in memory, which never stops.
+impl Backend for PlainPlant {
+    ghost use Rattle.std.specs.Prelude.{Some};
+
+    ghost stands = { λ p. Some p };
+
+    fn submit(&mut self, request: &Request) -> Result<Judged, Stopped> {
+        let count = self.count();
+        match self.check(request) {
+            Ok(action) => {
+                self.apply(&action);
+                Ok(Judged {
+                    verdict: Verdict::Accepted(action),
+                    number: count + 1,
+                })
+            }
+            Err(refusal) => Ok(Judged {
+                verdict: Verdict::Refused(refusal, count),
+                number: count,
+            }),
+        }
+    }
+
+    fn ask(&mut self, query: Query, answer: &mut Answer) -> Result<u64, Refusal> {
+        look(self, query, answer)
+    }
+
+    fn is_stopped(&self) -> bool {
+        false
+    }
+}

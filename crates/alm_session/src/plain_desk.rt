@@ -1,0 +1,17 @@
+//! A desk over a plant in memory.
+
+ghost use Rattle.std.specs.Prelude.{◌≡◌, IfOk, Some, [], replicate, false};
+ghost use Rattle.alm_model.specs.New.{new_plant};
+
+use crate::local_desk::LocalDesk;
+use alm_model::{Alarms, PlainPlant};
+use alm_types::Table;
+use std::alloc::{AllocError, Global};
+
+/// A desk over the new plant of a table.
+pub fn desk_of(alloc: Global, table: &Table) -> Result<LocalDesk<PlainPlant>, AllocError>
+    ensures { IfOk result (λ desk. desk ≡ record { standing = record { plant = Some (new_plant table.now); refused = 0 }; helds = replicate 18 []; closed = false }) }
+{
+    let plant = PlainPlant::new(alloc, table)?;
+    LocalDesk::new(alloc, plant)
+}

@@ -1,0 +1,5 @@
+//! Failed writes.
+
+/// The writer failed.
+#[derive(Clone, Copy, Debug, PartialEq, Eq)]
+pub struct WriteFailed;
