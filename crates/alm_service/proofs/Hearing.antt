@@ -1,0 +1,104 @@
+-- Bytes that a desk hears.
+use Rattle.std.proofs.Common.{◌≡◌, ℕ, ◌+◌, ◌<◌, Bool, true, false, List, [], ◌∷◌, ◌++◌, Option, Some, None, length, take, get_or, refl, ap, sym, ◌∙◌, append_assoc}
+use Rattle.std.specs.Prelude.{map, IfSome, if◌then◌else◌}
+use Rattle.std.proofs.KnownBytes.{Appends-trans, Appends-nil, Appends-kept, Consumes-nil, Consumes-trans, Consumes-whole}
+use Rattle.std.proofs.lemmas.List.{map-append, append-nil, take_more}
+use Rattle.std.specs.Io.KnownBytes.{Appends, Keeps, Consumes, IsAtEnd}
+use Rattle.std.proofs.Common.{inl, inr}
+use Rattle.std.proofs.lemmas.Bool.{cases_Bool}
+use Rattle.alm_lines.specs.Stream.{is_end}
+use Rattle.alm_session.specs.Answers.{Standing}
+use Rattle.alm_service.specs.Desk.{Heard, IsHeard, IsDesk, held_after, held_by, lines_of, line, printed, stands_after, entry_text, entry_after, entry_of}
+use Rattle.alm_service.specs.Turns.{IsTurn}
+
+printed-append : (s : Standing) (xs ys : List Heard) → printed s (xs ++ ys) ≡ printed s xs ++ printed (stands_after s xs) ys
+printed-append s [] ys = refl
+printed-append s (x ∷ xs) ys =
+    let s' = entry_after s (entry_of x.line) x.course in
+    ap (λ t. entry_text s (entry_of x.line) x.course ++ t) (printed-append s' xs ys) ∙ sym (append_assoc (entry_text s (entry_of x.line) x.course) (printed s' xs) (printed (stands_after s' xs) ys))
+
+stands_after-append : (s : Standing) (xs ys : List Heard) → stands_after s (xs ++ ys) ≡ stands_after (stands_after s xs) ys
+stands_after-append s [] ys = refl
+stands_after-append s (x ∷ xs) ys = stands_after-append (entry_after s (entry_of x.line) x.course) xs ys
+
+held_by-append : (held xs ys : List ℕ) → held_by held (xs ++ ys) ≡ held_by (held_by held xs) ys
+held_by-append held [] ys = refl
+held_by-append held (b ∷ xs) ys = held_by-append (held_after held b) xs ys
+
+-- what a byte adds to the lines
+more_of : Bool → List ℕ → List (List ℕ) → List (List ℕ)
+more_of ends held rest = if ends then held ∷ rest else rest
+
+lines_of-step : (held : List ℕ) (b : ℕ) (bytes : List ℕ) → lines_of held (b ∷ bytes) ≡ more_of (is_end b) held (lines_of (held_after held b) bytes)
+unfolding more_of
+lines_of-step held b bytes = elim (cases_Bool (is_end b)) [ inl e ↦ rw e refl | inr e ↦ rw e refl ]
+
+more_of-append : (ends : Bool) (held : List ℕ) (xs ys : List (List ℕ)) → more_of ends held (xs ++ ys) ≡ more_of ends held xs ++ ys
+unfolding more_of
+more_of-append true held xs ys = refl
+more_of-append false held xs ys = refl
+
+lines_of-append : (held xs ys : List ℕ) → lines_of held (xs ++ ys) ≡ lines_of held xs ++ lines_of (held_by held xs) ys
+lines_of-append held [] ys = refl
+lines_of-append held (b ∷ xs) ys =
+    lines_of-step held b (xs ++ ys) ∙ ap (more_of (is_end b) held) (lines_of-append (held_after held b) xs ys)
+    ∙ more_of-append (is_end b) held (lines_of (held_after held b) xs) (lines_of (held_by (held_after held b) xs) ys)
+    ∙ sym (ap (λ (l : List (List ℕ)). l ++ lines_of (held_by (held_after held b) xs) ys) (lines_of-step held b xs))
+
+-- nothing was heard
+pub heard_none : (s : Standing) (held : List ℕ) (o : Option (List ℕ)) → IsHeard s held [] o s held o
+heard_none s held o = record { heard = []; lines = refl; written = Appends-nil o; standing = refl; left = refl }
+
+-- bytes are heard, and then others
+pub joined : {a b c : Standing} {h i j xs ys : List ℕ} {o m n : Option (List ℕ)} → IsHeard a h xs o b i m → IsHeard b i ys m c j n → IsHeard a h (xs ++ ys) o c j n
+joined {a} {b} {c} {h} {i} {j} {xs} {ys} {o} {m} {n} p q = record {
+  heard = p.heard ++ q.heard;
+  lines = rw (map-append line p.heard q.heard, p.lines, q.lines, p.left) (sym (lines_of-append h xs ys));
+  written = rw (printed-append a p.heard q.heard, ← p.standing) (Appends-trans o m n (printed a p.heard) (printed b q.heard) p.written q.written);
+  standing = rw (stands_after-append a p.heard q.heard, ← p.standing) q.standing;
+  left = rw (held_by-append h xs ys, ← p.left) q.left }
+
+-- a byte that ends a line
+pub heard_end : (a b : Standing) (h i : List ℕ) (byte : ℕ) (x : Heard) (o n : Option (List ℕ)) → is_end byte ≡ true → x.line ≡ h → i ≡ []
+  → Appends o n (entry_text a (entry_of x.line) x.course) → b ≡ entry_after a (entry_of x.line) x.course → IsHeard a h (byte ∷ []) o b i n
+heard_end a b h i byte x o n e l k w s = record {
+  heard = x ∷ [];
+  lines = rw e (ap (λ (y : List ℕ). y ∷ []) l);
+  written = rw append-nil w;
+  standing = s;
+  left = rw e k }
+
+-- and one that doesn't
+pub heard_byte : (a : Standing) (h i : List ℕ) (byte : ℕ) (o : Option (List ℕ)) → is_end byte ≡ false → i ≡ take 131 (h ++ byte ∷ []) → IsHeard a h (byte ∷ []) o a i o
+unfolding more_of
+heard_byte a h i byte o e k = record {
+  heard = [];
+  lines = sym (lines_of-step h byte [] ∙ rw e refl);
+  written = Appends-nil o;
+  standing = refl;
+  left = rw e k }
+
+-- what is handed on stays as it was
+pub heard_kept : {a b : Standing} {h i xs : List ℕ} {o m : Option (List ℕ)} (n : Option (List ℕ)) → IsHeard a h xs o b i m → Keeps m n → IsHeard a h xs o b i n
+heard_kept {a} {b} {h} {i} {xs} {o} {m} n p k = record { heard = p.heard; lines = p.lines; written = Appends-kept o m n (printed a p.heard) p.written k; standing = p.standing; left = p.left }
+
+pub taken : (xs : List ℕ) (i : ℕ) → i < length xs → take (i + 1) xs ≡ take i xs ++ get_or xs i 0 ∷ []
+taken xs i h = take_more xs i 0 h
+
+-- nothing was read yet
+pub turn_none : (a : Standing) (h : List ℕ) (r o : Option (List ℕ)) → IsTurn true a h r o a h r o
+turn_none a h r o = record { bytes = []; read = Consumes-nil r; heard = heard_none a h o; ended = λ e. cc }
+
+-- reads, and one more
+pub turns : {more : Bool} {a b c : Standing} {h i j : List ℕ} {r s t o m n : Option (List ℕ)} → IsTurn true a h r o b i s m → IsTurn more b i s m c j t n → IsTurn more a h r o c j t n
+turns {more} {a} {b} {c} {h} {i} {j} {r} {s} {t} {o} {m} {n} p q = record {
+  bytes = p.bytes ++ q.bytes;
+  read = Consumes-trans r s t p.bytes q.bytes p.read q.read;
+  heard = joined p.heard q.heard;
+  ended = q.ended }
+
+-- the input is at its end
+pub turns_end : {a c : Standing} {h j : List ℕ} {r t o n : Option (List ℕ)} → h ≡ [] → IsTurn false a h r o c j t n → IfSome r (λ input. IsDesk a input o c n)
+turns_end {a} {c} {h} {j} {r} {t} {o} {n} e p =
+    Consumes-whole r t p.bytes (λ input. IsDesk a input o c n) p.read (p.ended refl)
+      (record { heard = p.heard.heard; lines = p.heard.lines ∙ ap (λ x. lines_of x p.bytes) e; written = p.heard.written; standing = p.heard.standing })

@@ -1,0 +1,18 @@
+use Rattle.std.proofs.Common.{◌∙◌, arith, refl}
+use Rattle.alm_service.proofs.Hearing.{turns, turns_end}
+use Rattle.alm_service.proofs.running.desk_run.Goals as goal
+
+pub loop-preserved : goal.loop-preserved
+loop-preserved g c =
+    let next = rw c.in-Ok-true.field-0-test at c.in-Ok-true.ensures.heard in
+    record {
+      turns = turns c.loop.invariant.turns next;
+      still_open = c.in-Ok-true.ensures.open;
+      reads = omega arith;
+      whole_reader = c.in-Ok-true.ensures.whole_reader ∙ c.loop.invariant.whole_reader;
+      whole_writer = c.in-Ok-true.ensures.whole_writer ∙ c.loop.invariant.whole_writer }
+
+pub returns-in-Ok-false-clause-desk : goal.returns-in-Ok-false-clause-desk
+returns-in-Ok-false-clause-desk g c =
+    let last = rw c.in-Ok-false.field-0-test at c.in-Ok-false.ensures.heard in
+    turns_end refl (turns c.loop.invariant.turns last)

@@ -1,0 +1,4 @@
+pub mod Desk
+pub mod Reads
+pub mod Turns
+pub mod Worked

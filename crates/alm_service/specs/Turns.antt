@@ -1,0 +1,12 @@
+-- One read of a desk.
+use Rattle.std.specs.Prelude.{◌≡◌, ℕ, List, Bool, true, false, Option}
+use Rattle.std.specs.Io.KnownBytes.{Consumes, IsAtEnd}
+use Rattle.alm_session.specs.Answers.{Standing}
+use Rattle.alm_service.specs.Desk.{IsHeard}
+
+-- some bytes were read and heard; where no more come the input is at its end
+pub record IsTurn (more : Bool) (before : Standing) (held : List ℕ) (input : Option (List ℕ)) (old : Option (List ℕ)) (later : Standing) (holds : List ℕ) (rest : Option (List ℕ)) (new : Option (List ℕ)) : Type 0 where
+  pub bytes : List ℕ
+  pub read : Consumes input rest bytes
+  pub heard : IsHeard before held bytes old later holds new
+  pub ended : more ≡ false → IsAtEnd rest

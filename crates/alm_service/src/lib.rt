@@ -1,0 +1,25 @@
+//! What the program runs: the worked table, and the desk over a reader and a writer.
+//!
+//! A line of the desk is a slot (0 to 17), one space and a request line; its reply stands after the slot and a space. A line
+//! of more than 131 bytes with its LF prints `? NO 14`, another that doesn't begin so `? NO 13`. Bytes after the last LF
+//! are dropped.
+//!
+//! What is used above: [`desk_run`] writes what the desk prints for what it read, in the order of the lines. A fault comes
+//! only where the reader or the writer failed, or after 2^32 reads without an end.
+//!
+//! Not promised: that a real reader ever comes to its end; after a writer's fault, how much of the last reply went out.
+#![tactic(auto)]
+
+mod counted_reader;
+mod entry;
+mod gave;
+mod held_line;
+mod run_fault;
+mod running;
+mod worked;
+
+pub use counted_reader::CountedReader;
+pub use gave::Gave;
+pub use run_fault::RunFault;
+pub use running::desk_run;
+pub use worked::worked_table;

@@ -1,0 +1,126 @@
+//! The desk over a reader and a writer.
+
+ghost use Rattle.std.specs.Prelude.{◌≡◌, ◌<◌, ◌+◌, ◌-◌, ◌^◌, ◌⊎◌, ◌∷◌, [], min, OnOk, OnErr, IfOk, IfSome, Err, false, length};
+ghost use Rattle.std.specs.Io.KnownBytes.{Appends};
+ghost use Rattle.alm_types.specs.Counts.{one_more};
+ghost use Rattle.alm_service.specs.Desk.{IsHeard, IsDesk};
+ghost use Rattle.alm_service.specs.Turns.{IsTurn};
+
+use crate::counted_reader::CountedReader;
+use crate::entry::answer_entry;
+use crate::gave::Gave;
+use crate::held_line::HeldLine;
+use crate::run_fault::RunFault;
+use alm_session::{Backend, CountedWriter, LocalDesk, WriteFailed};
+use std::io::{Read, Write};
+
+/// Hears a byte.
+fn hear_byte<B: Backend + Drop, W: Write + Drop>(
+    desk: &mut LocalDesk<B>,
+    held: &mut HeldLine,
+    byte: u8,
+    writer: &mut CountedWriter<W>,
+) -> Result<(), WriteFailed>
+    requires { desk.old.closed ≡ false }
+    ensures heard { OnOk result (IsHeard desk.old.standing held.old (byte ∷ []) (W.contents writer.old.inner) desk.new.standing held.new (W.contents writer.new.inner)) }
+    ensures open { OnOk result (desk.new.closed ≡ false) }
+    ensures whole { OnOk result (writer.new.failed ≡ writer.old.failed) }
+    ensures failed { OnErr result (writer.new.failed ≡ one_more writer.old.failed) }
+{
+    if byte == b'\n' {
+        answer_entry(desk, held.bytes(), writer)?;
+        held.clear();
+        return Ok(());
+    }
+    held.push(byte);
+    Ok(())
+}
+
+/// Hears bytes, and answers each line that they end.
+fn hear<B: Backend + Drop, W: Write + Drop>(
+    desk: &mut LocalDesk<B>,
+    held: &mut HeldLine,
+    bytes: &[u8],
+    writer: &mut CountedWriter<W>,
+) -> Result<(), WriteFailed>
+    requires { desk.old.closed ≡ false }
+    ensures heard { OnOk result (IsHeard desk.old.standing held.old bytes.now (W.contents writer.old.inner) desk.new.standing held.new (W.contents writer.new.inner)) }
+    ensures open { OnOk result (desk.new.closed ≡ false) }
+    ensures whole { OnOk result (writer.new.failed ≡ writer.old.failed) }
+    ensures failed { OnErr result (writer.new.failed ≡ one_more writer.old.failed) }
+{
+    for byte in bytes {
+        hear_byte(desk, held, *byte, writer)?;
+    }
+    Ok(())
+}
+
+/// Hears bytes and hands on what was written.
+fn hear_and_flush<B: Backend + Drop, W: Write + Drop>(
+    desk: &mut LocalDesk<B>,
+    held: &mut HeldLine,
+    bytes: &[u8],
+    writer: &mut CountedWriter<W>,
+) -> Result<(), WriteFailed>
+    requires { desk.old.closed ≡ false }
+    ensures heard { OnOk result (IsHeard desk.old.standing held.old bytes.now (W.contents writer.old.inner) desk.new.standing held.new (W.contents writer.new.inner)) }
+    ensures open { OnOk result (desk.new.closed ≡ false) }
+    ensures whole { OnOk result (writer.new.failed ≡ writer.old.failed) }
+    ensures failed { OnErr result (writer.new.failed ≡ one_more writer.old.failed) }
+{
+    hear(desk, held, bytes, writer)?;
+    writer.flush()
+}
+
+/// One read, and the answers to what it gave: whether the input may go on.
+fn turn<R: Read + Drop, B: Backend + Drop, W: Write + Drop>(
+    reader: &mut CountedReader<R>,
+    desk: &mut LocalDesk<B>,
+    held: &mut HeldLine,
+    piece: &mut [u8],
+    writer: &mut CountedWriter<W>,
+) -> Result<bool, RunFault>
+    requires open { desk.old.closed ≡ false }
+    requires room { 0 < length piece.old }
+    ensures heard { IfOk result (λ more. IsTurn more desk.old.standing held.old (R.remaining reader.old.inner) (W.contents writer.old.inner) desk.new.standing held.new (R.remaining reader.new.inner) (W.contents writer.new.inner)) }
+    ensures open { OnOk result (desk.new.closed ≡ false) }
+    ensures reads { reader.new.reads ≡ one_more reader.old.reads }
+    ensures whole_reader { OnOk result (reader.new.failed ≡ reader.old.failed) }
+    ensures whole_writer { OnOk result (writer.new.failed ≡ writer.old.failed) }
+    ensures read { result ≡ Err RunFault.Read → reader.new.failed ≡ one_more reader.old.failed }
+    ensures write { result ≡ Err RunFault.Write → writer.new.failed ≡ one_more writer.old.failed }
+{
+    match reader.take(piece) {
+        Gave::End => Ok(false),
+        Gave::Again => Ok(true),
+        Gave::Failed => Err(RunFault::Read),
+        Gave::Got(count) => match hear_and_flush(desk, held, &piece[..count], writer) {
+            Ok(()) => Ok(true),
+            Err(_) => Err(RunFault::Write),
+        },
+    }
+}
+
+/// Answers all that the reader gives, up to its end.
+pub fn desk_run<R: Read + Drop, B: Backend + Drop, W: Write + Drop>(
+    reader: &mut CountedReader<R>,
+    writer: &mut CountedWriter<W>,
+    desk: &mut LocalDesk<B>,
+) -> Result<(), RunFault>
+    requires { desk.old.closed ≡ false }
+    ensures desk { OnOk result (IfSome (R.remaining reader.old.inner) (λ input. IsDesk desk.old.standing input (W.contents writer.old.inner) desk.new.standing (W.contents writer.new.inner))) }
+    ensures open { OnOk result (desk.new.closed ≡ false) }
+    ensures read { result ≡ Err RunFault.Read → (reader.new.failed ≡ one_more reader.old.failed) ⊎ (reader.new.reads ≡ min (reader.old.reads + 2 ^ 32) (2 ^ 64 - 1)) }
+    ensures write { result ≡ Err RunFault.Write → writer.new.failed ≡ one_more writer.old.failed }
+{
+    let mut piece = [0u8; 16384];
+    let mut held = HeldLine::new();
+    for _ in 0..1u64 << 32 {
+        match turn(reader, desk, &mut held, &mut piece, writer) {
+            Ok(true) => {}
+            Ok(false) => return Ok(()),
+            Err(fault) => return Err(fault),
+        }
+    }
+    Err(RunFault::Read)
+}
