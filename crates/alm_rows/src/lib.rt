@@ -1,0 +1,15 @@
+//! The worked rows of the alarm server, run through its public calls.
+//!
+//! Each row of `rows` begins with a new plant of the worked table: a line at a slot, and its one reply. A row is fed line by
+//! line, and again in two pieces cut at each of its bytes.
+#![tactic(auto)]
+
+#[cfg(test)]
+mod check;
+pub mod desk;
+#[cfg(test)]
+mod failing;
+#[cfg(test)]
+mod rows;
+#[cfg(test)]
+mod tests;

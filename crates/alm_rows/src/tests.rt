@@ -1,0 +1,99 @@
+//! Lines that are none, streams beside each other, and writers that fail.
+
+use crate::desk::{new_desk, printed};
+use crate::failing::FailingWriter;
+use alm_session::{CountedWriter, DeskFault};
+use alm_types::Slot;
+use std::io::Read;
+use std::test::Fail;
+
+#[test]
+fn slots_are_streams_of_their_own(rt: HostRuntime) -> Result<(), Fail> {
+    let alloc = rt.alloc();
+    let mut desk = new_desk(alloc)?;
+    let mut writer = CountedWriter::new(Vec::new(alloc));
+    let feed = Slot::new(16).ok_or("slot")?;
+    let console = Slot::new(0).ok_or("slot")?;
+    for byte in b"1 VAL 0 800\n2 VAL 0 7" {
+        desk.feed(feed, &[*byte], &mut writer)?;
+    }
+    for byte in b"3 ACK 0\n\n" {
+        desk.feed(console, &[*byte], &mut writer)?;
+    }
+    desk.feed(feed, b"00\n7", &mut writer)?;
+    let wanted = b"1 OK 1\n3 OK 2\n0 NO 13\n2 OK 3\n";
+    assert_eq!(rt; writer.into_inner().as_slice(), wanted.as_slice());
+    Ok(())
+}
+
+#[test]
+fn desk_lines_that_are_none(rt: HostRuntime) -> Result<(), Fail> {
+    let alloc = rt.alloc();
+    let input =
+        b"16 1 VAL 0 800\n16 2 VAL 0 790\n16 3 VAL 0 789\n0 4 ACK 0\n1 5 ACK 0\n0 6 VAL 0 900\n0 7\n0 \n0\nx\n18 1 STATE 0\n";
+    let wanted =
+        b"16 1 OK 1\n16 2 NO 9\n16 3 OK 2\n0 4 OK 3\n1 5 NO 2\n0 6 NO 11\n0 7 NO 13\n0 0 NO 13\n? NO 13\n? NO 13\n? NO 13\n";
+    let mut desk = new_desk(alloc)?;
+    let got = printed(alloc, &mut desk, input.as_slice())?;
+    assert_eq!(rt; got.as_slice(), wanted.as_slice());
+    Ok(())
+}
+
+#[test]
+fn what_has_no_end_is_dropped(rt: HostRuntime) -> Result<(), Fail> {
+    let alloc = rt.alloc();
+    let mut desk = new_desk(alloc)?;
+    assert_eq!(rt;
+        printed(alloc, &mut desk, b"".as_slice())?.as_slice(),
+        b"".as_slice()
+    );
+    assert_eq!(rt;
+        printed(alloc, &mut desk, b"0 1 STATE 0".as_slice())?.as_slice(),
+        b"".as_slice()
+    );
+    let got = printed(alloc, &mut desk, b"0 2 STATE 3\n0 3".as_slice())?;
+    assert_eq!(rt; got.as_slice(), b"0 2 STATE 0 NORM 0 - -\n".as_slice());
+    Ok(())
+}
+
+#[test]
+fn a_million_bytes_without_an_end(rt: HostRuntime) -> Result<(), Fail> {
+    let alloc = rt.alloc();
+    let mut desk = new_desk(alloc)?;
+    let mut writer = CountedWriter::new(Vec::new(alloc));
+    let console = Slot::new(0).ok_or("slot")?;
+    for _ in 0..1000_usize {
+        desk.feed(console, &[b'A'; 1000], &mut writer)?;
+    }
+    desk.feed(console, b"\n1 STATE 0\n", &mut writer)?;
+    let wanted = b"0 NO 14\n1 STATE 0 NORM 0 - -\n";
+    assert_eq!(rt; writer.into_inner().as_slice(), wanted.as_slice());
+    let long = vec![in alloc; b'A'; 1_000_000]?;
+    let got = printed(
+        alloc,
+        &mut desk,
+        long.as_slice().chain(b"\n0 2 STATE 0\n".as_slice()),
+    )?;
+    assert_eq!(rt;
+        got.as_slice(),
+        b"? NO 14\n0 2 STATE 0 NORM 0 - -\n".as_slice()
+    );
+    Ok(())
+}
+
+#[test]
+fn a_failed_write_closes_the_desk(rt: HostRuntime) -> Result<(), Fail> {
+    let alloc = rt.alloc();
+    let console = Slot::new(0).ok_or("slot")?;
+    for calls in 0..8 {
+        let mut desk = new_desk(alloc)?;
+        let mut writer = CountedWriter::new(FailingWriter::new(calls));
+        let fed = desk.feed(console, b"1 STATE 0\n2 STATE 1\n3 LIST P 1\n", &mut writer);
+        if calls < 3 {
+            assert_eq!(rt; fed, Err(DeskFault::Write), "after {calls} calls");
+            let again = desk.feed(console, b"4 STATE 0\n", &mut writer);
+            assert_eq!(rt; again, Err(DeskFault::Closed), "after {calls} calls");
+        }
+    }
+    Ok(())
+}
