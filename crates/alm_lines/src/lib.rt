@@ -25,6 +25,7 @@
 mod ask;
 mod decoder;
 mod grammar;
+pub mod laws;
 mod line;
 mod numbers;
 mod printing;

@@ -1,0 +1,5 @@
+use Rattle.alm_lines.proofs.Requests.{taken, request-read}
+use Rattle.alm_lines.proofs.laws.each_request_has_one_text.Goals as goal
+
+pub returns : goal.returns
+returns c = record { taken = taken; asked = request-read }

@@ -1,0 +1,86 @@
+-- The one text of each request, without its line end.
+use Rattle.std.specs.Prelude.{◌≡◌, ℕ, ◌<◌, ◌≤◌, ◌^◌, List, [], ◌∷◌, ◌++◌, Bool, true, false, length, codes, decimal, ℤ, pos, negsuc, ◌+◌, ◌≤ℤ◌}
+use Rattle.alm_types.specs.declared.action.Action.{Action}
+use Rattle.alm_types.specs.declared.action.Action.TheVariants.{Clock, Value, Ack, Reset, Shelve, Unshelve, Oos, Design}
+use Rattle.alm_types.specs.declared.query.Query.{Query}
+use Rattle.alm_types.specs.declared.query.Query.TheVariants.{State, Priority, Area, Wheel, Flood, Stale, Chatter}
+use Rattle.alm_lines.specs.declared.ask.Ask.{Ask}
+use Rattle.alm_lines.specs.declared.ask.Ask.TheVariants.{Act, Look, Bad}
+
+-- a value, with minus below 0
+abbrev pub value_text : ℤ → List ℕ
+value_text (pos n) = decimal n
+value_text (negsuc n) = 45 ∷ decimal (n + 1)
+
+-- ON or OFF
+abbrev pub switch_text : Bool → List ℕ
+switch_text true = codes "ON"
+switch_text false = codes "OFF"
+
+-- a word, a space and a field; and two fields with a space between them
+abbrev pub with_one : List ℕ → List ℕ → List ℕ
+with_one word field = word ++ 32 ∷ field
+
+abbrev pub with_two : List ℕ → List ℕ → List ℕ → List ℕ
+with_two word first second = word ++ 32 ∷ (first ++ 32 ∷ second)
+
+abbrev pub action_text : Action → List ℕ
+action_text (Clock t) = with_one (codes "CLOCK") (decimal t)
+action_text (Value i v) = with_two (codes "VAL") (decimal i.0) (value_text v)
+action_text (Ack i) = with_one (codes "ACK") (decimal i.0)
+action_text (Reset i) = with_one (codes "RESET") (decimal i.0)
+action_text (Shelve i seconds) = with_two (codes "SHELVE") (decimal i.0) (decimal seconds)
+action_text (Unshelve i) = with_one (codes "UNSHELVE") (decimal i.0)
+action_text (Oos i on) = with_two (codes "OOS") (decimal i.0) (switch_text on)
+action_text (Design i on) = with_two (codes "DESIGN") (decimal i.0) (switch_text on)
+
+abbrev pub query_text : Query → List ℕ
+query_text (State i) = with_one (codes "STATE") (decimal i.0)
+query_text (Priority n) = with_two (codes "LIST") (codes "P") (decimal n)
+query_text (Area n) = with_two (codes "LIST") (codes "A") (decimal n)
+query_text (Wheel n) = with_two (codes "LIST") (codes "S") (decimal n)
+query_text (Flood n) = with_one (codes "FLOOD") (decimal n)
+query_text Stale = codes "STALE"
+query_text Chatter = codes "CHATTER"
+
+-- what stands behind the id and its space; a line that asks nothing has no such text
+abbrev pub ask_text : Ask → List ℕ
+ask_text (Act action) = action_text action
+ask_text (Look query) = query_text query
+ask_text (Bad refusal) = []
+
+-- the text of a request under an id
+abbrev pub request_text : ℕ → Ask → List ℕ
+request_text id ask = with_one (decimal id) (ask_text ask)
+
+-- what an action, a query and a line can hold
+abbrev pub IsActionInRange : Action → Type 0
+IsActionInRange (Clock t) = t < 2 ^ 40
+IsActionInRange (Value i v) = (i.0 < 2 ^ 32) × (negsuc 999999999999 ≤ℤ v) × (v ≤ℤ pos 1000000000000)
+IsActionInRange (Ack i) = i.0 < 2 ^ 32
+IsActionInRange (Reset i) = i.0 < 2 ^ 32
+IsActionInRange (Shelve i seconds) = (i.0 < 2 ^ 32) × (seconds < 2 ^ 32)
+IsActionInRange (Unshelve i) = i.0 < 2 ^ 32
+IsActionInRange (Oos i on) = i.0 < 2 ^ 32
+IsActionInRange (Design i on) = i.0 < 2 ^ 32
+
+abbrev pub IsQueryInRange : Query → Type 0
+IsQueryInRange (State i) = i.0 < 2 ^ 32
+IsQueryInRange (Priority n) = n < 2 ^ 32
+IsQueryInRange (Area n) = n < 2 ^ 32
+IsQueryInRange (Wheel n) = n < 2 ^ 32
+IsQueryInRange (Flood n) = n < 2 ^ 32
+IsQueryInRange Stale = Unit {0}
+IsQueryInRange Chatter = Unit {0}
+
+-- a line asks for an action or a query, in range
+abbrev pub IsInRange : Ask → Type 0
+IsInRange (Act action) = IsActionInRange action
+IsInRange (Look query) = IsQueryInRange query
+IsInRange (Bad refusal) = ⊥
+
+-- a line asks for an action or a query
+abbrev pub IsAsking : Ask → Type 0
+IsAsking (Act action) = Unit {0}
+IsAsking (Look query) = Unit {0}
+IsAsking (Bad refusal) = ⊥
