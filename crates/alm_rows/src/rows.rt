@@ -424,3 +424,79 @@ fn a_second_flag_leaves_the_place_of_a_shelving_in_its_wheel_slot(
     ];
     check(&rt, &row)
 }
+
+/// The example of an operator's morning.
+#[test]
+fn example_of_a_morning(rt: HostRuntime) -> Result<(), Fail> {
+    let row = [
+        (17, "1 CLOCK 21600", "1 OK 1"),
+        (16, "2 VAL 0 812", "2 OK 2"),
+        (16, "3 VAL 2 1", "3 OK 3"),
+        (0, "4 LIST P 1", "4 LIST 3 2 0 2"),
+        (0, "5 ACK 0", "5 OK 4"),
+        (16, "6 VAL 0 780", "6 OK 5"),
+        (0, "7 STATE 0", "7 STATE 5 NORM 0 - -"),
+        (0, "8 ACK 2", "8 OK 6"),
+        (16, "9 VAL 2 0", "9 OK 7"),
+        (0, "10 STATE 2", "10 STATE 7 LATAK 0 - -"),
+        (0, "11 RESET 2", "11 OK 8"),
+        (0, "12 LIST P 1", "12 LIST 8 0"),
+    ];
+    check(&rt, &row)
+}
+
+/// The example of a shelving that the clock ends.
+#[test]
+fn example_of_a_shelving(rt: HostRuntime) -> Result<(), Fail> {
+    let row = [
+        (17, "1 CLOCK 1000", "1 OK 1"),
+        (16, "2 VAL 1 90", "2 OK 2"),
+        (0, "3 SHELVE 1 600", "3 OK 3"),
+        (0, "4 STATE 1", "4 STATE 3 SHLVD 1 S 1600"),
+        (0, "5 LIST S 64", "5 LIST 3 1 1"),
+        (0, "6 LIST A 0", "6 LIST 3 0"),
+        (17, "7 CLOCK 1599", "7 OK 4"),
+        (0, "8 STATE 1", "8 STATE 4 SHLVD 1 S 1600"),
+        (17, "9 CLOCK 1600", "9 OK 5"),
+        (0, "10 STATE 1", "10 STATE 5 UNACK 1 - -"),
+        (0, "11 LIST A 0", "11 LIST 5 1 1"),
+    ];
+    check(&rt, &row)
+}
+
+/// The example of a flood.
+#[test]
+fn example_of_a_flood(rt: HostRuntime) -> Result<(), Fail> {
+    let row = [
+        (17, "1 CLOCK 1000", "1 OK 1"),
+        (16, "2 VAL 0 800", "2 OK 2"),
+        (16, "3 VAL 0 700", "3 OK 3"),
+        (16, "4 VAL 0 800", "4 OK 4"),
+        (16, "5 VAL 0 700", "5 OK 5"),
+        (16, "6 VAL 0 800", "6 OK 6"),
+        (16, "7 VAL 0 700", "7 OK 7"),
+        (16, "8 VAL 0 800", "8 OK 8"),
+        (16, "9 VAL 0 700", "9 OK 9"),
+        (16, "10 VAL 0 800", "10 OK 10"),
+        (16, "11 VAL 0 700", "11 OK 11"),
+        (16, "12 VAL 0 800", "12 OK 12"),
+        (16, "13 VAL 0 700", "13 OK 13"),
+        (16, "14 VAL 0 800", "14 OK 14"),
+        (16, "15 VAL 0 700", "15 OK 15"),
+        (16, "16 VAL 0 800", "16 OK 16"),
+        (16, "17 VAL 0 700", "17 OK 17"),
+        (16, "18 VAL 0 800", "18 OK 18"),
+        (16, "19 VAL 0 700", "19 OK 19"),
+        (16, "20 VAL 0 800", "20 OK 20"),
+        (16, "21 VAL 0 700", "21 OK 21"),
+        (0, "22 FLOOD 0", "22 FLOOD 21 10 0"),
+        (16, "23 VAL 0 800", "23 OK 22"),
+        (16, "24 VAL 0 700", "24 OK 23"),
+        (0, "25 FLOOD 0", "25 FLOOD 23 11 1"),
+        (17, "26 CLOCK 1599", "26 OK 24"),
+        (0, "27 FLOOD 0", "27 FLOOD 24 11 1"),
+        (17, "28 CLOCK 1600", "28 OK 25"),
+        (0, "29 FLOOD 0", "29 FLOOD 25 0 0"),
+    ];
+    check(&rt, &row)
+}

@@ -1,0 +1,34 @@
+#!/usr/bin/env bash
+# Lines a second of the built program, beside the same lines through cat, and the memory that it took at most.
+set -eu
+top=$(cd "$(dirname "$0")/.." && pwd)
+"$top/alm_server" desk </dev/null
+program=$top/crates/alm_server/out/alm_server
+lines=${1:-1000000}
+work=$(mktemp -d)
+trap 'rm -rf "$work"' EXIT
+for kind in plain mixed; do
+    python3 "$top/bench/desk.py" "$kind" "$lines" >"$work/in"
+    python3 - "$program" "$work/in" "$lines" "$kind" <<'PY'
+import resource, subprocess, sys, time
+
+program, path, lines, kind = sys.argv[1], sys.argv[2], int(sys.argv[3]), sys.argv[4]
+
+
+def seconds(words):
+    best = None
+    for _ in range(3):
+        with open(path) as given:
+            begin = time.perf_counter()
+            subprocess.run(words, stdin=given, stdout=subprocess.DEVNULL, check=True)
+            took = time.perf_counter() - begin
+        best = took if best is None else min(best, took)
+    return best
+
+
+desk = seconds([program, "desk"])
+memory = resource.getrusage(resource.RUSAGE_CHILDREN).ru_maxrss
+cat = seconds(["cat"])
+print(f"{kind}: desk {lines / desk / 1e6:.2f} million lines a second, cat {lines / cat / 1e6:.0f}; at most {memory} kB")
+PY
+done
