@@ -1,5 +1,5 @@
 #!/usr/bin/env bash
-# Lines a second of the built program, beside the same lines through cat, and the memory that it took at most.
+# Lines a second of the built program, in 16 MB of address space, beside the same lines through cat.
 set -eu
 top=$(cd "$(dirname "$0")/.." && pwd)
 "$top/alm_server" desk </dev/null
@@ -10,7 +10,7 @@ trap 'rm -rf "$work"' EXIT
 for kind in plain mixed; do
     python3 "$top/bench/desk.py" "$kind" "$lines" >"$work/in"
     python3 - "$program" "$work/in" "$lines" "$kind" <<'PY'
-import resource, subprocess, sys, time
+import subprocess, sys, time
 
 program, path, lines, kind = sys.argv[1], sys.argv[2], int(sys.argv[3]), sys.argv[4]
 
@@ -26,9 +26,8 @@ def seconds(words):
     return best
 
 
-desk = seconds([program, "desk"])
-memory = resource.getrusage(resource.RUSAGE_CHILDREN).ru_maxrss
+desk = seconds(["bash", "-c", 'ulimit -v 16384; exec "$0" desk', program])
 cat = seconds(["cat"])
-print(f"{kind}: desk {lines / desk / 1e6:.2f} million lines a second, cat {lines / cat / 1e6:.0f}; at most {memory} kB")
+print(f"{kind}: desk {lines / desk / 1e6:.2f} million lines a second, cat {lines / cat / 1e6:.0f}")
 PY
 done
