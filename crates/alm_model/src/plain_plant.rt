@@ -45,10 +45,7 @@ impl Alarms for PlainPlant {
     }
 
     fn new(alloc: Global, table: &Table) -> Result<Self, AllocError> {
-        Ok(PlainPlant {
-            rows: PlainRows::new(alloc, table)?,
-            working: Vec::with_capacity(alloc, table.alarms().len())?,
-        })
+        PlainPlant::build(alloc, PlantParts::new(alloc, table)?)
     }
 
     fn build(alloc: Global, parts: PlantParts) -> Result<Self, AllocError> {

@@ -1,36 +1,17 @@
-//! Making plain rows: new, of parts, and a copy.
+//! Making plain rows: of parts, and a copy.
 
 ghost use Rattle.std.specs.Prelude.{◌≡◌, ◌^◌, ◌≤◌, IfOk};
 ghost use Rattle.alm_model.specs.Parts.{plant_of};
 ghost use Rattle.alm_model.specs.Rules.{KeepsRules};
-ghost use Rattle.alm_model.specs.New.{new_plant};
 
-use crate::ages::{copy_ages, no_ages};
+use crate::ages::copy_ages;
 use crate::plain_rows::PlainRows;
 use crate::plant_parts::PlantParts;
-use crate::recent::{copy_moments, no_moments};
-use alm_state::Row;
-use alm_types::{Moment, Table};
+use crate::recent::copy_moments;
 use std::alloc::{AllocError, Global};
 
 impl PlainRows {
-    pub fn new(alloc: Global, table: &Table) -> Result<Self, AllocError>
-        ensures { IfOk result (λ p. p ≡ new_plant table.now) }
-    {
-        let alarms = table.alarms();
-        let areas = table.areas();
-        Ok(PlainRows {
-            clock: Moment::start(),
-            count: 0,
-            next_stamp: 1,
-            attrs: alarms.to_vec(alloc)?,
-            rows: vec![in alloc; Row::new(); alarms.len()]?,
-            ages: no_ages(alloc, areas)?,
-            moments: no_moments(alloc, alarms.len())?,
-            floods: vec![in alloc; false; areas as usize]?,
-        })
-    }
-
+    /// The plant of its parts.
     pub fn build(parts: PlantParts) -> Self
         requires rules { KeepsRules (plant_of parts) }
         requires count { parts.count ≤ 2 ^ 48 }
@@ -48,6 +29,7 @@ impl PlainRows {
         }
     }
 
+    /// The same plant.
     pub fn copy(&self, alloc: Global) -> Result<Self, AllocError>
         ensures { IfOk result (λ p. p ≡ self.now) }
     {
