@@ -1,0 +1,5 @@
+pub mod Calls
+pub mod Device
+pub mod Failures
+pub mod Served
+pub mod Settled
