@@ -1,5 +1,6 @@
 pub mod Calls
 pub mod Device
 pub mod Failures
+pub mod Memory
 pub mod Served
 pub mod Settled
