@@ -13,20 +13,20 @@ abbrev pub one_less : Option ℕ → Option ℕ
 one_less None = None
 one_less (Some left) = Some (left - 1)
 
--- a fuse: where no call is left this one fails, else the device serves it
-pub record BurnsFuse {E : Type 0} (result : Result Unit E) (old new : Option ℕ) (served : Type 0) : Type 0 where
-  pub blown : old ≡ Some 0 → IsErr result
-  pub passed : old ≢ Some 0 → served
+-- a fuse: where no call is left the device gives this one up, else it serves it
+pub record BurnsFuse {E : Type 0} (result : Result Unit E) (old new : Option ℕ) (served given_up : Type 0) : Type 0 where
   pub left : new ≡ one_less old
+  pub blown : old ≡ Some 0 → IsErr result × given_up
+  pub whole : old ≢ Some 0 → served
 
--- a single fault: the call whose turn it is fails, any other is served
-pub record FailsOnce {E : Type 0} (result : Result Unit E) (old new : ℕ) (served : Type 0) : Type 0 where
-  pub failed : old ≡ 1 → IsErr result
-  pub passed : old ≢ 1 → served
+-- a single fault: the device gives up the call whose turn it is, and serves any other
+pub record FailsOnce {E : Type 0} (result : Result Unit E) (old new : ℕ) (served given_up : Type 0) : Type 0 where
   pub turn : new ≡ old - 1
+  pub failed : old ≡ 1 → IsErr result × given_up
+  pub passed : old ≢ 1 → served
 
--- a sync is served only where the hold lets it go, and any other call always
-abbrev pub IsHeld : {E : Type 0} → Call → Result Unit E → (Bool → Type 0) → Type 0 → Type 0
-IsHeld (Read at n) result answers served = served
-IsHeld (Write at n) result answers served = served
-IsHeld Sync result answers served = (go : Bool) × answers go × MatchBool go served (IsErr result)
+-- a hold is asked before each sync, and the device serves those that it lets begin; it serves every other call
+abbrev pub IsHeld : {E : Type 0} → Call → Result Unit E → (Bool → Type 0) → (served untouched : Type 0) → Type 0
+IsHeld (Read at n) result answers served untouched = served
+IsHeld (Write at n) result answers served untouched = served
+IsHeld Sync result answers served untouched = (begins : Bool) × answers begins × MatchBool begins served (IsErr result × untouched)
