@@ -1,5 +1,5 @@
 -- The count of failures.
-use Rattle.std.proofs.Common.{◌≡◌, ◌⊎◌, inl, inr, ⊎_elim, ◌<◌, ◌≤◌, ◌+◌, ◌-◌, ◌^◌, ℕ, min, Result, Ok, Err, OnErr, arith}
+use Rattle.std.proofs.Common.{inl, inr, ⊎_elim, ◌<◌, ◌≤◌, ℕ, Result, Ok, Err, OnErr, arith}
 use Rattle.std.proofs.lemmas.Bool.{cases_lt}
 use Rattle.alm_disk.specs.Failures.{CountsFault, HasFailed, last_count}
 

@@ -1,8 +1,8 @@
 -- What a crash may leave of a device, call by call.
-use Rattle.std.proofs.Common.{◌≡◌, ⊎_elim, ◌<◌, ◌≤◌, ◌+◌, ℕ, Bool, true, false, ◌||◌, List, ◌++◌, length, get_or, take, drop, Result, Ok, Err, refl, sym, ◌∙◌, ap, subst, arith, length-append, length-drop, take-append-drop, append_assoc}
+use Rattle.std.proofs.Common.{◌≡◌, ⊎_elim, ◌<◌, ◌≤◌, ◌+◌, ℕ, false, ◌||◌, List, ◌++◌, length, get_or, take, drop, Result, Ok, Err, refl, sym, ◌∙◌, ap, subst, arith, length-append, length-drop, take-append-drop, append_assoc}
 use Rattle.std.proofs.lemmas.List.{get_or_append_left, get_or-append_right, get_or-append-add, get_or-take, get_or-drop, length-take-le, take_at, drop_at, drop-drop, ext_get_or}
 use Rattle.std.proofs.lemmas.Bool.{or_parts}
-use Rattle.alm_disk.specs.Device.{DeviceState, IsBytes, IsImage, Reads, Writes, Syncs, Crashes, byte_at, is_within}
+use Rattle.alm_disk.specs.Device.{DeviceState, IsBytes, IsImage, Reads, Writes, Syncs, byte_at, is_within}
 use Rattle.alm_disk.specs.Settled.{IsSettled, AwaitsSync}
 use Rattle.alm_disk.proofs.Places.{below, above, outside_cases}
 
@@ -72,9 +72,9 @@ any_image result state new at bytes front old mid back settled writes place long
   size = omega (arith, writes.size, ap length settled.reads, length-append (front ++ old) back, length-append front old, length-append (front ++ mid) back, length-append front mid);
   bytes = are_bytes;
   stable = λ i still.
-    let out = or_parts (is_within at (length bytes) i) (state.pending i) (sym (writes.pending i) ∙ still) in
-    let there : is_within (length front) (length old) i ≡ false = (λ j. is_within (sym place j) (sym long j) i) ∙ out.0 in
-    same_outside front old mid back fits i there ∙ sym (ap (λ (l : List ℕ). byte_at l i) settled.reads) ∙ sym (writes.outside i out.0);
+      let out = or_parts (is_within at (length bytes) i) (state.pending i) (sym (writes.pending i) ∙ still) in
+      let there : is_within (length front) (length old) i ≡ false = (λ j. is_within (sym place j) (sym long j) i) ∙ out.0 in
+      same_outside front old mid back fits i there ∙ sym (ap (λ (l : List ℕ). byte_at l i) settled.reads) ∙ sym (writes.outside i out.0);
 }
 
 -- what holds with any bytes in the range holds of each image after the write, done or failed
@@ -108,8 +108,8 @@ kept_image result state new at bytes image writes left = record {
   size = left.size ∙ sym writes.size;
   bytes = left.bytes;
   stable = λ i still.
-    let out = or_parts (is_within at (length bytes) i) (state.pending i) (sym (writes.pending i) ∙ still) in
-    left.stable i out.1 ∙ sym (writes.outside i out.0);
+      let out = or_parts (is_within at (length bytes) i) (state.pending i) (sym (writes.pending i) ∙ still) in
+      left.stable i out.1 ∙ sym (writes.outside i out.0);
 }
 
 -- after a sync that was done, where nothing had failed, the device is settled as it read

@@ -3,6 +3,7 @@
 ghost use Rattle.std.specs.Prelude.{Bool};
 
 use alm_types::Slot;
+use std::sync::Arc;
 
 /// Is asked before each sync, and told what the parts of a running server do. It may wait before it answers.
 pub trait Hold {
@@ -18,4 +19,20 @@ pub trait Hold {
 
     /// This slot has looked.
     fn looked(&self, slot: Slot);
+}
+
+impl<H: Hold> Hold for Arc<H> {
+    ghost answers = { λ hold begins. H.answers hold.value begins };
+
+    fn before_sync(&self) -> bool {
+        (**self).before_sync()
+    }
+
+    fn taken(&self, slot: Slot) {
+        (**self).taken(slot);
+    }
+
+    fn looked(&self, slot: Slot) {
+        (**self).looked(slot);
+    }
 }

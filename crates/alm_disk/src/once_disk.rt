@@ -62,20 +62,24 @@ impl<D: Crashable> Disk for OnceDisk<D> {
         if pass(&mut self.turn) {
             return self.disk.read_at(at, into);
         }
-        Err(self.disk.fail(Call::Read {
-            at,
-            length: into.len() as u64,
-        }))
+        Err(
+            self.disk.fail(Call::Read {
+                at,
+                length: into.len() as u64,
+            }),
+        )
     }
 
     fn write_at(&mut self, at: u64, bytes: &[u8]) -> Result<(), DiskFault> {
         if pass(&mut self.turn) {
             return self.disk.write_at(at, bytes);
         }
-        Err(self.disk.fail(Call::Write {
-            at,
-            length: bytes.len() as u64,
-        }))
+        Err(
+            self.disk.fail(Call::Write {
+                at,
+                length: bytes.len() as u64,
+            }),
+        )
     }
 
     fn sync(&mut self) -> Result<(), DiskFault> {

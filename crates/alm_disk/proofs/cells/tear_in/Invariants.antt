@@ -1,4 +1,4 @@
-use Rattle.std.proofs.Common.{◌≡◌, ◌<◌, ◌≤◌, ℕ, true, false, get_or, length}
+use Rattle.std.proofs.Common.{◌≡◌, ◌<◌, ◌≤◌, ℕ, true, false, get_or}
 use Rattle.alm_disk.specs.Device.{byte_at}
 use Rattle.alm_disk.proofs.cells.tear_in.Given as goal
 
