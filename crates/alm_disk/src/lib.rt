@@ -20,8 +20,8 @@
 //! | [`OnceDisk`] | one call |
 //! | [`HeldDisk`] | a sync that its [`Hold`] doesn't let begin |
 //!
-//! What is used above: the clauses of [`Disk`], and what follows from them of every device. Each law is the contract
-//! of a function that does nothing, and a lemma in `proofs/Images.antt`.
+//! What is used above: the clauses of [`Disk`], and what follows from them of every device. Each of these [`laws`] is
+//! the contract of a function that does nothing, and a lemma in `proofs/Images.antt`.
 //!
 //! The clauses hold of an *honest* device. Whether a file is one, no proof can say: of it only the size, and the count
 //! of its failures are claimed. Nothing here finds out that a device was damaged, and no checksum is kept.
@@ -38,7 +38,7 @@ mod free;
 mod fuse_disk;
 mod held_disk;
 mod hold;
-mod laws;
+pub mod laws;
 mod mem_disk;
 mod once_disk;
 
@@ -52,9 +52,5 @@ pub use free::Free;
 pub use fuse_disk::FuseDisk;
 pub use held_disk::HeldDisk;
 pub use hold::Hold;
-pub use laws::{
-    any_image, crashed, has_failed, kept_image, read_image, settled_image, synced, synced_image,
-    written, written_image,
-};
 pub use mem_disk::MemDisk;
 pub use once_disk::OnceDisk;

@@ -5,6 +5,8 @@
 #![tactic(auto)]
 
 #[cfg(test)]
+mod bare;
+#[cfg(test)]
 mod choosers;
 #[cfg(test)]
 mod crashes;
