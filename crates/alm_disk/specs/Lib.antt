@@ -1,4 +1,5 @@
 pub mod Calls
+pub mod Cells
 pub mod Device
 pub mod Failures
 pub mod Memory

@@ -1,6 +1,7 @@
 //! The bytes of a device in memory, and which of them are pending.
 
-ghost use Rattle.std.specs.Prelude.{◌≡◌, ◌≤◌, ◌<◌, ◌+◌, ◌||◌, ◌++◌, ℕ, true, false, length, take, drop, get_or};
+ghost use Rattle.alm_disk.specs.Cells.{is_marked};
+ghost use Rattle.std.specs.Prelude.{◌≡◌, ◌≤◌, ◌<◌, ◌+◌, ◌||◌, ◌++◌, ℕ, true, false, length, take, drop};
 ghost use Rattle.alm_disk.specs.Device.{IsBytes, byte_at, is_within};
 
 use crate::chooser::Chooser;
@@ -9,14 +10,15 @@ use crate::chooser::Chooser;
 pub fn mark(pending: &mut Vec<bool>, at: usize, count: usize)
     requires { at + count ≤ length pending.old.items }
     ensures size { length pending.new.items ≡ length pending.old.items }
-    ensures marked { (place : ℕ) → get_or pending.new.items place false ≡ (is_within at count place || get_or pending.old.items place false) }
+    ensures marked { (place : ℕ) →
+        is_marked pending.new.items place ≡ (is_within at count place || is_marked pending.old.items place) }
 {
     mark_in(pending.as_mut_slice(), at, count);
 }
 
 fn mark_in(pending: &mut [bool], at: usize, count: usize)
     requires { at + count ≤ length pending.old }
-    ensures { (place : ℕ) → get_or pending.new place false ≡ (is_within at count place || get_or pending.old place false) }
+    ensures { (place : ℕ) → is_marked pending.new place ≡ (is_within at count place || is_marked pending.old place) }
 {
     pending[at..at + count].fill(true);
 }
@@ -24,7 +26,7 @@ fn mark_in(pending: &mut [bool], at: usize, count: usize)
 // Nothing is pending.
 pub fn settle(pending: &mut Vec<bool>)
     ensures size { length pending.new.items ≡ length pending.old.items }
-    ensures settled { (place : ℕ) → get_or pending.new.items place false ≡ false }
+    ensures settled { (place : ℕ) → is_marked pending.new.items place ≡ false }
 {
     pending.as_mut_slice().fill(false);
 }
@@ -51,16 +53,20 @@ pub fn tear<C: Chooser>(bytes: &mut Vec<u8>, pending: &[bool], chooser: &mut C)
     requires { length pending.now ≡ length bytes.old.items }
     ensures size { length bytes.new.items ≡ length bytes.old.items }
     ensures bytes { IsBytes bytes.new.items }
-    ensures stable { (place : ℕ) → get_or pending.now place false ≡ false → byte_at bytes.new.items place ≡ byte_at bytes.old.items place }
-    ensures named { (place : ℕ) → place < length bytes.old.items → get_or pending.now place false ≡ true → C.names chooser.old place (byte_at bytes.old.items place) (byte_at bytes.new.items place) }
+    ensures stable { (place : ℕ) → is_marked pending.now place ≡ false →
+        byte_at bytes.new.items place ≡ byte_at bytes.old.items place }
+    ensures named { (place : ℕ) → place < length bytes.old.items → is_marked pending.now place ≡ true →
+        C.names chooser.old place (byte_at bytes.old.items place) (byte_at bytes.new.items place) }
 {
     tear_in(bytes.as_mut_slice(), pending, chooser);
 }
 
 fn tear_in<C: Chooser>(bytes: &mut [u8], pending: &[bool], chooser: &mut C)
     requires { length pending.now ≡ length bytes.old }
-    ensures stable { (place : ℕ) → get_or pending.now place false ≡ false → byte_at bytes.new place ≡ byte_at bytes.old place }
-    ensures named { (place : ℕ) → place < length bytes.old → get_or pending.now place false ≡ true → C.names chooser.old place (byte_at bytes.old place) (byte_at bytes.new place) }
+    ensures stable { (place : ℕ) → is_marked pending.now place ≡ false →
+        byte_at bytes.new place ≡ byte_at bytes.old place }
+    ensures named { (place : ℕ) → place < length bytes.old → is_marked pending.now place ≡ true →
+        C.names chooser.old place (byte_at bytes.old place) (byte_at bytes.new place) }
 {
     for i in 0..pending.len() {
         if pending[i] {

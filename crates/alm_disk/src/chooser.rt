@@ -10,5 +10,6 @@ pub trait Chooser {
     /// The byte for place `at`, where `read` reads.
     fn choose(&mut self, at: u64, read: u8) -> u8
         ensures named { names self.old at read result }
-        ensures kept { (place before byte : ℕ) → names self.new place before byte → names self.old place before byte };
+        ensures kept { (place before byte : ℕ) →
+            names self.new place before byte → names self.old place before byte };
 }

@@ -9,7 +9,8 @@ use crate::crashable::Crashable;
 use crate::disk::Disk;
 use crate::disk_fault::DiskFault;
 
-/// A device that serves so many calls, and fails each after them until it crashes. From then on it fails none of itself.
+/// A device that serves so many calls, and fails each after them until it crashes. From then on it fails none of
+/// itself. A read, a write and a sync are a call each.
 #[derive(Drop)]
 pub struct FuseDisk<D> {
     /// The device that serves the calls.
@@ -57,7 +58,8 @@ impl<D: Crashable> Disk for FuseDisk<D> {
 
     ghost failures = { λ d. D.failures d.disk };
 
-    ghost serves = { λ old call result new. BurnsFuse result old.left new.left (D.serves old.disk call result new.disk) (D.gives_up old.disk call new.disk) };
+    ghost serves = { λ old call result new.
+        BurnsFuse result old.left new.left (D.serves old.disk call result new.disk) (D.gives_up old.disk call new.disk) };
 
     ghost whole = { λ d honest. D.whole d.disk honest };
 

@@ -44,17 +44,26 @@ impl<D: Disk, H: Hold> Disk for HeldDisk<D, H> {
 
     ghost honest = { λ d. D.honest d.disk };
 
-    ghost state = { λ d. record { bytes = (D.state d.disk).bytes; pending = (D.state d.disk).pending; faulted = d.refused || (D.state d.disk).faulted } };
+    ghost state = { λ d. record {
+      bytes = (D.state d.disk).bytes;
+      pending = (D.state d.disk).pending;
+      faulted = d.refused || (D.state d.disk).faulted;
+    } };
 
     ghost size = { λ d. D.size d.disk };
 
     ghost failures = { λ d. min (D.failures d.disk + d.refusals) last_count };
 
-    ghost serves = { λ old call result new. (new.hold ≡ old.hold) × IsHeld call result (H.answers old.hold) (D.serves old.disk call result new.disk) (new.disk ≡ old.disk) };
+    ghost serves = { λ old call result new. (new.hold ≡ old.hold)
+        × IsHeld call result (H.answers old.hold) (D.serves old.disk call result new.disk) (new.disk ≡ old.disk) };
 
     ghost whole = { λ d honest. D.whole d.disk honest };
 
-    ghost own_image = { λ d honest. record { size = (D.own_image d.disk honest).size; bytes = (D.own_image d.disk honest).bytes; stable = (D.own_image d.disk honest).stable } };
+    ghost own_image = { λ d honest. record {
+      size = (D.own_image d.disk honest).size;
+      bytes = (D.own_image d.disk honest).bytes;
+      stable = (D.own_image d.disk honest).stable;
+    } };
 
     fn size(&self) -> u64 {
         self.disk.size()

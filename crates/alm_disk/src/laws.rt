@@ -52,7 +52,8 @@ pub fn written()
         AwaitsSync (length front) (length bytes) new (front ++ bytes ++ back) }
 {}
 
-/// After a sync that was done the device is settled: as it read where nothing had failed, and else at one of the images before.
+/// After a sync that was done the device is settled: as it read where nothing had failed, and else at one of the
+/// images before.
 pub fn synced()
     ensures { (done : Result Unit DiskFault) (old new : DeviceState) →
         done ≡ Ok tt → Syncs done old new →

@@ -8,7 +8,7 @@
 //! |---|---|---|
 //! | read | gives the bytes | the device is as it was |
 //! | write | its bytes read from then on, its range is pending | its range is pending, and may read as anything |
-//! | sync | nothing is pending; the bytes read as before, but after a failed write or sync as one of the images before | no image is new |
+//! | sync | nothing is pending; reads as before, after a failed write or sync as one of the images before | no image is new |
 //! | crash | one image, nothing is pending | |
 //!
 //! A crash within a write is one after it, and a crash within a sync one before it.

@@ -100,19 +100,25 @@ fn note(calls: &mut Vec<Call>, call: Call)
 }
 
 impl Disk for MemDisk {
-    ghost use Rattle.std.specs.Prelude.{ℕ, false, get_or, length, refl};
+    ghost use Rattle.std.specs.Prelude.{ℕ, length, refl};
+    ghost use Rattle.alm_disk.specs.Cells.{is_marked};
     ghost use Rattle.alm_disk.specs.Device.{DeviceState};
     ghost use Rattle.alm_disk.specs.Served.{Records};
 
     ghost honest = { λ _. Unit {0} };
 
-    ghost state = { λ d. record { bytes = d.bytes.items; pending = λ (place : ℕ). get_or d.pending.items place false; faulted = d.faulted } };
+    ghost state = { λ d. record {
+      bytes = d.bytes.items;
+      pending = λ (place : ℕ). is_marked d.pending.items place;
+      faulted = d.faulted;
+    } };
 
     ghost size = { λ d. length d.bytes.items };
 
     ghost failures = { λ d. d.failures };
 
-    ghost serves = { λ old call result new. Records old.room call result old.calls.items new.calls.items × (new.room ≡ old.room) };
+    ghost serves = { λ old call result new.
+        Records old.room call result old.calls.items new.calls.items × (new.room ≡ old.room) };
 
     ghost whole = { λ disk _. refl };
 

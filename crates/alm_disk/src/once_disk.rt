@@ -8,7 +8,7 @@ use crate::crashable::Crashable;
 use crate::disk::Disk;
 use crate::disk_fault::DiskFault;
 
-/// A device that fails one call, and serves those before and after it.
+/// A device that fails one call, and serves those before and after it. A read, a write and a sync are a call each.
 #[derive(Drop)]
 pub struct OnceDisk<D> {
     /// The device that serves the calls.
@@ -48,7 +48,8 @@ impl<D: Crashable> Disk for OnceDisk<D> {
 
     ghost failures = { λ d. D.failures d.disk };
 
-    ghost serves = { λ old call result new. FailsOnce result old.turn new.turn (D.serves old.disk call result new.disk) (D.gives_up old.disk call new.disk) };
+    ghost serves = { λ old call result new.
+        FailsOnce result old.turn new.turn (D.serves old.disk call result new.disk) (D.gives_up old.disk call new.disk) };
 
     ghost whole = { λ d honest. D.whole d.disk honest };
 
