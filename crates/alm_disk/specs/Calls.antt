@@ -1,0 +1,29 @@
+-- The calls that a device may be told to fail.
+use Rattle.std.specs.Prelude.{◌≡◌, ◌≤◌, ◌+◌, ℕ, Bool, true, false, ◌||◌}
+use Rattle.alm_disk.specs.Device.{DeviceState, is_within}
+use Rattle.alm_disk.specs.declared.call.Call.{Call}
+use Rattle.alm_disk.specs.declared.call.Call.TheVariants.{Read, Write, Sync}
+
+-- its range lies inside a device of this size
+abbrev pub IsInRange : Call → ℕ → Type 0
+IsInRange (Read at n) size = at + n ≤ size
+IsInRange (Write at n) size = at + n ≤ size
+IsInRange Sync size = Unit {0}
+
+-- it writes at this place
+abbrev pub is_written_by : Call → ℕ → Bool
+is_written_by (Read at n) place = false
+is_written_by (Write at n) place = is_within at n place
+is_written_by Sync place = false
+
+-- whether something has failed after this call failed
+abbrev pub faulted_by : Call → Bool → Bool
+faulted_by (Read at n) before = before
+faulted_by (Write at n) before = true
+faulted_by Sync before = true
+
+-- the call failed and wrote nothing
+pub record Fails (call : Call) (old new : DeviceState) : Type 0 where
+  pub bytes : new.bytes ≡ old.bytes
+  pub pending : (place : ℕ) → new.pending place ≡ (is_written_by call place || old.pending place)
+  pub faulted : new.faulted ≡ faulted_by call old.faulted

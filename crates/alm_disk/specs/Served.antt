@@ -1,0 +1,32 @@
+-- What the devices of this crate say of a call beyond the model.
+use Rattle.std.specs.Prelude.{◌≡◌, ◌≢◌, ◌<◌, ◌-◌, ℕ, Bool, List, [], ◌∷◌, ◌++◌, length, Option, Some, None, Result, OnOk, OnErr, IsErr, MatchBool}
+use Rattle.alm_disk.specs.declared.call.Call.{Call}
+use Rattle.alm_disk.specs.declared.call.Call.TheVariants.{Read, Write, Sync}
+
+-- a record with room for so many calls: a call that finds room is done and noted, one that finds none fails
+pub record Records {E : Type 0} (room : ℕ) (call : Call) (result : Result Unit E) (old new : List Call) : Type 0 where
+  pub noted : OnOk result ((length old < room) × (new ≡ old ++ call ∷ []))
+  pub full : OnErr result ((length old ≡ room) × (new ≡ old))
+
+-- the calls that are left after one more; none where the fuse is out of use
+abbrev pub one_less : Option ℕ → Option ℕ
+one_less None = None
+one_less (Some left) = Some (left - 1)
+
+-- a fuse: where no call is left the device gives this one up, else it serves it
+pub record BurnsFuse {E : Type 0} (result : Result Unit E) (old new : Option ℕ) (served given_up : Type 0) : Type 0 where
+  pub left : new ≡ one_less old
+  pub blown : old ≡ Some 0 → IsErr result × given_up
+  pub whole : old ≢ Some 0 → served
+
+-- a single fault: the device gives up the call whose turn it is, and serves any other
+pub record FailsOnce {E : Type 0} (result : Result Unit E) (old new : ℕ) (served given_up : Type 0) : Type 0 where
+  pub turn : new ≡ old - 1
+  pub failed : old ≡ 1 → IsErr result × given_up
+  pub passed : old ≢ 1 → served
+
+-- a hold is asked before each sync, and the device serves those that it lets begin; it serves every other call
+abbrev pub IsHeld : {E : Type 0} → Call → Result Unit E → (Bool → Type 0) → (served untouched : Type 0) → Type 0
+IsHeld (Read at n) result answers served untouched = served
+IsHeld (Write at n) result answers served untouched = served
+IsHeld Sync result answers served untouched = (begins : Bool) × answers begins × MatchBool begins served (IsErr result × untouched)

@@ -1,0 +1,5 @@
+//! The fault of a device.
+
+/// A call of a device failed.
+#[derive(Clone, Copy, Debug, PartialEq, Eq)]
+pub struct DiskFault;
