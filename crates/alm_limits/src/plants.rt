@@ -1,6 +1,6 @@
 //! The plant at its limits.
 
-use alm_model::{Alarms, List, PlainPlant};
+use alm_model::{Alarms, List, PlainPlant, PlantParts};
 use alm_types::{
     Action, AlarmId, Attr, Kind, Moment, Reading, Refusal, Request, Settings, Slot, Table,
 };
@@ -127,5 +127,33 @@ fn a_copy_is_the_same_plant(rt: HostRuntime) -> Result<(), Fail> {
         assert_eq!(rt; copy.age(0, 0), 2);
         assert_eq!(rt; copy.age(0, 599), 0);
     }
+    Ok(())
+}
+
+#[test]
+fn a_plant_that_has_had_all_its_actions(rt: HostRuntime) -> Result<(), Fail> {
+    let alloc = rt.alloc();
+    let table = table(alloc, 4, 2)?;
+    let mut parts = PlantParts::new(alloc, &table)?;
+    parts.count = 1 << 48;
+    let plant = PlainPlant::build(alloc, parts)?;
+    assert_eq!(rt; plant.count(), 281_474_976_710_656);
+    let five = Moment::new(5).ok_or("moment")?;
+    assert_eq!(rt;
+        refusal(&plant, Action::Clock(five)),
+        Some(Refusal::Exhausted)
+    );
+    assert_eq!(rt;
+        refusal(&plant, Action::Clock(Moment::start())),
+        Some(Refusal::ClockBack)
+    );
+    assert_eq!(rt;
+        refusal(&plant, Action::Ack(AlarmId(0))),
+        Some(Refusal::NotUnacknowledged)
+    );
+    assert_eq!(rt;
+        refusal(&plant, Action::Shelve(AlarmId(0), 5)),
+        Some(Refusal::Exhausted)
+    );
     Ok(())
 }
