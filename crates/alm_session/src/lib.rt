@@ -20,6 +20,7 @@ mod desk_fault;
 mod feeding;
 mod feeds;
 mod judged;
+pub mod laws;
 mod local_desk;
 mod piece;
 mod plain_backend;
