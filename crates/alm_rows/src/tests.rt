@@ -2,8 +2,8 @@
 
 use crate::desk::{new_desk, printed};
 use crate::failing::FailingWriter;
-use alm_session::{CountedWriter, DeskFault};
-use alm_types::Slot;
+use alm_session::{CountedWriter, DeskFault, desk_of};
+use alm_types::{Attr, Kind, Settings, Slot, Table};
 use std::io::Read;
 use std::test::Fail;
 
@@ -95,5 +95,38 @@ fn a_failed_write_closes_the_desk(rt: HostRuntime) -> Result<(), Fail> {
             assert_eq!(rt; again, Err(DeskFault::Closed), "after {calls} calls");
         }
     }
+    Ok(())
+}
+
+/// The settings of an alarm that comes at 1.
+const ALARM: Settings = Settings {
+    kind: Kind::High,
+    setpoint: 1,
+    deadband: 0,
+    priority: 1,
+    area: 0,
+    latching: false,
+    max_shelve: 0,
+};
+
+#[test]
+fn a_list_of_16384_alarms(rt: HostRuntime) -> Result<(), Fail> {
+    let alloc = rt.alloc();
+    let alarms = vec![in alloc; Attr::new(ALARM, b"T", b"")?; 16_384]?;
+    let mut desk = desk_of(alloc, &Table::new(alarms, 1)?)?;
+    let mut input = String::new(alloc);
+    let mut wanted = String::new(alloc);
+    for alarm in 0..16_384_u32 {
+        input.push_str(format!(in alloc; "16 0 VAL {alarm} 1\n")?.as_str())?;
+        wanted.push_str(format!(in alloc; "16 0 OK {}\n", alarm + 1)?.as_str())?;
+    }
+    input.push_str("0 1 LIST P 1\n0 2 LIST P 2\n")?;
+    wanted.push_str("0 1 LIST 16384 16384")?;
+    for alarm in 0..16_384_u32 {
+        wanted.push_str(format!(in alloc; " {alarm}")?.as_str())?;
+    }
+    wanted.push_str("\n0 2 LIST 16384 0\n")?;
+    let got = printed(alloc, &mut desk, input.as_str().as_bytes())?;
+    assert_eq!(rt; got.as_slice(), wanted.as_str().as_bytes());
     Ok(())
 }
