@@ -1,14 +1,10 @@
 -- What holds of the links of a family.
-use Rattle.std.specs.Prelude.{ℕ, ◌+◌, ◌≡◌, ◌<◌, ◌^◌, List, [], Option, Some, None, length, slice_index_or, ◌==◌, if◌then◌else◌}
+use Rattle.std.specs.Prelude.{ℕ, ◌+◌, ◌≡◌, ◌<◌, ◌^◌, List, [], Some, length, slice_index_or}
 use Rattle.std.specs.List.{AllByRecursion}
 use Rattle.alm_links.specs.declared.links.Link.{Link}
 use Rattle.alm_lists.specs.Lists.{times}
+use Rattle.alm_links.specs.Lists.{once}
 use Rattle.alm_links.specs.Links.{Joined, Path, list_at, walks}
-
--- 1 where a name is a list's, else 0
-abbrev pub once : Option ℕ → ℕ → ℕ
-once None l = 0
-once (Some m) l = if m == l then 1 else 0
 
 -- the links spell a list: round from its own link and back, each node of the list names it, and no other node does
 pub record IsRing (nodes : ℕ) (links : List Link) (l : ℕ) (xs : List ℕ) : Type 0 where

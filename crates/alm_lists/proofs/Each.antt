@@ -32,6 +32,10 @@ pub all-push : (P : ℕ → Type 0) (n : ℕ) (xs : List ℕ) → AllByRecursion
 all-push P n [] a h = (h, tt)
 all-push P n (x ∷ xs) a h = (a.0, all-push P n xs a.1 h)
 
+pub all-append : (P : ℕ → Type 0) (xs ys : List ℕ) → AllByRecursion P xs → AllByRecursion P ys → AllByRecursion P (xs ++ ys)
+all-append P [] ys a b = b
+all-append P (x ∷ xs) ys a b = (a.0, all-append P xs ys a.1 b)
+
 pub all-filter : (P : ℕ → Type 0) (test : ℕ → Bool) (xs : List ℕ) → AllByRecursion P xs → AllByRecursion P (filter test xs)
 all-filter P test [] a = tt
 all-filter P test (x ∷ xs) a = cond_both (test x) (x ∷ filter test xs) (filter test xs) (AllByRecursion P) (λ e. (a.0, all-filter P test xs a.1)) (λ e. all-filter P test xs a.1)
