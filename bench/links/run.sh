@@ -1,32 +1,20 @@
 #!/usr/bin/env bash
 # Times the chains and the wheel beside plain Rust on the same input, in turns, and prints the ratio of the best times.
-# It needs rt and rustc. The program is built in a folder of its own, from copies of the crates.
+# It needs rt and rustc.
 set -eu
 here="$(cd "$(dirname "$0")" && pwd)"
 top="$(cd "$here/../.." && pwd)"
 work="$(mktemp -d)"
 trap 'rm -rf "$work"' EXIT
 
-mkdir "$work/crates"
-for crate in alm_lists alm_links alm_wheel; do
-    cp -r "$top/crates/$crate" "$work/crates/"
-done
-cp -r "$here/links_speed" "$work/crates/"
-cat > "$work/crates.txt" <<'LIST'
-alm_lists:
-alm_links: alm_lists
-alm_wheel: alm_lists alm_links
-links_speed: alm_lists alm_links alm_wheel anyhow
-LIST
-
-(cd "$work/crates/links_speed" && rt run > "$work/build.log" 2>&1) || {
+(cd "$top/crates/alm_links_speed" && rt run > "$work/build.log" 2>&1) || {
     tail -20 "$work/build.log"
     exit 1
 }
 rustc -O "$here/plain.rs" -o "$work/plain"
 
 for _ in 1 2 3 4 5; do
-    "$work/crates/links_speed/out/links_speed" | sed 's/^/ours /' >> "$work/times"
+    "$top/crates/alm_links_speed/out/alm_links_speed" 2>&1 > "$work/sums" | sed 's/^/ours /' >> "$work/times"
     "$work/plain" | sed 's/^/plain /' >> "$work/times"
 done
 

@@ -1,8 +1,10 @@
-//! Chains and the wheel, timed. Each line: what was done, a sum over the answers, nanoseconds.
+//! Chains and the wheel, timed. Each line: what was done, and a sum over the answers; on standard error nanoseconds too.
+//!
+//! `bench/links/run.sh` runs it beside the same in plain Rust.
 #![tactic(auto)]
 
 ghost use Rattle.std.specs.Prelude.{◌≡◌, ◌<◌, ◌≤◌, IfOk, length, vec_capacity};
-ghost use Rattle.links_speed.specs.Sizes.{HasSizes};
+ghost use Rattle.alm_links_speed.specs.Sizes.{HasSizes};
 
 use alm_links::Chains;
 use alm_wheel::Wheel;
@@ -135,7 +137,19 @@ fn new_chains(alloc: Global, nodes: u32, lists: u32) -> Result<Chains, AllocErro
     Chains::new(alloc, nodes, &[lists])
 }
 
-fn time_moves(rt: &(impl Print + Clock), alloc: Global, nodes: u32, lists: u32) -> Result<()>
+/// Writes a sum, and to standard error the time with it.
+fn report(rt: &(impl Print + Eprint), name: &str, sum: u64, took: u128) -> Result<()> {
+    println!(rt; "{name} {sum}")?;
+    eprintln!(rt; "{name} {sum} {took}")?;
+    Ok(())
+}
+
+fn time_moves(
+    rt: &(impl Print + Eprint + Clock),
+    alloc: Global,
+    nodes: u32,
+    lists: u32,
+) -> Result<()>
     requires nodes { 0 < nodes }
     requires lists { 0 < lists }
 {
@@ -143,11 +157,10 @@ fn time_moves(rt: &(impl Print + Clock), alloc: Global, nodes: u32, lists: u32) 
     let start = Instant::now(rt)?;
     let sum = moves(&mut chains, nodes, lists, MOVES);
     let took = start.elapsed(rt)?.as_nanos();
-    println!(rt; "moves {sum} {took}")?;
-    Ok(())
+    report(rt, "moves", sum as u64, took)
 }
 
-fn time_second(rt: &(impl Print + Clock), alloc: Global, nodes: u32) -> Result<()>
+fn time_second(rt: &(impl Print + Eprint + Clock), alloc: Global, nodes: u32) -> Result<()>
     requires { 0 < nodes }
 {
     let mut out = Vec::with_capacity(alloc, nodes as usize)?;
@@ -155,11 +168,10 @@ fn time_second(rt: &(impl Print + Clock), alloc: Global, nodes: u32) -> Result<(
     let start = Instant::now(rt)?;
     let sum = ask_again(&wheel, 200, 999, 1, &mut out);
     let took = start.elapsed(rt)?.as_nanos();
-    println!(rt; "due_in_one_second {sum} {took}")?;
-    Ok(())
+    report(rt, "due_in_one_second", sum, took)
 }
 
-fn time_each_second(rt: &(impl Print + Clock), alloc: Global, nodes: u32) -> Result<()>
+fn time_each_second(rt: &(impl Print + Eprint + Clock), alloc: Global, nodes: u32) -> Result<()>
     requires { 0 < nodes }
 {
     let mut out = Vec::with_capacity(alloc, nodes as usize)?;
@@ -167,11 +179,10 @@ fn time_each_second(rt: &(impl Print + Clock), alloc: Global, nodes: u32) -> Res
     let start = Instant::now(rt)?;
     let sum = ask(&wheel, WEEK, 0, 1, &mut out);
     let took = start.elapsed(rt)?.as_nanos();
-    println!(rt; "due_each_second_of_a_week {sum} {took}")?;
-    Ok(())
+    report(rt, "due_each_second_of_a_week", sum, took)
 }
 
-fn time_week(rt: &(impl Print + Clock), alloc: Global, nodes: u32) -> Result<()>
+fn time_week(rt: &(impl Print + Eprint + Clock), alloc: Global, nodes: u32) -> Result<()>
     requires { 0 < nodes }
 {
     let mut out = Vec::with_capacity(alloc, nodes as usize)?;
@@ -179,8 +190,7 @@ fn time_week(rt: &(impl Print + Clock), alloc: Global, nodes: u32) -> Result<()>
     let start = Instant::now(rt)?;
     let sum = ask_again(&wheel, 100, 0, WEEK as u64, &mut out);
     let took = start.elapsed(rt)?.as_nanos();
-    println!(rt; "due_over_a_week_at_once {sum} {took}")?;
-    Ok(())
+    report(rt, "due_over_a_week_at_once", sum, took)
 }
 
 fn main(rt: HostRuntime) -> Result<()> {
