@@ -1,4 +1,4 @@
-//! Want of memory: run with each allocation refused in turn (`rt try --test --fail-alloc N`, N from 1 to 13), these pass.
+//! Want of memory: run with each allocation refused in turn (`rt try --test --fail-alloc N`, N from 1 to 10), these pass.
 
 use crate::pair::Pair;
 use crate::shelves::Shelves;
