@@ -1,0 +1,4 @@
+pub mod Each
+pub mod Places
+pub mod Times
+pub mod Sorted
