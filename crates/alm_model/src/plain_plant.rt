@@ -2,10 +2,10 @@
 
 use crate::alarms::Alarms;
 use crate::list::List;
-use crate::plant_parts::PlantParts;
 use crate::plain_rows::PlainRows;
-use alm_types::{Action, AlarmId, Attr, Moment, Refusal, Request, Table};
+use crate::plant_parts::PlantParts;
 use alm_state::Row;
+use alm_types::{Action, AlarmId, Attr, Moment, Refusal, Request, Table};
 use std::alloc::{AllocError, Global};
 use std::marker::Model;
 

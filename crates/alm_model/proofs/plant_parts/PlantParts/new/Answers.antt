@@ -1,6 +1,4 @@
-use Rattle.std.proofs.Common.{◌≡◌, rules, sym, subst}
-use Rattle.alm_model.specs.Plant.{Condensed}
-use Rattle.alm_model.specs.New.{new_plant}
+use Rattle.std.proofs.Common.{rules, sym, subst}
 use Rattle.alm_model.specs.Rules.{KeepsRules}
 use Rattle.alm_model.proofs.Kept.{new-keeps}
 use Rattle.alm_model.proofs.plant_parts.PlantParts.new.Goals as goal
