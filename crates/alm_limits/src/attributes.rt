@@ -19,78 +19,65 @@ fn fault(settings: Settings) -> Option<AttrFault> {
 }
 
 #[test]
-fn numbers_at_their_limits(rt: HostRuntime) {
-    for (value, wanted) in [
+fn setpoints(rt: HostRuntime) {
+    for (setpoint, wanted) in [
         (-1_000_000_000_000, None),
         (-1_000_000_000_001, Some(AttrFault::Setpoint)),
         (1_000_000_000_000, None),
         (1_000_000_000_001, Some(AttrFault::Setpoint)),
     ] {
-        assert_eq!(rt;
-            fault(Settings {
-                setpoint: value,
-                ..GOOD
-            }),
-            wanted,
-            "setpoint {value}"
-        );
+        let settings = Settings { setpoint, ..GOOD };
+        assert_eq!(rt; fault(settings), wanted, "at {setpoint}");
     }
-    for (kind, value, wanted) in [
+}
+
+#[test]
+fn deadbands_by_kind(rt: HostRuntime) {
+    for (kind, deadband, wanted) in [
         (Kind::High, 0, None),
         (Kind::High, 1_000_000_000_000, None),
         (Kind::High, 1_000_000_000_001, Some(AttrFault::Deadband)),
         (Kind::Low, 1_000_000_000_000, None),
+        (Kind::Low, 1_000_000_000_001, Some(AttrFault::Deadband)),
         (Kind::Discrete, 0, None),
         (Kind::Discrete, 1, Some(AttrFault::Deadband)),
     ] {
-        assert_eq!(rt;
-            fault(Settings {
-                kind,
-                deadband: value,
-                ..GOOD
-            }),
-            wanted,
-            "deadband {value}"
-        );
+        let settings = Settings {
+            kind,
+            deadband,
+            ..GOOD
+        };
+        assert_eq!(rt; fault(settings), wanted, "at {deadband}");
     }
-    for (value, wanted) in [
-        (0, Some(AttrFault::Priority)),
-        (1, None),
-        (4, None),
-        (5, Some(AttrFault::Priority)),
+}
+
+#[test]
+fn priorities_and_areas(rt: HostRuntime) {
+    for (priority, area, wanted) in [
+        (0, 0, Some(AttrFault::Priority)),
+        (1, 0, None),
+        (4, 63, None),
+        (5, 63, Some(AttrFault::Priority)),
+        (4, 64, Some(AttrFault::Area)),
     ] {
-        assert_eq!(rt;
-            fault(Settings {
-                priority: value,
-                ..GOOD
-            }),
-            wanted,
-            "priority {value}"
-        );
+        let settings = Settings {
+            priority,
+            area,
+            ..GOOD
+        };
+        assert_eq!(rt; fault(settings), wanted, "at {priority}, {area}");
     }
-    for (value, wanted) in [(63, None), (64, Some(AttrFault::Area))] {
-        assert_eq!(rt;
-            fault(Settings {
-                area: value,
-                ..GOOD
-            }),
-            wanted,
-            "area {value}"
-        );
-    }
-    for (value, wanted) in [
+}
+
+#[test]
+fn shelvings(rt: HostRuntime) {
+    for (max_shelve, wanted) in [
         (0, None),
         (604_800, None),
         (604_801, Some(AttrFault::MaxShelve)),
     ] {
-        assert_eq!(rt;
-            fault(Settings {
-                max_shelve: value,
-                ..GOOD
-            }),
-            wanted,
-            "max_shelve {value}"
-        );
+        let settings = Settings { max_shelve, ..GOOD };
+        assert_eq!(rt; fault(settings), wanted, "at {max_shelve}");
     }
 }
 
