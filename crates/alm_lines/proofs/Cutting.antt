@@ -1,6 +1,6 @@
 -- What stands before the first space, and behind it.
-use Rattle.std.proofs.Common.{◌≡◌, ◌<◌, ◌≤◌, ◌+◌, ◌^◌, ℕ, List, [], ◌∷◌, ◌++◌, Option, Some, None, Bool, true, false, refl, arith, nat_le, nat_lt, nat_eq, ap, ◌∙◌, sym, get_or, length, take, drop, inl, inr, add-one, append-nil}
-use Rattle.std.specs.Prelude.{◌&&◌, if◌then◌else◌, decimal, ◌==◌, not, position, codes}
+use Rattle.std.proofs.Common.{◌≡◌, ◌<◌, ◌+◌, ◌^◌, ℕ, List, [], ◌∷◌, ◌++◌, Option, Some, None, Bool, true, false, refl, arith, nat_lt, nat_eq, get_or, length, take, drop, inl, inr, add-one}
+use Rattle.std.specs.Prelude.{◌&&◌, decimal, ◌==◌, not}
 use Rattle.std.specs.List.{position_or_len}
 use Rattle.std.proofs.lemmas.Bool.{cases_Bool}
 use Rattle.std.proofs.lemmas.Grind.{common_steps}
@@ -9,7 +9,7 @@ use Rattle.std.proofs.lemmas.List.Sums.{split_at_first, passes_at_first}
 use Rattle.std.specs.Str.Parse.{AllDigits}
 use Rattle.std.proofs.lemmas.Str.Parse.{digit_from_value}
 use Rattle.std.proofs.lemmas.Fmt.{decimal_is_IsNumeral}
-use Rattle.alm_lines.specs.Line.{cut, cut_at, same}
+use Rattle.alm_lines.specs.Line.{cut, same}
 
 abbrev is_space : ℕ → Bool
 is_space b = b == 32
@@ -23,12 +23,12 @@ joined first (Some rest) = first ++ 32 ∷ rest
 pub cut-joined : (xs : List ℕ) → xs ≡ joined (cut xs).0 (cut xs).1
 cut-joined xs =
     elim (cases_Bool (nat_lt (position_or_len is_space xs) (length xs))) [
-      inl hit ↦
-        (let within : position_or_len is_space xs < length xs = grind arith in
-        let space : get_or xs (position_or_len is_space xs) 0 ≡ 32 = grind (arith, passes_at_first is_space xs 0 within) in
-        let split = split_at_first is_space xs 0 within in
-        rw hit (rw space at split))
-    | inr miss ↦ rw miss refl
+      | inl hit ↦
+          (let within : position_or_len is_space xs < length xs = grind arith in
+          let space : get_or xs (position_or_len is_space xs) 0 ≡ 32 = grind (arith, passes_at_first is_space xs 0 within) in
+          let split = split_at_first is_space xs 0 within in
+          rw hit (rw space at split))
+      | inr miss ↦ rw miss refl
     ]
 
 -- no byte is a space

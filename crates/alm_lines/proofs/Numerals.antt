@@ -1,13 +1,12 @@
 -- Numbers in digits: what is written is read back, and what is read is written so.
-use Rattle.std.proofs.Common.{◌≡◌, ◌<◌, ◌≤◌, ◌+◌, ◌-◌, ◌*◌, ◌^◌, ◌/◌, ◌%◌, ℕ, List, [], ◌∷◌, Option, Some, None, Bool, true, false, refl, arith, nat_le, nat_lt, ap, ◌∙◌, sym, get_or, length, suc, zero, subst, inl, inr, IsTrue, ◌⊎◌}
-use Rattle.std.specs.Prelude.{◌&&◌, if◌then◌else◌, decimal, ◌==◌, not, ℤ, pos, negsuc, neg_ℤ}
+use Rattle.std.proofs.Common.{◌≡◌, ◌<◌, ◌≤◌, ◌+◌, ◌-◌, ◌*◌, ◌^◌, ℕ, List, [], ◌∷◌, Option, Some, None, Bool, true, false, refl, arith, nat_le, nat_lt, ap, ◌∙◌, sym, get_or, length, suc, zero, inl, inr}
+use Rattle.std.specs.Prelude.{◌&&◌, decimal, ◌==◌}
 use Rattle.std.proofs.lemmas.Bool.{cases_Bool}
-use Rattle.std.proofs.lemmas.Grind.{common_steps}
 use Rattle.std.specs.Str.Parse.{AllDigits, digits_value_after, digits_value}
 use Rattle.std.specs.Char.{digit_value}
 use Rattle.std.proofs.lemmas.Str.{digit_value_digit}
 use Rattle.std.proofs.lemmas.Str.Parse.{digit_from_value, numerals_by_value, tells_digits}
-use Rattle.std.proofs.lemmas.Fmt.{decimal-digits_value, decimal_is_IsNumeral, decimal_nonempty, first_decimal, decimal_digit}
+use Rattle.std.proofs.lemmas.Fmt.{decimal-digits_value, decimal_is_IsNumeral, first_decimal, decimal_digit}
 use Rattle.std.proofs.lemmas.Option.{none-some, same_Some}
 use Rattle.alm_lines.specs.Line.{value, up_to, number}
 
@@ -41,15 +40,15 @@ pub value-reads : (n : ℕ) (ds : List ℕ) (m : ℕ) → value n ds ≡ Some m 
 value-reads n [] m e = record { digits = tt; same = same_Some n m e }
 value-reads n (c ∷ cs) m e =
     elim (cases_Bool (is_digit c)) [
-      inl hit ↦
-        (let k : (48 ≤ c) × (c ≤ 57) = (digit-low c hit, digit-high c hit) in
-        let r = value-reads (n * 10 + (c - 48)) cs m (rw hit at e) in
-        let same : n * 10 + digit_value c ≡ n * 10 + (c - 48) = omega (arith, digit_value_digit c k) in
-        record {
-          digits = tells_digits.more c cs k r.digits;
-          same = ap (λ (x : ℕ). digits_value_after 10 x cs) same ∙ r.same;
-        })
-    | inr miss ↦ absurd (none-some m (rw miss at e))
+      | inl hit ↦
+          (let k : (48 ≤ c) × (c ≤ 57) = (digit-low c hit, digit-high c hit) in
+          let r = value-reads (n * 10 + (c - 48)) cs m (rw hit at e) in
+          let same : n * 10 + digit_value c ≡ n * 10 + (c - 48) = omega (arith, digit_value_digit c k) in
+          record {
+            digits = tells_digits.more c cs k r.digits;
+            same = ap (λ (x : ℕ). digits_value_after 10 x cs) same ∙ r.same;
+          })
+      | inr miss ↦ absurd (none-some m (rw miss at e))
     ]
 
 up_to-below : (limit n : ℕ) → n < limit → up_to limit (Some n) ≡ Some n
@@ -59,8 +58,8 @@ up_to-value : (limit : ℕ) (o : Option ℕ) (n : ℕ) → up_to limit o ≡ Som
 up_to-value limit None n e = absurd (none-some n e)
 up_to-value limit (Some m) n e =
     elim (cases_Bool (nat_lt m limit)) [
-      inl hit ↦ (let same = same_Some m n (rw hit at e) in (ap (λ (x : ℕ). Some x) same, (let below : m < limit = grind arith in omega (arith, same))))
-    | inr miss ↦ absurd (none-some n (rw miss at e))
+      | inl hit ↦ (let same = same_Some m n (rw hit at e) in (ap (λ (x : ℕ). Some x) same, (let below : m < limit = grind arith in omega (arith, same))))
+      | inr miss ↦ absurd (none-some n (rw miss at e))
     ]
 
 -- the digits of a number below a limit are read as it
@@ -90,10 +89,10 @@ decimal-number limit (c ∷ []) n small e =
     sym (decimal-digits_value (numerals_by_value (AllDigits 10) tells_digits) (c ∷ []) r.digits (omega arith) (λ x. omega arith) (omega (arith, r.same, u.1))) ∙ ap decimal r.same
 decimal-number limit (c ∷ b ∷ cs) n small e =
     elim (cases_Bool (c == 48)) [
-      inl hit ↦ absurd (none-some n (rw hit at e))
-    | inr miss ↦
-        (let u = up_to-value limit (value 0 (c ∷ b ∷ cs)) n (rw miss at e) in
-        let r = value-reads 0 (c ∷ b ∷ cs) n u.0 in
-        let lead : c ≡ 48 → length (c ∷ b ∷ cs) ≡ 1 = λ same. absurd (grind (arith, miss, same)) in
-        sym (decimal-digits_value (numerals_by_value (AllDigits 10) tells_digits) (c ∷ b ∷ cs) r.digits (omega arith) lead (omega (arith, r.same, u.1))) ∙ ap decimal r.same)
+      | inl hit ↦ absurd (none-some n (rw hit at e))
+      | inr miss ↦
+          (let u = up_to-value limit (value 0 (c ∷ b ∷ cs)) n (rw miss at e) in
+          let r = value-reads 0 (c ∷ b ∷ cs) n u.0 in
+          let lead : c ≡ 48 → length (c ∷ b ∷ cs) ≡ 1 = λ same. absurd (grind (arith, miss, same)) in
+          sym (decimal-digits_value (numerals_by_value (AllDigits 10) tells_digits) (c ∷ b ∷ cs) r.digits (omega arith) lead (omega (arith, r.same, u.1))) ∙ ap decimal r.same)
     ]

@@ -1,6 +1,6 @@
 -- Requests and their texts.
-use Rattle.std.proofs.Common.{◌≡◌, ◌<◌, ◌≤◌, ◌+◌, ◌^◌, ℕ, List, [], ◌∷◌, ◌++◌, Option, Some, None, Bool, true, false, refl, arith, nat_le, nat_lt, ap, ◌∙◌, sym, length, inl, inr, add-one, suc, zero, get_or}
-use Rattle.std.specs.Prelude.{if◌then◌else◌, decimal, codes, option_map, option_and_then, unwrap_or, ◌==◌, ℤ, pos, negsuc, neg_ℤ, ◌≤ℤ◌}
+use Rattle.std.proofs.Common.{◌≡◌, ◌<◌, ◌≤◌, ◌+◌, ◌^◌, ℕ, List, [], ◌∷◌, ◌++◌, Option, Some, None, Bool, true, false, refl, arith, nat_lt, ap, ◌∙◌, sym, length, inl, inr, add-one, suc, zero}
+use Rattle.std.specs.Prelude.{if◌then◌else◌, decimal, codes, option_map, option_and_then, unwrap_or, ◌==◌, ℤ, pos, negsuc, ◌≤ℤ◌}
 use Rattle.std.proofs.lemmas.Bool.{cases_Bool}
 use Rattle.std.proofs.lemmas.Option.{none-some, same_Some}
 use Rattle.std.proofs.lemmas.Fmt.{decimal_is_IsNumeral}
@@ -10,12 +10,11 @@ use Rattle.std.proofs.Math.Facts.{leb_yes}
 use Rattle.alm_types.specs.declared.alarm_id.AlarmId.{AlarmId}
 use Rattle.alm_types.specs.declared.action.Action.{Action}
 use Rattle.alm_types.specs.declared.action.Action.TheVariants.{Clock, Value, Ack, Reset, Shelve, Unshelve, Oos, Design}
-use Rattle.alm_types.specs.declared.refusal.Refusal.TheVariants.{BadLine, LineTooLong}
+use Rattle.alm_types.specs.declared.refusal.Refusal.TheVariants.{BadLine}
 use Rattle.alm_types.specs.declared.query.Query.{Query}
 use Rattle.alm_types.specs.declared.query.Query.TheVariants.{State, Priority, Area, Wheel, Flood, Stale, Chatter}
 use Rattle.alm_lines.specs.declared.ask.Ask.{Ask}
 use Rattle.alm_lines.specs.declared.ask.Ask.TheVariants.{Act, Look, Bad}
-use Rattle.alm_lines.specs.declared.line.Line.{Line}
 use Rattle.alm_lines.specs.Line.{number, word, alarm, moment, negative, reading, same, switch, cut, of_none, of_one, of_letter, of_two, of_fields, of_rest, asked, line_under, line_of}
 use Rattle.alm_lines.specs.Texts.{value_text, switch_text, with_one, with_two, ask_text, action_text, query_text, request_text, IsInRange, IsActionInRange, IsQueryInRange, IsAsking}
 use Rattle.alm_lines.proofs.Numerals.{number-decimal, decimal-number}
@@ -101,22 +100,22 @@ reading-text : (ds : List ℕ) (v : ℤ) → reading ds ≡ Some v → ds ≡ va
 reading-text [] v e = absurd (none-some v e)
 reading-text (d ∷ ds) v e =
     elim (cases_Bool (d == 45)) [
-      inl hit ↦
-        (let minus : d ≡ 45 = grind (arith, hit) in
-        rw minus (negative-text ds (number 1000000000001 ds) v refl (rw hit at e)))
-    | inr miss ↦ positive-text (d ∷ ds) (number 1000000000001 (d ∷ ds)) v refl (rw miss at e)
+      | inl hit ↦
+          (let minus : d ≡ 45 = grind (arith, hit) in
+          rw minus (negative-text ds (number 1000000000001 ds) v refl (rw hit at e)))
+      | inr miss ↦ positive-text (d ∷ ds) (number 1000000000001 (d ∷ ds)) v refl (rw miss at e)
     ]
 
 switch-text : (field : List ℕ) (on : Bool) → switch field ≡ Some on → field ≡ switch_text on
 switch-text field on e =
     elim (cases_Bool (same field (codes "ON"))) [
-      inl hit ↦ (let is = same_Some true on (rw hit at e) in rw (← is) (same-is field (codes "ON") hit))
-    | inr miss ↦
-        (let e = rw miss at e in
-        elim (cases_Bool (same field (codes "OFF"))) [
-          inl hit ↦ (let is = same_Some false on (rw hit at e) in rw (← is) (same-is field (codes "OFF") hit))
-        | inr miss ↦ absurd (none-some on (rw miss at e))
-        ])
+      | inl hit ↦ (let is = same_Some true on (rw hit at e) in rw (← is) (same-is field (codes "ON") hit))
+      | inr miss ↦
+          (let e = rw miss at e in
+          elim (cases_Bool (same field (codes "OFF"))) [
+            | inl hit ↦ (let is = same_Some false on (rw hit at e) in rw (← is) (same-is field (codes "OFF") hit))
+            | inr miss ↦ absurd (none-some on (rw miss at e))
+          ])
     ]
 
 word-text : (field : List ℕ) (n : ℕ) → word field ≡ Some n → field ≡ decimal n
@@ -174,8 +173,8 @@ taken-under first (Some id) (Some rest) e h =
 pub taken : (bytes : List ℕ) → IsAsking (line_of bytes).ask → bytes ≡ request_text (line_of bytes).id (line_of bytes).ask
 taken bytes h =
     elim (cases_Bool (nat_lt 127 (length bytes))) [
-      inl hit ↦ absurd (rw hit at h)
-    | inr miss ↦ rw miss (cut-joined bytes ∙ taken-under (cut bytes).0 (word (cut bytes).0) (cut bytes).1 refl (rw miss at h))
+      | inl hit ↦ absurd (rw hit at h)
+      | inr miss ↦ rw miss (cut-joined bytes ∙ taken-under (cut bytes).0 (word (cut bytes).0) (cut bytes).1 refl (rw miss at h))
     ]
 
 -- an alarm and a number are read back

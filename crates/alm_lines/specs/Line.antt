@@ -1,5 +1,5 @@
 -- What a line asks.
-use Rattle.std.specs.Prelude.{ℕ, ◌+◌, ◌-◌, ◌*◌, ◌^◌, List, [], ◌∷◌, Bool, true, false, ◌||◌, ◌&&◌, Option, Some, None, length, take, drop, position, option_map, option_and_then, unwrap_or, ℤ, pos, neg_ℤ, nat_eq, codes, nat_lt, nat_le, ◌==◌, if◌then◌else◌}
+use Rattle.std.specs.Prelude.{ℕ, ◌+◌, ◌-◌, ◌*◌, ◌^◌, List, [], ◌∷◌, Bool, true, false, ◌&&◌, Option, Some, None, length, take, drop, position, option_map, option_and_then, unwrap_or, ℤ, pos, neg_ℤ, nat_eq, codes, nat_lt, nat_le, ◌==◌, if◌then◌else◌}
 use Rattle.std.specs.Cmp.Lexicographic.{pointwise}
 use Rattle.alm_types.specs.declared.alarm_id.AlarmId.{AlarmId}
 use Rattle.alm_types.specs.declared.action.Action.TheVariants.{Clock, Value, Ack, Reset, Shelve, Unshelve, Oos, Design}
@@ -64,38 +64,38 @@ cut bytes = cut_at bytes (position (λ b. b == 32) bytes)
 -- what a word asks alone
 abbrev pub of_none : List ℕ → Option Ask
 of_none name =
-  if same name (codes "STALE") then Some (Look Stale)
-  else if same name (codes "CHATTER") then Some (Look Chatter)
-  else None
+    if same name (codes "STALE") then Some (Look Stale)
+    else if same name (codes "CHATTER") then Some (Look Chatter)
+    else None
 
 -- and of one field
 abbrev pub of_one : List ℕ → List ℕ → Option Ask
 of_one name first =
-  if same name (codes "ACK") then option_map (λ i. Act (Ack i)) (alarm first)
-  else if same name (codes "RESET") then option_map (λ i. Act (Reset i)) (alarm first)
-  else if same name (codes "UNSHELVE") then option_map (λ i. Act (Unshelve i)) (alarm first)
-  else if same name (codes "CLOCK") then option_map (λ t. Act (Clock t)) (moment first)
-  else if same name (codes "STATE") then option_map (λ i. Look (State i)) (alarm first)
-  else if same name (codes "FLOOD") then option_map (λ a. Look (Flood a)) (word first)
-  else None
+    if same name (codes "ACK") then option_map (λ i. Act (Ack i)) (alarm first)
+    else if same name (codes "RESET") then option_map (λ i. Act (Reset i)) (alarm first)
+    else if same name (codes "UNSHELVE") then option_map (λ i. Act (Unshelve i)) (alarm first)
+    else if same name (codes "CLOCK") then option_map (λ t. Act (Clock t)) (moment first)
+    else if same name (codes "STATE") then option_map (λ i. Look (State i)) (alarm first)
+    else if same name (codes "FLOOD") then option_map (λ a. Look (Flood a)) (word first)
+    else None
 
 -- the list that a letter names
 abbrev pub of_letter : List ℕ → ℕ → Option Ask
 of_letter letter n =
-  if same letter (codes "P") then Some (Look (Priority n))
-  else if same letter (codes "A") then Some (Look (Area n))
-  else if same letter (codes "S") then Some (Look (Wheel n))
-  else None
+    if same letter (codes "P") then Some (Look (Priority n))
+    else if same letter (codes "A") then Some (Look (Area n))
+    else if same letter (codes "S") then Some (Look (Wheel n))
+    else None
 
 -- and of two
 abbrev pub of_two : List ℕ → List ℕ → List ℕ → Option Ask
 of_two name first second =
-  if same name (codes "VAL") then option_and_then (λ i. option_map (λ v. Act (Value i v)) (reading second)) (alarm first)
-  else if same name (codes "SHELVE") then option_and_then (λ i. option_map (λ s. Act (Shelve i s)) (word second)) (alarm first)
-  else if same name (codes "OOS") then option_and_then (λ i. option_map (λ on. Act (Oos i on)) (switch second)) (alarm first)
-  else if same name (codes "DESIGN") then option_and_then (λ i. option_map (λ on. Act (Design i on)) (switch second)) (alarm first)
-  else if same name (codes "LIST") then option_and_then (of_letter first) (word second)
-  else None
+    if same name (codes "VAL") then option_and_then (λ i. option_map (λ v. Act (Value i v)) (reading second)) (alarm first)
+    else if same name (codes "SHELVE") then option_and_then (λ i. option_map (λ s. Act (Shelve i s)) (word second)) (alarm first)
+    else if same name (codes "OOS") then option_and_then (λ i. option_map (λ on. Act (Oos i on)) (switch second)) (alarm first)
+    else if same name (codes "DESIGN") then option_and_then (λ i. option_map (λ on. Act (Design i on)) (switch second)) (alarm first)
+    else if same name (codes "LIST") then option_and_then (of_letter first) (word second)
+    else None
 
 abbrev pub of_fields : List ℕ → List ℕ × Option (List ℕ) → Option Ask
 of_fields name (first, None) = of_one name first

@@ -1,5 +1,5 @@
 -- Reply lines.
-use Rattle.std.specs.Prelude.{ℕ, List, [], ◌∷◌, ◌++◌, Bool, Option, Some, None, length, codes, decimal, if◌then◌else◌, ◌==◌}
+use Rattle.std.specs.Prelude.{ℕ, List, ◌∷◌, ◌++◌, Bool, Option, Some, None, length, codes, decimal, if◌then◌else◌, ◌==◌}
 use Rattle.std.specs.List.{flat_map}
 use Rattle.alm_types.specs.Refusals.{number_of}
 use Rattle.alm_types.specs.declared.refusal.Refusal.{Refusal}
@@ -26,14 +26,14 @@ shown_word LatchAcked = codes "LATAK"
 -- the letters of flags: 1 is S, 2 is D, 4 is O
 abbrev pub letters : ℕ → List ℕ
 letters flags =
-  if flags == 0 then codes "-"
-  else if flags == 1 then codes "S"
-  else if flags == 2 then codes "D"
-  else if flags == 3 then codes "DS"
-  else if flags == 4 then codes "O"
-  else if flags == 5 then codes "OS"
-  else if flags == 6 then codes "OD"
-  else codes "ODS"
+    if flags == 0 then codes "-"
+    else if flags == 1 then codes "S"
+    else if flags == 2 then codes "D"
+    else if flags == 3 then codes "DS"
+    else if flags == 4 then codes "O"
+    else if flags == 5 then codes "OS"
+    else if flags == 6 then codes "OD"
+    else codes "ODS"
 
 -- the moment of a deadline, or -
 abbrev pub deadline : Option ℕ → List ℕ

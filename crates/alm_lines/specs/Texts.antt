@@ -1,5 +1,5 @@
 -- The one text of each request, without its line end.
-use Rattle.std.specs.Prelude.{◌≡◌, ℕ, ◌<◌, ◌≤◌, ◌^◌, List, [], ◌∷◌, ◌++◌, Bool, true, false, length, codes, decimal, ℤ, pos, negsuc, ◌+◌, ◌≤ℤ◌}
+use Rattle.std.specs.Prelude.{ℕ, ◌<◌, ◌^◌, List, [], ◌∷◌, ◌++◌, Bool, true, false, codes, decimal, ℤ, pos, negsuc, ◌+◌, ◌≤ℤ◌}
 use Rattle.alm_types.specs.declared.action.Action.{Action}
 use Rattle.alm_types.specs.declared.action.Action.TheVariants.{Clock, Value, Ack, Reset, Shelve, Unshelve, Oos, Design}
 use Rattle.alm_types.specs.declared.query.Query.{Query}

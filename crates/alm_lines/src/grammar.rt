@@ -30,7 +30,10 @@ pub fn cut(bytes: &[u8]) -> (&[u8], Option<&[u8]>)
 pub fn line_of(bytes: &[u8]) -> Line
     ensures { result ≡ line_of bytes.now }
 {
-    let bad = |id, refusal| Line { id, ask: Ask::Bad(refusal) };
+    let bad = |id, refusal| Line {
+        id,
+        ask: Ask::Bad(refusal),
+    };
     if bytes.len() > 127 {
         return bad(0, Refusal::LineTooLong);
     }

@@ -1,5 +1,5 @@
 -- A desk over streams at many slots.
-use Rattle.std.specs.Prelude.{◌≡◌, ℕ, List, [], ◌∷◌, Bool, true, false, Option, map, replicate, slice_index_or, slice_set, if◌then◌else◌}
+use Rattle.std.specs.Prelude.{◌≡◌, ℕ, List, [], ◌∷◌, Bool, true, false, Option, map, slice_index_or, slice_set, if◌then◌else◌}
 use Rattle.std.specs.Io.KnownBytes.{Appends}
 use Rattle.alm_types.specs.Counts.{one_more}
 use Rattle.alm_lines.specs.Line.{line_of}

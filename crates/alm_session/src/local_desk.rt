@@ -85,7 +85,14 @@ impl<B: Backend + Drop> LocalDesk<B> {
             return Err(DeskFault::Closed);
         }
         let decoder = &mut self.decoders[slot.number() as usize];
-        match feed_slot(&mut self.backend, &mut self.answer, decoder, slot, piece, writer) {
+        match feed_slot(
+            &mut self.backend,
+            &mut self.answer,
+            decoder,
+            slot,
+            piece,
+            writer,
+        ) {
             Ok(()) => Ok(()),
             Err(_) => {
                 self.closed = true;

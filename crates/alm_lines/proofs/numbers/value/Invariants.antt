@@ -7,4 +7,5 @@ abbrev pub invariant-loop-digit : goal.invariant-loop-digit
 invariant-loop-digit l = record {
   small : l.value < 2 ^ 56;
   below : 0 < l.digit-index → l.value < l.limit;
-  rest : up_to l.limit (value l.value (drop l.digit-index l.digits)) ≡ up_to l.limit (value 0 l.digits) }
+  rest : up_to l.limit (value l.value (drop l.digit-index l.digits)) ≡ up_to l.limit (value 0 l.digits);
+}

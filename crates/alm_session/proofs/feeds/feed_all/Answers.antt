@@ -11,4 +11,5 @@ loop-piece-preserved g c =
     let in_range : c.loop-piece.piece-index < length c.args.pieces.now = search rules in
     record {
       fed = rw (tag_all_more c.args.pieces.now c.loop-piece.piece-index c.piece-item.result in_range c.piece-item.is) (joined c.loop-piece.invariant.fed c.in_ok-feed.ensures.fed);
-      whole = c.in_ok-feed.ensures.whole ∙ c.loop-piece.invariant.whole }
+      whole = c.in_ok-feed.ensures.whole ∙ c.loop-piece.invariant.whole;
+    }

@@ -7,4 +7,5 @@ use Rattle.alm_session.proofs.feeds.feed_all.Given as goal
 abbrev pub invariant-loop-piece : goal.invariant-loop-piece
 invariant-loop-piece g l = record {
   fed : IsFed l.initial.desk (tag_all (take l.piece-index l.pieces)) (g.W.Write.contents l.initial.writer.inner) l.desk (g.W.Write.contents l.writer.inner);
-  whole : l.writer.failed ≡ l.initial.writer.failed }
+  whole : l.writer.failed ≡ l.initial.writer.failed;
+}
