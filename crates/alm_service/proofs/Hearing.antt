@@ -1,9 +1,9 @@
 -- Bytes that a desk hears.
-use Rattle.std.proofs.Common.{◌≡◌, ℕ, ◌+◌, ◌<◌, Bool, true, false, List, [], ◌∷◌, ◌++◌, Option, Some, None, length, take, get_or, refl, ap, sym, ◌∙◌, append_assoc}
-use Rattle.std.specs.Prelude.{map, IfSome, if◌then◌else◌}
+use Rattle.std.proofs.Common.{◌≡◌, ℕ, ◌+◌, ◌<◌, Bool, true, false, List, [], ◌∷◌, ◌++◌, Option, length, take, get_or, refl, ap, sym, ◌∙◌, append_assoc}
+use Rattle.std.specs.Prelude.{IfSome, if◌then◌else◌}
 use Rattle.std.proofs.KnownBytes.{Appends-trans, Appends-nil, Appends-kept, Consumes-nil, Consumes-trans, Consumes-whole}
 use Rattle.std.proofs.lemmas.List.{map-append, append-nil, take_more}
-use Rattle.std.specs.Io.KnownBytes.{Appends, Keeps, Consumes, IsAtEnd}
+use Rattle.std.specs.Io.KnownBytes.{Appends, Keeps}
 use Rattle.std.proofs.Common.{inl, inr}
 use Rattle.std.proofs.lemmas.Bool.{cases_Bool}
 use Rattle.alm_lines.specs.Stream.{is_end}
@@ -56,17 +56,19 @@ joined {a} {b} {c} {h} {i} {j} {xs} {ys} {o} {m} {n} p q = record {
   lines = rw (map-append line p.heard q.heard, p.lines, q.lines, p.left) (sym (lines_of-append h xs ys));
   written = rw (printed-append a p.heard q.heard, ← p.standing) (Appends-trans o m n (printed a p.heard) (printed b q.heard) p.written q.written);
   standing = rw (stands_after-append a p.heard q.heard, ← p.standing) q.standing;
-  left = rw (held_by-append h xs ys, ← p.left) q.left }
+  left = rw (held_by-append h xs ys, ← p.left) q.left;
+}
 
 -- a byte that ends a line
 pub heard_end : (a b : Standing) (h i : List ℕ) (byte : ℕ) (x : Heard) (o n : Option (List ℕ)) → is_end byte ≡ true → x.line ≡ h → i ≡ []
-  → Appends o n (entry_text a (entry_of x.line) x.course) → b ≡ entry_after a (entry_of x.line) x.course → IsHeard a h (byte ∷ []) o b i n
+    → Appends o n (entry_text a (entry_of x.line) x.course) → b ≡ entry_after a (entry_of x.line) x.course → IsHeard a h (byte ∷ []) o b i n
 heard_end a b h i byte x o n e l k w s = record {
   heard = x ∷ [];
   lines = rw e (ap (λ (y : List ℕ). y ∷ []) l);
   written = rw append-nil w;
   standing = s;
-  left = rw e k }
+  left = rw e k;
+}
 
 -- and one that doesn't
 pub heard_byte : (a : Standing) (h i : List ℕ) (byte : ℕ) (o : Option (List ℕ)) → is_end byte ≡ false → i ≡ take 131 (h ++ byte ∷ []) → IsHeard a h (byte ∷ []) o a i o
@@ -76,7 +78,8 @@ heard_byte a h i byte o e k = record {
   lines = sym (lines_of-step h byte [] ∙ rw e refl);
   written = Appends-nil o;
   standing = refl;
-  left = rw e k }
+  left = rw e k;
+}
 
 -- what is handed on stays as it was
 pub heard_kept : {a b : Standing} {h i xs : List ℕ} {o m : Option (List ℕ)} (n : Option (List ℕ)) → IsHeard a h xs o b i m → Keeps m n → IsHeard a h xs o b i n
@@ -95,10 +98,11 @@ turns {more} {a} {b} {c} {h} {i} {j} {r} {s} {t} {o} {m} {n} p q = record {
   bytes = p.bytes ++ q.bytes;
   read = Consumes-trans r s t p.bytes q.bytes p.read q.read;
   heard = joined p.heard q.heard;
-  ended = q.ended }
+  ended = q.ended;
+}
 
 -- the input is at its end
 pub turns_end : {a c : Standing} {h j : List ℕ} {r t o n : Option (List ℕ)} → h ≡ [] → IsTurn false a h r o c j t n → IfSome r (λ input. IsDesk a input o c n)
 turns_end {a} {c} {h} {j} {r} {t} {o} {n} e p =
     Consumes-whole r t p.bytes (λ input. IsDesk a input o c n) p.read (p.ended refl)
-      (record { heard = p.heard.heard; lines = p.heard.lines ∙ ap (λ x. lines_of x p.bytes) e; written = p.heard.written; standing = p.heard.standing })
+    (record { heard = p.heard.heard; lines = p.heard.lines ∙ ap (λ x. lines_of x p.bytes) e; written = p.heard.written; standing = p.heard.standing })

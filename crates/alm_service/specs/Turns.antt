@@ -1,5 +1,5 @@
 -- One read of a desk.
-use Rattle.std.specs.Prelude.{◌≡◌, ℕ, List, Bool, true, false, Option}
+use Rattle.std.specs.Prelude.{◌≡◌, ℕ, List, Bool, false, Option}
 use Rattle.std.specs.Io.KnownBytes.{Consumes, IsAtEnd}
 use Rattle.alm_session.specs.Answers.{Standing}
 use Rattle.alm_service.specs.Desk.{IsHeard}

@@ -1,5 +1,5 @@
 -- The worked table: four alarms in two areas.
-use Rattle.std.specs.Prelude.{◌≡◌, ℕ, List, [], ◌∷◌, false, true, map, codes, pos}
+use Rattle.std.specs.Prelude.{◌≡◌, List, [], ◌∷◌, false, true, map, codes, pos}
 use Rattle.alm_types.specs.Tables.{Listing}
 use Rattle.alm_types.specs.declared.attr.Attr.{Attr}
 use Rattle.alm_types.specs.declared.settings.Settings.{Settings}

@@ -22,7 +22,10 @@ fn slot_of(digits: &[u8]) -> Option<Slot>
 }
 
 /// Says that a line can't be read.
-fn refuse<W: Write + Drop>(refusal: Refusal, writer: &mut CountedWriter<W>) -> Result<(), WriteFailed>
+fn refuse<W: Write + Drop>(
+    refusal: Refusal,
+    writer: &mut CountedWriter<W>,
+) -> Result<(), WriteFailed>
     ensures text { OnOk result (Appends (W.contents writer.old.inner) (W.contents writer.new.inner) (unread_text refusal)) }
     ensures whole { OnOk result (writer.new.failed ≡ writer.old.failed) }
     ensures failed { OnErr result (writer.new.failed ≡ one_more writer.old.failed) }

@@ -10,7 +10,8 @@ loop-preserved g c =
       still_open = c.in-Ok-true.ensures.open;
       reads = omega arith;
       whole_reader = c.in-Ok-true.ensures.whole_reader ∙ c.loop.invariant.whole_reader;
-      whole_writer = c.in-Ok-true.ensures.whole_writer ∙ c.loop.invariant.whole_writer }
+      whole_writer = c.in-Ok-true.ensures.whole_writer ∙ c.loop.invariant.whole_writer;
+    }
 
 pub returns-in-Ok-false-clause-desk : goal.returns-in-Ok-false-clause-desk
 returns-in-Ok-false-clause-desk g c =

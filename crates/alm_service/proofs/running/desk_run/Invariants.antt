@@ -9,4 +9,5 @@ invariant-loop g l = record {
   still_open : l.desk.closed ≡ false;
   reads : l.reader.reads ≡ min (l.initial.reader.reads + l.counter) (2 ^ 64 - 1);
   whole_reader : l.reader.failed ≡ l.initial.reader.failed;
-  whole_writer : l.writer.failed ≡ l.initial.writer.failed }
+  whole_writer : l.writer.failed ≡ l.initial.writer.failed;
+}

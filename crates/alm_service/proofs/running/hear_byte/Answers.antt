@@ -1,6 +1,6 @@
 use Rattle.std.proofs.Common.{◌≡◌, true, rules}
 use Rattle.alm_lines.specs.Stream.{is_end}
-use Rattle.alm_service.proofs.Hearing.{heard_end, heard_byte}
+use Rattle.alm_service.proofs.Hearing.{heard_end}
 use Rattle.alm_service.proofs.running.hear_byte.Goals as goal
 
 pub returns-then-byte-eq10-clause-heard : goal.returns-then-byte-eq10-clause-heard

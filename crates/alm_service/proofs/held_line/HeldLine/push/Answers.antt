@@ -1,4 +1,3 @@
-use Rattle.std.proofs.Common.{arith, rules}
 use Rattle.alm_lines.proofs.Streams.{pushed, kept}
 use Rattle.alm_service.proofs.held_line.HeldLine.push.Goals as goal
 
