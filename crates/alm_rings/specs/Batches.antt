@@ -1,5 +1,5 @@
 -- The ends of the batch rings: what went into them, what came out, and what each end knows.
-use Rattle.std.specs.Prelude.{◌≡◌, ℕ, List}
+use Rattle.std.specs.Prelude.{◌≡◌, ℕ, List, []}
 use Rattle.rtrb.specs.Ring.{sent, received, known_free, known_items, IsPair, SameProducer, SameConsumer}
 use Rattle.alm_types.specs.Batches.{Judged}
 use Rattle.alm_rings.specs.declared.seal_ends.SealEnds.{SealEnds}
@@ -47,3 +47,7 @@ SameSealEnds a b = SameProducer a.full b.full × SameConsumer a.empty b.empty
 
 abbrev pub SameFetchEnds : FetchEnds → FetchEnds → Type 0
 SameFetchEnds a b = SameConsumer a.full b.full × SameProducer a.empty b.empty
+
+-- a batch that was emptied
+abbrev pub without_entries : Judged → Judged
+without_entries batch = record { first = batch.first; entries = [] }

@@ -3,6 +3,7 @@
 ghost use Rattle.std.specs.Prelude.{◌≡◌, ◌+◌, ◌≤◌, ◌++◌, [], IfOk, length};
 ghost use Rattle.alm_rings.specs.Batches.{AreBatchEnds, sealed_of, fetched_of, emptied_of, given_of, empties_in, coming_in, places_of, places_in};
 
+use crate::emptied::Emptied;
 use crate::fetch_ends::FetchEnds;
 use crate::seal_ends::SealEnds;
 use alm_types::Batch;
@@ -17,10 +18,10 @@ const BATCHES: usize = 8;
 pub fn open_batches(alloc: Global) -> Result<(SealEnds, FetchEnds), AllocError>
     ensures ends { IfOk result (λ r. AreBatchEnds r.0 r.1) }
     ensures new { IfOk result (λ r. (sealed_of r.0 ≡ []) × (fetched_of r.1 ≡ []) × (emptied_of r.0 ≡ []) × (length (given_of r.1) ≡ 8)) }
-    ensures places { IfOk result (λ r. (places_of r.0 ≡ 8) × (coming_in r.1 ≡ [])) }
+    ensures places { IfOk result (λ r. (places_of r.0 ≡ 8) × (places_in r.1 ≡ 0) × (coming_in r.1 ≡ []) × (empties_in r.0 ≡ [])) }
 {
     let (full, fetch) = RingBuffer::new(alloc, BATCHES)?;
-    let (mut give, empty) = RingBuffer::new(alloc, BATCHES)?;
+    let (mut give, empty) = RingBuffer::with_protocol::<Global, Emptied>(alloc, BATCHES)?;
     for _made in 0..BATCHES {
         let batch = Batch::new(alloc)?;
         give.push_reserved(batch);

@@ -3,21 +3,23 @@
 ghost use Rattle.std.specs.Prelude.{◌≡◌};
 ghost use Rattle.rtrb.specs.Ring.{producer_capacity};
 
+use crate::emptied::Emptied;
 use alm_types::Batch;
-use rtrb::{Consumer, Producer, PushError};
+use rtrb::{Consumer, Producer};
+use std::alloc::Global;
 
 /// The flusher's ends of the batch rings: it fetches batches, and gives them back empty.
 #[derive(Drop)]
 pub struct FetchEnds {
     pub(crate) full: Consumer<Batch>,
-    pub(crate) empty: Producer<Batch>,
+    pub(crate) empty: Producer<Batch, Global, Emptied>,
     ghost room: { producer_capacity empty ≡ 8 },
 }
 
 impl FetchEnds {
     ghost use Rattle.std.specs.Prelude.{◌≡◌, ◌+◌, ◌<◌, ◌≤◌, ◌++◌, [], ◌∷◌, OnOk, IfErr, IfSome, IfNone, IsOk, IsSome, IsTrue, ◌↔◌, length};
     ghost use mathlib.Core.List.{IsPrefix};
-    ghost use Rattle.alm_rings.specs.Batches.{SameFetchEnds, fetched_of, given_of, coming_in, places_in};
+    ghost use Rattle.alm_rings.specs.Batches.{SameFetchEnds, fetched_of, given_of, coming_in, places_in, without_entries};
 
     /// Whether a sealed batch is known to wait.
     pub fn waits(&self) -> bool
@@ -38,17 +40,21 @@ impl FetchEnds {
         self.full.pop().ok()
     }
 
-    /// Gives a batch back. It comes back, with nothing changed, where no place of the ring is known to be free.
+    /// Gives a batch back, without its entries. It comes back, with nothing changed, where no place of the ring is
+    /// known to be free.
     pub fn give_back(&mut self, batch: Batch) -> Result<(), Batch>
         ensures ends { SameFetchEnds self.old self.new }
         ensures fetched { (fetched_of self.new ≡ fetched_of self.old) × (coming_in self.new ≡ coming_in self.old) }
-        ensures ok { OnOk result ((given_of self.new ≡ given_of self.old ++ batch ∷ []) × (places_in self.old ≤ places_in self.new + 1)) }
+        ensures ok { OnOk result ((given_of self.new ≡ given_of self.old ++ without_entries batch ∷ []) × (places_in self.old ≤ places_in self.new + 1)) }
         ensures full { IfErr result (λ back. (back ≡ batch) × (given_of self.new ≡ given_of self.old) × (places_in self.new ≡ places_in self.old)) }
         ensures cause { 0 < places_in self.old → IsOk result }
     {
-        match self.empty.push(batch) {
-            Ok(()) => Ok(()),
-            Err(PushError::Full(batch)) => Err(batch),
+        if self.empty.is_full() {
+            return Err(batch);
         }
+        let mut batch = batch;
+        batch.restart(batch.first());
+        self.empty.push_reserved(batch);
+        Ok(())
     }
 }

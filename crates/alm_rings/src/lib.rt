@@ -4,6 +4,7 @@
 mod batches;
 mod busy;
 mod console;
+mod emptied;
 mod fetch_ends;
 mod inbox;
 mod outbox;

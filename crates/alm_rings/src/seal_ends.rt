@@ -3,14 +3,16 @@
 ghost use Rattle.std.specs.Prelude.{◌≡◌};
 ghost use Rattle.rtrb.specs.Ring.{producer_capacity};
 
+use crate::emptied::Emptied;
 use alm_types::Batch;
 use rtrb::{Consumer, Producer, PushError};
+use std::alloc::Global;
 
 /// The sequencer's ends of the batch rings: it seals batches, and gets them back empty.
 #[derive(Drop)]
 pub struct SealEnds {
     pub(crate) full: Producer<Batch>,
-    pub(crate) empty: Consumer<Batch>,
+    pub(crate) empty: Consumer<Batch, Global, Emptied>,
     ghost room: { producer_capacity full ≡ 8 },
 }
 
@@ -39,6 +41,7 @@ impl SealEnds {
         ensures ends { SameSealEnds self.old self.new }
         ensures sealed { (sealed_of self.new ≡ sealed_of self.old) × (places_of self.new ≡ places_of self.old) }
         ensures some { IfSome result (λ batch. emptied_of self.new ≡ emptied_of self.old ++ batch ∷ []) }
+        ensures no_entries { IfSome result (λ batch. batch.entries ≡ []) }
         ensures known { IfSome result (λ batch. IsPrefix (empties_in self.old) (batch ∷ empties_in self.new)) }
         ensures none { IfNone result ((emptied_of self.new ≡ emptied_of self.old) × (empties_in self.new ≡ empties_in self.old)) }
         ensures cause { 0 < length (empties_in self.old) → IsSome result }
