@@ -77,29 +77,12 @@ pub fn close_slot<T: Told + Drop>(
     ensures taken { IsPrefix (taken_of inbox) (sent_of console) }
     ensures received { IsPrefix (received_of console) (released_of outbox) }
 {
-    let Console {
-        slot: _,
-        serial: sent,
-        unanswered,
-        mut requests,
-        mut replies,
-    } = console;
-    let Inbox {
-        slot: _,
-        serial: taken,
-        requests: mut inbox,
-    } = inbox;
-    let Outbox {
-        slot: _,
-        released,
-        replies: mut outbox,
-    } = outbox;
-    inbox.slots_beside(&mut requests);
-    replies.slots_beside(&mut outbox);
+    let (mut console, mut inbox, mut outbox) = (console, inbox, outbox);
+    beside(&mut console, &mut inbox, &mut outbox);
     Some(SlotReport {
-        sent,
-        taken,
-        released,
-        received: sent - unanswered,
+        sent: console.serial,
+        taken: inbox.serial,
+        released: outbox.released,
+        received: console.serial - console.unanswered,
     })
 }
