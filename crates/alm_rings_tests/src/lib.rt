@@ -7,3 +7,5 @@ mod batches;
 mod one;
 #[cfg(test)]
 mod slots;
+#[cfg(test)]
+mod threads;
