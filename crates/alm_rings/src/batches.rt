@@ -1,7 +1,7 @@
 //! The two ends of the batch rings.
 
 ghost use Rattle.std.specs.Prelude.{◌≡◌, ◌+◌, ◌≤◌, ◌++◌, [], IfOk, length};
-ghost use Rattle.alm_rings.specs.Batches.{AreBatchEnds, sealed_of, fetched_of, emptied_of, given_of, empties_in, coming_in, places_of, places_in};
+ghost use Rattle.alm_rings.specs.Batches.{AreBatchEnds, SameSealEnds, SameFetchEnds, sealed_of, fetched_of, emptied_of, given_of, empties_in, coming_in, places_of, places_in};
 
 use crate::emptied::Emptied;
 use crate::fetch_ends::FetchEnds;
@@ -38,6 +38,7 @@ pub fn open_batches(alloc: Global) -> Result<(SealEnds, FetchEnds), AllocError>
 pub fn batches_beside(seal: &mut SealEnds, fetch: &mut FetchEnds)
     requires { AreBatchEnds seal.old fetch.old }
     ensures ends { AreBatchEnds seal.new fetch.new }
+    ensures same { SameSealEnds seal.old seal.new × SameFetchEnds fetch.old fetch.new }
     ensures sealed { (sealed_of seal.new ≡ sealed_of seal.old) × (fetched_of fetch.new ≡ fetched_of fetch.old) }
     ensures empties { (emptied_of seal.new ≡ emptied_of seal.old) × (given_of fetch.new ≡ given_of fetch.old) }
     ensures fetched { fetched_of fetch.new ++ coming_in fetch.new ≡ sealed_of seal.new }

@@ -2,7 +2,7 @@
 
 ghost use Rattle.std.specs.Prelude.{◌≡◌, ◌+◌, ◌<◌, ◌≤◌, ◌^◌, ◌++◌, [], IfOk, IfSome, IsSome, length};
 ghost use mathlib.Core.List.{IsPrefix};
-ghost use Rattle.alm_rings.specs.Ends.{AreEnds, sent_of, received_of, taken_of, released_of, waiting_in, coming_to, room_of, room_in};
+ghost use Rattle.alm_rings.specs.Ends.{AreEnds, SameConsole, SameInbox, SameOutbox, sent_of, received_of, taken_of, released_of, waiting_in, coming_to, room_of, room_in};
 
 use crate::console::{Console, ROOM};
 use crate::inbox::Inbox;
@@ -50,6 +50,7 @@ pub fn open_slot<T: Told + Drop>(
 pub fn beside<T: Told + Drop>(console: &mut Console<T>, inbox: &mut Inbox, outbox: &mut Outbox<T>)
     requires { AreEnds console.old inbox.old outbox.old }
     ensures ends { AreEnds console.new inbox.new outbox.new }
+    ensures same { SameConsole console.old console.new × SameInbox inbox.old inbox.new × SameOutbox outbox.old outbox.new }
     ensures console { (sent_of console.new ≡ sent_of console.old) × (received_of console.new ≡ received_of console.old) }
     ensures others { (taken_of inbox.new ≡ taken_of inbox.old) × (released_of outbox.new ≡ released_of outbox.old) }
     ensures requests { taken_of inbox.new ++ waiting_in inbox.new ≡ sent_of console.new }
