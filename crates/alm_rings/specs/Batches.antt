@@ -1,5 +1,5 @@
 -- The ends of the batch rings: what went into them, what came out, and what each end knows.
-use Rattle.std.specs.Prelude.{◌≡◌, ℕ, List, []}
+use Rattle.std.specs.Prelude.{ℕ, List, []}
 use Rattle.rtrb.specs.Ring.{sent, received, known_free, known_items, IsPair, SameProducer, SameConsumer}
 use Rattle.alm_types.specs.Batches.{Judged}
 use Rattle.alm_rings.specs.declared.seal_ends.SealEnds.{SealEnds}

@@ -1,5 +1,5 @@
-use Rattle.std.proofs.Common.{◌≡◌, ◌+◌, ◌<◌, [], length}
-use Rattle.rtrb.specs.Ring.{IsPair, sent, received, known_free, producer_capacity}
+use Rattle.std.proofs.Common.{◌≡◌, ◌+◌, length}
+use Rattle.rtrb.specs.Ring.{IsPair, sent, known_free, producer_capacity}
 use Rattle.alm_rings.proofs.batches.open_batches.Given as goal
 
 abbrev pub invariant-loop-made : goal.invariant-loop-made
