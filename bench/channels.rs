@@ -24,12 +24,15 @@ struct Receipt {
 
 fn ask(requests: SyncSender<Action>, replies: Receiver<Receipt>, count: u64) -> (u64, u64) {
     let (mut sent, mut received) = (0, 0);
+    let mut sends = true;
     while received < count {
-        if sent < count && sent - received < 64 && requests.try_send(Action::Ack(0)).is_ok() {
+        if sends && sent < count && sent - received < 64 && requests.try_send(Action::Ack(0)).is_ok() {
             sent += 1;
         } else if replies.try_recv().is_ok() {
+            sends = false;
             received += 1;
         } else {
+            sends = true;
             thread::yield_now();
         }
     }

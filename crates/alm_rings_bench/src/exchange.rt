@@ -1,6 +1,6 @@
 //! Requests and their receipts between two threads.
 
-ghost use Rattle.std.specs.Prelude.{◌≡◌};
+ghost use Rattle.std.specs.Prelude.{◌≡◌, IfOk, IsSome};
 ghost use Rattle.alm_rings.specs.Ends.{SameConsole, SameInbox, SameOutbox};
 
 use crate::untold::{Untold, refused};
@@ -11,22 +11,25 @@ use std::sync::Wait;
 use std::thread;
 use std::thread::Threads;
 
-/// Sends so many requests, and receives their receipts.
+/// Sends so many requests and receives their receipts, by turns: as many as go, then as many as come.
 fn ask(rt: &impl Wait, console: Console<Untold>, requests: u64) -> Console<Untold>
     ensures { SameConsole console result }
 {
     let mut console = console;
     let mut sent = 0;
     let mut received = 0;
+    let mut sends = true;
     for _ in rt.forever() {
         if received >= requests {
             break;
         }
-        if sent < requests && console.send(Action::Ack(AlarmId(0))).is_ok() {
+        if sends && sent < requests && console.send(Action::Ack(AlarmId(0))).is_ok() {
             sent += 1;
         } else if console.receive().is_some() {
+            sends = false;
             received += 1;
         } else {
+            sends = true;
             thread::yield_now();
         }
     }
@@ -66,7 +69,9 @@ pub fn exchange<R: Threads + Wait + Sync>(
     alloc: Global,
     slot: Slot,
     requests: u64,
-) -> Result<Option<SlotReport>, AllocError> {
+) -> Result<Option<SlotReport>, AllocError>
+    ensures { IfOk result (λ report. IsSome report) }
+{
     let (console, inbox, outbox) = open_slot::<Untold>(alloc, slot)?;
     let (console, (inbox, outbox)) = thread::join(
         rt,
