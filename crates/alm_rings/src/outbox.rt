@@ -1,0 +1,52 @@
+//! The flusher's end of a slot.
+
+ghost use Rattle.std.specs.Prelude.{◌≡◌, length};
+ghost use Rattle.rtrb.specs.Ring.{sent, producer_capacity};
+
+use crate::console::LAST_SERIAL;
+use crate::receipt::Receipt;
+use crate::told::Told;
+use alm_types::Slot;
+use rtrb::{Producer, PushError};
+
+/// The flusher's end of a slot: it releases receipts.
+#[derive(Drop)]
+pub struct Outbox<T: Told + Drop> {
+    pub(crate) slot: Slot,
+    pub(crate) released: u64,
+    pub(crate) replies: Producer<Receipt<T>>,
+    ghost count: { released ≡ length (sent replies) },
+    ghost room: { producer_capacity replies ≡ 64 },
+}
+
+impl<T: Told + Drop> Outbox<T> {
+    ghost use Rattle.std.specs.Prelude.{◌≡◌, ◌+◌, ◌<◌, ◌≤◌, ◌-◌, ◌^◌, ◌++◌, [], ◌∷◌, OnOk, IfErr, IsOk, length};
+    ghost use Rattle.alm_rings.specs.Ends.{SameOutbox, released_of, room_in};
+
+    /// The slot whose end it is.
+    pub fn slot(&self) -> Slot
+        ensures { result ≡ self.now.slot }
+    {
+        self.slot
+    }
+
+    /// Releases a receipt. It comes back, with nothing changed, where no place of the ring is known to be free, or
+    /// 2^64 - 1 receipts were released.
+    pub fn release(&mut self, receipt: Receipt<T>) -> Result<(), Receipt<T>>
+        ensures end { SameOutbox self.old self.new }
+        ensures ok { OnOk result ((released_of self.new ≡ released_of self.old ++ receipt ∷ []) × (room_in self.old ≤ room_in self.new + 1)) }
+        ensures full { IfErr result (λ back. (back ≡ receipt) × (released_of self.new ≡ released_of self.old) × (room_in self.new ≡ room_in self.old)) }
+        ensures cause { 0 < room_in self.old → length (released_of self.old) < 2 ^ 64 - 1 → IsOk result }
+    {
+        if self.released == LAST_SERIAL {
+            return Err(receipt);
+        }
+        match self.replies.push(receipt) {
+            Ok(()) => {
+                self.released += 1;
+                Ok(())
+            }
+            Err(PushError::Full(receipt)) => Err(receipt),
+        }
+    }
+}

@@ -1,0 +1,22 @@
+//! Receipts.
+
+ghost use Rattle.std.specs.Prelude.{◌≡◌, ◌+◌, ◌-◌, ◌≤◌, length, Some, slice_get};
+ghost use Rattle.alm_types.specs.declared.action.Action.{Action};
+ghost use Rattle.alm_types.specs.declared.verdict.Verdict.TheVariants.{Accepted};
+
+use crate::told::Told;
+use alm_types::Verdict;
+
+/// The answer to a request. Its type keeps that the list it tells reaches its number, and that an accepted action
+/// stands there.
+#[derive(Drop)]
+pub struct Receipt<T: Told> {
+    /// Which of the slot's requests it answers, from 1.
+    pub serial: u64,
+    pub verdict: Verdict,
+    /// The number of the action that was accepted, or the count of actions against which the request was refused.
+    pub number: u64,
+    pub told: T,
+    pub ghost reaches: { number ≤ T.base_count told + length (T.list told) },
+    pub ghost stands: { (a : Action) → verdict ≡ Accepted a → slice_get (T.list told) (number - T.base_count told - 1) ≡ Some a },
+}

@@ -1,0 +1,89 @@
+//! The three ends of a slot.
+
+ghost use Rattle.std.specs.Prelude.{◌≡◌, ◌+◌, ◌<◌, ◌≤◌, ◌^◌, ◌++◌, [], IfOk, IfSome, IsSome, length};
+ghost use mathlib.Core.List.{IsPrefix};
+ghost use Rattle.alm_rings.specs.Ends.{AreEnds, SameConsole, SameInbox, SameOutbox, sent_of, received_of, taken_of, released_of, waiting_in, coming_to, room_of, room_in};
+
+use crate::console::{Console, ROOM};
+use crate::inbox::Inbox;
+use crate::outbox::Outbox;
+use crate::slot_report::SlotReport;
+use crate::told::Told;
+use alm_types::Slot;
+use rtrb::RingBuffer;
+use std::alloc::{AllocError, Global};
+
+/// The three ends of a new slot, over two rings of 64; an error only for want of memory.
+pub fn open_slot<T: Told + Drop>(
+    alloc: Global,
+    slot: Slot,
+) -> Result<(Console<T>, Inbox, Outbox<T>), AllocError>
+    ensures ends { IfOk result (λ r. AreEnds r.0 r.1 r.2) }
+    ensures slot { IfOk result (λ r. (r.0.slot ≡ slot) × (r.1.slot ≡ slot) × (r.2.slot ≡ slot)) }
+    ensures new { IfOk result (λ r. (sent_of r.0 ≡ []) × (received_of r.0 ≡ []) × (taken_of r.1 ≡ []) × (released_of r.2 ≡ [])) }
+    ensures room { IfOk result (λ r. (room_of r.0 ≡ 64) × (room_in r.2 ≡ 64)) }
+    ensures nothing_waits { IfOk result (λ r. (waiting_in r.1 ≡ []) × (coming_to r.0 ≡ [])) }
+{
+    let (requests, inbox) = RingBuffer::new(alloc, ROOM)?;
+    let (outbox, replies) = RingBuffer::new(alloc, ROOM)?;
+    let console = Console {
+        slot,
+        serial: 0,
+        unanswered: 0,
+        requests,
+        replies,
+    };
+    let inbox = Inbox {
+        slot,
+        serial: 0,
+        requests: inbox,
+    };
+    let outbox = Outbox {
+        slot,
+        released: 0,
+        replies: outbox,
+    };
+    Ok((console, inbox, outbox))
+}
+
+/// Tells each of a slot's three ends, in one thread, what the others did. Takes no memory.
+pub fn beside<T: Told + Drop>(console: &mut Console<T>, inbox: &mut Inbox, outbox: &mut Outbox<T>)
+    requires { AreEnds console.old inbox.old outbox.old }
+    ensures ends { AreEnds console.new inbox.new outbox.new }
+    ensures same { SameConsole console.old console.new × SameInbox inbox.old inbox.new × SameOutbox outbox.old outbox.new }
+    ensures console { (sent_of console.new ≡ sent_of console.old) × (received_of console.new ≡ received_of console.old) }
+    ensures others { (taken_of inbox.new ≡ taken_of inbox.old) × (released_of outbox.new ≡ released_of outbox.old) }
+    ensures requests { taken_of inbox.new ++ waiting_in inbox.new ≡ sent_of console.new }
+    ensures replies { received_of console.new ++ coming_to console.new ≡ released_of outbox.new }
+    ensures serials { length (sent_of console.new) < 2 ^ 64 }
+    ensures room { 64 + length (taken_of inbox.new) ≤ room_of console.new + length (sent_of console.new) }
+    ensures reply_room { 64 + length (received_of console.new) ≤ room_in outbox.new + length (released_of outbox.new) }
+{
+    let _serial = console.serial;
+    console.requests.slots_beside(&mut inbox.requests);
+    outbox.replies.slots_beside(&mut console.replies);
+    inbox.requests.slots_beside(&mut console.requests);
+    console.replies.slots_beside(&mut outbox.replies);
+}
+
+/// Ends a slot, and reports what went through it. Always `Some`, since all its ends are at hand.
+pub fn close_slot<T: Told + Drop>(
+    console: Console<T>,
+    inbox: Inbox,
+    outbox: Outbox<T>,
+) -> Option<SlotReport>
+    requires { AreEnds console inbox outbox }
+    ensures some { IsSome result }
+    ensures counts { IfSome result (λ r. (r.sent ≡ length (sent_of console)) × (r.taken ≡ length (taken_of inbox)) × (r.released ≡ length (released_of outbox)) × (r.received ≡ length (received_of console))) }
+    ensures taken { IsPrefix (taken_of inbox) (sent_of console) }
+    ensures received { IsPrefix (received_of console) (released_of outbox) }
+{
+    let (mut console, mut inbox, mut outbox) = (console, inbox, outbox);
+    beside(&mut console, &mut inbox, &mut outbox);
+    Some(SlotReport {
+        sent: console.serial,
+        taken: inbox.serial,
+        released: outbox.released,
+        received: console.serial - console.unanswered,
+    })
+}

@@ -1,0 +1,14 @@
+//! What went through a slot.
+
+/// How many requests and receipts went through a slot.
+#[derive(Clone, Copy, Debug, PartialEq, Eq)]
+pub struct SlotReport {
+    /// Requests that the console sent.
+    pub sent: u64,
+    /// Requests that the sequencer took.
+    pub taken: u64,
+    /// Receipts that the flusher released.
+    pub released: u64,
+    /// Receipts that the console received.
+    pub received: u64,
+}

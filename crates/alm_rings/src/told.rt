@@ -1,0 +1,13 @@
+//! What receipts tell.
+
+/// What a receipt tells of the list of published actions: contracts alone see it.
+pub trait Told {
+    ghost use Rattle.std.specs.Prelude.{ℕ, List};
+    ghost use Rattle.alm_types.specs.declared.action.Action.{Action};
+
+    /// How many actions the plant had when the server was opened.
+    ghost base_count: { Self → ℕ };
+
+    /// The actions that were published since, oldest first.
+    ghost list: { Self → List Action };
+}

@@ -1,0 +1,11 @@
+//! Tests of the ends of slots and of batch rings: what no clause says, and each call once with ample memory.
+#![tactic(auto)]
+
+#[cfg(test)]
+mod batches;
+#[cfg(test)]
+mod one;
+#[cfg(test)]
+mod slots;
+#[cfg(test)]
+mod threads;
