@@ -58,7 +58,9 @@ fn run_desk<R: Input + Print + AllocGlobal>(rt: &R) -> Result<(), Fault> {
     let table = worked_table(alloc)?;
     let mut desk = desk_of(alloc, &table)?;
     let mut reader = CountedReader::new(rt.reader());
-    let writer = BufWriter::with_capacity(alloc, 65536, io::writer(rt)).map_err(|_| Fault::OutOfMemory)?;
+    let writer = BufWriter::with_capacity(alloc, 65536, io::writer(rt)).map_err(
+        |_| Fault::OutOfMemory,
+    )?;
     let mut writer = CountedWriter::new(writer);
     desk_run(&mut reader, &mut writer, &mut desk)?;
     Ok(())
