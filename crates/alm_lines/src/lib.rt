@@ -28,13 +28,17 @@ mod grammar;
 pub mod laws;
 mod line;
 mod numbers;
+mod part;
 mod printing;
 mod reply;
+mod writing;
 
 pub use ask::Ask;
 pub use decoder::Decoder;
 pub use grammar::{cut, line_of};
 pub use line::Line;
 pub use numbers::number;
+pub use part::{Part, put_parts};
 pub use printing::{letters, print_reply, shown_word};
 pub use reply::Reply;
+pub use writing::put;

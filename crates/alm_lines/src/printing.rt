@@ -1,11 +1,14 @@
 //! The texts of replies.
 
-ghost use Rattle.std.specs.Prelude.{◌≡◌, ◌++◌, OnOk, codes};
-ghost use Rattle.std.specs.Io.KnownBytes.{Appends};
-ghost use Rattle.alm_types.specs.Reports.{report};
+ghost use Rattle.std.specs.Prelude.{◌≡◌};
+ghost use Rattle.alm_types.specs.Reports.{report, alarms};
+ghost use Rattle.alm_lines.specs.Parts.{part_text};
 ghost use Rattle.alm_lines.specs.Reply.{text_of, shown_word, letters, query_word, query_text, report_text, spaced, deadline};
+ghost use Rattle.alm_lines.specs.Written.{Prints};
 
+use crate::part::{Part, put_parts};
 use crate::reply::Reply;
+use crate::writing::put;
 use alm_types::{Answer, Query, Shown};
 use std::io;
 
@@ -55,47 +58,63 @@ fn query_word(query: Query) -> &'static str
     }
 }
 
-/// Prints the end of a shelving, if there is one.
-fn print_deadline<W: io::Write>(until: Option<u64>, writer: &mut W) -> io::Result<()>
-    ensures { OnOk result (Appends (W.contents writer.old) (W.contents writer.new) (deadline until)) }
+/// The end of a shelving, if there is one.
+fn deadline_part(until: Option<u64>) -> Part<'static>
+    ensures { part_text result ≡ deadline until }
 {
     match until {
-        Some(moment) => write!(writer, "{moment}"),
-        None => write!(writer, "-"),
+        Some(moment) => Part::Number(moment),
+        None => Part::Word("-"),
     }
 }
 
 /// Prints each number after a space.
 fn print_spaced<W: io::Write>(numbers: &[u32], writer: &mut W) -> io::Result<()>
-    ensures { OnOk result (Appends (W.contents writer.old) (W.contents writer.new) (spaced numbers.now)) }
+    ensures { Prints (W.contents writer.old) (W.contents writer.new) (spaced numbers.now) result }
 {
     for number in numbers {
-        write!(writer, " {number}")?;
+        put_parts(&[Part::Word(" "), Part::Number(u64::from(*number))], writer)?;
     }
     Ok(())
 }
 
+/// Prints a list after its length.
+fn print_list<W: io::Write>(list: &[u32], writer: &mut W) -> io::Result<()>
+    ensures { Prints (W.contents writer.old) (W.contents writer.new) (report_text (alarms list.now)) result }
+{
+    put_parts(&[Part::Word(" "), Part::Number(list.len() as u64)], writer)?;
+    print_spaced(list, writer)
+}
+
 /// Prints what an answer tells.
 fn print_report<W: io::Write>(query: Query, answer: &Answer, writer: &mut W) -> io::Result<()>
-    ensures { OnOk result (Appends (W.contents writer.old) (W.contents writer.new) (report_text (report query answer.now))) }
+    ensures { Prints (W.contents writer.old) (W.contents writer.new) (report_text (report query answer.now)) result }
 {
     match query {
-        Query::State(_) => {
-            let shown = shown_word(answer.shown);
-            let active = u8::from(answer.active);
-            let letters = letters(answer.flags);
-            write!(writer, " {shown} {active} {letters} ")?;
-            print_deadline(answer.until, writer)
-        }
-        Query::Flood(_) => {
-            let window = answer.window;
-            let flood = u8::from(answer.flood);
-            write!(writer, " {window} {flood}")
-        }
+        Query::State(_) => put_parts(
+            &[
+                Part::Word(" "),
+                Part::Word(shown_word(answer.shown)),
+                Part::Word(" "),
+                Part::Number(u64::from(answer.active)),
+                Part::Word(" "),
+                Part::Word(letters(answer.flags)),
+                Part::Word(" "),
+                deadline_part(answer.until),
+            ],
+            writer,
+        ),
+        Query::Flood(_) => put_parts(
+            &[
+                Part::Word(" "),
+                Part::Number(answer.window),
+                Part::Word(" "),
+                Part::Number(u64::from(answer.flood)),
+            ],
+            writer,
+        ),
         Query::Priority(_) | Query::Area(_) | Query::Wheel(_) | Query::Stale | Query::Chatter => {
-            let len = answer.list.len();
-            write!(writer, " {len}")?;
-            print_spaced(&answer.list, writer)
+            print_list(&answer.list, writer)
         }
     }
 }
@@ -108,25 +127,43 @@ fn print_query<W: io::Write>(
     answer: &Answer,
     writer: &mut W,
 ) -> io::Result<()>
-    ensures { OnOk result (Appends (W.contents writer.old) (W.contents writer.new) (query_text id n query (report query answer.now))) }
+    ensures { Prints (W.contents writer.old) (W.contents writer.new) (query_text id n query (report query answer.now)) result }
 {
-    let word = query_word(query);
-    write!(writer, "{id}{word}{n}")?;
+    put_parts(
+        &[
+            Part::Number(u64::from(id)),
+            Part::Word(query_word(query)),
+            Part::Number(n),
+        ],
+        writer,
+    )?;
     print_report(query, answer, writer)?;
-    write!(writer, "\n")?;
-    Ok(())
+    put(b"\n", writer)
 }
 
-/// Prints a reply.
+/// Prints a reply. Where the writer fails, a front of it is written.
 pub fn print_reply<W: io::Write>(reply: &Reply<'_>, writer: &mut W) -> io::Result<()>
-    ensures { OnOk result (Appends (W.contents writer.old) (W.contents writer.new) (text_of reply.now)) }
+    ensures { Prints (W.contents writer.old) (W.contents writer.new) (text_of reply.now) result }
 {
     match *reply {
-        Reply::Ok { id, n } => write!(writer, "{id} OK {n}\n"),
-        Reply::No { id, refusal } => {
-            let number = refusal.number();
-            write!(writer, "{id} NO {number}\n")
-        }
+        Reply::Ok { id, n } => put_parts(
+            &[
+                Part::Number(u64::from(id)),
+                Part::Word(" OK "),
+                Part::Number(n),
+                Part::Word("\n"),
+            ],
+            writer,
+        ),
+        Reply::No { id, refusal } => put_parts(
+            &[
+                Part::Number(u64::from(id)),
+                Part::Word(" NO "),
+                Part::Number(u64::from(refusal.number())),
+                Part::Word("\n"),
+            ],
+            writer,
+        ),
         Reply::Told {
             id,
             n,

@@ -1,7 +1,5 @@
 //! A desk over the worked table, and what it prints.
 
-ghost use Rattle.std.specs.Prelude.{◌≡◌, IfOk, OnOk, false};
-
 use alm_model::PlainPlant;
 use alm_service::{CountedReader, RunFault, desk_run, worked_table};
 use alm_session::{CountedWriter, LocalDesk, desk_of};
@@ -10,7 +8,6 @@ use std::io::Read;
 
 /// A desk over the new plant of the worked table.
 pub fn new_desk(alloc: Global) -> Result<LocalDesk<PlainPlant>, AllocError>
-    ensures { IfOk result (λ desk. desk.closed ≡ false) }
 {
     let table = worked_table(alloc)?;
     desk_of(alloc, &table)
@@ -22,8 +19,6 @@ pub fn printed<R: Read + Drop>(
     desk: &mut LocalDesk<PlainPlant>,
     reader: R,
 ) -> Result<Vec<u8>, RunFault>
-    requires { desk.old.closed ≡ false }
-    ensures { OnOk result (desk.new.closed ≡ false) }
 {
     let mut reader = CountedReader::new(reader);
     let mut writer = CountedWriter::new(Vec::new(alloc));

@@ -8,8 +8,8 @@
 mod check;
 pub mod desk;
 #[cfg(test)]
-mod failing;
-#[cfg(test)]
 mod rows;
+#[cfg(test)]
+mod slow_writer;
 #[cfg(test)]
 mod tests;

@@ -1,7 +1,8 @@
 //! Lines that are none, streams beside each other, and writers that fail.
 
 use crate::desk::{new_desk, printed};
-use crate::failing::FailingWriter;
+use crate::slow_writer::SlowWriter;
+use alm_service::{CountedReader, RunFault, desk_run};
 use alm_session::{CountedWriter, DeskFault, desk_of};
 use alm_types::{Attr, Kind, Settings, Slot, Table};
 use std::io::Read;
@@ -85,14 +86,46 @@ fn a_million_bytes_without_an_end(rt: HostRuntime) -> Result<(), Fail> {
 fn a_failed_write_closes_the_desk(rt: HostRuntime) -> Result<(), Fail> {
     let alloc = rt.alloc();
     let console = Slot::new(0).ok_or("slot")?;
-    for calls in 0..8 {
+    let lines = b"1 STATE 0\n2 STATE 1\n3 LIST P 1\n";
+    let wanted = b"1 STATE 0 NORM 0 - -\n2 STATE 0 NORM 0 - -\n3 LIST 0 0\n";
+    for room in 0..=wanted.len() {
         let mut desk = new_desk(alloc)?;
-        let mut writer = CountedWriter::new(FailingWriter::new(calls));
-        let fed = desk.feed(console, b"1 STATE 0\n2 STATE 1\n3 LIST P 1\n", &mut writer);
-        if calls < 3 {
-            assert_eq!(rt; fed, Err(DeskFault::Write), "after {calls} calls");
-            let again = desk.feed(console, b"4 STATE 0\n", &mut writer);
-            assert_eq!(rt; again, Err(DeskFault::Closed), "after {calls} calls");
+        let mut writer = CountedWriter::new(SlowWriter::new(alloc, room));
+        let fed = desk.feed(console, lines, &mut writer);
+        let again = desk.feed(console, b"", &mut writer);
+        if room < wanted.len() {
+            assert_eq!(rt; fed, Err(DeskFault::Write), "room for {room}");
+            assert_eq!(rt; again, Err(DeskFault::Closed), "room for {room}");
+        } else {
+            assert_eq!(rt; fed, Ok(()));
+            assert_eq!(rt; again, Ok(()));
+        }
+        let writer = writer.into_inner();
+        assert_eq!(rt; writer.taken(), &wanted[..room], "room for {room}");
+    }
+    Ok(())
+}
+
+#[test]
+fn a_run_ends_where_its_writer_fails(rt: HostRuntime) -> Result<(), Fail> {
+    let alloc = rt.alloc();
+    let lines = b"16 1 VAL 0 800\nx\n0 2 STATE 0\n";
+    let wanted = b"16 1 OK 1\n? NO 13\n0 2 STATE 1 UNACK 1 - -\n";
+    for room in 0..=wanted.len() {
+        let mut desk = new_desk(alloc)?;
+        let mut reader = CountedReader::new(lines.as_slice());
+        let mut writer = CountedWriter::new(SlowWriter::new(alloc, room));
+        let run = desk_run(&mut reader, &mut writer, &mut desk);
+        let again = printed(alloc, &mut desk, b"0 3 STATE 0\n".as_slice());
+        let writer = writer.into_inner();
+        assert_eq!(rt; writer.taken(), &wanted[..room], "room for {room}");
+        if room < wanted.len() {
+            assert_eq!(rt; run, Err(RunFault::Write), "room for {room}");
+            assert_eq!(rt; again.err(), Some(RunFault::Write), "room for {room}");
+        } else {
+            assert_eq!(rt; run, Ok(()));
+            assert_eq!(rt; writer.flushed(), wanted.len());
+            assert!(rt; again.is_ok());
         }
     }
     Ok(())

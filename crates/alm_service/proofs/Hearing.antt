@@ -1,15 +1,16 @@
 -- Bytes that a desk hears.
-use Rattle.std.proofs.Common.{◌≡◌, ℕ, ◌+◌, ◌<◌, Bool, true, false, List, [], ◌∷◌, ◌++◌, Option, length, take, get_or, refl, ap, sym, ◌∙◌, append_assoc}
-use Rattle.std.specs.Prelude.{IfSome, if◌then◌else◌}
+use Rattle.std.proofs.Common.{◌≡◌, ℕ, ◌+◌, ◌<◌, Bool, true, false, List, [], ◌∷◌, ◌++◌, Option, length, take, drop, get_or, refl, ap, sym, ◌∙◌, append_assoc}
+use Rattle.std.specs.Prelude.{IfSome, map, if◌then◌else◌, Result, Err, ⊤}
 use Rattle.std.proofs.KnownBytes.{Appends-trans, Appends-nil, Appends-kept, Consumes-nil, Consumes-trans, Consumes-whole}
-use Rattle.std.proofs.lemmas.List.{map-append, append-nil, take_more}
+use Rattle.std.proofs.lemmas.List.{map-append, append-nil, take_more, take-append-drop}
 use Rattle.std.specs.Io.KnownBytes.{Appends, Keeps}
 use Rattle.std.proofs.Common.{inl, inr}
 use Rattle.std.proofs.lemmas.Bool.{cases_Bool}
 use Rattle.alm_lines.specs.Stream.{is_end}
 use Rattle.alm_session.specs.Answers.{Standing}
-use Rattle.alm_service.specs.Desk.{Heard, IsHeard, IsDesk, held_after, held_by, lines_of, line, printed, stands_after, entry_text, entry_after, entry_of}
-use Rattle.alm_service.specs.Turns.{IsTurn}
+use Rattle.alm_service.specs.Desk.{Heard, IsHeard, IsDesk, IsCutEntry, BreaksOff, held_after, held_by, lines_of, line, printed, stands_after, entry_text, entry_after, entry_of}
+use Rattle.alm_service.specs.declared.run_fault.RunFault.{RunFault}
+use Rattle.alm_service.specs.Turns.{IsTurn, IsBroken}
 
 printed-append : (s : Standing) (xs ys : List Heard) → printed s (xs ++ ys) ≡ printed s xs ++ printed (stands_after s xs) ys
 printed-append s [] ys = refl
@@ -88,6 +89,9 @@ heard_kept {a} {b} {h} {i} {xs} {o} {m} n p k = record { heard = p.heard; lines 
 pub taken : (xs : List ℕ) (i : ℕ) → i < length xs → take (i + 1) xs ≡ take i xs ++ get_or xs i 0 ∷ []
 taken xs i h = take_more xs i 0 h
 
+pub split : (xs : List ℕ) (i : ℕ) → i < length xs → xs ≡ (take i xs ++ get_or xs i 0 ∷ []) ++ drop (i + 1) xs
+split xs i h = sym (take-append-drop (i + 1) xs) ∙ ap (λ (t : List ℕ). t ++ drop (i + 1) xs) (taken xs i h)
+
 -- nothing was read yet
 pub turn_none : (a : Standing) (h : List ℕ) (r o : Option (List ℕ)) → IsTurn true a h r o a h r o
 turn_none a h r o = record { bytes = []; read = Consumes-nil r; heard = heard_none a h o; ended = λ e. cc }
@@ -106,3 +110,54 @@ pub turns_end : {a c : Standing} {h j : List ℕ} {r t o n : Option (List ℕ)} 
 turns_end {a} {c} {h} {j} {r} {t} {o} {n} e p =
     Consumes-whole r t p.bytes (λ input. IsDesk a input o c n) p.read (p.ended refl)
     (record { heard = p.heard.heard; lines = p.heard.lines ∙ ap (λ x. lines_of x p.bytes) e; written = p.heard.written; standing = p.heard.standing })
+
+-- ---- where a writer fails
+
+-- in the line that a byte ends
+pub broken_end : {a b later : Standing} {h i xs : List ℕ} {o m n : Option (List ℕ)} (byte : ℕ) (zs : List ℕ) → IsHeard a h xs o b i m → is_end byte ≡ true
+    → IsCutEntry b (entry_of i) m later n → BreaksOff a (lines_of h ((xs ++ byte ∷ []) ++ zs)) o later n
+broken_end {a} {b} {later} {h} {i} {xs} {o} {m} {n} byte zs p e q =
+    let next : lines_of i (byte ∷ zs) ≡ i ∷ lines_of [] zs = rw e refl in
+    record {
+      heard = p.heard;
+      others = i ∷ lines_of [] zs;
+      all = ap (lines_of h) (append_assoc xs (byte ∷ []) zs) ∙ lines_of-append h xs (byte ∷ zs) ∙ rw (p.lines, ← p.left, next) refl;
+      between = m;
+      written = p.written;
+      cut = rw (← p.standing) q;
+    }
+
+-- as it hands on what was written
+pub broken_handing : {a b : Standing} {h i xs : List ℕ} {o m : Option (List ℕ)} (n : Option (List ℕ)) → IsHeard a h xs o b i m → Keeps m n → BreaksOff a (lines_of h xs) o b n
+broken_handing {a} {b} {h} {i} {xs} {o} {m} n p k = record {
+  heard = p.heard;
+  others = [];
+  all = sym (append-nil (map line p.heard) ∙ p.lines);
+  between = m;
+  written = p.written;
+  cut = (p.standing, k);
+}
+
+-- after bytes that are heard
+broken_after : {a b later : Standing} {h i xs : List ℕ} {o m n : Option (List ℕ)} (ys : List ℕ) → IsHeard a h xs o b i m → BreaksOff b (lines_of i ys) m later n → BreaksOff a (lines_of h (xs ++ ys)) o later n
+broken_after {a} {b} {later} {h} {i} {xs} {o} {m} {n} ys p q =
+    record {
+      heard = p.heard ++ q.heard;
+      others = q.others;
+      all = lines_of-append h xs ys ∙ rw (← p.left, ← p.lines, q.all) refl ∙ sym (append_assoc (map line p.heard) (map line q.heard) q.others) ∙ ap (λ (t : List (List ℕ)). t ++ q.others) (sym (map-append line p.heard q.heard));
+      between = q.between;
+      written = rw (printed-append a p.heard q.heard, ← p.standing) (Appends-trans o m q.between (printed a p.heard) (printed b q.heard) p.written q.written);
+      cut = rw (stands_after-append a p.heard q.heard, ← p.standing) q.cut;
+    }
+
+-- after reads
+pub turns_broken : {a b later : Standing} {h i : List ℕ} {r s t o m n : Option (List ℕ)} → IsTurn true a h r o b i s m → IsBroken b i s m later t n → IsBroken a h r o later t n
+turns_broken {a} {b} {later} {h} {i} {r} {s} {t} {o} {m} {n} p q = record {
+  bytes = p.bytes ++ q.bytes;
+  read = Consumes-trans r s t p.bytes q.bytes p.read q.read;
+  broken = broken_after q.bytes p.heard q.broken;
+}
+
+-- a turn's fault is the run's
+pub same_fault : (e f : RunFault) → ◌≡◌ {A = Result ⊤ RunFault} (Err e) (Err f) → ◌≡◌ {A = Result Bool RunFault} (Err e) (Err f)
+same_fault e f p = let q : e ≡ f = cc in ap Err q

@@ -1,11 +1,12 @@
 -- What the desk prints for what it reads.
-use Rattle.std.specs.Prelude.{◌≡◌, ℕ, List, [], ◌∷◌, ◌++◌, Option, Some, length, take, map, codes, decimal, nat_lt, if◌then◌else◌}
-use Rattle.std.specs.Io.KnownBytes.{Appends}
+use Rattle.std.specs.Prelude.{◌≡◌, ◌⊎◌, ℕ, List, [], ◌∷◌, ◌++◌, Option, Some, length, take, map, codes, decimal, nat_lt, if◌then◌else◌}
+use Rattle.std.specs.Io.KnownBytes.{Appends, Keeps}
 use Rattle.alm_types.specs.declared.refusal.Refusal.{Refusal}
 use Rattle.alm_types.specs.declared.refusal.Refusal.TheVariants.{BadLine, LineTooLong}
 use Rattle.alm_types.specs.Refusals.{number_of}
 use Rattle.alm_lines.specs.Line.{number, cut, line_of}
 use Rattle.alm_lines.specs.Stream.{is_end}
+use Rattle.alm_lines.specs.Written.{IsCutShort}
 use Rattle.alm_session.specs.Answers.{Standing, Said, reply, after}
 use Rattle.alm_session.specs.declared.course.Course.{Course}
 
@@ -80,3 +81,23 @@ pub record IsDesk (before : Standing) (input : List ℕ) (old : Option (List ℕ
   pub lines : map line heard ≡ lines_of [] input
   pub written : Appends old new (printed before heard)
   pub standing : later ≡ stands_after before heard
+
+-- what is printed for an entry is cut short; what it asks is done, or not taken up yet
+pub record IsCutEntry (before : Standing) (e : Entry) (old : Option (List ℕ)) (later : Standing) (new : Option (List ℕ)) : Type 0 where
+  pub course : Course
+  pub written : IsCutShort old new (entry_text before e course)
+  pub standing : (later ≡ before) ⊎ (later ≡ entry_after before e course)
+
+-- the writer fails in the next line, or where none is left as it hands on what was written
+abbrev pub IsCutIn : List (List ℕ) → Standing → Option (List ℕ) → Standing → Option (List ℕ) → Type 0
+IsCutIn [] s old later new = (later ≡ s) × Keeps old new
+IsCutIn (next ∷ others) s old later new = IsCutEntry s (entry_of next) old later new
+
+-- the first lines are answered, and then the writer fails
+pub record BreaksOff (before : Standing) (lines : List (List ℕ)) (old : Option (List ℕ)) (later : Standing) (new : Option (List ℕ)) : Type 0 where
+  pub heard : List Heard
+  pub others : List (List ℕ)
+  pub all : lines ≡ map line heard ++ others
+  pub between : Option (List ℕ)
+  pub written : Appends old between (printed before heard)
+  pub cut : IsCutIn others (stands_after before heard) between later new

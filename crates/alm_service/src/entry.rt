@@ -4,9 +4,10 @@ ghost use Rattle.std.specs.Prelude.{◌≡◌, OnErr, OnOk, IfOk, false};
 ghost use Rattle.std.specs.Io.KnownBytes.{Appends};
 ghost use Rattle.alm_types.specs.Counts.{one_more};
 ghost use Rattle.alm_lines.specs.Line.{number};
-ghost use Rattle.alm_service.specs.Desk.{entry_of, entry_text, entry_after, unread_text, request_of};
+ghost use Rattle.alm_lines.specs.Written.{Prints};
+ghost use Rattle.alm_service.specs.Desk.{entry_of, entry_text, entry_after, unread_text, request_of, IsCutEntry};
 
-use alm_lines::{cut, number};
+use alm_lines::{Part, cut, number};
 use alm_session::{Backend, CountedWriter, Course, LocalDesk, WriteFailed};
 use alm_types::{Refusal, Slot};
 use std::io::Write;
@@ -26,13 +27,15 @@ fn refuse<W: Write + Drop>(
     refusal: Refusal,
     writer: &mut CountedWriter<W>,
 ) -> Result<(), WriteFailed>
-    ensures text { OnOk result (Appends (W.contents writer.old.inner) (W.contents writer.new.inner) (unread_text refusal)) }
+    ensures text { Prints (W.contents writer.old.inner) (W.contents writer.new.inner) (unread_text refusal) result }
     ensures whole { OnOk result (writer.new.failed ≡ writer.old.failed) }
     ensures failed { OnErr result (writer.new.failed ≡ one_more writer.old.failed) }
 {
-    writer.put(b"? NO ")?;
-    writer.number(u64::from(refusal.number()))?;
-    writer.put(b"\n")
+    writer.parts(&[
+        Part::Word("? NO "),
+        Part::Number(u64::from(refusal.number())),
+        Part::Word("\n"),
+    ])
 }
 
 /// Answers a request line at a slot, under the slot.
@@ -47,10 +50,10 @@ fn answer_at<B: Backend + Drop, W: Write + Drop>(
     ensures standing { IfOk result (λ course. desk.new.standing ≡ entry_after desk.old.standing (request_of slot line.now) course) }
     ensures open { OnOk result (desk.new.closed ≡ false) }
     ensures whole { OnOk result (writer.new.failed ≡ writer.old.failed) }
+    ensures cut { OnErr result (IsCutEntry desk.old.standing (request_of slot line.now) (W.contents writer.old.inner) desk.new.standing (W.contents writer.new.inner)) }
     ensures failed { OnErr result (writer.new.failed ≡ one_more writer.old.failed) }
 {
-    writer.number(u64::from(slot.number()))?;
-    writer.put(b" ")?;
+    writer.parts(&[Part::Number(u64::from(slot.number())), Part::Word(" ")])?;
     match desk.answer(slot, line, writer) {
         Ok(course) => Ok(course),
         Err(_) => Err(WriteFailed),
@@ -68,6 +71,7 @@ pub fn answer_entry<B: Backend + Drop, W: Write + Drop>(
     ensures standing { IfOk result (λ course. desk.new.standing ≡ entry_after desk.old.standing (entry_of line.now) course) }
     ensures open { OnOk result (desk.new.closed ≡ false) }
     ensures whole { OnOk result (writer.new.failed ≡ writer.old.failed) }
+    ensures cut { OnErr result (IsCutEntry desk.old.standing (entry_of line.now) (W.contents writer.old.inner) desk.new.standing (W.contents writer.new.inner)) }
     ensures failed { OnErr result (writer.new.failed ≡ one_more writer.old.failed) }
 {
     if line.len() > 130 {

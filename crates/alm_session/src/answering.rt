@@ -1,11 +1,11 @@
 //! The answer to a line.
 
-ghost use Rattle.std.specs.Prelude.{◌≡◌, OnOk, OnErr, IfOk};
-ghost use Rattle.std.specs.Io.KnownBytes.{Appends};
+ghost use Rattle.std.specs.Prelude.{◌≡◌, OnOk, OnErr};
 ghost use Rattle.alm_types.specs.Counts.{one_more};
 ghost use Rattle.alm_lines.specs.Reply.{text_of};
+ghost use Rattle.alm_lines.specs.Written.{Prints};
 ghost use Rattle.alm_session.specs.Answers.{judged_text, text_on, plant_after, refused_after};
-ghost use Rattle.alm_lines.specs.declared.ask.Ask.TheVariants.{Act};
+ghost use Rattle.alm_lines.specs.declared.ask.Ask.TheVariants.{Act, Look};
 
 use crate::backend::Backend;
 use crate::counted_writer::CountedWriter;
@@ -14,7 +14,7 @@ use crate::judged::Judged;
 use crate::stopped::Stopped;
 use crate::write_failed::WriteFailed;
 use alm_lines::{Ask, Line, Reply};
-use alm_types::{Action, Answer, Refusal, Request, Slot, Verdict};
+use alm_types::{Action, Answer, Query, Refusal, Request, Slot, Verdict};
 use std::io::Write;
 
 /// The reply to what became of a request.
@@ -45,51 +45,60 @@ fn act<B: Backend>(backend: &mut B, slot: Slot, id: u32, want: Action) -> (Reply
     }
 }
 
-/// Does what a line asks and writes the reply: what came in the way.
+/// Answers a query and writes the reply: what came in the way, and how the writing went.
+fn answer_query<B: Backend, W: Write + Drop>(
+    backend: &mut B,
+    answer: &mut Answer,
+    slot: Slot,
+    id: u32,
+    query: Query,
+    writer: &mut CountedWriter<W>,
+) -> (Course, Result<(), WriteFailed>)
+    ensures text { Prints (W.contents writer.old.inner) (W.contents writer.new.inner) (text_on (B.stands backend.old) (record { slot = slot; line = record { id = id; ask = Look query } }) result.0) result.1 }
+    ensures plant { B.stands backend.new ≡ plant_after (B.stands backend.old) (record { slot = slot; line = record { id = id; ask = Look query } }) result.0 }
+    ensures refused { answer.new.refused ≡ refused_after (B.stands backend.old) answer.old.refused (record { slot = slot; line = record { id = id; ask = Look query } }) result.0 }
+    ensures whole { OnOk result.1 (writer.new.failed ≡ writer.old.failed) }
+    ensures failed { OnErr result.1 (writer.new.failed ≡ one_more writer.old.failed) }
+{
+    match backend.ask(query, answer) {
+        Ok(n) => {
+            let told = Reply::Told {
+                id,
+                n,
+                query,
+                answer: &*answer,
+            };
+            (Course::Plain, writer.reply(&told))
+        }
+        Err(Refusal::OutOfMemory) => {
+            let refusal = Refusal::OutOfMemory;
+            (Course::Starved, writer.reply(&Reply::No { id, refusal }))
+        }
+        Err(refusal) => (Course::Plain, writer.reply(&Reply::No { id, refusal })),
+    }
+}
+
+/// Does what a line asks and writes the reply: what came in the way, and how the writing went.
 pub fn answer_line<B: Backend, W: Write + Drop>(
     backend: &mut B,
     answer: &mut Answer,
     slot: Slot,
     line: Line,
     writer: &mut CountedWriter<W>,
-) -> Result<Course, WriteFailed>
-    ensures text { IfOk result (λ course. Appends (W.contents writer.old.inner) (W.contents writer.new.inner) (text_on (B.stands backend.old) (record { slot = slot; line = line }) course)) }
-    ensures plant { IfOk result (λ course. B.stands backend.new ≡ plant_after (B.stands backend.old) (record { slot = slot; line = line }) course) }
-    ensures refused { IfOk result (λ course. answer.new.refused ≡ refused_after (B.stands backend.old) answer.old.refused (record { slot = slot; line = line }) course) }
-    ensures whole { OnOk result (writer.new.failed ≡ writer.old.failed) }
-    ensures failed { OnErr result (writer.new.failed ≡ one_more writer.old.failed) }
+) -> (Course, Result<(), WriteFailed>)
+    ensures text { Prints (W.contents writer.old.inner) (W.contents writer.new.inner) (text_on (B.stands backend.old) (record { slot = slot; line = line }) result.0) result.1 }
+    ensures plant { B.stands backend.new ≡ plant_after (B.stands backend.old) (record { slot = slot; line = line }) result.0 }
+    ensures refused { answer.new.refused ≡ refused_after (B.stands backend.old) answer.old.refused (record { slot = slot; line = line }) result.0 }
+    ensures whole { OnOk result.1 (writer.new.failed ≡ writer.old.failed) }
+    ensures failed { OnErr result.1 (writer.new.failed ≡ one_more writer.old.failed) }
 {
     let id = line.id;
     match line.ask {
         Ask::Act(want) => {
             let (reply, course) = act(backend, slot, id, want);
-            writer.reply(&reply)?;
-            Ok(course)
+            (course, writer.reply(&reply))
         }
-        Ask::Look(query) => match backend.ask(query, answer) {
-            Ok(n) => {
-                let told = Reply::Told {
-                    id,
-                    n,
-                    query,
-                    answer: &*answer,
-                };
-                writer.reply(&told)?;
-                Ok(Course::Plain)
-            }
-            Err(Refusal::OutOfMemory) => {
-                let refusal = Refusal::OutOfMemory;
-                writer.reply(&Reply::No { id, refusal })?;
-                Ok(Course::Starved)
-            }
-            Err(refusal) => {
-                writer.reply(&Reply::No { id, refusal })?;
-                Ok(Course::Plain)
-            }
-        },
-        Ask::Bad(refusal) => {
-            writer.reply(&Reply::No { id, refusal })?;
-            Ok(Course::Plain)
-        }
+        Ask::Look(query) => answer_query(backend, answer, slot, id, query, writer),
+        Ask::Bad(refusal) => (Course::Plain, writer.reply(&Reply::No { id, refusal })),
     }
 }

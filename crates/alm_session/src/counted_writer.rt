@@ -1,12 +1,14 @@
 //! A writer that counts its failures.
 
-ghost use Rattle.std.specs.Prelude.{◌≡◌, OnOk, OnErr, decimal};
-ghost use Rattle.std.specs.Io.KnownBytes.{Appends, Keeps};
+ghost use Rattle.std.specs.Prelude.{◌≡◌, OnOk, OnErr};
+ghost use Rattle.std.specs.Io.KnownBytes.{Keeps};
 ghost use Rattle.alm_types.specs.Counts.{one_more};
+ghost use Rattle.alm_lines.specs.Parts.{text_of_parts};
 ghost use Rattle.alm_lines.specs.Reply.{text_of};
+ghost use Rattle.alm_lines.specs.Written.{Prints};
 
 use crate::write_failed::WriteFailed;
-use alm_lines::{Reply, print_reply};
+use alm_lines::{Part, Reply, print_reply, put_parts};
 use std::io::Write;
 
 /// A writer, and how often it failed.
@@ -31,28 +33,13 @@ impl<W: Write + Drop> CountedWriter<W> {
         inner
     }
 
-    /// Writes bytes.
-    pub fn put(&mut self, bytes: &[u8]) -> Result<(), WriteFailed>
-        ensures bytes { OnOk result (Appends (W.contents self.old.inner) (W.contents self.new.inner) bytes.now) }
+    /// Writes words and numbers.
+    pub fn parts(&mut self, parts: &[Part<'_>]) -> Result<(), WriteFailed>
+        ensures bytes { Prints (W.contents self.old.inner) (W.contents self.new.inner) (text_of_parts parts.now) result }
         ensures whole { OnOk result (self.new.failed ≡ self.old.failed) }
         ensures failed { OnErr result (self.new.failed ≡ one_more self.old.failed) }
     {
-        match self.inner.write_all(bytes) {
-            Ok(()) => Ok(()),
-            Err(_) => {
-                self.failed = self.failed.saturating_add(1);
-                Err(WriteFailed)
-            }
-        }
-    }
-
-    /// Writes a number.
-    pub fn number(&mut self, number: u64) -> Result<(), WriteFailed>
-        ensures bytes { OnOk result (Appends (W.contents self.old.inner) (W.contents self.new.inner) (decimal number)) }
-        ensures whole { OnOk result (self.new.failed ≡ self.old.failed) }
-        ensures failed { OnErr result (self.new.failed ≡ one_more self.old.failed) }
-    {
-        match write!(self.inner, "{number}") {
+        match put_parts(parts, &mut self.inner) {
             Ok(()) => Ok(()),
             Err(_) => {
                 self.failed = self.failed.saturating_add(1);
@@ -63,7 +50,7 @@ impl<W: Write + Drop> CountedWriter<W> {
 
     /// Writes a reply.
     pub fn reply(&mut self, reply: &Reply<'_>) -> Result<(), WriteFailed>
-        ensures bytes { OnOk result (Appends (W.contents self.old.inner) (W.contents self.new.inner) (text_of reply.now)) }
+        ensures bytes { Prints (W.contents self.old.inner) (W.contents self.new.inner) (text_of reply.now) result }
         ensures whole { OnOk result (self.new.failed ≡ self.old.failed) }
         ensures failed { OnErr result (self.new.failed ≡ one_more self.old.failed) }
     {
@@ -78,7 +65,7 @@ impl<W: Write + Drop> CountedWriter<W> {
 
     /// Hands on what is written.
     pub fn flush(&mut self) -> Result<(), WriteFailed>
-        ensures bytes { OnOk result (Keeps (W.contents self.old.inner) (W.contents self.new.inner)) }
+        ensures bytes { Keeps (W.contents self.old.inner) (W.contents self.new.inner) }
         ensures whole { OnOk result (self.new.failed ≡ self.old.failed) }
         ensures failed { OnErr result (self.new.failed ≡ one_more self.old.failed) }
     {

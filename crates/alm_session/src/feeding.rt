@@ -2,7 +2,8 @@
 
 ghost use Rattle.std.specs.Prelude.{◌≡◌, OnOk, OnErr};
 ghost use Rattle.alm_types.specs.Counts.{one_more};
-ghost use Rattle.alm_session.specs.Feeding.{IsFedAt};
+ghost use Rattle.alm_session.specs.Failing.{BreaksOff};
+ghost use Rattle.alm_session.specs.Feeding.{IsFedAt, lines_at};
 
 use crate::answering::answer_line;
 use crate::backend::Backend;
@@ -24,6 +25,8 @@ pub fn feed_slot<B: Backend, W: Write + Drop>(
     ensures fed { OnOk result (IsFedAt slot (record { plant = B.stands backend.old; refused = answer.old.refused }) decoder.old piece.now (W.contents writer.old.inner)
         (record { plant = B.stands backend.new; refused = answer.new.refused }) decoder.new (W.contents writer.new.inner)) }
     ensures whole { OnOk result (writer.new.failed ≡ writer.old.failed) }
+    ensures broken { OnErr result (BreaksOff (record { plant = B.stands backend.old; refused = answer.old.refused }) (lines_at slot decoder.old piece.now) (W.contents writer.old.inner)
+        (record { plant = B.stands backend.new; refused = answer.new.refused }) (W.contents writer.new.inner)) }
     ensures failed { OnErr result (writer.new.failed ≡ one_more writer.old.failed) }
 {
     let mut rest = piece;
@@ -31,7 +34,8 @@ pub fn feed_slot<B: Backend, W: Write + Drop>(
         let (used, line) = decoder.feed(rest);
         rest = &rest[used..];
         if let Some(line) = line {
-            answer_line(backend, answer, slot, line, writer)?;
+            let (_, told) = answer_line(backend, answer, slot, line, writer);
+            told?;
         }
     }
     Ok(())

@@ -46,11 +46,12 @@ fn no_lines(alloc: Global) -> Result<Vec<Decoder>, AllocError>
 }
 
 impl<B: Backend + Drop> LocalDesk<B> {
-    ghost use Rattle.std.specs.Prelude.{◌≡◌, ◌++◌, OnOk, IfErr, IfOk, is_none, false, [], replicate, codes, decimal};
+    ghost use Rattle.std.specs.Prelude.{◌≡◌, OnOk, IfErr, IfOk, Err, is_none, false, true, [], replicate};
     ghost use Rattle.std.specs.Io.KnownBytes.{Appends};
     ghost use Rattle.alm_lines.specs.Line.{line_of};
     ghost use Rattle.alm_session.specs.Answers.{reply, after};
-    ghost use Rattle.alm_session.specs.Desks.{IsFed, HasFailed, tag};
+    ghost use Rattle.alm_session.specs.Desks.{IsFed, HasFailed, tag, lines_in};
+    ghost use Rattle.alm_session.specs.Failing.{BreaksOff, IsCutLine};
 
     pub fn new(alloc: Global, backend: B) -> Result<Self, AllocError>
         ensures { IfOk result (λ desk. desk ≡ record { standing = record { plant = B.stands backend; refused = 0 }; helds = replicate 18 []; closed = false }) }
@@ -70,6 +71,20 @@ impl<B: Backend + Drop> LocalDesk<B> {
         self.backend.is_stopped()
     }
 
+    /// Whether a writer has failed: nothing is answered from then on.
+    pub fn is_closed(&self) -> bool
+        ensures { result ≡ self.now.closed }
+    {
+        self.closed
+    }
+
+    /// Closes the desk, where something else that was written to the same writer failed.
+    pub fn close(&mut self)
+        ensures { self.new ≡ record self.old { closed = true } }
+    {
+        self.closed = true;
+    }
+
     /// Takes bytes at a slot, and answers each line that they end before the next.
     pub fn feed<W: Write + Drop>(
         &mut self,
@@ -80,6 +95,8 @@ impl<B: Backend + Drop> LocalDesk<B> {
         ensures fed { OnOk result (IsFed self.old (tag slot piece.now) (W.contents writer.old.inner) self.new (W.contents writer.new.inner)) }
         ensures whole { OnOk result (writer.new.failed ≡ writer.old.failed) }
         ensures fault { IfErr result (λ e. HasFailed e self.old.closed self.new.closed writer.old.failed writer.new.failed) }
+        ensures broken { result ≡ Err DeskFault.Write → BreaksOff self.old.standing (lines_in self.old.helds (tag slot piece.now)) (W.contents writer.old.inner) self.new.standing (W.contents writer.new.inner) }
+        ensures closed { result ≡ Err DeskFault.Closed → (self.new ≡ self.old) × (writer.new ≡ writer.old) }
     {
         if self.closed {
             return Err(DeskFault::Closed);
@@ -113,13 +130,16 @@ impl<B: Backend + Drop> LocalDesk<B> {
         ensures open { OnOk result (self.old.closed ≡ false) }
         ensures whole { OnOk result (writer.new.failed ≡ writer.old.failed) }
         ensures fault { IfErr result (λ e. HasFailed e self.old.closed self.new.closed writer.old.failed writer.new.failed) }
+        ensures cut { result ≡ Err DeskFault.Write → IsCutLine self.old.standing (record { slot = slot; line = line_of line.now }) (W.contents writer.old.inner) self.new.standing (W.contents writer.new.inner) }
+        ensures closed { result ≡ Err DeskFault.Closed → (self.new ≡ self.old) × (writer.new ≡ writer.old) }
     {
         if self.closed {
             return Err(DeskFault::Closed);
         }
         let line = line_of(line);
-        match answer_line(&mut self.backend, &mut self.answer, slot, line, writer) {
-            Ok(course) => Ok(course),
+        let (course, told) = answer_line(&mut self.backend, &mut self.answer, slot, line, writer);
+        match told {
+            Ok(()) => Ok(course),
             Err(_) => {
                 self.closed = true;
                 Err(DeskFault::Write)

@@ -1,5 +1,5 @@
 use Rattle.std.proofs.Common.{◌∙◌, arith, refl}
-use Rattle.alm_service.proofs.Hearing.{turns, turns_end}
+use Rattle.alm_service.proofs.Hearing.{turns, turns_end, turns_broken, same_fault}
 use Rattle.alm_service.proofs.running.desk_run.Goals as goal
 
 pub loop-preserved : goal.loop-preserved
@@ -17,3 +17,6 @@ pub returns-in-Ok-false-clause-desk : goal.returns-in-Ok-false-clause-desk
 returns-in-Ok-false-clause-desk g c =
     let last = rw c.in-Ok-false.field-0-test at c.in-Ok-false.ensures.heard in
     turns_end refl (turns c.loop.invariant.turns last)
+
+pub returns-in-Err-clause-broken : goal.returns-in-Err-clause-broken
+returns-in-Err-clause-broken g c = λ e still_open. turns_broken c.loop.invariant.turns (c.in-Err.ensures.broken (same_fault _ _ e))

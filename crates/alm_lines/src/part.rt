@@ -1,0 +1,36 @@
+//! Parts of a reply.
+
+ghost use Rattle.alm_lines.specs.Parts.{part_text, text_of_parts};
+ghost use Rattle.alm_lines.specs.Written.{Prints};
+
+use crate::writing::put;
+use std::io;
+
+/// A part of a reply.
+#[derive(Clone, Copy, Debug)]
+pub enum Part<'a> {
+    /// As it stands.
+    Word(&'a str),
+    /// In decimal digits.
+    Number(u64),
+}
+
+/// Writes a part.
+fn put_part<W: io::Write>(part: Part<'_>, writer: &mut W) -> io::Result<()>
+    ensures { Prints (W.contents writer.old) (W.contents writer.new) (part_text part.entry) result }
+{
+    match part {
+        Part::Word(word) => put(word.as_bytes(), writer),
+        Part::Number(number) => put(itoa::Buffer::new().format(number).as_bytes(), writer),
+    }
+}
+
+/// Writes parts, one after the other.
+pub fn put_parts<W: io::Write>(parts: &[Part<'_>], writer: &mut W) -> io::Result<()>
+    ensures { Prints (W.contents writer.old) (W.contents writer.new) (text_of_parts parts.now) result }
+{
+    for part in parts {
+        put_part(*part, writer)?;
+    }
+    Ok(())
+}
