@@ -1,5 +1,5 @@
 -- Fronts of a text.
-use Rattle.std.proofs.Common.{◌≡◌, ℕ, List, [], ◌++◌, Option, Result, Ok, Err, length, take, drop, refl, sym, ap, ◌∙◌, append_assoc, append-nil, take-append-drop}
+use Rattle.std.proofs.Common.{◌≡◌, ℕ, List, [], ◌++◌, Option, Result, Ok, Err, take, drop, refl, sym, ap, ◌∙◌, append_assoc, append-nil, take-append-drop}
 use Rattle.std.specs.Bool.{⊤}
 use Rattle.std.specs.Prelude.{IsErr, OnErr}
 use Rattle.std.specs.Io.KnownBytes.{Appends, Keeps}

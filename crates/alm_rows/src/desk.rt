@@ -7,8 +7,7 @@ use std::alloc::{AllocError, Global};
 use std::io::Read;
 
 /// A desk over the new plant of the worked table.
-pub fn new_desk(alloc: Global) -> Result<LocalDesk<PlainPlant>, AllocError>
-{
+pub fn new_desk(alloc: Global) -> Result<LocalDesk<PlainPlant>, AllocError> {
     let table = worked_table(alloc)?;
     desk_of(alloc, &table)
 }
@@ -18,8 +17,7 @@ pub fn printed<R: Read + Drop>(
     alloc: Global,
     desk: &mut LocalDesk<PlainPlant>,
     reader: R,
-) -> Result<Vec<u8>, RunFault>
-{
+) -> Result<Vec<u8>, RunFault> {
     let mut reader = CountedReader::new(reader);
     let mut writer = CountedWriter::new(Vec::new(alloc));
     desk_run(&mut reader, &mut writer, desk)?;

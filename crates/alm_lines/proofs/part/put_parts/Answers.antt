@@ -1,4 +1,4 @@
-use Rattle.std.proofs.Common.{◌<◌, length, rules, refl}
+use Rattle.std.proofs.Common.{◌<◌, length, rules}
 use Rattle.alm_lines.specs.Parts.{part_text}
 use Rattle.alm_lines.proofs.Flattened.{wrote_more, cut_in_item}
 use Rattle.alm_lines.proofs.Prefixes.{prints_err}
