@@ -1,6 +1,6 @@
 //! The two ends of the batch rings.
 
-ghost use Rattle.std.specs.Prelude.{◌≡◌, ◌+◌, ◌≤◌, ◌++◌, [], IfOk, length};
+ghost use Rattle.std.specs.Prelude.{◌≡◌, ◌+◌, ◌≤◌, ◌++◌, [], IfOk, length, replicate};
 ghost use Rattle.alm_rings.specs.Batches.{AreBatchEnds, SameSealEnds, SameFetchEnds, sealed_of, fetched_of, emptied_of, given_of, empties_in, coming_in, places_of, places_in};
 
 use crate::emptied::Emptied;
@@ -13,11 +13,11 @@ use std::alloc::{AllocError, Global};
 /// How many batches there are.
 const BATCHES: usize = 8;
 
-/// The ends of both batch rings, and the eight batches with their room, all on the way to the sequencer; an error only
+/// The ends of both batch rings, and the eight batches, empty and with their room, all on the way to the sequencer; an error only
 /// for want of memory.
 pub fn open_batches(alloc: Global) -> Result<(SealEnds, FetchEnds), AllocError>
     ensures ends { IfOk result (λ r. AreBatchEnds r.0 r.1) }
-    ensures new { IfOk result (λ r. (sealed_of r.0 ≡ []) × (fetched_of r.1 ≡ []) × (emptied_of r.0 ≡ []) × (length (given_of r.1) ≡ 8)) }
+    ensures new { IfOk result (λ r. (sealed_of r.0 ≡ []) × (fetched_of r.1 ≡ []) × (emptied_of r.0 ≡ []) × (given_of r.1 ≡ replicate 8 (record { first = 1; entries = [] }))) }
     ensures places { IfOk result (λ r. (places_of r.0 ≡ 8) × (places_in r.1 ≡ 0) × (coming_in r.1 ≡ []) × (empties_in r.0 ≡ [])) }
 {
     let (full, fetch) = RingBuffer::new(alloc, BATCHES)?;

@@ -6,6 +6,10 @@ mod batches;
 #[cfg(test)]
 mod one;
 #[cfg(test)]
+mod refused;
+#[cfg(test)]
+mod rounds;
+#[cfg(test)]
 mod slots;
 #[cfg(test)]
 mod threads;

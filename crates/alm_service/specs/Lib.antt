@@ -1,4 +1,5 @@
 pub mod Desk
+pub mod Faults
 pub mod Reads
 pub mod Turns
 pub mod Worked

@@ -12,14 +12,18 @@
 
 mod counted_reader;
 mod entry;
+mod fault;
 mod gave;
 mod held_line;
+mod program;
 mod run_fault;
 mod running;
 mod worked;
 
 pub use counted_reader::CountedReader;
+pub use fault::Fault;
 pub use gave::Gave;
+pub use program::run_program;
 pub use run_fault::RunFault;
 pub use running::desk_run;
 pub use worked::worked_table;

@@ -1,0 +1,16 @@
+//! The worked rows as calls on a plant, whichever body it has.
+//!
+//! Each row of `rows` begins with a new plant of the worked table. It is run twice: on one plant, and on plants each of
+//! which is a copy of the one before.
+#![tactic(auto)]
+
+#[cfg(test)]
+mod actions;
+#[cfg(test)]
+mod check;
+#[cfg(test)]
+mod rows;
+#[cfg(test)]
+mod stamps;
+#[cfg(test)]
+mod step;

@@ -1,0 +1,23 @@
+//! Steps of a row.
+
+use alm_model::List;
+use alm_types::{Action, Refusal, Shown};
+
+/// What is asked of a plant, and what it answers.
+#[derive(Clone, Copy)]
+pub enum Step<'a> {
+    /// A slot's action is accepted.
+    Done(u8, Action),
+    /// A slot's action is refused.
+    Refused(u8, Action, Refusal),
+    /// What is shown of an alarm, whether it is active, its flags and the end of its shelving.
+    State(u32, Shown, bool, u8, Option<u64>),
+    /// There is no such alarm.
+    NoAlarm(u32),
+    /// The alarms of a list.
+    Listed(List, &'a [u32]),
+    /// There is no such list.
+    NoList(List),
+    /// The annunciations of an area in the last 600 seconds, and whether it is flooded.
+    Window(u32, u64, bool),
+}

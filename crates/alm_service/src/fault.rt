@@ -1,0 +1,52 @@
+//! Faults of the program.
+
+use crate::run_fault::RunFault;
+use std::alloc::AllocError;
+
+/// Why the program ends with a status other than 0.
+#[derive(Clone, Copy, Debug, PartialEq, Eq)]
+pub enum Fault {
+    /// The words are none of the program's.
+    Usage,
+    OutOfMemory,
+    /// Standard input or output failed.
+    Io,
+}
+
+impl Fault {
+    ghost use Rattle.std.specs.Prelude.{◌≡◌};
+    ghost use Rattle.alm_service.specs.Faults.{line_of, status_of};
+
+    /// The line that tells of it.
+    pub fn line(&self) -> &'static str
+        ensures { result.now ≡ line_of self.now }
+    {
+        match self {
+            Fault::Usage => "fault usage",
+            Fault::OutOfMemory => "fault memory",
+            Fault::Io => "fault io",
+        }
+    }
+
+    /// The status that it ends with.
+    pub fn status(&self) -> u8
+        ensures { result ≡ status_of self.now }
+    {
+        match self {
+            Fault::Usage => 1,
+            Fault::OutOfMemory | Fault::Io => 3,
+        }
+    }
+}
+
+impl From<AllocError> for Fault {
+    fn from(_: AllocError) -> Self {
+        Fault::OutOfMemory
+    }
+}
+
+impl From<RunFault> for Fault {
+    fn from(_: RunFault) -> Self {
+        Fault::Io
+    }
+}

@@ -1,0 +1,53 @@
+//! The program, from its words to its status.
+
+use crate::counted_reader::CountedReader;
+use crate::fault::Fault;
+use crate::running::desk_run;
+use crate::worked::worked_table;
+use alm_session::{CountedWriter, desk_of};
+use std::env::{self, Env};
+use std::io::{self, BufWriter, ErrorKind};
+use std::process::ExitCode;
+
+/// Runs the desk over the worked table in memory.
+fn run_desk<R: Input + Print + AllocGlobal>(rt: &R) -> Result<(), Fault> {
+    let alloc = rt.alloc();
+    let table = worked_table(alloc)?;
+    let mut desk = desk_of(alloc, &table)?;
+    let mut reader = CountedReader::new(rt.reader());
+    let writer = BufWriter::with_capacity(alloc, 65536, io::writer(rt)).map_err(
+        |_| Fault::OutOfMemory,
+    )?;
+    let mut writer = CountedWriter::new(writer);
+    desk_run(&mut reader, &mut writer, &mut desk)?;
+    Ok(())
+}
+
+/// The program's name and the words after it.
+fn words_of<R: Env + AllocGlobal>(rt: &R) -> Result<Vec<String>, Fault> {
+    match env::args(rt) {
+        Ok(words) => Ok(words.collect(rt.alloc()).map_err(|_| Fault::OutOfMemory)?),
+        Err(error) if error.kind() == ErrorKind::OutOfMemory => Err(Fault::OutOfMemory),
+        Err(_) => Err(Fault::Usage),
+    }
+}
+
+/// Does what the words ask.
+fn run<R: Input + Print + Env + AllocGlobal>(rt: &R) -> Result<(), Fault> {
+    let words = words_of(rt)?;
+    match words.as_slice() {
+        [_, word] if word.as_str() == "desk" => run_desk(rt),
+        _ => Err(Fault::Usage),
+    }
+}
+
+/// Does what the program's words ask: status 0, or one line on standard error and the status of the fault.
+pub fn run_program<R: Input + Print + Eprint + Env + AllocGlobal>(rt: &R) -> ExitCode {
+    match run(rt) {
+        Ok(()) => ExitCode::SUCCESS,
+        Err(fault) => {
+            let _ = eprintln!(rt; "{}", fault.line());
+            ExitCode::from(fault.status())
+        }
+    }
+}
