@@ -1,0 +1,5 @@
+pub mod Areas
+pub mod Passing
+pub mod Plants
+pub mod Sound
+pub mod Turning

@@ -1,0 +1,4 @@
+pub mod Metrics
+pub mod Rings
+pub mod Shown
+pub mod Counted

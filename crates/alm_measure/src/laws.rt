@@ -1,0 +1,30 @@
+//! Laws of the definitions: each function does nothing, and its contract is the law.
+
+ghost use Rattle.std.specs.Prelude.{◌≡◌, ℕ, List, length};
+ghost use Rattle.alm_types.specs.Tables.{Listing, IsTable};
+ghost use Rattle.alm_types.specs.declared.action.Action.{Action};
+ghost use Rattle.alm_model.specs.Counted.{new_whole, run_whole};
+ghost use Rattle.alm_model.specs.Keeping.{condensed};
+ghost use Rattle.alm_model.specs.Lists.{list_of};
+ghost use Rattle.alm_model.specs.New.{new_plant};
+ghost use Rattle.alm_model.specs.Plant.{Condensed};
+ghost use Rattle.alm_model.specs.Rules.{AreAdmitted, KeepsRules};
+ghost use Rattle.alm_model.specs.Step.{later, run, settle};
+ghost use Rattle.alm_model.specs.declared.list.List.TheVariants.{Chatter};
+ghost use Rattle.alm_measure.specs.Counted.{AreCounted};
+ghost use Rattle.alm_measure.specs.Metrics.{advanced, annunciated, chattering, metrics_of, new_metrics, settled_by_windows};
+
+/// What becomes of the metrics of a plant is what its step does: at an annunciation, as its clock moves, and where its floods
+/// are settled.
+pub fn metrics_go_along()
+    ensures new { (t : Listing) → metrics_of (new_plant t) ≡ new_metrics t }
+    ensures annunciated { (q : Condensed) (i : ℕ) → metrics_of (record q { kept = condensed.note q.panel i q.kept }) ≡ annunciated i (metrics_of q) }
+    ensures advanced { (q : Condensed) (t : ℕ) → metrics_of (later condensed t q) ≡ advanced t (metrics_of q) }
+    ensures settled { (q : Condensed) → metrics_of (settle condensed q) ≡ settled_by_windows (metrics_of q) }
+    ensures chattering { (q : Condensed) → KeepsRules q → chattering (metrics_of q) ≡ list_of Chatter q }
+{}
+
+/// From a new plant on, after any admitted actions, its metrics are those counted from the list of all annunciations.
+pub fn metrics_are_counted()
+    ensures { (t : Listing) (actions : List Action) → IsTable t → AreAdmitted (new_plant t) actions → AreCounted (run_whole (new_whole t) actions) (metrics_of (run (new_plant t) actions)) }
+{}
