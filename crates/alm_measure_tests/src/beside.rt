@@ -1,5 +1,6 @@
 //! A plain plant, and a measure beside it.
 
+use crate::told;
 use crate::watched::Watched;
 use alm_model::{Alarms, List, PlainPlant};
 use alm_state::Core;
@@ -28,6 +29,14 @@ impl Beside {
             plant: PlainPlant::new(alloc, table)?,
             measure: Watched::new(alloc, table)?,
         })
+    }
+
+    /// A measure that is made of what the plant tells.
+    pub fn made(&self, alloc: Global, table: &Table) -> Option<Watched> {
+        let ages = told::ages(alloc, &self.plant, 3).ok()?;
+        let floods = told::floods(alloc, &self.plant, 3).ok()?;
+        let moments = told::moments(alloc, &self.plant, 6).ok()?;
+        Watched::of(alloc, table, self.plant.now(), ages, floods, moments)
     }
 
     /// Whether an alarm was annunciated with a stamp or one behind it.

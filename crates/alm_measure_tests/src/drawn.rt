@@ -62,7 +62,8 @@ fn action(drawn: u64, now: Moment) -> Result<Action, Fail> {
 #[test]
 fn drawn_actions_are_measured_as_a_plain_plant_does(rt: HostRuntime) -> Result<(), Fail> {
     let alloc = rt.alloc();
-    let mut beside = Beside::new(alloc, &table(alloc).ok_or("table")?)?;
+    let table = table(alloc).ok_or("table")?;
+    let mut beside = Beside::new(alloc, &table)?;
     let mut seed = 88172645463325252;
     let mut accepted = 0u32;
     let mut floods = 0u32;
@@ -86,6 +87,9 @@ fn drawn_actions_are_measured_as_a_plain_plant_does(rt: HostRuntime) -> Result<(
         }
         if accepted % 500 == 0 {
             beside.measure = beside.measure.copy(alloc)?;
+        }
+        if accepted % 700 == 0 {
+            beside.measure = beside.made(alloc, &table).ok_or("lists")?;
         }
     }
     assert_eq!(rt; accepted, ACTIONS);

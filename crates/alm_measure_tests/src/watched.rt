@@ -1,8 +1,9 @@
 //! A measure whose calls may be made at any time: those whose conditions aren't met do nothing.
 
-ghost use Rattle.std.specs.Prelude.{◌≤◌, sum, sum_by};
+ghost use Rattle.std.specs.Prelude.{◌≤◌, All, sum, sum_by};
 
 use alm_measure::Measure;
+use alm_model::{Ages, Recent};
 use alm_types::{AlarmId, Moment, Table};
 use std::alloc::{AllocError, Global};
 
@@ -22,6 +23,31 @@ impl Watched {
         Ok(Watched {
             measure: Measure::new(alloc, table)?,
             noted: 0,
+        })
+    }
+
+    /// The measure of lists, if they are as long as the table says; `None` for want of memory too.
+    pub fn of(
+        alloc: Global,
+        table: &Table,
+        now: Moment,
+        ages: Vec<Ages>,
+        floods: Vec<bool>,
+        moments: Vec<Recent>,
+    ) -> Option<Self>
+        requires { All (λ ages. sum ages ≤ 600000) ages.items }
+    {
+        let areas = table.areas() as usize;
+        let alarms = table.alarms().len();
+        if ages.len() != areas || floods.len() != areas || moments.len() != alarms {
+            return None;
+        }
+        let Ok(measure) = Measure::of(alloc, table, now, &ages, floods, moments) else {
+            return None;
+        };
+        Some(Watched {
+            measure,
+            noted: 64 * 600_000,
         })
     }
 
