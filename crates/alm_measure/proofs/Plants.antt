@@ -18,7 +18,7 @@ use Rattle.alm_model.proofs.Condensing.{ages-note, moments-note}
 use Rattle.alm_model.proofs.Together.{cond-later, cond-settle, cond-windows, past-recorded}
 use Rattle.alm_model.proofs.Whole.{all-alarms, along-new, chatter-same, counted-new, GoesAlong}
 use Rattle.alm_measure.specs.Counted.{AreCounted, noted}
-use Rattle.alm_measure.specs.Metrics.{Metrics, advanced, annunciated, chattering, metrics_of, settled_by_windows}
+use Rattle.alm_measure.specs.Metrics.{advanced, annunciated, chattering, metrics_of, settled_by_windows}
 use Rattle.alm_measure.proofs.Areas.{area-at}
 
 -- an alarm is annunciated in a plant

@@ -1,8 +1,8 @@
 -- A ring that is turned.
-use Rattle.std.proofs.Common.{◌≡◌, ℕ, ◌+◌, ◌-◌, ◌<◌, ◌≤◌, min, List, [], ◌∷◌, ◌++◌, length, take, drop, set, get_or, replicate, sum, suc, zero, refl, sym, ap, ◌∙◌, arith}
+use Rattle.std.proofs.Common.{◌≡◌, ℕ, ◌+◌, ◌<◌, List, [], ◌∷◌, ◌++◌, length, take, drop, set, get_or, sum, suc, refl, sym, ap, ◌∙◌, arith}
 use Rattle.std.proofs.lemmas.Grind.{common_steps}
-use Rattle.std.proofs.lemmas.List.{drop_more, drop-set, take-set, take_more, take_all, drop_all, append_assoc, append-nil, length-take, length-drop, length-append, take_at, take-replicate}
-use Rattle.std.proofs.lemmas.List.Sums.{sum_by-cons, sum_by_push}
+use Rattle.std.proofs.lemmas.List.{drop-set, take-set, take_more, take_all, drop_all, append_assoc, append-nil, take_at}
+use Rattle.std.proofs.lemmas.List.Sums.{sum_by_push}
 use Rattle.alm_measure.specs.Rings.{turned}
 
 -- all but the second at a place, the newest first

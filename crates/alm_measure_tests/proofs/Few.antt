@@ -1,8 +1,7 @@
 -- Few annunciations.
-use Rattle.std.proofs.Common.{◌≡◌, ℕ, ◌*◌, ◌≤◌, List, All, length, replicate, sum, sum_by, get_or, ap, arith}
+use Rattle.std.proofs.Common.{◌≡◌, ℕ, ◌≤◌, List, All, length, replicate, sum, sum_by, arith}
 use Rattle.std.proofs.lemmas.List.{get_or-replicate, length-replicate}
 use Rattle.std.proofs.lemmas.List.Sums.{sum_by-le}
-use Rattle.std.proofs.Math.Nat.{mul-le-mul_left}
 
 pub all-none : (n : ℕ) → All (λ count. count ≤ 1000) (replicate n 0)
 all-none n k d h = let e = get_or-replicate n k 0 d (rw length-replicate at h) in omega arith

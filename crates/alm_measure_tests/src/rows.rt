@@ -71,7 +71,7 @@ fn three_annunciations_within_a_minute_chatter(rt: HostRuntime) -> Result<(), Fa
 }
 
 #[test]
-fn a_second_later_they_do_and_then_no_more(rt: HostRuntime) -> Result<(), Fail> {
+fn chattering_ends_a_minute_after_the_first_of_three(rt: HostRuntime) -> Result<(), Fail> {
     let alloc = rt.alloc();
     let mut beside = Beside::new(alloc, &table(alloc).ok_or("table")?)?;
     clock(&rt, &mut beside, 1000)?;

@@ -1,4 +1,4 @@
-use Rattle.std.proofs.Common.{ap, sum, subst, sym, ◌≤◌, List, ℕ, refl}
+use Rattle.std.proofs.Common.{sum, subst, sym, ◌≤◌, List, ℕ, refl}
 use Rattle.alm_measure_tests.proofs.Few.{all-none, few-ages}
 use Rattle.alm_measure_tests.proofs.told.ages_of.Goals as goal
 

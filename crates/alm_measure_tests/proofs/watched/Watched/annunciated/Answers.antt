@@ -1,4 +1,4 @@
-use Rattle.std.proofs.Common.{◌≡◌, ◌≤◌, ◌+◌, sum, sum_by, ap, arith}
+use Rattle.std.proofs.Common.{◌≡◌, ◌≤◌, sum, sum_by, ap, arith}
 use Rattle.alm_measure.specs.Metrics.{Metrics, annunciated}
 use Rattle.alm_measure.proofs.Areas.{all-annunciated}
 use Rattle.alm_measure_tests.proofs.watched.Watched.annunciated.Goals as goal

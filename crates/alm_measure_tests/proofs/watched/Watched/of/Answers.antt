@@ -1,4 +1,4 @@
-use Rattle.std.proofs.Common.{◌≡◌, ◌≤◌, List, ap, arith, length, subst, sum, sum_by, sym}
+use Rattle.std.proofs.Common.{◌≡◌, ap, arith, sum, sum_by}
 use Rattle.alm_measure.specs.Metrics.{Metrics}
 use Rattle.alm_measure_tests.proofs.Few.{few-areas}
 use Rattle.alm_measure_tests.proofs.watched.Watched.of.Goals as goal
