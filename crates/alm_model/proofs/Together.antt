@@ -158,7 +158,7 @@ cond-after q action past h =
     let f = forward q.panel action h in
     cond-settle (acted in_full (counted q) action) (past-acted (counted q) action past f) ∙ ap (settle condensed) (cond-acted (counted q) action past f)
 
-recorded-later : (now t : ℕ) (h : History) → now ≤ t → IsRecorded now h → IsRecorded t h
+pub recorded-later : (now t : ℕ) (h : History) → now ≤ t → IsRecorded now h → IsRecorded t h
 recorded-later now t [] k r = tt
 recorded-later now t (a ∷ h) k r = let early : a.moment ≤ now = r.0 in (omega arith, r.1)
 
