@@ -1,8 +1,7 @@
 -- A ring that is turned.
-use Rattle.std.proofs.Common.{◌≡◌, ℕ, ◌+◌, ◌<◌, List, [], ◌∷◌, ◌++◌, length, take, drop, set, get_or, sum, suc, refl, sym, ap, ◌∙◌, arith}
+use Rattle.std.proofs.Common.{◌≡◌, ℕ, ◌+◌, ◌<◌, List, [], ◌∷◌, ◌++◌, length, take, drop, set, get_or, suc, refl, sym, ap, ◌∙◌, arith}
 use Rattle.std.proofs.lemmas.Grind.{common_steps}
 use Rattle.std.proofs.lemmas.List.{drop-set, take-set, take_more, take_all, drop_all, append_assoc, append-nil, take_at}
-use Rattle.std.proofs.lemmas.List.Sums.{sum_by_push}
 use Rattle.alm_measure.specs.Rings.{turned}
 
 -- all but the second at a place, the newest first
@@ -37,11 +36,6 @@ pub ticked : (n place : ℕ) (counts ages : List ℕ) → length counts ≡ suc 
 ticked n place counts ages s l e =
     let short : length (behind place counts) ≡ n = let b = length-behind place counts l in omega arith in
     rw (turned-set place 0 counts l, e) (ap (λ xs. 0 ∷ xs) (sym (take_at (behind place counts) (get_or counts place 0 ∷ []) n short)))
-
-pub ticked-sum : (place : ℕ) (counts ages : List ℕ) → place < length counts → ages ≡ behind place counts ++ get_or counts place 0 ∷ []
-    → sum ages ≡ sum (turned place (set counts place 0)) + get_or counts place 0
-ticked-sum place counts ages l e =
-    rw (turned-set place 0 counts l, e) (sum_by_push (λ x. x) (behind place counts) (get_or counts place 0))
 
 -- as many seconds as before
 pub length-turned : (place : ℕ) (counts : List ℕ) → place < length counts → length (turned place counts) ≡ length counts

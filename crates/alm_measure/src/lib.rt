@@ -14,8 +14,8 @@
 //! | `moments(alarm)`, `chattering(out)` | the last three moments of an alarm; the alarms with three annunciations within the last minute |
 //!
 //! What is used above: a measure is one value, its `Metrics` (specs/Metrics), and each call says what it makes of them. That
-//! they are those counted from scratch, from the list of all annunciations, is the law [`laws::calls_count_anew`]; that they
-//! are those of the plant, after any actions, are the laws beside it.
+//! they are those counted from scratch, from the list of all annunciations, after any calls, is the law
+//! [`laws::calls_are_counted`]; that they are those of the plant, after any actions, are the laws beside it.
 //!
 //! Only `new`, `of` and `copy` take memory. The cost of `annunciated`, `window`, `flood`, `age` and `moments` is the same
 //! however many annunciations or alarms there are; that of `settle` goes with the areas, that of `chattering` with the alarms.

@@ -1,6 +1,6 @@
 //! What is measured of a plant.
 
-ghost use Rattle.std.specs.Prelude.{◌≡◌, ◌+◌, ◌^◌, ◌<◌, ◌≤◌, IfOk, Some, length, map, slice_get, sum, sum_by, vec_capacity, vec_len};
+ghost use Rattle.std.specs.Prelude.{◌≡◌, ◌+◌, ◌^◌, ◌<◌, ◌≤◌, IfOk, Some, length, map, slice_get, sum, sum_by, vec_capacity};
 ghost use Rattle.alm_model.specs.Lists.{moments_in};
 ghost use Rattle.alm_model.specs.Parts.{age_in};
 ghost use Rattle.alm_measure.specs.Metrics.{advanced, annunciated, chattering, new_metrics, settled_by_windows, windows};
@@ -61,8 +61,8 @@ impl Measure {
         })
     }
 
-    /// The measure at a moment, of ages and flood flags by area and the last three moments of each alarm; an error only for
-    /// want of memory.
+    /// The measure at a moment, of ages and flood flags by area and the last moments of each alarm, as many as the table has;
+    /// an error only for want of memory.
     pub fn of(
         alloc: Global,
         table: &Table,
@@ -99,7 +99,10 @@ impl Measure {
         })
     }
 
-    /// An alarm is annunciated now.
+    /// An alarm is annunciated now: one more in its area, and one more moment of its own.
+    ///
+    /// It is an alarm of the table, and the annunciations of the last 600 seconds stay below 2^64. A plant keeps that, since
+    /// each of them took a stamp.
     pub fn annunciated(&mut self, id: AlarmId)
         requires alarm { id.0 < length self.old.areas }
         requires limit { sum_by sum self.old.ages + 1 < 2 ^ 64 }
@@ -111,7 +114,7 @@ impl Measure {
         self.moments[alarm].note(self.clock);
     }
 
-    /// The clock moves to a later moment.
+    /// The clock moves to a later moment, however far.
     pub fn advance(&mut self, now: Moment)
         requires { self.old.now < now }
         ensures { self.new ≡ advanced now self.old }
@@ -121,13 +124,14 @@ impl Measure {
         self.clock = now;
     }
 
-    /// In each area a flood begins where the window is above 10 and ends where it is below 5.
+    /// In each area a flood begins where the window is above 10 and ends where it is below 5; between, it stays as it was.
     pub fn settle(&mut self)
         ensures { self.new ≡ settled_by_windows self.old }
     {
         settle_all(&mut self.floods, &self.rings);
     }
 
+    /// The clock.
     pub fn now(&self) -> Moment
         ensures { result ≡ self.now.now }
     {
@@ -185,7 +189,8 @@ impl Measure {
         self.floods[area as usize]
     }
 
-    /// The vector then holds the alarms with three annunciations within the last minute, by number.
+    /// The vector then holds the alarms with three annunciations or more within the last minute, by number. It has to have room
+    /// for all alarms.
     pub fn chattering(&self, out: &mut Vec<u32>)
         requires room { length self.now.areas ≤ vec_capacity out.old }
         ensures list { out.new.items ≡ chattering self.now }

@@ -1,6 +1,6 @@
 //! Counts of the last 600 seconds.
 
-ghost use Rattle.std.specs.Prelude.{ℕ, ◌+◌, ◌^◌, ◌<◌, ◌≡◌, replicate, slice_index, sum};
+ghost use Rattle.std.specs.Prelude.{◌+◌, ◌^◌, ◌<◌, ◌≡◌, replicate, slice_index, sum};
 ghost use Rattle.alm_model.specs.Keeping.{aged, one_more};
 
 use alm_model::Ages;

@@ -1,6 +1,6 @@
 //! The rings of all areas.
 
-ghost use Rattle.std.specs.Prelude.{ℕ, ◌^◌, ◌<◌, ◌≡◌, All, IfOk, length, map, replicate, sum};
+ghost use Rattle.std.specs.Prelude.{◌^◌, ◌<◌, ◌≡◌, All, IfOk, length, map, replicate, sum};
 ghost use Rattle.alm_model.specs.Keeping.{aged};
 ghost use Rattle.alm_model.specs.Step.{settled};
 
