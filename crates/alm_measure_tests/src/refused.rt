@@ -1,4 +1,4 @@
-//! Want of memory: run with each allocation refused in turn (`rt try --test --fail-alloc N`), this passes.
+//! Want of memory: run with each allocation refused in turn (`rt try --test --fail-alloc N`, N from 1 to 12), this passes.
 
 use crate::tables::table;
 use crate::watched::Watched;
