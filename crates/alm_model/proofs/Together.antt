@@ -57,7 +57,7 @@ ages-later p h t d areas past e =
     rw e (map-same (λ area. aged d (map (of_age p h area) (range_with_len 0 600))) (λ area. map (of_age (record p { now = p.now + d }) h area) (range_with_len 0 600)) 0 areas (λ area k. ages-pass p h d area 600 past)
     ∙ sym (map-map (aged d) (λ area. map (of_age p h area) (range_with_len 0 600)) (range_with_len 0 areas)))
 
-cond-later : (q : Plant) (t : ℕ) → IsPast q.panel.now q.kept → q.panel.now ≤ t → condense (later in_full t q) ≡ later condensed t (condense q)
+pub cond-later : (q : Plant) (t : ℕ) → IsPast q.panel.now q.kept → q.panel.now ≤ t → condense (later in_full t q) ≡ later condensed t (condense q)
 cond-later q t past k =
     let ages = ages-later q.panel q.kept t (t - q.panel.now) (length q.floods) past (omega arith) in
     λ j. record { panel = record q.panel { now = t }; kept = record { ages = ages j; moments = map (λ i. take 3 (moments_of q.kept i)) (range_with_len 0 (length q.panel.attrs)) }; floods = q.floods }
@@ -94,7 +94,7 @@ length-settled (w ∷ ws) [] e = absurd (omega arith)
 length-settled (w ∷ ws) (b ∷ floods) e = let rest = length-settled ws floods (omega arith) in omega arith
 
 -- the floods are settled by the same windows
-cond-settle : (q : Plant) → IsPastPlant q → condense (settle in_full q) ≡ settle condensed (condense q)
+pub cond-settle : (q : Plant) → IsPastPlant q → condense (settle in_full q) ≡ settle condensed (condense q)
 cond-settle q past =
     let areas = length q.floods in
     let windows : map (window_of q.panel q.kept) (range_with_len 0 areas) ≡ map sum (map (λ area. map (of_age q.panel q.kept area) (range_with_len 0 600)) (range_with_len 0 areas)) =
@@ -158,7 +158,7 @@ cond-after q action past h =
     let f = forward q.panel action h in
     cond-settle (acted in_full (counted q) action) (past-acted (counted q) action past f) ∙ ap (settle condensed) (cond-acted (counted q) action past f)
 
-recorded-later : (now t : ℕ) (h : History) → now ≤ t → IsRecorded now h → IsRecorded t h
+pub recorded-later : (now t : ℕ) (h : History) → now ≤ t → IsRecorded now h → IsRecorded t h
 recorded-later now t [] k r = tt
 recorded-later now t (a ∷ h) k r = let early : a.moment ≤ now = r.0 in (omega arith, r.1)
 

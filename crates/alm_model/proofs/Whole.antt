@@ -104,7 +104,7 @@ both (a ∷ attrs) (s ∷ rows) zero l m = refl
 both (a ∷ attrs) (s ∷ rows) (suc i) l m = both attrs rows i (omega arith) (omega arith)
 
 -- the alarms without a test
-all-alarms : (p : Panel) → length p.attrs ≡ length p.rows → alarms (λ a s. true) p.attrs p.rows ≡ range_with_len 0 (length p.rows)
+pub all-alarms : (p : Panel) → length p.attrs ≡ length p.rows → alarms (λ a s. true) p.attrs p.rows ≡ range_with_len 0 (length p.rows)
 all-alarms p e = every (is_one (λ a s. true) p.attrs p.rows) (range_with_len 0 (length p.rows)) (λ x h. (let r = (range-Has x 0 (length p.rows) h).1 in both p.attrs p.rows x (omega arith) (omega arith)))
 
 -- what is measured from the condensed plant is counted

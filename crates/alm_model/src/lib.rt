@@ -36,10 +36,11 @@ mod wanted;
 
 pub use ages::Ages;
 pub use alarms::Alarms;
+pub use floods::is_flood;
 pub use list::List;
 pub use plain_plant::PlainPlant;
 pub use plant_parts::PlantParts;
 pub use queries::look;
-pub use recent::Recent;
+pub use recent::{Recent, copy_moments, no_moments};
 pub use roles::may_ask;
 pub use run::apply_all;

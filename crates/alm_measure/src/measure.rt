@@ -1,0 +1,201 @@
+//! What is measured of a plant.
+
+ghost use Rattle.std.specs.Prelude.{◌≡◌, ◌+◌, ◌^◌, ◌<◌, ◌≤◌, IfOk, Some, length, map, slice_get, sum, sum_by, vec_capacity};
+ghost use Rattle.alm_model.specs.Lists.{moments_in};
+ghost use Rattle.alm_model.specs.Parts.{age_in};
+ghost use Rattle.alm_measure.specs.Metrics.{advanced, annunciated, chattering, new_metrics, settled_by_windows, windows};
+
+use crate::chatter::fill_chattering;
+use crate::ring::Ring;
+use crate::rings::{copy_rings, new_rings, pass_all, rings_of, settle_all};
+use alm_model::{Ages, Recent, copy_moments, no_moments};
+use alm_types::{AlarmId, Attr, Moment, Table};
+use std::alloc::{AllocError, Global};
+use std::marker::Model;
+
+/// The windows, floods and last moments of a plant.
+#[derive(Drop)]
+pub struct Measure {
+    clock: Moment,
+    /// By alarm.
+    areas: Vec<u8>,
+    /// By area, as the flood flags.
+    rings: Vec<Ring>,
+    floods: Vec<bool>,
+    /// The last three of each alarm.
+    moments: Vec<Recent>,
+}
+
+impl Model for Measure {
+    ghost use Rattle.alm_measure.specs.Metrics.{Metrics};
+
+    ghost Value = { Metrics };
+
+    ghost use Rattle.alm_measure.specs.Shown.{IsSound, shown};
+
+    ghost view = { shown };
+
+    ghost invariant = { λ m. IsSound (shown m) };
+}
+
+/// The area of each alarm.
+fn areas_of(alloc: Global, alarms: &[Attr]) -> Result<Vec<u8>, AllocError>
+    ensures { IfOk result (λ areas. areas.items ≡ map (λ a. a.area) alarms.now) }
+{
+    alarms.iter().map(|attr| attr.area).collect(alloc)
+}
+
+impl Measure {
+    /// The measure of a new plant; an error only for want of memory.
+    pub fn new(alloc: Global, table: &Table) -> Result<Self, AllocError>
+        ensures { IfOk result (λ m. m ≡ new_metrics table.now) }
+    {
+        let alarms = table.alarms();
+        let areas = table.areas();
+        Ok(Measure {
+            clock: Moment::start(),
+            areas: areas_of(alloc, alarms)?,
+            rings: new_rings(alloc, areas)?,
+            floods: vec![in alloc; false; areas as usize]?,
+            moments: no_moments(alloc, alarms.len())?,
+        })
+    }
+
+    /// The measure at a moment, of ages and flood flags by area and the last moments of each alarm, as many as the table has;
+    /// an error only for want of memory.
+    pub fn of(
+        alloc: Global,
+        table: &Table,
+        now: Moment,
+        ages: &[Ages],
+        floods: Vec<bool>,
+        moments: Vec<Recent>,
+    ) -> Result<Self, AllocError>
+        requires ages { length ages.now ≡ table.now.areas }
+        requires floods { length floods.items ≡ table.now.areas }
+        requires moments { length moments.items ≡ length table.now.alarms }
+        requires limit { sum_by sum ages.now < 2 ^ 64 }
+        ensures { IfOk result (λ m. m ≡ record { now = now; areas = map (λ a. a.area) table.now.alarms; ages = ages.now; floods = floods.items; moments = moments.items }) }
+    {
+        Ok(Measure {
+            clock: now,
+            areas: areas_of(alloc, table.alarms())?,
+            rings: rings_of(alloc, ages)?,
+            floods,
+            moments,
+        })
+    }
+
+    /// The same measure; an error only for want of memory.
+    pub fn copy(&self, alloc: Global) -> Result<Self, AllocError>
+        ensures { IfOk result (λ m. m ≡ self.now) }
+    {
+        Ok(Measure {
+            clock: self.clock,
+            areas: self.areas.to_vec(alloc)?,
+            rings: copy_rings(alloc, &self.rings)?,
+            floods: self.floods.to_vec(alloc)?,
+            moments: copy_moments(alloc, &self.moments)?,
+        })
+    }
+
+    /// An alarm is annunciated now: one more in its area, and one more moment of its own.
+    ///
+    /// It is an alarm of the table, and the annunciations of the last 600 seconds stay below 2^64. A plant keeps that, since
+    /// each of them took a stamp.
+    pub fn annunciated(&mut self, id: AlarmId)
+        requires alarm { id.0 < length self.old.areas }
+        requires limit { sum_by sum self.old.ages + 1 < 2 ^ 64 }
+        ensures { self.new ≡ annunciated id.0 self.old }
+    {
+        let alarm = id.0 as usize;
+        let area = self.areas[alarm] as usize;
+        self.rings[area].note();
+        self.moments[alarm].note(self.clock);
+    }
+
+    /// The clock moves to a later moment, however far.
+    pub fn advance(&mut self, now: Moment)
+        requires { self.old.now < now }
+        ensures { self.new ≡ advanced now self.old }
+    {
+        let seconds = now.seconds() - self.clock.seconds();
+        pass_all(&mut self.rings, seconds);
+        self.clock = now;
+    }
+
+    /// In each area a flood begins where the window is above 10 and ends where it is below 5; between, it stays as it was.
+    pub fn settle(&mut self)
+        ensures { self.new ≡ settled_by_windows self.old }
+    {
+        settle_all(&mut self.floods, &self.rings);
+    }
+
+    /// The clock.
+    pub fn now(&self) -> Moment
+        ensures { result ≡ self.now.now }
+    {
+        self.clock
+    }
+
+    /// How many alarms there are.
+    pub fn alarms(&self) -> usize
+        ensures alarms { result ≡ length self.now.areas }
+        ensures moments { result ≡ length self.now.moments }
+    {
+        self.areas.len()
+    }
+
+    /// How many areas there are.
+    pub fn areas(&self) -> usize
+        ensures ages { result ≡ length self.now.ages }
+        ensures floods { result ≡ length self.now.floods }
+    {
+        self.rings.len()
+    }
+
+    /// How many annunciations of an area are of an age in seconds.
+    pub fn age(&self, area: u32, age: u32) -> u64
+        requires area { area < length self.now.ages }
+        requires age { age < 600 }
+        ensures { result ≡ age_in age (slice_get self.now.ages area) }
+    {
+        self.rings[area as usize].at(age as usize)
+    }
+
+    /// The last three moments of an alarm, the newest first; none where there is no such alarm.
+    pub fn moments(&self, id: AlarmId) -> &[Moment]
+        ensures { result.now ≡ moments_in (slice_get self.now.moments id.0) }
+    {
+        match self.moments.get(id.0 as usize) {
+            Some(recent) => recent.moments(),
+            None => &[],
+        }
+    }
+
+    /// How many annunciations of an area came within the last 600 seconds.
+    pub fn window(&self, area: u32) -> u64
+        requires { area < length self.now.ages }
+        ensures { slice_get (windows self.now) area ≡ Some result }
+    {
+        self.rings[area as usize].window()
+    }
+
+    /// Whether there is a flood in an area, as of the last time that they were settled.
+    pub fn flood(&self, area: u32) -> bool
+        requires { area < length self.now.floods }
+        ensures { slice_get self.now.floods area ≡ Some result }
+    {
+        self.floods[area as usize]
+    }
+
+    /// The vector then holds the alarms with three annunciations or more within the last minute, by number. It has to have room
+    /// for all alarms.
+    pub fn chattering(&self, out: &mut Vec<u32>)
+        requires room { length self.now.areas ≤ vec_capacity out.old }
+        ensures list { out.new.items ≡ chattering self.now }
+        ensures room { vec_capacity out.old ≤ vec_capacity out.new }
+    {
+        fill_chattering(&self.moments, self.clock, out);
+    }
+}

@@ -1,0 +1,28 @@
+//! Want of memory: run with each allocation refused in turn (`rt try --test --fail-alloc N`, N from 1 to 12), this passes.
+
+use crate::tables::table;
+use crate::watched::Watched;
+use alm_types::Moment;
+use std::test::Fail;
+
+#[test]
+fn a_measure_that_cannot_be_copied_stays_as_it_is(rt: HostRuntime) -> Result<(), Fail> {
+    let Some(table) = table(rt.alloc()) else {
+        return Ok(());
+    };
+    let Ok(mut measure) = Watched::new(rt.alloc(), &table) else {
+        return Ok(());
+    };
+    assert!(rt; measure.advance(Moment::new(1000).ok_or("moment")?));
+    assert!(rt; measure.annunciated(4));
+    if let Ok(mut copy) = measure.copy(rt.alloc()) {
+        assert_eq!(rt; copy.window(2), Some((1, false)));
+        assert_eq!(rt; copy.age(2, 0), Some(1));
+        assert_eq!(rt; copy.moments(4).len(), 1);
+        assert!(rt; copy.annunciated(5));
+        assert_eq!(rt; copy.window(2), Some((2, false)));
+    }
+    assert_eq!(rt; measure.window(2), Some((1, false)));
+    assert_eq!(rt; measure.moments(5).len(), 0);
+    Ok(())
+}
