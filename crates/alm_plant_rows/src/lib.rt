@@ -9,6 +9,8 @@ mod actions;
 #[cfg(test)]
 mod check;
 #[cfg(test)]
+mod refused;
+#[cfg(test)]
 mod rows;
 #[cfg(test)]
 mod stamps;
