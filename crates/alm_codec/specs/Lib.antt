@@ -1,0 +1,4 @@
+pub mod Actions
+pub mod Frames
+pub mod Reading
+pub mod Writing
