@@ -1,5 +1,11 @@
 pub mod Actions
+pub mod Alarms
+pub mod Areas
 pub mod Bytes
+pub mod Formats
 pub mod Frames
+pub mod ImageLaws
+pub mod KeptAlarm
+pub mod Loops
 pub mod Numbers
 pub mod Writing

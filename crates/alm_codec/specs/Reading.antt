@@ -3,8 +3,6 @@ use Rattle.std.specs.Prelude.{◌≡◌, ℕ, ◌-◌, ◌≤◌, Bool, List, []
 use Rattle.std.specs.Int.{Width, byte_len, from_be_bytes}
 use Rattle.alm_codec.specs.declared.left.Left.{Left}
 use Rattle.alm_codec.specs.declared.damage.Damage.{Damage}
-use Rattle.alm_codec.specs.declared.image_fault.ImageFault.{ImageFault}
-use Rattle.alm_codec.specs.declared.image_fault.ImageFault.TheVariants as fault
 use Rattle.alm_codec.specs.declared.stop.Stop.{Stop}
 use Rattle.alm_codec.specs.declared.stop.Stop.TheVariants as stop
 
@@ -46,21 +44,3 @@ Stops (stop.Field left) read = read ≡ Err left.0
 abbrev pub GivesOr : {X Y : Type 0} → (X → Y) → Result X Stop → Result Y ℕ → Type 0
 GivesOr view (Ok x) read = read ≡ Ok (view x)
 GivesOr view (Err e) read = Stops e read
-
--- What a function returned, seen by view, is the value that reading gives; damage is told by its place.
-abbrev pub FaultOf : {Y : Type 0} → List ℕ → ImageFault → Result (Y × List ℕ) ℕ → Type 0
-FaultOf bytes fault.OutOfMemory read = Unit {0}
-FaultOf bytes (fault.Damaged d) read = (left : ℕ) × (read ≡ Err left) × (d.at ≡ length bytes - left)
-
-abbrev pub ReadsOr : {X Y : Type 0} → List ℕ → (X → Y) → Result X ImageFault → Result (Y × List ℕ) ℕ → Type 0
-ReadsOr bytes view (Ok x) read = (rest : List ℕ) × (read ≡ Ok (view x, rest))
-ReadsOr bytes view (Err e) read = FaultOf bytes e read
-
--- What a function returned is a value, unless memory ran out.
-abbrev pub OnlyMemory : ImageFault → Type 0
-OnlyMemory fault.OutOfMemory = Unit {0}
-OnlyMemory (fault.Damaged d) = ⊥
-
-abbrev pub Read : {X Y : Type 0} → (X → Y) → Result X ImageFault → Y → Type 0
-Read view (Ok x) y = view x ≡ y
-Read view (Err e) y = OnlyMemory e
