@@ -9,3 +9,5 @@ pub mod KeptAlarm
 pub mod Loops
 pub mod Numbers
 pub mod Writing
+pub mod WrittenAlarm
+pub mod WrittenImage

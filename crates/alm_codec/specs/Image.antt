@@ -1,5 +1,5 @@
 -- The text of an image: the clock, the next stamp, the areas and the alarms.
-use Rattle.std.specs.Prelude.{◌≡◌, ℕ, ◌+◌, ◌*◌, ◌^◌, ◌<◌, List, [], ◌∷◌, ◌++◌, length, Bool}
+use Rattle.std.specs.Prelude.{◌≡◌, ℕ, ◌+◌, ◌*◌, ◌^◌, ◌<◌, List, [], ◌∷◌, ◌++◌, length, Bool, Option, Some, None}
 use Rattle.std.specs.List.{flat_map}
 use Rattle.std.specs.Int.{w32, w64, to_be_bytes, cast_unsigned}
 use Rattle.alm_types.specs.Texts.{padded}
@@ -40,11 +40,14 @@ area_text flood ages = switch flood ∷ words ages
 abbrev pub placed : ℕ → List ℕ → List ℕ
 placed size text = length text ∷ padded size text
 
--- what is fixed of an alarm
-abbrev pub attr_text : Attr → List ℕ
-attr_text a = kind_code a.kind ∷ a.priority ∷ a.area ∷ switch a.latching ∷ to_be_bytes w64 (cast_unsigned w64 a.setpoint) ++ to_be_bytes w64 a.deadband ++ to_be_bytes w32 a.max_shelve ++ placed 32 a.tag ++ placed 80 a.text
+-- the attributes of an alarm
+abbrev pub settings_text : Attr → List ℕ
+settings_text a = kind_code a.kind ∷ a.priority ∷ a.area ∷ switch a.latching ∷ to_be_bytes w64 (cast_unsigned w64 a.setpoint) ++ to_be_bytes w64 a.deadband ++ to_be_bytes w32 a.max_shelve
 
--- what changes of an alarm, with its last moments
+abbrev pub attr_text : Attr → List ℕ
+attr_text a = settings_text a ++ placed 32 a.tag ++ placed 80 a.text
+
+-- what changes of an alarm, and its last moments
 abbrev pub row_text : State → List ℕ → List ℕ
 row_text s moments = switch s.active ∷ core_code s.core ∷ flags_of s ∷ length moments ∷ to_be_bytes w64 (deadline s) ++ to_be_bytes w64 s.stamp ++ words (padded 3 moments)
 
@@ -55,6 +58,15 @@ area_texts _ _ = []
 abbrev pub alarm_texts : List Attr → List State → List (List ℕ) → List ℕ
 alarm_texts (a ∷ attrs) (s ∷ rows) (ms ∷ moments) = attr_text a ++ row_text s ms ++ alarm_texts attrs rows moments
 alarm_texts _ _ _ = []
+
+-- one area of a plant, one alarm of it
+abbrev pub area_text_of : Option Bool → Option (List ℕ) → List ℕ
+area_text_of (Some flood) (Some ages) = area_text flood ages
+area_text_of _ _ = []
+
+abbrev pub alarm_text_of : Option Attr → Option State → Option (List ℕ) → List ℕ
+alarm_text_of (Some a) (Some s) (Some moments) = attr_text a ++ row_text s moments
+alarm_text_of _ _ _ = []
 
 abbrev pub image_text : Condensed → List ℕ
 image_text q = to_be_bytes w64 q.panel.now ++ to_be_bytes w64 q.panel.next_stamp ++ area_texts q.floods q.kept.ages ++ alarm_texts q.panel.attrs q.panel.rows q.kept.moments

@@ -1,7 +1,7 @@
 //! Numbers as bytes, the highest first.
 
-ghost use Rattle.std.specs.Prelude.{◌≡◌, ◌+◌, ◌≤◌, List, ℕ, length, take, drop, IfOk};
-ghost use Rattle.std.specs.Int.{w16, w32, w64, from_be_bytes};
+ghost use Rattle.std.specs.Prelude.{◌≡◌, ◌+◌, ◌-◌, ◌≤◌, List, ℕ, length, take, drop, replicate, IfOk};
+ghost use Rattle.std.specs.Int.{w16, w32, w64, from_be_bytes, to_be_bytes};
 ghost use Rattle.alm_codec.specs.Reading.{Gives, byte_at, number_at};
 ghost use Rattle.alm_codec.specs.Writing.{Wrote};
 
@@ -64,4 +64,22 @@ pub fn put(out: &mut [u8], at: usize, bytes: &[u8]) -> usize
     let end = at + bytes.len();
     out[at..end].copy_from_slice(bytes);
     end
+}
+
+/// Writes a number of 64 bits at a place, and says where it ends.
+pub fn put_word(out: &mut [u8], at: usize, word: u64) -> usize
+    requires { at + 8 ≤ length out.old }
+    ensures end { result ≡ at + 8 }
+    ensures text { Wrote out.old out.new at result (to_be_bytes w64 word) }
+{
+    put(out, at, &word.to_be_bytes())
+}
+
+/// Writes zeros up to a place.
+pub fn put_zeros(out: &mut [u8], at: usize, end: usize)
+    requires order { at ≤ end }
+    requires room { end ≤ length out.old }
+    ensures text { Wrote out.old out.new at end (replicate (end - at) 0) }
+{
+    out[at..end].fill(0);
 }

@@ -2,20 +2,22 @@
 #![tactic(auto)]
 
 mod action;
-mod damage;
 mod alarm_lists;
 mod alarm_parts;
+mod alarm_writer;
 mod area_lists;
 mod area_parts;
+mod area_writer;
+mod damage;
 mod fields;
 mod fixed;
 mod flags;
 mod frame;
 mod image_fault;
 mod image_reader;
+mod image_writer;
 pub mod laws;
 mod left;
-
 mod state;
 mod stop;
 
@@ -24,3 +26,4 @@ pub use damage::Damage;
 pub use frame::{MOST_ACTIONS, read_frame, write_frame_body};
 pub use image_fault::ImageFault;
 pub use image_reader::read_image;
+pub use image_writer::write_image;
