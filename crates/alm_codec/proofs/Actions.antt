@@ -26,7 +26,7 @@ text_again kind alarm argument small fits =
 limited_again : (v : ℤ) → IsReading v → limited v ≡ Some v
 limited_again v h = grind (arith, ints)
 
-reading_again : (v : ℤ) → IsReading v → reading_at (of_z w64 v) ≡ Some v
+pub reading_again : (v : ℤ) → IsReading v → reading_at (of_z w64 v) ≡ Some v
 reading_again v h =
     let fits : FitsSigned w64 v = omega (arith, ints) in
     ap limited (to_z-of_z w64 v fits) ∙ limited_again v h
@@ -43,7 +43,7 @@ meaning_again (Oos i false) h = refl
 meaning_again (Design i true) h = refl
 meaning_again (Design i false) h = refl
 
-word_fits : (v : ℤ) → IsReading v → of_z w64 v < 2 ^ 64
+pub word_fits : (v : ℤ) → IsReading v → of_z w64 v < 2 ^ 64
 word_fits (pos n) h = omega (arith, ints)
 word_fits (negsuc n) h = omega (arith, ints)
 

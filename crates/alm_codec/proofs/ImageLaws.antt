@@ -181,7 +181,7 @@ moments_back kept now (a ∷ b ∷ c ∷ d ∷ ns) ms h e = absurd h.1.1.1
 moments_lawful : (kept now : ℕ) → Lawful (moments kept now)
 moments_lawful kept now = coded_lawful (moment_fields kept now) (λ ns. Some (take kept ns)) (padded 3) (moment_fields_lawful kept now) (λ ns ms h e. moments_back kept now ns ms h (same_Some (take kept ns) ms e))
 
-each_length : {S A : Type 0} (f : S → Format A) (next : S → A → S) (s : S) (n : ℕ) (list : List A) → KeepEach f next s n list → length list ≡ n
+pub each_length : {S A : Type 0} (f : S → Format A) (next : S → A → S) (s : S) (n : ℕ) (list : List A) → KeepEach f next s n list → length list ≡ n
 each_length f next s zero [] h = refl
 each_length f next s zero (a ∷ list) h = absurd h
 each_length f next s (suc n) [] h = absurd h

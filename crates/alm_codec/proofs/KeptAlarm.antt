@@ -29,7 +29,7 @@ pub record Facts (now next areas : ℕ) (seen : List ℕ) (x : Alarm) : Type 0 w
   pub few : length x.moments ≤ 3
   pub annunciated : is_annunciated x.state.core ≡ true → 0 < length x.moments
 
-passes : {A : Type 0} (f : Format A) (test : A → Bool) (n : A) → (tested f test).Keeps n → test n ≡ true
+pub passes : {A : Type 0} (f : Format A) (test : A → Bool) (n : A) → (tested f test).Keeps n → test n ≡ true
 passes f test n h = (cond_some (test n) n n h.1).0
 
 core_suits : (latching : Bool) (c : Core) → core_at latching (core_code c) ≡ Some c → IsTrue (suits latching c)

@@ -11,3 +11,8 @@ pub mod Numbers
 pub mod Writing
 pub mod WrittenAlarm
 pub mod WrittenImage
+pub mod Seen
+pub mod Spelled
+pub mod KeptImage
+pub mod KeepImage
+pub mod SameImage

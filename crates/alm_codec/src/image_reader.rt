@@ -1,12 +1,13 @@
 //! Reading an image.
 
 ghost use Rattle.std.specs.Prelude.{◌≡◌, ◌≤◌, ◌*◌, ◌+◌, ◌&&◌, length, nat_lt, nat_le, IfOk};
+ghost use Rattle.alm_model.specs.Plant.{Condensed};
 ghost use Rattle.alm_model.specs.Parts.{plant_of};
 ghost use Rattle.alm_codec.specs.Reading.{Gives, GivesOr};
 ghost use Rattle.alm_codec.specs.Format.{tested};
-ghost use Rattle.alm_codec.specs.Image.{IsOf};
+ghost use Rattle.alm_codec.specs.Image.{IsImage, IsOf};
 ghost use Rattle.alm_codec.specs.ImageFields.{u64, moment, next_stamp, image, image_in, damage_in};
-ghost use Rattle.alm_codec.specs.Faults.{IsDamagedAt};
+ghost use Rattle.alm_codec.specs.Faults.{IsDamagedAt, IsReadAs};
 
 use crate::alarm_lists::alarms_of;
 use crate::area_lists::areas_of;
@@ -94,7 +95,11 @@ pub fn read_image(
 ) -> Result<PlantParts, ImageFault>
     requires rows { (1 ≤ rows) × (rows ≤ 16384) }
     requires areas { (1 ≤ areas) × (areas ≤ 64) }
+    // What is read is the plant of that image; it can be built.
+    ensures found { IfOk result (λ p. IsImage (plant_of p) bytes.now) }
     ensures sizes { IfOk result (λ p. IsOf rows areas count (plant_of p)) }
+    // The image of a plant is read as that plant, unless memory runs out.
+    ensures only { (q : Condensed) → IsOf rows areas count q → IsImage q bytes.now → IsReadAs result q }
     // Damage is told at the first field that breaks a rule, and only there.
     ensures damage { IsDamagedAt result (damage_in rows areas count bytes.now) }
 {
