@@ -1,0 +1,116 @@
+//! The largest image, written and read, timed. Each line: what was done, and a sum over it; on standard error nanoseconds too.
+//!
+//! `bench/codec/run.sh` runs it beside a loop in C that copies and sums as many bytes.
+#![tactic(auto)]
+
+use alm_codec::{read_image, write_image};
+use alm_model::{Alarms, List, PlainPlant};
+use alm_types::{Action, AlarmId, Attr, Kind, Reading, Settings, Table};
+use anyhow::{Result, anyhow};
+use std::alloc::Global;
+use std::rt::Clock;
+use std::time::Instant;
+
+const ROWS: u32 = 16_384;
+
+const IMAGE: usize = 3_289_168;
+
+const ROUNDS: u32 = 50;
+
+/// The largest table, its alarms spread over 64 areas.
+fn table(alloc: Global) -> Result<Table> {
+    let mut alarms = Vec::with_capacity(alloc, ROWS as usize)?;
+    for number in 0..ROWS {
+        let settings = Settings {
+            kind: Kind::High,
+            setpoint: 1,
+            deadband: 0,
+            priority: 1,
+            area: (number % 64) as u8,
+            latching: false,
+            max_shelve: 604_800,
+        };
+        let Ok(attr) = Attr::new(settings, b"TI-101", b"the temperature is high") else {
+            return Err(anyhow!("attributes"));
+        };
+        alarms.push(attr)?;
+    }
+    Table::new(alarms, 64).map_err(|_| anyhow!("table"))
+}
+
+/// A plant in which every alarm is annunciated.
+fn plant(alloc: Global) -> Result<PlainPlant> {
+    let mut plant = PlainPlant::new(alloc, &table(alloc)?)?;
+    let Some(high) = Reading::new(1) else {
+        return Err(anyhow!("reading"));
+    };
+    for number in 0..ROWS {
+        let action = Action::Value(AlarmId(number), high);
+        if plant.admits(&action).is_ok() {
+            plant.apply(&action);
+        }
+    }
+    Ok(plant)
+}
+
+/// Writes the image of a plant of 64 areas, where there is room for it.
+fn write(plant: &PlainPlant, out: &mut [u8]) -> bool {
+    if plant.alarms() > ROWS as usize || out.len() < IMAGE {
+        return false;
+    }
+    if plant.has_list(List::Area(64)) || !plant.has_list(List::Area(63)) {
+        return false;
+    }
+    write_image(plant, 64, out);
+    true
+}
+
+/// A sum over the bytes.
+fn sum(bytes: &[u8]) -> u64 {
+    let mut sum = 0u64;
+    for byte in bytes {
+        sum = sum.wrapping_add(*byte as u64);
+    }
+    sum
+}
+
+/// Writes the image so often.
+fn write_again(plant: &PlainPlant, out: &mut [u8]) -> u64 {
+    let mut written = 0u64;
+    for _round in 0..ROUNDS {
+        written = written.wrapping_add(write(plant, out) as u64);
+    }
+    written
+}
+
+/// Reads the image so often.
+fn read_again(alloc: Global, bytes: &[u8]) -> u64 {
+    let mut stamps = 0u64;
+    for _round in 0..ROUNDS {
+        if let Ok(parts) = read_image(alloc, bytes, ROWS, 64, ROWS as u64) {
+            stamps = stamps.wrapping_add(parts.next_stamp);
+        }
+    }
+    stamps
+}
+
+/// Writes a sum, and to standard error the time with it.
+fn report(rt: &(impl Print + Eprint), name: &str, sum: u64, took: u128) -> Result<()> {
+    println!(rt; "{name} {sum}")?;
+    eprintln!(rt; "{name} {sum} {took}")?;
+    Ok(())
+}
+
+fn main(rt: HostRuntime) -> Result<()> {
+    let alloc = rt.alloc();
+    let plant = plant(alloc)?;
+    let mut bytes = vec![in alloc; 0u8; IMAGE]?;
+    let start = Instant::now(&rt)?;
+    let written = write_again(&plant, &mut bytes);
+    let took = start.elapsed(&rt)?.as_nanos();
+    report(&rt, "write", written.wrapping_add(sum(&bytes)), took)?;
+    let start = Instant::now(&rt)?;
+    let stamps = read_again(alloc, &bytes);
+    let took = start.elapsed(&rt)?.as_nanos();
+    report(&rt, "read", stamps, took)
+}
