@@ -4,7 +4,7 @@
 //! |---|---|
 //! | `actions` | the texts of actions, and bytes that are none |
 //! | `frames` | written frames, and the place of each damage |
-//! | `images` | worked images, each byte of one changed, and the largest |
+//! | `images` | worked images, and bytes of one changed |
 //! | `damages` | each field of an image at its limits and beyond, with the place of the damage |
 //!
 //! They stand in a crate of their own, since a crate with tests is proved twice.

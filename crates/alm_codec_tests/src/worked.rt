@@ -1,8 +1,12 @@
 //! A worked plant of four alarms in two areas, and its image.
 
+ghost use Rattle.std.specs.Prelude.{IfOk};
+ghost use Rattle.alm_model.specs.Rules.{KeepsRules, IsTimely};
+
 use alm_codec::write_image;
-use alm_model::{Alarms, List, PlainPlant};
-use alm_types::{Action, AlarmId, Attr, Kind, Moment, Reading, Settings, Table};
+use alm_model::laws::rules::step_keeps_rules;
+use alm_model::{Alarms, List, PlainPlant, PlantParts};
+use alm_types::{Action, AlarmId, Attr, Kind, Moment, Reading, Refusal, Settings, Table};
 use std::alloc::Global;
 use std::test::Fail;
 
@@ -19,20 +23,59 @@ fn alarm(kind: Kind, setpoint: i64, deadband: u64, area: u8, max_shelve: u32) ->
     }
 }
 
+/// The new plant of a table.
+pub fn start(alloc: Global, table: &Table) -> Result<PlainPlant, Fail>
+    ensures { IfOk result (λ p. KeepsRules p) }
+{
+    let parts = PlantParts::new(alloc, table)?;
+    let plant = PlainPlant::build(alloc, parts)?;
+    Ok(plant)
+}
+
 /// The plant without annunciations.
-pub fn new_plant(alloc: Global) -> Result<PlainPlant, Fail> {
+pub fn new_plant(alloc: Global) -> Result<PlainPlant, Fail>
+    ensures { IfOk result (λ p. KeepsRules p) }
+{
     let mut alarms = Vec::new(alloc);
     alarms.push(Attr::new(alarm(Kind::High, 800, 10, 0, 3600), b"TI-101", b"")?)?;
     alarms.push(Attr::new(alarm(Kind::Low, 100, 5, 0, 3600), b"PI-102", b"")?)?;
     alarms.push(Attr::new(alarm(Kind::Discrete, 1, 0, 1, 0), b"XS-201", b"")?)?;
     alarms.push(Attr::new(alarm(Kind::High, 50, 0, 1, 0), b"LI-202", b"")?)?;
-    Ok(PlainPlant::new(alloc, &Table::new(alarms, 2)?)?)
+    start(alloc, &Table::new(alarms, 2)?)
 }
 
-pub fn act(plant: &mut PlainPlant, action: Action) -> Result<(), Fail> {
-    plant.admits(&action)?;
-    plant.apply(&action);
-    Ok(())
+/// A moment is below its limit.
+fn know_moment(action: &Action)
+    ensures { IsTimely action.now }
+{
+    match action {
+        Action::Clock(moment) => {
+            moment.seconds();
+        }
+        Action::Value(..)
+        | Action::Ack(_)
+        | Action::Reset(_)
+        | Action::Shelve(..)
+        | Action::Unshelve(_)
+        | Action::Oos(..)
+        | Action::Design(..) => {}
+    }
+}
+
+/// Does an action, or says why it is refused.
+pub fn act(plant: &mut PlainPlant, action: Action) -> Result<(), Refusal>
+    requires { KeepsRules plant.old }
+    ensures { KeepsRules plant.new }
+{
+    match plant.admits(&action) {
+        Ok(()) => {
+            know_moment(&action);
+            step_keeps_rules();
+            plant.apply(&action);
+            Ok(())
+        }
+        Err(refusal) => Err(refusal),
+    }
 }
 
 pub fn clock(seconds: u64) -> Result<Action, Fail> {
@@ -44,7 +87,9 @@ pub fn value(alarm: u32, value: i64) -> Result<Action, Fail> {
 }
 
 /// The image of a plant of so many areas.
-pub fn image(alloc: Global, plant: &PlainPlant, areas: u8) -> Result<Vec<u8>, Fail> {
+pub fn image(alloc: Global, plant: &PlainPlant, areas: u8) -> Result<Vec<u8>, Fail>
+    requires { KeepsRules plant.now }
+{
     let next = List::Area(areas as u32);
     if areas == 0 || areas > 64 || plant.has_list(next) || plant.alarms() > 16_384 {
         return Err("size".into());
