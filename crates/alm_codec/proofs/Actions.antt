@@ -90,9 +90,9 @@ either_takes kind alarm argument f a m e =
     elim (chosen (eqb argument 0) (Some (f false)) (cond (eqb argument 1) (Some (f true)) None) (Some a) e) [
       | inl (t, s) ↦ subst (λ (n : ℕ). Means kind alarm n a) (sym (eqb-true argument 0 t)) (subst (Means kind alarm 0) (same_Some (f false) a s) (m false))
       | inr (t, s) ↦ elim (chosen (eqb argument 1) (Some (f true)) None (Some a) s) [
-          | inl (u, r) ↦ subst (λ (n : ℕ). Means kind alarm n a) (sym (eqb-true argument 1 u)) (subst (Means kind alarm 1) (same_Some (f true) a r) (m true))
-          | inr (u, r) ↦ absurd (none-some a r)
-        ]
+        | inl (u, r) ↦ subst (λ (n : ℕ). Means kind alarm n a) (sym (eqb-true argument 1 u)) (subst (Means kind alarm 1) (same_Some (f true) a r) (m true))
+        | inr (u, r) ↦ absurd (none-some a r)
+      ]
     ]
 
 pub limited_takes : (z v : ℤ) → limited z ≡ Some v → (z ≡ v) × IsReading v
@@ -103,7 +103,7 @@ reading_takes alarm word a small fits None is e = absurd (none-some a e)
 reading_takes alarm word a small fits (Some v) is e =
     let t = limited_takes (to_z w64 word) v is in
     subst (Means 2 alarm word) (same_Some (Value (record { 0 = alarm }) v) a e)
-      (record { limits = record { alarm = small; argument = t.1 }; kind_is = refl; alarm_is = refl; argument_is = sym (of_z-to_z w64 word fits) ∙ ap (of_z w64) t.0 })
+    (record { limits = record { alarm = small; argument = t.1 }; kind_is = refl; alarm_is = refl; argument_is = sym (of_z-to_z w64 word fits) ∙ ap (of_z w64) t.0 })
 
 clock_takes : (alarm argument : ℕ) (a : Action) → cond (eqb alarm 0 && ltb argument (2 ^ 40)) (Some (Clock argument)) None ≡ Some a → Means 1 alarm argument a
 clock_takes alarm argument a e =
@@ -128,21 +128,28 @@ meaning_takes kind alarm argument a small fits e =
     elim (chosen (eqb kind 1) _ _ (Some a) e) [
       | inl (t, s) ↦ at 1 t (clock_takes alarm argument a s)
       | inr (t, e) ↦ elim (chosen (eqb kind 2) _ _ (Some a) e) [
-      | inl (t, s) ↦ at 2 t (reading_takes alarm argument a small fits (reading_at argument) refl s)
-      | inr (t, e) ↦ elim (chosen (eqb kind 3) _ _ (Some a) e) [
-      | inl (t, s) ↦ at 3 t (without_takes 3 alarm argument (Ack i) a (record { limits = record { alarm = small; argument = tt }; kind_is = refl; alarm_is = refl; argument_is = refl }) s)
-      | inr (t, e) ↦ elim (chosen (eqb kind 4) _ _ (Some a) e) [
-      | inl (t, s) ↦ at 4 t (without_takes 4 alarm argument (Reset i) a (record { limits = record { alarm = small; argument = tt }; kind_is = refl; alarm_is = refl; argument_is = refl }) s)
-      | inr (t, e) ↦ elim (chosen (eqb kind 5) _ _ (Some a) e) [
-      | inl (t, s) ↦ at 5 t (shelve_takes alarm argument a small s)
-      | inr (t, e) ↦ elim (chosen (eqb kind 6) _ _ (Some a) e) [
-      | inl (t, s) ↦ at 6 t (without_takes 6 alarm argument (Unshelve i) a (record { limits = record { alarm = small; argument = tt }; kind_is = refl; alarm_is = refl; argument_is = refl }) s)
-      | inr (t, e) ↦ elim (chosen (eqb kind 7) _ _ (Some a) e) [
-      | inl (t, s) ↦ at 7 t (either_takes 7 alarm argument (Oos i) a (λ on. record { limits = record { alarm = small; argument = tt }; kind_is = refl; alarm_is = refl; argument_is = refl }) s)
-      | inr (t, e) ↦ elim (chosen (eqb kind 8) _ _ (Some a) e) [
-      | inl (t, s) ↦ at 8 t (either_takes 8 alarm argument (Design i) a (λ on. record { limits = record { alarm = small; argument = tt }; kind_is = refl; alarm_is = refl; argument_is = refl }) s)
-      | inr (t, e) ↦ absurd (none-some a e)
-      ] ] ] ] ] ] ] ]
+        | inl (t, s) ↦ at 2 t (reading_takes alarm argument a small fits (reading_at argument) refl s)
+        | inr (t, e) ↦ elim (chosen (eqb kind 3) _ _ (Some a) e) [
+          | inl (t, s) ↦ at 3 t (without_takes 3 alarm argument (Ack i) a (record { limits = record { alarm = small; argument = tt }; kind_is = refl; alarm_is = refl; argument_is = refl }) s)
+          | inr (t, e) ↦ elim (chosen (eqb kind 4) _ _ (Some a) e) [
+            | inl (t, s) ↦ at 4 t (without_takes 4 alarm argument (Reset i) a (record { limits = record { alarm = small; argument = tt }; kind_is = refl; alarm_is = refl; argument_is = refl }) s)
+            | inr (t, e) ↦ elim (chosen (eqb kind 5) _ _ (Some a) e) [
+              | inl (t, s) ↦ at 5 t (shelve_takes alarm argument a small s)
+              | inr (t, e) ↦ elim (chosen (eqb kind 6) _ _ (Some a) e) [
+                | inl (t, s) ↦ at 6 t (without_takes 6 alarm argument (Unshelve i) a (record { limits = record { alarm = small; argument = tt }; kind_is = refl; alarm_is = refl; argument_is = refl }) s)
+                | inr (t, e) ↦ elim (chosen (eqb kind 7) _ _ (Some a) e) [
+                  | inl (t, s) ↦ at 7 t (either_takes 7 alarm argument (Oos i) a (λ on. record { limits = record { alarm = small; argument = tt }; kind_is = refl; alarm_is = refl; argument_is = refl }) s)
+                  | inr (t, e) ↦ elim (chosen (eqb kind 8) _ _ (Some a) e) [
+                    | inl (t, s) ↦ at 8 t (either_takes 8 alarm argument (Design i) a (λ on. record { limits = record { alarm = small; argument = tt }; kind_is = refl; alarm_is = refl; argument_is = refl }) s)
+                    | inr (t, e) ↦ absurd (none-some a e)
+                  ]
+                ]
+              ]
+            ]
+          ]
+        ]
+      ]
+    ]
 
 both_words : (a b x y : List ℕ) → a ≡ b → x ≡ y → a ++ x ≡ b ++ y
 both_words a b x y e f = ap (λ (t : List ℕ). t ++ x) e ∙ ap (λ (t : List ℕ). b ++ t) f

@@ -29,7 +29,7 @@ under-then bound a b =
       | inl lt ↦ ap (λ o. option_and_then (λ left. under left b) o) (under-none bound a lt) ∙ sym (under-none bound (a + b) (omega arith))
       | inr le ↦ ap (λ o. option_and_then (λ left. under left b) o) (under-some bound a le)
           ∙ elim (cases_lt (bound - a) b) [
-              | inl lt ↦ under-none (bound - a) b lt ∙ sym (under-none bound (a + b) (omega arith))
-              | inr few ↦ under-some (bound - a) b few ∙ ap (λ (n : ℕ). Some n) (omega arith) ∙ sym (under-some bound (a + b) (omega arith))
-            ]
+            | inl lt ↦ under-none (bound - a) b lt ∙ sym (under-none bound (a + b) (omega arith))
+            | inr few ↦ under-some (bound - a) b few ∙ ap (λ (n : ℕ). Some n) (omega arith) ∙ sym (under-some bound (a + b) (omega arith))
+          ]
     ]

@@ -106,7 +106,7 @@ padded_back room test n field text len e =
     let p = and_parts (test (take n field)) (zeros (drop n field)) s.0 in
     let left : length (drop n field) ≡ room - length (take n field) = omega (arith, length-take n field, length-drop n field) in
     subst (λ (t : List ℕ). field ≡ padded room t) s.1
-      (sym (take-append-drop n field) ∙ ap (λ (t : List ℕ). take n field ++ t) (zeros_are (drop n field) p.1 ∙ ap (λ (k : ℕ). replicate k 0) left))
+    (sym (take-append-drop n field) ∙ ap (λ (t : List ℕ). take n field ++ t) (zeros_are (drop n field) p.1 ∙ ap (λ (k : ℕ). replicate k 0) left))
 
 abbrev text_pair : ℕ → ℕ → (List ℕ → Bool) → Format (ℕ × List ℕ)
 text_pair least room test = both (tested byte (λ n. leb least n && leb n room)) (λ n. coded (raw room) (padded_at test n) (padded room))
@@ -114,7 +114,7 @@ text_pair least room test = both (tested byte (λ n. leb least n && leb n room))
 text_pair_lawful : (least room : ℕ) (test : List ℕ → Bool) → Lawful (text_pair least room test)
 text_pair_lawful least room test =
     both_lawful (tested byte (λ n. leb least n && leb n room)) (λ n. coded (raw room) (padded_at test n) (padded room)) (tested_lawful byte (λ n. leb least n && leb n room) byte_lawful)
-      (λ n. coded_lawful (raw room) (padded_at test n) (padded room) (raw_lawful room) (λ field text h e. padded_back room test n field text h e))
+    (λ n. coded_lawful (raw room) (padded_at test n) (padded room) (raw_lawful room) (λ field text h e. padded_back room test n field text h e))
 
 -- the length that is kept is the text's
 kept_length : (least room : ℕ) (test : List ℕ → Bool) (p : ℕ × List ℕ) → (text_pair least room test).Keeps p → p.0 ≡ length p.1
@@ -134,7 +134,7 @@ text_is n a b e f = ap (λ (k : ℕ). (k, a)) e ∙ ap (λ (t : List ℕ). (leng
 text_lawful : (least room : ℕ) (test : List ℕ → Bool) → Lawful (text_in least room test)
 text_lawful least room test =
     coded_lawful (text_pair least room test) (λ p. Some p.1) (λ text. (length text, text)) (text_pair_lawful least room test)
-      (λ p text h e. text_is p.0 p.1 text (kept_length least room test p h) (same_Some p.1 text e))
+    (λ p text h e. text_is p.0 p.1 text (kept_length least room test p h) (same_Some p.1 text e))
 
 -- ---- what is fixed of an alarm
 
@@ -223,7 +223,8 @@ abbrev alarm_of : Parts → Alarm
 alarm_of p = record {
   fixed = p.0;
   state = record { active = p.1.0; core = p.1.1.0; shelved_until = p.1.1.1.1.1.0; by_design = p.1.1.1.0.by_design; out_of_service = p.1.1.1.0.out_of_service; stamp = p.1.1.1.1.1.1.0 };
-  moments = p.1.1.1.1.1.1.1 }
+  moments = p.1.1.1.1.1.1.1;
+}
 
 parts_back : (now next areas : ℕ) (seen : List ℕ) (p : Parts) → (fields_of_alarm now next areas seen).Keeps p → p ≡ parts_of (alarm_of p)
 parts_back now next areas seen p h =
@@ -250,7 +251,7 @@ ages_lawful now = each_lawful (λ j. tested u64 (λ n. leb j now || eqb n 0)) (�
 area_lawful : (now : ℕ) → Lawful (area now)
 area_lawful now =
     coded_lawful (ruled (both flag (λ _. ages now)) (λ p. is_flooded p.0 (sum p.1)) 8) _ _ (ruled_lawful (both flag (λ _. ages now)) (λ p. is_flooded p.0 (sum p.1)) 8 (both_lawful flag (λ _. ages now) flag_lawful (λ _. ages_lawful now)))
-      (λ p a h e. ap (λ (a : Area). (a.flood, a.ages)) (same_Some _ a e))
+    (λ p a h e. ap (λ (a : Area). (a.flood, a.ages)) (same_Some _ a e))
 
 -- ---- an image
 
@@ -263,5 +264,5 @@ alarms_lawful now next areas rows = each_lawful (alarm now next areas) (λ seen 
 pub image_lawful : (rows areas count : ℕ) → Lawful (image rows areas count)
 image_lawful rows areas count =
     coded_lawful (both (tested u64 (λ n. ltb n (2 ^ 40))) (λ now. both (tested u64 (λ n. leb 1 n && leb n (1 + 16384 * count))) (λ next. both (areas_of now next areas) (λ _. each (alarm now next areas) (λ seen a. seen_then seen a.state.stamp) [] rows)))) _ _
-      (both_lawful _ _ (tested_lawful u64 _ u64_lawful) (λ now. both_lawful _ _ (tested_lawful u64 _ u64_lawful) (λ next. both_lawful _ _ (areas_lawful now next areas) (λ _. alarms_lawful now next areas rows))))
-      (λ p i h e. ap (λ (i : Image). (i.now, (i.next_stamp, (i.areas, i.alarms)))) (same_Some _ i e))
+    (both_lawful _ _ (tested_lawful u64 _ u64_lawful) (λ now. both_lawful _ _ (tested_lawful u64 _ u64_lawful) (λ next. both_lawful _ _ (areas_lawful now next areas) (λ _. alarms_lawful now next areas rows))))
+    (λ p i h e. ap (λ (i : Image). (i.now, (i.next_stamp, (i.areas, i.alarms)))) (same_Some _ i e))

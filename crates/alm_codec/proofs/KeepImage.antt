@@ -151,31 +151,65 @@ tag_least tag h = leb-true 1 (length tag) (and_parts (leb 1 (length tag)) (leb (
 -- ---- an alarm
 
 fixed_keeps : (areas : ℕ) (a : Attr) → areas ≤ 64 → a.area < areas → (fixed areas).Keeps (fixed_in a)
-fixed_keeps areas a few there =
-    ((kind_keeps a.kind,
-      (pass byte (λ n. leb 1 n && leb n 4) a.priority (omega (arith, a.priority_limits.1)) (both_true (leb 1 a.priority) (leb a.priority 4) (le-leb 1 a.priority a.priority_limits.0) (le-leb a.priority 4 a.priority_limits.1)),
-      (pass byte (λ n. ltb n areas) a.area (omega (arith, few, there)) (lt-ltb a.area areas there),
-      (flag_keeps a.latching,
-      ((word_fits a.setpoint (a.setpoint_low, a.setpoint_high), reading_again a.setpoint (a.setpoint_low, a.setpoint_high)),
-      (pass u64 (is_deadband a.kind) a.deadband (deadband_fits a.kind a.deadband a.deadband_limit) (le-leb a.deadband (deadband_limit a.kind) a.deadband_limit),
-      (pass u32 (λ n. leb n 604800) a.max_shelve (omega (arith, a.max_shelve_limit)) (le-leb a.max_shelve 604800 a.max_shelve_limit),
-      (text_keeps 1 32 is_tag a.tag (omega arith) (tag_least a.tag a.tag_limits) (length-tag a.tag a.tag_limits) a.tag_limits,
-       text_keeps 0 80 is_text a.text (omega arith) (omega arith) (length-text a.text a.text_limits) a.text_limits)))))))), refl)
+fixed_keeps areas a few there = (
+  (
+    kind_keeps a.kind,
+    (
+      pass byte (λ n. leb 1 n && leb n 4) a.priority (omega (arith, a.priority_limits.1)) (both_true (leb 1 a.priority) (leb a.priority 4) (le-leb 1 a.priority a.priority_limits.0) (le-leb a.priority 4 a.priority_limits.1)),
+      (
+        pass byte (λ n. ltb n areas) a.area (omega (arith, few, there)) (lt-ltb a.area areas there),
+        (
+          flag_keeps a.latching,
+          (
+            (word_fits a.setpoint (a.setpoint_low, a.setpoint_high), reading_again a.setpoint (a.setpoint_low, a.setpoint_high)),
+            (
+              pass u64 (is_deadband a.kind) a.deadband (deadband_fits a.kind a.deadband a.deadband_limit) (le-leb a.deadband (deadband_limit a.kind) a.deadband_limit),
+              (
+                pass u32 (λ n. leb n 604800) a.max_shelve (omega (arith, a.max_shelve_limit)) (le-leb a.max_shelve 604800 a.max_shelve_limit),
+                (
+                  text_keeps 1 32 is_tag a.tag (omega arith) (tag_least a.tag a.tag_limits) (length-tag a.tag a.tag_limits) a.tag_limits,
+                  text_keeps 0 80 is_text a.text (omega arith) (omega arith) (length-text a.text a.text_limits) a.text_limits,
+                ),
+              ),
+            ),
+          ),
+        ),
+      ),
+    ),
+  ),
+  refl,
+)
 
 keep_one : (now next areas : ℕ) (seen : List ℕ) (a : Attr) (s : State) (ms : List ℕ) → now < 2 ^ 40 → next < 2 ^ 64 → areas ≤ 64 → a.area < areas → IsAlarm now next a s ms → (0 < s.stamp → stands_in s.stamp seen ≡ false)
     → (alarm now next areas seen).Keeps (alarm_from a s ms)
 keep_one now next areas seen a s ms small fits few there h fresh =
     let stamped : Bool = is_annunciated s.core || is_some s.shelved_until in
     let set : Flags = flags_from (is_some s.shelved_until) s.by_design s.out_of_service in
-    let n : ℕ = length ms in
-    ((fixed_keeps areas a few there,
-      (flag_keeps s.active,
-      (core_keeps a.latching s.core h.suits,
-      (pass (coded byte flags_in flags_code) (is_flagged s.active s.core) set (flags_byte (is_some s.shelved_until) s.by_design s.out_of_service) (flag_rule_holds (is_suppressed s) s.active s.core h.state.suppressed h.state.active),
-      (pass byte (λ n. leb n 3 && (not (is_annunciated s.core) || ltb 0 n)) n (omega (arith, h.few)) (both_true (leb n 3) (not (is_annunciated s.core) || ltb 0 n) (le-leb n 3 h.few) (kept_holds s.core n h.annunciated)),
-      (deadline_keeps now a.max_shelve s.shelved_until small a.max_shelve_limit h.deadline,
-      (pass u64 (is_stamp next seen stamped) s.stamp (omega (arith, h.stamp, fits)) (stamp_holds next seen stamped s.stamp h.state.stamped h.stamp fresh),
-       moments_keep now ms small h.few h.moments))))))), refl)
+    let n : ℕ = length ms in (
+      (
+        fixed_keeps areas a few there,
+        (
+          flag_keeps s.active,
+          (
+            core_keeps a.latching s.core h.suits,
+            (
+              pass (coded byte flags_in flags_code) (is_flagged s.active s.core) set (flags_byte (is_some s.shelved_until) s.by_design s.out_of_service) (flag_rule_holds (is_suppressed s) s.active s.core h.state.suppressed h.state.active),
+              (
+                pass byte (λ n. leb n 3 && (not (is_annunciated s.core) || ltb 0 n)) n (omega (arith, h.few)) (both_true (leb n 3) (not (is_annunciated s.core) || ltb 0 n) (le-leb n 3 h.few) (kept_holds s.core n h.annunciated)),
+                (
+                  deadline_keeps now a.max_shelve s.shelved_until small a.max_shelve_limit h.deadline,
+                  (
+                    pass u64 (is_stamp next seen stamped) s.stamp (omega (arith, h.stamp, fits)) (stamp_holds next seen stamped s.stamp h.state.stamped h.stamp fresh),
+                    moments_keep now ms small h.few h.moments,
+                  ),
+                ),
+              ),
+            ),
+          ),
+        ),
+      ),
+      refl,
+    )
 
 -- ---- areas
 
@@ -219,11 +253,12 @@ alarms_keep now next areas seen [] [] moments small fits few e f there one fresh
 alarms_keep now next areas seen [] (s ∷ rows) moments small fits few e f there one fresh distinct = absurd (omega (arith, e))
 alarms_keep now next areas seen (a ∷ attrs) [] moments small fits few e f there one fresh distinct = absurd (omega (arith, e))
 alarms_keep now next areas seen (a ∷ attrs) (s ∷ rows) [] small fits few e f there one fresh distinct = absurd (omega (arith, f))
-alarms_keep now next areas seen (a ∷ attrs) (s ∷ rows) (ms ∷ moments) small fits few e f there one fresh distinct =
-    (keep_one now next areas seen a s ms small fits few (there 0 a refl) (one 0 a s ms refl refl refl) (fresh 0),
-     alarms_keep now next areas (seen_then seen s.stamp) attrs rows moments small fits few (omega (arith, e)) (omega (arith, f)) (λ i. there (suc i)) (λ i. one (suc i))
-       (λ i lt. then-misses (stamp_at rows i) s.stamp seen (λ some same. first_is_other i (distinct (suc i) 0 lt same)) (fresh (suc i) lt))
-       (λ i j lt same. one_less i j (distinct (suc i) (suc j) lt same)))
+alarms_keep now next areas seen (a ∷ attrs) (s ∷ rows) (ms ∷ moments) small fits few e f there one fresh distinct = (
+  keep_one now next areas seen a s ms small fits few (there 0 a refl) (one 0 a s ms refl refl refl) (fresh 0),
+  alarms_keep now next areas (seen_then seen s.stamp) attrs rows moments small fits few (omega (arith, e)) (omega (arith, f)) (λ i. there (suc i)) (λ i. one (suc i))
+      (λ i lt. then-misses (stamp_at rows i) s.stamp seen (λ some same. first_is_other i (distinct (suc i) 0 lt same)) (fresh (suc i) lt))
+      (λ i j lt same. one_less i j (distinct (suc i) (suc j) lt same)),
+)
 
 -- ---- an image
 
@@ -237,11 +272,17 @@ image_keeps rows areas count q bytes of h =
     let few : areas ≤ 64 = omega (arith, r.areas.1, of.by_areas) in
     let area_of : (i : ℕ) (a : Attr) → slice_get p.attrs i ≡ Some a → a.area < areas = λ i a e. subst (λ (n : ℕ). a.area < n) of.by_areas (all_at (λ a. a.area < length q.floods) p.attrs r.in_areas i a e) in
     let by_area = subst (λ (n : ℕ). KeepEach {S = ℕ} (λ _. area p.now) (λ s _. s) 0 n (areas_in q.floods q.kept.ages)) of.by_areas
-      (areas_keep p.now q.floods q.kept.ages r.measured (all_at (IsAges p.now) q.kept.ages r.ages) r.floods (omega (arith, r.annunciations, h.fits))) in
+    (areas_keep p.now q.floods q.kept.ages r.measured (all_at (IsAges p.now) q.kept.ages r.ages) r.floods (omega (arith, r.annunciations, h.fits))) in
     let by_alarm = subst (λ (n : ℕ). KeepEach (alarm p.now p.next_stamp areas) (λ seen a. seen_then seen a.state.stamp) [] n (alarms_in p.attrs p.rows q.kept.moments)) of.by_rows
-      (alarms_keep p.now p.next_stamp areas [] p.attrs p.rows q.kept.moments r.now h.fits few r.attrs r.recent area_of r.alarms (λ i lt. refl) r.distinct) in
+    (alarms_keep p.now p.next_stamp areas [] p.attrs p.rows q.kept.moments r.now h.fits few r.attrs r.recent area_of r.alarms (λ i lt. refl) r.distinct) in
     let total : ltb (all_ages (areas_in q.floods q.kept.ages)) p.next_stamp ≡ true = lt-ltb (all_ages (areas_in q.floods q.kept.ages)) p.next_stamp (omega (arith, areas_total q.floods q.kept.ages r.measured, r.annunciations)) in
-    let stamps : p.next_stamp ≤ 1 + 16384 * count = subst (λ (n : ℕ). p.next_stamp ≤ 1 + 16384 * n) of.by_count r.stamps in
-    ((pass u64 (λ n. ltb n (2 ^ 40)) p.now (omega (arith, r.now)) (lt-ltb p.now (2 ^ 40) r.now),
-      (pass u64 (λ n. leb 1 n && leb n (1 + 16384 * count)) p.next_stamp h.fits (both_true (leb 1 p.next_stamp) (leb p.next_stamp (1 + 16384 * count)) (le-leb 1 p.next_stamp r.first_stamp) (le-leb p.next_stamp (1 + 16384 * count) stamps)),
-      ((by_area, total), by_alarm))), refl)
+    let stamps : p.next_stamp ≤ 1 + 16384 * count = subst (λ (n : ℕ). p.next_stamp ≤ 1 + 16384 * n) of.by_count r.stamps in (
+      (
+        pass u64 (λ n. ltb n (2 ^ 40)) p.now (omega (arith, r.now)) (lt-ltb p.now (2 ^ 40) r.now),
+        (
+          pass u64 (λ n. leb 1 n && leb n (1 + 16384 * count)) p.next_stamp h.fits (both_true (leb 1 p.next_stamp) (leb p.next_stamp (1 + 16384 * count)) (le-leb 1 p.next_stamp r.first_stamp) (le-leb p.next_stamp (1 + 16384 * count) stamps)),
+          ((by_area, total), by_alarm),
+        ),
+      ),
+      refl,
+    )

@@ -148,21 +148,23 @@ rules_kept rows areas count q r a of attrs moments ages h =
     let next = and_parts (leb 1 p.next_stamp) (leb p.next_stamp (1 + 16384 * count)) (passes u64 (λ n. leb 1 n && leb n (1 + 16384 * count)) p.next_stamp keeps.1.0) in
     let some : 1 ≤ p.next_stamp = leb-true 1 p.next_stamp next.0 in
     let by_area = areas_kept p.now areas q.floods q.kept.ages (omega (arith, of.by_areas, ages)) keeps.1.1.0.0 in
-    let by_alarm = alarms_kept p.now p.next_stamp areas rows [] p.attrs p.rows q.kept.moments some (omega (arith, of.by_rows, attrs)) (omega (arith, of.by_rows, moments)) keeps.1.1.1 in
-    (record {
-      some = omega (arith, r.0, of.by_rows);
-      few = omega (arith, r.1, of.by_rows);
-      attrs = omega (arith, of.by_rows, attrs);
-      recent = omega (arith, of.by_rows, moments);
-      areas = (omega (arith, a.0, of.by_areas), omega (arith, a.1, of.by_areas));
-      measured = omega (arith, of.by_areas, ages);
-      now = ltb-true p.now (2 ^ 40) (passes u64 (λ n. ltb n (2 ^ 40)) p.now keeps.0);
-      first_stamp = some;
-      stamps = subst (λ (n : ℕ). p.next_stamp ≤ 1 + 16384 * n) (sym of.by_count) (leb-true p.next_stamp (1 + 16384 * count) next.1);
-      ages = by_area.ages;
-      annunciations = subst (λ (n : ℕ). n < p.next_stamp) by_area.all (ltb-true (all_ages (areas_in q.floods q.kept.ages)) p.next_stamp keeps.1.1.0.1);
-      floods = by_area.floods;
-      in_areas = subst (λ (n : ℕ). All (λ a. a.area < n) p.attrs) (sym of.by_areas) by_alarm.in_areas;
-      alarms = by_alarm.alarms;
-      distinct = by_alarm.distinct;
-    }, keeps.1.0.0)
+    let by_alarm = alarms_kept p.now p.next_stamp areas rows [] p.attrs p.rows q.kept.moments some (omega (arith, of.by_rows, attrs)) (omega (arith, of.by_rows, moments)) keeps.1.1.1 in (
+      record {
+        some = omega (arith, r.0, of.by_rows);
+        few = omega (arith, r.1, of.by_rows);
+        attrs = omega (arith, of.by_rows, attrs);
+        recent = omega (arith, of.by_rows, moments);
+        areas = (omega (arith, a.0, of.by_areas), omega (arith, a.1, of.by_areas));
+        measured = omega (arith, of.by_areas, ages);
+        now = ltb-true p.now (2 ^ 40) (passes u64 (λ n. ltb n (2 ^ 40)) p.now keeps.0);
+        first_stamp = some;
+        stamps = subst (λ (n : ℕ). p.next_stamp ≤ 1 + 16384 * n) (sym of.by_count) (leb-true p.next_stamp (1 + 16384 * count) next.1);
+        ages = by_area.ages;
+        annunciations = subst (λ (n : ℕ). n < p.next_stamp) by_area.all (ltb-true (all_ages (areas_in q.floods q.kept.ages)) p.next_stamp keeps.1.1.0.1);
+        floods = by_area.floods;
+        in_areas = subst (λ (n : ℕ). All (λ a. a.area < n) p.attrs) (sym of.by_areas) by_alarm.in_areas;
+        alarms = by_alarm.alarms;
+        distinct = by_alarm.distinct;
+      },
+      keeps.1.0.0,
+    )

@@ -20,9 +20,9 @@ unfolding read_each
 goes_on f next front s count i bytes a after total lt h so_far =
     let k : count - i ≡ suc (count - (i + 1)) = omega arith in
     let one : with_front front (read_each f next s (count - i) bytes) ≡ with_front (front ++ a ∷ []) (read_each f next (next s a) (count - (i + 1)) after) =
-      ap (λ (n : ℕ). with_front front (read_each f next s n bytes)) k
-      ∙ ap (λ r. with_front front (r >>= λ a. read_each f next (next s a.0) (count - (i + 1)) a.1 >>= λ others. Ok (a.0 ∷ others.0, others.1))) h
-      ∙ regroup front a (read_each f next (next s a) (count - (i + 1)) after) in
+    ap (λ (n : ℕ). with_front front (read_each f next s n bytes)) k
+    ∙ ap (λ r. with_front front (r >>= λ a. read_each f next (next s a.0) (count - (i + 1)) a.1 >>= λ others. Ok (a.0 ∷ others.0, others.1))) h
+    ∙ regroup front a (read_each f next (next s a) (count - (i + 1)) after) in
     sym one ∙ so_far
 
 pub ends : {S A : Type 0} (f : S → Format A) (next : S → A → S) (e : Stop) (front : List A) (s : S) (count i : ℕ) (bytes : List ℕ) (total : Result (List A × List ℕ) ℕ) → i < count → Stops e ((f s).read bytes)
@@ -32,8 +32,8 @@ ends f next stop.Memory front s count i bytes total lt h so_far = tt
 ends f next (stop.Field left) front s count i bytes total lt h so_far =
     let k : count - i ≡ suc (count - (i + 1)) = omega arith in
     let one : with_front front (read_each f next s (count - i) bytes) ≡ Err left.0 =
-      ap (λ (n : ℕ). with_front front (read_each f next s n bytes)) k
-      ∙ ap (λ r. with_front front (r >>= λ a. read_each f next (next s a.0) (count - (i + 1)) a.1 >>= λ others. Ok (a.0 ∷ others.0, others.1))) h in
+    ap (λ (n : ℕ). with_front front (read_each f next s n bytes)) k
+    ∙ ap (λ r. with_front front (r >>= λ a. read_each f next (next s a.0) (count - (i + 1)) a.1 >>= λ others. Ok (a.0 ∷ others.0, others.1))) h in
     sym so_far ∙ one
 
 pub fails : {S A : Type 0} (f : S → Format A) (next : S → A → S) (left : ℕ) (front : List A) (s : S) (count i : ℕ) (bytes : List ℕ) (total : Result (List A × List ℕ) ℕ) → i < count → (f s).read bytes ≡ Err left

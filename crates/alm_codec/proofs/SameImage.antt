@@ -40,8 +40,24 @@ limits_of a = record { low = a.setpoint_low; high = a.setpoint_high; deadband = 
 
 abbrev made : (f : Fixed) → Limits f → Attr
 made f l = record {
-  kind = f.kind; setpoint = f.setpoint; deadband = f.deadband; priority = f.priority; area = f.area; latching = f.latching; max_shelve = f.max_shelve; tag = f.tag; text = f.text;
-  setpoint_low = l.low; setpoint_high = l.high; deadband_limit = l.deadband; priority_limits = l.priority; area_limit = l.area; max_shelve_limit = l.max_shelve; tag_limits = l.tag; text_limits = l.text }
+  kind = f.kind;
+  setpoint = f.setpoint;
+  deadband = f.deadband;
+  priority = f.priority;
+  area = f.area;
+  latching = f.latching;
+  max_shelve = f.max_shelve;
+  tag = f.tag;
+  text = f.text;
+  setpoint_low = l.low;
+  setpoint_high = l.high;
+  deadband_limit = l.deadband;
+  priority_limits = l.priority;
+  area_limit = l.area;
+  max_shelve_limit = l.max_shelve;
+  tag_limits = l.tag;
+  text_limits = l.text;
+}
 
 same_attr : (a b : Attr) → fixed_in a ≡ fixed_in b → a ≡ b
 same_attr a b e =
@@ -132,7 +148,7 @@ no_image_begins q r a b x y hq hr of e =
     let own : IsOf (length r.panel.rows) (length r.floods) r.panel.count r = record { by_rows = refl; by_areas = refl; by_count = refl } in
     let read = image_again (length r.panel.rows) (length r.floods) r.panel.count in
     same_plant q r hq.rules hr.rules of.by_rows of.by_count
-      (ok_image (image_in q) (image_in r) x y (sym (read q a x of hq) ∙ ap (λ (t : List ℕ). (image (length r.panel.rows) (length r.floods) r.panel.count).read t) e ∙ read r b y own hr))
+    (ok_image (image_in q) (image_in r) x y (sym (read q a x of hq) ∙ ap (λ (t : List ℕ). (image (length r.panel.rows) (length r.floods) r.panel.count).read t) e ∙ read r b y own hr))
 
 -- what was read is an image
 pub image_found : (rows areas count : ℕ) (q : Condensed) (bytes : List ℕ) → (1 ≤ rows) × (rows ≤ 16384) → (1 ≤ areas) × (areas ≤ 64) → IsOf rows areas count q → length q.panel.attrs ≡ rows → length q.kept.moments ≡ rows → length q.kept.ages ≡ areas

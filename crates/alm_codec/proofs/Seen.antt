@@ -17,9 +17,9 @@ nat_cmp-other n m d =
     elim (cases_order n m) [
       | inl e ↦ absurd (d e)
       | inr more ↦ elim more [
-          | inl lt ↦ rw (lt-ltb n m lt) refl
-          | inr gt ↦ rw (le-ltb n m (omega (arith, gt)), ne_eqb n m d) refl
-        ]
+        | inl lt ↦ rw (lt-ltb n m lt) refl
+        | inr gt ↦ rw (le-ltb n m (omega (arith, gt)), ne_eqb n m d) refl
+      ]
     ]
 
 true_or_not : (b : Bool) → (b ≡ true) ⊎ (b ≡ false)

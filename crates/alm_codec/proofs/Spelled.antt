@@ -97,8 +97,13 @@ pub image_length : (q : Condensed) → KeepsRules q → length (image_text q) �
 image_length q h =
     let p = q.panel in
     let full : (i : ℕ) (list : List ℕ) → slice_get q.kept.ages i ≡ Some list → length list ≡ 600 =
-      λ i list e. subst (λ (l : List ℕ). length l ≡ 600) (get_or_from_slice_get q.kept.ages i list [] e) ((h.ages i [] (slice_get_within q.kept.ages i list e)).seconds) in
+    λ i list e. subst (λ (l : List ℕ). length l ≡ 600) (get_or_from_slice_get q.kept.ages i list [] e) ((h.ages i [] (slice_get_within q.kept.ages i list e)).seconds) in
     let few : (i : ℕ) (ms : List ℕ) → slice_get q.kept.moments i ≡ Some ms → length ms ≤ 3 =
-      λ i ms e. few_at q i ms h e in
-    omega (arith, length-append (to_be_bytes w64 p.now ++ to_be_bytes w64 p.next_stamp ++ area_texts q.floods q.kept.ages) (alarm_texts p.attrs p.rows q.kept.moments), length-append (to_be_bytes w64 p.now ++ to_be_bytes w64 p.next_stamp) (area_texts q.floods q.kept.ages),
-      areas_length q.floods q.kept.ages h.measured full, alarms_length p.attrs p.rows q.kept.moments h.attrs h.recent few)
+    λ i ms e. few_at q i ms h e in
+    omega (
+      arith,
+      length-append (to_be_bytes w64 p.now ++ to_be_bytes w64 p.next_stamp ++ area_texts q.floods q.kept.ages) (alarm_texts p.attrs p.rows q.kept.moments),
+      length-append (to_be_bytes w64 p.now ++ to_be_bytes w64 p.next_stamp) (area_texts q.floods q.kept.ages),
+      areas_length q.floods q.kept.ages h.measured full,
+      alarms_length p.attrs p.rows q.kept.moments h.attrs h.recent few,
+    )

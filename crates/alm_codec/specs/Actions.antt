@@ -80,15 +80,15 @@ either_way argument a = if argument == 0 then Some (a false) else if argument ==
 
 abbrev pub meaning_for : ℕ → AlarmId → ℕ → Option Action
 meaning_for kind i argument =
-  if kind == 1 then (if (i.0 == 0) && nat_lt argument (2 ^ 40) then Some (Clock argument) else None)
-  else if kind == 2 then option_map (Value i) (reading_at argument)
-  else if kind == 3 then without argument (Ack i)
-  else if kind == 4 then without argument (Reset i)
-  else if kind == 5 then (if nat_lt argument (2 ^ 32) then Some (Shelve i argument) else None)
-  else if kind == 6 then without argument (Unshelve i)
-  else if kind == 7 then either_way argument (Oos i)
-  else if kind == 8 then either_way argument (Design i)
-  else None
+    if kind == 1 then (if (i.0 == 0) && nat_lt argument (2 ^ 40) then Some (Clock argument) else None)
+    else if kind == 2 then option_map (Value i) (reading_at argument)
+    else if kind == 3 then without argument (Ack i)
+    else if kind == 4 then without argument (Reset i)
+    else if kind == 5 then (if nat_lt argument (2 ^ 32) then Some (Shelve i argument) else None)
+    else if kind == 6 then without argument (Unshelve i)
+    else if kind == 7 then either_way argument (Oos i)
+    else if kind == 8 then either_way argument (Design i)
+    else None
 
 abbrev pub meaning : ℕ → ℕ → ℕ → Option Action
 meaning kind alarm argument = meaning_for kind (record { 0 = alarm }) argument

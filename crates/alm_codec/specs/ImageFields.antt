@@ -73,7 +73,7 @@ padded_at test n field = if test (take n field) && zeros (drop n field) then Som
 -- a length, and a text with its rest
 abbrev pub text_in : ℕ → ℕ → (List ℕ → Bool) → Format (List ℕ)
 text_in least room test =
-  coded (both (tested byte (λ n. nat_le least n && nat_le n room)) (λ n. coded (raw room) (padded_at test n) (padded room))) (λ p. Some p.1) (λ text. (length text, text))
+    coded (both (tested byte (λ n. nat_le least n && nat_le n room)) (λ n. coded (raw room) (padded_at test n) (padded room))) (λ p. Some p.1) (λ text. (length text, text))
 
 -- ---- what is fixed of an alarm
 
@@ -83,7 +83,7 @@ is_deadband k n = nat_le n (deadband_limit k)
 
 abbrev pub fixed : ℕ → Format Fixed
 fixed areas =
-  coded (both kind (λ k. both (tested byte (λ n. nat_le 1 n && nat_le n 4)) (λ _. both (tested byte (λ n. nat_lt n areas)) (λ _. both flag (λ _. both setpoint (λ _. both (tested u64 (is_deadband k)) (λ _. both (tested u32 (λ n. nat_le n 604800)) (λ _. both (text_in 1 32 is_tag) (λ _. text_in 0 80 is_text)))))))))
+    coded (both kind (λ k. both (tested byte (λ n. nat_le 1 n && nat_le n 4)) (λ _. both (tested byte (λ n. nat_lt n areas)) (λ _. both flag (λ _. both setpoint (λ _. both (tested u64 (is_deadband k)) (λ _. both (tested u32 (λ n. nat_le n 604800)) (λ _. both (text_in 1 32 is_tag) (λ _. text_in 0 80 is_text)))))))))
     (λ p. Some (record { kind = p.0; priority = p.1.0; area = p.1.1.0; latching = p.1.1.1.0; setpoint = p.1.1.1.1.0; deadband = p.1.1.1.1.1.0; max_shelve = p.1.1.1.1.1.1.0; tag = p.1.1.1.1.1.1.1.0; text = p.1.1.1.1.1.1.1.1 }))
     (λ a. (a.kind, (a.priority, (a.area, (a.latching, (a.setpoint, (a.deadband, (a.max_shelve, (a.tag, a.text)))))))))
 
@@ -92,13 +92,13 @@ fixed areas =
 -- a latching alarm is never RtnUnack, another is in no latched state
 abbrev pub core_at : Bool → ℕ → Option Core
 core_at latching n =
-  if n == 0 then Some Normal
-  else if n == 1 then Some Unack
-  else if n == 2 then Some Acked
-  else if n == 3 then (if latching then None else Some RtnUnack)
-  else if n == 4 then (if latching then Some LatchUnack else None)
-  else if n == 5 then (if latching then Some LatchAcked else None)
-  else None
+    if n == 0 then Some Normal
+    else if n == 1 then Some Unack
+    else if n == 2 then Some Acked
+    else if n == 3 then (if latching then None else Some RtnUnack)
+    else if n == 4 then (if latching then Some LatchUnack else None)
+    else if n == 5 then (if latching then Some LatchAcked else None)
+    else None
 
 abbrev pub core : Bool → Format Core
 core latching = coded byte (core_at latching) core_code
@@ -108,15 +108,15 @@ flags_code f = weight 1 f.shelved + weight 2 f.by_design + weight 4 f.out_of_ser
 
 abbrev pub flags_in : ℕ → Option Flags
 flags_in n =
-  if n == 0 then Some (record { shelved = false; by_design = false; out_of_service = false })
-  else if n == 1 then Some (record { shelved = true; by_design = false; out_of_service = false })
-  else if n == 2 then Some (record { shelved = false; by_design = true; out_of_service = false })
-  else if n == 3 then Some (record { shelved = true; by_design = true; out_of_service = false })
-  else if n == 4 then Some (record { shelved = false; by_design = false; out_of_service = true })
-  else if n == 5 then Some (record { shelved = true; by_design = false; out_of_service = true })
-  else if n == 6 then Some (record { shelved = false; by_design = true; out_of_service = true })
-  else if n == 7 then Some (record { shelved = true; by_design = true; out_of_service = true })
-  else None
+    if n == 0 then Some (record { shelved = false; by_design = false; out_of_service = false })
+    else if n == 1 then Some (record { shelved = true; by_design = false; out_of_service = false })
+    else if n == 2 then Some (record { shelved = false; by_design = true; out_of_service = false })
+    else if n == 3 then Some (record { shelved = true; by_design = true; out_of_service = false })
+    else if n == 4 then Some (record { shelved = false; by_design = false; out_of_service = true })
+    else if n == 5 then Some (record { shelved = true; by_design = false; out_of_service = true })
+    else if n == 6 then Some (record { shelved = false; by_design = true; out_of_service = true })
+    else if n == 7 then Some (record { shelved = true; by_design = true; out_of_service = true })
+    else None
 
 abbrev pub same_bool : Bool → Bool → Bool
 same_bool true b = b
@@ -163,11 +163,12 @@ moments kept now = coded (moment_fields kept now) (λ ns. Some (take kept ns)) (
 
 abbrev pub alarm : ℕ → ℕ → ℕ → List ℕ → Format Alarm
 alarm now next areas seen =
-  coded (both (fixed areas) (λ a. both flag (λ active. both (core a.latching) (λ c. both (flags active c) (λ f. both (tested byte (λ n. nat_le n 3 && (not (is_annunciated c) || nat_lt 0 n))) (λ kept. both (deadline now a.max_shelve f.shelved) (λ _. both (tested u64 (is_stamp next seen (is_annunciated c || f.shelved))) (λ _. moments kept now))))))))
+    coded (both (fixed areas) (λ a. both flag (λ active. both (core a.latching) (λ c. both (flags active c) (λ f. both (tested byte (λ n. nat_le n 3 && (not (is_annunciated c) || nat_lt 0 n))) (λ kept. both (deadline now a.max_shelve f.shelved) (λ _. both (tested u64 (is_stamp next seen (is_annunciated c || f.shelved))) (λ _. moments kept now))))))))
     (λ p. Some (record {
       fixed = p.0;
       state = record { active = p.1.0; core = p.1.1.0; shelved_until = p.1.1.1.1.1.0; by_design = p.1.1.1.0.by_design; out_of_service = p.1.1.1.0.out_of_service; stamp = p.1.1.1.1.1.1.0 };
-      moments = p.1.1.1.1.1.1.1 }))
+      moments = p.1.1.1.1.1.1.1;
+    }))
     (λ x. (x.fixed, (x.state.active, (x.state.core, (record { shelved = is_some x.state.shelved_until; by_design = x.state.by_design; out_of_service = x.state.out_of_service }, (length x.moments, (x.state.shelved_until, (x.state.stamp, x.moments))))))))
 
 -- ---- an area
@@ -214,7 +215,7 @@ next_stamp count = tested u64 (λ n. nat_le 1 n && nat_le n (1 + 16384 * count))
 -- the image of a plant of so many rows and areas after `count` actions
 abbrev pub image : ℕ → ℕ → ℕ → Format Image
 image rows areas count =
-  coded (both moment (λ now. both (next_stamp count) (λ next. both (areas_of now next areas) (λ _. alarms_of now next areas rows))))
+    coded (both moment (λ now. both (next_stamp count) (λ next. both (areas_of now next areas) (λ _. alarms_of now next areas rows))))
     (λ p. Some (record { now = p.0; next_stamp = p.1.0; areas = p.1.1.0; alarms = p.1.1.1 }))
     (λ i. (i.now, (i.next_stamp, (i.areas, i.alarms))))
 

@@ -13,7 +13,8 @@ abbrev pub alarm_in : AlarmParts → Alarm
 alarm_in p = record {
   fixed = p.fixed;
   state = record { active = p.active; core = p.core; shelved_until = p.deadline; by_design = p.flags.by_design; out_of_service = p.flags.out_of_service; stamp = p.stamp };
-  moments = take p.kept p.moments }
+  moments = take p.kept p.moments;
+}
 
 -- what attributes and a row keep
 pub record InLimits (x : Alarm) : Type 0 where

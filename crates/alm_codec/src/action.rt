@@ -6,11 +6,9 @@ ghost use Rattle.alm_codec.specs.Actions.{IsAction, action_text, argument_of, ki
 ghost use Rattle.alm_codec.specs.Writing.{Wrote};
 ghost use Rattle.alm_model.specs.Accept.{alarm_of};
 
-use alm_types::Action;
-use alm_types::{AlarmId, Moment, Reading};
-
 use crate::damage::Damage;
 use crate::fields::put;
+use alm_types::{Action, AlarmId, Moment, Reading};
 
 /// How many bytes the text of an action has.
 pub const ACTION_LEN: usize = 16;
@@ -32,7 +30,9 @@ fn meaning(kind: u8, alarm: u32, argument: u64) -> Option<Action>
         (2, value) => reading(value).map(|value| Action::Value(id, value)),
         (3, 0) => Some(Action::Ack(id)),
         (4, 0) => Some(Action::Reset(id)),
-        (5, seconds) => u32::try_from(seconds).ok().map(|seconds| Action::Shelve(id, seconds)),
+        (5, seconds) => u32::try_from(seconds)
+            .ok()
+            .map(|seconds| Action::Shelve(id, seconds)),
         (6, 0) => Some(Action::Unshelve(id)),
         (7, 0 | 1) => Some(Action::Oos(id, argument == 1)),
         (8, 0 | 1) => Some(Action::Design(id, argument == 1)),

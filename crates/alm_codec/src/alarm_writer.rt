@@ -72,7 +72,12 @@ fn put_settings(out: &mut [u8], at: usize, attr: &Attr) -> usize
     let setpoint_at = put(
         out,
         at,
-        &[kind_code(attr.kind), attr.priority, attr.area, flag_code(attr.latching)],
+        &[
+            kind_code(attr.kind),
+            attr.priority,
+            attr.area,
+            flag_code(attr.latching),
+        ],
     );
     let deadband_at = put_word(out, setpoint_at, setpoint_word(attr));
     let longest_at = put_word(out, deadband_at, attr.deadband);
@@ -132,13 +137,7 @@ fn put_row(out: &mut [u8], at: usize, row: &Row, moments: &[Moment]) -> usize
 }
 
 /// Writes an alarm.
-pub fn put_alarm(
-    out: &mut [u8],
-    at: usize,
-    attr: &Attr,
-    row: &Row,
-    moments: &[Moment],
-) -> usize
+pub fn put_alarm(out: &mut [u8], at: usize, attr: &Attr, row: &Row, moments: &[Moment]) -> usize
     requires few { length moments.now ≤ 3 }
     requires room { at + 182 ≤ length out.old }
     ensures end { result ≡ at + 182 }

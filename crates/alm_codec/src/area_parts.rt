@@ -6,9 +6,9 @@ ghost use Rattle.alm_codec.specs.ImageFields.{ages, age_field, is_flooded, area}
 ghost use Rattle.alm_codec.specs.Parts.{area_in};
 ghost use Rattle.alm_codec.specs.Bounds.{under};
 
+use crate::fields::u64_at;
 use crate::fixed::flag_of;
 use crate::left::Left;
-use crate::fields::u64_at;
 use alm_types::Moment;
 
 /// The fields of an area in an image.

@@ -6,10 +6,9 @@ ghost use Rattle.alm_codec.specs.Reading.{Gives};
 ghost use Rattle.alm_codec.specs.Format.{byte, tested};
 ghost use Rattle.alm_codec.specs.ImageFields.{u32, u64, flag, kind, setpoint, text_in, is_deadband, zeros, fixed};
 
-use alm_types::{Kind, Reading, Tag, Text};
-
-use crate::left::Left;
 use crate::fields::{u8_at, u32_at, u64_at};
+use crate::left::Left;
+use alm_types::{Kind, Reading, Tag, Text};
 
 /// What is fixed of an alarm.
 #[derive(Clone, Copy, Debug)]

@@ -4,8 +4,8 @@ ghost use Rattle.std.specs.Prelude.{◌≡◌};
 ghost use Rattle.alm_codec.specs.Reading.{Gives};
 ghost use Rattle.alm_codec.specs.ImageFields.{flags_in, is_flagged, flags};
 
-use crate::left::Left;
 use crate::fields::u8_at;
+use crate::left::Left;
 use alm_state::Core;
 
 /// What suppresses an alarm.

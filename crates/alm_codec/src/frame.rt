@@ -6,12 +6,11 @@ ghost use Rattle.alm_codec.specs.Actions.{IsAction, action_text};
 ghost use Rattle.alm_codec.specs.Reading.{Gives, Reads};
 ghost use Rattle.alm_codec.specs.Frames.{IsFrame, frame_text, frame_body, head_at, with_front, actions_at, frame_at, IsBefore};
 
-use alm_types::Action;
-
 use crate::action::{ACTION_LEN, action_of, put_action};
 use crate::damage::Damage;
-use crate::left::Left;
 use crate::fields::{put, u16_at, u64_at};
+use crate::left::Left;
+use alm_types::Action;
 
 /// How many bytes of a frame stand between its gate and its first action.
 const HEAD_LEN: usize = 18;
@@ -45,11 +44,7 @@ fn head_of(bytes: &[u8], epoch: u64, count: u64) -> Result<(u16, &[u8]), Left>
 }
 
 /// Reads so many actions behind the others, and gives the bytes after them.
-fn actions_of<'a>(
-    count: u16,
-    bytes: &'a [u8],
-    actions: &mut Vec<Action>,
-) -> Result<&'a [u8], Left>
+fn actions_of<'a>(count: u16, bytes: &'a [u8], actions: &mut Vec<Action>) -> Result<&'a [u8], Left>
     requires inside { 16 * count ≤ length bytes.now }
     requires room { vec_len actions.old + count ≤ vec_capacity actions.old }
     ensures actions { Gives (λ rest. (actions.new.items, rest.now)) result (with_front actions.old.items (actions_at count bytes.now)) }

@@ -6,12 +6,11 @@ ghost use Rattle.alm_codec.specs.Reading.{Gives};
 ghost use Rattle.alm_codec.specs.Format.{byte, tested};
 ghost use Rattle.alm_codec.specs.ImageFields.{u64, core, deadline, is_stamp, is_moment, moment_fields};
 
+use crate::fields::{u8_at, u64_at};
+use crate::left::Left;
 use alm_state::Core;
 use alm_types::Moment;
 use std::collections::BTreeSet;
-
-use crate::left::Left;
-use crate::fields::{u8_at, u64_at};
 
 /// A core state that an alarm that latches or doesn't can be in.
 pub fn core_of(bytes: &[u8], latching: bool) -> Result<(Core, &[u8]), Left>

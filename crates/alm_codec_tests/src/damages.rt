@@ -11,8 +11,11 @@ use std::test::Fail;
 
 /// Where the alarms begin.
 const A: usize = 9618;
+
 const B: usize = 9800;
+
 const C: usize = 9982;
+
 const D: usize = 10_164;
 
 /// How many bytes, at which place, the number that goes there, and where the damage is.
@@ -53,7 +56,12 @@ fn is_told(alloc: Global, bytes: &[u8], case: &Case, count: u64) -> Result<bool,
 }
 
 /// The number of the first case that isn't told.
-fn first_wrong(alloc: Global, bytes: &[u8], cases: &[Case], count: u64) -> Result<Option<usize>, Fail> {
+fn first_wrong(
+    alloc: Global,
+    bytes: &[u8],
+    cases: &[Case],
+    count: u64,
+) -> Result<Option<usize>, Fail> {
     for (index, case) in cases.iter().enumerate() {
         if !is_told(alloc, bytes, case, count)? {
             return Ok(Some(index));

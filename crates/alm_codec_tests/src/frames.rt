@@ -36,20 +36,47 @@ fn frames_are_written_and_read(rt: HostRuntime) -> Result<(), Fail> {
 fn damaged_frames(rt: HostRuntime) -> Result<(), Fail> {
     let mut actions = Vec::with_capacity(rt.alloc(), MOST_ACTIONS)?;
     let mut frame = CLOCK_FRAME;
-    assert_eq!(rt; read_frame(&frame, 2, 0, &mut actions), Err(Damage { at: 0 }));
-    assert_eq!(rt; read_frame(&frame, 1, 1, &mut actions), Err(Damage { at: 8 }));
-    assert_eq!(rt; read_frame(&frame[..7], 1, 0, &mut actions), Err(Damage { at: 0 }));
-    assert_eq!(rt; read_frame(&frame[..15], 1, 0, &mut actions), Err(Damage { at: 8 }));
-    assert_eq!(rt; read_frame(&frame[..17], 1, 0, &mut actions), Err(Damage { at: 16 }));
-    assert_eq!(rt; read_frame(&frame[..34], 1, 0, &mut actions), Err(Damage { at: 16 }));
+    assert_eq!(rt;
+        read_frame(&frame, 2, 0, &mut actions),
+        Err(Damage { at: 0 })
+    );
+    assert_eq!(rt;
+        read_frame(&frame, 1, 1, &mut actions),
+        Err(Damage { at: 8 })
+    );
+    assert_eq!(rt;
+        read_frame(&frame[..7], 1, 0, &mut actions),
+        Err(Damage { at: 0 })
+    );
+    assert_eq!(rt;
+        read_frame(&frame[..15], 1, 0, &mut actions),
+        Err(Damage { at: 8 })
+    );
+    assert_eq!(rt;
+        read_frame(&frame[..17], 1, 0, &mut actions),
+        Err(Damage { at: 16 })
+    );
+    assert_eq!(rt;
+        read_frame(&frame[..34], 1, 0, &mut actions),
+        Err(Damage { at: 16 })
+    );
     frame[17] = 0;
-    assert_eq!(rt; read_frame(&frame, 1, 0, &mut actions), Err(Damage { at: 16 }));
+    assert_eq!(rt;
+        read_frame(&frame, 1, 0, &mut actions),
+        Err(Damage { at: 16 })
+    );
     frame[16] = 1;
     frame[17] = 1;
-    assert_eq!(rt; read_frame(&frame, 1, 0, &mut actions), Err(Damage { at: 16 }));
+    assert_eq!(rt;
+        read_frame(&frame, 1, 0, &mut actions),
+        Err(Damage { at: 16 })
+    );
     frame[16] = 0;
     frame[21] = 1;
-    assert_eq!(rt; read_frame(&frame, 1, 0, &mut actions), Err(Damage { at: 18 }));
+    assert_eq!(rt;
+        read_frame(&frame, 1, 0, &mut actions),
+        Err(Damage { at: 18 })
+    );
     Ok(())
 }
 
@@ -62,6 +89,9 @@ fn the_longest_frame(rt: HostRuntime) -> Result<(), Fail> {
     assert_eq!(rt; read_frame(&out, u64::MAX, 4, &mut actions), Ok(4114));
     assert_eq!(rt; actions.as_slice(), all.as_slice());
     out[18 + 16 * 255] = 0;
-    assert_eq!(rt; read_frame(&out, u64::MAX, 4, &mut actions), Err(Damage { at: 4098 }));
+    assert_eq!(rt;
+        read_frame(&out, u64::MAX, 4, &mut actions),
+        Err(Damage { at: 4098 })
+    );
     Ok(())
 }

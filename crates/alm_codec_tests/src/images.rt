@@ -23,8 +23,8 @@ fn the_image_of_a_new_plant(rt: HostRuntime) -> Result<(), Fail> {
     let bytes = image(rt.alloc(), &new_plant(rt.alloc())?, 2)?;
     assert_eq!(rt; bytes.len(), 10_346);
     let head = [
-        1, 1, 0, 0, 0, 0, 0, 0, 0, 0, 3, 0x20, 0, 0, 0, 0, 0, 0, 0, 0x0a, 0, 0, 0x0e, 0x10, 6, 0x54,
-        0x49, 0x2d, 0x31, 0x30, 0x31,
+        1, 1, 0, 0, 0, 0, 0, 0, 0, 0, 3, 0x20, 0, 0, 0, 0, 0, 0, 0, 0x0a, 0, 0, 0x0e, 0x10, 6,
+        0x54, 0x49, 0x2d, 0x31, 0x30, 0x31,
     ];
     assert_eq!(rt; bytes.get(9618..9649), Some(head.as_slice()));
     assert_eq!(rt; bytes.get(9649..9800), Some([0; 151].as_slice()));
@@ -57,10 +57,19 @@ fn the_image_after_an_annunciation(rt: HostRuntime) -> Result<(), Fail> {
 fn bytes_behind_an_image_are_damage(rt: HostRuntime) -> Result<(), Fail> {
     let mut bytes = image(rt.alloc(), &new_plant(rt.alloc())?, 2)?;
     bytes.push(0)?;
-    assert_eq!(rt; read_image(rt.alloc(), &bytes, 4, 2, 0).err(), Some(ImageFault::Damaged(Damage { at: 10_346 })));
+    assert_eq!(rt;
+        read_image(rt.alloc(), &bytes, 4, 2, 0).err(),
+        Some(ImageFault::Damaged(Damage { at: 10_346 }))
+    );
     bytes.truncate(10_345);
-    assert_eq!(rt; read_image(rt.alloc(), &bytes, 4, 2, 0).err(), Some(ImageFault::Damaged(Damage { at: 10_338 })));
-    assert_eq!(rt; read_image(rt.alloc(), &[], 4, 2, 0).err(), Some(ImageFault::Damaged(Damage { at: 0 })));
+    assert_eq!(rt;
+        read_image(rt.alloc(), &bytes, 4, 2, 0).err(),
+        Some(ImageFault::Damaged(Damage { at: 10_338 }))
+    );
+    assert_eq!(rt;
+        read_image(rt.alloc(), &[], 4, 2, 0).err(),
+        Some(ImageFault::Damaged(Damage { at: 0 }))
+    );
     Ok(())
 }
 

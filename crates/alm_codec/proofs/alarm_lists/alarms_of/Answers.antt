@@ -14,7 +14,7 @@ loop-preserved c = record {
   rows = omega (arith, c.in_ok-push.ensures.rows, c.loop.invariant.rows);
   moments = omega (arith, c.in_ok-push.ensures.moments, c.loop.invariant.moments);
   so_far = rw (c.in_ok-push.ensures.alarms, c.in_ok-push.ensures.seen)
-    (goes_on (alarm c.args.clock c.args.next_stamp c.args.areas) (λ seen a. seen_then seen a.state.stamp) (alarms_in c.loop.lists.attrs.items c.loop.lists.rows.items c.loop.lists.moments.items) c.loop.lists.seen.keys c.args.rows c.loop.counter c.loop.rest.now _ c.in-Ok.found.1.now _ c.loop-test.true c.in-Ok.ensures.alarm c.loop.invariant.so_far);
+      (goes_on (alarm c.args.clock c.args.next_stamp c.args.areas) (λ seen a. seen_then seen a.state.stamp) (alarms_in c.loop.lists.attrs.items c.loop.lists.rows.items c.loop.lists.moments.items) c.loop.lists.seen.keys c.args.rows c.loop.counter c.loop.rest.now _ c.in-Ok.found.1.now _ c.loop-test.true c.in-Ok.ensures.alarm c.loop.invariant.so_far);
 }
 
 pub returns-clause-alarms : goal.returns-clause-alarms

@@ -10,5 +10,5 @@ invariant-loop l = record {
   rows : length l.lists.rows.items ≡ l.counter;
   moments : length l.lists.moments.items ≡ l.counter;
   so_far : with_front (alarms_in l.lists.attrs.items l.lists.rows.items l.lists.moments.items) (read_each (alarm l.clock l.next_stamp l.areas) (λ seen a. seen_then seen a.state.stamp) l.lists.seen.keys (l.rows - l.counter) l.rest)
-    ≡ read_each (alarm l.clock l.next_stamp l.areas) (λ seen a. seen_then seen a.state.stamp) [] l.rows l.bytes;
+      ≡ read_each (alarm l.clock l.next_stamp l.areas) (λ seen a. seen_then seen a.state.stamp) [] l.rows l.bytes;
 }

@@ -11,6 +11,6 @@ returns-clause-text c =
     let three = Wrote-then _ _ _ _ _ _ _ _ two c.put_placed.ensures.text (omega arith) in
     let head : List ℕ = settings_text c.args.attr.now in
     subst (Wrote c.args.out.now c.put_placed.new.out c.args.at c.put_placed.result)
-      (append_assoc head (placed 32 c.as_bytes.result.now) (placed 80 c.as_bytes-2.result.now)
-      ∙ ap (λ (t : List ℕ). head ++ placed 32 t ++ placed 80 c.as_bytes-2.result.now) c.as_bytes.ensures.bytes
-      ∙ ap (λ (t : List ℕ). head ++ placed 32 c.args.attr.now.tag ++ placed 80 t) c.as_bytes-2.ensures.bytes) three
+    (append_assoc head (placed 32 c.as_bytes.result.now) (placed 80 c.as_bytes-2.result.now)
+    ∙ ap (λ (t : List ℕ). head ++ placed 32 t ++ placed 80 c.as_bytes-2.result.now) c.as_bytes.ensures.bytes
+    ∙ ap (λ (t : List ℕ). head ++ placed 32 c.args.attr.now.tag ++ placed 80 t) c.as_bytes-2.ensures.bytes) three

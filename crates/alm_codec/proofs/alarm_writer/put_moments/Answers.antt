@@ -13,7 +13,7 @@ returns-clause-text c =
     let three = Wrote-then _ _ _ _ _ _ _ _ two c.put_word.ensures.text (omega arith) in
     let ms : List ℕ = c.args.moments.now in
     subst (Wrote c.args.out.now c.put_word.new.out c.args.at c.put_word.result)
-      (ap (λ (n : ℕ). (to_be_bytes w64 n ++ to_be_bytes w64 c.seconds_of-2.result) ++ to_be_bytes w64 c.seconds_of-3.result) c.seconds_of.ensures
-      ∙ ap (λ (n : ℕ). (to_be_bytes w64 (slice_index_or ms 0 0) ++ to_be_bytes w64 n) ++ to_be_bytes w64 c.seconds_of-3.result) c.seconds_of-2.ensures
-      ∙ ap (λ (n : ℕ). (to_be_bytes w64 (slice_index_or ms 0 0) ++ to_be_bytes w64 (slice_index_or ms 1 0)) ++ to_be_bytes w64 n) c.seconds_of-3.ensures
-      ∙ words_is ms c.requires.few) three
+    (ap (λ (n : ℕ). (to_be_bytes w64 n ++ to_be_bytes w64 c.seconds_of-2.result) ++ to_be_bytes w64 c.seconds_of-3.result) c.seconds_of.ensures
+    ∙ ap (λ (n : ℕ). (to_be_bytes w64 (slice_index_or ms 0 0) ++ to_be_bytes w64 n) ++ to_be_bytes w64 c.seconds_of-3.result) c.seconds_of-2.ensures
+    ∙ ap (λ (n : ℕ). (to_be_bytes w64 (slice_index_or ms 0 0) ++ to_be_bytes w64 (slice_index_or ms 1 0)) ++ to_be_bytes w64 n) c.seconds_of-3.ensures
+    ∙ words_is ms c.requires.few) three

@@ -17,9 +17,9 @@ returns-clause-text c =
     let shown = c.row.view_is in
     let view : State = c.args.row.now in
     subst (Wrote c.args.out.now c.put_moments.new.out c.args.at c.put_moments.result)
-      (row_is view c.args.moments.now c.flag_code.result c.core_code.result c.flags.result c.unwrap_or.result c.row.inside.stamp
-        (c.flag_code.ensures ∙ ap (λ (s : State). switch s.active) shown)
-        (c.core_code.ensures ∙ ap (λ (s : State). core_code s.core) shown)
-        c.flags.ensures.value
-        (c.unwrap_or.ensures ∙ ap (λ (s : State). deadline s) shown)
-        (ap (λ (s : State). s.stamp) shown)) four
+    (row_is view c.args.moments.now c.flag_code.result c.core_code.result c.flags.result c.unwrap_or.result c.row.inside.stamp
+    (c.flag_code.ensures ∙ ap (λ (s : State). switch s.active) shown)
+    (c.core_code.ensures ∙ ap (λ (s : State). core_code s.core) shown)
+    c.flags.ensures.value
+    (c.unwrap_or.ensures ∙ ap (λ (s : State). deadline s) shown)
+    (ap (λ (s : State). s.stamp) shown)) four

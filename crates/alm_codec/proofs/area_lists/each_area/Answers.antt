@@ -18,15 +18,15 @@ loop-preserved c =
     let found = c.in-Ok.found.0 in
     let one : Area = record { flood = found.flood; ages = found.ages } in
     let e : areas_in c.push.new.self.floods.items c.push.new.self.ages.items ≡ areas_in floods ages ++ one ∷ [] =
-      rw (c.in_ok-push.ensures.floods, c.in_ok-push.ensures.ages) (areas_in-push floods ages found.flood found.ages (omega (arith, c.loop.invariant.floods, c.loop.invariant.ages))) in
+    rw (c.in_ok-push.ensures.floods, c.in_ok-push.ensures.ages) (areas_in-push floods ages found.flood found.ages (omega (arith, c.loop.invariant.floods, c.loop.invariant.ages))) in
     record {
       floods = rw c.in_ok-push.ensures.floods (omega (arith, length-append floods (found.flood ∷ []), c.loop.invariant.floods));
       ages = rw c.in_ok-push.ensures.ages (omega (arith, length-append ages (found.ages ∷ []), c.loop.invariant.ages));
       left = c.in_ok-push.ensures.left
-        ∙ ap (λ o. option_and_then (λ left. under left (sum found.ages)) o) c.loop.invariant.left
-        ∙ under-then c.args.bound (all_ages (areas_in floods ages)) (sum found.ages)
-        ∙ ap (λ (n : ℕ). under c.args.bound n) (sym (all_ages-push (areas_in floods ages) one))
-        ∙ ap (λ (list : List Area). under c.args.bound (all_ages list)) (sym e);
+          ∙ ap (λ o. option_and_then (λ left. under left (sum found.ages)) o) c.loop.invariant.left
+          ∙ under-then c.args.bound (all_ages (areas_in floods ages)) (sum found.ages)
+          ∙ ap (λ (n : ℕ). under c.args.bound n) (sym (all_ages-push (areas_in floods ages) one))
+          ∙ ap (λ (list : List Area). under c.args.bound (all_ages list)) (sym e);
       so_far = rw e (goes_on {S = ℕ} (λ _. area c.args.clock) (λ s _. s) (areas_in floods ages) 0 c.args.areas c.loop.counter c.loop.rest.now one c.in-Ok.found.1.now _ c.loop-test.true c.in-Ok.ensures c.loop.invariant.so_far);
     }
 

@@ -13,7 +13,7 @@ pub loop-age-preserved : goal.loop-age-preserved
 loop-age-preserved c = record {
   all = omega (arith, length-set c.loop-age.counts c.loop-age.age c.in-Ok.found.0, c.loop-age.invariant.all);
   so_far = rw (take_more_set c.loop-age.counts c.loop-age.age c.in-Ok.found.0 (omega (arith, c.loop-age-test.true, c.loop-age.invariant.all)))
-    (goes_on (age_field c.args.clock) (λ j _. j + 1) (take c.loop-age.age c.loop-age.counts) c.loop-age.age 600 c.loop-age.age c.loop-age.rest.now c.in-Ok.found.0 c.in-Ok.found.1.now _ c.loop-age-test.true c.in-Ok.ensures c.loop-age.invariant.so_far);
+      (goes_on (age_field c.args.clock) (λ j _. j + 1) (take c.loop-age.age c.loop-age.counts) c.loop-age.age 600 c.loop-age.age c.loop-age.rest.now c.in-Ok.found.0 c.in-Ok.found.1.now _ c.loop-age-test.true c.in-Ok.ensures c.loop-age.invariant.so_far);
 }
 
 pub returns : goal.returns

@@ -21,8 +21,8 @@ loop-age-preserved g c =
     record {
       end = omega (arith, c.loop-age.invariant.end, c.put_word-end.ensures.end);
       text = subst (Wrote c.args.out.now c.put_word-end.new.out c.args.at c.put_word-end.result)
-        (words-more ages c.loop-age.age c.age.result (omega (arith, all, c.loop-age-test.true)) (c.age.ensures ∙ age_is (slice_get q.kept.ages c.args.area) c.loop-age.age))
-        (Wrote-then _ _ _ _ _ _ _ _ c.loop-age.invariant.text c.put_word-end.ensures.text (omega (arith, c.loop-age.invariant.end, c.put_word-end.ensures.end, c.loop-age-test.true, c.requires.room)));
+          (words-more ages c.loop-age.age c.age.result (omega (arith, all, c.loop-age-test.true)) (c.age.ensures ∙ age_is (slice_get q.kept.ages c.args.area) c.loop-age.age))
+          (Wrote-then _ _ _ _ _ _ _ _ c.loop-age.invariant.text c.put_word-end.ensures.text (omega (arith, c.loop-age.invariant.end, c.put_word-end.ensures.end, c.loop-age-test.true, c.requires.room)));
     }
 
 pub returns-clause-end : goal.returns-clause-end

@@ -13,5 +13,5 @@ returns-clause-text g c =
     let q = g.P.Alarms.plant c.args.plant.now in
     let two = Wrote-then _ _ _ _ _ _ _ _ c.put-ages_at.ensures.text c.put_ages.ensures.text (omega arith) in
     subst (Wrote c.args.out.now c.put_ages.new.out c.args.at c.put_ages.result)
-      (ap (λ (n : ℕ). n ∷ words (unwrap_or (slice_get q.kept.ages c.args.area) [])) c.flag_code.ensures
-      ∙ area_is (slice_get q.floods c.args.area) (slice_get q.kept.ages c.args.area) _ _ c.window-flood.ensures.flood (slice_get-get_or q.kept.ages c.args.area [] (omega (arith, c.requires.rules.measured, c.requires.area)))) two
+    (ap (λ (n : ℕ). n ∷ words (unwrap_or (slice_get q.kept.ages c.args.area) [])) c.flag_code.ensures
+    ∙ area_is (slice_get q.floods c.args.area) (slice_get q.kept.ages c.args.area) _ _ c.window-flood.ensures.flood (slice_get-get_or q.kept.ages c.args.area [] (omega (arith, c.requires.rules.measured, c.requires.area)))) two

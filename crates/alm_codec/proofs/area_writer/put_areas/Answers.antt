@@ -19,8 +19,8 @@ loop-area-preserved g c =
     record {
       end = omega (arith, c.loop-area.invariant.end, c.put_area-end.ensures.end);
       text = subst (Wrote c.args.out.now c.put_area-end.new.out c.args.at c.put_area-end.result)
-        (area_texts-more q.floods q.kept.ages c.loop-area.area c.requires.rules.measured (omega (arith, c.requires.areas, c.loop-area-test.true)))
-        (Wrote-then _ _ _ _ _ _ _ _ c.loop-area.invariant.text c.put_area-end.ensures.text (omega (arith, c.loop-area.invariant.end, c.put_area-end.ensures.end, c.loop-area-test.true, c.requires.room)));
+          (area_texts-more q.floods q.kept.ages c.loop-area.area c.requires.rules.measured (omega (arith, c.requires.areas, c.loop-area-test.true)))
+          (Wrote-then _ _ _ _ _ _ _ _ c.loop-area.invariant.text c.put_area-end.ensures.text (omega (arith, c.loop-area.invariant.end, c.put_area-end.ensures.end, c.loop-area-test.true, c.requires.room)));
     }
 
 pub returns-clause-end : goal.returns-clause-end

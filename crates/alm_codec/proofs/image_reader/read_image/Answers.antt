@@ -11,7 +11,7 @@ returns-in-Ok-default-empty-clause-found c =
     let e = c.in-Ok-default-empty.ensures in
     let q : Condensed = plant_of c.in-Ok-default-empty.parts in
     image_found c.args.rows c.args.areas c.args.count q c.args.bytes.now c.requires.rows c.requires.areas (record { by_rows = e.rows; by_areas = e.floods; by_count = e.count }) e.attrs e.moments e.ages (λ i. omega (arith, c.type_inv.bytes i))
-      (e.image ∙ ap (λ (r : List ℕ). Ok (image_in q, r)) (nothing c.in-Ok-default-empty.field-0-1.now (omega (arith, c.in-Ok-default-empty.len_below))))
+    (e.image ∙ ap (λ (r : List ℕ). Ok (image_in q, r)) (nothing c.in-Ok-default-empty.field-0-1.now (omega (arith, c.in-Ok-default-empty.len_below))))
 
 pub returns-in-Ok-default-empty-clause-only : goal.returns-in-Ok-default-empty-clause-only
 returns-in-Ok-default-empty-clause-only c = λ q of h.
@@ -19,7 +19,7 @@ returns-in-Ok-default-empty-clause-only c = λ q of h.
     let p : Condensed = plant_of c.in-Ok-default-empty.parts in
     let own : IsOf c.args.rows c.args.areas c.args.count p = record { by_rows = e.rows; by_areas = e.floods; by_count = e.count } in
     let found = image_found c.args.rows c.args.areas c.args.count p c.args.bytes.now c.requires.rows c.requires.areas own e.attrs e.moments e.ages (λ i. omega (arith, c.type_inv.bytes i))
-      (e.image ∙ ap (λ (r : List ℕ). Ok (image_in p, r)) (nothing c.in-Ok-default-empty.field-0-1.now (omega (arith, c.in-Ok-default-empty.len_below)))) in
+    (e.image ∙ ap (λ (r : List ℕ). Ok (image_in p, r)) (nothing c.in-Ok-default-empty.field-0-1.now (omega (arith, c.in-Ok-default-empty.len_below)))) in
     image_only c.args.rows c.args.areas c.args.count p q c.args.bytes.now c.in-Ok-default-empty.field-0-1.now own of found.rules h e.image
 
 pub returns-in-Ok-clause-only : goal.returns-in-Ok-clause-only

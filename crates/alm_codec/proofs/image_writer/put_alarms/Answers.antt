@@ -19,8 +19,8 @@ loop-alarm-preserved g c =
     record {
       end = omega (arith, c.loop-alarm.invariant.end, c.put_numbered-end.ensures.end);
       text = subst (Wrote c.args.out.now c.put_numbered-end.new.out c.args.at c.put_numbered-end.result)
-        (alarm_texts-more q.panel.attrs q.panel.rows q.kept.moments c.loop-alarm.alarm c.requires.rules.attrs c.requires.rules.recent (omega (arith, c.alarms-alarm-end.ensures, c.loop-alarm-test.true)))
-        (Wrote-then _ _ _ _ _ _ _ _ c.loop-alarm.invariant.text c.put_numbered-end.ensures.text (omega (arith, c.loop-alarm.invariant.end, c.put_numbered-end.ensures.end, c.loop-alarm-test.true, c.alarms-alarm-end.ensures, c.requires.room)));
+          (alarm_texts-more q.panel.attrs q.panel.rows q.kept.moments c.loop-alarm.alarm c.requires.rules.attrs c.requires.rules.recent (omega (arith, c.alarms-alarm-end.ensures, c.loop-alarm-test.true)))
+          (Wrote-then _ _ _ _ _ _ _ _ c.loop-alarm.invariant.text c.put_numbered-end.ensures.text (omega (arith, c.loop-alarm.invariant.end, c.put_numbered-end.ensures.end, c.loop-alarm-test.true, c.alarms-alarm-end.ensures, c.requires.room)));
     }
 
 pub returns : goal.returns
@@ -29,5 +29,7 @@ returns g c =
     let size : ℕ = length q.panel.rows in
     let done : size ≡ c.loop-alarm.alarm = omega (arith, c.alarms-alarm-end.ensures, c.loop-alarm-test.false, c.loop-alarm.auto.alarm-end) in
     let end : c.loop-alarm.end ≡ c.args.at + size * 182 = omega (arith, c.loop-alarm.invariant.end, done) in
-    record { text = subst (λ e. Wrote c.args.out.now c.loop-alarm.out c.args.at e (alarm_texts q.panel.attrs q.panel.rows q.kept.moments)) end
-      (rw (← take_all c.loop-alarm.alarm q.panel.attrs (omega (arith, done, c.requires.rules.attrs)), ← take_all c.loop-alarm.alarm q.panel.rows (omega (arith, done)), ← take_all c.loop-alarm.alarm q.kept.moments (omega (arith, done, c.requires.rules.recent))) c.loop-alarm.invariant.text) }
+    record {
+      text = subst (λ e. Wrote c.args.out.now c.loop-alarm.out c.args.at e (alarm_texts q.panel.attrs q.panel.rows q.kept.moments)) end
+          (rw (← take_all c.loop-alarm.alarm q.panel.attrs (omega (arith, done, c.requires.rules.attrs)), ← take_all c.loop-alarm.alarm q.panel.rows (omega (arith, done)), ← take_all c.loop-alarm.alarm q.kept.moments (omega (arith, done, c.requires.rules.recent))) c.loop-alarm.invariant.text);
+    }

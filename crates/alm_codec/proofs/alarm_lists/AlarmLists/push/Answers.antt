@@ -14,7 +14,7 @@ returns-clause-alarms c =
     let moments : List (List ℕ) = c.args.self.now.moments.items in
     let front : List Alarm = alarms_in attrs rows moments in
     rw (c.in_ok-push.ensures.items, c.in_ok-push-2.ensures.items, c.in_ok-push-3.ensures.items)
-      (alarms_in-push attrs rows moments c.attr.result c.row.result c.recent.result c.requires.rows c.requires.moments
-      ∙ ap (λ (f : Fixed). front ++ record { fixed = f; state = c.row.result; moments = c.recent.result } ∷ []) c.attr.ensures
-      ∙ ap (λ (s : State). front ++ record { fixed = c.args.alarm.now.fixed; state = s; moments = c.recent.result } ∷ []) c.row.ensures
-      ∙ ap (λ (ms : List ℕ). front ++ record { fixed = c.args.alarm.now.fixed; state = (alarm_in c.args.alarm.now).state; moments = ms } ∷ []) c.recent.ensures)
+    (alarms_in-push attrs rows moments c.attr.result c.row.result c.recent.result c.requires.rows c.requires.moments
+    ∙ ap (λ (f : Fixed). front ++ record { fixed = f; state = c.row.result; moments = c.recent.result } ∷ []) c.attr.ensures
+    ∙ ap (λ (s : State). front ++ record { fixed = c.args.alarm.now.fixed; state = s; moments = c.recent.result } ∷ []) c.row.ensures
+    ∙ ap (λ (ms : List ℕ). front ++ record { fixed = c.args.alarm.now.fixed; state = (alarm_in c.args.alarm.now).state; moments = ms } ∷ []) c.recent.ensures)
