@@ -1,0 +1,190 @@
+-- What is read as an action is its text, and the text of an action is read as it.
+use Rattle.std.proofs.Common.{◌≡◌, ℕ, zero, suc, ◌+◌, ◌^◌, ◌<◌, ◌≤◌, Bool, true, false, ◌&&◌, cond, eqb, ltb, List, [], ◌∷◌, ◌++◌, length, get_or, take, drop, Option, Some, None, ◌⊎◌, inl, inr, refl, sym, ap, subst, ◌∙◌, arith, ℤ, pos, negsuc, ◌≤ℤ◌, of_z, to_z, FitsSigned}
+use Rattle.std.specs.Prelude.{option_map, IfOk}
+use Rattle.std.specs.Option.{ok_or}
+use Rattle.alm_codec.specs.declared.damage.Damage.{Damage}
+use Rattle.std.specs.Int.{w32, w64, from_be_bytes, to_be_bytes}
+use Rattle.std.proofs.lemmas.Grind.{common_steps}
+use Rattle.std.proofs.lemmas.Int.{ints, to_z-of_z, of_z-to_z}
+use Rattle.std.proofs.lemmas.Bool.{eqb-true, ltb-true, lt-ltb, and_parts}
+use Rattle.std.proofs.lemmas.Option.{same_Some, none-some}
+use Rattle.std.proofs.lemmas.Nat.{be_bytes_4, be_bytes_8, from_be_bytes-to_be_bytes_4, from_be_bytes-to_be_bytes_8}
+use Rattle.alm_types.specs.declared.action.Action.{Action}
+use Rattle.alm_types.specs.declared.action.Action.TheVariants.{Clock, Value, Ack, Reset, Shelve, Unshelve, Oos, Design}
+use Rattle.alm_types.specs.declared.alarm_id.AlarmId.{AlarmId}
+use Rattle.alm_model.specs.Accept.{alarm_of}
+use Rattle.alm_codec.specs.Actions.{kind_of, argument_of, switch, text_of, action_text, IsReading, HasArgument, IsAction, limited, reading_at, without, either_way, meaning_for, meaning, action_at}
+use Rattle.alm_codec.proofs.Bytes.{IsBytes, IsBytes-drop, IsBytes-take, chosen}
+
+-- ---- what is spelled so is read
+
+pub text_again : (kind alarm argument : ℕ) → alarm < 2 ^ 32 → argument < 2 ^ 64 → action_at (text_of kind alarm argument) ≡ meaning kind alarm argument
+text_again kind alarm argument small fits =
+    ap (λ (n : ℕ). meaning kind n (from_be_bytes w64 (to_be_bytes w64 argument))) (from_be_bytes-to_be_bytes_4 alarm small)
+    ∙ ap (λ (n : ℕ). meaning kind alarm n) (from_be_bytes-to_be_bytes_8 argument fits)
+
+limited_again : (v : ℤ) → IsReading v → limited v ≡ Some v
+limited_again v h = grind (arith, ints)
+
+pub reading_again : (v : ℤ) → IsReading v → reading_at (of_z w64 v) ≡ Some v
+reading_again v h =
+    let fits : FitsSigned w64 v = omega (arith, ints) in
+    ap limited (to_z-of_z w64 v fits) ∙ limited_again v h
+
+meaning_again : (a : Action) → HasArgument a → meaning (kind_of a) (alarm_of a) (argument_of a) ≡ Some a
+meaning_again (Clock t) h = rw (lt-ltb t (2 ^ 40) h) refl
+meaning_again (Value i v) h = ap (option_map (Value i)) (reading_again v h)
+meaning_again (Ack i) h = refl
+meaning_again (Reset i) h = refl
+meaning_again (Shelve i seconds) h = rw (lt-ltb seconds (2 ^ 32) h) refl
+meaning_again (Unshelve i) h = refl
+meaning_again (Oos i true) h = refl
+meaning_again (Oos i false) h = refl
+meaning_again (Design i true) h = refl
+meaning_again (Design i false) h = refl
+
+pub word_fits : (v : ℤ) → IsReading v → of_z w64 v < 2 ^ 64
+word_fits (pos n) h = omega (arith, ints)
+word_fits (negsuc n) h = omega (arith, ints)
+
+switch_fits : (on : Bool) → switch on < 2 ^ 64
+switch_fits true = omega arith
+switch_fits false = omega arith
+
+argument_fits : (a : Action) → HasArgument a → argument_of a < 2 ^ 64
+argument_fits (Clock t) h = omega arith
+argument_fits (Value i v) h = word_fits v h
+argument_fits (Ack i) h = omega arith
+argument_fits (Reset i) h = omega arith
+argument_fits (Shelve i seconds) h = omega arith
+argument_fits (Unshelve i) h = omega arith
+argument_fits (Oos i on) h = switch_fits on
+argument_fits (Design i on) h = switch_fits on
+
+pub action_again : (a : Action) → IsAction a → action_at (action_text a) ≡ Some a
+action_again a h = text_again (kind_of a) (alarm_of a) (argument_of a) h.alarm (argument_fits a h.argument) ∙ meaning_again a h.argument
+
+pub no_action_begins : (a b : Action) (x y : List ℕ) → IsAction a → IsAction b → action_text a ++ x ≡ action_text b ++ y → a ≡ b
+no_action_begins a b x y p q e =
+    let same : action_text a ≡ action_text b = ap (take 16) e in
+    same_Some a b (sym (action_again a p) ∙ ap action_at same ∙ action_again b q)
+
+-- ---- what is read is spelled so
+
+-- an action is what a kind, an alarm and an argument stand for
+pub record Means (kind alarm argument : ℕ) (a : Action) : Type 0 where
+  pub limits : IsAction a
+  pub kind_is : kind ≡ kind_of a
+  pub alarm_is : alarm ≡ alarm_of a
+  pub argument_is : argument ≡ argument_of a
+
+without_takes : (kind alarm argument : ℕ) (b a : Action) → Means kind alarm 0 b → without argument b ≡ Some a → Means kind alarm argument a
+without_takes kind alarm argument b a m e =
+    elim (chosen (eqb argument 0) (Some b) None (Some a) e) [
+      | inl (t, s) ↦ subst (λ (n : ℕ). Means kind alarm n a) (sym (eqb-true argument 0 t)) (subst (Means kind alarm 0) (same_Some b a s) m)
+      | inr (t, s) ↦ absurd (none-some a s)
+    ]
+
+either_takes : (kind alarm argument : ℕ) (f : Bool → Action) (a : Action) → ((on : Bool) → Means kind alarm (switch on) (f on)) → either_way argument f ≡ Some a → Means kind alarm argument a
+either_takes kind alarm argument f a m e =
+    elim (chosen (eqb argument 0) (Some (f false)) (cond (eqb argument 1) (Some (f true)) None) (Some a) e) [
+      | inl (t, s) ↦ subst (λ (n : ℕ). Means kind alarm n a) (sym (eqb-true argument 0 t)) (subst (Means kind alarm 0) (same_Some (f false) a s) (m false))
+      | inr (t, s) ↦ elim (chosen (eqb argument 1) (Some (f true)) None (Some a) s) [
+        | inl (u, r) ↦ subst (λ (n : ℕ). Means kind alarm n a) (sym (eqb-true argument 1 u)) (subst (Means kind alarm 1) (same_Some (f true) a r) (m true))
+        | inr (u, r) ↦ absurd (none-some a r)
+      ]
+    ]
+
+pub limited_takes : (z v : ℤ) → limited z ≡ Some v → (z ≡ v) × IsReading v
+limited_takes z v e = grind (arith, ints)
+
+reading_takes : (alarm word : ℕ) (a : Action) → alarm < 2 ^ 32 → word < 2 ^ 64 → (o : Option ℤ) → reading_at word ≡ o → option_map (Value (record { 0 = alarm })) o ≡ Some a → Means 2 alarm word a
+reading_takes alarm word a small fits None is e = absurd (none-some a e)
+reading_takes alarm word a small fits (Some v) is e =
+    let t = limited_takes (to_z w64 word) v is in
+    subst (Means 2 alarm word) (same_Some (Value (record { 0 = alarm }) v) a e)
+    (record { limits = record { alarm = small; argument = t.1 }; kind_is = refl; alarm_is = refl; argument_is = sym (of_z-to_z w64 word fits) ∙ ap (of_z w64) t.0 })
+
+clock_takes : (alarm argument : ℕ) (a : Action) → cond (eqb alarm 0 && ltb argument (2 ^ 40)) (Some (Clock argument)) None ≡ Some a → Means 1 alarm argument a
+clock_takes alarm argument a e =
+    elim (chosen (eqb alarm 0 && ltb argument (2 ^ 40)) (Some (Clock argument)) None (Some a) e) [
+      | inl (t, s) ↦
+          let b = and_parts (eqb alarm 0) (ltb argument (2 ^ 40)) t in
+          subst (Means 1 alarm argument) (same_Some (Clock argument) a s) (record { limits = record { alarm = omega arith; argument = ltb-true argument (2 ^ 40) b.1 }; kind_is = refl; alarm_is = eqb-true alarm 0 b.0; argument_is = refl })
+      | inr (t, s) ↦ absurd (none-some a s)
+    ]
+
+shelve_takes : (alarm argument : ℕ) (a : Action) → alarm < 2 ^ 32 → cond (ltb argument (2 ^ 32)) (Some (Shelve (record { 0 = alarm }) argument)) None ≡ Some a → Means 5 alarm argument a
+shelve_takes alarm argument a small e =
+    elim (chosen (ltb argument (2 ^ 32)) (Some (Shelve (record { 0 = alarm }) argument)) None (Some a) e) [
+      | inl (t, s) ↦ subst (Means 5 alarm argument) (same_Some (Shelve (record { 0 = alarm }) argument) a s) (record { limits = record { alarm = small; argument = ltb-true argument (2 ^ 32) t }; kind_is = refl; alarm_is = refl; argument_is = refl })
+      | inr (t, s) ↦ absurd (none-some a s)
+    ]
+
+meaning_takes : (kind alarm argument : ℕ) (a : Action) → alarm < 2 ^ 32 → argument < 2 ^ 64 → meaning kind alarm argument ≡ Some a → Means kind alarm argument a
+meaning_takes kind alarm argument a small fits e =
+    let i : AlarmId = record { 0 = alarm } in
+    let at : (k : ℕ) → eqb kind k ≡ true → Means k alarm argument a → Means kind alarm argument a = λ k t m. subst (λ (n : ℕ). Means n alarm argument a) (sym (eqb-true kind k t)) m in
+    elim (chosen (eqb kind 1) _ _ (Some a) e) [
+      | inl (t, s) ↦ at 1 t (clock_takes alarm argument a s)
+      | inr (t, e) ↦ elim (chosen (eqb kind 2) _ _ (Some a) e) [
+        | inl (t, s) ↦ at 2 t (reading_takes alarm argument a small fits (reading_at argument) refl s)
+        | inr (t, e) ↦ elim (chosen (eqb kind 3) _ _ (Some a) e) [
+          | inl (t, s) ↦ at 3 t (without_takes 3 alarm argument (Ack i) a (record { limits = record { alarm = small; argument = tt }; kind_is = refl; alarm_is = refl; argument_is = refl }) s)
+          | inr (t, e) ↦ elim (chosen (eqb kind 4) _ _ (Some a) e) [
+            | inl (t, s) ↦ at 4 t (without_takes 4 alarm argument (Reset i) a (record { limits = record { alarm = small; argument = tt }; kind_is = refl; alarm_is = refl; argument_is = refl }) s)
+            | inr (t, e) ↦ elim (chosen (eqb kind 5) _ _ (Some a) e) [
+              | inl (t, s) ↦ at 5 t (shelve_takes alarm argument a small s)
+              | inr (t, e) ↦ elim (chosen (eqb kind 6) _ _ (Some a) e) [
+                | inl (t, s) ↦ at 6 t (without_takes 6 alarm argument (Unshelve i) a (record { limits = record { alarm = small; argument = tt }; kind_is = refl; alarm_is = refl; argument_is = refl }) s)
+                | inr (t, e) ↦ elim (chosen (eqb kind 7) _ _ (Some a) e) [
+                  | inl (t, s) ↦ at 7 t (either_takes 7 alarm argument (Oos i) a (λ on. record { limits = record { alarm = small; argument = tt }; kind_is = refl; alarm_is = refl; argument_is = refl }) s)
+                  | inr (t, e) ↦ elim (chosen (eqb kind 8) _ _ (Some a) e) [
+                    | inl (t, s) ↦ at 8 t (either_takes 8 alarm argument (Design i) a (λ on. record { limits = record { alarm = small; argument = tt }; kind_is = refl; alarm_is = refl; argument_is = refl }) s)
+                    | inr (t, e) ↦ absurd (none-some a e)
+                  ]
+                ]
+              ]
+            ]
+          ]
+        ]
+      ]
+    ]
+
+both_words : (a b x y : List ℕ) → a ≡ b → x ≡ y → a ++ x ≡ b ++ y
+both_words a b x y e f = ap (λ (t : List ℕ). t ++ x) e ∙ ap (λ (t : List ℕ). b ++ t) f
+
+text_takes : (kind p q r s : ℕ) (rest : List ℕ) (a : Action) → IsBytes (p ∷ q ∷ r ∷ s ∷ rest)
+    → cond (eqb (length rest) 8) (meaning kind (from_be_bytes w32 (p ∷ q ∷ r ∷ s ∷ [])) (from_be_bytes w64 rest)) None ≡ Some a
+    → IsAction a × (kind ∷ 0 ∷ 0 ∷ 0 ∷ p ∷ q ∷ r ∷ s ∷ rest ≡ action_text a)
+text_takes kind p q r s rest a fits e =
+    let alarm : ℕ = from_be_bytes w32 (p ∷ q ∷ r ∷ s ∷ []) in
+    let argument : ℕ = from_be_bytes w64 rest in
+    elim (chosen (eqb (length rest) 8) _ _ (Some a) e) [
+      | inl (t, meant) ↦
+          let len : length rest ≡ 8 = eqb-true (length rest) 8 t in
+          let front : IsBytes (p ∷ q ∷ r ∷ s ∷ []) = IsBytes-take 4 (p ∷ q ∷ r ∷ s ∷ rest) fits in
+          let back : IsBytes rest = IsBytes-drop 4 (p ∷ q ∷ r ∷ s ∷ rest) fits in
+          let small : alarm < 2 ^ 32 = omega (arith, front 0, front 1, front 2, front 3) in
+          let large : argument < 2 ^ 64 = omega (arith, back 0, back 1, back 2, back 3, back 4, back 5, back 6, back 7) in
+          let m = meaning_takes kind alarm argument a small large meant in
+          let words : to_be_bytes w32 alarm ++ to_be_bytes w64 argument ≡ p ∷ q ∷ r ∷ s ∷ rest = both_words (to_be_bytes w32 alarm) (p ∷ q ∷ r ∷ s ∷ []) (to_be_bytes w64 argument) rest (be_bytes_4 (p ∷ q ∷ r ∷ s ∷ []) alarm refl front refl) (be_bytes_8 rest argument len back refl) in
+          let same : text_of kind alarm argument ≡ action_text a = rw (m.kind_is, m.alarm_is, m.argument_is) refl in
+          (m.limits, sym (ap (λ (w : List ℕ). kind ∷ 0 ∷ 0 ∷ 0 ∷ w) words) ∙ same)
+      | inr (t, none) ↦ absurd (none-some a none)
+    ]
+
+pub action_takes : (bytes : List ℕ) (a : Action) → IsBytes bytes → action_at bytes ≡ Some a → IsAction a × (bytes ≡ action_text a)
+action_takes (kind ∷ zero ∷ zero ∷ zero ∷ p ∷ q ∷ r ∷ s ∷ rest) a fits e = text_takes kind p q r s rest a (IsBytes-drop 4 (kind ∷ 0 ∷ 0 ∷ 0 ∷ p ∷ q ∷ r ∷ s ∷ rest) fits) e
+action_takes _ a fits e = absurd (none-some a e)
+
+pub found_if_ok : (bytes : List ℕ) (o : Option Action) (d : Damage) → IsBytes bytes → o ≡ action_at bytes → IfOk (ok_or o d) (λ a. IsAction a × (bytes ≡ action_text a))
+found_if_ok bytes None d fits e = tt
+found_if_ok bytes (Some a) d fits e = action_takes bytes a fits (sym e)
+
+-- the parts of a text, written one behind the other
+pub text_parts : (kind : ℕ) (p q : List ℕ) (k n m alarm argument : ℕ) → kind ≡ k → p ≡ to_be_bytes w32 n → n ≡ alarm → q ≡ to_be_bytes w64 m → m ≡ argument → kind ∷ 0 ∷ 0 ∷ 0 ∷ (p ++ q) ≡ text_of k alarm argument
+text_parts kind p q k n m alarm argument a b c d e =
+    ap (λ (x : ℕ). x ∷ 0 ∷ 0 ∷ 0 ∷ (p ++ q)) a
+    ∙ ap (λ (x : List ℕ). k ∷ 0 ∷ 0 ∷ 0 ∷ (x ++ q)) (b ∙ ap (to_be_bytes w32) c)
+    ∙ ap (λ (x : List ℕ). k ∷ 0 ∷ 0 ∷ 0 ∷ (to_be_bytes w32 alarm ++ x)) (d ∙ ap (to_be_bytes w64) e)

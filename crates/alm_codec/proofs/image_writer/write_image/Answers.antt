@@ -1,0 +1,17 @@
+use Rattle.std.proofs.Common.{◌≡◌, ◌+◌, ◌*◌, ◌++◌, ◌∷◌, [], List, ℕ, Some, length, take, get_or, sym, ap, subst, ◌∙◌, append_assoc, arith, refl}
+use Rattle.std.specs.Prelude.{slice_get, unwrap_or}
+use Rattle.alm_codec.specs.Writing.{Wrote}
+use Rattle.alm_codec.proofs.Writing.{Wrote-then, Wrote-nothing}
+use Rattle.std.proofs.Common.{drop}
+use Rattle.std.specs.Int.{w64, to_be_bytes}
+use Rattle.alm_codec.specs.Image.{area_texts, alarm_texts, image_len, image_text}
+use Rattle.alm_codec.proofs.WrittenImage.{image_is}
+use Rattle.alm_codec.proofs.image_writer.write_image.Goals as goal
+
+pub returns-clause-text : goal.returns-clause-text
+returns-clause-text g c =
+    let q = g.P.Alarms.plant c.args.plant.now in
+    let two = Wrote-then _ _ _ _ _ _ _ _ c.put_word-next_stamp_at.ensures.text c.put_word-areas_at.ensures.text (omega arith) in
+    let three = Wrote-then _ _ _ _ _ _ _ _ two c.put_areas-alarms_at.ensures.text (omega (arith, c.put_areas-alarms_at.ensures.end, c.requires.room)) in
+    let four = Wrote-then _ _ _ _ _ _ _ _ three c.put_alarms.ensures.text (omega (arith, c.put_areas-alarms_at.ensures.end, c.requires.room)) in
+    image_is q c.args.out.now c.put_alarms.new.out c.args.areas _ _ _ (c.seconds.ensures.seconds ∙ c.now.ensures) c.next_stamp.ensures (omega (arith, c.put_areas-alarms_at.ensures.end, c.put_word-areas_at.ensures.end, c.put_word-next_stamp_at.ensures.end)) four

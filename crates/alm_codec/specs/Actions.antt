@@ -1,0 +1,99 @@
+-- The texts of actions, 16 bytes each.
+use Rattle.std.specs.Prelude.{◌≡◌, ℕ, zero, suc, ◌+◌, ◌-◌, ◌^◌, ◌<◌, ◌≤◌, List, [], ◌∷◌, ◌++◌, length, Bool, true, false, ◌&&◌, Option, Some, None, option_map, ℤ, pos, negsuc, ◌≤ℤ◌, int_le, nat_lt, nat_le, ◌==◌, if◌then◌else◌}
+use Rattle.std.specs.Int.{w32, w64, to_be_bytes, from_be_bytes, cast_unsigned, cast_signed}
+use Rattle.alm_types.specs.declared.action.Action.{Action}
+use Rattle.alm_types.specs.declared.action.Action.TheVariants.{Clock, Value, Ack, Reset, Shelve, Unshelve, Oos, Design}
+use Rattle.alm_types.specs.declared.alarm_id.AlarmId.{AlarmId}
+use Rattle.alm_model.specs.Accept.{alarm_of}
+
+-- ---- the spelling
+
+abbrev pub kind_of : Action → ℕ
+kind_of (Clock t) = 1
+kind_of (Value i v) = 2
+kind_of (Ack i) = 3
+kind_of (Reset i) = 4
+kind_of (Shelve i seconds) = 5
+kind_of (Unshelve i) = 6
+kind_of (Oos i on) = 7
+kind_of (Design i on) = 8
+
+-- 1 on, 0 off
+abbrev pub switch : Bool → ℕ
+switch true = 1
+switch false = 0
+
+abbrev pub argument_of : Action → ℕ
+argument_of (Clock t) = t
+argument_of (Value i v) = cast_unsigned w64 v
+argument_of (Ack i) = 0
+argument_of (Reset i) = 0
+argument_of (Shelve i seconds) = seconds
+argument_of (Unshelve i) = 0
+argument_of (Oos i on) = switch on
+argument_of (Design i on) = switch on
+
+-- a text of a kind, an alarm and an argument
+abbrev pub text_of : ℕ → ℕ → ℕ → List ℕ
+text_of kind alarm argument = kind ∷ 0 ∷ 0 ∷ 0 ∷ to_be_bytes w32 alarm ++ to_be_bytes w64 argument
+
+abbrev pub action_text : Action → List ℕ
+action_text a = text_of (kind_of a) (alarm_of a) (argument_of a)
+
+-- ---- what has a spelling
+
+-- a value of the process is at most 10 ^ 12 from 0
+abbrev pub IsReading : ℤ → Type 0
+IsReading v = (negsuc 999999999999 ≤ℤ v) × (v ≤ℤ pos 1000000000000)
+
+abbrev pub HasArgument : Action → Type 0
+HasArgument (Clock t) = t < 2 ^ 40
+HasArgument (Value i v) = IsReading v
+HasArgument (Ack i) = Unit {0}
+HasArgument (Reset i) = Unit {0}
+HasArgument (Shelve i seconds) = seconds < 2 ^ 32
+HasArgument (Unshelve i) = Unit {0}
+HasArgument (Oos i on) = Unit {0}
+HasArgument (Design i on) = Unit {0}
+
+-- the numbers of an action are within their types
+pub record IsAction (a : Action) : Type 0 where
+  pub alarm : alarm_of a < 2 ^ 32
+  pub argument : HasArgument a
+
+-- ---- reading
+
+-- the value of a 64-bit word, where it is within its limits
+abbrev pub limited : ℤ → Option ℤ
+limited v = if int_le (negsuc 999999999999) v && int_le v (pos 1000000000000) then Some v else None
+
+abbrev pub reading_at : ℕ → Option ℤ
+reading_at word = limited (cast_signed w64 word)
+
+-- an action that wants no argument
+abbrev pub without : ℕ → Action → Option Action
+without argument a = if argument == 0 then Some a else None
+
+-- an action that sets or clears
+abbrev pub either_way : ℕ → (Bool → Action) → Option Action
+either_way argument a = if argument == 0 then Some (a false) else if argument == 1 then Some (a true) else None
+
+abbrev pub meaning_for : ℕ → AlarmId → ℕ → Option Action
+meaning_for kind i argument =
+    if kind == 1 then (if (i.0 == 0) && nat_lt argument (2 ^ 40) then Some (Clock argument) else None)
+    else if kind == 2 then option_map (Value i) (reading_at argument)
+    else if kind == 3 then without argument (Ack i)
+    else if kind == 4 then without argument (Reset i)
+    else if kind == 5 then (if nat_lt argument (2 ^ 32) then Some (Shelve i argument) else None)
+    else if kind == 6 then without argument (Unshelve i)
+    else if kind == 7 then either_way argument (Oos i)
+    else if kind == 8 then either_way argument (Design i)
+    else None
+
+abbrev pub meaning : ℕ → ℕ → ℕ → Option Action
+meaning kind alarm argument = meaning_for kind (record { 0 = alarm }) argument
+
+-- the action that bytes are the text of, all of the bytes
+abbrev pub action_at : List ℕ → Option Action
+action_at (kind ∷ zero ∷ zero ∷ zero ∷ a ∷ b ∷ c ∷ d ∷ rest) = if length rest == 8 then meaning kind (from_be_bytes w32 (a ∷ b ∷ c ∷ d ∷ [])) (from_be_bytes w64 rest) else None
+action_at _ = None

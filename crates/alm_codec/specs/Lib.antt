@@ -1,0 +1,10 @@
+pub mod Actions
+pub mod Bounds
+pub mod Faults
+pub mod Format
+pub mod Frames
+pub mod Image
+pub mod ImageFields
+pub mod Parts
+pub mod Reading
+pub mod Writing

@@ -1,0 +1,155 @@
+//! The text of an action.
+
+ghost use Rattle.std.specs.Prelude.{◌≡◌, ◌+◌, ◌≤◌, ◌++◌, ℕ, List, length, drop, IfOk, IfErr, Ok};
+ghost use Rattle.alm_types.specs.declared.action.Action.{Action as AnAction};
+ghost use Rattle.alm_codec.specs.Actions.{IsAction, action_text, argument_of, kind_of, action_at, meaning, reading_at};
+ghost use Rattle.alm_codec.specs.Writing.{Wrote};
+ghost use Rattle.alm_model.specs.Accept.{alarm_of};
+
+use crate::damage::Damage;
+use crate::fields::put;
+use alm_types::{Action, AlarmId, Moment, Reading};
+
+/// How many bytes the text of an action has.
+pub const ACTION_LEN: usize = 16;
+
+/// The value that a word stands for, where it is within its limits.
+fn reading(word: u64) -> Option<Reading>
+    ensures { result ≡ reading_at word }
+{
+    Reading::new(word.cast_signed())
+}
+
+/// The action that a kind, an alarm and an argument stand for.
+fn meaning(kind: u8, alarm: u32, argument: u64) -> Option<Action>
+    ensures { result ≡ meaning kind alarm argument }
+{
+    let id = AlarmId(alarm);
+    match (kind, argument) {
+        (1, seconds) if alarm == 0 => Moment::new(seconds).map(Action::Clock),
+        (2, value) => reading(value).map(|value| Action::Value(id, value)),
+        (3, 0) => Some(Action::Ack(id)),
+        (4, 0) => Some(Action::Reset(id)),
+        (5, seconds) => u32::try_from(seconds)
+            .ok()
+            .map(|seconds| Action::Shelve(id, seconds)),
+        (6, 0) => Some(Action::Unshelve(id)),
+        (7, 0 | 1) => Some(Action::Oos(id, argument == 1)),
+        (8, 0 | 1) => Some(Action::Design(id, argument == 1)),
+        _ => None,
+    }
+}
+
+/// The action that the bytes are the text of, all of the bytes.
+pub fn action_of(text: &[u8]) -> Option<Action>
+    ensures { result ≡ action_at text.now }
+{
+    match text {
+        [kind, 0, 0, 0, a, b, c, d, rest @ ..] if rest.len() == 8 => {
+            let argument = u64::from_be_bytes([
+                rest[0], rest[1], rest[2], rest[3], rest[4], rest[5], rest[6], rest[7],
+            ]);
+            meaning(*kind, u32::from_be_bytes([*a, *b, *c, *d]), argument)
+        }
+        _ => None,
+    }
+}
+
+/// The action that the bytes are the text of, all of the bytes.
+pub fn read_action(text: &[u8]) -> Result<Action, Damage>
+    // What is read is spelled so.
+    ensures found { IfOk result (λ a. IsAction a × (text.now ≡ action_text a)) }
+    // What is spelled so is read.
+    ensures only { (a : AnAction) → IsAction a → text.now ≡ action_text a → result ≡ Ok a }
+    // Where no action has that text, it is damaged at its first byte.
+    ensures damaged { IfErr result (λ damage. damage.at ≡ 0) }
+{
+    action_of(text).ok_or(Damage { at: 0 })
+}
+
+/// The numbers of an action are within their types.
+fn know_limits(action: &Action)
+    ensures { IsAction action.now }
+{
+    alarm_of(action);
+    match action {
+        Action::Clock(moment) => {
+            moment.seconds();
+        }
+        Action::Value(_, reading) => {
+            reading.value();
+        }
+        Action::Shelve(_, seconds) => {
+            let _seconds = *seconds;
+        }
+        Action::Ack(_)
+        | Action::Reset(_)
+        | Action::Unshelve(_)
+        | Action::Oos(..)
+        | Action::Design(..) => {}
+    }
+}
+
+fn kind_of(action: &Action) -> u8
+    ensures { result ≡ kind_of action.now }
+{
+    match action {
+        Action::Clock(_) => 1,
+        Action::Value(..) => 2,
+        Action::Ack(_) => 3,
+        Action::Reset(_) => 4,
+        Action::Shelve(..) => 5,
+        Action::Unshelve(_) => 6,
+        Action::Oos(..) => 7,
+        Action::Design(..) => 8,
+    }
+}
+
+fn alarm_of(action: &Action) -> u32
+    ensures { result ≡ alarm_of action.now }
+{
+    match action {
+        Action::Clock(_) => 0,
+        Action::Value(id, _)
+        | Action::Ack(id)
+        | Action::Reset(id)
+        | Action::Shelve(id, _)
+        | Action::Unshelve(id)
+        | Action::Oos(id, _)
+        | Action::Design(id, _) => id.0,
+    }
+}
+
+fn argument_of(action: &Action) -> u64
+    ensures { result ≡ argument_of action.now }
+{
+    match action {
+        Action::Clock(moment) => moment.seconds(),
+        Action::Value(_, reading) => reading.value().cast_unsigned(),
+        Action::Shelve(_, seconds) => *seconds as u64,
+        Action::Oos(_, on) | Action::Design(_, on) => *on as u64,
+        Action::Ack(_) | Action::Reset(_) | Action::Unshelve(_) => 0,
+    }
+}
+
+/// Writes the text of an action at a place, and says where it ends.
+pub fn put_action(out: &mut [u8], at: usize, action: &Action) -> usize
+    requires { at + 16 ≤ length out.old }
+    ensures end { result ≡ at + 16 }
+    ensures text { Wrote out.old out.new at result (action_text action.now) }
+    ensures limits { IsAction action.now }
+{
+    know_limits(action);
+    let alarm_at = put(out, at, &[kind_of(action), 0, 0, 0]);
+    let argument_at = put(out, alarm_at, &alarm_of(action).to_be_bytes());
+    put(out, argument_at, &argument_of(action).to_be_bytes())
+}
+
+/// Writes the text of an action into the first 16 bytes.
+pub fn write_action(action: &Action, out: &mut [u8])
+    requires { 16 ≤ length out.old }
+    ensures text { out.new ≡ action_text action.now ++ drop 16 out.old }
+    ensures limits { IsAction action.now }
+{
+    put_action(out, 0, action);
+}

@@ -1,0 +1,7 @@
+//! Where a text is damaged.
+
+/// A text is damaged at the field that begins `at` bytes from its start.
+#[derive(Clone, Copy, Debug, PartialEq, Eq)]
+pub struct Damage {
+    pub at: usize,
+}

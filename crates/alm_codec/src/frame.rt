@@ -1,0 +1,122 @@
+//! The text of a frame, from behind its gate.
+
+ghost use Rattle.std.specs.Prelude.{◌≡◌, ◌+◌, ◌*◌, ◌<◌, ◌≤◌, ◌++◌, ◌∷◌, [], ℕ, List, length, drop, IfOk, OnErr, Ok, vec_len, vec_capacity};
+ghost use Rattle.alm_types.specs.declared.action.Action.{Action as AnAction};
+ghost use Rattle.alm_codec.specs.Actions.{IsAction, action_text};
+ghost use Rattle.alm_codec.specs.Reading.{Gives, Reads};
+ghost use Rattle.alm_codec.specs.Frames.{IsFrame, frame_text, frame_body, head_at, with_front, actions_at, frame_at, IsBefore};
+
+use crate::action::{ACTION_LEN, action_of, put_action};
+use crate::damage::Damage;
+use crate::fields::{put, u16_at, u64_at};
+use crate::left::Left;
+use alm_types::Action;
+
+/// How many bytes of a frame stand between its gate and its first action.
+const HEAD_LEN: usize = 18;
+
+/// The most actions of a frame.
+pub const MOST_ACTIONS: usize = 256;
+
+/// How many actions the frame has, and the bytes from its first action on.
+#[tactic(auto, unfolding(crate::specs::Frames::head_at))]
+fn head_of(bytes: &[u8], epoch: u64, count: u64) -> Result<(u16, &[u8]), Left>
+    ensures head { Gives (λ x. (x.0, x.1.now)) result (head_at epoch count bytes.now) }
+    ensures few { IfOk result (λ x. x.0 ≤ 256) }
+    ensures inside { IfOk result (λ x. 16 * x.0 < length x.1.now) }
+    ensures left { IfOk result (λ x. length x.1.now ≤ length bytes.now) }
+{
+    let (found_epoch, rest) = u64_at(bytes)?;
+    if found_epoch != epoch {
+        return Err(Left(bytes.len()));
+    }
+    let left = rest.len();
+    let (first, rest) = u64_at(rest)?;
+    if first == 0 || first - 1 != count {
+        return Err(Left(left));
+    }
+    let left = rest.len();
+    let (actions, rest) = u16_at(rest)?;
+    if actions < 1 || actions > 256 || rest.len() <= 16 * actions as usize {
+        return Err(Left(left));
+    }
+    Ok((actions, rest))
+}
+
+/// Reads so many actions behind the others, and gives the bytes after them.
+fn actions_of<'a>(count: u16, bytes: &'a [u8], actions: &mut Vec<Action>) -> Result<&'a [u8], Left>
+    requires inside { 16 * count ≤ length bytes.now }
+    requires room { vec_len actions.old + count ≤ vec_capacity actions.old }
+    ensures actions { Gives (λ rest. (actions.new.items, rest.now)) result (with_front actions.old.items (actions_at count bytes.now)) }
+    ensures left { IfOk result (λ rest. length rest.now + 16 * count ≡ length bytes.now) }
+    ensures room { vec_capacity actions.old ≤ vec_capacity actions.new }
+{
+    let mut rest = bytes;
+    for _ in 0..count {
+        let (text, after) = rest.split_at(ACTION_LEN);
+        let Some(action) = action_of(text) else {
+            return Err(Left(rest.len()));
+        };
+        actions.push_reserved(action);
+        rest = after;
+    }
+    Ok(rest)
+}
+
+/// Reads a frame: the vector then holds its actions. Gives the bytes from the next gate on.
+#[tactic(auto, unfolding(crate::specs::Frames::frame_at))]
+fn frame_of<'a>(
+    bytes: &'a [u8],
+    epoch: u64,
+    count: u64,
+    actions: &mut Vec<Action>,
+) -> Result<&'a [u8], Left>
+    requires { 256 ≤ vec_capacity actions.old }
+    ensures actions { Gives (λ rest. (actions.new.items, rest.now)) result (frame_at epoch count bytes.now) }
+    ensures left { IfOk result (λ rest. length rest.now ≤ length bytes.now) }
+    ensures room { 256 ≤ vec_capacity actions.new }
+{
+    actions.clear();
+    let (number, rest) = head_of(bytes, epoch, count)?;
+    actions_of(number, rest, actions)
+}
+
+/// Reads the frame of an epoch behind `count` actions, from behind its gate on. The vector then
+/// holds its actions. Gives the place of the next gate.
+pub fn read_frame(
+    bytes: &[u8],
+    epoch: u64,
+    count: u64,
+    actions: &mut Vec<Action>,
+) -> Result<usize, Damage>
+    requires { 256 ≤ vec_capacity actions.old }
+    // What is read is spelled so, and the next gate lies behind it.
+    ensures found { IfOk result (λ end. IsFrame epoch (count + 1) actions.new.items × IsBefore (frame_text epoch (count + 1) actions.new.items) end bytes.now) }
+    // What is spelled so is read.
+    ensures only { (list : List AnAction) (gate : ℕ) (rest : List ℕ) → IsFrame epoch (count + 1) list → bytes.now ≡ frame_text epoch (count + 1) list ++ gate ∷ rest → (result ≡ Ok (18 + 16 * length list)) × (actions.new.items ≡ list) }
+    // Which field is damaged.
+    ensures exact { Reads bytes.now (λ end. (actions.new.items, drop end bytes.now)) result (frame_at epoch count bytes.now) }
+    ensures room { 256 ≤ vec_capacity actions.new }
+{
+    match frame_of(bytes, epoch, count, actions) {
+        Ok(rest) => Ok(bytes.len() - rest.len()),
+        Err(left) => Err(left.of(bytes)),
+    }
+}
+
+/// Writes a frame's body from behind its gate: the next gate is closed.
+pub fn write_frame_body(epoch: u64, first: u64, actions: &[Action], out: &mut [u8])
+    requires some { 1 ≤ length actions.now }
+    requires few { length actions.now ≤ 256 }
+    requires room { 19 + 16 * length actions.now ≤ length out.old }
+    ensures text { out.new ≡ frame_body epoch first actions.now ++ drop (19 + 16 * length actions.now) out.old }
+    ensures limits { IsFrame epoch first actions.now }
+{
+    let first_at = put(out, 0, &epoch.to_be_bytes());
+    let count_at = put(out, first_at, &first.to_be_bytes());
+    let mut at = put(out, count_at, &(actions.len() as u16).to_be_bytes());
+    for action in actions {
+        at = put_action(out, at, action);
+    }
+    put(out, at, &[0]);
+}

@@ -1,0 +1,29 @@
+//! Laws of the texts: each function does nothing, and its contract is the law.
+
+ghost use Rattle.std.specs.Prelude.{◌≡◌, ◌++◌, ℕ, List, length};
+ghost use Rattle.alm_types.specs.declared.action.Action.{Action};
+ghost use Rattle.alm_model.specs.Plant.{Condensed};
+ghost use Rattle.alm_model.specs.Rules.{KeepsRules};
+ghost use Rattle.alm_codec.specs.Actions.{IsAction, action_text};
+ghost use Rattle.alm_codec.specs.Frames.{IsFrame, frame_text};
+ghost use Rattle.alm_codec.specs.Image.{IsImage, IsOf, image_text, image_len};
+
+/// No text of an action begins another's.
+pub fn no_action_begins_another()
+    ensures { (a b : Action) (x y : List ℕ) → IsAction a → IsAction b → action_text a ++ x ≡ action_text b ++ y → a ≡ b }
+{}
+
+/// No text of a frame begins another's.
+pub fn no_frame_begins_another()
+    ensures { (e f d g : ℕ) (a b : List Action) (x y : List ℕ) → IsFrame e f a → IsFrame d g b → frame_text e f a ++ x ≡ frame_text d g b ++ y → (e ≡ d) × (f ≡ g) × (a ≡ b) }
+{}
+
+/// How long the image of a plant is.
+pub fn image_has_its_length()
+    ensures { (q : Condensed) → KeepsRules q → length (image_text q) ≡ image_len (length q.panel.rows) (length q.floods) }
+{}
+
+/// No image of a plant begins another's of as many rows, areas and actions.
+pub fn no_image_begins_another()
+    ensures { (q r : Condensed) (a b x y : List ℕ) → IsImage q a → IsImage r b → IsOf (length r.panel.rows) (length r.floods) r.panel.count q → a ++ x ≡ b ++ y → q ≡ r }
+{}

@@ -1,0 +1,38 @@
+//! Why the reading of an image stopped.
+
+ghost use Rattle.std.specs.Prelude.{◌≡◌};
+ghost use Rattle.alm_codec.specs.declared.stop.Stop.TheVariants.{Memory, Field};
+
+use crate::left::Left;
+use std::alloc::{AllocError, AllocFailed};
+
+/// Why the reading of an image stopped.
+#[derive(Debug, Drop)]
+pub enum Stop {
+    Memory,
+    Field(Left),
+}
+
+impl From<AllocError> for Stop {
+    ghost from_gives = { λ _ e. e ≡ Memory };
+
+    fn from(_e: AllocError) -> Stop {
+        Stop::Memory
+    }
+}
+
+impl<T: Drop> From<AllocFailed<T>> for Stop {
+    ghost from_gives = { λ _ e. e ≡ Memory };
+
+    fn from(_e: AllocFailed<T>) -> Stop {
+        Stop::Memory
+    }
+}
+
+impl From<Left> for Stop {
+    ghost from_gives = { λ left e. e ≡ Field left };
+
+    fn from(left: Left) -> Stop {
+        Stop::Field(left)
+    }
+}

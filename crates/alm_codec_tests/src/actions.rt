@@ -1,0 +1,96 @@
+//! The texts of actions.
+
+use alm_codec::{Damage, read_action, write_action};
+use alm_types::{Action, AlarmId, Moment, Reading};
+use std::test::Fail;
+
+/// Whether an action and a text are each other's.
+fn is_text(action: Action, text: &[u8; 16]) -> bool {
+    let mut out = [9; 17];
+    write_action(&action, &mut out);
+    read_action(text) == Ok(action) && out[..16] == text[..] && out[16] == 9
+}
+
+fn is_none(text: &[u8]) -> bool {
+    read_action(text) == Err(Damage { at: 0 })
+}
+
+#[test]
+fn texts_of_actions(rt: HostRuntime) -> Result<(), Fail> {
+    let moment = Moment::new(1000).ok_or("moment")?;
+    let high = Reading::new(800).ok_or("reading")?;
+    let below = Reading::new(-5).ok_or("reading")?;
+    assert!(rt;
+        is_text(
+            Action::Clock(moment),
+            &[1, 0, 0, 0, 0, 0, 0, 0, 0, 0, 0, 0, 0, 0, 3, 0xe8]
+        )
+    );
+    assert!(rt;
+        is_text(
+            Action::Value(AlarmId(0), high),
+            &[2, 0, 0, 0, 0, 0, 0, 0, 0, 0, 0, 0, 0, 0, 3, 0x20]
+        )
+    );
+    assert!(rt;
+        is_text(
+            Action::Ack(AlarmId(0)),
+            &[3, 0, 0, 0, 0, 0, 0, 0, 0, 0, 0, 0, 0, 0, 0, 0]
+        )
+    );
+    assert!(rt;
+        is_text(
+            Action::Shelve(AlarmId(0), 3600),
+            &[5, 0, 0, 0, 0, 0, 0, 0, 0, 0, 0, 0, 0, 0, 0x0e, 0x10]
+        )
+    );
+    assert!(rt;
+        is_text(
+            Action::Value(AlarmId(1), below),
+            &[
+                2, 0, 0, 0, 0, 0, 0, 1, 255, 255, 255, 255, 255, 255, 255, 0xfb
+            ]
+        )
+    );
+    assert!(rt;
+        is_text(
+            Action::Oos(AlarmId(2), true),
+            &[7, 0, 0, 0, 0, 0, 0, 2, 0, 0, 0, 0, 0, 0, 0, 1]
+        )
+    );
+    assert!(rt;
+        is_text(
+            Action::Reset(AlarmId(258)),
+            &[4, 0, 0, 0, 0, 0, 1, 2, 0, 0, 0, 0, 0, 0, 0, 0]
+        )
+    );
+    assert!(rt;
+        is_text(
+            Action::Unshelve(AlarmId(3)),
+            &[6, 0, 0, 0, 0, 0, 0, 3, 0, 0, 0, 0, 0, 0, 0, 0]
+        )
+    );
+    assert!(rt;
+        is_text(
+            Action::Design(AlarmId(3), false),
+            &[8, 0, 0, 0, 0, 0, 0, 3, 0, 0, 0, 0, 0, 0, 0, 0]
+        )
+    );
+    Ok(())
+}
+
+#[test]
+fn bytes_that_are_no_action(rt: HostRuntime) {
+    assert!(rt; is_none(&[]));
+    assert!(rt; is_none(&[3, 0, 0, 0, 0, 0, 0, 0, 0, 0, 0, 0, 0, 0, 0]));
+    assert!(rt; is_none(&[3, 0, 0, 0, 0, 0, 0, 0, 0, 0, 0, 0, 0, 0, 0, 0, 0]));
+    assert!(rt; is_none(&[0, 0, 0, 0, 0, 0, 0, 0, 0, 0, 0, 0, 0, 0, 0, 0]));
+    assert!(rt; is_none(&[9, 0, 0, 0, 0, 0, 0, 0, 0, 0, 0, 0, 0, 0, 0, 0]));
+    assert!(rt; is_none(&[3, 0, 0, 1, 0, 0, 0, 0, 0, 0, 0, 0, 0, 0, 0, 0]));
+    assert!(rt; is_none(&[3, 0, 0, 0, 0, 0, 0, 0, 0, 0, 0, 0, 0, 0, 0, 1]));
+    assert!(rt; is_none(&[1, 0, 0, 0, 0, 0, 0, 1, 0, 0, 0, 0, 0, 0, 3, 0xe8]));
+    assert!(rt; is_none(&[1, 0, 0, 0, 0, 0, 0, 0, 0, 0, 1, 0, 0, 0, 0, 0]));
+    assert!(rt; is_none(&[2, 0, 0, 0, 0, 0, 0, 0, 0, 0, 0, 0xe8, 0xd4, 0xa5, 0x10, 1]));
+    assert!(rt; is_none(&[5, 0, 0, 0, 0, 0, 0, 0, 0, 0, 0, 1, 0, 0, 0, 0]));
+    assert!(rt; is_none(&[7, 0, 0, 0, 0, 0, 0, 0, 0, 0, 0, 0, 0, 0, 0, 2]));
+}
