@@ -1,10 +1,9 @@
 -- What is read as an action is its text, and the text of an action is read as it.
-use Rattle.std.proofs.Common.{◌≡◌, ℕ, zero, suc, ◌+◌, ◌^◌, ◌<◌, ◌≤◌, Bool, true, false, ◌&&◌, cond, eqb, ltb, List, [], ◌∷◌, ◌++◌, length, get_or, take, drop, Option, Some, None, ◌⊎◌, inl, inr, refl, sym, ap, subst, ◌∙◌, arith, ℤ, pos, negsuc, ◌≤ℤ◌, of_z, to_z, FitsSigned}
+use Rattle.std.proofs.Common.{◌≡◌, ℕ, zero, ◌^◌, ◌<◌, Bool, true, false, ◌&&◌, cond, eqb, ltb, List, [], ◌∷◌, ◌++◌, length, take, Option, Some, None, inl, inr, refl, sym, ap, subst, ◌∙◌, arith, ℤ, pos, negsuc, of_z, to_z, FitsSigned}
 use Rattle.std.specs.Prelude.{option_map, IfOk}
 use Rattle.std.specs.Option.{ok_or}
 use Rattle.alm_codec.specs.declared.damage.Damage.{Damage}
 use Rattle.std.specs.Int.{w32, w64, from_be_bytes, to_be_bytes}
-use Rattle.std.proofs.lemmas.Grind.{common_steps}
 use Rattle.std.proofs.lemmas.Int.{ints, to_z-of_z, of_z-to_z}
 use Rattle.std.proofs.lemmas.Bool.{eqb-true, ltb-true, lt-ltb, and_parts}
 use Rattle.std.proofs.lemmas.Option.{same_Some, none-some}
@@ -13,7 +12,7 @@ use Rattle.alm_types.specs.declared.action.Action.{Action}
 use Rattle.alm_types.specs.declared.action.Action.TheVariants.{Clock, Value, Ack, Reset, Shelve, Unshelve, Oos, Design}
 use Rattle.alm_types.specs.declared.alarm_id.AlarmId.{AlarmId}
 use Rattle.alm_model.specs.Accept.{alarm_of}
-use Rattle.alm_codec.specs.Actions.{kind_of, argument_of, switch, text_of, action_text, IsReading, HasArgument, IsAction, limited, reading_at, without, either_way, meaning_for, meaning, action_at}
+use Rattle.alm_codec.specs.Actions.{kind_of, argument_of, switch, text_of, action_text, IsReading, HasArgument, IsAction, limited, reading_at, without, either_way, meaning, action_at}
 use Rattle.alm_codec.proofs.Bytes.{IsBytes, IsBytes-drop, IsBytes-take, chosen}
 
 -- ---- what is spelled so is read

@@ -1,5 +1,5 @@
 -- Alarms that are read one after the other.
-use Rattle.std.proofs.Common.{◌≡◌, ℕ, ◌+◌, List, [], ◌∷◌, ◌++◌, length, refl, ap, arith}
+use Rattle.std.proofs.Common.{◌≡◌, ℕ, List, [], ◌∷◌, ◌++◌, length, refl, ap, arith}
 use Rattle.alm_types.specs.declared.attr.Attr.{Attr}
 use Rattle.alm_state.specs.Rows.{State}
 use Rattle.alm_codec.specs.ImageFields.{Alarm, fixed_in, alarms_in}

@@ -1,24 +1,23 @@
 -- The format of an image has the laws of a format.
-use Rattle.std.proofs.Common.{◌≡◌, ℕ, zero, suc, ◌+◌, ◌-◌, ◌*◌, ◌^◌, ◌<◌, ◌≤◌, Bool, true, false, not, ◌&&◌, ◌||◌, cond, eqb, ltb, leb, List, [], ◌∷◌, ◌++◌, length, take, drop, replicate, sum, Option, Some, None, ◌⊎◌, inl, inr, refl, sym, ap, subst, ◌∙◌, arith, ℤ, of_z, to_z}
+use Rattle.std.proofs.Common.{◌≡◌, ℕ, zero, suc, ◌+◌, ◌-◌, ◌*◌, ◌^◌, ◌≤◌, Bool, true, false, not, ◌&&◌, ◌||◌, cond, eqb, ltb, leb, List, [], ◌∷◌, ◌++◌, length, take, drop, replicate, sum, Option, Some, None, inl, inr, refl, sym, ap, subst, ◌∙◌, arith, ℤ, of_z, to_z}
 use Rattle.std.specs.Prelude.{is_some, unwrap_or}
-use Rattle.std.specs.List.{list_all}
 use Rattle.std.specs.Int.{w32, w64}
 use Rattle.std.proofs.lemmas.Bool.{eqb-true, and_parts, leb-true}
 use Rattle.std.proofs.lemmas.Option.{same_Some, none-some, cond_some}
 use Rattle.std.proofs.lemmas.Int.{of_z-to_z}
-use Rattle.std.proofs.lemmas.List.{take-append-drop, length-take, length-drop, length-append}
+use Rattle.std.proofs.lemmas.List.{take-append-drop, length-take, length-drop}
 use Rattle.alm_types.specs.declared.kind.Kind.{Kind}
 use Rattle.alm_types.specs.declared.kind.Kind.TheVariants.{High, Low, Discrete}
 use Rattle.alm_types.specs.Texts.{is_tag, is_text, padded}
 use Rattle.alm_codec.specs.Image.{kind_code, core_code}
 use Rattle.alm_state.specs.declared.core_state.Core.{Core}
 use Rattle.alm_state.specs.declared.core_state.Core.TheVariants.{Normal, Unack, Acked, RtnUnack, LatchUnack, LatchAcked}
-use Rattle.alm_state.specs.Rows.{State, is_annunciated}
+use Rattle.alm_state.specs.Rows.{is_annunciated}
 use Rattle.alm_codec.specs.declared.fixed.Fixed.{Fixed}
 use Rattle.alm_codec.specs.declared.flags.Flags.{Flags}
 use Rattle.alm_codec.specs.Actions.{switch, reading_at}
-use Rattle.alm_codec.specs.Format.{Format, byte, number, raw, coded, tested, ruled, both, each, KeepEach}
-use Rattle.alm_codec.specs.ImageFields.{Alarm, Area, Image, u32, u64, flag_at, flag, kind_at, kind, is_deadband, setpoint, zeros, padded_at, text_in, fixed, core_at, core, flags_code, flags_in, is_flagged, flags, deadline_at, deadline, is_stamp, is_moment, moment_fields, moments, alarm, ages, is_flooded, area, all_ages, seen_then, areas_of, alarms_of, image}
+use Rattle.alm_codec.specs.Format.{Format, byte, raw, coded, tested, ruled, both, each, KeepEach}
+use Rattle.alm_codec.specs.ImageFields.{Alarm, Area, Image, u32, u64, flag_at, flag, kind_at, kind, is_deadband, setpoint, zeros, padded_at, text_in, fixed, core_at, core, flags_code, flags_in, is_flagged, flags, deadline_at, deadline, is_stamp, is_moment, moment_fields, moments, alarm, ages, is_flooded, area, all_ages, seen_then, areas_of, image}
 use Rattle.alm_codec.proofs.Bytes.{chosen}
 use Rattle.alm_codec.proofs.Actions.{limited_takes}
 use Rattle.alm_codec.proofs.Numbers.{wide32, wide64}

@@ -1,9 +1,7 @@
 -- A plant that keeps the rules keeps those of the fields of its image.
-use Rattle.std.proofs.Common.{◌≡◌, ℕ, zero, suc, ◌+◌, ◌-◌, ◌*◌, ◌^◌, ◌<◌, ◌≤◌, Bool, true, false, not, ◌&&◌, ◌||◌, cond, eqb, ltb, leb, List, [], ◌∷◌, ◌++◌, length, map, take, drop, replicate, sum, sum_by, All, Option, Some, None, ◌⊎◌, inl, inr, refl, sym, ap, subst, ◌∙◌, arith, ℤ}
-use Rattle.std.specs.Prelude.{slice_get, slice_index, is_some, unwrap_or, IsTrue, ◌↔◌}
-use Rattle.std.specs.Int.{w64, cast_unsigned}
-use Rattle.std.specs.List.{list_all}
-use Rattle.std.proofs.lemmas.Bool.{and_parts, le-leb, lt-leb, lt-ltb, le-ltb, leb-true, cases_lt}
+use Rattle.std.proofs.Common.{◌≡◌, ℕ, zero, suc, ◌+◌, ◌-◌, ◌*◌, ◌^◌, ◌<◌, ◌≤◌, Bool, true, false, not, ◌&&◌, ◌||◌, cond, eqb, ltb, leb, List, [], ◌∷◌, length, map, take, drop, replicate, sum, sum_by, All, Option, Some, None, inl, inr, refl, sym, ap, subst, ◌∙◌, arith}
+use Rattle.std.specs.Prelude.{slice_get, slice_index, is_some, IsTrue, ◌↔◌}
+use Rattle.std.proofs.lemmas.Bool.{and_parts, le-leb, lt-ltb, le-ltb, leb-true, cases_lt}
 use Rattle.std.proofs.lemmas.List.{take_at, drop_at, length-append, length-replicate}
 use Rattle.std.proofs.lemmas.Option.{get_or_from_slice_get, slice_get_within}
 use Rattle.std.proofs.lemmas.List.Sums.{sum_by-cons}
@@ -15,19 +13,18 @@ use Rattle.alm_types.specs.declared.kind.Kind.{Kind}
 use Rattle.alm_types.specs.declared.kind.Kind.TheVariants.{High, Low, Discrete}
 use Rattle.alm_state.specs.declared.core_state.Core.{Core}
 use Rattle.alm_state.specs.declared.core_state.Core.TheVariants.{Normal, Unack, Acked, RtnUnack, LatchUnack, LatchAcked}
-use Rattle.alm_state.specs.Rows.{State, IsState, is_suppressed, is_annunciated, is_active_core}
+use Rattle.alm_state.specs.Rows.{State, is_suppressed, is_annunciated, is_active_core}
 use Rattle.alm_state.specs.Suits.{suits, IsAhead}
 use Rattle.alm_model.specs.Plant.{Condensed}
-use Rattle.alm_model.specs.Rules.{IsAges, IsAlarm, IsFalling, KeepsRules}
+use Rattle.alm_model.specs.Rules.{IsAges, IsAlarm, IsFalling}
 use Rattle.alm_model.specs.Step.{is_flood, settled}
 use Rattle.alm_codec.specs.declared.flags.Flags.{Flags}
-use Rattle.alm_codec.specs.Actions.{switch}
-use Rattle.alm_codec.specs.Format.{Format, byte, coded, tested, raw, KeepEach}
-use Rattle.alm_codec.specs.Image.{kind_code, core_code, IsImage, IsOf}
-use Rattle.alm_codec.specs.ImageFields.{Alarm, Area, u32, u64, flag, kind, setpoint, zeros, padded_at, text_in, is_deadband, fixed, fixed_in, core_at, core, flags_in, flags_code, same_bool, is_flagged, flags, deadline_at, deadline, stands_in, seen_then, is_stamp, is_moment, moments, alarm, age_field, ages, is_flooded, area, all_ages, image, areas_in, alarms_in, image_in}
+use Rattle.alm_codec.specs.Format.{Format, byte, coded, tested, KeepEach}
+use Rattle.alm_codec.specs.Image.{IsImage, IsOf}
+use Rattle.alm_codec.specs.ImageFields.{Area, u32, u64, flag, kind, zeros, padded_at, text_in, is_deadband, fixed, fixed_in, core, flags_in, flags_code, same_bool, is_flagged, deadline, stands_in, seen_then, is_stamp, is_moment, moments, alarm, age_field, ages, is_flooded, area, all_ages, image, areas_in, alarms_in, image_in}
 use Rattle.alm_codec.proofs.Actions.{word_fits, reading_again}
 use Rattle.alm_codec.proofs.Alarms.{alarm_from}
-use Rattle.alm_codec.proofs.KeptImage.{AlarmsKept, stamp_at}
+use Rattle.alm_codec.proofs.KeptImage.{stamp_at}
 use Rattle.alm_codec.proofs.Seen.{clash, then-misses}
 
 deadband_fits : (k : Kind) (n : ℕ) → n ≤ deadband_limit k → n < 2 ^ 64

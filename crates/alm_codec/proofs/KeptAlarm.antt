@@ -1,7 +1,7 @@
 -- What the rules of an alarm's fields say of the alarm.
-use Rattle.std.proofs.Common.{◌≡◌, ℕ, zero, suc, ◌+◌, ◌-◌, ◌<◌, ◌≤◌, Bool, true, false, not, ◌&&◌, ◌||◌, cond, eqb, ltb, leb, List, [], ◌∷◌, length, Option, Some, None, refl, sym, ap, subst, ◌∙◌, arith}
+use Rattle.std.proofs.Common.{◌≡◌, ℕ, ◌+◌, ◌<◌, ◌≤◌, Bool, true, false, not, ◌&&◌, ◌||◌, cond, eqb, ltb, leb, List, [], ◌∷◌, length, Option, Some, None, refl, subst, arith}
 use Rattle.std.specs.Prelude.{is_some, unwrap_or, IsTrue}
-use Rattle.std.proofs.lemmas.Bool.{eqb-true, and_parts, leb-true, ltb-true, le-leb}
+use Rattle.std.proofs.lemmas.Bool.{eqb-true, and_parts, leb-true, ltb-true}
 use Rattle.std.proofs.lemmas.Option.{none-some, cond_some}
 use Rattle.alm_types.specs.Attributes.{deadband_limit}
 use Rattle.alm_state.specs.declared.core_state.Core.{Core}
@@ -12,7 +12,7 @@ use Rattle.alm_model.specs.Rules.{IsFalling}
 use Rattle.alm_codec.specs.declared.flags.Flags.{Flags}
 use Rattle.alm_codec.specs.Format.{Format, byte, coded, tested}
 use Rattle.alm_codec.specs.Image.{core_code}
-use Rattle.alm_codec.specs.ImageFields.{Alarm, u32, u64, is_deadband, core_at, flags_in, flags_code, same_bool, is_flagged, deadline_at, deadline, stands_in, is_stamp, is_moment, moments, alarm}
+use Rattle.alm_codec.specs.ImageFields.{Alarm, u32, u64, is_deadband, core_at, flags_in, flags_code, same_bool, is_flagged, deadline_at, stands_in, is_stamp, is_moment, moments, alarm}
 
 -- what is known of an alarm behind others whose stamps were seen
 pub record Facts (now next areas : ℕ) (seen : List ℕ) (x : Alarm) : Type 0 where

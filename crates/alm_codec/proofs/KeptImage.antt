@@ -1,8 +1,8 @@
 -- What was read of an image keeps the rules of a plant.
-use Rattle.std.proofs.Common.{◌≡◌, ℕ, zero, suc, ◌+◌, ◌-◌, ◌*◌, ◌^◌, ◌<◌, ◌≤◌, Bool, true, false, ◌&&◌, ◌||◌, cond, eqb, ltb, leb, List, [], ◌∷◌, ◌++◌, length, map, sum, sum_by, All, Option, Some, None, ◌⊎◌, inl, inr, refl, sym, ap, subst, ◌∙◌, arith}
+use Rattle.std.proofs.Common.{◌≡◌, ℕ, zero, suc, ◌+◌, ◌*◌, ◌^◌, ◌<◌, ◌≤◌, Bool, true, false, ◌&&◌, ◌||◌, cond, eqb, ltb, leb, List, [], ◌∷◌, length, map, sum, sum_by, All, Some, refl, sym, ap, subst, ◌∙◌, arith}
 use Rattle.std.specs.Prelude.{slice_get, slice_index}
-use Rattle.std.proofs.lemmas.Bool.{and_parts, leb-true, ltb-true, eqb-true, lt-leb, lt-ltb, le-ltb}
-use Rattle.std.proofs.lemmas.Option.{none-some, same_Some, cond_some, slice_get_within}
+use Rattle.std.proofs.lemmas.Bool.{and_parts, leb-true, ltb-true, eqb-true, lt-leb, le-ltb}
+use Rattle.std.proofs.lemmas.Option.{none-some, same_Some}
 use Rattle.std.proofs.lemmas.List.Elements.{All-cons, All-nil}
 use Rattle.std.proofs.lemmas.List.Sums.{sum_by-cons}
 use Rattle.alm_types.specs.declared.attr.Attr.{Attr}
@@ -11,9 +11,9 @@ use Rattle.alm_model.specs.Lists.{key_of, stamp}
 use Rattle.alm_model.specs.Plant.{Condensed}
 use Rattle.alm_model.specs.Rules.{IsAges, IsAlarm, KeepsRules}
 use Rattle.alm_model.specs.Step.{is_flood, settled}
-use Rattle.alm_codec.specs.Format.{tested, KeepEach}
-use Rattle.alm_codec.specs.Image.{IsImage, IsOf, image_text}
-use Rattle.alm_codec.specs.ImageFields.{Alarm, Area, u64, alarm, area, age_field, ages, is_flooded, stands_in, seen_then, all_ages, moment, next_stamp, image, areas_in, alarms_in, image_in}
+use Rattle.alm_codec.specs.Format.{KeepEach}
+use Rattle.alm_codec.specs.Image.{IsOf}
+use Rattle.alm_codec.specs.ImageFields.{Area, u64, alarm, area, age_field, ages, is_flooded, stands_in, seen_then, all_ages, image, areas_in, alarms_in, image_in}
 use Rattle.alm_codec.proofs.Alarms.{alarm_from}
 use Rattle.alm_codec.proofs.ImageLaws.{each_length}
 use Rattle.alm_codec.proofs.KeptAlarm.{Facts, facts, passes}

@@ -1,16 +1,15 @@
 -- Plants of one image are one plant.
-use Rattle.std.proofs.Common.{◌≡◌, ℕ, ◌+◌, ◌≤◌, ◌<◌, Bool, List, [], ◌∷◌, ◌++◌, length, Option, Some, None, Result, Ok, Err, refl, sym, ap, subst, ◌∙◌, arith, ℤ, ◌≤ℤ◌, pos, negsuc}
+use Rattle.std.proofs.Common.{◌≡◌, ℕ, ◌≤◌, ◌<◌, Bool, List, [], ◌∷◌, ◌++◌, length, Result, Ok, Err, refl, sym, ap, subst, ◌∙◌, arith, ◌≤ℤ◌, pos, negsuc}
 use Rattle.std.specs.Prelude.{IsTrue}
 use Rattle.std.proofs.lemmas.List.{append-nil}
 use Rattle.alm_types.specs.Texts.{is_tag, is_text}
 use Rattle.alm_types.specs.Attributes.{deadband_limit}
 use Rattle.alm_types.specs.declared.attr.Attr.{Attr}
 use Rattle.alm_state.specs.Rows.{State}
-use Rattle.alm_model.specs.Plant.{Condensed, Panel}
+use Rattle.alm_model.specs.Plant.{Condensed}
 use Rattle.alm_model.specs.Rules.{KeepsRules}
 use Rattle.alm_codec.specs.declared.fixed.Fixed.{Fixed}
-use Rattle.alm_codec.specs.Format.{Format}
-use Rattle.alm_codec.specs.Image.{IsImage, IsOf, image_text}
+use Rattle.alm_codec.specs.Image.{IsImage, IsOf}
 use Rattle.alm_codec.specs.ImageFields.{Alarm, Area, Image, image, fixed_in, areas_in, alarms_in, image_in}
 use Rattle.alm_codec.proofs.Alarms.{alarm_from}
 use Rattle.alm_codec.proofs.Bytes.{IsBytes}

@@ -1,10 +1,10 @@
 -- The fields of an image spell its text, which has a length.
-use Rattle.std.proofs.Common.{◌≡◌, ℕ, zero, suc, ◌+◌, ◌-◌, ◌*◌, ◌<◌, ◌≤◌, Bool, ◌||◌, leb, eqb, Some, subst, List, [], ◌∷◌, ◌++◌, length, replicate, sum, refl, sym, ap, ◌∙◌, arith}
+use Rattle.std.proofs.Common.{◌≡◌, ℕ, zero, suc, ◌+◌, ◌-◌, ◌*◌, ◌<◌, ◌≤◌, Bool, ◌||◌, leb, eqb, Some, subst, List, [], ◌∷◌, ◌++◌, length, replicate, refl, ap, ◌∙◌, arith}
 use Rattle.std.specs.Prelude.{slice_get}
 use Rattle.std.proofs.lemmas.Option.{get_or_from_slice_get, slice_get_within}
 use Rattle.std.specs.Int.{w64, to_be_bytes}
 use Rattle.std.proofs.lemmas.List.{length-append, length-replicate}
-use Rattle.alm_types.specs.Texts.{padded, is_tag, is_text}
+use Rattle.alm_types.specs.Texts.{padded}
 use Rattle.alm_types.proofs.Padding.{length-tag, length-text}
 use Rattle.alm_types.specs.declared.attr.Attr.{Attr}
 use Rattle.alm_state.specs.Rows.{State}
@@ -13,9 +13,9 @@ use Rattle.alm_model.specs.Rules.{KeepsRules}
 use Rattle.alm_state.specs.Showing.{flags_of}
 use Rattle.alm_model.specs.Lists.{deadline}
 use Rattle.alm_codec.specs.Actions.{switch}
-use Rattle.alm_codec.specs.Format.{Format, tested, spell_each}
+use Rattle.alm_codec.specs.Format.{tested, spell_each}
 use Rattle.alm_codec.specs.Image.{core_code, words, settings_text, placed, attr_text, row_text, area_text, area_texts, alarm_texts, image_text, image_len}
-use Rattle.alm_codec.specs.ImageFields.{Alarm, Area, u64, alarm, area, age_field, is_moment, seen_then, image, areas_in, alarms_in, image_in}
+use Rattle.alm_codec.specs.ImageFields.{u64, alarm, area, is_moment, seen_then, image, areas_in, alarms_in, image_in}
 use Rattle.alm_codec.proofs.Alarms.{alarm_from}
 
 spell_words : {S : Type 0} (test : S → ℕ → Bool) (next : S → ℕ → S) (s : S) (list : List ℕ) → spell_each (λ s. tested u64 (test s)) next s list ≡ words list

@@ -1,5 +1,5 @@
 -- What the parts that a reader fills stand for.
-use Rattle.std.specs.Prelude.{ℕ, ◌-◌, ◌≤◌, ◌<◌, List, take, Option, Some, None, nat_le, if◌then◌else◌}
+use Rattle.std.specs.Prelude.{◌≤◌, ◌<◌, take}
 use Rattle.alm_types.specs.Attributes.{deadband_limit}
 use Rattle.alm_state.specs.Rows.{IsState}
 use Rattle.alm_codec.specs.declared.alarm_parts.AlarmParts.{AlarmParts}

@@ -1,5 +1,5 @@
 -- Reading from left to right. A damaged field is told by how many bytes were left where it begins.
-use Rattle.std.specs.Prelude.{◌≡◌, ℕ, ◌-◌, ◌≤◌, Bool, List, [], ◌∷◌, length, take, drop, Result, Ok, Err, nat_lt, if◌then◌else◌}
+use Rattle.std.specs.Prelude.{◌≡◌, ℕ, ◌-◌, Bool, List, [], ◌∷◌, length, take, drop, Result, Ok, Err, nat_lt, if◌then◌else◌}
 use Rattle.std.specs.Int.{Width, byte_len, from_be_bytes}
 use Rattle.alm_codec.specs.declared.left.Left.{Left}
 use Rattle.alm_codec.specs.declared.damage.Damage.{Damage}

@@ -1,6 +1,5 @@
-use Rattle.std.proofs.Common.{◌≡◌, ◌+◌, ◌++◌, ◌∷◌, [], List, length, sym, ap, ◌∙◌, arith}
-use Rattle.alm_codec.specs.Format.{read_each}
-use Rattle.alm_codec.specs.ImageFields.{Alarm, alarm, alarms_in, seen_then}
+use Rattle.std.proofs.Common.{arith}
+use Rattle.alm_codec.specs.ImageFields.{alarm, alarms_in, seen_then}
 use Rattle.alm_codec.proofs.Loops.{goes_on, fails, is_done}
 use Rattle.alm_codec.proofs.alarm_lists.alarms_of.Goals as goal
 

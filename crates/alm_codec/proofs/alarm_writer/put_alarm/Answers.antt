@@ -1,6 +1,4 @@
-use Rattle.std.proofs.Common.{◌≡◌, ◌+◌, ◌++◌, ◌∷◌, [], List, ℕ, length, sym, ap, subst, ◌∙◌, append_assoc, arith}
-use Rattle.std.specs.Int.{w64, cast_unsigned}
-use Rattle.alm_codec.specs.Writing.{Wrote}
+use Rattle.std.proofs.Common.{arith}
 use Rattle.alm_codec.proofs.Writing.{Wrote-then}
 use Rattle.alm_codec.proofs.alarm_writer.put_alarm.Goals as goal
 

@@ -1,5 +1,5 @@
-use Rattle.std.proofs.Common.{◌≡◌, ◌+◌, ◌++◌, ◌∷◌, [], List, ℕ, length, sym, ap, subst, ◌∙◌, append_assoc, arith}
-use Rattle.std.specs.Int.{w64, cast_unsigned}
+use Rattle.std.proofs.Common.{◌++◌, List, ℕ, ap, subst, ◌∙◌, arith}
+use Rattle.std.specs.Int.{w64}
 use Rattle.alm_codec.specs.Writing.{Wrote}
 use Rattle.alm_codec.proofs.Writing.{Wrote-then}
 use Rattle.std.specs.Int.{to_be_bytes}

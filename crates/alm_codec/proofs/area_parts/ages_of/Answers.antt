@@ -1,8 +1,7 @@
-use Rattle.std.proofs.Common.{◌≡◌, ◌+◌, ◌-◌, ◌∷◌, [], List, ℕ, take, length, subst, sym, ap, ◌∙◌, arith, Ok}
+use Rattle.std.proofs.Common.{◌+◌, List, ℕ, take, ap, ◌∙◌, arith, Ok}
 use Rattle.std.proofs.lemmas.List.{take_more_set, take_all, length-set}
-use Rattle.alm_codec.specs.Format.{read_each}
 use Rattle.alm_codec.specs.ImageFields.{age_field}
-use Rattle.alm_codec.proofs.Loops.{with_front, goes_on, fails, is_done}
+use Rattle.alm_codec.proofs.Loops.{goes_on, fails, is_done}
 use Rattle.alm_codec.proofs.area_parts.ages_of.Goals as goal
 
 pub returns-in-Err : goal.returns-in-Err

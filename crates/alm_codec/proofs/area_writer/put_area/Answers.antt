@@ -1,10 +1,9 @@
-use Rattle.std.proofs.Common.{◌≡◌, ◌+◌, ◌*◌, ◌++◌, ◌∷◌, [], List, ℕ, Some, length, take, get_or, sym, ap, subst, ◌∙◌, append_assoc, arith, refl}
+use Rattle.std.proofs.Common.{◌∷◌, [], ℕ, ap, subst, ◌∙◌, arith}
 use Rattle.std.specs.Prelude.{slice_get, unwrap_or}
 use Rattle.alm_codec.specs.Writing.{Wrote}
-use Rattle.alm_codec.proofs.Writing.{Wrote-then, Wrote-nothing}
+use Rattle.alm_codec.proofs.Writing.{Wrote-then}
 use Rattle.std.proofs.lemmas.Option.{slice_get-get_or}
-use Rattle.alm_codec.specs.Actions.{switch}
-use Rattle.alm_codec.specs.Image.{words, area_text_of}
+use Rattle.alm_codec.specs.Image.{words}
 use Rattle.alm_codec.proofs.WrittenImage.{area_is}
 use Rattle.alm_codec.proofs.area_writer.put_area.Goals as goal
 

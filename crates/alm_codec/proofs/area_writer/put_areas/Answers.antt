@@ -1,9 +1,7 @@
-use Rattle.std.proofs.Common.{◌≡◌, ◌+◌, ◌*◌, ◌++◌, ◌∷◌, [], List, ℕ, Some, length, take, get_or, sym, ap, subst, ◌∙◌, append_assoc, arith, refl}
-use Rattle.std.specs.Prelude.{slice_get, unwrap_or}
+use Rattle.std.proofs.Common.{subst, arith}
 use Rattle.alm_codec.specs.Writing.{Wrote}
 use Rattle.alm_codec.proofs.Writing.{Wrote-then, Wrote-nothing}
 use Rattle.std.proofs.lemmas.List.{take_all}
-use Rattle.alm_codec.specs.Image.{area_texts}
 use Rattle.alm_codec.proofs.WrittenImage.{area_texts-more}
 use Rattle.alm_codec.proofs.area_writer.put_areas.Goals as goal
 

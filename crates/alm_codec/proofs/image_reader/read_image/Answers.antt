@@ -1,7 +1,7 @@
-use Rattle.std.proofs.Common.{◌≡◌, List, ℕ, Ok, sym, ap, ◌∙◌, arith}
+use Rattle.std.proofs.Common.{List, ℕ, Ok, ap, ◌∙◌, arith}
 use Rattle.alm_model.specs.Plant.{Condensed}
 use Rattle.alm_model.specs.Parts.{plant_of}
-use Rattle.alm_codec.specs.Image.{IsImage, IsOf}
+use Rattle.alm_codec.specs.Image.{IsOf}
 use Rattle.alm_codec.specs.ImageFields.{image_in}
 use Rattle.alm_codec.proofs.SameImage.{image_found, image_only, image_ends, image_undamaged, nothing}
 use Rattle.alm_codec.proofs.image_reader.read_image.Goals as goal

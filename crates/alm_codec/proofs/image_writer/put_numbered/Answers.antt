@@ -1,7 +1,6 @@
-use Rattle.std.proofs.Common.{◌≡◌, ◌+◌, ◌*◌, ◌++◌, ◌∷◌, [], List, ℕ, Some, length, take, get_or, sym, ap, subst, ◌∙◌, append_assoc, arith, refl}
-use Rattle.std.specs.Prelude.{slice_get, unwrap_or}
+use Rattle.std.proofs.Common.{[], sym, subst, ◌∙◌, arith}
+use Rattle.std.specs.Prelude.{slice_get}
 use Rattle.alm_codec.specs.Writing.{Wrote}
-use Rattle.alm_codec.proofs.Writing.{Wrote-then, Wrote-nothing}
 use Rattle.std.proofs.lemmas.Option.{slice_get-get_or}
 use Rattle.alm_codec.proofs.WrittenImage.{alarm_is, moments_few}
 use Rattle.alm_codec.proofs.image_writer.put_numbered.Goals as goal

@@ -1,10 +1,5 @@
-use Rattle.std.proofs.Common.{◌≡◌, ◌+◌, ◌*◌, ◌++◌, ◌∷◌, [], List, ℕ, Some, length, take, get_or, sym, ap, subst, ◌∙◌, append_assoc, arith, refl}
-use Rattle.std.specs.Prelude.{slice_get, unwrap_or}
-use Rattle.alm_codec.specs.Writing.{Wrote}
-use Rattle.alm_codec.proofs.Writing.{Wrote-then, Wrote-nothing}
-use Rattle.std.proofs.Common.{drop}
-use Rattle.std.specs.Int.{w64, to_be_bytes}
-use Rattle.alm_codec.specs.Image.{area_texts, alarm_texts, image_len, image_text}
+use Rattle.std.proofs.Common.{◌∙◌, arith}
+use Rattle.alm_codec.proofs.Writing.{Wrote-then}
 use Rattle.alm_codec.proofs.WrittenImage.{image_is}
 use Rattle.alm_codec.proofs.image_writer.write_image.Goals as goal
 

@@ -1,8 +1,8 @@
-use Rattle.std.proofs.Common.{◌≡◌, ◌++◌, ◌∷◌, [], List, ℕ, sym, ap, ◌∙◌, arith, take}
+use Rattle.std.proofs.Common.{◌++◌, ◌∷◌, [], List, ℕ, ap, ◌∙◌}
 use Rattle.alm_types.specs.declared.attr.Attr.{Attr}
 use Rattle.alm_state.specs.Rows.{State}
 use Rattle.alm_codec.specs.declared.fixed.Fixed.{Fixed}
-use Rattle.alm_codec.specs.ImageFields.{Alarm, alarms_in, fixed_in}
+use Rattle.alm_codec.specs.ImageFields.{Alarm, alarms_in}
 use Rattle.alm_codec.specs.Parts.{alarm_in}
 use Rattle.alm_codec.proofs.Alarms.{alarms_in-push}
 use Rattle.alm_codec.proofs.alarm_lists.AlarmLists.push.Goals as goal
