@@ -1,5 +1,4 @@
 //! The exchange of `alm_rings_bench` over two channels of 64 of Rust's own library.
-use std::hint::spin_loop;
 use std::sync::mpsc::{Receiver, SyncSender, TrySendError, sync_channel};
 use std::thread;
 
@@ -23,20 +22,9 @@ struct Receipt {
     number: u64,
 }
 
-/// Lets the other thread go on: by a short spin, and each 64th time by giving the processor away.
-fn rest(turns: &mut u8) {
-    *turns = turns.wrapping_add(1);
-    if *turns % 64 == 0 {
-        thread::yield_now();
-    } else {
-        spin_loop();
-    }
-}
-
 fn ask(requests: SyncSender<Action>, replies: Receiver<Receipt>, count: u64) -> (u64, u64) {
     let (mut sent, mut received) = (0, 0);
     let mut sends = true;
-    let mut turns = 0;
     while received < count {
         if sends && sent < count && sent - received < 64 && requests.try_send(Action::Ack(0)).is_ok() {
             sent += 1;
@@ -45,7 +33,7 @@ fn ask(requests: SyncSender<Action>, replies: Receiver<Receipt>, count: u64) -> 
             received += 1;
         } else {
             sends = true;
-            rest(&mut turns);
+            thread::yield_now();
         }
     }
     (sent, received)
@@ -53,7 +41,6 @@ fn ask(requests: SyncSender<Action>, replies: Receiver<Receipt>, count: u64) -> 
 
 fn answer(requests: Receiver<Action>, replies: SyncSender<Receipt>, count: u64) -> u64 {
     let mut answered = 0;
-    let mut turns = 0;
     while answered < count {
         match requests.try_recv() {
             Ok(_) => {
@@ -64,7 +51,7 @@ fn answer(requests: Receiver<Action>, replies: SyncSender<Receipt>, count: u64) 
                     panic!("no place");
                 }
             }
-            Err(_) => rest(&mut turns),
+            Err(_) => thread::yield_now(),
         }
     }
     answered

@@ -7,20 +7,9 @@ use crate::untold::{Untold, refused};
 use alm_rings::{Console, Inbox, Outbox, SlotReport, close_slot, open_slot};
 use alm_types::{Action, AlarmId, Slot};
 use std::alloc::{AllocError, Global};
-use std::hint::spin_loop;
 use std::sync::Wait;
 use std::thread;
 use std::thread::Threads;
-
-/// Lets the other thread go on: by a short spin, and each 64th time by giving the processor away.
-fn rest(turns: &mut u8) {
-    *turns = turns.wrapping_add(1);
-    if *turns % 64 == 0 {
-        thread::yield_now();
-    } else {
-        spin_loop();
-    }
-}
 
 /// Sends so many requests and receives their receipts, by turns: as many as go, then as many as come.
 fn ask(rt: &impl Wait, console: Console<Untold>, requests: u64) -> Console<Untold>
@@ -30,7 +19,6 @@ fn ask(rt: &impl Wait, console: Console<Untold>, requests: u64) -> Console<Untol
     let mut sent = 0;
     let mut received = 0;
     let mut sends = true;
-    let mut turns = 0;
     for _ in rt.forever() {
         if received >= requests {
             break;
@@ -42,7 +30,7 @@ fn ask(rt: &impl Wait, console: Console<Untold>, requests: u64) -> Console<Untol
             received += 1;
         } else {
             sends = true;
-            rest(&mut turns);
+            thread::yield_now();
         }
     }
     console
@@ -60,7 +48,6 @@ fn answer(
     let mut inbox = inbox;
     let mut outbox = outbox;
     let mut answered = 0;
-    let mut turns = 0;
     for _ in rt.forever() {
         if answered >= requests {
             break;
@@ -70,7 +57,7 @@ fn answer(
                 answered += 1;
                 let _ = outbox.release(refused(serial));
             }
-            None => rest(&mut turns),
+            None => thread::yield_now(),
         }
     }
     (inbox, outbox)
