@@ -3,14 +3,9 @@
 # ratios of the best times. It needs rt and cc.
 set -eu
 here="$(cd "$(dirname "$0")" && pwd)"
-top="$(cd "$here/../.." && pwd)"
-work="$(mktemp -d)"
-trap 'rm -rf "$work"' EXIT
+. "$here/../turns.sh"
 
-(cd "$top/crates/alm_codec_speed" && rt run > "$work/build.log" 2>&1) || {
-    tail -20 "$work/build.log"
-    exit 1
-}
+build alm_codec_speed
 cc -O2 "$here/plain.c" -o "$work/plain"
 
 for _ in 1 2 3 4 5; do

@@ -1,31 +1,10 @@
 #!/usr/bin/env bash
-# Times the chains and the wheel beside plain Rust on the same input, in turns, and prints the ratio of the best times.
-# It needs rt and rustc.
+# Times the chains and the wheel beside plain Rust on the same input. It needs rt and rustc.
 set -eu
 here="$(cd "$(dirname "$0")" && pwd)"
-top="$(cd "$here/../.." && pwd)"
-work="$(mktemp -d)"
-trap 'rm -rf "$work"' EXIT
+. "$here/../turns.sh"
 
-(cd "$top/crates/alm_links_speed" && rt run > "$work/build.log" 2>&1) || {
-    tail -20 "$work/build.log"
-    exit 1
-}
+build alm_links_speed
 rustc -O "$here/plain.rs" -o "$work/plain"
-
-for _ in 1 2 3 4 5; do
-    "$top/crates/alm_links_speed/out/alm_links_speed" 2>&1 > "$work/sums" | sed 's/^/ours /' >> "$work/times"
-    "$work/plain" | sed 's/^/plain /' >> "$work/times"
-done
-
-awk '
-    { key = $2; if (!(key in sum)) { order[++n] = key; sum[key] = $3 } }
-    sum[key] != $3 { print "the answers differ at " key; bad = 1 }
-    !(($1, key) in best) || $4 < best[$1, key] { best[$1, key] = $4 }
-    END {
-        for (i = 1; i <= n; i++) {
-            key = order[i]
-            printf "%-28s ours %7.1f ms   plain %7.1f ms   ratio %.2f\n", key, best["ours", key] / 1e6, best["plain", key] / 1e6, best["ours", key] / best["plain", key]
-        }
-        exit bad
-    }' "$work/times"
+run_in_turns alm_links_speed
+print_ratios ms 1e6

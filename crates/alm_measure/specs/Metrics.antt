@@ -42,6 +42,10 @@ advanced t m = record m { now = t; ages = map (aged (t - m.now)) m.ages }
 abbrev pub windows : Metrics → List ℕ
 windows m = map sum m.ages
 
+-- the window of an alarm's area
+abbrev pub window_around : ℕ → Metrics → ℕ
+window_around alarm m = slice_index (windows m) (slice_index m.areas alarm)
+
 -- the floods begin and end by their windows
 abbrev pub settled_by_windows : Metrics → Metrics
 settled_by_windows m = record m { floods = settled (windows m) m.floods }

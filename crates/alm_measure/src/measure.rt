@@ -3,7 +3,7 @@
 ghost use Rattle.std.specs.Prelude.{◌≡◌, ◌+◌, ◌^◌, ◌<◌, ◌≤◌, IfOk, Some, length, map, slice_get, sum, sum_by, vec_capacity};
 ghost use Rattle.alm_model.specs.Lists.{moments_in};
 ghost use Rattle.alm_model.specs.Parts.{age_in};
-ghost use Rattle.alm_measure.specs.Metrics.{advanced, annunciated, chattering, new_metrics, settled_by_windows, windows};
+ghost use Rattle.alm_measure.specs.Metrics.{advanced, annunciated, chattering, new_metrics, settled_by_windows, window_around, windows};
 
 use crate::chatter::fill_chattering;
 use crate::ring::Ring;
@@ -99,14 +99,13 @@ impl Measure {
         })
     }
 
-    /// An alarm is annunciated now: one more in its area, and one more moment of its own.
+    /// An alarm of the table is annunciated now: one more in its area, and one more moment of its own.
     ///
-    /// It is an alarm of the table, and the annunciations of the last 600 seconds stay below 2^64. A plant keeps that, since
-    /// each of them took a stamp.
+    /// A window counts up to 2^64 - 1: where it is full it stays, and the moment is noted all the same.
     pub fn annunciated(&mut self, id: AlarmId)
-        requires alarm { id.0 < length self.old.areas }
-        requires limit { sum_by sum self.old.ages + 1 < 2 ^ 64 }
-        ensures { self.new ≡ annunciated id.0 self.old }
+        requires { id.0 < length self.old.areas }
+        ensures counted { window_around id.0 self.old + 1 < 2 ^ 64 → self.new ≡ annunciated id.0 self.old }
+        ensures full { 2 ^ 64 ≤ window_around id.0 self.old + 1 → self.new ≡ record (annunciated id.0 self.old) { ages = self.old.ages } }
     {
         let alarm = id.0 as usize;
         let area = self.areas[alarm] as usize;

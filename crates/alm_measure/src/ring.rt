@@ -1,6 +1,6 @@
 //! Counts of the last 600 seconds.
 
-ghost use Rattle.std.specs.Prelude.{◌+◌, ◌^◌, ◌<◌, ◌≡◌, replicate, slice_index, sum};
+ghost use Rattle.std.specs.Prelude.{◌+◌, ◌^◌, ◌<◌, ◌≤◌, ◌≡◌, replicate, slice_index, sum};
 ghost use Rattle.alm_model.specs.Keeping.{aged, one_more};
 
 use alm_model::Ages;
@@ -85,13 +85,16 @@ impl Ring {
         self.total
     }
 
-    /// One more annunciation of age 0.
+    /// One more annunciation of age 0. Where the total is 2^64 - 1, the counts stay.
     pub fn note(&mut self)
-        requires { sum self.old + 1 < 2 ^ 64 }
-        ensures { self.new ≡ one_more self.old }
+        ensures counted { sum self.old + 1 < 2 ^ 64 → self.new ≡ one_more self.old }
+        ensures full { 2 ^ 64 ≤ sum self.old + 1 → self.new ≡ self.old }
     {
+        let Some(total) = self.total.checked_add(1) else {
+            return;
+        };
         self.counts[self.present] += 1;
-        self.total += 1;
+        self.total = total;
     }
 
     /// A second passes.

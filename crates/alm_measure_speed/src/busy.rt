@@ -12,16 +12,11 @@ pub const ALARMS: u32 = 16_384;
 
 const AREAS: u32 = 64;
 
-/// How many annunciations are noted at most.
-const MOST: u64 = 1 << 40;
-
 /// A measure of 16,384 alarms in 64 areas.
 #[derive(Drop)]
 pub struct Busy {
     measure: Measure,
-    /// How many annunciations were noted.
-    noted: u64,
-    ghost sized: { IsSized noted measure },
+    ghost sized: { IsSized measure },
 }
 
 /// A table of alarms, each in the area of its number modulo the areas.
@@ -48,16 +43,13 @@ impl Busy {
         if measure.alarms() != ALARMS as usize || measure.areas() != AREAS as usize {
             return Err(anyhow!("sizes"));
         }
-        Ok(Busy { measure, noted: 0 })
+        Ok(Busy { measure })
     }
 
     pub fn annunciate(&mut self, number: u32)
         requires { number < 16384 }
     {
-        if self.noted < MOST {
-            self.measure.annunciated(AlarmId(number));
-            self.noted += 1;
-        }
+        self.measure.annunciated(AlarmId(number));
     }
 
     /// A second passes.

@@ -1,28 +1,21 @@
 //! A measure whose calls may be made at any time: those whose conditions aren't met do nothing.
 
-ghost use Rattle.std.specs.Prelude.{◌≤◌, All, sum, sum_by};
+ghost use Rattle.std.specs.Prelude.{◌≤◌, All, sum};
 
 use alm_measure::Measure;
 use alm_model::{Ages, Recent};
 use alm_types::{AlarmId, Moment, Table};
 use std::alloc::{AllocError, Global};
 
-/// How many annunciations are watched at most.
-const MOST: u64 = 1 << 32;
-
 #[derive(Drop)]
 pub struct Watched {
     measure: Measure,
-    /// How many annunciations were noted.
-    noted: u64,
-    ghost few: { sum_by sum measure.ages ≤ noted },
 }
 
 impl Watched {
     pub fn new(alloc: Global, table: &Table) -> Result<Self, AllocError> {
         Ok(Watched {
             measure: Measure::new(alloc, table)?,
-            noted: 0,
         })
     }
 
@@ -45,24 +38,19 @@ impl Watched {
         let Ok(measure) = Measure::of(alloc, table, now, &ages, floods, moments) else {
             return None;
         };
-        Some(Watched {
-            measure,
-            noted: 64 * 600_000,
-        })
+        Some(Watched { measure })
     }
 
     pub fn copy(&self, alloc: Global) -> Result<Self, AllocError> {
         Ok(Watched {
             measure: self.measure.copy(alloc)?,
-            noted: self.noted,
         })
     }
 
     pub fn annunciated(&mut self, number: u32) -> bool {
-        let may = (number as usize) < self.measure.alarms() && self.noted < MOST;
+        let may = (number as usize) < self.measure.alarms();
         if may {
             self.measure.annunciated(AlarmId(number));
-            self.noted += 1;
         }
         may
     }

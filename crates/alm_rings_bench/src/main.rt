@@ -1,7 +1,7 @@
 //! How fast a slot's rings are: one thread sends requests and receives their receipts, another answers them.
 //!
 //! `alm_rings_bench` sends 100,000 requests, or as many as its first word says, and prints what went through the slot.
-//! The clock is outside: `bench/rings.sh` runs it beside the same exchange over channels of Rust's own library.
+//! The clock is outside: `bench/rings/run.sh` runs it beside the same exchange over channels of Rust's own library.
 #![tactic(auto)]
 
 mod exchange;

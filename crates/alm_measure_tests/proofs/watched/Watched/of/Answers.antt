@@ -1,5 +1,4 @@
 use Rattle.std.proofs.Common.{◌≡◌, ap, arith, sum, sum_by}
-use Rattle.alm_measure.specs.Metrics.{Metrics}
 use Rattle.alm_measure_tests.proofs.Few.{few-areas}
 use Rattle.alm_measure_tests.proofs.watched.Watched.of.Goals as goal
 
@@ -8,10 +7,3 @@ of-requires-clause-limit c =
     let few = few-areas c.args.ages.items c.requires (omega arith) in
     let same : sum_by sum c.deref.result.now ≡ sum_by sum c.args.ages.items = ap (sum_by sum) c.deref.ensures.value in
     omega arith
-
-pub invariant_of-result : goal.invariant_of-result
-invariant_of-result c =
-    let few = few-areas c.args.ages.items c.requires (omega arith) in
-    let same : sum_by sum c.deref.result.now ≡ sum_by sum c.args.ages.items = ap (sum_by sum) c.deref.ensures.value in
-    let made : sum_by sum c.in-Ok.measure.ages ≡ sum_by sum c.deref.result.now = ap (λ (m : Metrics). sum_by sum m.ages) c.in-Ok.ensures in
-    record { few = omega arith }

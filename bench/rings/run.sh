@@ -1,12 +1,13 @@
 #!/usr/bin/env bash
-# Requests a second through a slot's two rings between two threads, beside the same exchange over channels of Rust's library.
+# Requests a second through a slot's two rings between two threads, beside the same exchange over channels of Rust's library,
+# in turns. It needs rt and rustc. A number after it says how many requests.
 set -eu
-top=$(cd "$(dirname "$0")/.." && pwd)
+here="$(cd "$(dirname "$0")" && pwd)"
+. "$here/../turns.sh"
 requests=${1:-10000000}
-work=$(mktemp -d)
-trap 'rm -rf "$work"' EXIT
-(cd "$top/crates/alm_rings_bench" && rt run >"$work/log" 2>&1) || { cat "$work/log" >&2; exit 1; }
-rustc -O -o "$work/channels" "$top/bench/channels.rs"
+
+build alm_rings_bench
+rustc -O "$here/channels.rs" -o "$work/channels"
 python3 - "$top/crates/alm_rings_bench/out/alm_rings_bench" "$work/channels" "$requests" <<'PY'
 import subprocess
 import sys

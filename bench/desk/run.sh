@@ -1,14 +1,14 @@
 #!/usr/bin/env bash
 # Lines a second of the built program, in 16 MB of address space, beside the same lines through cat.
 set -eu
-top=$(cd "$(dirname "$0")/.." && pwd)
+here="$(cd "$(dirname "$0")" && pwd)"
+. "$here/../turns.sh"
+
 "$top/alm_server" desk </dev/null
 program=$top/crates/alm_server/out/alm_server
 lines=${1:-1000000}
-work=$(mktemp -d)
-trap 'rm -rf "$work"' EXIT
 for kind in plain mixed; do
-    python3 "$top/bench/desk.py" "$kind" "$lines" >"$work/in"
+    python3 "$here/lines.py" "$kind" "$lines" >"$work/in"
     python3 - "$program" "$work/in" "$lines" "$kind" <<'PY'
 import subprocess, sys, time
 

@@ -1,0 +1,41 @@
+# What the benchmarks share: one of our programs and a plain one beside it, in turns, and the ratios of their best times.
+# A run.sh sources it; `work` is a folder that goes when it ends.
+top="$(cd "$(dirname "${BASH_SOURCE[0]}")/.." && pwd)"
+work="$(mktemp -d)"
+trap 'rm -rf "$work"' EXIT
+
+# Builds the program of a crate.
+build() {
+    (cd "$top/crates/$1" && rt run > "$work/build.log" 2>&1) || {
+        tail -20 "$work/build.log"
+        exit 1
+    }
+}
+
+# Runs a crate's program and the plain one, five times. Each says on its standard error or output what it timed, its answer
+# and the nanoseconds.
+run_in_turns() {
+    for _ in 1 2 3 4 5; do
+        "$top/crates/$1/out/$1" 2>&1 > "$work/sums" | sed 's/^/ours /' >> "$work/times"
+        "$work/plain" | sed 's/^/plain /' >> "$work/times"
+    done
+}
+
+# Prints the best times in a unit, which is so many nanoseconds (an expression over `key`), and their ratio. The answers have to
+# be the same.
+print_ratios() {
+    awk '
+        { key = $2; if (!(key in sum)) { order[++n] = key; sum[key] = $3 } }
+        sum[key] != $3 { print "the answers differ at " key; bad = 1 }
+        !(($1, key) in best) || $4 < best[$1, key] { best[$1, key] = $4 }
+        END {
+            for (i = 1; i <= n; i++) {
+                key = order[i]
+                unit = '"$2"'
+                ours = best["ours", key]
+                plain = best["plain", key]
+                printf "%-28s ours %8.2f '"$1"'   plain %8.2f '"$1"'   ratio %.2f\n", key, ours / unit, plain / unit, ours / plain
+            }
+            exit bad
+        }' "$work/times"
+}
