@@ -8,6 +8,7 @@ use Rattle.alm_lines.specs.Line.{number, cut, line_of}
 use Rattle.alm_lines.specs.Stream.{is_end}
 use Rattle.alm_lines.specs.Written.{IsCutShort}
 use Rattle.alm_session.specs.Answers.{Standing, Said, reply, after}
+use Rattle.alm_session.specs.Failing.{IsCutLine}
 use Rattle.alm_session.specs.declared.course.Course.{Course}
 
 -- what is held of the next line, of which no more than 131 bytes count, after another byte
@@ -47,6 +48,10 @@ pub record Heard : Type 0 where
 abbrev pub unread_text : Refusal → List ℕ
 unread_text refusal = codes "? NO " ++ decimal (number_of refusal) ++ codes "\n"
 
+-- the slot, before the reply
+abbrev pub head : ℕ → List ℕ
+head slot = decimal slot ++ codes " "
+
 abbrev pub entry_text : Standing → Entry → Course → List ℕ
 entry_text s (unread refusal) c = unread_text refusal
 entry_text s (said m) c = decimal m.slot ++ codes " " ++ reply s (record { said = m; course = c })
@@ -82,11 +87,16 @@ pub record IsDesk (before : Standing) (input : List ℕ) (old : Option (List ℕ
   pub written : Appends old new (printed before heard)
   pub standing : later ≡ stands_after before heard
 
--- what is printed for an entry is cut short; what it asks is done, or not taken up yet
-pub record IsCutEntry (before : Standing) (e : Entry) (old : Option (List ℕ)) (later : Standing) (new : Option (List ℕ)) : Type 0 where
-  pub course : Course
-  pub written : IsCutShort old new (entry_text before e course)
-  pub standing : (later ≡ before) ⊎ (later ≡ entry_after before e course)
+-- the reply under a slot is cut short; what the line asks is done
+pub record IsCutReply (before : Standing) (m : Said) (old : Option (List ℕ)) (later : Standing) (new : Option (List ℕ)) : Type 0 where
+  pub between : Option (List ℕ)
+  pub slot : Appends old between (head m.slot)
+  pub reply : IsCutLine before m between later new
+
+-- what is printed for an entry is cut short: within a refusal or the slot, and nothing is done, or within the reply
+abbrev pub IsCutEntry : Standing → Entry → Option (List ℕ) → Standing → Option (List ℕ) → Type 0
+IsCutEntry before (unread refusal) old later new = IsCutShort old new (unread_text refusal) × (later ≡ before)
+IsCutEntry before (said m) old later new = (IsCutShort old new (head m.slot) × (later ≡ before)) ⊎ IsCutReply before m old later new
 
 -- the writer fails in the next line, or where none is left as it hands on what was written
 abbrev pub IsCutIn : List (List ℕ) → Standing → Option (List ℕ) → Standing → Option (List ℕ) → Type 0

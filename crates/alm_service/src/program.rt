@@ -1,5 +1,8 @@
 //! The program, from its words to its status.
 
+ghost use Rattle.std.specs.Prelude.{◌≡◌, ◌⊎◌};
+ghost use Rattle.std.specs.Process.{exit_status};
+
 use crate::counted_reader::CountedReader;
 use crate::fault::Fault;
 use crate::running::desk_run;
@@ -42,7 +45,9 @@ fn run<R: Input + Print + Env + AllocGlobal>(rt: &R) -> Result<(), Fault> {
 }
 
 /// Does what the program's words ask: status 0, or one line on standard error and the status of the fault.
-pub fn run_program<R: Input + Print + Eprint + Env + AllocGlobal>(rt: &R) -> ExitCode {
+pub fn run_program<R: Input + Print + Eprint + Env + AllocGlobal>(rt: &R) -> ExitCode
+    ensures { (exit_status result ≡ 0) ⊎ ((exit_status result ≡ 1) ⊎ (exit_status result ≡ 3)) }
+{
     match run(rt) {
         Ok(()) => ExitCode::SUCCESS,
         Err(fault) => {
