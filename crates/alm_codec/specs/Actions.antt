@@ -1,9 +1,10 @@
 -- The texts of actions, 16 bytes each.
-use Rattle.std.specs.Prelude.{ℕ, zero, ◌^◌, ◌<◌, List, [], ◌∷◌, ◌++◌, length, Bool, true, false, ◌&&◌, Option, Some, None, option_map, ℤ, pos, negsuc, ◌≤ℤ◌, int_le, nat_lt, ◌==◌, if◌then◌else◌}
+use Rattle.std.specs.Prelude.{ℕ, zero, ◌^◌, ◌<◌, List, [], ◌∷◌, ◌++◌, length, Bool, true, false, ◌&&◌, Option, Some, None, option_map, ℤ, pos, negsuc, ◌≤ℤ◌, nat_lt, ◌==◌, if◌then◌else◌}
 use Rattle.std.specs.Int.{w32, w64, to_be_bytes, from_be_bytes, cast_unsigned, cast_signed}
 use Rattle.alm_types.specs.declared.action.Action.{Action}
 use Rattle.alm_types.specs.declared.action.Action.TheVariants.{Clock, Value, Ack, Reset, Shelve, Unshelve, Oos, Design}
 use Rattle.alm_types.specs.declared.alarm_id.AlarmId.{AlarmId}
+use Rattle.alm_types.specs.Attributes.{is_reading}
 use Rattle.alm_model.specs.Accept.{alarm_of}
 
 -- ---- the spelling
@@ -65,7 +66,7 @@ pub record IsAction (a : Action) : Type 0 where
 
 -- the value of a 64-bit word, where it is within its limits
 abbrev pub limited : ℤ → Option ℤ
-limited v = if int_le (negsuc 999999999999) v && int_le v (pos 1000000000000) then Some v else None
+limited v = if is_reading v then Some v else None
 
 abbrev pub reading_at : ℕ → Option ℤ
 reading_at word = limited (cast_signed w64 word)

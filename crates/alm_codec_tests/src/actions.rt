@@ -16,7 +16,7 @@ fn is_none(text: &[u8]) -> bool {
 }
 
 #[test]
-fn texts_of_actions(rt: HostRuntime) -> Result<(), Fail> {
+fn texts_of_moments_and_values(rt: HostRuntime) -> Result<(), Fail> {
     let moment = Moment::new(1000).ok_or("moment")?;
     let high = Reading::new(800).ok_or("reading")?;
     let below = Reading::new(-5).ok_or("reading")?;
@@ -34,28 +34,21 @@ fn texts_of_actions(rt: HostRuntime) -> Result<(), Fail> {
     );
     assert!(rt;
         is_text(
-            Action::Ack(AlarmId(0)),
-            &[3, 0, 0, 0, 0, 0, 0, 0, 0, 0, 0, 0, 0, 0, 0, 0]
-        )
-    );
-    assert!(rt;
-        is_text(
-            Action::Shelve(AlarmId(0), 3600),
-            &[5, 0, 0, 0, 0, 0, 0, 0, 0, 0, 0, 0, 0, 0, 0x0e, 0x10]
-        )
-    );
-    assert!(rt;
-        is_text(
             Action::Value(AlarmId(1), below),
             &[
                 2, 0, 0, 0, 0, 0, 0, 1, 255, 255, 255, 255, 255, 255, 255, 0xfb
             ]
         )
     );
+    Ok(())
+}
+
+#[test]
+fn texts_of_acks_and_resets(rt: HostRuntime) {
     assert!(rt;
         is_text(
-            Action::Oos(AlarmId(2), true),
-            &[7, 0, 0, 0, 0, 0, 0, 2, 0, 0, 0, 0, 0, 0, 0, 1]
+            Action::Ack(AlarmId(0)),
+            &[3, 0, 0, 0, 0, 0, 0, 0, 0, 0, 0, 0, 0, 0, 0, 0]
         )
     );
     assert!(rt;
@@ -64,10 +57,30 @@ fn texts_of_actions(rt: HostRuntime) -> Result<(), Fail> {
             &[4, 0, 0, 0, 0, 0, 1, 2, 0, 0, 0, 0, 0, 0, 0, 0]
         )
     );
+}
+
+#[test]
+fn texts_of_shelvings(rt: HostRuntime) {
+    assert!(rt;
+        is_text(
+            Action::Shelve(AlarmId(0), 3600),
+            &[5, 0, 0, 0, 0, 0, 0, 0, 0, 0, 0, 0, 0, 0, 0x0e, 0x10]
+        )
+    );
     assert!(rt;
         is_text(
             Action::Unshelve(AlarmId(3)),
             &[6, 0, 0, 0, 0, 0, 0, 3, 0, 0, 0, 0, 0, 0, 0, 0]
+        )
+    );
+}
+
+#[test]
+fn texts_of_switches(rt: HostRuntime) {
+    assert!(rt;
+        is_text(
+            Action::Oos(AlarmId(2), true),
+            &[7, 0, 0, 0, 0, 0, 0, 2, 0, 0, 0, 0, 0, 0, 0, 1]
         )
     );
     assert!(rt;
@@ -76,7 +89,6 @@ fn texts_of_actions(rt: HostRuntime) -> Result<(), Fail> {
             &[8, 0, 0, 0, 0, 0, 0, 3, 0, 0, 0, 0, 0, 0, 0, 0]
         )
     );
-    Ok(())
 }
 
 #[test]
