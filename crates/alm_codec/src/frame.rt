@@ -82,7 +82,7 @@ fn frame_of<'a>(
 }
 
 /// Reads the frame of an epoch behind `count` actions, from behind its gate on. The vector then
-/// holds its actions. Gives the place of the next gate.
+/// holds its actions, or none where the frame is damaged. Gives the place of the next gate.
 pub fn read_frame(
     bytes: &[u8],
     epoch: u64,
@@ -96,11 +96,16 @@ pub fn read_frame(
     ensures only { (list : List AnAction) (gate : ℕ) (rest : List ℕ) → IsFrame epoch (count + 1) list → bytes.now ≡ frame_text epoch (count + 1) list ++ gate ∷ rest → (result ≡ Ok (18 + 16 * length list)) × (actions.new.items ≡ list) }
     // Which field is damaged.
     ensures exact { Reads bytes.now (λ end. (actions.new.items, drop end bytes.now)) result (frame_at epoch count bytes.now) }
+    // Nothing of a damaged frame is left.
+    ensures none { OnErr result (actions.new.items ≡ []) }
     ensures room { 256 ≤ vec_capacity actions.new }
 {
     match frame_of(bytes, epoch, count, actions) {
         Ok(rest) => Ok(bytes.len() - rest.len()),
-        Err(left) => Err(left.of(bytes)),
+        Err(left) => {
+            actions.clear();
+            Err(left.of(bytes))
+        }
     }
 }
 
