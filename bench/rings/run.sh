@@ -1,28 +1,35 @@
 #!/usr/bin/env bash
-# Requests a second through a slot's two rings between two threads, beside the same exchange over channels of Rust's library,
-# in turns. It needs rt and rustc. A number after it says how many requests.
+# Requests a second through a slot's two rings between two threads, beside the same exchange over channels of Rust's library and
+# over rings in plain Rust, which publish an item by an atomic exchange, as the toolchain's do, or by a plain store. They run in
+# turns; medians and ranges of nine. It needs rt and rustc. A number after it says how many requests.
 set -eu
 here="$(cd "$(dirname "$0")" && pwd)"
 . "$here/../turns.sh"
-requests=${1:-10000000}
+requests=${1:-5000000}
 
 build alm_rings_bench
 rustc -O "$here/channels.rs" -o "$work/channels"
-python3 - "$top/crates/alm_rings_bench/out/alm_rings_bench" "$work/channels" "$requests" <<'PY'
+rustc -O --cfg exchanges "$here/plain.rs" -o "$work/exchanges"
+rustc -O "$here/plain.rs" -o "$work/stores"
+python3 - "$requests" "$top/crates/alm_rings_bench/out/alm_rings_bench" "$work"/{channels,exchanges,stores} <<'PY'
+import statistics
 import subprocess
 import sys
 import time
 
-rings, channels, requests = sys.argv[1], sys.argv[2], int(sys.argv[3])
+requests, programs = int(sys.argv[1]), sys.argv[2:]
+names = ["rings", "channels", "plain rings, exchanges", "plain rings, plain stores"]
 
 
-def seconds(program):
+def rate(program):
     begin = time.perf_counter()
     subprocess.run([program, str(requests)], stdout=subprocess.DEVNULL, check=True)
-    return time.perf_counter() - begin
+    return requests / (time.perf_counter() - begin) / 1e6
 
 
-pairs = [(seconds(rings), seconds(channels)) for _ in range(5)]
-rate = [requests / min(column) / 1e6 for column in zip(*pairs)]
-print(f"rings {rate[0]:.1f}, channels {rate[1]:.1f} million requests a second: {rate[0] / rate[1]:.1f} times as many")
+rates = list(zip(*[[rate(program) for program in programs] for _ in range(9)]))
+channels = statistics.median(rates[1])
+for name, column in zip(names, rates):
+    median = statistics.median(column)
+    print(f"{name:26} {median:5.1f} million requests a second ({min(column):.1f} to {max(column):.1f}), {median / channels:.1f} times channels")
 PY

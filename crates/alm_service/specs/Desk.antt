@@ -54,7 +54,7 @@ head slot = decimal slot ++ codes " "
 
 abbrev pub entry_text : Standing → Entry → Course → List ℕ
 entry_text s (unread refusal) c = unread_text refusal
-entry_text s (said m) c = decimal m.slot ++ codes " " ++ reply s (record { said = m; course = c })
+entry_text s (said m) c = head m.slot ++ reply s (record { said = m; course = c })
 
 abbrev pub entry_after : Standing → Entry → Course → Standing
 entry_after s (unread refusal) c = s
