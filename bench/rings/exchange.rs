@@ -32,7 +32,11 @@ pub trait Exit<T> {
     fn take(&mut self) -> Option<T>;
 }
 
-fn ask(mut requests: impl Entrance<Action>, mut replies: impl Exit<Receipt>, count: u64) -> (u64, u64) {
+fn ask(
+    mut requests: impl Entrance<Action>,
+    mut replies: impl Exit<Receipt>,
+    count: u64,
+) -> (u64, u64) {
     let (mut sent, mut received) = (0, 0);
     let mut sends = true;
     while received < count {
@@ -56,7 +60,11 @@ fn answer(mut requests: impl Exit<Action>, mut replies: impl Entrance<Receipt>, 
             Some(_) => {
                 answered += 1;
                 let verdict = Verdict::Refused(9, 0);
-                assert!(replies.put(Receipt { serial: answered, verdict, number: 0 }));
+                assert!(replies.put(Receipt {
+                    serial: answered,
+                    verdict,
+                    number: 0
+                }));
             }
             None => thread::yield_now(),
         }
@@ -69,7 +77,10 @@ pub fn exchange(
     (to_answer, from_ask): (impl Entrance<Action>, impl Exit<Action> + Send + 'static),
     (to_ask, from_answer): (impl Entrance<Receipt> + Send + 'static, impl Exit<Receipt>),
 ) {
-    let count = std::env::args().nth(1).and_then(|word| word.parse().ok()).unwrap_or(100_000);
+    let count = std::env::args()
+        .nth(1)
+        .and_then(|word| word.parse().ok())
+        .unwrap_or(100_000);
     let other = thread::spawn(move || answer(from_ask, to_ask, count));
     let (sent, received) = ask(to_answer, from_answer, count);
     let answered = other.join().expect("the thread ends");

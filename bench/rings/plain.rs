@@ -11,7 +11,11 @@ use std::sync::atomic::{AtomicU64, Ordering};
 
 const PLACES: u64 = 64;
 
-const PUBLISH: Ordering = if cfg!(exchanges) { Ordering::SeqCst } else { Ordering::Release };
+const PUBLISH: Ordering = if cfg!(exchanges) {
+    Ordering::SeqCst
+} else {
+    Ordering::Release
+};
 
 #[repr(align(128))]
 struct Word(AtomicU64);
@@ -80,8 +84,16 @@ impl<T> Exit<T> for Pops<T> {
 fn ring<T>() -> (Pushes<T>, Pops<T>) {
     let word = || Word(AtomicU64::new(0));
     let places = [const { UnsafeCell::new(MaybeUninit::uninit()) }; PLACES as usize];
-    let ring = Arc::new(Ring { popped: word(), pushed: word(), places });
-    let end = |ring| End { ring, own: 0, known: 0 };
+    let ring = Arc::new(Ring {
+        popped: word(),
+        pushed: word(),
+        places,
+    });
+    let end = |ring| End {
+        ring,
+        own: 0,
+        known: 0,
+    };
     (Pushes(end(ring.clone())), Pops(end(ring)))
 }
 
