@@ -1,24 +1,21 @@
 #!/usr/bin/env bash
-# Requests a second through a slot's two rings between two threads, beside the same exchange over channels of Rust's library and
-# over rings in plain Rust, which publish an item by an atomic exchange, as the toolchain's do, or by a plain store. They run in
-# turns; medians and ranges of nine. It needs rt and rustc. A number after it says how many requests.
+# Requests a second through a slot's two rings between two threads, beside the same exchange over channels of Rust's library. They
+# run in turns; medians and ranges of nine. Neither reads what is in a receipt. It needs rt and rustc. A number after it says how
+# many requests.
 set -eu
 here="$(cd "$(dirname "$0")" && pwd)"
 . "$here/../turns.sh"
-requests=${1:-5000000}
+requests=${1:-10000000}
 
 build alm_rings_bench
 rustc -O "$here/channels.rs" -o "$work/channels"
-rustc -O --cfg exchanges "$here/plain.rs" -o "$work/exchanges"
-rustc -O "$here/plain.rs" -o "$work/stores"
-python3 - "$requests" "$top/crates/alm_rings_bench/out/alm_rings_bench" "$work"/{channels,exchanges,stores} <<'PY'
+python3 - "$requests" "$top/crates/alm_rings_bench/out/alm_rings_bench" "$work/channels" <<'PY'
 import statistics
 import subprocess
 import sys
 import time
 
 requests, programs = int(sys.argv[1]), sys.argv[2:]
-names = ["rings", "channels", "plain rings, exchanges", "plain rings, plain stores"]
 
 
 def rate(program):
@@ -29,7 +26,7 @@ def rate(program):
 
 rates = list(zip(*[[rate(program) for program in programs] for _ in range(9)]))
 channels = statistics.median(rates[1])
-for name, column in zip(names, rates):
+for name, column in zip(["rings", "channels"], rates):
     median = statistics.median(column)
-    print(f"{name:26} {median:5.1f} million requests a second ({min(column):.1f} to {max(column):.1f}), {median / channels:.1f} times channels")
+    print(f"{name:8} {median:5.1f} million requests a second ({min(column):.1f} to {max(column):.1f}), {median / channels:.1f} times channels")
 PY

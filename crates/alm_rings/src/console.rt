@@ -29,7 +29,7 @@ pub struct Console<T: Told + Drop> {
 }
 
 impl<T: Told + Drop> Console<T> {
-    ghost use Rattle.std.specs.Prelude.{◌≡◌, ◌+◌, ◌<◌, ◌≤◌, ◌-◌, ◌^◌, ◌++◌, [], ◌∷◌, IfOk, IfErr, IfSome, IfNone, IsOk, IsSome, length};
+    ghost use Rattle.std.specs.Prelude.{◌≡◌, ◌+◌, ◌<◌, ◌≤◌, ◌-◌, ◌^◌, ◌++◌, [], ◌∷◌, IfOk, IfErr, IfSome, IfNone, IsOk, IsSome, length, take, ◌⊎◌, IsTrue, ◌↔◌};
     ghost use mathlib.Core.List.{IsPrefix};
     ghost use Rattle.alm_rings.specs.Ends.{SameConsole, sent_of, received_of, coming_to, room_of};
 
@@ -63,6 +63,33 @@ impl<T: Told + Drop> Console<T> {
             }
             Err(PushError::Full(action)) => Err(Busy(action)),
         }
+    }
+
+    /// Sends the first of the actions, as many as go, and gives how many: their serials follow each other.
+    ///
+    /// Fewer go where 64 requests are unanswered then, where no more places of the ring are known to be free, or where
+    /// the serials are spent.
+    pub fn send_many(&mut self, actions: &[Action]) -> usize
+        ensures end { SameConsole self.old self.new }
+        ensures receipts { (received_of self.new ≡ received_of self.old) × (coming_to self.new ≡ coming_to self.old) }
+        ensures sent { (result ≤ length actions.now) × (sent_of self.new ≡ sent_of self.old ++ take result actions.now) × (room_of self.old ≤ room_of self.new + result) }
+        ensures few { 0 < result → length (sent_of self.new) ≤ 64 + length (received_of self.old) }
+        ensures cause { result < length actions.now → (64 + length (received_of self.old) ≤ length (sent_of self.new)) ⊎ (room_of self.new ≡ 0) ⊎ (length (sent_of self.new) ≡ 2 ^ 64 - 1) }
+    {
+        let few = (ROOM as u64).saturating_sub(self.unanswered);
+        let most = few.min(LAST_SERIAL - self.serial) as usize;
+        let (next, _) = actions.split_at(most.min(actions.len()));
+        let (sent, _) = self.requests.push_partial_slice(next);
+        self.serial += sent.len() as u64;
+        self.unanswered += sent.len() as u64;
+        sent.len()
+    }
+
+    /// Whether a receipt is known to wait.
+    pub fn waits(&self) -> bool
+        ensures { IsTrue result ↔ (0 < length (coming_to self.now)) }
+    {
+        self.replies.cached_slots() > 0
     }
 
     /// The next receipt. `None` where no receipt is known to wait, or no request is unanswered.

@@ -1,9 +1,10 @@
 //! The sequencer's end of a slot.
 
-ghost use Rattle.std.specs.Prelude.{◌≡◌, length};
+ghost use Rattle.std.specs.Prelude.{◌≡◌, ◌≤◌, drop, length};
 ghost use Rattle.rtrb.specs.Ring.{received};
 
 use crate::console::LAST_SERIAL;
+use crate::drawn::Drawn;
 use alm_types::{Action, Slot};
 use rtrb::Consumer;
 
@@ -11,9 +12,12 @@ use rtrb::Consumer;
 #[derive(Drop)]
 pub struct Inbox {
     pub(crate) slot: Slot,
+    /// How many requests were taken.
     pub(crate) serial: u64,
+    pub(crate) drawn: Drawn,
     pub(crate) requests: Consumer<Action>,
-    ghost serials: { serial ≡ length (received requests) },
+    ghost serials: { serial ≤ length (received requests) },
+    ghost rest: { drop serial (received requests) ≡ drawn },
 }
 
 impl Inbox {
@@ -32,7 +36,20 @@ impl Inbox {
     pub fn waits(&self) -> bool
         ensures { IsTrue result ↔ (0 < length (waiting_in self.now)) }
     {
-        self.requests.cached_slots() > 0
+        !self.drawn.is_empty() || self.requests.cached_slots() > 0
+    }
+
+    /// Draws what waits in the ring, where nothing that was drawn is left.
+    fn look(&mut self)
+        ensures end { SameInbox self.old self.new }
+        ensures taken { taken_of self.new ≡ taken_of self.old }
+        ensures serial { self.new.serial ≡ self.old.serial }
+        ensures known { IsPrefix (waiting_in self.old) (waiting_in self.new) }
+        ensures none { length self.new.drawn ≡ 0 → length (waiting_in self.new) ≡ 0 }
+    {
+        if self.drawn.is_empty() {
+            self.drawn.draw(&mut self.requests);
+        }
     }
 
     /// The next request, after its serial. `None` where no request is known to wait, or the serials are spent.
@@ -46,12 +63,9 @@ impl Inbox {
         if self.serial == LAST_SERIAL {
             return None;
         }
-        match self.requests.pop() {
-            Ok(action) => {
-                self.serial += 1;
-                Some((self.serial, action))
-            }
-            Err(_) => None,
-        }
+        self.look();
+        let action = self.drawn.next()?;
+        self.serial += 1;
+        Some((self.serial, action))
     }
 }

@@ -7,36 +7,86 @@ use crate::untold::{Untold, refused};
 use alm_rings::{Console, Inbox, Outbox, SlotReport, close_slot, open_slot};
 use alm_types::{Action, AlarmId, Slot};
 use std::alloc::{AllocError, Global};
+use std::hint::spin_loop;
 use std::sync::Wait;
 use std::thread;
 use std::thread::Threads;
 
-/// Sends so many requests and receives their receipts, by turns: as many as go, then as many as come.
+/// The most requests or receipts of one turn.
+const TURN: usize = 64;
+
+/// How many times a processor pauses before it looks for receipts: each look delays who releases them.
+const PAUSES: u32 = 24;
+
+fn pause() {
+    for _ in 0..PAUSES {
+        spin_loop();
+    }
+}
+
+/// Receives what has come.
+fn receive(console: &mut Console<Untold>) -> u64
+    ensures { SameConsole console.old console.new }
+{
+    let mut received = 0u64;
+    for _ in 0..TURN {
+        if console.receive().is_none() {
+            break;
+        }
+        received += 1;
+        if !console.waits() {
+            break;
+        }
+    }
+    received
+}
+
+/// Sends so many requests and receives their receipts, by turns: as many as go, then as many as have come.
 fn ask(rt: &impl Wait, console: Console<Untold>, requests: u64) -> Console<Untold>
     ensures { SameConsole console result }
 {
     let mut console = console;
-    let mut sent = 0;
-    let mut received = 0;
-    let mut sends = true;
+    let turn = [Action::Ack(AlarmId(0)); TURN];
+    let turn: &[Action] = &turn;
+    let mut left = requests;
+    let mut received = 0u64;
     for _ in rt.forever() {
         if received >= requests {
             break;
         }
-        if sends && sent < requests && console.send(Action::Ack(AlarmId(0))).is_ok() {
-            sent += 1;
-        } else if console.receive().is_some() {
-            sends = false;
-            received += 1;
-        } else {
-            sends = true;
-            thread::yield_now();
+        let most = left.min(TURN as u64) as usize;
+        let sent = console.send_many(&turn[..most]);
+        left = left.saturating_sub(sent as u64);
+        if !console.waits() {
+            pause();
+        }
+        match receive(&mut console) {
+            0 => thread::yield_now(),
+            more => received = received.saturating_add(more),
         }
     }
     console
 }
 
-/// Answers so many requests, each as it comes.
+/// Answers the requests that have come.
+fn reply(inbox: &mut Inbox, outbox: &mut Outbox<Untold>) -> u64
+    ensures { SameInbox inbox.old inbox.new × SameOutbox outbox.old outbox.new }
+{
+    let mut answered = 0u64;
+    for _ in 0..TURN {
+        let Some((serial, _)) = inbox.take() else {
+            break;
+        };
+        let _ = outbox.release(refused(serial));
+        answered += 1;
+        if !inbox.waits() {
+            break;
+        }
+    }
+    answered
+}
+
+/// Answers so many requests.
 fn answer(
     rt: &impl Wait,
     inbox: Inbox,
@@ -47,17 +97,14 @@ fn answer(
 {
     let mut inbox = inbox;
     let mut outbox = outbox;
-    let mut answered = 0;
+    let mut answered = 0u64;
     for _ in rt.forever() {
         if answered >= requests {
             break;
         }
-        match inbox.take() {
-            Some((serial, _)) => {
-                answered += 1;
-                let _ = outbox.release(refused(serial));
-            }
-            None => thread::yield_now(),
+        match reply(&mut inbox, &mut outbox) {
+            0 => thread::yield_now(),
+            more => answered = answered.saturating_add(more),
         }
     }
     (inbox, outbox)

@@ -1,26 +1,29 @@
-//! Receipts that tell nothing.
+//! Receipts that tell nothing new.
 
 use alm_rings::{Receipt, Told};
 use alm_types::{Refusal, Verdict};
 
-/// Tells an empty list, of a server that was opened with no action.
+/// How many actions the plant had when the server was opened.
+const COUNT: u64 = 1000;
+
+/// Tells an empty list, of a server that was opened with so many actions.
 #[derive(Drop)]
 pub struct Untold;
 
 impl Told for Untold {
     ghost use Rattle.std.specs.Prelude.{[]};
 
-    ghost base_count = { λ _. 0 };
+    ghost base_count = { λ _. 1000 };
 
     ghost list = { λ _. [] };
 }
 
-/// The request of this serial was refused.
+/// The request of this serial was refused, against so many actions.
 pub fn refused(serial: u64) -> Receipt<Untold> {
     Receipt {
         serial,
-        verdict: Verdict::Refused(Refusal::NoChange, 0),
-        number: 0,
+        verdict: Verdict::Refused(Refusal::NoChange, COUNT),
+        number: COUNT,
         told: Untold,
     }
 }

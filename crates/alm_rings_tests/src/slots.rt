@@ -5,7 +5,7 @@ ghost use Rattle.alm_rings.specs.Ends.{SameConsole, SameInbox, SameOutbox};
 
 use crate::one::{One, accepted, ack};
 use alm_rings::{Busy, Console, Inbox, Outbox, SlotReport, beside, close_slot, open_slot};
-use alm_types::{Slot, Verdict};
+use alm_types::{Action, Slot, Verdict};
 use std::process::Abort;
 use std::test::Fail;
 
@@ -68,6 +68,37 @@ fn sixty_four_requests_may_be_unanswered(rt: HostRuntime) -> Result<(), Fail> {
     sends(&rt, &mut console, 65);
     assert_eq!(rt; console.send(ack(66)), Err(Busy(ack(66))), "one received");
     takes(&rt, &mut inbox, 65);
+    Ok(())
+}
+
+#[test]
+fn many_requests_go_at_once(rt: HostRuntime) -> Result<(), Fail> {
+    let slot = Slot::new(1).ok_or("slot")?;
+    let (mut console, mut inbox, mut outbox) = open_slot(rt.alloc(), slot)?;
+    let mut actions = [ack(65); 65];
+    for serial in 1..=64 {
+        actions[serial as usize - 1] = ack(serial);
+    }
+    let actions: &[Action] = &actions;
+    assert_eq!(rt; console.send_many(&actions[..0]), 0, "none to send");
+    assert_eq!(rt; console.send_many(actions), 64);
+    assert_eq!(rt; console.send_many(&actions[64..]), 0, "nothing answered");
+    takes(&rt, &mut inbox, 1);
+    assert!(rt; inbox.waits(), "the other 63");
+    takes(&rt, &mut inbox, 2);
+    releases(&rt, &mut outbox, 1);
+    releases(&rt, &mut outbox, 2);
+    assert!(rt; !console.waits(), "not told");
+    receives(&rt, &mut console, 1);
+    assert!(rt; console.waits(), "told");
+    assert_eq!(rt; console.send_many(&actions[64..]), 1, "one received");
+    for serial in 3..=65 {
+        takes(&rt, &mut inbox, serial);
+    }
+    assert!(rt; !inbox.waits(), "all taken");
+    receives(&rt, &mut console, 2);
+    sends(&rt, &mut console, 66);
+    takes(&rt, &mut inbox, 66);
     Ok(())
 }
 
