@@ -1,6 +1,6 @@
 #!/usr/bin/env bash
 # Requests a second through a slot's two rings between two threads, beside the same exchange over channels of Rust's library. They
-# run in turns; medians and ranges of nine. Neither reads what is in a receipt. It needs rt and rustc. A number after it says how
+# run in turns; medians and ranges of nine. Each has to print that all went through; neither reads what is in a receipt. It needs rt and rustc. A number after it says how
 # many requests.
 set -eu
 here="$(cd "$(dirname "$0")" && pwd)"
@@ -20,8 +20,11 @@ requests, programs = int(sys.argv[1]), sys.argv[2:]
 
 def rate(program):
     begin = time.perf_counter()
-    subprocess.run([program, str(requests)], stdout=subprocess.DEVNULL, check=True)
-    return requests / (time.perf_counter() - begin) / 1e6
+    printed = subprocess.run([program, str(requests)], stdout=subprocess.PIPE, text=True, check=True).stdout
+    seconds = time.perf_counter() - begin
+    if printed != f"sent {requests} taken {requests} released {requests} received {requests}\n":
+        sys.exit(f"{program} printed {printed}")
+    return requests / seconds / 1e6
 
 
 rates = list(zip(*[[rate(program) for program in programs] for _ in range(9)]))
