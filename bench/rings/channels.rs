@@ -48,9 +48,12 @@ fn send(requests: &SyncSender<Action>, most: u64) -> u64 {
         .count() as u64
 }
 
-/// Receives what has come.
-fn receive(replies: &Receiver<Receipt>) -> u64 {
-    (0..ROOM).take_while(|_| replies.try_recv().is_ok()).count() as u64
+/// Receives what has come, and gives the serial of the last receipt.
+fn receive(replies: &Receiver<Receipt>) -> Option<u64> {
+    (0..ROOM)
+        .map_while(|_| replies.try_recv().ok())
+        .map(|receipt| receipt.serial)
+        .last()
 }
 
 fn ask(requests: SyncSender<Action>, replies: Receiver<Receipt>, count: u64) -> (u64, u64) {
@@ -59,8 +62,8 @@ fn ask(requests: SyncSender<Action>, replies: Receiver<Receipt>, count: u64) -> 
         sent += send(&requests, (count - sent).min(ROOM + received - sent));
         pause();
         match receive(&replies) {
-            0 => thread::yield_now(),
-            more => received += more,
+            Some(last) => received = last,
+            None => thread::yield_now(),
         }
     }
     (sent, received)

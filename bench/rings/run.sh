@@ -1,7 +1,7 @@
 #!/usr/bin/env bash
 # Requests a second through a slot's two rings between two threads, beside the same exchange over channels of Rust's library. They
-# run in turns; medians and ranges of nine. Each has to print that all went through; neither reads what is in a receipt. It needs rt and rustc. A number after it says how
-# many requests.
+# run in turns; medians and ranges of nine. Each program reads the serial of each receipt, and has to print that all went through.
+# It needs rt and rustc. A number after it says how many requests.
 set -eu
 here="$(cd "$(dirname "$0")" && pwd)"
 . "$here/../turns.sh"

@@ -13,10 +13,10 @@
 //! where a ring is not known to have a place, what was to go in comes back, and where it is not known to hold an item,
 //! none comes out. Each such answer has its causes in the contract, and changes nothing.
 //!
-//! Each step that another thread sees is an atomic exchange, which takes longer than all else. So an inbox draws all
-//! the requests that wait by one such step, and [`Console::send_many`] sends many by one.
+//! Each step that another thread sees is an atomic exchange, about half of what a request costs a thread. So an inbox
+//! draws all the requests that wait by one such step, and [`Console::send_many`] sends many by one.
 //!
-//! What is used above: contracts see all that ever went into a ring at one end, and all that ever came out at the
+//! What is used above: contracts see all that ever went into a ring at one end, and all that was ever given out at the
 //! other. Every call says that it is still the same end, and what became of these lists. Between threads nothing ties
 //! the two lists together, until both ends are in one thread: then [`beside`], [`batches_beside`] and [`close_slot`] say
 //! that what came out is a front of what went in, in order. A [`Receipt`] says more by its type, in whatever thread:

@@ -24,21 +24,21 @@ fn pause() {
     }
 }
 
-/// Receives what has come.
-fn receive(console: &mut Console<Untold>) -> u64
+/// Receives what has come, and gives the serial of the last receipt.
+fn receive(console: &mut Console<Untold>) -> Option<u64>
     ensures { SameConsole console.old console.new }
 {
-    let mut received = 0u64;
+    let mut last = None;
     for _ in 0..TURN {
-        if console.receive().is_none() {
+        let Some(receipt) = console.receive() else {
             break;
-        }
-        received += 1;
+        };
+        last = Some(receipt.serial);
         if !console.waits() {
             break;
         }
     }
-    received
+    last
 }
 
 /// Sends so many requests and receives their receipts, by turns: as many as go, then as many as have come.
@@ -61,8 +61,8 @@ fn ask(rt: &impl Wait, console: Console<Untold>, requests: u64) -> Console<Untol
             pause();
         }
         match receive(&mut console) {
-            0 => thread::yield_now(),
-            more => received = received.saturating_add(more),
+            Some(last) => received = last,
+            None => thread::yield_now(),
         }
     }
     console

@@ -1,6 +1,5 @@
-use Rattle.std.proofs.Common.{◌≤◌}
 use Rattle.alm_rings.specs.Ends.{SameConsole}
 use Rattle.alm_rings_bench.proofs.exchange.receive.Given as goal
 
 abbrev pub invariant-loop : goal.invariant-loop
-invariant-loop l = SameConsole l.fn.console l.console × (l.received ≤ l.counter)
+invariant-loop l = SameConsole l.fn.console l.console
