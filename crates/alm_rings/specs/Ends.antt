@@ -1,5 +1,5 @@
 -- The ends of a slot: what went into its rings, what came out, and what each end knows.
-use Rattle.std.specs.Prelude.{◌≡◌, ℕ, List, ◌++◌, take}
+use Rattle.std.specs.Prelude.{◌≡◌, ℕ, List}
 use Rattle.rtrb.specs.Ring.{sent, received, known_free, known_items, IsPair, SameProducer, SameConsumer}
 use Rattle.alm_types.specs.declared.action.Action.{Action}
 use Rattle.alm_rings.specs.declared.receipt.Receipt.{Receipt}
@@ -8,13 +8,13 @@ use Rattle.alm_rings.specs.declared.console.Console.{Console}
 use Rattle.alm_rings.specs.declared.inbox.Inbox.{Inbox}
 use Rattle.alm_rings.specs.declared.outbox.Outbox.{Outbox}
 
--- all requests that were taken, oldest first: of those that came out of the ring, the first
+-- all requests that were taken, oldest first
 abbrev pub taken_of : Inbox → List Action
-taken_of i = take i.serial (received i.requests)
+taken_of i = received i.requests
 
--- the requests that it knows to wait: first those that came out of the ring and weren't taken yet
+-- the requests that it knows to wait
 abbrev pub waiting_in : Inbox → List Action
-waiting_in i = i.drawn ++ known_items i.requests
+waiting_in i = known_items i.requests
 
 -- the same end
 abbrev pub SameInbox : Inbox → Inbox → Type 0

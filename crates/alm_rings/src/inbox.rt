@@ -1,10 +1,9 @@
 //! The sequencer's end of a slot.
 
-ghost use Rattle.std.specs.Prelude.{◌≡◌, ◌≤◌, drop, length};
+ghost use Rattle.std.specs.Prelude.{◌≡◌, length};
 ghost use Rattle.rtrb.specs.Ring.{received};
 
 use crate::console::LAST_SERIAL;
-use crate::drawn::Drawn;
 use alm_types::{Action, Slot};
 use rtrb::Consumer;
 
@@ -12,16 +11,13 @@ use rtrb::Consumer;
 #[derive(Drop)]
 pub struct Inbox {
     pub(crate) slot: Slot,
-    /// How many requests were taken.
     pub(crate) serial: u64,
-    pub(crate) drawn: Drawn,
     pub(crate) requests: Consumer<Action>,
-    ghost serials: { serial ≤ length (received requests) },
-    ghost rest: { drop serial (received requests) ≡ drawn },
+    ghost serials: { serial ≡ length (received requests) },
 }
 
 impl Inbox {
-    ghost use Rattle.std.specs.Prelude.{◌≡◌, ◌<◌, ◌-◌, ◌^◌, ◌++◌, [], ◌∷◌, IfSome, IfNone, IsSome, IsTrue, ◌↔◌, length};
+    ghost use Rattle.std.specs.Prelude.{◌≡◌, ◌<◌, ◌≤◌, ◌-◌, ◌^◌, ◌++◌, [], ◌∷◌, ◌⊎◌, IfSome, IfNone, IsSome, IsTrue, ◌↔◌, length, take, drop};
     ghost use mathlib.Core.List.{IsPrefix};
     ghost use Rattle.alm_rings.specs.Ends.{SameInbox, taken_of, waiting_in};
 
@@ -32,24 +28,18 @@ impl Inbox {
         self.slot
     }
 
+    /// How many requests were taken, which is the last one's serial.
+    pub fn taken(&self) -> u64
+        ensures { result ≡ length (taken_of self.now) }
+    {
+        self.serial
+    }
+
     /// Whether a request is known to wait.
     pub fn waits(&self) -> bool
         ensures { IsTrue result ↔ (0 < length (waiting_in self.now)) }
     {
-        !self.drawn.is_empty() || self.requests.cached_slots() > 0
-    }
-
-    /// Draws what waits in the ring, where nothing that was drawn is left.
-    fn look(&mut self)
-        ensures end { SameInbox self.old self.new }
-        ensures taken { taken_of self.new ≡ taken_of self.old }
-        ensures serial { self.new.serial ≡ self.old.serial }
-        ensures known { IsPrefix (waiting_in self.old) (waiting_in self.new) }
-        ensures none { length self.new.drawn ≡ 0 → length (waiting_in self.new) ≡ 0 }
-    {
-        if self.drawn.is_empty() {
-            self.drawn.draw(&mut self.requests);
-        }
+        self.requests.cached_slots() > 0
     }
 
     /// The next request, after its serial. `None` where no request is known to wait, or the serials are spent.
@@ -63,9 +53,31 @@ impl Inbox {
         if self.serial == LAST_SERIAL {
             return None;
         }
-        self.look();
-        let action = self.drawn.next()?;
-        self.serial += 1;
-        Some((self.serial, action))
+        match self.requests.pop() {
+            Ok(action) => {
+                self.serial += 1;
+                Some((self.serial, action))
+            }
+            Err(_) => None,
+        }
+    }
+
+    /// Takes the next requests into the front of the slice, as many as come, and gives how many: their serials follow
+    /// each other.
+    ///
+    /// Fewer come where no more requests are known to wait then, or where the serials are spent.
+    pub fn take_many(&mut self, actions: &mut [Action]) -> usize
+        ensures end { SameInbox self.old self.new }
+        ensures taken { (result ≤ length actions.old) × (taken_of self.new ≡ taken_of self.old ++ take result actions.new) }
+        ensures others { drop result actions.new ≡ drop result actions.old }
+        ensures known { IsPrefix (waiting_in self.old) (take result actions.new ++ waiting_in self.new) }
+        ensures cause { result < length actions.old → (waiting_in self.new ≡ []) ⊎ (length (taken_of self.new) ≡ 2 ^ 64 - 1) }
+    {
+        let left = LAST_SERIAL - self.serial;
+        let most = left.min(actions.len() as u64) as usize;
+        let (next, _) = actions.split_at_mut(most);
+        let taken = self.requests.pop_partial_slice(next);
+        self.serial += taken as u64;
+        taken
     }
 }

@@ -4,7 +4,7 @@
 //!
 //! | ring | what goes in | what comes out |
 //! |---|---|---|
-//! | requests | [`Console::send`], [`Console::send_many`] | [`Inbox::take`] |
+//! | requests | [`Console::send`], [`Console::send_many`] | [`Inbox::take`], [`Inbox::take_many`] |
 //! | receipts | [`Outbox::release`] | [`Console::receive`] |
 //! | sealed batches | [`SealEnds::seal`] | [`FetchEnds::fetch`] |
 //! | empty batches | [`FetchEnds::give_back`] | [`SealEnds::empty`] |
@@ -13,10 +13,10 @@
 //! where a ring is not known to have a place, what was to go in comes back, and where it is not known to hold an item,
 //! none comes out. Each such answer has its causes in the contract, and changes nothing.
 //!
-//! Each step that another thread sees is an atomic exchange, about half of what a request costs a thread. So an inbox
-//! draws all the requests that wait by one such step, and [`Console::send_many`] sends many by one.
+//! Each step that another thread sees is an atomic exchange. [`Console::send_many`] and [`Inbox::take_many`] take one
+//! such step for many requests.
 //!
-//! What is used above: contracts see all that ever went into a ring at one end, and all that was ever given out at the
+//! What is used above: contracts see all that ever went into a ring at one end, and all that ever came out at the
 //! other. Every call says that it is still the same end, and what became of these lists. Between threads nothing ties
 //! the two lists together, until both ends are in one thread: then [`beside`], [`batches_beside`] and [`close_slot`] say
 //! that what came out is a front of what went in, in order. A [`Receipt`] says more by its type, in whatever thread:
@@ -29,7 +29,6 @@
 mod batches;
 mod busy;
 mod console;
-mod drawn;
 mod emptied;
 mod fetch_ends;
 mod inbox;

@@ -5,7 +5,6 @@ ghost use mathlib.Core.List.{IsPrefix};
 ghost use Rattle.alm_rings.specs.Ends.{AreEnds, SameConsole, SameInbox, SameOutbox, sent_of, received_of, taken_of, released_of, waiting_in, coming_to, room_of, room_in};
 
 use crate::console::{Console, ROOM};
-use crate::drawn::Drawn;
 use crate::inbox::Inbox;
 use crate::outbox::Outbox;
 use crate::slot_report::SlotReport;
@@ -27,7 +26,6 @@ pub fn open_slot<T: Told + Drop>(
 {
     let (requests, inbox) = RingBuffer::new(alloc, ROOM)?;
     let (outbox, replies) = RingBuffer::new(alloc, ROOM)?;
-    let drawn = Drawn::none(alloc)?;
     let console = Console {
         slot,
         serial: 0,
@@ -38,7 +36,6 @@ pub fn open_slot<T: Told + Drop>(
     let inbox = Inbox {
         slot,
         serial: 0,
-        drawn,
         requests: inbox,
     };
     let outbox = Outbox {

@@ -16,7 +16,7 @@ use std::thread::Threads;
 const TURN: usize = 64;
 
 /// How many times a processor pauses before it looks for receipts: each look delays who releases them.
-const PAUSES: u32 = 24;
+const PAUSES: u32 = 40;
 
 fn pause() {
     for _ in 0..PAUSES {
@@ -68,22 +68,17 @@ fn ask(rt: &impl Wait, console: Console<Untold>, requests: u64) -> Console<Untol
     console
 }
 
-/// Answers the requests that have come.
-fn reply(inbox: &mut Inbox, outbox: &mut Outbox<Untold>) -> u64
+/// Answers the requests that have come, as many as a turn has places, and gives how many.
+fn reply(inbox: &mut Inbox, outbox: &mut Outbox<Untold>, turn: &mut [Action]) -> usize
     ensures { SameInbox inbox.old inbox.new × SameOutbox outbox.old outbox.new }
 {
-    let mut answered = 0u64;
-    for _ in 0..TURN {
-        let Some((serial, _)) = inbox.take() else {
-            break;
-        };
-        let _ = outbox.release(refused(serial));
-        answered += 1;
-        if !inbox.waits() {
-            break;
-        }
+    let mut serial = inbox.taken();
+    let taken = inbox.take_many(turn);
+    for action in turn.iter().take(taken) {
+        serial = serial.saturating_add(1);
+        let _ = outbox.release(refused(serial, *action));
     }
-    answered
+    taken
 }
 
 /// Answers so many requests.
@@ -97,14 +92,13 @@ fn answer(
 {
     let mut inbox = inbox;
     let mut outbox = outbox;
-    let mut answered = 0u64;
+    let mut turn = [Action::Ack(AlarmId(0)); TURN];
     for _ in rt.forever() {
-        if answered >= requests {
+        if inbox.taken() >= requests {
             break;
         }
-        match reply(&mut inbox, &mut outbox) {
-            0 => thread::yield_now(),
-            more => answered = answered.saturating_add(more),
+        if reply(&mut inbox, &mut outbox, &mut turn) == 0 {
+            thread::yield_now();
         }
     }
     (inbox, outbox)

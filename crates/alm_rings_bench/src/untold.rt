@@ -1,7 +1,7 @@
 //! Receipts that tell nothing new.
 
 use alm_rings::{Receipt, Told};
-use alm_types::{Refusal, Verdict};
+use alm_types::{Action, Refusal, Verdict};
 
 /// How many actions the plant had when the server was opened.
 const COUNT: u64 = 1000;
@@ -19,10 +19,14 @@ impl Told for Untold {
 }
 
 /// The request of this serial was refused, against so many actions.
-pub fn refused(serial: u64) -> Receipt<Untold> {
+pub fn refused(serial: u64, request: Action) -> Receipt<Untold> {
+    let refusal = match request {
+        Action::Ack(_) => Refusal::NotUnacknowledged,
+        _ => Refusal::NoChange,
+    };
     Receipt {
         serial,
-        verdict: Verdict::Refused(Refusal::NoChange, COUNT),
+        verdict: Verdict::Refused(refusal, COUNT),
         number: COUNT,
         told: Untold,
     }

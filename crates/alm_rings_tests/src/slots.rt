@@ -41,6 +41,15 @@ fn receives(rt: &impl Abort, console: &mut Console<One>, serial: u64)
     }
 }
 
+/// The actions of the serials 1 to 65.
+fn acks() -> [Action; 65] {
+    let mut actions = [ack(1); 65];
+    for serial in 2..=65 {
+        actions[serial as usize - 1] = ack(serial);
+    }
+    actions
+}
+
 #[test]
 fn sixty_four_requests_may_be_unanswered(rt: HostRuntime) -> Result<(), Fail> {
     let slot = Slot::new(0).ok_or("slot")?;
@@ -75,10 +84,7 @@ fn sixty_four_requests_may_be_unanswered(rt: HostRuntime) -> Result<(), Fail> {
 fn many_requests_go_at_once(rt: HostRuntime) -> Result<(), Fail> {
     let slot = Slot::new(1).ok_or("slot")?;
     let (mut console, mut inbox, mut outbox) = open_slot(rt.alloc(), slot)?;
-    let mut actions = [ack(65); 65];
-    for serial in 1..=64 {
-        actions[serial as usize - 1] = ack(serial);
-    }
+    let actions = acks();
     let actions: &[Action] = &actions;
     assert_eq!(rt; console.send_many(&actions[..0]), 0, "none to send");
     assert_eq!(rt; console.send_many(actions), 64);
@@ -99,6 +105,34 @@ fn many_requests_go_at_once(rt: HostRuntime) -> Result<(), Fail> {
     receives(&rt, &mut console, 2);
     sends(&rt, &mut console, 66);
     takes(&rt, &mut inbox, 66);
+    Ok(())
+}
+
+#[test]
+fn many_requests_come_at_once(rt: HostRuntime) -> Result<(), Fail> {
+    let slot = Slot::new(1).ok_or("slot")?;
+    let (mut console, mut inbox, _outbox) = open_slot::<One>(rt.alloc(), slot)?;
+    let actions = acks();
+    let (mut none, mut two, mut others) = ([], [ack(0); 2], [ack(0); 63]);
+    assert_eq!(rt; inbox.take_many(&mut two), 0, "nothing sent");
+    assert_eq!(rt; console.send_many(&actions), 64);
+    assert_eq!(rt; inbox.take_many(&mut none), 0, "no place");
+    assert_eq!(rt; inbox.take_many(&mut two), 2);
+    assert_eq!(rt; two, [ack(1), ack(2)]);
+    assert_eq!(rt; inbox.taken(), 2);
+    assert!(rt; inbox.waits(), "the other 62");
+    takes(&rt, &mut inbox, 3);
+    assert_eq!(rt; inbox.take_many(&mut others), 61);
+    assert_eq!(rt; inbox.taken(), 64);
+    assert!(rt; !inbox.waits(), "all taken");
+    for place in 0..63 {
+        let action = if place < 61 {
+            ack(place as u64 + 4)
+        } else {
+            ack(0)
+        };
+        assert_eq!(rt; others[place], action, "place {place}");
+    }
     Ok(())
 }
 

@@ -1,39 +1,12 @@
-//! What `alm_rings_bench` exchanges, over two channels of 64 of Rust's own library: one thread sends requests and receives their
-//! receipts by turns, as many as go and then as many as have come, with up to 64 unanswered; another answers them.
+//! What `alm_rings_bench` exchanges, over two channels of 64 of Rust's own library, polled as the rings are: one thread sends requests
+//! and receives their receipts by turns, as many as go and then as many as have come, with up to 64 unanswered; another answers.
+mod receipt;
+
+use receipt::{Action, ROOM, Receipt, count, refused};
 use std::sync::mpsc::{Receiver, SyncSender, sync_channel};
-use std::{env, hint, thread};
+use std::{hint, thread};
 
-const ROOM: u64 = 64;
-
-const PAUSES: u32 = 24;
-
-#[derive(Clone, Copy)]
-#[allow(dead_code)]
-enum Action {
-    Ack(u32),
-    Value(u32, i64),
-}
-
-#[allow(dead_code)]
-enum Verdict {
-    Accepted(Action),
-    Refused(u8, u64),
-}
-
-#[allow(dead_code)]
-struct Receipt {
-    serial: u64,
-    verdict: Verdict,
-    number: u64,
-}
-
-fn refused(serial: u64) -> Receipt {
-    Receipt {
-        serial,
-        verdict: Verdict::Refused(9, 1000),
-        number: 1000,
-    }
-}
+const PAUSES: u32 = 40;
 
 fn pause() {
     for _ in 0..PAUSES {
@@ -73,9 +46,9 @@ fn answer(requests: Receiver<Action>, replies: SyncSender<Receipt>, count: u64) 
     let mut answered = 0;
     while answered < count {
         match requests.try_recv() {
-            Ok(_) => {
+            Ok(request) => {
                 answered += 1;
-                assert!(replies.try_send(refused(answered)).is_ok());
+                assert!(replies.try_send(refused(answered, request)).is_ok());
             }
             Err(_) => thread::yield_now(),
         }
@@ -84,10 +57,7 @@ fn answer(requests: Receiver<Action>, replies: SyncSender<Receipt>, count: u64) 
 }
 
 fn main() {
-    let count = env::args()
-        .nth(1)
-        .and_then(|word| word.parse().ok())
-        .unwrap_or(100_000);
+    let count = count();
     let (to_answer, from_ask) = sync_channel(ROOM as usize);
     let (to_ask, from_answer) = sync_channel(ROOM as usize);
     let other = thread::spawn(move || answer(from_ask, to_ask, count));
