@@ -11,8 +11,9 @@ use Rattle.std.proofs.lemmas.Nat.{be_bytes_4, be_bytes_8, from_be_bytes-to_be_by
 use Rattle.alm_types.specs.declared.action.Action.{Action}
 use Rattle.alm_types.specs.declared.action.Action.TheVariants.{Clock, Value, Ack, Reset, Shelve, Unshelve, Oos, Design}
 use Rattle.alm_types.specs.declared.alarm_id.AlarmId.{AlarmId}
-use Rattle.alm_model.specs.Accept.{alarm_of}
-use Rattle.alm_codec.specs.Actions.{kind_of, argument_of, switch, text_of, action_text, IsReading, HasArgument, IsAction, limited, reading_at, without, either_way, meaning, action_at}
+use Rattle.alm_types.specs.Actions.{alarm_of, HasArgument, IsAction}
+use Rattle.alm_types.specs.Readings.{IsReading}
+use Rattle.alm_codec.specs.Actions.{kind_of, argument_of, switch, text_of, action_text, limited, reading_at, without, either_way, meaning, action_at}
 use Rattle.alm_codec.proofs.Bytes.{IsBytes, IsBytes-drop, IsBytes-take, chosen}
 
 -- ---- what is spelled so is read

@@ -158,7 +158,7 @@ fixed_keeps areas a few there = (
         (
           flag_keeps a.latching,
           (
-            (word_fits a.setpoint (a.setpoint_low, a.setpoint_high), reading_again a.setpoint (a.setpoint_low, a.setpoint_high)),
+            (word_fits a.setpoint a.setpoint_range, reading_again a.setpoint a.setpoint_range),
             (
               pass u64 (is_deadband a.kind) a.deadband (deadband_fits a.kind a.deadband a.deadband_limit) (le-leb a.deadband (deadband_limit a.kind) a.deadband_limit),
               (

@@ -1,8 +1,9 @@
 -- Plants of one image are one plant.
-use Rattle.std.proofs.Common.{◌≡◌, ℕ, ◌≤◌, ◌<◌, Bool, List, [], ◌∷◌, ◌++◌, length, Result, Ok, Err, refl, sym, ap, subst, ◌∙◌, arith, ◌≤ℤ◌, pos, negsuc}
+use Rattle.std.proofs.Common.{◌≡◌, ℕ, ◌≤◌, ◌<◌, Bool, List, [], ◌∷◌, ◌++◌, length, Result, Ok, Err, refl, sym, ap, subst, ◌∙◌, arith}
 use Rattle.std.specs.Prelude.{IsTrue}
 use Rattle.std.proofs.lemmas.List.{append-nil}
 use Rattle.alm_types.specs.Texts.{is_tag, is_text}
+use Rattle.alm_types.specs.Readings.{IsReading}
 use Rattle.alm_types.specs.Attributes.{deadband_limit}
 use Rattle.alm_types.specs.declared.attr.Attr.{Attr}
 use Rattle.alm_state.specs.Rows.{State}
@@ -22,8 +23,7 @@ use Rattle.alm_codec.proofs.Spelled.{image_spells}
 
 -- what attributes keep
 record Limits (f : Fixed) : Type 0 where
-  low : negsuc 999999999999 ≤ℤ f.setpoint
-  high : f.setpoint ≤ℤ pos 1000000000000
+  setpoint : IsReading f.setpoint
   deadband : f.deadband ≤ deadband_limit f.kind
   priority : (1 ≤ f.priority) × (f.priority ≤ 4)
   area : f.area < 64
@@ -35,7 +35,7 @@ limits_one : (f : Fixed) (p q : Limits f) → p ≡ q
 limits_one f p q = let one : IsProp (Limits f) = hlevel props in one p q
 
 abbrev limits_of : (a : Attr) → Limits (fixed_in a)
-limits_of a = record { low = a.setpoint_low; high = a.setpoint_high; deadband = a.deadband_limit; priority = a.priority_limits; area = a.area_limit; max_shelve = a.max_shelve_limit; tag = a.tag_limits; text = a.text_limits }
+limits_of a = record { setpoint = a.setpoint_range; deadband = a.deadband_limit; priority = a.priority_limits; area = a.area_limit; max_shelve = a.max_shelve_limit; tag = a.tag_limits; text = a.text_limits }
 
 abbrev made : (f : Fixed) → Limits f → Attr
 made f l = record {
@@ -48,8 +48,7 @@ made f l = record {
   max_shelve = f.max_shelve;
   tag = f.tag;
   text = f.text;
-  setpoint_low = l.low;
-  setpoint_high = l.high;
+  setpoint_range = l.setpoint;
   deadband_limit = l.deadband;
   priority_limits = l.priority;
   area_limit = l.area;

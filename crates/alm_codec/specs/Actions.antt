@@ -1,11 +1,11 @@
 -- The texts of actions, 16 bytes each.
-use Rattle.std.specs.Prelude.{ℕ, zero, ◌^◌, ◌<◌, List, [], ◌∷◌, ◌++◌, length, Bool, true, false, ◌&&◌, Option, Some, None, option_map, ℤ, pos, negsuc, ◌≤ℤ◌, nat_lt, ◌==◌, if◌then◌else◌}
+use Rattle.std.specs.Prelude.{ℕ, zero, ◌^◌, List, [], ◌∷◌, ◌++◌, length, Bool, true, false, ◌&&◌, Option, Some, None, option_map, ℤ, nat_lt, ◌==◌, if◌then◌else◌}
 use Rattle.std.specs.Int.{w32, w64, to_be_bytes, from_be_bytes, cast_unsigned, cast_signed}
 use Rattle.alm_types.specs.declared.action.Action.{Action}
 use Rattle.alm_types.specs.declared.action.Action.TheVariants.{Clock, Value, Ack, Reset, Shelve, Unshelve, Oos, Design}
 use Rattle.alm_types.specs.declared.alarm_id.AlarmId.{AlarmId}
-use Rattle.alm_types.specs.Attributes.{is_reading}
-use Rattle.alm_model.specs.Accept.{alarm_of}
+use Rattle.alm_types.specs.Actions.{alarm_of}
+use Rattle.alm_types.specs.Readings.{is_reading}
 
 -- ---- the spelling
 
@@ -40,27 +40,6 @@ text_of kind alarm argument = kind ∷ 0 ∷ 0 ∷ 0 ∷ to_be_bytes w32 alarm +
 
 abbrev pub action_text : Action → List ℕ
 action_text a = text_of (kind_of a) (alarm_of a) (argument_of a)
-
--- ---- what has a spelling
-
--- a value of the process is at most 10 ^ 12 from 0
-abbrev pub IsReading : ℤ → Type 0
-IsReading v = (negsuc 999999999999 ≤ℤ v) × (v ≤ℤ pos 1000000000000)
-
-abbrev pub HasArgument : Action → Type 0
-HasArgument (Clock t) = t < 2 ^ 40
-HasArgument (Value i v) = IsReading v
-HasArgument (Ack i) = Unit {0}
-HasArgument (Reset i) = Unit {0}
-HasArgument (Shelve i seconds) = seconds < 2 ^ 32
-HasArgument (Unshelve i) = Unit {0}
-HasArgument (Oos i on) = Unit {0}
-HasArgument (Design i on) = Unit {0}
-
--- the numbers of an action are within their types
-pub record IsAction (a : Action) : Type 0 where
-  pub alarm : alarm_of a < 2 ^ 32
-  pub argument : HasArgument a
 
 -- ---- reading
 

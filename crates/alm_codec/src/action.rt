@@ -2,9 +2,9 @@
 
 ghost use Rattle.std.specs.Prelude.{◌≡◌, ◌+◌, ◌≤◌, ◌++◌, ℕ, List, length, drop, IfOk, IfErr, Ok};
 ghost use Rattle.alm_types.specs.declared.action.Action.{Action as AnAction};
-ghost use Rattle.alm_codec.specs.Actions.{IsAction, action_text, argument_of, kind_of, action_at, meaning, reading_at};
+ghost use Rattle.alm_types.specs.Actions.{IsAction, alarm_of};
+ghost use Rattle.alm_codec.specs.Actions.{action_text, argument_of, kind_of, action_at, meaning, reading_at};
 ghost use Rattle.alm_codec.specs.Writing.{Wrote};
-ghost use Rattle.alm_model.specs.Accept.{alarm_of};
 
 use crate::damage::Damage;
 use crate::fields::put;

@@ -4,7 +4,8 @@ ghost use Rattle.std.specs.Prelude.{◌≡◌, ◌++◌, ℕ, List, length};
 ghost use Rattle.alm_types.specs.declared.action.Action.{Action};
 ghost use Rattle.alm_model.specs.Plant.{Condensed};
 ghost use Rattle.alm_model.specs.Rules.{KeepsRules};
-ghost use Rattle.alm_codec.specs.Actions.{IsAction, action_text};
+ghost use Rattle.alm_types.specs.Actions.{IsAction};
+ghost use Rattle.alm_codec.specs.Actions.{action_text};
 ghost use Rattle.alm_codec.specs.Frames.{IsFrame, frame_text};
 ghost use Rattle.alm_codec.specs.Image.{IsImage, IsOf, image_text, image_len};
 

@@ -1,6 +1,6 @@
 -- Requests and their texts.
 use Rattle.std.proofs.Common.{◌≡◌, ◌<◌, ◌≤◌, ◌+◌, ◌^◌, ℕ, List, [], ◌∷◌, ◌++◌, Option, Some, None, Bool, true, false, refl, arith, nat_lt, ap, ◌∙◌, sym, length, inl, inr, add-one, suc, zero}
-use Rattle.std.specs.Prelude.{if◌then◌else◌, decimal, codes, option_map, option_and_then, unwrap_or, ◌==◌, ℤ, pos, negsuc, ◌≤ℤ◌}
+use Rattle.std.specs.Prelude.{if◌then◌else◌, decimal, codes, option_map, option_and_then, unwrap_or, ◌==◌, ℤ, pos, negsuc}
 use Rattle.std.proofs.lemmas.Bool.{cases_Bool}
 use Rattle.std.proofs.lemmas.Option.{none-some, same_Some}
 use Rattle.std.proofs.lemmas.Fmt.{decimal_is_IsNumeral}
@@ -16,7 +16,9 @@ use Rattle.alm_types.specs.declared.query.Query.TheVariants.{State, Priority, Ar
 use Rattle.alm_lines.specs.declared.ask.Ask.{Ask}
 use Rattle.alm_lines.specs.declared.ask.Ask.TheVariants.{Act, Look, Bad}
 use Rattle.alm_lines.specs.Line.{number, word, alarm, moment, negative, reading, same, switch, cut, of_none, of_one, of_letter, of_two, of_fields, of_rest, asked, line_under, line_of}
-use Rattle.alm_lines.specs.Texts.{value_text, switch_text, with_one, with_two, ask_text, action_text, query_text, request_text, IsInRange, IsActionInRange, IsQueryInRange, IsAsking}
+use Rattle.alm_types.specs.Actions.{IsAction}
+use Rattle.alm_types.specs.Readings.{IsReading}
+use Rattle.alm_lines.specs.Texts.{value_text, switch_text, with_one, with_two, ask_text, action_text, query_text, request_text, IsInRange, IsQueryInRange, IsAsking}
 use Rattle.alm_lines.proofs.Numerals.{number-decimal, decimal-number}
 use Rattle.alm_lines.proofs.Cutting.{joined, cut-joined, cut-spaced, cut-alone, spaceless-decimal, is_spaceless, same-is}
 
@@ -199,31 +201,31 @@ digits-read (c ∷ cs) n d some e =
     let no : (c == 45) ≡ false = grind (arith, k) in
     rw (no, e) refl
 
-reading-read : (v : ℤ) → negsuc 999999999999 ≤ℤ v → v ≤ℤ pos 1000000000000 → reading (value_text v) ≡ Some v
-reading-read (pos n) low high =
-    let within : n ≤ 1000000000000 = leb_yes high.le in
+reading-read : (v : ℤ) → IsReading v → reading (value_text v) ≡ Some v
+reading-read (pos n) h =
+    let within : n ≤ 1000000000000 = leb_yes h.1.le in
     let small : n < 2 ^ 64 = omega arith in
     let k = decimal_is_IsNumeral n small in
     digits-read (decimal n) n k.0.1 k.0.0 (number-decimal 1000000000001 n (omega arith) small)
-reading-read (negsuc n) low high =
-    let within : n ≤ 999999999999 = leb_yes low.le in
+reading-read (negsuc n) h =
+    let within : n ≤ 999999999999 = leb_yes h.0.le in
     let below : n + 1 < 1000000000001 = omega arith in
     let some : (suc n == 0) ≡ false = grind arith in
     rw (number-decimal 1000000000001 (n + 1) below (omega (arith, below)), add-one, some) refl
 
-action-read : (action : Action) → IsActionInRange action → of_rest (cut (action_text action)) ≡ Some (Act action)
-action-read (Clock t) h = rw (cut-spaced (codes "CLOCK") (decimal t) refl, cut-alone (decimal t) (spaceless-decimal t (omega (arith, h))), moment-read t h) refl
+action-read : (action : Action) → IsAction action → of_rest (cut (action_text action)) ≡ Some (Act action)
+action-read (Clock t) h = rw (cut-spaced (codes "CLOCK") (decimal t) refl, cut-alone (decimal t) (spaceless-decimal t (omega (arith, h.argument))), moment-read t h.argument) refl
 action-read (Value i v) h =
-    rw (cut-spaced (codes "VAL") (decimal i.0 ++ 32 ∷ value_text v) refl, cut-spaced (decimal i.0) (value_text v) (spaceless-decimal i.0 (omega (arith, h.0))), alarm-read i h.0, reading-read v h.1 h.2) refl
-action-read (Ack i) h = rw (cut-spaced (codes "ACK") (decimal i.0) refl, cut-alone (decimal i.0) (spaceless-decimal i.0 (omega (arith, h))), alarm-read i h) refl
-action-read (Reset i) h = rw (cut-spaced (codes "RESET") (decimal i.0) refl, cut-alone (decimal i.0) (spaceless-decimal i.0 (omega (arith, h))), alarm-read i h) refl
+    rw (cut-spaced (codes "VAL") (decimal i.0 ++ 32 ∷ value_text v) refl, cut-spaced (decimal i.0) (value_text v) (spaceless-decimal i.0 (omega (arith, h.alarm))), alarm-read i h.alarm, reading-read v h.argument) refl
+action-read (Ack i) h = rw (cut-spaced (codes "ACK") (decimal i.0) refl, cut-alone (decimal i.0) (spaceless-decimal i.0 (omega (arith, h.alarm))), alarm-read i h.alarm) refl
+action-read (Reset i) h = rw (cut-spaced (codes "RESET") (decimal i.0) refl, cut-alone (decimal i.0) (spaceless-decimal i.0 (omega (arith, h.alarm))), alarm-read i h.alarm) refl
 action-read (Shelve i s) h =
-    rw (cut-spaced (codes "SHELVE") (decimal i.0 ++ 32 ∷ decimal s) refl, cut-spaced (decimal i.0) (decimal s) (spaceless-decimal i.0 (omega (arith, h.0))), alarm-read i h.0, word-read s h.1) refl
-action-read (Unshelve i) h = rw (cut-spaced (codes "UNSHELVE") (decimal i.0) refl, cut-alone (decimal i.0) (spaceless-decimal i.0 (omega (arith, h))), alarm-read i h) refl
+    rw (cut-spaced (codes "SHELVE") (decimal i.0 ++ 32 ∷ decimal s) refl, cut-spaced (decimal i.0) (decimal s) (spaceless-decimal i.0 (omega (arith, h.alarm))), alarm-read i h.alarm, word-read s h.argument) refl
+action-read (Unshelve i) h = rw (cut-spaced (codes "UNSHELVE") (decimal i.0) refl, cut-alone (decimal i.0) (spaceless-decimal i.0 (omega (arith, h.alarm))), alarm-read i h.alarm) refl
 action-read (Oos i on) h =
-    rw (cut-spaced (codes "OOS") (decimal i.0 ++ 32 ∷ switch_text on) refl, cut-spaced (decimal i.0) (switch_text on) (spaceless-decimal i.0 (omega (arith, h))), alarm-read i h, switch-read on) refl
+    rw (cut-spaced (codes "OOS") (decimal i.0 ++ 32 ∷ switch_text on) refl, cut-spaced (decimal i.0) (switch_text on) (spaceless-decimal i.0 (omega (arith, h.alarm))), alarm-read i h.alarm, switch-read on) refl
 action-read (Design i on) h =
-    rw (cut-spaced (codes "DESIGN") (decimal i.0 ++ 32 ∷ switch_text on) refl, cut-spaced (decimal i.0) (switch_text on) (spaceless-decimal i.0 (omega (arith, h))), alarm-read i h, switch-read on) refl
+    rw (cut-spaced (codes "DESIGN") (decimal i.0 ++ 32 ∷ switch_text on) refl, cut-spaced (decimal i.0) (switch_text on) (spaceless-decimal i.0 (omega (arith, h.alarm))), alarm-read i h.alarm, switch-read on) refl
 
 list-read : (letter : List ℕ) (n : ℕ) → is_spaceless letter ≡ true → n < 2 ^ 32 → of_rest (cut (with_two (codes "LIST") letter (decimal n))) ≡ of_letter letter n
 list-read letter n e below =

@@ -1,5 +1,6 @@
 -- The one text of each request, without its line end.
-use Rattle.std.specs.Prelude.{ℕ, ◌<◌, ◌^◌, List, [], ◌∷◌, ◌++◌, Bool, true, false, codes, decimal, ℤ, pos, negsuc, ◌+◌, ◌≤ℤ◌}
+use Rattle.std.specs.Prelude.{ℕ, ◌<◌, ◌^◌, List, [], ◌∷◌, ◌++◌, Bool, true, false, codes, decimal, ℤ, pos, negsuc, ◌+◌}
+use Rattle.alm_types.specs.Actions.{IsAction}
 use Rattle.alm_types.specs.declared.action.Action.{Action}
 use Rattle.alm_types.specs.declared.action.Action.TheVariants.{Clock, Value, Ack, Reset, Shelve, Unshelve, Oos, Design}
 use Rattle.alm_types.specs.declared.query.Query.{Query}
@@ -53,17 +54,7 @@ ask_text (Bad refusal) = []
 abbrev pub request_text : ℕ → Ask → List ℕ
 request_text id ask = with_one (decimal id) (ask_text ask)
 
--- what an action, a query and a line can hold
-abbrev pub IsActionInRange : Action → Type 0
-IsActionInRange (Clock t) = t < 2 ^ 40
-IsActionInRange (Value i v) = (i.0 < 2 ^ 32) × (negsuc 999999999999 ≤ℤ v) × (v ≤ℤ pos 1000000000000)
-IsActionInRange (Ack i) = i.0 < 2 ^ 32
-IsActionInRange (Reset i) = i.0 < 2 ^ 32
-IsActionInRange (Shelve i seconds) = (i.0 < 2 ^ 32) × (seconds < 2 ^ 32)
-IsActionInRange (Unshelve i) = i.0 < 2 ^ 32
-IsActionInRange (Oos i on) = i.0 < 2 ^ 32
-IsActionInRange (Design i on) = i.0 < 2 ^ 32
-
+-- the numbers of a query fit their types
 abbrev pub IsQueryInRange : Query → Type 0
 IsQueryInRange (State i) = i.0 < 2 ^ 32
 IsQueryInRange (Priority n) = n < 2 ^ 32
@@ -75,7 +66,7 @@ IsQueryInRange Chatter = Unit {0}
 
 -- a line asks for an action or a query, in range
 abbrev pub IsInRange : Ask → Type 0
-IsInRange (Act action) = IsActionInRange action
+IsInRange (Act action) = IsAction action
 IsInRange (Look query) = IsQueryInRange query
 IsInRange (Bad refusal) = ⊥
 

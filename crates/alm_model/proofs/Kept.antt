@@ -21,7 +21,8 @@ use Rattle.alm_state.specs.declared.outcome.Outcome.{Outcome}
 use Rattle.alm_state.specs.declared.outcome.Outcome.TheVariants.{Changed, Annunciated, Shelved}
 use Rattle.alm_state.proofs.OutcomeLaws.{IsOutcome, outcome-good, row_of}
 use Rattle.alm_model.specs.Plant.{Panel, Condensed}
-use Rattle.alm_model.specs.Accept.{refusal, own_refusal, alarm_refusal, alarm_of}
+use Rattle.alm_types.specs.Actions.{alarm_of}
+use Rattle.alm_model.specs.Accept.{refusal, own_refusal, alarm_refusal}
 use Rattle.alm_model.specs.Keeping.{condensed, aged}
 use Rattle.alm_model.specs.Lists.{due, is_due, deadline, stamp, key_of}
 use Rattle.alm_model.specs.New.{at_rest, new_plant}

@@ -1,5 +1,5 @@
 -- Which requests are accepted.
-use Rattle.std.specs.Prelude.{ℕ, ◌^◌, Bool, true, false, Option, Some, None, Result, Ok, Err, slice_get, nat_lt}
+use Rattle.std.specs.Prelude.{◌^◌, Bool, true, false, Option, Some, None, Result, Ok, Err, slice_get, nat_lt}
 use Rattle.alm_types.specs.declared.attr.Attr.{Attr}
 use Rattle.alm_types.specs.declared.role.Role.{Role}
 use Rattle.alm_types.specs.declared.role.Role.TheVariants as role
@@ -8,6 +8,7 @@ use Rattle.alm_types.specs.declared.action.Action.TheVariants.{Clock, Value, Ack
 use Rattle.alm_types.specs.declared.request.Request.{Request}
 use Rattle.alm_types.specs.declared.refusal.Refusal.{Refusal}
 use Rattle.alm_types.specs.declared.refusal.Refusal.TheVariants.{NoSuchAlarm, ClockBack, WrongRole, Exhausted}
+use Rattle.alm_types.specs.Actions.{alarm_of}
 use Rattle.alm_types.specs.Slots.{role_of}
 use Rattle.alm_state.specs.Rows.{State}
 use Rattle.alm_state.specs.Outcome.{row_refusal, or_else, unless}
@@ -24,17 +25,6 @@ may_ask role.Console (Shelve i s) = true
 may_ask role.Console (Unshelve i) = true
 may_ask role.Console (Oos i on) = true
 may_ask _ _ = false
-
--- the alarm that an action names
-abbrev pub alarm_of : Action → ℕ
-alarm_of (Clock t) = 0
-alarm_of (Value i v) = i.0
-alarm_of (Ack i) = i.0
-alarm_of (Reset i) = i.0
-alarm_of (Shelve i seconds) = i.0
-alarm_of (Unshelve i) = i.0
-alarm_of (Oos i on) = i.0
-alarm_of (Design i on) = i.0
 
 -- why an alarm refuses an action, or that there is no such alarm
 abbrev pub alarm_refusal : Action → Option Attr → Option State → Option Refusal

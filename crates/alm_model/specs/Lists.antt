@@ -1,21 +1,12 @@
 -- Lists of alarms: each is a filter of the alarms, in an order.
-use Rattle.std.specs.Prelude.{ℕ, ◌+◌, List, [], ◌∷◌, Bool, true, false, ◌&&◌, Option, Some, None, is_some, unwrap_or, slice_get, nat_le, nat_lt, ◌==◌, ◌%◌, length, filter, if◌then◌else◌}
+use Rattle.std.specs.Prelude.{ℕ, ◌+◌, List, [], ◌∷◌, Bool, true, false, ◌&&◌, Option, Some, None, is_some, unwrap_or, slice_get, nat_le, nat_lt, ◌==◌, ◌%◌, length, filter}
 use Rattle.std.specs.List.{range_with_len}
+use Rattle.alm_lists.specs.Orders.{in_order}
 use Rattle.alm_types.specs.declared.attr.Attr.{Attr}
 use Rattle.alm_state.specs.Rows.{State, is_annunciated}
 use Rattle.alm_model.specs.Plant.{Panel, Condensed}
 use Rattle.alm_model.specs.declared.list.List.{List as Choice}
 use Rattle.alm_model.specs.declared.list.List.TheVariants.{Priority, Area, Wheel, Stale, Chatter}
-
--- a number put into a list in the order of a key, before the first of no smaller key
-abbrev pub put_in_order : (ℕ → ℕ) → ℕ → List ℕ → List ℕ
-put_in_order key i [] = i ∷ []
-put_in_order key i (j ∷ js) = if nat_le (key i) (key j) then i ∷ j ∷ js else j ∷ put_in_order key i js
-
--- the numbers in the order of a key; of equal keys the earlier stays first
-abbrev pub in_order : (ℕ → ℕ) → List ℕ → List ℕ
-in_order key [] = []
-in_order key (i ∷ is) = put_in_order key i (in_order key is)
 
 -- a test of an alarm, false where there is none
 abbrev pub passes : (Attr → State → Bool) → Option Attr → Option State → Bool

@@ -8,7 +8,7 @@ use Rattle.alm_state.specs.Outcome.{outcome, unshelved}
 use Rattle.alm_state.specs.declared.outcome.Outcome.{Outcome}
 use Rattle.alm_state.specs.declared.outcome.Outcome.TheVariants.{Changed, Annunciated, Shelved}
 use Rattle.alm_model.specs.Plant.{Panel, PlantOf, Plant, Condensed}
-use Rattle.alm_model.specs.Accept.{alarm_of}
+use Rattle.alm_types.specs.Actions.{alarm_of}
 use Rattle.alm_model.specs.Lists.{due}
 use Rattle.alm_model.specs.Keeping.{Keeping, in_full, condensed}
 

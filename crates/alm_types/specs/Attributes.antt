@@ -1,14 +1,12 @@
 -- Which attributes an alarm may have.
-use Rattle.std.specs.Prelude.{ℕ, List, Bool, ◌&&◌, Option, Some, None, ℤ, pos, negsuc, int_le, nat_le, nat_lt, if◌then◌else◌}
+use Rattle.std.specs.Prelude.{ℕ, List, ◌&&◌, Option, Some, None, nat_le, nat_lt, if◌then◌else◌}
+use Rattle.alm_types.specs.Readings.{is_reading}
 use Rattle.alm_types.specs.Texts.{is_tag, is_text}
 use Rattle.alm_types.specs.declared.kind.Kind.{Kind}
 use Rattle.alm_types.specs.declared.kind.Kind.TheVariants.{High, Low, Discrete}
 use Rattle.alm_types.specs.declared.settings.Settings.{Settings}
 use Rattle.alm_types.specs.declared.attr_fault.AttrFault.{AttrFault}
 use Rattle.alm_types.specs.declared.attr_fault.AttrFault.TheVariants.{Setpoint, Deadband, Priority, Area, MaxShelve, Tag, Text}
-
-abbrev pub is_reading : ℤ → Bool
-is_reading v = int_le (negsuc 999999999999) v && int_le v (pos 1000000000000)
 
 -- the greatest deadband of a kind
 abbrev pub deadband_limit : Kind → ℕ

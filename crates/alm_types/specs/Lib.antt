@@ -1,7 +1,9 @@
+pub mod Actions
 pub mod Attributes
 pub mod Batches
 pub mod Counts
 pub mod Padded
+pub mod Readings
 pub mod Refusals
 pub mod Reports
 pub mod Slots

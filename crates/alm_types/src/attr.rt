@@ -1,7 +1,8 @@
 //! Attributes.
 
-ghost use Rattle.std.specs.Prelude.{◌≡◌, ◌<◌, ◌≤◌, None, Some, IfOk, IfErr, OnOk, ◌≤ℤ◌, pos, negsuc, IsTrue};
+ghost use Rattle.std.specs.Prelude.{◌≡◌, ◌<◌, ◌≤◌, None, Some, IfOk, IfErr, OnOk, IsTrue};
 ghost use Rattle.alm_types.specs.Texts.{is_tag, is_text};
+ghost use Rattle.alm_types.specs.Readings.{IsReading};
 ghost use Rattle.alm_types.specs.Attributes.{attr_fault, deadband_limit};
 
 use crate::attr_fault::AttrFault;
@@ -28,8 +29,7 @@ pub struct Attr {
     pub max_shelve: u32,
     pub tag: Tag,
     pub text: Text,
-    ghost setpoint_low: { negsuc 999999999999 ≤ℤ setpoint },
-    ghost setpoint_high: { setpoint ≤ℤ pos 1000000000000 },
+    ghost setpoint_range: { IsReading setpoint },
     ghost deadband_limit: { deadband ≤ deadband_limit kind },
     ghost priority_limits: { (1 ≤ priority) × (priority ≤ 4) },
     ghost area_limit: { area < 64 },

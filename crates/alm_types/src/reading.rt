@@ -1,6 +1,7 @@
 //! Values of the process.
 
-ghost use Rattle.std.specs.Prelude.{◌≡◌, SomeIff, ℤ, ◌≤ℤ◌, pos, negsuc};
+ghost use Rattle.std.specs.Prelude.{◌≡◌, SomeIff, ℤ};
+ghost use Rattle.alm_types.specs.Readings.{IsReading};
 
 use std::marker::Model;
 
@@ -15,7 +16,7 @@ impl Model for Reading {
 
     ghost view = { λ r. r.value };
 
-    ghost invariant = { λ r. (negsuc 999999999999 ≤ℤ r.value) × (r.value ≤ℤ pos 1000000000000) };
+    ghost invariant = { λ r. IsReading r.value };
 
     ghost inverse = { λ n. record { value = n } };
 }
@@ -23,7 +24,7 @@ impl Model for Reading {
 impl Reading {
     /// The reading of a value; `None` outside the range.
     pub fn new(value: i64) -> Option<Self>
-        ensures { SomeIff result ((negsuc 999999999999 ≤ℤ value) × (value ≤ℤ pos 1000000000000)) value }
+        ensures { SomeIff result (IsReading value) value }
     {
         if value >= -1_000_000_000_000 && value <= 1_000_000_000_000 {
             Some(Reading { value })
@@ -35,8 +36,7 @@ impl Reading {
     /// The value.
     pub fn value(self) -> i64
         ensures value { result ≡ self }
-        ensures low { negsuc 999999999999 ≤ℤ result }
-        ensures high { result ≤ℤ pos 1000000000000 }
+        ensures range { IsReading result }
     {
         self.value
     }
