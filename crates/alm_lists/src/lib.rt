@@ -1,4 +1,4 @@
-//! Words on lists of numbers and their laws, for the crates that keep lists threaded by index.
+//! Words on lists of numbers and their laws, for the crates that keep lists of alarms.
 //!
 //! | file | words |
 //! |---|---|
