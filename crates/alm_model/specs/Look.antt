@@ -1,5 +1,5 @@
 -- What a plant answers to a query.
-use Rattle.std.specs.Prelude.{◌≡◌, ℕ, List, Bool, true, false, Option, Some, None, Result, Ok, Err, slice_get, sum, if◌then◌else◌}
+use Rattle.std.specs.Prelude.{◌≡◌, ◌<◌, ℕ, List, Bool, true, false, Option, Some, None, Result, Ok, Err, slice_get, length, vec_capacity, sum, if◌then◌else◌}
 use Rattle.alm_types.specs.declared.refusal.Refusal.{Refusal}
 use Rattle.alm_types.specs.declared.refusal.Refusal.TheVariants.{NoSuchAlarm, NoSuchList, OutOfMemory}
 use Rattle.alm_types.specs.declared.query.Query.{Query}
@@ -46,16 +46,46 @@ look q (Wheel n) = list_report (choice.Wheel n) q
 look q Stale = list_report choice.Stale q
 look q Chatter = list_report choice.Chatter q
 
+-- what it told of one alarm
+abbrev pub KeepsAlarm : Answer → Answer → Type 0
+KeepsAlarm before after =
+    (after.shown ≡ before.shown) × (after.active ≡ before.active) × (after.flags ≡ before.flags) × (after.until ≡ before.until)
+
+-- what it told of an area's window
+abbrev pub KeepsFlood : Answer → Answer → Type 0
+KeepsFlood before after = (after.window ≡ before.window) × (after.flood ≡ before.flood)
+
+-- what it told in its list, and the list's room
+abbrev pub KeepsList : Answer → Answer → Type 0
+KeepsList before after = (after.list.items ≡ before.list.items) × (vec_capacity after.list ≡ vec_capacity before.list)
+
 -- an answer that tells what it told before
 pub record IsUnchanged (before after : Answer) : Type 0 where
-  pub alarm : (after.shown ≡ before.shown) × (after.active ≡ before.active) × (after.flags ≡ before.flags) × (after.until ≡ before.until)
-  pub flood : (after.window ≡ before.window) × (after.flood ≡ before.flood)
+  pub alarm : KeepsAlarm before after
+  pub flood : KeepsFlood before after
   pub list : after.list.items ≡ before.list.items
 
--- the same for a list alone
+-- what a query doesn't ask for stays
+abbrev pub KeepsOthers : Query → Answer → Answer → Type 0
+KeepsOthers (State i) before after = KeepsFlood before after × KeepsList before after
+KeepsOthers (Flood a) before after = KeepsAlarm before after × KeepsList before after
+KeepsOthers (Priority n) before after = KeepsAlarm before after × KeepsFlood before after
+KeepsOthers (Area n) before after = KeepsAlarm before after × KeepsFlood before after
+KeepsOthers (Wheel n) before after = KeepsAlarm before after × KeepsFlood before after
+KeepsOthers Stale before after = KeepsAlarm before after × KeepsFlood before after
+KeepsOthers Chatter before after = KeepsAlarm before after × KeepsFlood before after
+
+-- a growth was refused that the list of a plant's alarms needs, and nothing else was done
+abbrev pub WantsRoom : Condensed → Answer → Answer → Type 0
+WantsRoom q before after =
+    (vec_capacity before.list < length q.panel.rows) × IsUnchanged before after × (after.refused ≡ one_more before.refused)
+
+-- what may be answered for a list alone
 abbrev pub IsListed : Condensed → Choice → Answer → Answer → Result ℕ Refusal → Type 0
-IsListed q list before after (Ok n) = (exists list q ≡ true) × (after.list.items ≡ list_of list q) × (n ≡ q.panel.count) × (after.refused ≡ before.refused)
-IsListed q list before after (Err OutOfMemory) = (exists list q ≡ true) × IsUnchanged before after × (after.refused ≡ one_more before.refused)
+IsListed q list before after (Ok n) =
+    (exists list q ≡ true) × (after.list.items ≡ list_of list q) × (n ≡ q.panel.count) × (after.refused ≡ before.refused)
+    × KeepsAlarm before after × KeepsFlood before after
+IsListed q list before after (Err OutOfMemory) = (exists list q ≡ true) × WantsRoom q before after
 IsListed q list before after (Err refusal) = (exists list q ≡ false) × (refusal ≡ NoSuchList) × (after ≡ before)
 
 -- a list that is there was asked for
@@ -63,8 +93,10 @@ abbrev pub asks_for : Condensed → Option Choice → Bool
 asks_for q None = false
 asks_for q (Some list) = exists list q
 
--- what may be answered: what the plant tells, under its count, or its refusal; or for a list that is there want of memory, where a growth was refused
+-- what may be answered: what the plant tells, under its count, or its refusal; or for a list that is there want of memory, where
+-- a growth that it needs was refused
 abbrev pub IsLook : Condensed → Query → Answer → Answer → Result ℕ Refusal → Type 0
-IsLook q query before after (Ok n) = (look q query ≡ Ok (report query after)) × (n ≡ q.panel.count) × (after.refused ≡ before.refused)
-IsLook q query before after (Err OutOfMemory) = (asks_for q (asks_list query) ≡ true) × IsUnchanged before after × (after.refused ≡ one_more before.refused)
+IsLook q query before after (Ok n) =
+    (look q query ≡ Ok (report query after)) × (n ≡ q.panel.count) × (after.refused ≡ before.refused) × KeepsOthers query before after
+IsLook q query before after (Err OutOfMemory) = (asks_for q (asks_list query) ≡ true) × WantsRoom q before after
 IsLook q query before after (Err refusal) = (look q query ≡ Err refusal) × (after ≡ before)

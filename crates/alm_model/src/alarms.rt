@@ -8,7 +8,7 @@ ghost use Rattle.alm_model.specs.Step.{step, run};
 ghost use Rattle.alm_model.specs.Lists.{list_of, exists, moments_in};
 ghost use Rattle.alm_model.specs.New.{new_plant};
 ghost use Rattle.alm_model.specs.Parts.{plant_of, age_of};
-ghost use Rattle.alm_model.specs.Rules.{KeepsRules, AreAdmitted};
+ghost use Rattle.alm_model.specs.Rules.{KeepsRules, IsTimely};
 
 use crate::list::List;
 use crate::plant_parts::PlantParts;
@@ -34,7 +34,8 @@ pub trait Alarms {
     /// Does an action.
     fn apply(&mut self, action: &Action)
         requires { refusal (plant self.old).panel action.now ≡ None }
-        ensures { plant self.new ≡ step (plant self.old) action.now };
+        ensures plant { plant self.new ≡ step (plant self.old) action.now }
+        ensures timely { IsTimely action.now };
 
     /// The new plant of a table.
     fn new(alloc: Global, table: &Table) -> Result<Self, AllocError>
@@ -81,9 +82,14 @@ pub trait Alarms {
     fn moments(&self, id: AlarmId) -> &[Moment]
         ensures { result.now ≡ moments_in (slice_get (plant self.now).kept.moments id.0) };
 
-    /// How many alarms there are.
+    /// How many alarms there are. Whoever holds a plant learns by this call, too, that it keeps the rules of every plant.
     fn alarms(&self) -> usize
-        ensures { result ≡ length (plant self.now).panel.rows };
+        ensures alarms { result ≡ length (plant self.now).panel.rows }
+        ensures rules { KeepsRules (plant self.now) };
+
+    /// How many areas there are.
+    fn areas(&self) -> usize
+        ensures { result ≡ length (plant self.now).floods };
 
     /// Whether there is a list.
     fn has_list(&self, list: List) -> bool
@@ -94,5 +100,5 @@ pub trait Alarms {
         requires exists { IsTrue (exists list (plant self.now)) }
         requires room { length (plant self.now).panel.rows ≤ vec_capacity out.old }
         ensures list { out.new.items ≡ list_of list (plant self.now) }
-        ensures room { length (plant self.now).panel.rows ≤ vec_capacity out.new };
+        ensures room { vec_capacity out.new ≡ vec_capacity out.old };
 }

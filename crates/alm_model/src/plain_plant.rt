@@ -17,7 +17,7 @@ pub struct PlainPlant {
 }
 
 impl Model for PlainPlant {
-    ghost use Rattle.std.specs.Prelude.{length, ◌≤◌, vec_capacity};
+    ghost use Rattle.std.specs.Prelude.{length, ◌≡◌, vec_capacity};
     ghost use Rattle.alm_model.specs.Plant.{Condensed};
 
     ghost Value = { Condensed };
@@ -26,7 +26,7 @@ impl Model for PlainPlant {
 
     ghost use Rattle.alm_model.specs.Rules.{KeepsRules};
 
-    ghost invariant = { λ p. KeepsRules p.rows × (length p.rows.panel.rows ≤ vec_capacity p.working) };
+    ghost invariant = { λ p. KeepsRules p.rows × (vec_capacity p.working ≡ length p.rows.panel.rows) };
 }
 
 impl Alarms for PlainPlant {
@@ -97,6 +97,10 @@ impl Alarms for PlainPlant {
 
     fn alarms(&self) -> usize {
         self.rows.alarms()
+    }
+
+    fn areas(&self) -> usize {
+        self.rows.areas()
     }
 
     fn has_list(&self, list: List) -> bool {

@@ -82,6 +82,13 @@ impl PlainRows {
         self.rows.len()
     }
 
+    /// How many areas there are.
+    pub fn areas(&self) -> usize
+        ensures { result ≡ length self.now.floods }
+    {
+        self.floods.len()
+    }
+
     pub fn window(&self, area: usize) -> (u64, bool)
         requires { area < length self.now.floods }
         ensures window { slice_get (map sum self.now.kept.ages) area ≡ Some result.0 }
@@ -121,7 +128,7 @@ impl PlainRows {
     pub fn fill(&self, list: List, out: &mut Vec<u32>)
         requires { length self.now.panel.rows ≤ vec_capacity out.old }
         ensures list { out.new.items ≡ list_of list self.now }
-        ensures room { length self.now.panel.rows ≤ vec_capacity out.new }
+        ensures room { vec_capacity out.new ≡ vec_capacity out.old }
     {
         match list {
             List::Priority(_) | List::Area(_) | List::Wheel(_) => {

@@ -5,7 +5,7 @@ ghost use Rattle.alm_types.specs.Tables.{Listing, IsTable};
 ghost use Rattle.alm_model.specs.Counted.{IsCounted, new_whole, run_whole};
 ghost use Rattle.alm_model.specs.New.{new_plant};
 ghost use Rattle.alm_model.specs.Step.{run};
-ghost use Rattle.alm_model.specs.Rules.{AreAdmitted};
+ghost use Rattle.alm_model.specs.Rules.{AllAdmitted};
 
 use crate::alarms::Alarms;
 use alm_types::Action;
@@ -13,7 +13,7 @@ use alm_types::Action;
 /// Does actions, one after the other. From a new plant on, its windows, floods and lists of measures are then those counted
 /// from all annunciations.
 pub fn apply_all<P: Alarms>(plant: &mut P, actions: &[Action])
-    requires { AreAdmitted (P.plant plant.old) actions.now }
+    requires { AllAdmitted (P.plant plant.old) actions.now }
     ensures fold { P.plant plant.new ≡ run (P.plant plant.old) actions.now }
     ensures counted { (t : Listing) → IsTable t → P.plant plant.old ≡ new_plant t → IsCounted (run_whole (new_whole t) actions.now) (P.plant plant.new) }
 {

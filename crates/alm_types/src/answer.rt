@@ -4,6 +4,7 @@ ghost use Rattle.std.specs.Prelude.{◌≡◌, ◌<◌, ◌≤◌, OnOk, OnErr, 
 ghost use Rattle.alm_types.specs.Counts.{one_more};
 ghost use Rattle.alm_types.specs.declared.shown.Shown.TheVariants.{Normal};
 
+use crate::refused_growths::RefusedGrowths;
 use crate::shown::Shown;
 use std::alloc::{AllocError, Global};
 
@@ -21,8 +22,8 @@ pub struct Answer {
     pub window: u64,
     pub flood: bool,
     pub list: Vec<u32>,
-    /// How many growths of the list were refused, up to the greatest number.
-    pub refused: u64,
+    /// How many growths of the list were refused.
+    pub refused: RefusedGrowths,
 }
 
 impl Answer {
@@ -41,7 +42,7 @@ impl Answer {
             window: 0,
             flood: false,
             list: Vec::new(alloc),
-            refused: 0,
+            refused: RefusedGrowths::none(),
         }
     }
 
@@ -55,16 +56,6 @@ impl Answer {
         ensures alarm { (self.new.shown ≡ self.old.shown) × (self.new.active ≡ self.old.active) × (self.new.flags ≡ self.old.flags) × (self.new.until ≡ self.old.until) }
         ensures flood { (self.new.window ≡ self.old.window) × (self.new.flood ≡ self.old.flood) }
     {
-        let held = self.list.len();
-        if alarms <= held {
-            return Ok(());
-        }
-        match self.list.try_reserve(alarms - held) {
-            Ok(()) => Ok(()),
-            Err(error) => {
-                self.refused = self.refused.saturating_add(1);
-                Err(error)
-            }
-        }
+        self.refused.reserve(&mut self.list, alarms)
     }
 }

@@ -70,7 +70,7 @@ impl PlainRows {
         ensures due { out.new.items ≡ due moment self.now.panel }
         ensures each { All (λ i. i < length self.now.panel.rows) out.new.items }
         ensures len { vec_len out.new ≤ 16384 }
-        ensures room { length self.now.panel.rows ≤ vec_capacity out.new }
+        ensures room { vec_capacity out.new ≡ vec_capacity out.old }
     {
         fill_in_order(
             &self.attrs,
@@ -135,7 +135,7 @@ impl PlainRows {
         requires room { length self.old.panel.rows ≤ vec_capacity working.old }
         ensures plant { self.new ≡ acted condensed self.old action.now }
         ensures rows { length self.new.panel.rows ≡ length self.old.panel.rows }
-        ensures room { length self.old.panel.rows ≤ vec_capacity working.new }
+        ensures room { vec_capacity working.new ≡ vec_capacity working.old }
         ensures timely { IsTimely action.now }
     {
         match *action {
@@ -159,7 +159,8 @@ impl PlainRows {
         requires admitted { refusal self.old.panel action.now ≡ None }
         requires room { length self.old.panel.rows ≤ vec_capacity working.old }
         ensures plant { self.new ≡ step self.old action.now }
-        ensures room { length self.new.panel.rows ≤ vec_capacity working.new }
+        ensures rows { length self.new.panel.rows ≡ length self.old.panel.rows }
+        ensures room { vec_capacity working.new ≡ vec_capacity working.old }
         ensures timely { IsTimely action.now }
     {
         self.count_action();

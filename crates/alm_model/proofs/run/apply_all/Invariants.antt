@@ -1,11 +1,12 @@
-use Rattle.std.proofs.Common.{◌≡◌, drop}
-use Rattle.alm_model.specs.Rules.{AreAdmitted}
+use Rattle.std.proofs.Common.{◌≡◌, take, drop}
+use Rattle.alm_model.specs.Rules.{AreAdmitted, AllAdmitted}
 use Rattle.alm_model.specs.Step.{run}
 use Rattle.alm_model.proofs.run.apply_all.Given as goal
 
--- the rest is admitted, and doing it does all
+-- what was done so far was admitted, and the rest is
 abbrev pub invariant-loop-action : goal.invariant-loop-action
 invariant-loop-action g l = record {
-  admitted : AreAdmitted (g.P.Alarms.plant l.plant) (drop l.action-index l.actions);
-  rest : run (g.P.Alarms.plant l.plant) (drop l.action-index l.actions) ≡ run (g.P.Alarms.plant l.fn.plant) l.actions;
+  done : AreAdmitted (g.P.Alarms.plant l.fn.plant) (take l.action-index l.actions);
+  run : g.P.Alarms.plant l.plant ≡ run (g.P.Alarms.plant l.fn.plant) (take l.action-index l.actions);
+  rest : AllAdmitted (g.P.Alarms.plant l.plant) (drop l.action-index l.actions);
 }
