@@ -14,7 +14,8 @@ use Rattle.alm_types.specs.declared.alarm_id.AlarmId.{AlarmId}
 use Rattle.alm_types.specs.Actions.{alarm_of, HasArgument, IsAction}
 use Rattle.alm_types.specs.Readings.{IsReading}
 use Rattle.alm_codec.specs.Actions.{kind_of, argument_of, switch, text_of, action_text, limited, reading_at, without, either_way, meaning, action_at}
-use Rattle.alm_codec.proofs.Bytes.{IsBytes, IsBytes-drop, IsBytes-take, chosen}
+use Rattle.alm_codec.specs.Reading.{IsBytes}
+use Rattle.alm_codec.proofs.Bytes.{IsBytes-drop, IsBytes-take, chosen}
 
 -- ---- what is spelled so is read
 

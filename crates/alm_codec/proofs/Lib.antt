@@ -16,3 +16,4 @@ pub mod Spelled
 pub mod KeptImage
 pub mod KeepImage
 pub mod SameImage
+pub mod Total

@@ -12,8 +12,8 @@ use Rattle.alm_model.specs.Rules.{KeepsRules}
 use Rattle.alm_codec.specs.declared.fixed.Fixed.{Fixed}
 use Rattle.alm_codec.specs.Image.{IsImage, IsOf}
 use Rattle.alm_codec.specs.ImageFields.{Alarm, Area, Image, image, fixed_in, areas_in, alarms_in, image_in}
+use Rattle.alm_codec.specs.Reading.{IsBytes}
 use Rattle.alm_codec.proofs.Alarms.{alarm_from}
-use Rattle.alm_codec.proofs.Bytes.{IsBytes}
 use Rattle.alm_codec.proofs.ImageLaws.{image_lawful}
 use Rattle.alm_codec.proofs.Numbers.{ok_is}
 use Rattle.std.proofs.Props.{props}

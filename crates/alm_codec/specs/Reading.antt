@@ -1,10 +1,14 @@
 -- Reading from left to right. A damaged field is told by how many bytes were left where it begins.
-use Rattle.std.specs.Prelude.{◌≡◌, ℕ, ◌-◌, Bool, List, [], ◌∷◌, length, take, drop, Result, Ok, Err, nat_lt, if◌then◌else◌}
+use Rattle.std.specs.Prelude.{◌≡◌, ℕ, ◌-◌, ◌<◌, slice_index, Bool, List, [], ◌∷◌, length, take, drop, Result, Ok, Err, nat_lt, if◌then◌else◌}
 use Rattle.std.specs.Int.{Width, byte_len, from_be_bytes}
 use Rattle.alm_codec.specs.declared.left.Left.{Left}
 use Rattle.alm_codec.specs.declared.damage.Damage.{Damage}
 use Rattle.alm_codec.specs.declared.stop.Stop.{Stop}
 use Rattle.alm_codec.specs.declared.stop.Stop.TheVariants as stop
+
+-- each number is that of a byte
+abbrev pub IsBytes : List ℕ → Type 0
+IsBytes bytes = (i : ℕ) → slice_index bytes i < 256
 
 infixl 10 ◌>>=◌
 abbrev pub ◌>>=◌ : {A B : Type 0} → Result A ℕ → (A → Result B ℕ) → Result B ℕ
@@ -17,9 +21,9 @@ Gives view (Ok x) read = read ≡ Ok (view x)
 Gives view (Err e) read = read ≡ Err e.0
 
 -- a byte and the bytes after it
-abbrev pub byte_at : List ℕ → Result (ℕ × List ℕ) ℕ
-byte_at [] = Err 0
-byte_at (b ∷ rest) = Ok (b, rest)
+abbrev pub next_byte : List ℕ → Result (ℕ × List ℕ) ℕ
+next_byte [] = Err 0
+next_byte (b ∷ rest) = Ok (b, rest)
 
 -- a number and the bytes after it
 abbrev pub number_at : Width → List ℕ → Result (ℕ × List ℕ) ℕ
@@ -32,9 +36,9 @@ field_at w test bytes = do
   if test n.0 then Ok n else Err (length bytes)
 
 -- What a function returned, seen by view, is what reading gives; damage is told by its place.
-abbrev pub Reads : {X Y : Type 0} → List ℕ → (X → Y) → Result X Damage → Result Y ℕ → Type 0
-Reads bytes view (Ok x) read = read ≡ Ok (view x)
-Reads bytes view (Err d) read = (left : ℕ) × (read ≡ Err left) × (d.at ≡ length bytes - left)
+abbrev pub FindsOrDamage : {X Y : Type 0} → List ℕ → (X → Y) → Result X Damage → Result Y ℕ → Type 0
+FindsOrDamage bytes view (Ok x) read = read ≡ Ok (view x)
+FindsOrDamage bytes view (Err d) read = (left : ℕ) × (read ≡ Err left) × (d.at ≡ length bytes - left)
 
 -- The same for a function that stops where memory runs out.
 abbrev pub Stops : {Y : Type 0} → Stop → Result Y ℕ → Type 0

@@ -2,13 +2,13 @@
 
 ghost use Rattle.std.specs.Prelude.{◌≡◌, ◌+◌, ◌-◌, ◌≤◌, List, ℕ, length, take, drop, replicate, IfOk};
 ghost use Rattle.std.specs.Int.{w16, w32, w64, from_be_bytes, to_be_bytes};
-ghost use Rattle.alm_codec.specs.Reading.{Gives, byte_at, number_at};
+ghost use Rattle.alm_codec.specs.Reading.{Gives, next_byte, number_at};
 ghost use Rattle.alm_codec.specs.Writing.{Wrote};
 
 use crate::left::Left;
 
 pub fn u8_at(bytes: &[u8]) -> Result<(u8, &[u8]), Left>
-    ensures value { Gives (λ x. (x.0, x.1.now)) result (byte_at bytes.now) }
+    ensures value { Gives (λ x. (x.0, x.1.now)) result (next_byte bytes.now) }
     ensures left { IfOk result (λ x. length x.1.now + 1 ≡ length bytes.now) }
 {
     match bytes {

@@ -4,7 +4,7 @@ ghost use Rattle.std.specs.Prelude.{◌≡◌, ◌+◌, ◌*◌, ◌<◌, ◌≤
 ghost use Rattle.alm_types.specs.declared.action.Action.{Action as AnAction};
 ghost use Rattle.alm_types.specs.Actions.{IsAction};
 ghost use Rattle.alm_codec.specs.Actions.{action_text};
-ghost use Rattle.alm_codec.specs.Reading.{Gives, Reads};
+ghost use Rattle.alm_codec.specs.Reading.{Gives, FindsOrDamage};
 ghost use Rattle.alm_codec.specs.Frames.{IsFrame, frame_text, frame_body, head_at, with_front, actions_at, frame_at, IsBefore};
 
 use crate::action::{ACTION_LEN, action_of, put_action};
@@ -50,7 +50,7 @@ fn actions_of<'a>(count: u16, bytes: &'a [u8], actions: &mut Vec<Action>) -> Res
     requires room { vec_len actions.old + count ≤ vec_capacity actions.old }
     ensures actions { Gives (λ rest. (actions.new.items, rest.now)) result (with_front actions.old.items (actions_at count bytes.now)) }
     ensures left { IfOk result (λ rest. length rest.now + 16 * count ≡ length bytes.now) }
-    ensures room { vec_capacity actions.old ≤ vec_capacity actions.new }
+    ensures room { vec_capacity actions.new ≡ vec_capacity actions.old }
 {
     let mut rest = bytes;
     for _ in 0..count {
@@ -75,7 +75,7 @@ fn frame_of<'a>(
     requires { 256 ≤ vec_capacity actions.old }
     ensures actions { Gives (λ rest. (actions.new.items, rest.now)) result (frame_at epoch count bytes.now) }
     ensures left { IfOk result (λ rest. length rest.now ≤ length bytes.now) }
-    ensures room { 256 ≤ vec_capacity actions.new }
+    ensures room { vec_capacity actions.new ≡ vec_capacity actions.old }
 {
     actions.clear();
     let (number, rest) = head_of(bytes, epoch, count)?;
@@ -96,10 +96,10 @@ pub fn read_frame(
     // What is spelled so is read.
     ensures only { (list : List AnAction) (gate : ℕ) (rest : List ℕ) → IsFrame epoch (count + 1) list → bytes.now ≡ frame_text epoch (count + 1) list ++ gate ∷ rest → (result ≡ Ok (18 + 16 * length list)) × (actions.new.items ≡ list) }
     // Which field is damaged.
-    ensures exact { Reads bytes.now (λ end. (actions.new.items, drop end bytes.now)) result (frame_at epoch count bytes.now) }
+    ensures exact { FindsOrDamage bytes.now (λ end. (actions.new.items, drop end bytes.now)) result (frame_at epoch count bytes.now) }
     // Nothing of a damaged frame is left.
     ensures none { OnErr result (actions.new.items ≡ []) }
-    ensures room { 256 ≤ vec_capacity actions.new }
+    ensures room { vec_capacity actions.new ≡ vec_capacity actions.old }
 {
     match frame_of(bytes, epoch, count, actions) {
         Ok(rest) => Ok(bytes.len() - rest.len()),

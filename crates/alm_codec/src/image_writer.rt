@@ -24,29 +24,37 @@ fn put_numbered<P: Alarms>(out: &mut [u8], at: usize, plant: &P, id: AlarmId) ->
     put_alarm(out, at, &attr, &row, plant.moments(id))
 }
 
-/// Writes the alarms.
-fn put_alarms<P: Alarms>(out: &mut [u8], at: usize, plant: &P)
+/// Writes the alarms, of which there are so many.
+fn put_alarms<P: Alarms>(out: &mut [u8], at: usize, plant: &P, alarms: u32)
     requires rules { KeepsRules (P.plant plant.now) }
+    requires alarms { length (P.plant plant.now).panel.rows ≡ alarms }
     requires room { at + length (P.plant plant.now).panel.rows * 182 ≤ length out.old }
     ensures text { Wrote out.old out.new at (at + length (P.plant plant.now).panel.rows * 182) (alarm_texts (P.plant plant.now).panel.attrs (P.plant plant.now).panel.rows (P.plant plant.now).kept.moments) }
 {
     let mut end = at;
-    for alarm in 0..plant.alarms() as u32 {
+    for alarm in 0..alarms {
         end = put_numbered(out, end, plant, AlarmId(alarm));
     }
 }
 
-/// Writes the image of a plant of so many areas at the front of the bytes; the bytes behind it stay.
-pub fn write_image<P: Alarms>(plant: &P, areas: u8, out: &mut [u8])
-    requires rules { KeepsRules (P.plant plant.now) }
-    requires areas { length (P.plant plant.now).floods ≡ areas }
-    requires room { image_len (length (P.plant plant.now).panel.rows) areas ≤ length out.old }
-    ensures text { out.new ≡ image_text (P.plant plant.now) ++ drop (image_len (length (P.plant plant.now).panel.rows) areas) out.old }
+/// How many bytes the image of a plant of so many rows and areas has.
+pub fn image_len(rows: u32, areas: u8) -> u64
+    ensures { result ≡ image_len rows areas }
+{
+    16 + areas as u64 * 4801 + rows as u64 * 182
+}
+
+/// Writes the image of a plant at the front of the bytes; the bytes behind it stay.
+pub fn write_image<P: Alarms>(plant: &P, out: &mut [u8])
+    requires { image_len (length (P.plant plant.now).panel.rows) (length (P.plant plant.now).floods) ≤ length out.old }
+    ensures text { out.new ≡ image_text (P.plant plant.now) ++ drop (image_len (length (P.plant plant.now).panel.rows) (length (P.plant plant.now).floods)) out.old }
     // It can be read back.
     ensures image { IsImage (P.plant plant.now) (image_text (P.plant plant.now)) }
 {
+    let alarms = plant.alarms() as u32;
+    let areas = plant.areas() as u8;
     let next_stamp_at = put_word(out, 0, plant.now().seconds());
     let areas_at = put_word(out, next_stamp_at, plant.next_stamp());
     let alarms_at = put_areas(out, areas_at, plant, areas);
-    put_alarms(out, alarms_at, plant);
+    put_alarms(out, alarms_at, plant, alarms);
 }

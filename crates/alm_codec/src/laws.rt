@@ -1,13 +1,32 @@
 //! Laws of the texts: each function does nothing, and its contract is the law.
 
-ghost use Rattle.std.specs.Prelude.{◌≡◌, ◌++◌, ℕ, List, length};
+ghost use Rattle.std.specs.Prelude.{◌≡◌, ◌≤◌, ◌+◌, ◌*◌, ◌++◌, ◌∷◌, ℕ, List, None, Ok, length};
 ghost use Rattle.alm_types.specs.declared.action.Action.{Action};
 ghost use Rattle.alm_model.specs.Plant.{Condensed};
 ghost use Rattle.alm_model.specs.Rules.{KeepsRules};
 ghost use Rattle.alm_types.specs.Actions.{IsAction};
 ghost use Rattle.alm_codec.specs.Actions.{action_text};
-ghost use Rattle.alm_codec.specs.Frames.{IsFrame, frame_text};
+ghost use Rattle.alm_codec.specs.Frames.{IsFrame, frame_text, frame_at};
+ghost use Rattle.alm_codec.specs.Reading.{IsBytes};
+ghost use Rattle.alm_codec.specs.ImageFields.{damage_in};
 ghost use Rattle.alm_codec.specs.Image.{IsImage, IsOf, image_text, image_len};
+
+/// Bytes are undamaged exactly where they are the image of a plant of so many rows, areas and actions.
+pub fn undamaged_is_an_image()
+    ensures some { (rows areas count : ℕ) (bytes : List ℕ) → (1 ≤ rows) × (rows ≤ 16384) → (1 ≤ areas) × (areas ≤ 64) → IsBytes bytes → damage_in rows areas count bytes ≡ None → (q : Condensed) × IsOf rows areas count q × IsImage q bytes }
+    ensures none { (rows areas count : ℕ) (bytes : List ℕ) (q : Condensed) → IsOf rows areas count q → IsImage q bytes → damage_in rows areas count bytes ≡ None }
+{}
+
+/// Bytes are undamaged exactly where they begin with a frame and its next gate.
+pub fn undamaged_is_a_frame()
+    ensures some { (epoch count : ℕ) (bytes : List ℕ) (list : List Action) (rest : List ℕ) → IsBytes bytes → frame_at epoch count bytes ≡ Ok (list, rest) → IsFrame epoch (count + 1) list × (bytes ≡ frame_text epoch (count + 1) list ++ rest) × (1 ≤ length rest) }
+    ensures none { (epoch count : ℕ) (list : List Action) (gate : ℕ) (rest : List ℕ) → IsFrame epoch (count + 1) list → frame_at epoch count (frame_text epoch (count + 1) list ++ gate ∷ rest) ≡ Ok (list, gate ∷ rest) }
+{}
+
+/// How long the text of a frame is.
+pub fn frame_has_its_length()
+    ensures { (epoch first : ℕ) (list : List Action) → length (frame_text epoch first list) ≡ 18 + 16 * length list }
+{}
 
 /// No text of an action begins another's.
 pub fn no_action_begins_another()

@@ -41,4 +41,4 @@ pub use damage::Damage;
 pub use frame::{MOST_ACTIONS, read_frame, write_frame_body};
 pub use image_fault::ImageFault;
 pub use image_reader::read_image;
-pub use image_writer::write_image;
+pub use image_writer::{image_len, write_image};

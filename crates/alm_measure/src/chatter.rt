@@ -11,12 +11,12 @@ pub fn fill_chattering(alarms: &[Recent], now: Moment, out: &mut Vec<u32>)
     requires few { length alarms.now ≤ 16384 }
     requires room { length alarms.now ≤ vec_capacity out.old }
     ensures list { out.new.items ≡ chattering_at now alarms.now }
-    ensures room { vec_capacity out.old ≤ vec_capacity out.new }
+    ensures room { vec_capacity out.new ≡ vec_capacity out.old }
 {
     out.clear();
     for (number, recent) in alarms.iter().enumerate() {
         if recent.passes(List::Chatter, now) {
-            let _ = out.push(number as u32);
+            out.push_reserved(number as u32);
         }
     }
 }

@@ -193,7 +193,7 @@ impl Measure {
     pub fn chattering(&self, out: &mut Vec<u32>)
         requires room { length self.now.areas ≤ vec_capacity out.old }
         ensures list { out.new.items ≡ chattering self.now }
-        ensures room { vec_capacity out.old ≤ vec_capacity out.new }
+        ensures room { vec_capacity out.new ≡ vec_capacity out.old }
     {
         fill_chattering(&self.moments, self.clock, out);
     }

@@ -15,19 +15,15 @@ loop-number-preserved c =
     let passes : p i ≡ c.passes.result = ap (λ o. is_frequent c.args.now (moments_in o)) there ∙ sym c.passes.ensures in
     elim c.if-passes.branch [
       | then-passes w ↦
-          (let free : vec_len c.loop-number.out < vec_capacity c.loop-number.out = omega arith in
-          let stored : is_ok w.push.result ≡ true = w.push.ensures.succeeds free in
-          let more : w.push.new.self.items ≡ c.loop-number.out.items ++ i ∷ [] = w.push.ensures.items ∙ rw stored refl in
-          let len : vec_len w.push.new.self ≡ vec_len c.loop-number.out + 1 = grind (arith, common_steps) in
           rw w.out-is (record {
-            list = filter-taken p i c.loop-number.out.items w.push.new.self.items (passes ∙ w.if-passes.true) c.loop-number.invariant.list more;
+            list = filter-taken p i c.loop-number.out.items w.push_reserved.new.self.items (passes ∙ w.if-passes.true) c.loop-number.invariant.list w.push_reserved.ensures.items;
             few = omega arith;
             room = search rules;
-          }))
+          })
       | else-passes w ↦
           rw w.out-is (record {
             list = filter-left p i c.loop-number.out.items (passes ∙ w.if-passes.false) c.loop-number.invariant.list;
             few = omega arith;
-            room = omega arith;
+            room = c.loop-number.invariant.room;
           })
     ]

@@ -9,5 +9,5 @@ abbrev pub invariant-loop-number : goal.invariant-loop-number
 invariant-loop-number l = record {
   list : l.out.items ≡ filter (λ i. is_frequent l.now (moments_in (slice_get l.alarms i))) (range_with_len 0 l.number);
   few : vec_len l.out ≤ l.number;
-  room : vec_capacity l.fn.out ≤ vec_capacity l.out;
+  room : vec_capacity l.out ≡ vec_capacity l.fn.out;
 }
