@@ -3,12 +3,8 @@
 //! `bench/codec/run.sh` runs it beside a loop in C that copies and sums as many bytes.
 #![tactic(auto)]
 
-ghost use Rattle.std.specs.Prelude.{IfOk};
-ghost use Rattle.alm_model.specs.Rules.{KeepsRules, IsTimely};
-
-use alm_codec::{read_image, write_image};
-use alm_model::laws::rules::step_keeps_rules;
-use alm_model::{Alarms, List, PlainPlant, PlantParts};
+use alm_codec::{image_len, read_image, write_image};
+use alm_model::{Alarms, PlainPlant};
 use alm_types::{Action, AlarmId, Attr, Kind, Reading, Settings, Table};
 use anyhow::{Result, anyhow};
 use std::alloc::Global;
@@ -42,63 +38,23 @@ fn table(alloc: Global) -> Result<Table> {
     Table::new(alarms, 64).map_err(|_| anyhow!("table"))
 }
 
-/// A moment is below its limit.
-fn know_moment(action: &Action)
-    ensures { IsTimely action.now }
-{
-    match action {
-        Action::Clock(moment) => {
-            moment.seconds();
-        }
-        Action::Value(..)
-        | Action::Ack(_)
-        | Action::Reset(_)
-        | Action::Shelve(..)
-        | Action::Unshelve(_)
-        | Action::Oos(..)
-        | Action::Design(..) => {}
-    }
-}
-
 /// Does an action, where it is admitted.
-fn act(plant: &mut PlainPlant, action: Action)
-    requires { KeepsRules plant.old }
-    ensures { KeepsRules plant.new }
-{
-    match plant.admits(&action) {
-        Ok(()) => {
-            know_moment(&action);
-            step_keeps_rules();
-            plant.apply(&action);
-        }
-        Err(_) => {}
+fn act(plant: &mut PlainPlant, action: Action) {
+    if plant.admits(&action).is_ok() {
+        plant.apply(&action);
     }
 }
 
 /// Every alarm is annunciated.
-fn annunciate(plant: &mut PlainPlant, rows: u32, value: Reading)
-    requires { KeepsRules plant.old }
-    ensures { KeepsRules plant.new }
-{
+fn annunciate(plant: &mut PlainPlant, rows: u32, value: Reading) {
     for number in 0..rows {
         act(plant, Action::Value(AlarmId(number), value));
     }
 }
 
-/// The new plant of a table.
-fn start(alloc: Global, table: &Table) -> Result<PlainPlant>
-    ensures { IfOk result (λ p. KeepsRules p) }
-{
-    let parts = PlantParts::new(alloc, table)?;
-    let plant = PlainPlant::build(alloc, parts)?;
-    Ok(plant)
-}
-
 /// A plant in which every alarm is annunciated.
-fn plant(alloc: Global) -> Result<PlainPlant>
-    ensures { IfOk result (λ p. KeepsRules p) }
-{
-    let mut plant = start(alloc, &table(alloc)?)?;
+fn plant(alloc: Global) -> Result<PlainPlant> {
+    let mut plant = PlainPlant::new(alloc, &table(alloc)?)?;
     match Reading::new(1) {
         Some(high) => annunciate(&mut plant, ROWS, high),
         None => {}
@@ -106,17 +62,13 @@ fn plant(alloc: Global) -> Result<PlainPlant>
     Ok(plant)
 }
 
-/// Writes the image of a plant of 64 areas, where there is room for it.
-fn write(plant: &PlainPlant, out: &mut [u8]) -> bool
-    requires { KeepsRules plant.now }
-{
-    if plant.alarms() > ROWS as usize || out.len() < IMAGE {
+/// Writes the image of a plant, where there is room for it.
+fn write(plant: &PlainPlant, out: &mut [u8]) -> bool {
+    let size = image_len(plant.alarms() as u32, plant.areas() as u8);
+    if (out.len() as u64) < size {
         return false;
     }
-    if plant.has_list(List::Area(64)) || !plant.has_list(List::Area(63)) {
-        return false;
-    }
-    write_image(plant, 64, out);
+    write_image(plant, out);
     true
 }
 
@@ -130,9 +82,7 @@ fn sum(bytes: &[u8]) -> u64 {
 }
 
 /// Writes the image so often.
-fn write_again(plant: &PlainPlant, out: &mut [u8]) -> u64
-    requires { KeepsRules plant.now }
-{
+fn write_again(plant: &PlainPlant, out: &mut [u8]) -> u64 {
     let mut written = 0u64;
     for _round in 0..ROUNDS {
         written = written.wrapping_add(write(plant, out) as u64);

@@ -27,7 +27,7 @@ fn stands(alloc: Global) -> Result<Vec<u8>, Fail> {
     act(&mut plant, value(0, 800)?)?;
     act(&mut plant, Action::Shelve(AlarmId(1), 60))?;
     act(&mut plant, value(2, 1)?)?;
-    image(alloc, &plant, 2)
+    image(alloc, &plant)
 }
 
 /// Puts a number of so many bytes at a place.
@@ -105,7 +105,7 @@ fn the_clock_the_next_stamp_and_the_areas(rt: HostRuntime) -> Result<(), Fail> {
 
 #[test]
 fn ages_above_now(rt: HostRuntime) -> Result<(), Fail> {
-    let bytes = image(rt.alloc(), &new_plant(rt.alloc())?, 2)?;
+    let bytes = image(rt.alloc(), &new_plant(rt.alloc())?)?;
     let cases = [
         (8, 17, 1, Some(9610)),
         (8, 25, 1, Some(25)),

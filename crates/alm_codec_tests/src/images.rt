@@ -11,7 +11,7 @@ fn is_read_back(alloc: Global, bytes: &[u8]) -> Result<bool, Fail> {
     match read_image(alloc, bytes, 4, 2, 4) {
         Ok(parts) => {
             let plant = PlainPlant::build(alloc, parts)?;
-            Ok(image(alloc, &plant, 2)?.as_slice() == bytes)
+            Ok(image(alloc, &plant)?.as_slice() == bytes)
         }
         Err(ImageFault::Damaged(_)) => Ok(true),
         Err(ImageFault::OutOfMemory) => Ok(false),
@@ -20,7 +20,7 @@ fn is_read_back(alloc: Global, bytes: &[u8]) -> Result<bool, Fail> {
 
 #[test]
 fn the_image_of_a_new_plant(rt: HostRuntime) -> Result<(), Fail> {
-    let bytes = image(rt.alloc(), &new_plant(rt.alloc())?, 2)?;
+    let bytes = image(rt.alloc(), &new_plant(rt.alloc())?)?;
     assert_eq!(rt; bytes.len(), 10_346);
     let head = [
         1, 1, 0, 0, 0, 0, 0, 0, 0, 0, 3, 0x20, 0, 0, 0, 0, 0, 0, 0, 0x0a, 0, 0, 0x0e, 0x10, 6,
@@ -38,7 +38,7 @@ fn the_image_after_an_annunciation(rt: HostRuntime) -> Result<(), Fail> {
     let mut plant = new_plant(rt.alloc())?;
     act(&mut plant, clock(1000)?)?;
     act(&mut plant, value(0, 800)?)?;
-    let bytes = image(rt.alloc(), &plant, 2)?;
+    let bytes = image(rt.alloc(), &plant)?;
     let front = [
         0, 0, 0, 0, 0, 0, 3, 0xe8, 0, 0, 0, 0, 0, 0, 0, 2, 0, 0, 0, 0, 0, 0, 0, 0, 1,
     ];
@@ -55,7 +55,7 @@ fn the_image_after_an_annunciation(rt: HostRuntime) -> Result<(), Fail> {
 
 #[test]
 fn bytes_behind_an_image_are_damage(rt: HostRuntime) -> Result<(), Fail> {
-    let mut bytes = image(rt.alloc(), &new_plant(rt.alloc())?, 2)?;
+    let mut bytes = image(rt.alloc(), &new_plant(rt.alloc())?)?;
     bytes.push(0)?;
     assert_eq!(rt;
         read_image(rt.alloc(), &bytes, 4, 2, 0).err(),
@@ -79,7 +79,7 @@ fn each_byte_changed(rt: HostRuntime) -> Result<(), Fail> {
     let mut plant = new_plant(alloc)?;
     act(&mut plant, clock(1000)?)?;
     act(&mut plant, value(0, 800)?)?;
-    let mut bytes = image(alloc, &plant, 2)?;
+    let mut bytes = image(alloc, &plant)?;
     let mut all = true;
     for place in 0..bytes.len() {
         let was = bytes[place];

@@ -1,16 +1,18 @@
 //! The image of 16,384 alarms in 64 areas.
 
-ghost use Rattle.alm_model.specs.Rules.{KeepsRules};
+ghost use Rattle.std.specs.Prelude.{◌≤◌};
 
-use crate::worked::{act, image, start, value};
+use crate::worked::{act, image, value};
 use alm_codec::read_image;
 use alm_model::{Alarms, PlainPlant};
 use alm_types::{Attr, Kind, Settings, Table};
 use std::alloc::Global;
 use std::test::Fail;
 
-/// A table of so many alarms in 64 areas.
-fn table(alloc: Global, rows: u32) -> Result<Table, Fail> {
+/// A table of so many alarms, spread over so many areas.
+fn table(alloc: Global, rows: u32, areas: u8) -> Result<Table, Fail>
+    requires { 1 ≤ areas }
+{
     let mut alarms = Vec::with_capacity(alloc, rows as usize)?;
     for number in 0..rows {
         let settings = Settings {
@@ -18,20 +20,17 @@ fn table(alloc: Global, rows: u32) -> Result<Table, Fail> {
             setpoint: 1,
             deadband: 0,
             priority: 1,
-            area: (number % 64) as u8,
+            area: (number % areas as u32) as u8,
             latching: false,
             max_shelve: 604_800,
         };
         alarms.push(Attr::new(settings, b"T", b"largest")?)?;
     }
-    Ok(Table::new(alarms, 64)?)
+    Ok(Table::new(alarms, areas)?)
 }
 
 /// So many alarms are annunciated.
-fn annunciate(plant: &mut PlainPlant, rows: u32) -> Result<(), Fail>
-    requires { KeepsRules plant.old }
-    ensures { KeepsRules plant.new }
-{
+fn annunciate(plant: &mut PlainPlant, rows: u32) -> Result<(), Fail> {
     for number in 0..rows {
         let high = value(number, 1)?;
         act(plant, high)?;
@@ -42,9 +41,9 @@ fn annunciate(plant: &mut PlainPlant, rows: u32) -> Result<(), Fail>
 #[test]
 fn the_largest_image(rt: HostRuntime) -> Result<(), Fail> {
     let alloc = rt.alloc();
-    let mut plant = start(alloc, &table(alloc, 16_384)?)?;
+    let mut plant = PlainPlant::new(alloc, &table(alloc, 16_384, 64)?)?;
     annunciate(&mut plant, 16_384)?;
-    let bytes = image(alloc, &plant, 64)?;
+    let bytes = image(alloc, &plant)?;
     assert_eq!(rt; bytes.len(), 3_289_168);
     let parts = match read_image(alloc, &bytes, 16_384, 64, 16_384) {
         Ok(parts) => parts,
@@ -52,7 +51,31 @@ fn the_largest_image(rt: HostRuntime) -> Result<(), Fail> {
     };
     let again = PlainPlant::build(alloc, parts)?;
     assert_eq!(rt; again.count(), 16_384);
-    let second = image(alloc, &again, 64)?;
+    let second = image(alloc, &again)?;
     assert!(rt; second.as_slice() == bytes.as_slice());
+    Ok(())
+}
+
+/// Whether the image of a plant with an annunciation in its last area is read and written again as it was.
+fn is_read_back(alloc: Global, areas: u8) -> Result<bool, Fail>
+    requires some { 1 ≤ areas }
+    requires few { areas ≤ 64 }
+{
+    let rows = areas as u32;
+    let mut plant = PlainPlant::new(alloc, &table(alloc, rows, areas)?)?;
+    act(&mut plant, value(rows - 1, 1)?)?;
+    let bytes = image(alloc, &plant)?;
+    match read_image(alloc, &bytes, rows, areas, 1) {
+        Ok(parts) => Ok(image(alloc, &PlainPlant::build(alloc, parts)?)? == bytes),
+        Err(_) => Ok(false),
+    }
+}
+
+#[test]
+fn images_of_the_fewest_and_the_most_areas(rt: HostRuntime) -> Result<(), Fail> {
+    assert!(rt; is_read_back(rt.alloc(), 1)?);
+    assert!(rt; is_read_back(rt.alloc(), 2)?);
+    assert!(rt; is_read_back(rt.alloc(), 63)?);
+    assert!(rt; is_read_back(rt.alloc(), 64)?);
     Ok(())
 }

@@ -2,7 +2,7 @@
 
 use alm_model::{Alarms, List, PlainPlant, PlantParts};
 use alm_types::{
-    Action, AlarmId, Attr, Kind, Moment, Reading, Refusal, Request, Settings, Slot, Table,
+    Action, AlarmId, Answer, Attr, Kind, Moment, Reading, Refusal, Request, Settings, Slot, Table,
 };
 use std::alloc::Global;
 use std::test::Fail;
@@ -33,12 +33,13 @@ fn ask<P: Alarms>(plant: &mut P, slot: u8, want: Action) -> Result<(), Fail> {
     Ok(())
 }
 
-/// A list of a plant.
+/// A list of a plant; an error where there is none.
 fn list<P: Alarms>(alloc: Global, plant: &P, list: List) -> Result<Vec<u32>, Fail> {
-    let mut out = Vec::with_capacity(alloc, plant.alarms())?;
-    if plant.has_list(list) {
-        plant.fill(list, &mut out);
+    if !plant.has_list(list) {
+        return Err("list".into());
     }
+    let mut out = Vec::with_capacity(alloc, plant.alarms())?;
+    plant.fill(list, &mut out);
     Ok(out)
 }
 
@@ -64,11 +65,33 @@ fn the_largest_plant(rt: HostRuntime) -> Result<(), Fail> {
     let area = list(alloc, &plant, List::Area(63))?;
     assert_eq!(rt; area.len(), 256);
     assert_eq!(rt; area.as_slice().first().copied(), Some(63));
-    assert_eq!(rt; list(alloc, &plant, List::Area(64))?.len(), 0);
+    assert!(rt; !plant.has_list(List::Area(64)));
     assert_eq!(rt;
         refusal(&plant, Action::Ack(AlarmId(16_384))),
         Some(Refusal::NoSuchAlarm)
     );
+    let copy = plant.copy(alloc)?;
+    assert_eq!(rt; (copy.alarms(), copy.areas()), (16_384, 64));
+    assert_eq!(rt; copy.count(), 16_384);
+    assert!(rt; list(alloc, &copy, List::Priority(1))? == all);
+    Ok(())
+}
+
+#[test]
+fn the_largest_plant_is_built_of_its_parts(rt: HostRuntime) -> Result<(), Fail> {
+    let alloc = rt.alloc();
+    let parts = PlantParts::new(alloc, &table(alloc, 16384, 64)?)?;
+    let plant = PlainPlant::build(alloc, parts)?;
+    assert_eq!(rt; (plant.alarms(), plant.areas()), (16_384, 64));
+    assert_eq!(rt; plant.next_stamp(), 1);
+    Ok(())
+}
+
+#[test]
+fn an_answer_takes_room_for_the_longest_list(rt: HostRuntime) -> Result<(), Fail> {
+    let mut answer = Answer::new(rt.alloc());
+    answer.reserve(16_384)?;
+    assert!(rt; answer.list.capacity() >= 16_384);
     Ok(())
 }
 
@@ -122,11 +145,10 @@ fn a_copy_is_the_same_plant(rt: HostRuntime) -> Result<(), Fail> {
         list(alloc, &copy, List::Priority(1))?.as_slice(),
         [2, 0].as_slice()
     );
-    if copy.has_list(List::Area(0)) {
-        assert_eq!(rt; copy.window(0), (2, false));
-        assert_eq!(rt; copy.age(0, 0), 2);
-        assert_eq!(rt; copy.age(0, 599), 0);
-    }
+    assert!(rt; copy.has_list(List::Area(0)));
+    assert_eq!(rt; copy.window(0), (2, false));
+    assert_eq!(rt; copy.age(0, 0), 2);
+    assert_eq!(rt; copy.age(0, 599), 0);
     Ok(())
 }
 

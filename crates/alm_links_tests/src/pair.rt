@@ -87,9 +87,9 @@ impl Pair {
         may
     }
 
-    /// The neighbours of a node, if it stands in a list.
+    /// The neighbours of a node.
     pub fn beside(&self, family: u32, node: u32) -> Option<(Option<u32>, Option<u32>)> {
-        if family < FAMILIES && node < self.nodes && self.chains.list_of(family, node).is_some() {
+        if family < FAMILIES && node < self.nodes {
             Some((
                 self.chains.prev(family, node),
                 self.chains.next(family, node),

@@ -1,4 +1,4 @@
-//! Windows, floods and last moments of alarms, in constant time.
+//! Windows, floods and last moments of alarms, counted as they come.
 //!
 //! After ANSI/ISA-18.2 and IEC 62682 an operating position that is annunciated more alarms than its operator can answer is in
 //! a *flood*, and an alarm that is annunciated again and again within a short time *chatters*. [`Measure`] counts both as the

@@ -9,6 +9,8 @@ mod actions;
 #[cfg(test)]
 mod check;
 #[cfg(test)]
+mod exhausted;
+#[cfg(test)]
 mod refused;
 #[cfg(test)]
 mod rows;

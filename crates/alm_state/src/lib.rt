@@ -19,7 +19,10 @@
 //! active alarm is annunciated anew.
 //!
 //! What is used above: `Core::next` is the table, `detect` the detection table, and `row_refusal` and `outcome_of` say
-//! why an alarm refuses an action or what becomes of it. Of other alarms, of roles and of the clock it knows nothing.
+//! why an alarm refuses an action or what becomes of it.
+//!
+//! Not promised: anything of other alarms, of who may ask, and of the clock itself, whose moment and next stamp are handed in.
+//! Whether an action is admitted by the plant is for the plant to say.
 #![tactic(auto)]
 
 mod core_state;

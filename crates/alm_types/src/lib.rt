@@ -13,8 +13,10 @@
 //! Beside them stand the words that pass between the parts of the server: [`Action`], [`Request`], [`Verdict`],
 //! [`Refusal`], [`Entry`], [`Query`] and [`Answer`].
 //!
-//! What is used above: a value is in its range. An `AlarmId` is any number; whether there is such an alarm is for the
-//! plant to say. Limits, formats and refusals are this project's own.
+//! What is used above: a value is in its range. Limits, formats and refusals are this project's own.
+//!
+//! Not promised: that there is an alarm of an `AlarmId`'s number, which the plant says; that an [`Answer`] tells of one plant,
+//! which the call that fills it says; and any order between the slots of a [`Request`].
 #![tactic(auto)]
 
 mod action;

@@ -1,0 +1,34 @@
+//! A measure of 16,384 alarms in 64 areas.
+
+use crate::watched::Watched;
+use alm_types::{Attr, Kind, Settings, Table};
+use std::alloc::Global;
+use std::test::Fail;
+
+fn largest_table(alloc: Global) -> Result<Table, Fail> {
+    let mut alarms = Vec::with_capacity(alloc, 16_384)?;
+    for number in 0..16_384u32 {
+        let settings = Settings {
+            kind: Kind::High,
+            setpoint: 1,
+            deadband: 0,
+            priority: 1,
+            area: (number % 64) as u8,
+            latching: false,
+            max_shelve: 0,
+        };
+        alarms.push(Attr::new(settings, b"T", b"")?)?;
+    }
+    Ok(Table::new(alarms, 64)?)
+}
+
+#[test]
+fn the_largest_measure_is_made_and_copied(rt: HostRuntime) -> Result<(), Fail> {
+    let table = largest_table(rt.alloc())?;
+    let mut measure = Watched::new(rt.alloc(), &table)?;
+    assert!(rt; measure.annunciated(16_383));
+    let copy = measure.copy(rt.alloc())?;
+    assert_eq!(rt; copy.window(63), Some((1, false)));
+    assert_eq!(rt; copy.moments(16_383).len(), 1);
+    Ok(())
+}
