@@ -14,14 +14,14 @@ pub struct Batch {
 }
 
 impl Model for Batch {
-    ghost use Rattle.std.specs.Prelude.{◌≤◌, length, vec_capacity};
+    ghost use Rattle.std.specs.Prelude.{◌≡◌, ◌≤◌, length, vec_capacity};
     ghost use Rattle.alm_types.specs.Batches.{Judged};
 
     ghost Value = { Judged };
 
     ghost view = { λ b. record { first = b.first; entries = b.entries.items } };
 
-    ghost invariant = { λ b. (256 ≤ vec_capacity b.entries) × (length b.entries.items ≤ 256) };
+    ghost invariant = { λ b. (vec_capacity b.entries ≡ 256) × (length b.entries.items ≤ 256) };
 }
 
 impl Batch {

@@ -21,7 +21,7 @@ pub enum Refusal {
     NotSet,
     /// The value changes no condition.
     NoChange,
-    /// The moment isn't behind the plant's.
+    /// The moment isn't after the plant's.
     ClockBack,
     /// The slot may not ask for this.
     WrongRole,
