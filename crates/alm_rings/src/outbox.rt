@@ -33,8 +33,10 @@ impl<T: Told + Drop> Outbox<T> {
     /// Releases a receipt. It comes back, with nothing changed, where no place of the ring is known to be free.
     pub fn release(&mut self, receipt: Receipt<T>) -> Result<(), Receipt<T>>
         ensures end { SameOutbox self.old self.new }
-        ensures ok { OnOk result ((released_of self.new ≡ released_of self.old ++ receipt ∷ []) × (room_in self.old ≤ room_in self.new + 1)) }
-        ensures full { IfErr result (λ back. (back ≡ receipt) × (released_of self.new ≡ released_of self.old) × (room_in self.new ≡ room_in self.old)) }
+        ensures ok { OnOk result ((released_of self.new ≡ released_of self.old ++ receipt ∷ [])
+            × (room_in self.old ≤ room_in self.new + 1)) }
+        ensures full { IfErr result (λ back.
+            (back ≡ receipt) × (released_of self.new ≡ released_of self.old) × (room_in self.new ≡ room_in self.old)) }
         ensures cause { 0 < room_in self.old → IsOk result }
     {
         match self.replies.push(receipt) {

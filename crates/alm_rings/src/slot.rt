@@ -76,7 +76,9 @@ pub fn close_slot<T: Told + Drop>(
 ) -> Option<SlotReport>
     requires { AreEnds console inbox outbox }
     ensures some { IsSome result }
-    ensures counts { IfSome result (λ r. (r.sent ≡ length (sent_of console)) × (r.taken ≡ length (taken_of inbox)) × (r.released ≡ min (length (released_of outbox)) (2 ^ 64 - 1)) × (r.received ≡ min (length (received_of console)) (2 ^ 64 - 1))) }
+    ensures requests { IfSome result (λ r. (r.sent ≡ length (sent_of console)) × (r.taken ≡ length (taken_of inbox))) }
+    ensures receipts { IfSome result (λ r. (r.released ≡ min (length (released_of outbox)) (2 ^ 64 - 1))
+        × (r.received ≡ min (length (received_of console)) (2 ^ 64 - 1))) }
     ensures taken { IsPrefix (taken_of inbox) (sent_of console) }
     ensures received { IsPrefix (received_of console) (released_of outbox) }
 {
