@@ -1,8 +1,13 @@
--- The calls that a device may be told to fail.
-use Rattle.std.specs.Prelude.{◌≡◌, ◌≤◌, ◌+◌, ℕ, Bool, true, false, ◌||◌}
+-- Calls of a device: one that was made, and those that it may be told to fail.
+use Rattle.std.specs.Prelude.{◌≡◌, ◌≤◌, ◌+◌, ℕ, Bool, true, false, ◌||◌, Result}
 use Rattle.alm_disk.specs.Device.{DeviceState, is_within}
 use Rattle.alm_disk.specs.declared.call.Call.{Call}
 use Rattle.alm_disk.specs.declared.call.Call.TheVariants.{Read, Write, Sync}
+use Rattle.alm_disk.specs.declared.disk_fault.DiskFault.{DiskFault}
+
+-- exactly one call was made of the device, with this result: `serves` is what the device says of a call
+abbrev pub IsOneCall : {D : Type 0} → (D → Call → Result Unit DiskFault → D → Type 0) → Result Unit DiskFault → D → D → Type 0
+IsOneCall serves result old new = (call : Call) × serves old call result new
 
 -- its range lies inside a device of this size
 abbrev pub IsInRange : Call → ℕ → Type 0

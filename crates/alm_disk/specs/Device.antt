@@ -55,6 +55,7 @@ pub record Syncs {E : Type 0} (result : Result Unit E) (old new : DeviceState) :
 -- a crash, where `names place read byte` says that this byte may be named for this pending place
 pub record Crashes (names : ℕ → ℕ → ℕ → Type 0) (old new : DeviceState) : Type 0 where
   pub image : IsImage old new.bytes
-  pub named : (place : ℕ) → place < length old.bytes → old.pending place ≡ true → names place (byte_at old.bytes place) (byte_at new.bytes place)
+  pub named : (place : ℕ) → place < length old.bytes → old.pending place ≡ true
+      → names place (byte_at old.bytes place) (byte_at new.bytes place)
   pub nothing_pending : (place : ℕ) → new.pending place ≡ false
   pub sound : new.faulted ≡ false

@@ -1,12 +1,7 @@
--- What the devices of this crate say of a call beyond the model.
-use Rattle.std.specs.Prelude.{◌≡◌, ◌≢◌, ◌<◌, ◌-◌, ℕ, Bool, List, [], ◌∷◌, ◌++◌, length, Option, Some, None, Result, OnOk, OnErr, IsErr, MatchBool}
+-- What devices over a device say of a call beyond the model.
+use Rattle.std.specs.Prelude.{◌≡◌, ◌≢◌, ◌-◌, ℕ, Bool, Option, Some, None, Result, IsErr, MatchBool}
 use Rattle.alm_disk.specs.declared.call.Call.{Call}
 use Rattle.alm_disk.specs.declared.call.Call.TheVariants.{Read, Write, Sync}
-
--- a record with room for so many calls: a call that finds room is done and noted, one that finds none fails
-pub record Records {E : Type 0} (room : ℕ) (call : Call) (result : Result Unit E) (old new : List Call) : Type 0 where
-  pub noted : OnOk result ((length old < room) × (new ≡ old ++ call ∷ []))
-  pub full : OnErr result ((length old ≡ room) × (new ≡ old))
 
 -- the calls that are left after one more; none where the fuse is out of use
 abbrev pub one_less : Option ℕ → Option ℕ

@@ -48,6 +48,7 @@ fn burn(left: &mut Option<u64>) -> bool
 }
 
 impl<D: Crashable> Disk for FuseDisk<D> {
+    ghost use Rattle.alm_disk.specs.Calls.{Fails};
     ghost use Rattle.alm_disk.specs.Served.{BurnsFuse};
 
     ghost honest = { λ d. D.honest d.disk };
@@ -59,7 +60,8 @@ impl<D: Crashable> Disk for FuseDisk<D> {
     ghost failures = { λ d. D.failures d.disk };
 
     ghost serves = { λ old call result new.
-        BurnsFuse result old.left new.left (D.serves old.disk call result new.disk) (D.gives_up old.disk call new.disk) };
+        BurnsFuse result old.left new.left (D.serves old.disk call result new.disk)
+        (D.gives_up old.disk call new.disk × (D.honest old.disk → Fails call (D.state old.disk) (D.state new.disk))) };
 
     ghost whole = { λ d honest. D.whole d.disk honest };
 

@@ -1,12 +1,18 @@
 //! What follows for every device that keeps to the model. Each law is the contract of a function that does nothing.
 
-ghost use Rattle.std.specs.Prelude.{◌≡◌, ◌≤◌, ℕ, false, List, ◌++◌, length, Result, Ok, OnErr};
+ghost use Rattle.std.specs.Prelude.{◌≡◌, ◌≤◌, ℕ, false, List, [], ◌∷◌, ◌++◌, length, Result, Ok, OnOk, OnErr};
+ghost use Rattle.alm_disk.specs.Calls.{IsOneCall};
 ghost use Rattle.alm_disk.specs.Device.{DeviceState, IsBytes, IsImage, Reads, Writes, Syncs, Crashes};
 ghost use Rattle.alm_disk.specs.Failures.{CountsFault, HasFailed};
+ghost use Rattle.alm_disk.specs.Memory.{calls_of};
 ghost use Rattle.alm_disk.specs.Settled.{IsSettled, AwaitsSync};
+ghost use Rattle.alm_disk.specs.declared.call.Call.{Call};
 ghost use Rattle.alm_disk.specs.declared.disk_fault.DiskFault.{DiskFault};
+ghost use Rattle.alm_disk.specs.declared.mem_disk.MemDisk.{MemDisk};
 
 use crate::chooser::Chooser;
+use crate::disk::Disk;
+use crate::mem_disk::MemDisk;
 
 /// A crash leaves of a settled device what it reads.
 #[tactic(auto, using(crate::proofs::Images::settled_image))]
@@ -76,4 +82,11 @@ pub fn crashed<C: Chooser>()
 pub fn has_failed()
     ensures { (result : Result Unit DiskFault) (before now : ℕ) →
         CountsFault result before now → (before ≤ now) × OnErr result (HasFailed before now) }
+{}
+
+/// One call of a device in memory is one more in its record where it was done, and none where it failed.
+pub fn one_call()
+    ensures { (result : Result Unit DiskFault) (old new : MemDisk) →
+        IsOneCall ⟦<MemDisk as Disk>⟧.serves result old new →
+        OnOk result ((call : Call) × (calls_of new ≡ calls_of old ++ call ∷ [])) × OnErr result (calls_of new ≡ calls_of old) }
 {}

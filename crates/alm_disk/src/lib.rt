@@ -23,8 +23,9 @@
 //! What is used above: the clauses of [`Disk`], and what follows from them of every device. Each of these [`laws`] is
 //! the contract of a function that does nothing, and a lemma in `proofs/Images.antt`.
 //!
-//! The clauses hold of an *honest* device. Whether a file is one, no proof can say: of it only the size, and the count
-//! of its failures are claimed. Nothing here finds out that a device was damaged, and no checksum is kept.
+//! The clauses hold of an *honest* device. That a file is honest is a premise that no proof about a file can meet: of it
+//! only the size, and the count of its failures are claimed. Nothing here finds out that a device was damaged, and no
+//! checksum is kept. How often a hold is asked no contract sees, since asking leaves it as it was: a test counts.
 #![tactic(auto)]
 
 mod as_read;

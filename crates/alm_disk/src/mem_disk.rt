@@ -31,11 +31,11 @@ pub struct MemDisk {
 }
 
 impl MemDisk {
-    ghost use Rattle.alm_disk.specs.Memory.{calls_of, room_of};
+    ghost use Rattle.alm_disk.specs.Memory.{calls_of, room_of, state_of};
 
     /// A device with these bytes, settled, and room for a record of so many calls; an error only for want of memory.
     pub fn new(alloc: Global, bytes: Vec<u8>, calls: usize) -> Result<Self, AllocError>
-        ensures settled { IfOk result (λ disk. IsSettled (⟦<MemDisk as Disk>⟧.state disk) bytes.items) }
+        ensures settled { IfOk result (λ disk. IsSettled (state_of disk) bytes.items) }
         ensures count { IfOk result (λ disk. ⟦<MemDisk as Disk>⟧.failures disk ≡ 0) }
         ensures record { IfOk result (λ disk. (calls_of disk ≡ []) × (room_of disk ≡ calls)) }
     {
@@ -53,7 +53,7 @@ impl MemDisk {
 
     /// The same device after so many failures.
     pub fn with_failures(mut self, failures: u64) -> Self
-        ensures state { ⟦<MemDisk as Disk>⟧.state result ≡ ⟦<MemDisk as Disk>⟧.state self }
+        ensures state { state_of result ≡ state_of self }
         ensures count { ⟦<MemDisk as Disk>⟧.failures result ≡ failures }
         ensures record { (calls_of result ≡ calls_of self) × (room_of result ≡ room_of self) }
     {
@@ -63,7 +63,7 @@ impl MemDisk {
 
     /// The bytes as they read.
     pub fn bytes(&self) -> &[u8]
-        ensures { result.now ≡ (⟦<MemDisk as Disk>⟧.state self.now).bytes }
+        ensures { result.now ≡ (state_of self.now).bytes }
     {
         &self.bytes
     }
@@ -84,7 +84,7 @@ impl MemDisk {
 
     /// Its bytes, when the device is no longer wanted.
     pub fn into_bytes(self) -> Vec<u8>
-        ensures { result.items ≡ (⟦<MemDisk as Disk>⟧.state self).bytes }
+        ensures { result.items ≡ (state_of self).bytes }
     {
         self.bytes
     }
@@ -100,25 +100,18 @@ fn note(calls: &mut Vec<Call>, call: Call)
 }
 
 impl Disk for MemDisk {
-    ghost use Rattle.std.specs.Prelude.{ℕ, length, refl};
-    ghost use Rattle.alm_disk.specs.Cells.{is_marked};
-    ghost use Rattle.alm_disk.specs.Device.{DeviceState};
-    ghost use Rattle.alm_disk.specs.Served.{Records};
+    ghost use Rattle.std.specs.Prelude.{length, refl};
+    ghost use Rattle.alm_disk.specs.Memory.{Serves, state_of};
 
     ghost honest = { λ _. Unit {0} };
 
-    ghost state = { λ d. record {
-      bytes = d.bytes.items;
-      pending = λ (place : ℕ). is_marked d.pending.items place;
-      faulted = d.faulted;
-    } };
+    ghost state = { state_of };
 
     ghost size = { λ d. length d.bytes.items };
 
     ghost failures = { λ d. d.failures };
 
-    ghost serves = { λ old call result new.
-        Records old.room call result old.calls.items new.calls.items × (new.room ≡ old.room) };
+    ghost serves = { λ old call result new. Serves call result old new };
 
     ghost whole = { λ disk _. refl };
 
@@ -168,9 +161,11 @@ impl Disk for MemDisk {
 }
 
 impl Crashable for MemDisk {
-    ghost restarts = { λ old new. (new.calls.items ≡ old.calls.items) × (new.room ≡ old.room) };
+    ghost use Rattle.alm_disk.specs.Memory.{GivesUp, calls_of, room_of};
 
-    ghost gives_up = { λ old _ new. (new.calls.items ≡ old.calls.items) × (new.room ≡ old.room) };
+    ghost restarts = { λ old new. (calls_of new ≡ calls_of old) × (room_of new ≡ room_of old) };
+
+    ghost gives_up = { λ old call new. GivesUp call old new };
 
     fn crash<C: Chooser>(self, chooser: &mut C) -> Self {
         let MemDisk {

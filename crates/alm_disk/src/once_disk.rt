@@ -38,6 +38,7 @@ fn pass(turn: &mut u64) -> bool
 }
 
 impl<D: Crashable> Disk for OnceDisk<D> {
+    ghost use Rattle.alm_disk.specs.Calls.{Fails};
     ghost use Rattle.alm_disk.specs.Served.{FailsOnce};
 
     ghost honest = { λ d. D.honest d.disk };
@@ -49,7 +50,8 @@ impl<D: Crashable> Disk for OnceDisk<D> {
     ghost failures = { λ d. D.failures d.disk };
 
     ghost serves = { λ old call result new.
-        FailsOnce result old.turn new.turn (D.serves old.disk call result new.disk) (D.gives_up old.disk call new.disk) };
+        FailsOnce result old.turn new.turn (D.serves old.disk call result new.disk)
+        (D.gives_up old.disk call new.disk × (D.honest old.disk → Fails call (D.state old.disk) (D.state new.disk))) };
 
     ghost whole = { λ d honest. D.whole d.disk honest };
 

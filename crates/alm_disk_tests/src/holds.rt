@@ -1,28 +1,12 @@
 //! A device under a hold.
 
+use crate::counted::Counted;
 use crate::run::{CALLS, device, make_first};
 use alm_disk::{Free, HeldDisk, Hold};
 use alm_types::Slot;
 use std::sync::Arc;
+use std::sync::atomic::Ordering;
 use std::test::Fail;
-
-// A hold that lets no sync begin.
-#[derive(Drop)]
-struct Shut;
-
-impl Hold for Shut {
-    ghost use Rattle.std.specs.Prelude.{◌≡◌, false};
-
-    ghost answers = { λ _ begins. begins ≡ false };
-
-    fn before_sync(&self) -> bool {
-        false
-    }
-
-    fn taken(&self, slot: Slot) {}
-
-    fn looked(&self, slot: Slot) {}
-}
 
 #[test]
 fn a_free_device_serves_every_call(rt: HostRuntime) -> Result<(), Fail> {
@@ -34,20 +18,36 @@ fn a_free_device_serves_every_call(rt: HostRuntime) -> Result<(), Fail> {
 
 #[test]
 fn a_sync_that_is_held_fails_and_reaches_no_device(rt: HostRuntime) -> Result<(), Fail> {
-    let mut disk = HeldDisk::new(device(rt.alloc(), 10)?, Shut);
+    let mut disk = HeldDisk::new(device(rt.alloc(), 10)?, Counted::new(false));
     assert_eq!(rt; make_first(&mut disk, CALLS), 3);
     assert_eq!(rt; disk.disk.calls().len(), 7);
     Ok(())
 }
 
 #[test]
-fn a_hold_can_be_shared(rt: HostRuntime) -> Result<(), Fail> {
-    let hold = Arc::new(rt.alloc(), Free)?;
+fn a_hold_is_asked_once_a_sync(rt: HostRuntime) -> Result<(), Fail> {
+    for begins in [false, true] {
+        let mut disk = HeldDisk::new(device(rt.alloc(), 10)?, Counted::new(begins));
+        let _ = make_first(&mut disk, 1);
+        assert_eq!(rt; disk.hold.asked.load(Ordering::SeqCst), 0, "no sync");
+        let _ = make_first(&mut disk, CALLS);
+        assert_eq!(rt; disk.hold.asked.load(Ordering::SeqCst), 3, "three syncs");
+    }
+    Ok(())
+}
+
+#[test]
+fn a_hold_is_told_through_its_arc(rt: HostRuntime) -> Result<(), Fail> {
+    let hold = Arc::new(rt.alloc(), Counted::new(true))?;
     let mut disk = HeldDisk::new(device(rt.alloc(), 10)?, hold.clone()?);
     assert_eq!(rt; make_first(&mut disk, CALLS), 0);
-    if let Some(slot) = Slot::new(0) {
-        hold.taken(slot);
-        hold.looked(slot);
+    assert_eq!(rt; hold.asked.load(Ordering::SeqCst), 3, "three syncs");
+    for slot in [5, 5, 6] {
+        hold.taken(Slot::new(slot).ok_or("slot")?);
     }
+    hold.looked(Slot::new(5).ok_or("slot")?);
+    hold.looked(Slot::new(6).ok_or("slot")?);
+    assert_eq!(rt; hold.taken.load(Ordering::SeqCst), 2);
+    assert_eq!(rt; hold.looked.load(Ordering::SeqCst), 1);
     Ok(())
 }

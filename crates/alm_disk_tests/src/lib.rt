@@ -9,6 +9,8 @@ mod bare;
 #[cfg(test)]
 mod choosers;
 #[cfg(test)]
+mod counted;
+#[cfg(test)]
 mod crashes;
 #[cfg(test)]
 mod faults;
@@ -16,5 +18,7 @@ mod faults;
 mod holds;
 #[cfg(test)]
 mod record;
+#[cfg(test)]
+mod refused;
 #[cfg(test)]
 mod run;

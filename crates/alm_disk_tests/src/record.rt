@@ -1,6 +1,7 @@
 //! The record of a device in memory, and its count of failures.
 
 use crate::choosers::Stood;
+use crate::refused::{LARGE, large};
 use crate::run::{CALLS, Step, device, make, make_first};
 use alm_disk::{Call, Crashable, DiskFault};
 use std::test::Fail;
@@ -70,5 +71,11 @@ fn the_count_stays_at_its_last_value(rt: HostRuntime) -> Result<(), Fail> {
         assert_eq!(rt; make(&mut disk, step, &mut into), Err(DiskFault));
         assert_eq!(rt; disk.failures(), u64::MAX);
     }
+    Ok(())
+}
+
+#[test]
+fn a_large_device_is_made_where_there_is_memory(rt: HostRuntime) -> Result<(), Fail> {
+    assert_eq!(rt; large(rt.alloc())?.bytes().len(), LARGE);
     Ok(())
 }

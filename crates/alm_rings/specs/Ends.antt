@@ -47,7 +47,7 @@ module _ {T : Type 0} {g : Ghosts T} where
 
   -- the three ends of one slot
   abbrev pub AreEnds : Console T g → Inbox → Outbox T g → Type 0
-  AreEnds c i o = IsPair c.requests i.requests × IsPair o.replies c.replies
+  AreEnds c i o = IsPair c.requests i.requests × IsPair o.replies c.replies × (i.slot ≡ c.slot) × (o.slot ≡ c.slot)
 
   -- the same end
   abbrev pub SameConsole : Console T g → Console T g → Type 0

@@ -17,7 +17,8 @@ const BATCHES: usize = 8;
 /// for want of memory.
 pub fn open_batches(alloc: Global) -> Result<(SealEnds, FetchEnds), AllocError>
     ensures ends { IfOk result (λ r. AreBatchEnds r.0 r.1) }
-    ensures new { IfOk result (λ r. (sealed_of r.0 ≡ []) × (fetched_of r.1 ≡ []) × (emptied_of r.0 ≡ []) × (given_of r.1 ≡ replicate 8 (record { first = 1; entries = [] }))) }
+    ensures new { IfOk result (λ r. (sealed_of r.0 ≡ []) × (fetched_of r.1 ≡ []) × (emptied_of r.0 ≡ [])
+        × (given_of r.1 ≡ replicate 8 (record { first = 1; entries = [] }))) }
     ensures places { IfOk result (λ r. (places_of r.0 ≡ 8) × (places_in r.1 ≡ 0) × (coming_in r.1 ≡ []) × (empties_in r.0 ≡ [])) }
 {
     let (full, fetch) = RingBuffer::new(alloc, BATCHES)?;

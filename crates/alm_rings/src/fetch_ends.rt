@@ -45,8 +45,10 @@ impl FetchEnds {
     pub fn give_back(&mut self, batch: Batch) -> Result<(), Batch>
         ensures ends { SameFetchEnds self.old self.new }
         ensures fetched { (fetched_of self.new ≡ fetched_of self.old) × (coming_in self.new ≡ coming_in self.old) }
-        ensures ok { OnOk result ((given_of self.new ≡ given_of self.old ++ without_entries batch ∷ []) × (places_in self.old ≤ places_in self.new + 1)) }
-        ensures full { IfErr result (λ back. (back ≡ batch) × (given_of self.new ≡ given_of self.old) × (places_in self.new ≡ places_in self.old)) }
+        ensures ok { OnOk result ((given_of self.new ≡ given_of self.old ++ without_entries batch ∷ [])
+            × (places_in self.old ≤ places_in self.new + 1)) }
+        ensures full { IfErr result (λ back.
+            (back ≡ batch) × (given_of self.new ≡ given_of self.old) × (places_in self.new ≡ places_in self.old)) }
         ensures cause { 0 < places_in self.old → IsOk result }
     {
         if self.empty.is_full() {

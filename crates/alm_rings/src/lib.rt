@@ -4,7 +4,7 @@
 //!
 //! | ring | what goes in | what comes out |
 //! |---|---|---|
-//! | requests | [`Console::send`], [`Console::send_many`] | [`Inbox::take`], [`Inbox::take_many`] |
+//! | requests | [`Console::send`] | [`Inbox::take`] |
 //! | receipts | [`Outbox::release`] | [`Console::receive`] |
 //! | sealed batches | [`SealEnds::seal`] | [`FetchEnds::fetch`] |
 //! | empty batches | [`FetchEnds::give_back`] | [`SealEnds::empty`] |
@@ -12,9 +12,6 @@
 //! [`open_slot`] and [`open_batches`] take all the memory that there is to take. No other call takes any, and none waits:
 //! where a ring is not known to have a place, what was to go in comes back, and where it is not known to hold an item,
 //! none comes out. Each such answer has its causes in the contract, and changes nothing.
-//!
-//! Each step that another thread sees is an atomic exchange. [`Console::send_many`] and [`Inbox::take_many`] take one
-//! such step for many requests.
 //!
 //! What is used above: contracts see all that ever went into a ring at one end, and all that ever came out at the
 //! other. Every call says that it is still the same end, and what became of these lists. Between threads nothing ties
@@ -35,6 +32,7 @@ mod inbox;
 mod outbox;
 mod receipt;
 mod seal_ends;
+mod serials;
 mod slot;
 mod slot_report;
 mod told;

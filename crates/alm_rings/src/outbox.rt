@@ -1,9 +1,8 @@
 //! The flusher's end of a slot.
 
-ghost use Rattle.std.specs.Prelude.{◌≡◌, length};
+ghost use Rattle.std.specs.Prelude.{◌≡◌, ◌-◌, ◌^◌, length, min};
 ghost use Rattle.rtrb.specs.Ring.{sent, producer_capacity};
 
-use crate::console::LAST_SERIAL;
 use crate::receipt::Receipt;
 use crate::told::Told;
 use alm_types::Slot;
@@ -13,14 +12,15 @@ use rtrb::{Producer, PushError};
 #[derive(Drop)]
 pub struct Outbox<T: Told + Drop> {
     pub(crate) slot: Slot,
+    // How many receipts were released, up to the last count.
     pub(crate) released: u64,
     pub(crate) replies: Producer<Receipt<T>>,
-    ghost count: { released ≡ length (sent replies) },
+    ghost count: { released ≡ min (length (sent replies)) (2 ^ 64 - 1) },
     ghost room: { producer_capacity replies ≡ 64 },
 }
 
 impl<T: Told + Drop> Outbox<T> {
-    ghost use Rattle.std.specs.Prelude.{◌≡◌, ◌+◌, ◌<◌, ◌≤◌, ◌-◌, ◌^◌, ◌++◌, [], ◌∷◌, OnOk, IfErr, IsOk, length};
+    ghost use Rattle.std.specs.Prelude.{◌≡◌, ◌+◌, ◌<◌, ◌≤◌, ◌++◌, [], ◌∷◌, OnOk, IfErr, IsOk};
     ghost use Rattle.alm_rings.specs.Ends.{SameOutbox, released_of, room_in};
 
     /// The slot whose end it is.
@@ -30,20 +30,18 @@ impl<T: Told + Drop> Outbox<T> {
         self.slot
     }
 
-    /// Releases a receipt. It comes back, with nothing changed, where no place of the ring is known to be free, or
-    /// 2^64 - 1 receipts were released.
+    /// Releases a receipt. It comes back, with nothing changed, where no place of the ring is known to be free.
     pub fn release(&mut self, receipt: Receipt<T>) -> Result<(), Receipt<T>>
         ensures end { SameOutbox self.old self.new }
-        ensures ok { OnOk result ((released_of self.new ≡ released_of self.old ++ receipt ∷ []) × (room_in self.old ≤ room_in self.new + 1)) }
-        ensures full { IfErr result (λ back. (back ≡ receipt) × (released_of self.new ≡ released_of self.old) × (room_in self.new ≡ room_in self.old)) }
-        ensures cause { 0 < room_in self.old → length (released_of self.old) < 2 ^ 64 - 1 → IsOk result }
+        ensures ok { OnOk result ((released_of self.new ≡ released_of self.old ++ receipt ∷ [])
+            × (room_in self.old ≤ room_in self.new + 1)) }
+        ensures full { IfErr result (λ back.
+            (back ≡ receipt) × (released_of self.new ≡ released_of self.old) × (room_in self.new ≡ room_in self.old)) }
+        ensures cause { 0 < room_in self.old → IsOk result }
     {
-        if self.released == LAST_SERIAL {
-            return Err(receipt);
-        }
         match self.replies.push(receipt) {
             Ok(()) => {
-                self.released += 1;
+                self.released = self.released.saturating_add(1);
                 Ok(())
             }
             Err(PushError::Full(receipt)) => Err(receipt),

@@ -1,6 +1,6 @@
 //! Receipts.
 
-ghost use Rattle.std.specs.Prelude.{◌≡◌, ◌+◌, ◌-◌, ◌≤◌, length, Some, slice_get};
+ghost use Rattle.std.specs.Prelude.{◌≡◌, ◌+◌, ◌-◌, ◌<◌, ◌≤◌, length, Some, slice_get};
 ghost use Rattle.alm_types.specs.declared.action.Action.{Action};
 ghost use Rattle.alm_types.specs.declared.verdict.Verdict.TheVariants.{Accepted};
 
@@ -18,5 +18,6 @@ pub struct Receipt<T: Told> {
     pub number: u64,
     pub told: T,
     pub ghost reaches: { number ≤ T.base_count told + length (T.list told) },
-    pub ghost stands: { (a : Action) → verdict ≡ Accepted a → slice_get (T.list told) (number - T.base_count told - 1) ≡ Some a },
+    pub ghost stands: { (a : Action) → verdict ≡ Accepted a →
+        (T.base_count told < number) × (slice_get (T.list told) (number - T.base_count told - 1) ≡ Some a) },
 }

@@ -27,7 +27,8 @@ impl SealEnds {
         ensures ends { SameSealEnds self.old self.new }
         ensures empties { (empties_in self.new ≡ empties_in self.old) × (emptied_of self.new ≡ emptied_of self.old) }
         ensures ok { OnOk result ((sealed_of self.new ≡ sealed_of self.old ++ batch ∷ []) × (places_of self.old ≤ places_of self.new + 1)) }
-        ensures full { IfErr result (λ back. (back ≡ batch) × (sealed_of self.new ≡ sealed_of self.old) × (places_of self.new ≡ places_of self.old)) }
+        ensures full { IfErr result (λ back.
+            (back ≡ batch) × (sealed_of self.new ≡ sealed_of self.old) × (places_of self.new ≡ places_of self.old)) }
         ensures cause { 0 < places_of self.old → IsOk result }
     {
         match self.full.push(batch) {

@@ -1,12 +1,13 @@
 //! The three ends of a slot.
 
-ghost use Rattle.std.specs.Prelude.{◌≡◌, ◌+◌, ◌<◌, ◌≤◌, ◌^◌, ◌++◌, [], IfOk, IfSome, IsSome, length};
+ghost use Rattle.std.specs.Prelude.{◌≡◌, ◌+◌, ◌-◌, ◌<◌, ◌≤◌, ◌^◌, ◌++◌, [], IfOk, IfSome, IsSome, length, min};
 ghost use mathlib.Core.List.{IsPrefix};
 ghost use Rattle.alm_rings.specs.Ends.{AreEnds, SameConsole, SameInbox, SameOutbox, sent_of, received_of, taken_of, released_of, waiting_in, coming_to, room_of, room_in};
 
 use crate::console::{Console, ROOM};
 use crate::inbox::Inbox;
 use crate::outbox::Outbox;
+use crate::serials::Serials;
 use crate::slot_report::SlotReport;
 use crate::told::Told;
 use alm_types::Slot;
@@ -24,12 +25,12 @@ pub fn open_slot<T: Told + Drop>(
     ensures room { IfOk result (λ r. (room_of r.0 ≡ 64) × (room_in r.2 ≡ 64)) }
     ensures nothing_waits { IfOk result (λ r. (waiting_in r.1 ≡ []) × (coming_to r.0 ≡ [])) }
 {
-    let (requests, inbox) = RingBuffer::new(alloc, ROOM)?;
+    let (requests, inbox) = RingBuffer::with_protocol::<Global, Serials>(alloc, ROOM)?;
     let (outbox, replies) = RingBuffer::new(alloc, ROOM)?;
     let console = Console {
         slot,
         serial: 0,
-        unanswered: 0,
+        receipts: 0,
         requests,
         replies,
     };
@@ -56,6 +57,7 @@ pub fn beside<T: Told + Drop>(console: &mut Console<T>, inbox: &mut Inbox, outbo
     ensures requests { taken_of inbox.new ++ waiting_in inbox.new ≡ sent_of console.new }
     ensures replies { received_of console.new ++ coming_to console.new ≡ released_of outbox.new }
     ensures serials { length (sent_of console.new) < 2 ^ 64 }
+    ensures few { length (sent_of console.new) ≤ 64 + length (received_of console.new) }
     ensures room { 64 + length (taken_of inbox.new) ≤ room_of console.new + length (sent_of console.new) }
     ensures reply_room { 64 + length (received_of console.new) ≤ room_in outbox.new + length (released_of outbox.new) }
 {
@@ -74,7 +76,9 @@ pub fn close_slot<T: Told + Drop>(
 ) -> Option<SlotReport>
     requires { AreEnds console inbox outbox }
     ensures some { IsSome result }
-    ensures counts { IfSome result (λ r. (r.sent ≡ length (sent_of console)) × (r.taken ≡ length (taken_of inbox)) × (r.released ≡ length (released_of outbox)) × (r.received ≡ length (received_of console))) }
+    ensures requests { IfSome result (λ r. (r.sent ≡ length (sent_of console)) × (r.taken ≡ length (taken_of inbox))) }
+    ensures receipts { IfSome result (λ r. (r.released ≡ min (length (released_of outbox)) (2 ^ 64 - 1))
+        × (r.received ≡ min (length (received_of console)) (2 ^ 64 - 1))) }
     ensures taken { IsPrefix (taken_of inbox) (sent_of console) }
     ensures received { IsPrefix (received_of console) (released_of outbox) }
 {
@@ -84,6 +88,6 @@ pub fn close_slot<T: Told + Drop>(
         sent: console.serial,
         taken: inbox.serial,
         released: outbox.released,
-        received: console.serial - console.unanswered,
+        received: console.receipts,
     })
 }

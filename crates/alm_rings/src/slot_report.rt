@@ -1,6 +1,6 @@
 //! What went through a slot.
 
-/// How many requests and receipts went through a slot.
+/// How many requests and receipts went through a slot, each up to the last count, 2^64 - 1.
 #[derive(Clone, Copy, Debug, PartialEq, Eq)]
 pub struct SlotReport {
     /// Requests that the console sent.

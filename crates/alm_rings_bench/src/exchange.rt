@@ -24,6 +24,23 @@ fn pause() {
     }
 }
 
+/// Sends as many requests as go, and gives the serial of the last.
+fn send(console: &mut Console<Untold>, requests: u64) -> Option<u64>
+    ensures { SameConsole console.old console.new }
+{
+    let mut last = None;
+    for _ in 0..TURN {
+        if last == Some(requests) {
+            break;
+        }
+        let Ok(serial) = console.send(Action::Ack(AlarmId(0))) else {
+            break;
+        };
+        last = Some(serial);
+    }
+    last
+}
+
 /// Receives what has come, and gives the serial of the last receipt.
 fn receive(console: &mut Console<Untold>) -> Option<u64>
     ensures { SameConsole console.old console.new }
@@ -46,17 +63,14 @@ fn ask(rt: &impl Wait, console: Console<Untold>, requests: u64) -> Console<Untol
     ensures { SameConsole console result }
 {
     let mut console = console;
-    let turn = [Action::Ack(AlarmId(0)); TURN];
-    let turn: &[Action] = &turn;
-    let mut left = requests;
-    let mut received = 0u64;
+    let (mut sent, mut received) = (0u64, 0u64);
     for _ in rt.forever() {
         if received >= requests {
             break;
         }
-        let most = left.min(TURN as u64) as usize;
-        let sent = console.send_many(&turn[..most]);
-        left = left.saturating_sub(sent as u64);
+        if sent < requests {
+            sent = send(&mut console, requests).unwrap_or(sent);
+        }
         if !console.waits() {
             pause();
         }
@@ -68,20 +82,7 @@ fn ask(rt: &impl Wait, console: Console<Untold>, requests: u64) -> Console<Untol
     console
 }
 
-/// Answers the requests that have come, as many as a turn has places, and gives how many.
-fn reply(inbox: &mut Inbox, outbox: &mut Outbox<Untold>, turn: &mut [Action]) -> usize
-    ensures { SameInbox inbox.old inbox.new × SameOutbox outbox.old outbox.new }
-{
-    let mut serial = inbox.taken();
-    let taken = inbox.take_many(turn);
-    for action in turn.iter().take(taken) {
-        serial = serial.saturating_add(1);
-        let _ = outbox.release(refused(serial, *action));
-    }
-    taken
-}
-
-/// Answers so many requests.
+/// Answers so many requests, each as it comes.
 fn answer(
     rt: &impl Wait,
     inbox: Inbox,
@@ -92,13 +93,17 @@ fn answer(
 {
     let mut inbox = inbox;
     let mut outbox = outbox;
-    let mut turn = [Action::Ack(AlarmId(0)); TURN];
+    let mut answered = 0u64;
     for _ in rt.forever() {
-        if inbox.taken() >= requests {
+        if answered >= requests {
             break;
         }
-        if reply(&mut inbox, &mut outbox, &mut turn) == 0 {
-            thread::yield_now();
+        match inbox.take() {
+            Some((serial, action)) => {
+                answered = serial;
+                let _ = outbox.release(refused(serial, action));
+            }
+            None => thread::yield_now(),
         }
     }
     (inbox, outbox)

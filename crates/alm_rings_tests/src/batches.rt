@@ -87,6 +87,20 @@ fn eight_batches_may_be_sealed(rt: HostRuntime) -> Result<(), Fail> {
 }
 
 #[test]
+fn nine_batches_are_sealed_one_after_the_other(rt: HostRuntime) -> Result<(), Fail> {
+    let (mut seal, mut fetch) = open_batches(rt.alloc())?;
+    for first in 1..=9 {
+        let mut batch = seal.empty().ok_or("batch")?;
+        batch.restart(first);
+        assert!(rt; seal.seal(batch).is_ok(), "at {first}");
+        let batch = fetch.fetch().ok_or("batch")?;
+        assert_eq!(rt; batch.first(), first);
+        assert!(rt; fetch.give_back(batch).is_ok(), "at {first}");
+    }
+    Ok(())
+}
+
+#[test]
 fn beside_tells_of_sealed_batches(rt: HostRuntime) -> Result<(), Fail> {
     let (mut seal, mut fetch) = open_batches(rt.alloc())?;
     let batch = Batch::new(rt.alloc())?;

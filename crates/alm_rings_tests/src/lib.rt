@@ -1,10 +1,10 @@
 //! Tests of the ends of slots and of batch rings: what no clause says, and each call once with ample memory.
+//! [`one`] makes the receipts, and is proved with the crate itself.
 #![tactic(auto)]
 
 #[cfg(test)]
 mod batches;
-#[cfg(test)]
-mod one;
+pub mod one;
 #[cfg(test)]
 mod refused;
 #[cfg(test)]

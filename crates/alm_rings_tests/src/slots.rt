@@ -5,7 +5,7 @@ ghost use Rattle.alm_rings.specs.Ends.{SameConsole, SameInbox, SameOutbox};
 
 use crate::one::{One, accepted, ack};
 use alm_rings::{Busy, Console, Inbox, Outbox, SlotReport, beside, close_slot, open_slot};
-use alm_types::{Action, Slot, Verdict};
+use alm_types::{Slot, Verdict};
 use std::process::Abort;
 use std::test::Fail;
 
@@ -41,21 +41,14 @@ fn receives(rt: &impl Abort, console: &mut Console<One>, serial: u64)
     }
 }
 
-/// The actions of the serials 1 to 65.
-fn acks() -> [Action; 65] {
-    let mut actions = [ack(1); 65];
-    for serial in 2..=65 {
-        actions[serial as usize - 1] = ack(serial);
-    }
-    actions
-}
-
 #[test]
 fn sixty_four_requests_may_be_unanswered(rt: HostRuntime) -> Result<(), Fail> {
     let slot = Slot::new(0).ok_or("slot")?;
     let (mut console, mut inbox, mut outbox) = open_slot(rt.alloc(), slot)?;
+    assert_eq!(rt; console.unanswered(), 0);
     for serial in 1..=64 {
         sends(&rt, &mut console, serial);
+        assert_eq!(rt; console.unanswered(), serial);
     }
     assert_eq!(rt; console.send(ack(65)), Err(Busy(ack(65))), "nothing taken");
     for serial in 1..=64 {
@@ -74,65 +67,10 @@ fn sixty_four_requests_may_be_unanswered(rt: HostRuntime) -> Result<(), Fail> {
         "nothing received"
     );
     receives(&rt, &mut console, 1);
+    assert_eq!(rt; console.unanswered(), 63);
     sends(&rt, &mut console, 65);
     assert_eq!(rt; console.send(ack(66)), Err(Busy(ack(66))), "one received");
     takes(&rt, &mut inbox, 65);
-    Ok(())
-}
-
-#[test]
-fn many_requests_go_at_once(rt: HostRuntime) -> Result<(), Fail> {
-    let slot = Slot::new(1).ok_or("slot")?;
-    let (mut console, mut inbox, mut outbox) = open_slot(rt.alloc(), slot)?;
-    let actions = acks();
-    let actions: &[Action] = &actions;
-    assert_eq!(rt; console.send_many(&actions[..0]), 0, "none to send");
-    assert_eq!(rt; console.send_many(actions), 64);
-    assert_eq!(rt; console.send_many(&actions[64..]), 0, "nothing answered");
-    takes(&rt, &mut inbox, 1);
-    assert!(rt; inbox.waits(), "the other 63");
-    takes(&rt, &mut inbox, 2);
-    releases(&rt, &mut outbox, 1);
-    releases(&rt, &mut outbox, 2);
-    assert!(rt; !console.waits(), "not told");
-    receives(&rt, &mut console, 1);
-    assert!(rt; console.waits(), "told");
-    assert_eq!(rt; console.send_many(&actions[64..]), 1, "one received");
-    for serial in 3..=65 {
-        takes(&rt, &mut inbox, serial);
-    }
-    assert!(rt; !inbox.waits(), "all taken");
-    receives(&rt, &mut console, 2);
-    sends(&rt, &mut console, 66);
-    takes(&rt, &mut inbox, 66);
-    Ok(())
-}
-
-#[test]
-fn many_requests_come_at_once(rt: HostRuntime) -> Result<(), Fail> {
-    let slot = Slot::new(1).ok_or("slot")?;
-    let (mut console, mut inbox, _outbox) = open_slot::<One>(rt.alloc(), slot)?;
-    let actions = acks();
-    let (mut none, mut two, mut others) = ([], [ack(0); 2], [ack(0); 63]);
-    assert_eq!(rt; inbox.take_many(&mut two), 0, "nothing sent");
-    assert_eq!(rt; console.send_many(&actions), 64);
-    assert_eq!(rt; inbox.take_many(&mut none), 0, "no place");
-    assert_eq!(rt; inbox.take_many(&mut two), 2);
-    assert_eq!(rt; two, [ack(1), ack(2)]);
-    assert_eq!(rt; inbox.taken(), 2);
-    assert!(rt; inbox.waits(), "the other 62");
-    takes(&rt, &mut inbox, 3);
-    assert_eq!(rt; inbox.take_many(&mut others), 61);
-    assert_eq!(rt; inbox.taken(), 64);
-    assert!(rt; !inbox.waits(), "all taken");
-    for place in 0..63 {
-        let action = if place < 61 {
-            ack(place as u64 + 4)
-        } else {
-            ack(0)
-        };
-        assert_eq!(rt; others[place], action, "place {place}");
-    }
     Ok(())
 }
 
@@ -152,7 +90,12 @@ fn sixty_four_receipts_may_wait(rt: HostRuntime) -> Result<(), Fail> {
     }
     receives(&rt, &mut console, 1);
     releases(&rt, &mut outbox, 65);
-    assert!(rt; console.receive().is_none(), "nothing unanswered");
+    assert_eq!(rt; console.unanswered(), 0);
+    for serial in 2..=65 {
+        receives(&rt, &mut console, serial);
+    }
+    assert!(rt; console.receive().is_none(), "all received");
+    assert_eq!(rt; console.unanswered(), 0, "65 receipts of one request");
     Ok(())
 }
 
@@ -171,8 +114,13 @@ fn a_round_of_each_slot(rt: HostRuntime) -> Result<(), Fail> {
         beside(&mut console, &mut inbox, &mut outbox);
         assert!(rt; inbox.waits(), "told");
         takes(&rt, &mut inbox, 1);
+        assert!(rt; !inbox.waits(), "taken");
         releases(&rt, &mut outbox, 1);
+        assert!(rt; !console.waits(), "not told");
+        beside(&mut console, &mut inbox, &mut outbox);
+        assert!(rt; console.waits(), "told");
         receives(&rt, &mut console, 1);
+        assert!(rt; !console.waits(), "received");
     }
     Ok(())
 }

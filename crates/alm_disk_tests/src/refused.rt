@@ -1,0 +1,24 @@
+//! Want of memory: run with each allocation refused in turn (`rt try --test --fail-alloc N`), the test of this module passes.
+
+use alm_disk::MemDisk;
+use std::alloc::{AllocError, Global};
+use std::test::Fail;
+
+/// More bytes than two of the largest images take.
+pub const LARGE: usize = 8 * 1024 * 1024;
+
+/// A device of so many bytes, with room for a record of a million calls.
+pub fn large(alloc: Global) -> Result<MemDisk, AllocError> {
+    MemDisk::new(alloc, vec![in alloc; 7; LARGE]?, 1_000_000)
+}
+
+#[test]
+fn a_large_device_is_made_whole_or_not_at_all(rt: HostRuntime) -> Result<(), Fail> {
+    let Ok(disk) = large(rt.alloc()) else {
+        return Ok(());
+    };
+    assert_eq!(rt; disk.bytes().len(), LARGE);
+    assert_eq!(rt; disk.bytes().last(), Some(&7));
+    assert_eq!(rt; disk.failures(), 0);
+    Ok(())
+}
