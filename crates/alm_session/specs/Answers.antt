@@ -22,10 +22,14 @@ use Rattle.alm_session.specs.declared.judged.Judged.{Judged}
 use Rattle.alm_session.specs.declared.course.Course.{Course}
 use Rattle.alm_session.specs.declared.course.Course.TheVariants as course
 
--- the plant, none once its storage has stopped, and how many growths of a list were refused
+-- the plant, none once its storage has stopped; how often the storage failed, and how many growths of a list were refused
 pub record Standing : Type 0 where
   pub plant : Option Condensed
+  pub failures : ℕ
   pub refused : ℕ
+
+abbrev pub standing_of : Option Condensed → ℕ → ℕ → Standing
+standing_of plant failures refused = record { plant = plant; failures = failures; refused = refused }
 
 -- a line that came at a slot
 pub record Said : Type 0 where
@@ -94,6 +98,15 @@ abbrev pub plant_after : Option Condensed → Said → Course → Option Condens
 plant_after None s c = None
 plant_after (Some q) s c = ask_after q s.slot s.line.ask c
 
+-- the storage failed where it stopped at an action
+abbrev pub failed_by : ℕ → Ask → Course → ℕ
+failed_by n (Act want) course.Stopped = one_more n
+failed_by n _ _ = n
+
+abbrev pub failures_after : Option Condensed → ℕ → Said → Course → ℕ
+failures_after None n s c = n
+failures_after (Some q) n s c = failed_by n s.line.ask c
+
 -- a growth was refused where a list that is there was starved
 abbrev pub refused_by : Condensed → ℕ → Ask → Course → ℕ
 refused_by q n (Look query) course.Starved = if asks_for q (asks_list query) then one_more n else n
@@ -105,7 +118,7 @@ refused_after (Some q) n s c = refused_by q n s.line.ask c
 
 -- what stands after a line
 abbrev pub after : Standing → Met → Standing
-after s m = record { plant = plant_after s.plant m.said m.course; refused = refused_after s.plant s.refused m.said m.course }
+after s m = standing_of (plant_after s.plant m.said m.course) (failures_after s.plant s.failures m.said m.course) (refused_after s.plant s.refused m.said m.course)
 
 -- the replies to lines, and what stands after them
 abbrev pub replies : Standing → List Met → List ℕ

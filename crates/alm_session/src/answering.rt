@@ -4,7 +4,7 @@ ghost use Rattle.std.specs.Prelude.{◌≡◌, OnOk, OnErr};
 ghost use Rattle.alm_types.specs.Counts.{one_more};
 ghost use Rattle.alm_lines.specs.Reply.{text_of};
 ghost use Rattle.alm_lines.specs.Written.{Prints};
-ghost use Rattle.alm_session.specs.Answers.{judged_text, text_on, plant_after, refused_after};
+ghost use Rattle.alm_session.specs.Answers.{judged_text, text_on, plant_after, failures_after, refused_after};
 ghost use Rattle.alm_lines.specs.declared.ask.Ask.TheVariants.{Act, Look};
 
 use crate::backend::Backend;
@@ -34,6 +34,7 @@ fn reply_of(id: u32, judged: Judged) -> Reply<'static>
 fn act<B: Backend>(backend: &mut B, slot: Slot, id: u32, want: Action) -> (Reply<'static>, Course)
     ensures text { text_of result.0 ≡ text_on (B.stands backend.old) (record { slot = slot; line = record { id = id; ask = Act want } }) result.1 }
     ensures plant { B.stands backend.new ≡ plant_after (B.stands backend.old) (record { slot = slot; line = record { id = id; ask = Act want } }) result.1 }
+    ensures failures { B.failures backend.new ≡ failures_after (B.stands backend.old) (B.failures backend.old) (record { slot = slot; line = record { id = id; ask = Act want } }) result.1 }
 {
     let request = Request { slot, want };
     match backend.submit(&request) {
@@ -56,6 +57,7 @@ fn answer_query<B: Backend, W: Write + Drop>(
 ) -> (Course, Result<(), WriteFailed>)
     ensures text { Prints (W.contents writer.old.inner) (W.contents writer.new.inner) (text_on (B.stands backend.old) (record { slot = slot; line = record { id = id; ask = Look query } }) result.0) result.1 }
     ensures plant { B.stands backend.new ≡ plant_after (B.stands backend.old) (record { slot = slot; line = record { id = id; ask = Look query } }) result.0 }
+    ensures failures { B.failures backend.new ≡ failures_after (B.stands backend.old) (B.failures backend.old) (record { slot = slot; line = record { id = id; ask = Look query } }) result.0 }
     ensures refused { answer.new.refused ≡ refused_after (B.stands backend.old) answer.old.refused (record { slot = slot; line = record { id = id; ask = Look query } }) result.0 }
     ensures whole { OnOk result.1 (writer.new.failed ≡ writer.old.failed) }
     ensures failed { OnErr result.1 (writer.new.failed ≡ one_more writer.old.failed) }
@@ -88,6 +90,7 @@ pub fn answer_line<B: Backend, W: Write + Drop>(
 ) -> (Course, Result<(), WriteFailed>)
     ensures text { Prints (W.contents writer.old.inner) (W.contents writer.new.inner) (text_on (B.stands backend.old) (record { slot = slot; line = line }) result.0) result.1 }
     ensures plant { B.stands backend.new ≡ plant_after (B.stands backend.old) (record { slot = slot; line = line }) result.0 }
+    ensures failures { B.failures backend.new ≡ failures_after (B.stands backend.old) (B.failures backend.old) (record { slot = slot; line = line }) result.0 }
     ensures refused { answer.new.refused ≡ refused_after (B.stands backend.old) answer.old.refused (record { slot = slot; line = line }) result.0 }
     ensures whole { OnOk result.1 (writer.new.failed ≡ writer.old.failed) }
     ensures failed { OnErr result.1 (writer.new.failed ≡ one_more writer.old.failed) }

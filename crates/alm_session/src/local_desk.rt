@@ -25,11 +25,12 @@ pub struct LocalDesk<B: Backend + Drop> {
 
 impl<B: Backend + Drop> Model for LocalDesk<B> {
     ghost use Rattle.std.specs.Prelude.{◌≡◌, length};
+    ghost use Rattle.alm_session.specs.Answers.{standing_of};
     ghost use Rattle.alm_session.specs.Desks.{Desk};
 
     ghost Value = { Desk };
 
-    ghost view = { λ d. record { standing = record { plant = B.stands d.backend; refused = d.answer.refused }; helds = d.decoders.items; closed = d.closed } };
+    ghost view = { λ d. record { standing = standing_of (B.stands d.backend) (B.failures d.backend) d.answer.refused; helds = d.decoders.items; closed = d.closed } };
 
     ghost invariant = { λ d. length d.decoders.items ≡ 18 };
 }
@@ -49,12 +50,12 @@ impl<B: Backend + Drop> LocalDesk<B> {
     ghost use Rattle.std.specs.Prelude.{◌≡◌, OnOk, IfErr, IfOk, Err, is_none, false, true, [], replicate};
     ghost use Rattle.std.specs.Io.KnownBytes.{Appends};
     ghost use Rattle.alm_lines.specs.Line.{line_of};
-    ghost use Rattle.alm_session.specs.Answers.{reply, after};
+    ghost use Rattle.alm_session.specs.Answers.{reply, after, standing_of};
     ghost use Rattle.alm_session.specs.Desks.{IsFed, HasFailed, tag, lines_in};
     ghost use Rattle.alm_session.specs.Failing.{BreaksOff, IsCutLine};
 
     pub fn new(alloc: Global, backend: B) -> Result<Self, AllocError>
-        ensures { IfOk result (λ desk. desk ≡ record { standing = record { plant = B.stands backend; refused = 0 }; helds = replicate 18 []; closed = false }) }
+        ensures { IfOk result (λ desk. desk ≡ record { standing = standing_of (B.stands backend) (B.failures backend) 0; helds = replicate 18 []; closed = false }) }
     {
         Ok(LocalDesk {
             backend,
@@ -69,6 +70,13 @@ impl<B: Backend + Drop> LocalDesk<B> {
         ensures { result ≡ is_none self.now.standing.plant }
     {
         self.backend.is_stopped()
+    }
+
+    /// How often the storage has failed, up to 2^64 - 1: it stops only where it fails.
+    pub fn failures(&self) -> u64
+        ensures { result ≡ self.now.standing.failures }
+    {
+        self.backend.failures()
     }
 
     /// Whether a writer has failed: nothing is answered from then on.
@@ -130,6 +138,7 @@ impl<B: Backend + Drop> LocalDesk<B> {
         ensures open { OnOk result (self.old.closed ≡ false) }
         ensures whole { OnOk result (writer.new.failed ≡ writer.old.failed) }
         ensures fault { IfErr result (λ e. HasFailed e self.old.closed self.new.closed writer.old.failed writer.new.failed) }
+        ensures helds { self.new.helds ≡ self.old.helds }
         ensures cut { result ≡ Err DeskFault.Write → IsCutLine self.old.standing (record { slot = slot; line = line_of line.now }) (W.contents writer.old.inner) self.new.standing (W.contents writer.new.inner) }
         ensures closed { result ≡ Err DeskFault.Closed → (self.new ≡ self.old) × (writer.new ≡ writer.old) }
     {
