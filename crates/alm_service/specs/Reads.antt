@@ -1,5 +1,5 @@
 -- Counts of a reader.
-use Rattle.std.specs.Prelude.{◌≡◌, ℕ, ◌≤◌, List, [], length, take, Option}
+use Rattle.std.specs.Prelude.{◌≡◌, ℕ, ◌<◌, ◌≤◌, List, [], length, take, Option}
 use Rattle.std.specs.Io.KnownBytes.{Consumes, IsAtEnd}
 use Rattle.alm_types.specs.Counts.{one_more}
 use Rattle.alm_service.specs.declared.gave.Gave.{Gave}
@@ -14,7 +14,7 @@ CountsFailure Again old new = new ≡ old
 
 -- what a read gives is taken from the input; at the end there is none left
 abbrev pub GivesBytes : Gave → Option (List ℕ) → Option (List ℕ) → List ℕ → Type 0
-GivesBytes (Got n) old new buffer = (n ≤ length buffer) × Consumes old new (take n buffer)
+GivesBytes (Got n) old new buffer = (0 < n) × (n ≤ length buffer) × Consumes old new (take n buffer)
 GivesBytes End old new buffer = Consumes old new [] × IsAtEnd new
 GivesBytes Again old new buffer = Consumes old new []
 GivesBytes Failed old new buffer = Consumes old new []

@@ -49,6 +49,7 @@ fn answer_at<B: Backend + Drop, W: Write + Drop>(
     ensures text { IfOk result (λ course. Appends (W.contents writer.old.inner) (W.contents writer.new.inner) (entry_text desk.old.standing (request_of slot line.now) course)) }
     ensures standing { IfOk result (λ course. desk.new.standing ≡ entry_after desk.old.standing (request_of slot line.now) course) }
     ensures open { OnOk result (desk.new.closed ≡ false) }
+    ensures helds { desk.new.helds ≡ desk.old.helds }
     ensures whole { OnOk result (writer.new.failed ≡ writer.old.failed) }
     ensures cut { OnErr result (IsCutEntry desk.old.standing (request_of slot line.now) (W.contents writer.old.inner) desk.new.standing (W.contents writer.new.inner)) }
     ensures failed { OnErr result (writer.new.failed ≡ one_more writer.old.failed) }
@@ -70,6 +71,7 @@ pub fn answer_entry<B: Backend + Drop, W: Write + Drop>(
     ensures text { IfOk result (λ course. Appends (W.contents writer.old.inner) (W.contents writer.new.inner) (entry_text desk.old.standing (entry_of line.now) course)) }
     ensures standing { IfOk result (λ course. desk.new.standing ≡ entry_after desk.old.standing (entry_of line.now) course) }
     ensures open { OnOk result (desk.new.closed ≡ false) }
+    ensures helds { desk.new.helds ≡ desk.old.helds }
     ensures whole { OnOk result (writer.new.failed ≡ writer.old.failed) }
     ensures cut { OnErr result (IsCutEntry desk.old.standing (entry_of line.now) (W.contents writer.old.inner) desk.new.standing (W.contents writer.new.inner)) }
     ensures failed { OnErr result (writer.new.failed ≡ one_more writer.old.failed) }

@@ -8,6 +8,7 @@ loop-preserved g c =
     record {
       turns = turns c.loop.invariant.turns next;
       still_open = c.in-Ok-true.ensures.open;
+      helds = c.in-Ok-true.ensures.helds ∙ c.loop.invariant.helds;
       reads = omega arith;
       whole_reader = c.in-Ok-true.ensures.whole_reader ∙ c.loop.invariant.whole_reader;
       whole_writer = c.in-Ok-true.ensures.whole_writer ∙ c.loop.invariant.whole_writer;
@@ -17,6 +18,11 @@ pub returns-in-Ok-false-clause-desk : goal.returns-in-Ok-false-clause-desk
 returns-in-Ok-false-clause-desk g c =
     let last = rw c.in-Ok-false.field-0-test at c.in-Ok-false.ensures.heard in
     turns_end refl (turns c.loop.invariant.turns last)
+
+pub returns-in-Ok-false-clause-end : goal.returns-in-Ok-false-clause-end
+returns-in-Ok-false-clause-end g c =
+    let last = rw c.in-Ok-false.field-0-test at c.in-Ok-false.ensures.heard in
+    last.ended refl
 
 pub returns-in-Err-clause-broken : goal.returns-in-Err-clause-broken
 returns-in-Err-clause-broken g c = λ e still_open. turns_broken c.loop.invariant.turns (c.in-Err.ensures.broken (same_fault _ _ e))

@@ -9,6 +9,7 @@ loop-byte-preserved g c =
     record {
       heard = rw (taken c.args.bytes.now c.loop-byte.byte-index in_range) (joined c.loop-byte.invariant.heard c.in_ok-hear_byte.ensures.heard);
       still_open = c.in_ok-hear_byte.ensures.open;
+      helds = c.in_ok-hear_byte.ensures.helds ∙ c.loop-byte.invariant.helds;
       whole = c.in_ok-hear_byte.ensures.whole ∙ c.loop-byte.invariant.whole;
     }
 

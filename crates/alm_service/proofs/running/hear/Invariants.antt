@@ -7,5 +7,6 @@ abbrev pub invariant-loop-byte : goal.invariant-loop-byte
 invariant-loop-byte g l = record {
   heard : IsHeard l.initial.desk.standing l.initial.held (take l.byte-index l.bytes) (g.W.Write.contents l.initial.writer.inner) l.desk.standing l.held (g.W.Write.contents l.writer.inner);
   still_open : l.desk.closed ≡ false;
+  helds : l.desk.helds ≡ l.initial.desk.helds;
   whole : l.writer.failed ≡ l.initial.writer.failed;
 }
