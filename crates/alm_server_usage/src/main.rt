@@ -5,5 +5,5 @@ use alm_service::run_program;
 use std::process::ExitCode;
 
 fn main(rt: HostRuntime) -> ExitCode {
-    run_program(&rt)
+    run_program(&rt, &mut rt.stderr())
 }
