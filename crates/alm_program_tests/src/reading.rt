@@ -1,7 +1,7 @@
 //! Reads, and a desk over them.
 
 use crate::script::{Script, Step};
-use alm_service::{CountedReader, Gave, RunFault, desk_run, worked_table};
+use alm_service::{CountedReader, ReadOutcome, RunFault, desk_run, worked_table};
 use alm_session::{CountedWriter, desk_of};
 use std::test::Fail;
 
@@ -16,14 +16,14 @@ fn each_take_is_one_read(rt: HostRuntime) -> Result<(), Fail> {
         Step::Gives(b"def"),
     ];
     let wanted = [
-        (Gave::Got(2), b"ab".as_slice()),
-        (Gave::Again, b""),
-        (Gave::Got(1), b"c"),
-        (Gave::Failed, b""),
-        (Gave::Again, b""),
-        (Gave::Got(3), b"def"),
-        (Gave::End, b""),
-        (Gave::End, b""),
+        (ReadOutcome::Bytes(2), b"ab".as_slice()),
+        (ReadOutcome::Interrupted, b""),
+        (ReadOutcome::Bytes(1), b"c"),
+        (ReadOutcome::Failed, b""),
+        (ReadOutcome::Interrupted, b""),
+        (ReadOutcome::Bytes(3), b"def"),
+        (ReadOutcome::End, b""),
+        (ReadOutcome::End, b""),
     ];
     let mut reader = CountedReader::new(Script::new(&steps));
     for (gave, bytes) in wanted {
