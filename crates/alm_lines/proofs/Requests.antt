@@ -20,6 +20,7 @@ use Rattle.alm_types.specs.Actions.{IsAction}
 use Rattle.alm_types.specs.Readings.{IsReading}
 use Rattle.alm_lines.specs.Texts.{value_text, switch_text, with_one, with_two, ask_text, action_text, query_text, request_text, IsInRange, IsQueryInRange, IsAsking}
 use Rattle.alm_lines.proofs.Numerals.{number-decimal, decimal-number}
+use Rattle.alm_lines.proofs.Lengths.{request-length}
 use Rattle.alm_lines.proofs.Cutting.{joined, cut-joined, cut-spaced, cut-alone, spaceless-decimal, is_spaceless, same-is}
 
 -- what may be asked, put under the word for nothing
@@ -245,8 +246,9 @@ ask-read (Act action) h = action-read action h
 ask-read (Look query) h = query-read query h
 ask-read (Bad refusal) h = absurd h
 
-pub request-read : (id : ℕ) (ask : Ask) → id < 2 ^ 32 → IsInRange ask → length (request_text id ask) ≤ 127 → line_of (request_text id ask) ≡ record { id = id; ask = ask }
-request-read id ask below range fits =
+pub request-read : (id : ℕ) (ask : Ask) → id < 2 ^ 32 → IsInRange ask → line_of (request_text id ask) ≡ record { id = id; ask = ask }
+request-read id ask below range =
+    let fits = request-length id ask below range in
     let short : nat_lt 127 (length (request_text id ask)) ≡ false = grind (arith, fits) in
     rw (short, cut-spaced (decimal id) (ask_text ask) (spaceless-decimal id (omega (arith, below))), word-read id below)
     (ap (λ (o : Option Ask). record { id = id; ask = asks o }) (ask-read ask range))

@@ -115,5 +115,10 @@ abbrev pub line_under : Option ℕ → Option (List ℕ) → Line
 line_under None rest = record { id = 0; ask = Bad BadLine }
 line_under (Some id) rest = record { id = id; ask = unwrap_or (asked rest) (Bad BadLine) }
 
+-- the most bytes of a line, its line end not counted
+abbrev pub line_limit : ℕ
+line_limit = 127
+
 abbrev pub line_of : List ℕ → Line
-line_of bytes = if nat_lt 127 (length bytes) then record { id = 0; ask = Bad LineTooLong } else line_under (word (cut bytes).0) (cut bytes).1
+line_of bytes =
+    if nat_lt line_limit (length bytes) then record { id = 0; ask = Bad LineTooLong } else line_under (word (cut bytes).0) (cut bytes).1

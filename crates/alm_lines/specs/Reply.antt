@@ -60,7 +60,8 @@ query_word Chatter = codes " CHATTER "
 
 -- what follows the count, without the line's end
 abbrev pub report_text : Report → List ℕ
-report_text (alarm shown active flags until) = codes " " ++ shown_word shown ++ codes " " ++ decimal (digit active) ++ codes " " ++ letters flags ++ codes " " ++ deadline until
+report_text (alarm shown active flags until) =
+    codes " " ++ shown_word shown ++ codes " " ++ decimal (digit active) ++ codes " " ++ letters flags ++ codes " " ++ deadline until
 report_text (flood window on) = codes " " ++ decimal window ++ codes " " ++ decimal (digit on)
 report_text (alarms list) = codes " " ++ decimal (length list) ++ spaced list
 
@@ -73,11 +74,11 @@ abbrev pub no_text : ℕ → Refusal → List ℕ
 no_text id refusal = decimal id ++ codes " NO " ++ decimal (number_of refusal) ++ codes "\n"
 
 -- the answer to a query, under the count of the plant
-abbrev pub query_text : ℕ → ℕ → Query → Report → List ℕ
-query_text id n query said = decimal id ++ query_word query ++ decimal n ++ report_text said ++ codes "\n"
+abbrev pub told_text : ℕ → ℕ → Query → Report → List ℕ
+told_text id n query told = decimal id ++ query_word query ++ decimal n ++ report_text told ++ codes "\n"
 
 -- a reply
 abbrev pub text_of : Reply → List ℕ
 text_of (Ok id n) = ok_text id n
 text_of (No id refusal) = no_text id refusal
-text_of (Told id n query answer) = query_text id n query (report query answer.now)
+text_of (Told id n query answer) = told_text id n query (report query answer.now)

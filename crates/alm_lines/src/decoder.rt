@@ -6,24 +6,22 @@ ghost use Rattle.alm_lines.specs.Stream.{is_end, fed, used, found};
 ghost use Rattle.alm_lines.specs.Line.{line_of};
 
 use crate::grammar::line_of;
+use crate::held_line::HeldLine;
 use crate::line::Line;
 use std::marker::Model;
 
-/// What has come of the next line, at most 128 bytes of it.
+/// What has come of the next line, at most 128 bytes of it: one more than it may have without its LF.
 #[derive(Drop)]
 pub struct Decoder {
-    held: [u8; 128],
-    len: usize,
+    held: HeldLine<128>,
 }
 
 impl Model for Decoder {
-    ghost use Rattle.std.specs.Prelude.{ℕ, List, take, ◌≤◌, length, ◌≡◌};
+    ghost use Rattle.std.specs.Prelude.{ℕ, List};
 
     ghost Value = { List ℕ };
 
-    ghost view = { λ d. take d.len d.held };
-
-    ghost invariant = { λ d. d.len ≤ 128 };
+    ghost view = { λ d. d.held };
 }
 
 impl Decoder {
@@ -31,8 +29,7 @@ impl Decoder {
         ensures { result ≡ [] }
     {
         Decoder {
-            held: [0; 128],
-            len: 0,
+            held: HeldLine::new(),
         }
     }
 
@@ -40,10 +37,7 @@ impl Decoder {
     fn push(&mut self, byte: u8)
         ensures { self.new ≡ take 128 (self.old ++ byte ∷ []) }
     {
-        if self.len < 128 {
-            self.held[self.len] = byte;
-            self.len += 1;
-        }
+        self.held.push(byte);
     }
 
     /// The line that is held, which has ended.
@@ -51,9 +45,9 @@ impl Decoder {
         ensures line { result ≡ line_of self.old }
         ensures empty { self.new ≡ [] }
     {
-        let len = self.len;
-        self.len = 0;
-        line_of(&self.held[..len])
+        let line = line_of(self.held.bytes());
+        self.held.clear();
+        line
     }
 
     /// Takes bytes up to and with the first line end: how many, and the line where it has ended.

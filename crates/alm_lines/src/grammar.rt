@@ -8,6 +8,9 @@ use crate::line::Line;
 use crate::numbers::{alarm, moment, reading, switch, word};
 use alm_types::{Action, Query, Refusal};
 
+/// The most bytes of a line, its LF not counted.
+pub const LINE_LIMIT: usize = 127;
+
 /// The place of the first space.
 fn space(bytes: &[u8]) -> Option<usize>
     ensures { result ≡ position (λ b. b == 32) bytes.now }
@@ -34,7 +37,7 @@ pub fn line_of(bytes: &[u8]) -> Line
         id,
         ask: Ask::Bad(refusal),
     };
-    if bytes.len() > 127 {
+    if bytes.len() > LINE_LIMIT {
         return bad(0, Refusal::LineTooLong);
     }
     let (id, rest) = cut(bytes);

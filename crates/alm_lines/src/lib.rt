@@ -25,6 +25,7 @@
 mod ask;
 mod decoder;
 mod grammar;
+mod held_line;
 pub mod laws;
 mod line;
 mod numbers;
@@ -35,7 +36,8 @@ mod writing;
 
 pub use ask::Ask;
 pub use decoder::Decoder;
-pub use grammar::{cut, line_of};
+pub use grammar::{LINE_LIMIT, cut, line_of};
+pub use held_line::HeldLine;
 pub use line::Line;
 pub use numbers::number;
 pub use part::{Part, put_parts};

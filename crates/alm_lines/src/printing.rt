@@ -3,7 +3,7 @@
 ghost use Rattle.std.specs.Prelude.{◌≡◌};
 ghost use Rattle.alm_types.specs.Reports.{report, alarms};
 ghost use Rattle.alm_lines.specs.Parts.{part_text};
-ghost use Rattle.alm_lines.specs.Reply.{text_of, shown_word, letters, query_word, query_text, report_text, spaced, deadline};
+ghost use Rattle.alm_lines.specs.Reply.{text_of, shown_word, letters, query_word, told_text, report_text, spaced, deadline};
 ghost use Rattle.alm_lines.specs.Written.{Prints};
 
 use crate::part::{Part, put_parts};
@@ -127,7 +127,7 @@ fn print_query<W: io::Write>(
     answer: &Answer,
     writer: &mut W,
 ) -> io::Result<()>
-    ensures { Prints (W.contents writer.old) (W.contents writer.new) (query_text id n query (report query answer.now)) result }
+    ensures { Prints (W.contents writer.old) (W.contents writer.new) (told_text id n query (report query answer.now)) result }
 {
     put_parts(
         &[

@@ -31,9 +31,9 @@ fn slots_are_streams_of_their_own(rt: HostRuntime) -> Result<(), Fail> {
 fn desk_lines_that_are_none(rt: HostRuntime) -> Result<(), Fail> {
     let alloc = rt.alloc();
     let input =
-        b"16 1 VAL 0 800\n16 2 VAL 0 790\n16 3 VAL 0 789\n0 4 ACK 0\n1 5 ACK 0\n0 6 VAL 0 900\n0 7\n0 \n0\nx\n18 1 STATE 0\n";
+        b"16 1 VAL 0 800\n16 2 VAL 0 790\n16 3 VAL 0 789\n0 4 ACK 0\n1 5 ACK 0\n0 6 VAL 0 900\n0 7\n0 \n0\nx\n18 1 STATE 0\n0 8 ACK 0\xff\n";
     let wanted =
-        b"16 1 OK 1\n16 2 NO 9\n16 3 OK 2\n0 4 OK 3\n1 5 NO 2\n0 6 NO 11\n0 7 NO 13\n0 0 NO 13\n? NO 13\n? NO 13\n? NO 13\n";
+        b"16 1 OK 1\n16 2 NO 9\n16 3 OK 2\n0 4 OK 3\n1 5 NO 2\n0 6 NO 11\n0 7 NO 13\n0 0 NO 13\n? NO 13\n? NO 13\n? NO 13\n0 8 NO 13\n";
     let mut desk = new_desk(alloc)?;
     let got = printed(alloc, &mut desk, input.as_slice())?;
     assert_eq!(rt; got.as_slice(), wanted.as_slice());

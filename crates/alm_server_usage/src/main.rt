@@ -1,9 +1,9 @@
 //! The alarm server without words: its status is that of wrong usage.
 #![tactic(auto)]
 
-use alm_service::run_program;
+use alm_service::run_in_process;
 use std::process::ExitCode;
 
 fn main(rt: HostRuntime) -> ExitCode {
-    run_program(&rt)
+    run_in_process(rt)
 }

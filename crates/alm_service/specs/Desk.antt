@@ -1,113 +1,118 @@
 -- What the desk prints for what it reads.
-use Rattle.std.specs.Prelude.{◌≡◌, ◌⊎◌, ℕ, List, [], ◌∷◌, ◌++◌, Option, Some, length, take, map, codes, decimal, nat_lt, if◌then◌else◌}
+use Rattle.std.specs.Prelude.{◌≡◌, ◌⊎◌, ℕ, List, [], ◌∷◌, ◌++◌, Option, Some, length, map, codes, decimal, nat_lt, if◌then◌else◌}
 use Rattle.std.specs.Io.KnownBytes.{Appends, Keeps}
 use Rattle.alm_types.specs.declared.refusal.Refusal.{Refusal}
 use Rattle.alm_types.specs.declared.refusal.Refusal.TheVariants.{BadLine, LineTooLong}
 use Rattle.alm_types.specs.Refusals.{number_of}
 use Rattle.alm_lines.specs.Line.{number, cut, line_of}
-use Rattle.alm_lines.specs.Stream.{is_end}
+use Rattle.alm_lines.specs.Stream.{is_end, held_within, fed_within}
 use Rattle.alm_lines.specs.Written.{IsCutShort}
-use Rattle.alm_session.specs.Answers.{Standing, Said, reply, after}
+use Rattle.alm_session.specs.Answers.{Standing, SlotLine, reply, after}
 use Rattle.alm_session.specs.Failing.{IsCutLine}
-use Rattle.alm_session.specs.declared.course.Course.{Course}
+use Rattle.alm_session.specs.declared.hindrance.Hindrance.{Hindrance}
 
--- what is held of the next line, of which no more than 131 bytes count, after another byte
-abbrev pub held_after : List ℕ → ℕ → List ℕ
-held_after held b = if is_end b then [] else take 131 (held ++ b ∷ [])
+-- what is held of the desk's next line: of its bytes 131 count, one more than it may have without its line end
+abbrev pub held_at_desk : List ℕ → ℕ → List ℕ
+held_at_desk = held_within 131
 
-abbrev pub held_by : List ℕ → List ℕ → List ℕ
-held_by held [] = held
-held_by held (b ∷ bytes) = held_by (held_after held b) bytes
+abbrev pub fed_to_desk : List ℕ → List ℕ → List ℕ
+fed_to_desk = fed_within 131
 
 -- the lines that bytes end, where some of the first one is held
 abbrev pub lines_of : List ℕ → List ℕ → List (List ℕ)
 lines_of held [] = []
-lines_of held (b ∷ bytes) = if is_end b then held ∷ lines_of [] bytes else lines_of (held_after held b) bytes
+lines_of held (b ∷ bytes) = if is_end b then held ∷ lines_of [] bytes else lines_of (held_at_desk held b) bytes
 
 -- what a line of the desk is: not to be read, or a request line at a slot
-pub data Entry : Type 0 where
-  unread : Refusal → Entry
-  said : Said → Entry
+pub data DeskLine : Type 0 where
+  unreadable : Refusal → DeskLine
+  at_slot : SlotLine → DeskLine
 
-abbrev pub request_of : ℕ → List ℕ → Entry
-request_of slot rest = said (record { slot = slot; line = line_of rest })
+abbrev pub request_of : ℕ → List ℕ → DeskLine
+request_of slot rest = at_slot (record { slot = slot; line = line_of rest })
 
-abbrev pub entry_at : Option ℕ → Option (List ℕ) → Entry
-entry_at (Some slot) (Some rest) = request_of slot rest
-entry_at _ _ = unread BadLine
+abbrev pub desk_line_at : Option ℕ → Option (List ℕ) → DeskLine
+desk_line_at (Some slot) (Some rest) = request_of slot rest
+desk_line_at _ _ = unreadable BadLine
+
+-- the most bytes of a line of the desk, its line end not counted
+abbrev pub desk_line_limit : ℕ
+desk_line_limit = 130
 
 -- a slot, one space and a request line
-abbrev pub entry_of : List ℕ → Entry
-entry_of line = if nat_lt 130 (length line) then unread LineTooLong else entry_at (number 18 (cut line).0) (cut line).1
+abbrev pub desk_line_of : List ℕ → DeskLine
+desk_line_of line = if nat_lt desk_line_limit (length line) then unreadable LineTooLong else desk_line_at (number 18 (cut line).0) (cut line).1
 
--- a line that was heard, with what came in its way
-pub record Heard : Type 0 where
+-- a line that was answered, with what came in its way
+pub record AnsweredBytes : Type 0 where
   pub line : List ℕ
-  pub course : Course
+  pub hindrance : Hindrance
 
-abbrev pub unread_text : Refusal → List ℕ
-unread_text refusal = codes "? NO " ++ decimal (number_of refusal) ++ codes "\n"
+abbrev pub unreadable_text : Refusal → List ℕ
+unreadable_text refusal = codes "? NO " ++ decimal (number_of refusal) ++ codes "\n"
 
 -- the slot, before the reply
 abbrev pub head : ℕ → List ℕ
 head slot = decimal slot ++ codes " "
 
-abbrev pub entry_text : Standing → Entry → Course → List ℕ
-entry_text s (unread refusal) c = unread_text refusal
-entry_text s (said m) c = head m.slot ++ reply s (record { said = m; course = c })
+abbrev pub desk_reply : Standing → DeskLine → Hindrance → List ℕ
+desk_reply s (unreadable refusal) c = unreadable_text refusal
+desk_reply s (at_slot m) c = head m.slot ++ reply s (record { asked = m; hindrance = c })
 
-abbrev pub entry_after : Standing → Entry → Course → Standing
-entry_after s (unread refusal) c = s
-entry_after s (said m) c = after s (record { said = m; course = c })
+abbrev pub desk_after : Standing → DeskLine → Hindrance → Standing
+desk_after s (unreadable refusal) c = s
+desk_after s (at_slot m) c = after s (record { asked = m; hindrance = c })
 
 -- what is printed for lines, and what stands after them
-abbrev pub printed : Standing → List Heard → List ℕ
+abbrev pub printed : Standing → List AnsweredBytes → List ℕ
 printed s [] = []
-printed s (h ∷ hs) = entry_text s (entry_of h.line) h.course ++ printed (entry_after s (entry_of h.line) h.course) hs
+printed s (h ∷ hs) = desk_reply s (desk_line_of h.line) h.hindrance ++ printed (desk_after s (desk_line_of h.line) h.hindrance) hs
 
-abbrev pub stands_after : Standing → List Heard → Standing
+abbrev pub stands_after : Standing → List AnsweredBytes → Standing
 stands_after s [] = s
-stands_after s (h ∷ hs) = stands_after (entry_after s (entry_of h.line) h.course) hs
+stands_after s (h ∷ hs) = stands_after (desk_after s (desk_line_of h.line) h.hindrance) hs
 
-abbrev pub line : Heard → List ℕ
+abbrev pub line : AnsweredBytes → List ℕ
 line h = h.line
 
--- bytes are heard: what the desk prints for the lines that they end is written
-pub record IsHeard (before : Standing) (held bytes : List ℕ) (old : Option (List ℕ)) (later : Standing) (holds : List ℕ) (new : Option (List ℕ)) : Type 0 where
-  pub heard : List Heard
-  pub lines : map line heard ≡ lines_of held bytes
-  pub written : Appends old new (printed before heard)
-  pub standing : later ≡ stands_after before heard
-  pub left : holds ≡ held_by held bytes
+-- bytes are answered: what the desk prints for the lines that they end is written
+pub record IsPrinted (before : Standing) (held bytes : List ℕ) (old : Option (List ℕ)) (later : Standing) (holds : List ℕ)
+    (new : Option (List ℕ)) : Type 0 where
+  pub answered : List AnsweredBytes
+  pub lines : map line answered ≡ lines_of held bytes
+  pub written : Appends old new (printed before answered)
+  pub standing : later ≡ stands_after before answered
+  pub left : holds ≡ fed_to_desk held bytes
 
--- the whole of an input is heard; bytes after its last line end are dropped
+-- the whole of an input is answered; bytes after its last line end are dropped
 pub record IsDesk (before : Standing) (input : List ℕ) (old : Option (List ℕ)) (later : Standing) (new : Option (List ℕ)) : Type 0 where
-  pub heard : List Heard
-  pub lines : map line heard ≡ lines_of [] input
-  pub written : Appends old new (printed before heard)
-  pub standing : later ≡ stands_after before heard
+  pub answered : List AnsweredBytes
+  pub lines : map line answered ≡ lines_of [] input
+  pub written : Appends old new (printed before answered)
+  pub standing : later ≡ stands_after before answered
 
 -- the reply under a slot is cut short; what the line asks is done
-pub record IsCutReply (before : Standing) (m : Said) (old : Option (List ℕ)) (later : Standing) (new : Option (List ℕ)) : Type 0 where
+pub record IsCutReply (before : Standing) (m : SlotLine) (old : Option (List ℕ)) (later : Standing) (new : Option (List ℕ)) : Type 0 where
   pub between : Option (List ℕ)
   pub slot : Appends old between (head m.slot)
   pub reply : IsCutLine before m between later new
 
 -- what is printed for an entry is cut short: within a refusal or the slot, and nothing is done, or within the reply
-abbrev pub IsCutEntry : Standing → Entry → Option (List ℕ) → Standing → Option (List ℕ) → Type 0
-IsCutEntry before (unread refusal) old later new = IsCutShort old new (unread_text refusal) × (later ≡ before)
-IsCutEntry before (said m) old later new = (IsCutShort old new (head m.slot) × (later ≡ before)) ⊎ IsCutReply before m old later new
+abbrev pub IsCutDeskLine : Standing → DeskLine → Option (List ℕ) → Standing → Option (List ℕ) → Type 0
+IsCutDeskLine before (unreadable refusal) old later new = IsCutShort old new (unreadable_text refusal) × (later ≡ before)
+IsCutDeskLine before (at_slot m) old later new = (IsCutShort old new (head m.slot) × (later ≡ before)) ⊎ IsCutReply before m old later new
 
 -- the writer fails in the next line, or where none is left as it hands on what was written
 abbrev pub IsCutIn : List (List ℕ) → Standing → Option (List ℕ) → Standing → Option (List ℕ) → Type 0
 IsCutIn [] s old later new = (later ≡ s) × Keeps old new
-IsCutIn (next ∷ others) s old later new = IsCutEntry s (entry_of next) old later new
+IsCutIn (next ∷ others) s old later new = IsCutDeskLine s (desk_line_of next) old later new
 
 -- the first lines are answered, and then the writer fails
-pub record BreaksOff (before : Standing) (lines : List (List ℕ)) (old : Option (List ℕ)) (later : Standing) (new : Option (List ℕ)) : Type 0 where
-  pub heard : List Heard
+pub record BreaksOff (before : Standing) (lines : List (List ℕ)) (old : Option (List ℕ)) (later : Standing) (new : Option (List ℕ))
+    : Type 0 where
+  pub answered : List AnsweredBytes
   pub others : List (List ℕ)
-  pub all : lines ≡ map line heard ++ others
+  pub all : lines ≡ map line answered ++ others
   pub between : Option (List ℕ)
-  pub written : Appends old between (printed before heard)
-  pub cut : IsCutIn others (stands_after before heard) between later new
+  pub written : Appends old between (printed before answered)
+  pub cut : IsCutIn others (stands_after before answered) between later new

@@ -2,24 +2,26 @@
 use Rattle.std.specs.Prelude.{◌≡◌, ℕ, List, [], Bool, false, Option}
 use Rattle.std.specs.Io.KnownBytes.{Consumes, IsAtEnd}
 use Rattle.alm_session.specs.Answers.{Standing}
-use Rattle.alm_service.specs.Desk.{IsHeard, BreaksOff, lines_of}
+use Rattle.alm_service.specs.Desk.{IsPrinted, BreaksOff, lines_of}
 
--- some bytes were read and heard; where no more come the input is at its end
-pub record IsTurn (more : Bool) (before : Standing) (held : List ℕ) (input : Option (List ℕ)) (old : Option (List ℕ)) (later : Standing) (holds : List ℕ) (rest : Option (List ℕ)) (new : Option (List ℕ)) : Type 0 where
+-- some bytes were read and answered; where no more come the input is at its end
+pub record IsTurn (more : Bool) (before : Standing) (held : List ℕ) (input : Option (List ℕ)) (old : Option (List ℕ)) (later : Standing)
+    (holds : List ℕ) (rest : Option (List ℕ)) (new : Option (List ℕ)) : Type 0 where
   pub bytes : List ℕ
   pub read : Consumes input rest bytes
-  pub heard : IsHeard before held bytes old later holds new
+  pub answered : IsPrinted before held bytes old later holds new
   pub ended : more ≡ false → IsAtEnd rest
 
--- what was read is heard, and no more comes of it
-pub record IsHeardSoFar (before : Standing) (input old : Option (List ℕ)) (later : Standing) (rest new : Option (List ℕ)) : Type 0 where
+-- what was read is answered, and no more comes of it
+pub record IsPrintedSoFar (before : Standing) (input old : Option (List ℕ)) (later : Standing) (rest new : Option (List ℕ)) : Type 0 where
   pub bytes : List ℕ
   pub read : Consumes input rest bytes
   pub holds : List ℕ
-  pub heard : IsHeard before [] bytes old later holds new
+  pub answered : IsPrinted before [] bytes old later holds new
 
 -- some bytes were read, and the writer fails in the answers to them
-pub record IsBroken (before : Standing) (held : List ℕ) (input old : Option (List ℕ)) (later : Standing) (rest new : Option (List ℕ)) : Type 0 where
+pub record IsBroken (before : Standing) (held : List ℕ) (input old : Option (List ℕ)) (later : Standing) (rest new : Option (List ℕ))
+    : Type 0 where
   pub bytes : List ℕ
   pub read : Consumes input rest bytes
   pub broken : BreaksOff before (lines_of held bytes) old later new

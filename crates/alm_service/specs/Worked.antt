@@ -7,7 +7,16 @@ use Rattle.alm_types.specs.declared.kind.Kind.TheVariants.{High, Low, Discrete}
 
 -- the settings of an alarm
 abbrev pub settings_of : Attr → Settings
-settings_of a = record { kind = a.kind; setpoint = a.setpoint; deadband = a.deadband; priority = a.priority; area = a.area; latching = a.latching; max_shelve = a.max_shelve }
+settings_of a =
+    record {
+      kind = a.kind;
+      setpoint = a.setpoint;
+      deadband = a.deadband;
+      priority = a.priority;
+      area = a.area;
+      latching = a.latching;
+      max_shelve = a.max_shelve;
+    }
 
 abbrev pub worked_settings : List Settings
 worked_settings =

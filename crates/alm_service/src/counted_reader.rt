@@ -4,7 +4,7 @@ ghost use Rattle.std.specs.Prelude.{◌≡◌, ◌<◌, length};
 ghost use Rattle.alm_types.specs.Counts.{one_more};
 ghost use Rattle.alm_service.specs.Reads.{CountsFailure, GivesBytes};
 
-use crate::gave::Gave;
+use crate::read_outcome::ReadOutcome;
 use std::io::{ErrorKind, Read};
 
 /// A reader, how often it was read, and how often it failed.
@@ -29,7 +29,7 @@ impl<R: Read + Drop> CountedReader<R> {
     }
 
     /// Reads some bytes.
-    pub fn take(&mut self, into: &mut [u8]) -> Gave
+    pub fn take(&mut self, into: &mut [u8]) -> ReadOutcome
         requires { 0 < length into.old }
         ensures bytes { GivesBytes result (R.remaining self.old.inner) (R.remaining self.new.inner) into.new }
         ensures reads { self.new.reads ≡ one_more self.old.reads }
@@ -37,12 +37,12 @@ impl<R: Read + Drop> CountedReader<R> {
     {
         self.reads = self.reads.saturating_add(1);
         match self.inner.read(into) {
-            Ok(0) => Gave::End,
-            Ok(count) => Gave::Got(count),
-            Err(error) if error.kind() == ErrorKind::Interrupted => Gave::Again,
+            Ok(0) => ReadOutcome::End,
+            Ok(count) => ReadOutcome::Bytes(count),
+            Err(error) if error.kind() == ErrorKind::Interrupted => ReadOutcome::Interrupted,
             Err(_) => {
                 self.failed = self.failed.saturating_add(1);
-                Gave::Failed
+                ReadOutcome::Failed
             }
         }
     }

@@ -15,16 +15,16 @@ pub enum Fault {
 
 impl Fault {
     ghost use Rattle.std.specs.Prelude.{◌≡◌};
-    ghost use Rattle.alm_service.specs.Faults.{line_of, status_of};
+    ghost use Rattle.alm_service.specs.Faults.{fault_text, status_of};
 
-    /// The line that tells of it.
-    pub fn line(&self) -> &'static str
-        ensures { result.now ≡ line_of self.now }
+    /// The word for it.
+    pub fn word(&self) -> &'static str
+        ensures { result.now ≡ fault_text self.now }
     {
         match self {
-            Fault::Usage => "fault usage",
-            Fault::OutOfMemory => "fault memory",
-            Fault::Io => "fault io",
+            Fault::Usage => "usage",
+            Fault::OutOfMemory => "memory",
+            Fault::Io => "io",
         }
     }
 

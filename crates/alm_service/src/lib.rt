@@ -11,19 +11,20 @@
 #![tactic(auto)]
 
 mod counted_reader;
-mod entry;
+mod desk_line;
 mod fault;
-mod gave;
-mod held_line;
+mod host;
 mod program;
+mod read_outcome;
 mod run_fault;
 mod running;
 mod worked;
 
 pub use counted_reader::CountedReader;
 pub use fault::Fault;
-pub use gave::Gave;
+pub use host::run_in_process;
 pub use program::run_program;
+pub use read_outcome::ReadOutcome;
 pub use run_fault::RunFault;
 pub use running::desk_run;
 pub use worked::worked_table;

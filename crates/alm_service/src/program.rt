@@ -1,12 +1,14 @@
 //! The program, from its words to its status.
 
-ghost use Rattle.std.specs.Prelude.{◌≡◌, ◌⊎◌};
 ghost use Rattle.std.specs.Process.{exit_status};
+ghost use Rattle.alm_lines.specs.Written.{Prints};
+ghost use Rattle.alm_service.specs.Faults.{fault_line, IsEnd};
 
 use crate::counted_reader::CountedReader;
 use crate::fault::Fault;
 use crate::running::desk_run;
 use crate::worked::worked_table;
+use alm_lines::{Part, put_parts};
 use alm_session::{CountedWriter, desk_of};
 use std::env::{self, Env};
 use std::io::{self, BufWriter, ErrorKind};
@@ -44,14 +46,31 @@ fn run<R: Input + Print + Env + AllocGlobal>(rt: &R) -> Result<(), Fault> {
     }
 }
 
-/// Does what the program's words ask: status 0, or one line on standard error and the status of the fault.
-pub fn run_program<R: Input + Print + Eprint + Env + AllocGlobal>(rt: &R) -> ExitCode
-    ensures { (exit_status result ≡ 0) ⊎ ((exit_status result ≡ 1) ⊎ (exit_status result ≡ 3)) }
+/// Writes the line of a fault.
+fn print_fault<E: io::Write>(fault: Fault, errors: &mut E) -> io::Result<()>
+    ensures { Prints (E.contents errors.old) (E.contents errors.new) (fault_line fault) result }
+{
+    put_parts(
+        &[
+            Part::Word("fault "),
+            Part::Word(fault.word()),
+            Part::Word("\n"),
+        ],
+        errors,
+    )
+}
+
+/// Does what the program's words ask: status 0, or one line to `errors` and the status of the fault.
+pub fn run_program<R: Input + Print + Env + AllocGlobal, E: io::Write>(
+    rt: &R,
+    errors: &mut E,
+) -> ExitCode
+    ensures { IsEnd (E.contents errors.old) (E.contents errors.new) (exit_status result) }
 {
     match run(rt) {
         Ok(()) => ExitCode::SUCCESS,
         Err(fault) => {
-            let _ = eprintln!(rt; "{}", fault.line());
+            let _ = print_fault(fault, errors);
             ExitCode::from(fault.status())
         }
     }

@@ -1,36 +1,42 @@
 //! The desk over a reader and a writer.
 
 ghost use Rattle.std.specs.Prelude.{◌≡◌, ◌<◌, ◌+◌, ◌-◌, ◌^◌, ◌⊎◌, ◌∷◌, [], min, OnOk, OnErr, IfOk, IfSome, Err, false, true, length};
-ghost use Rattle.std.specs.Io.KnownBytes.{Consumes};
+ghost use Rattle.std.specs.Io.KnownBytes.{Consumes, IsAtEnd};
 ghost use Rattle.alm_lines.specs.Stream.{is_end};
 ghost use Rattle.alm_types.specs.Counts.{one_more};
-ghost use Rattle.alm_service.specs.Desk.{IsHeard, IsDesk, IsCutEntry, BreaksOff, entry_of, lines_of};
-ghost use Rattle.alm_service.specs.Turns.{IsTurn, IsHeardSoFar, IsBroken};
+ghost use Rattle.alm_service.specs.Desk.{IsPrinted, IsDesk, IsCutDeskLine, BreaksOff, desk_line_of, lines_of};
+ghost use Rattle.alm_service.specs.Turns.{IsTurn, IsPrintedSoFar, IsBroken};
 
 use crate::counted_reader::CountedReader;
-use crate::entry::answer_entry;
-use crate::gave::Gave;
-use crate::held_line::HeldLine;
+use crate::desk_line::answer_desk_line;
+use crate::read_outcome::ReadOutcome;
 use crate::run_fault::RunFault;
+use alm_lines::HeldLine;
 use alm_session::{Backend, CountedWriter, LocalDesk, WriteFailed};
 use std::io::{Read, Write};
 
-/// Hears a byte.
-fn hear_byte<B: Backend + Drop, W: Write + Drop>(
+/// How many bytes of a line count: one more than it may have without its LF.
+const HELD: usize = 131;
+
+/// Takes a byte, and answers the line that it ends.
+fn answer_byte<B: Backend + Drop, W: Write + Drop>(
     desk: &mut LocalDesk<B>,
-    held: &mut HeldLine,
+    held: &mut HeldLine<HELD>,
     byte: u8,
     writer: &mut CountedWriter<W>,
 ) -> Result<(), WriteFailed>
     requires { desk.old.closed ≡ false }
-    ensures heard { OnOk result (IsHeard desk.old.standing held.old (byte ∷ []) (W.contents writer.old.inner) desk.new.standing held.new (W.contents writer.new.inner)) }
+    ensures answered { OnOk result (IsPrinted desk.old.standing held.old (byte ∷ []) (W.contents writer.old.inner) desk.new.standing
+        held.new (W.contents writer.new.inner)) }
     ensures open { OnOk result (desk.new.closed ≡ false) }
+    ensures helds { desk.new.helds ≡ desk.old.helds }
     ensures whole { OnOk result (writer.new.failed ≡ writer.old.failed) }
-    ensures cut { OnErr result ((is_end byte ≡ true) × IsCutEntry desk.old.standing (entry_of held.old) (W.contents writer.old.inner) desk.new.standing (W.contents writer.new.inner)) }
+    ensures cut { OnErr result ((is_end byte ≡ true) × IsCutDeskLine desk.old.standing (desk_line_of held.old)
+        (W.contents writer.old.inner) desk.new.standing (W.contents writer.new.inner)) }
     ensures failed { OnErr result (writer.new.failed ≡ one_more writer.old.failed) }
 {
     if byte == b'\n' {
-        answer_entry(desk, held.bytes(), writer)?;
+        answer_desk_line(desk, held.bytes(), writer)?;
         held.clear();
         return Ok(());
     }
@@ -38,41 +44,47 @@ fn hear_byte<B: Backend + Drop, W: Write + Drop>(
     Ok(())
 }
 
-/// Hears bytes, and answers each line that they end.
-fn hear<B: Backend + Drop, W: Write + Drop>(
+/// Takes bytes, and answers each line that they end.
+fn answer_bytes<B: Backend + Drop, W: Write + Drop>(
     desk: &mut LocalDesk<B>,
-    held: &mut HeldLine,
+    held: &mut HeldLine<HELD>,
     bytes: &[u8],
     writer: &mut CountedWriter<W>,
 ) -> Result<(), WriteFailed>
     requires { desk.old.closed ≡ false }
-    ensures heard { OnOk result (IsHeard desk.old.standing held.old bytes.now (W.contents writer.old.inner) desk.new.standing held.new (W.contents writer.new.inner)) }
+    ensures answered { OnOk result (IsPrinted desk.old.standing held.old bytes.now (W.contents writer.old.inner) desk.new.standing
+        held.new (W.contents writer.new.inner)) }
     ensures open { OnOk result (desk.new.closed ≡ false) }
+    ensures helds { desk.new.helds ≡ desk.old.helds }
     ensures whole { OnOk result (writer.new.failed ≡ writer.old.failed) }
-    ensures broken { OnErr result (BreaksOff desk.old.standing (lines_of held.old bytes.now) (W.contents writer.old.inner) desk.new.standing (W.contents writer.new.inner)) }
+    ensures broken { OnErr result (BreaksOff desk.old.standing (lines_of held.old bytes.now) (W.contents writer.old.inner)
+        desk.new.standing (W.contents writer.new.inner)) }
     ensures failed { OnErr result (writer.new.failed ≡ one_more writer.old.failed) }
 {
     for byte in bytes {
-        hear_byte(desk, held, *byte, writer)?;
+        answer_byte(desk, held, *byte, writer)?;
     }
     Ok(())
 }
 
-/// Hears bytes and hands on what was written.
-fn hear_and_flush<B: Backend + Drop, W: Write + Drop>(
+/// Takes bytes, answers each line that they end, and hands on what was written.
+fn answer_and_flush<B: Backend + Drop, W: Write + Drop>(
     desk: &mut LocalDesk<B>,
-    held: &mut HeldLine,
+    held: &mut HeldLine<HELD>,
     bytes: &[u8],
     writer: &mut CountedWriter<W>,
 ) -> Result<(), WriteFailed>
     requires { desk.old.closed ≡ false }
-    ensures heard { OnOk result (IsHeard desk.old.standing held.old bytes.now (W.contents writer.old.inner) desk.new.standing held.new (W.contents writer.new.inner)) }
+    ensures answered { OnOk result (IsPrinted desk.old.standing held.old bytes.now (W.contents writer.old.inner) desk.new.standing
+        held.new (W.contents writer.new.inner)) }
     ensures open { OnOk result (desk.new.closed ≡ false) }
+    ensures helds { desk.new.helds ≡ desk.old.helds }
     ensures whole { OnOk result (writer.new.failed ≡ writer.old.failed) }
-    ensures broken { OnErr result (BreaksOff desk.old.standing (lines_of held.old bytes.now) (W.contents writer.old.inner) desk.new.standing (W.contents writer.new.inner)) }
+    ensures broken { OnErr result (BreaksOff desk.old.standing (lines_of held.old bytes.now) (W.contents writer.old.inner)
+        desk.new.standing (W.contents writer.new.inner)) }
     ensures failed { OnErr result (writer.new.failed ≡ one_more writer.old.failed) }
 {
-    hear(desk, held, bytes, writer)?;
+    answer_bytes(desk, held, bytes, writer)?;
     writer.flush()
 }
 
@@ -80,28 +92,33 @@ fn hear_and_flush<B: Backend + Drop, W: Write + Drop>(
 fn turn<R: Read + Drop, B: Backend + Drop, W: Write + Drop>(
     reader: &mut CountedReader<R>,
     desk: &mut LocalDesk<B>,
-    held: &mut HeldLine,
+    held: &mut HeldLine<HELD>,
     piece: &mut [u8],
     writer: &mut CountedWriter<W>,
 ) -> Result<bool, RunFault>
     requires open { desk.old.closed ≡ false }
     requires room { 0 < length piece.old }
-    ensures heard { IfOk result (λ more. IsTurn more desk.old.standing held.old (R.remaining reader.old.inner) (W.contents writer.old.inner) desk.new.standing held.new (R.remaining reader.new.inner) (W.contents writer.new.inner)) }
+    ensures answered { IfOk result (λ more. IsTurn more desk.old.standing held.old (R.remaining reader.old.inner)
+        (W.contents writer.old.inner) desk.new.standing held.new (R.remaining reader.new.inner) (W.contents writer.new.inner)) }
     ensures open { OnOk result (desk.new.closed ≡ false) }
+    ensures helds { desk.new.helds ≡ desk.old.helds }
     ensures reads { reader.new.reads ≡ one_more reader.old.reads }
     ensures whole_reader { OnOk result (reader.new.failed ≡ reader.old.failed) }
     ensures whole_writer { OnOk result (writer.new.failed ≡ writer.old.failed) }
     ensures read { result ≡ Err RunFault.Read → reader.new.failed ≡ one_more reader.old.failed }
-    ensures still { result ≡ Err RunFault.Read → (desk.new ≡ desk.old) × (writer.new ≡ writer.old) × Consumes (R.remaining reader.old.inner) (R.remaining reader.new.inner) [] }
-    ensures write { result ≡ Err RunFault.Write → writer.new.failed ≡ one_more writer.old.failed }
-    ensures broken { result ≡ Err RunFault.Write → IsBroken desk.old.standing held.old (R.remaining reader.old.inner) (W.contents writer.old.inner) desk.new.standing (R.remaining reader.new.inner) (W.contents writer.new.inner) }
+    ensures still { result ≡ Err RunFault.Read → (desk.new ≡ desk.old) × (writer.new ≡ writer.old) × Consumes
+        (R.remaining reader.old.inner) (R.remaining reader.new.inner) [] }
+    ensures write { result ≡ Err RunFault.Write → (writer.new.failed ≡ one_more writer.old.failed) × (reader.new.failed ≡
+        reader.old.failed) }
+    ensures broken { result ≡ Err RunFault.Write → IsBroken desk.old.standing held.old (R.remaining reader.old.inner)
+        (W.contents writer.old.inner) desk.new.standing (R.remaining reader.new.inner) (W.contents writer.new.inner) }
     ensures shut { result ≡ Err RunFault.Write → desk.new.closed ≡ true }
 {
     match reader.take(piece) {
-        Gave::End => Ok(false),
-        Gave::Again => Ok(true),
-        Gave::Failed => Err(RunFault::Read),
-        Gave::Got(count) => match hear_and_flush(desk, held, &piece[..count], writer) {
+        ReadOutcome::End => Ok(false),
+        ReadOutcome::Interrupted => Ok(true),
+        ReadOutcome::Failed => Err(RunFault::Read),
+        ReadOutcome::Bytes(count) => match answer_and_flush(desk, held, &piece[..count], writer) {
             Ok(()) => Ok(true),
             Err(_) => {
                 desk.close();
@@ -118,20 +135,31 @@ pub fn desk_run<R: Read + Drop, B: Backend + Drop, W: Write + Drop>(
     writer: &mut CountedWriter<W>,
     desk: &mut LocalDesk<B>,
 ) -> Result<(), RunFault>
-    ensures desk { OnOk result (IfSome (R.remaining reader.old.inner) (λ input. IsDesk desk.old.standing input (W.contents writer.old.inner) desk.new.standing (W.contents writer.new.inner))) }
+    ensures desk { OnOk result (IfSome (R.remaining reader.old.inner) (λ input. IsDesk desk.old.standing input
+        (W.contents writer.old.inner) desk.new.standing (W.contents writer.new.inner))) }
+    ensures end { OnOk result (IsAtEnd (R.remaining reader.new.inner)) }
     ensures open { OnOk result ((desk.old.closed ≡ false) × (desk.new.closed ≡ false)) }
-    ensures read { result ≡ Err RunFault.Read → (reader.new.failed ≡ one_more reader.old.failed) ⊎ (reader.new.reads ≡ min (reader.old.reads + 2 ^ 32) (2 ^ 64 - 1)) }
-    ensures heard { result ≡ Err RunFault.Read → IsHeardSoFar desk.old.standing (R.remaining reader.old.inner) (W.contents writer.old.inner) desk.new.standing (R.remaining reader.new.inner) (W.contents writer.new.inner) }
+    ensures whole { OnOk result ((reader.new.failed ≡ reader.old.failed) × (writer.new.failed ≡ writer.old.failed)) }
+    ensures helds { desk.new.helds ≡ desk.old.helds }
+    ensures read { result ≡ Err RunFault.Read → (reader.new.failed ≡ one_more reader.old.failed) ⊎ (reader.new.reads ≡ min
+        (reader.old.reads + 2 ^ 32) (2 ^ 64 - 1)) }
+    ensures answered { result ≡ Err RunFault.Read → IsPrintedSoFar desk.old.standing (R.remaining reader.old.inner)
+        (W.contents writer.old.inner) desk.new.standing (R.remaining reader.new.inner) (W.contents writer.new.inner) }
+    ensures read_open { result ≡ Err RunFault.Read → (desk.old.closed ≡ false) × (desk.new.closed ≡ false) }
+    ensures read_alone { result ≡ Err RunFault.Read → writer.new.failed ≡ writer.old.failed }
     ensures write { result ≡ Err RunFault.Write → (desk.old.closed ≡ true) ⊎ (writer.new.failed ≡ one_more writer.old.failed) }
-    ensures broken { result ≡ Err RunFault.Write → desk.old.closed ≡ false → IsBroken desk.old.standing [] (R.remaining reader.old.inner) (W.contents writer.old.inner) desk.new.standing (R.remaining reader.new.inner) (W.contents writer.new.inner) }
+    ensures write_alone { result ≡ Err RunFault.Write → reader.new.failed ≡ reader.old.failed }
+    ensures broken { result ≡ Err RunFault.Write → desk.old.closed ≡ false → IsBroken desk.old.standing [] (R.remaining reader.old.inner)
+        (W.contents writer.old.inner) desk.new.standing (R.remaining reader.new.inner) (W.contents writer.new.inner) }
     ensures shut { result ≡ Err RunFault.Write → desk.new.closed ≡ true }
-    ensures still { desk.old.closed ≡ true → (result ≡ Err RunFault.Write) × (desk.new ≡ desk.old) × (reader.new ≡ reader.old) × (writer.new ≡ writer.old) }
+    ensures still { desk.old.closed ≡ true → (result ≡ Err RunFault.Write) × (desk.new ≡ desk.old) × (reader.new ≡ reader.old) ×
+        (writer.new ≡ writer.old) }
 {
     if desk.is_closed() {
         return Err(RunFault::Write);
     }
     let mut piece = [0u8; 16384];
-    let mut held = HeldLine::new();
+    let mut held = HeldLine::<HELD>::new();
     for _ in 0..1u64 << 32 {
         match turn(reader, desk, &mut held, &mut piece, writer) {
             Ok(true) => {}

@@ -1,6 +1,7 @@
 -- What a desk stands on.
 use Rattle.std.specs.Prelude.{◌≡◌, ℕ, ◌+◌, Option, Some, None, Result}
 use Rattle.std.specs.Prelude.{Ok as Good, Err as Wrong}
+use Rattle.alm_types.specs.Counts.{one_more}
 use Rattle.alm_types.specs.declared.action.Action.{Action}
 use Rattle.alm_types.specs.declared.request.Request.{Request}
 use Rattle.alm_types.specs.declared.refusal.Refusal.{Refusal}
@@ -33,7 +34,13 @@ IsJudged None r (Good j) new = ⊥
 IsJudged (Some q) r (Good j) new = (j ≡ judged q r) × (new ≡ Some (if_accepted q (accept q.panel r)))
 IsJudged old r (Wrong e) new = new ≡ None
 
+-- a plant stops where a failure is counted, and nothing else is counted
+abbrev pub CountsStop : Option Condensed → Result Judged Stopped → ℕ → ℕ → Type 0
+CountsStop (Some q) (Wrong e) old new = new ≡ one_more old
+CountsStop (Some q) (Good j) old new = new ≡ old
+CountsStop None result old new = new ≡ old
+
 -- a plant answers a query; one that has stopped answers none
 abbrev pub IsAsked : Option Condensed → Query → Answer → Answer → Result ℕ Refusal → Type 0
-IsAsked None query before after result = (result ≡ Wrong refusal.Stopped) × (after.refused ≡ before.refused)
+IsAsked None query before after result = (result ≡ Wrong refusal.Stopped) × (after ≡ before)
 IsAsked (Some q) query before after result = IsLook q query before after result

@@ -4,8 +4,8 @@ use Rattle.std.specs.Io.KnownBytes.{Appends}
 use Rattle.alm_types.specs.Counts.{one_more}
 use Rattle.alm_lines.specs.Line.{line_of}
 use Rattle.alm_lines.specs.Stream.{is_end, held_after}
-use Rattle.alm_session.specs.Answers.{Standing, Said, Met, replies, after_all}
-use Rattle.alm_session.specs.Feeding.{said}
+use Rattle.alm_session.specs.Answers.{Standing, SlotLine, AnsweredLine, replies, after_all}
+use Rattle.alm_session.specs.Feeding.{asked}
 use Rattle.alm_session.specs.declared.desk_fault.DeskFault.{DeskFault}
 use Rattle.alm_session.specs.declared.desk_fault.DeskFault.TheVariants.{Write, Closed}
 
@@ -39,16 +39,18 @@ held_by helds [] = helds
 held_by helds (t ∷ ts) = held_by (after_byte helds t) ts
 
 -- the lines that bytes end, in the order in which their ends came
-abbrev pub lines_in : List (List ℕ) → List Tagged → List Said
+abbrev pub lines_in : List (List ℕ) → List Tagged → List SlotLine
 lines_in helds [] = []
-lines_in helds (t ∷ ts) = if is_end t.byte then record { slot = t.slot; line = line_of (held_at helds t.slot) } ∷ lines_in (after_byte helds t) ts else lines_in (after_byte helds t) ts
+lines_in helds (t ∷ ts) =
+    if is_end t.byte then record { slot = t.slot; line = line_of (held_at helds t.slot) } ∷ lines_in (after_byte helds t) ts else lines_in
+    (after_byte helds t) ts
 
 -- bytes are fed: the replies to the lines that they end are written, in the order in which their ends came
 pub record IsFed (before : Desk) (bytes : List Tagged) (old : Option (List ℕ)) (later : Desk) (new : Option (List ℕ)) : Type 0 where
-  pub met : List Met
-  pub lines : map said met ≡ lines_in before.helds bytes
-  pub written : Appends old new (replies before.standing met)
-  pub standing : later.standing ≡ after_all before.standing met
+  pub answered : List AnsweredLine
+  pub lines : map asked answered ≡ lines_in before.helds bytes
+  pub written : Appends old new (replies before.standing answered)
+  pub standing : later.standing ≡ after_all before.standing answered
   pub held : later.helds ≡ held_by before.helds bytes
   pub open_before : before.closed ≡ false
   pub open_later : later.closed ≡ false

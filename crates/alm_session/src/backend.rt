@@ -1,8 +1,8 @@
 //! What a desk stands on.
 
-ghost use Rattle.std.specs.Prelude.{◌≡◌, Option, is_none};
+ghost use Rattle.std.specs.Prelude.{◌≡◌, ℕ, Option, is_none};
 ghost use Rattle.alm_model.specs.Plant.{Condensed};
-ghost use Rattle.alm_session.specs.Backends.{IsJudged, IsAsked};
+ghost use Rattle.alm_session.specs.Backends.{IsJudged, CountsStop, IsAsked};
 
 use crate::judged::Judged;
 use crate::stopped::Stopped;
@@ -13,17 +13,28 @@ pub trait Backend {
     /// The plant; none from the moment on at which its storage has stopped.
     ghost stands: { Self → Option Condensed };
 
-    /// Judges a request, and does its action if it is accepted. Where the storage stops, nothing is said of the action.
-    fn submit(&mut self, request: &Request) -> Result<Judged, Stopped>
-        ensures { IsJudged (stands self.old) request.now result (stands self.new) };
+    /// How often its storage has failed: a device failed, or numbers that storage gives out were spent. Up to 2^64 - 1, where
+    /// the count stays.
+    ghost failures: { Self → ℕ };
 
-    /// Answers a query, under the count of actions. `Stopped` once its storage has stopped; `OutOfMemory` for lists alone,
-    /// where a growth was refused.
+    /// Judges a request, and does its action if it is accepted. It stops only where its storage failed in this call, which is
+    /// counted; nothing is said of the action then.
+    fn submit(&mut self, request: &Request) -> Result<Judged, Stopped>
+        ensures judged { IsJudged (stands self.old) request.now result (stands self.new) }
+        ensures count { CountsStop (stands self.old) result (failures self.old) (failures self.new) };
+
+    /// Answers a query, under the count of actions. `Stopped` once its storage has stopped, and the answer stays as it was;
+    /// `OutOfMemory` for lists alone, where a growth was refused.
     fn ask(&mut self, query: Query, answer: &mut Answer) -> Result<u64, Refusal>
         ensures asked { IsAsked (stands self.old) query answer.old answer.new result }
-        ensures kept { stands self.new ≡ stands self.old };
+        ensures kept { stands self.new ≡ stands self.old }
+        ensures count { failures self.new ≡ failures self.old };
 
     /// Whether its storage has stopped.
     fn is_stopped(&self) -> bool
         ensures { result ≡ is_none (stands self.now) };
+
+    /// How often its storage has failed.
+    fn failures(&self) -> u64
+        ensures { result ≡ failures self.now };
 }

@@ -5,9 +5,9 @@ ghost use Rattle.std.specs.Prelude.{◌≡◌, IfOk, IfErr, OnOk, [], replicate,
 use crate::answering::answer_line;
 use crate::backend::Backend;
 use crate::counted_writer::CountedWriter;
-use crate::course::Course;
 use crate::desk_fault::DeskFault;
-use crate::feeding::feed_slot;
+use crate::hindrance::Hindrance;
+use crate::slot_feeding::feed_slot;
 use alm_lines::{Decoder, line_of};
 use alm_types::{Answer, Slot};
 use std::alloc::{AllocError, Global};
@@ -25,11 +25,16 @@ pub struct LocalDesk<B: Backend + Drop> {
 
 impl<B: Backend + Drop> Model for LocalDesk<B> {
     ghost use Rattle.std.specs.Prelude.{◌≡◌, length};
+    ghost use Rattle.alm_session.specs.Answers.{standing_of};
     ghost use Rattle.alm_session.specs.Desks.{Desk};
 
     ghost Value = { Desk };
 
-    ghost view = { λ d. record { standing = record { plant = B.stands d.backend; refused = d.answer.refused }; helds = d.decoders.items; closed = d.closed } };
+    ghost view = { λ d. record {
+      standing = standing_of (B.stands d.backend) (B.failures d.backend) d.answer.refused;
+      helds = d.decoders.items;
+      closed = d.closed;
+    } };
 
     ghost invariant = { λ d. length d.decoders.items ≡ 18 };
 }
@@ -49,12 +54,16 @@ impl<B: Backend + Drop> LocalDesk<B> {
     ghost use Rattle.std.specs.Prelude.{◌≡◌, OnOk, IfErr, IfOk, Err, is_none, false, true, [], replicate};
     ghost use Rattle.std.specs.Io.KnownBytes.{Appends};
     ghost use Rattle.alm_lines.specs.Line.{line_of};
-    ghost use Rattle.alm_session.specs.Answers.{reply, after};
+    ghost use Rattle.alm_session.specs.Answers.{reply, after, answered_at, standing_of};
     ghost use Rattle.alm_session.specs.Desks.{IsFed, HasFailed, tag, lines_in};
     ghost use Rattle.alm_session.specs.Failing.{BreaksOff, IsCutLine};
 
     pub fn new(alloc: Global, backend: B) -> Result<Self, AllocError>
-        ensures { IfOk result (λ desk. desk ≡ record { standing = record { plant = B.stands backend; refused = 0 }; helds = replicate 18 []; closed = false }) }
+        ensures { IfOk result (λ desk. desk ≡ record {
+          standing = standing_of (B.stands backend) (B.failures backend) 0;
+          helds = replicate 18 [];
+          closed = false;
+        }) }
     {
         Ok(LocalDesk {
             backend,
@@ -69,6 +78,13 @@ impl<B: Backend + Drop> LocalDesk<B> {
         ensures { result ≡ is_none self.now.standing.plant }
     {
         self.backend.is_stopped()
+    }
+
+    /// How often the storage has failed, up to 2^64 - 1: it stops only where it fails.
+    pub fn failures(&self) -> u64
+        ensures { result ≡ self.now.standing.failures }
+    {
+        self.backend.failures()
     }
 
     /// Whether a writer has failed: nothing is answered from then on.
@@ -92,10 +108,12 @@ impl<B: Backend + Drop> LocalDesk<B> {
         piece: &[u8],
         writer: &mut CountedWriter<W>,
     ) -> Result<(), DeskFault>
-        ensures fed { OnOk result (IsFed self.old (tag slot piece.now) (W.contents writer.old.inner) self.new (W.contents writer.new.inner)) }
+        ensures fed { OnOk result (IsFed self.old (tag slot piece.now) (W.contents writer.old.inner) self.new
+            (W.contents writer.new.inner)) }
         ensures whole { OnOk result (writer.new.failed ≡ writer.old.failed) }
         ensures fault { IfErr result (λ e. HasFailed e self.old.closed self.new.closed writer.old.failed writer.new.failed) }
-        ensures broken { result ≡ Err DeskFault.Write → BreaksOff self.old.standing (lines_in self.old.helds (tag slot piece.now)) (W.contents writer.old.inner) self.new.standing (W.contents writer.new.inner) }
+        ensures broken { result ≡ Err DeskFault.Write → BreaksOff self.old.standing (lines_in self.old.helds (tag slot piece.now))
+            (W.contents writer.old.inner) self.new.standing (W.contents writer.new.inner) }
         ensures closed { result ≡ Err DeskFault.Closed → (self.new ≡ self.old) × (writer.new ≡ writer.old) }
     {
         if self.closed {
@@ -124,22 +142,34 @@ impl<B: Backend + Drop> LocalDesk<B> {
         slot: Slot,
         line: &[u8],
         writer: &mut CountedWriter<W>,
-    ) -> Result<Course, DeskFault>
-        ensures text { IfOk result (λ course. Appends (W.contents writer.old.inner) (W.contents writer.new.inner) (reply self.old.standing (record { said = record { slot = slot; line = line_of line.now }; course = course }))) }
-        ensures standing { IfOk result (λ course. self.new ≡ record self.old { standing = after self.old.standing (record { said = record { slot = slot; line = line_of line.now }; course = course }) }) }
+    ) -> Result<Hindrance, DeskFault>
+        ensures text { IfOk result (λ hindrance. Appends (W.contents writer.old.inner) (W.contents writer.new.inner) (reply
+            self.old.standing (answered_at slot (line_of line.now) hindrance))) }
+        ensures standing { IfOk result (λ hindrance. self.new ≡ record self.old {
+          standing = after self.old.standing (answered_at slot
+              (line_of line.now) hindrance);
+        }) }
         ensures open { OnOk result (self.old.closed ≡ false) }
         ensures whole { OnOk result (writer.new.failed ≡ writer.old.failed) }
         ensures fault { IfErr result (λ e. HasFailed e self.old.closed self.new.closed writer.old.failed writer.new.failed) }
-        ensures cut { result ≡ Err DeskFault.Write → IsCutLine self.old.standing (record { slot = slot; line = line_of line.now }) (W.contents writer.old.inner) self.new.standing (W.contents writer.new.inner) }
+        ensures helds { self.new.helds ≡ self.old.helds }
+        ensures cut { result ≡ Err DeskFault.Write → IsCutLine self.old.standing (record { slot = slot; line = line_of line.now })
+            (W.contents writer.old.inner) self.new.standing (W.contents writer.new.inner) }
         ensures closed { result ≡ Err DeskFault.Closed → (self.new ≡ self.old) × (writer.new ≡ writer.old) }
     {
         if self.closed {
             return Err(DeskFault::Closed);
         }
         let line = line_of(line);
-        let (course, told) = answer_line(&mut self.backend, &mut self.answer, slot, line, writer);
+        let (hindrance, told) = answer_line(
+            &mut self.backend,
+            &mut self.answer,
+            slot,
+            line,
+            writer,
+        );
         match told {
-            Ok(()) => Ok(course),
+            Ok(()) => Ok(hindrance),
             Err(_) => {
                 self.closed = true;
                 Err(DeskFault::Write)

@@ -12,6 +12,8 @@ impl Backend for PlainPlant {
 
     ghost stands = { λ p. Some p };
 
+    ghost failures = { λ _. 0 };
+
     fn submit(&mut self, request: &Request) -> Result<Judged, Stopped> {
         let count = self.count();
         match self.check(request) {
@@ -35,5 +37,9 @@ impl Backend for PlainPlant {
 
     fn is_stopped(&self) -> bool {
         false
+    }
+
+    fn failures(&self) -> u64 {
+        0
     }
 }

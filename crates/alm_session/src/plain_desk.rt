@@ -2,6 +2,7 @@
 
 ghost use Rattle.std.specs.Prelude.{◌≡◌, IfOk, Some, [], replicate, false};
 ghost use Rattle.alm_model.specs.New.{new_plant};
+ghost use Rattle.alm_session.specs.Answers.{standing_of};
 
 use crate::local_desk::LocalDesk;
 use alm_model::{Alarms, PlainPlant};
@@ -10,7 +11,11 @@ use std::alloc::{AllocError, Global};
 
 /// A desk over the new plant of a table.
 pub fn desk_of(alloc: Global, table: &Table) -> Result<LocalDesk<PlainPlant>, AllocError>
-    ensures { IfOk result (λ desk. desk ≡ record { standing = record { plant = Some (new_plant table.now); refused = 0 }; helds = replicate 18 []; closed = false }) }
+    ensures { IfOk result (λ desk. desk ≡ record {
+      standing = standing_of (Some (new_plant table.now)) 0 0;
+      helds = replicate 18 [];
+      closed = false;
+    }) }
 {
     let plant = PlainPlant::new(alloc, table)?;
     LocalDesk::new(alloc, plant)

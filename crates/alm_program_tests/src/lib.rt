@@ -1,0 +1,12 @@
+//! The program under test: its words, its faults and its statuses, in a process of the tests' own, and reads that are
+//! interrupted, that fail and that give a byte at a time.
+#![tactic(auto)]
+
+#[cfg(test)]
+mod process;
+#[cfg(test)]
+mod reading;
+#[cfg(test)]
+mod running;
+#[cfg(test)]
+mod script;

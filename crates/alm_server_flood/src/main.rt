@@ -1,0 +1,10 @@
+//! The alarm server's program over the example `flood`: its standard input is that input, and its standard output has to be
+//! those replies.
+#![tactic(auto)]
+
+use alm_service::run_in_process;
+use std::process::ExitCode;
+
+fn main(rt: HostRuntime) -> ExitCode {
+    run_in_process(rt)
+}

@@ -1,0 +1,17 @@
+-- Where the writer fails in an entry.
+use Rattle.std.proofs.Common.{ℕ, List, Option, refl, inl, inr}
+use Rattle.std.specs.Io.KnownBytes.{Appends}
+use Rattle.alm_lines.specs.Line.{line_of}
+use Rattle.alm_lines.specs.Written.{IsCutShort}
+use Rattle.alm_session.specs.Answers.{Standing}
+use Rattle.alm_session.specs.Failing.{IsCutLine}
+use Rattle.alm_service.specs.Desk.{IsCutDeskLine, head, request_of}
+
+-- before the reply
+pub cut_in_head : {o n : Option (List ℕ)} (s : Standing) (slot : ℕ) (line : List ℕ) → IsCutShort o n (head slot) → IsCutDeskLine s (request_of slot line) o s n
+cut_in_head s slot line p = inl (p, refl)
+
+-- in the reply
+pub cut_in_reply : {s later : Standing} {o m n : Option (List ℕ)} (slot : ℕ) (line : List ℕ) → Appends o m (head slot) → IsCutLine s (record { slot = slot; line = line_of line }) m later n
+    → IsCutDeskLine s (request_of slot line) o later n
+cut_in_reply {m = m} slot line w p = inr (record { between = m; slot = w; reply = p })
