@@ -1,5 +1,5 @@
 -- Bytes without damage are the image of a plant.
-use Rattle.std.proofs.Common.{◌≡◌, ℕ, zero, suc, ◌+◌, ◌-◌, ◌≤◌, ◌<◌, Bool, true, cond, ◌&&◌, List, [], ◌∷◌, length, map, take, drop, Option, Some, None, Result, Ok, Err, refl, sym, ap, subst, ◌∙◌, arith}
+use Rattle.std.proofs.Common.{◌≡◌, ℕ, zero, suc, ◌-◌, ◌≤◌, Bool, true, ◌&&◌, List, [], ◌∷◌, length, map, take, drop, Option, Some, None, Result, Ok, Err, refl, sym, ap, subst, ◌∙◌, arith}
 use Rattle.std.specs.Prelude.{option_map}
 use Rattle.std.specs.Int.{w64, cast_signed, cast_unsigned}
 use Rattle.std.proofs.lemmas.Bool.{and_parts}
@@ -12,11 +12,11 @@ use Rattle.alm_model.specs.Plant.{Condensed}
 use Rattle.alm_codec.specs.declared.fixed.Fixed.{Fixed}
 use Rattle.alm_codec.specs.Format.{KeepEach}
 use Rattle.alm_codec.specs.Image.{IsImage, IsOf}
-use Rattle.alm_codec.specs.ImageFields.{Alarm, Area, Image, alarm, area, fixed, fixed_in, text_in, padded_at, zeros, seen_then, image, areas_in, alarms_in, image_in, damage_in, left_at}
+use Rattle.alm_codec.specs.ImageFields.{Alarm, Area, Image, alarm, area, fixed_in, text_in, zeros, seen_then, image, areas_in, alarms_in, image_in, damage_in, left_at}
 use Rattle.alm_codec.specs.Reading.{IsBytes}
 use Rattle.alm_codec.proofs.Actions.{limited_takes}
 use Rattle.alm_codec.proofs.ImageLaws.{image_lawful, each_length}
-use Rattle.alm_codec.proofs.KeptAlarm.{Facts, facts}
+use Rattle.alm_codec.proofs.KeptAlarm.{facts}
 use Rattle.alm_codec.proofs.SameImage.{image_found, image_whole}
 
 -- a text that is kept passes its test

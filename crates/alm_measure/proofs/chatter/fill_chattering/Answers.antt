@@ -1,6 +1,5 @@
-use Rattle.std.proofs.Common.{◌≡◌, ◌∙◌, ◌+◌, ◌<◌, ◌++◌, ◌∷◌, [], ℕ, Bool, Some, sym, ap, refl, length, vec_len, vec_capacity, arith, rules, true}
-use Rattle.std.specs.Prelude.{is_ok, slice_get}
-use Rattle.std.proofs.lemmas.Grind.{common_steps}
+use Rattle.std.proofs.Common.{◌≡◌, ◌∙◌, ℕ, Bool, Some, sym, ap, refl, length, arith, rules}
+use Rattle.std.specs.Prelude.{slice_get}
 use Rattle.std.proofs.lemmas.Option.{slice_get_read}
 use Rattle.alm_model.specs.Lists.{is_frequent, moments_in}
 use Rattle.alm_model.proofs.Numbered.{filter-taken, filter-left}
