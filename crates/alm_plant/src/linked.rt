@@ -12,7 +12,7 @@ ghost use Rattle.alm_lists.specs.Orders.{IsSortedFilter};
 ghost use Rattle.alm_model.specs.New.{new_plant};
 ghost use Rattle.alm_model.specs.Rules.{KeepsRules, IsTimely};
 ghost use Rattle.alm_plant.specs.Filing.{AreAhead, stamp_in};
-ghost use Rattle.alm_plant.specs.Linking.{IsMovedAt, AreSuited, AreSettled, is_called};
+ghost use Rattle.alm_plant.specs.Linking.{IsMovedAt, AreSuited, AreSettled, is_annunciation};
 
 use crate::nodes::Nodes;
 use alm_links::ListNodes;
@@ -206,6 +206,7 @@ impl Linked {
         }
     }
 
+    /// How many areas there are.
     pub fn areas(&self) -> usize
         ensures { result ≡ length self.now.floods }
     {
@@ -283,7 +284,7 @@ impl Linked {
         requires moved { IsMovedAt self.old.panel.next_stamp (slice_get self.old.panel.rows index) outcome }
         ensures rows { length self.new.panel.rows ≡ length self.old.panel.rows }
         ensures plant { self.new ≡ put condensed self.old index outcome }
-        ensures called { result ≡ is_called outcome }
+        ensures called { result ≡ is_annunciation outcome }
     {
         match outcome {
             Outcome::Changed(row) => {

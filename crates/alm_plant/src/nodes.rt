@@ -36,15 +36,15 @@ impl Model for Nodes {
 
     ghost Value = { Files };
 
-    ghost use Rattle.alm_plant.specs.Nodes.{files_of, IsSound};
+    ghost use Rattle.alm_plant.specs.Nodes.{files_of, AreFiledIn};
 
     ghost view = { files_of };
 
-    ghost invariant = { IsSound };
+    ghost invariant = { AreFiledIn };
 }
 
 /// Whether an alarm keeps its places in the lists of its priority and area, or has none before and after.
-fn stays_called(before: &Row, row: &Row) -> bool
+fn keeps_lists(before: &Row, row: &Row) -> bool
     ensures { IsTrue result ↔ ((is_annunciated before.now.core ≡ is_annunciated row.now.core) × (is_annunciated row.now.core ≡ true → before.now.stamp ≡ row.now.stamp)) }
 {
     let is = row.core.is_annunciated();
@@ -52,7 +52,7 @@ fn stays_called(before: &Row, row: &Row) -> bool
 }
 
 /// Whether it keeps its place in the wheel, or has none before and after.
-fn stays_shelved(before: &Row, row: &Row) -> bool
+fn keeps_slot(before: &Row, row: &Row) -> bool
     ensures { IsTrue result ↔ ((is_some before.now.shelved_until ≡ is_some row.now.shelved_until) × (is_some row.now.shelved_until ≡ true → before.now.stamp ≡ row.now.stamp)) }
 {
     let is = row.shelved_until.is_some();
@@ -257,10 +257,10 @@ impl Nodes {
         let before = self.rows[index as usize];
         let attr = &self.attrs[index as usize];
         self.rows[index as usize] = row;
-        let called = stays_called(&before, &row);
-        let shelved = stays_shelved(&before, &row);
-        rechain(&mut self.chains, called, index, attr, &row);
-        reschedule(&mut self.wheel, shelved, index, &row);
+        let lists_stay = keeps_lists(&before, &row);
+        let slot_stays = keeps_slot(&before, &row);
+        rechain(&mut self.chains, lists_stay, index, attr, &row);
+        reschedule(&mut self.wheel, slot_stays, index, &row);
     }
 
     /// The shelvings that end up to a moment, where none ends by another before it: by deadline, then number.

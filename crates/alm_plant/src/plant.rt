@@ -21,7 +21,7 @@ pub struct Plant {
 }
 
 impl Model for Plant {
-    ghost use Rattle.std.specs.Prelude.{length, ◌≤◌, vec_capacity};
+    ghost use Rattle.std.specs.Prelude.{length, ◌≡◌, vec_capacity};
     ghost use Rattle.alm_model.specs.Plant.{Condensed};
 
     ghost Value = { Condensed };
@@ -30,7 +30,7 @@ impl Model for Plant {
 
     ghost use Rattle.alm_model.specs.Rules.{KeepsRules};
 
-    ghost invariant = { λ p. KeepsRules p.linked × (length p.linked.panel.rows ≤ vec_capacity p.working) };
+    ghost invariant = { λ p. KeepsRules p.linked × (vec_capacity p.working ≡ length p.linked.panel.rows) };
 }
 
 impl Plant {
