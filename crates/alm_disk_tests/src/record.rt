@@ -79,3 +79,10 @@ fn a_large_device_is_made_where_there_is_memory(rt: HostRuntime) -> Result<(), F
     assert_eq!(rt; large(rt.alloc())?.bytes().len(), LARGE);
     Ok(())
 }
+
+#[test]
+fn a_fault_says_what_it_is(rt: HostRuntime) -> Result<(), Fail> {
+    let text = format!(in rt.alloc(); "{}", DiskFault)?;
+    assert_eq!(rt; text.as_str(), "a call of the device failed");
+    Ok(())
+}

@@ -148,3 +148,10 @@ fn a_report_counts_what_went_through(rt: HostRuntime) -> Result<(), Fail> {
     assert_eq!(rt; close_slot(console, inbox, outbox), Some(want));
     Ok(())
 }
+
+#[test]
+fn busy_says_what_it_is(rt: HostRuntime) -> Result<(), Fail> {
+    let text = format!(in rt.alloc(); "{}", Busy(ack(1)))?;
+    assert_eq!(rt; text.as_str(), "the action was not sent");
+    Ok(())
+}
