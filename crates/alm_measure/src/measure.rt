@@ -1,6 +1,8 @@
 //! What is measured of a plant.
 
-ghost use Rattle.std.specs.Prelude.{◌≡◌, ◌+◌, ◌^◌, ◌<◌, ◌≤◌, IfOk, Some, length, map, slice_get, sum, sum_by, vec_capacity};
+ghost use Rattle.std.specs.Prelude.{◌≡◌, ◌+◌, ◌^◌, ◌<◌, ◌≤◌, All, IfOk, Some, length, map, slice_get, slice_index, sum, sum_by, vec_capacity};
+ghost use Rattle.alm_model.specs.Keeping.{change};
+ghost use Rattle.alm_model.specs.Step.{is_flood};
 ghost use Rattle.alm_model.specs.Lists.{moments_in};
 ghost use Rattle.alm_model.specs.Parts.{age_in};
 ghost use Rattle.alm_measure.specs.Metrics.{advanced, annunciated, chattering, new_metrics, settled_by_windows, window_around, windows};
@@ -8,7 +10,7 @@ ghost use Rattle.alm_measure.specs.Metrics.{advanced, annunciated, chattering, n
 use crate::chatter::fill_chattering;
 use crate::ring::Ring;
 use crate::rings::{copy_rings, new_rings, pass_all, rings_of, settle_all};
-use alm_model::{Ages, Recent, copy_moments, no_moments};
+use alm_model::{Ages, Recent, copy_moments, is_flood, no_moments};
 use alm_types::{AlarmId, Attr, Moment, Table};
 use std::alloc::{AllocError, Global};
 use std::marker::Model;
@@ -86,6 +88,31 @@ impl Measure {
         })
     }
 
+    /// The same of alarms that stand in no table.
+    pub fn of_alarms(
+        alloc: Global,
+        alarms: &[Attr],
+        now: Moment,
+        ages: &[Ages],
+        floods: Vec<bool>,
+        moments: Vec<Recent>,
+    ) -> Result<Self, AllocError>
+        requires few { length alarms.now ≤ 16384 }
+        requires areas { All (λ a. a.area < length ages.now) alarms.now }
+        requires floods { length floods.items ≡ length ages.now }
+        requires moments { length moments.items ≡ length alarms.now }
+        requires limit { sum_by sum ages.now < 2 ^ 64 }
+        ensures { IfOk result (λ m. m ≡ record { now = now; areas = map (λ a. a.area) alarms.now; ages = ages.now; floods = floods.items; moments = moments.items }) }
+    {
+        Ok(Measure {
+            clock: now,
+            areas: areas_of(alloc, alarms)?,
+            rings: rings_of(alloc, ages)?,
+            floods,
+            moments,
+        })
+    }
+
     /// The same measure; an error only for want of memory.
     pub fn copy(&self, alloc: Global) -> Result<Self, AllocError>
         ensures { IfOk result (λ m. m ≡ self.now) }
@@ -130,6 +157,15 @@ impl Measure {
         settle_all(&mut self.floods, &self.rings);
     }
 
+    /// The same in one area.
+    pub fn settle_area(&mut self, area: u32)
+        requires { area < length self.old.ages }
+        ensures { self.new ≡ record self.old { floods = change self.old.floods area (is_flood (slice_index (windows self.old) area)) } }
+    {
+        let area = area as usize;
+        self.floods[area] = is_flood(self.rings[area].window(), self.floods[area]);
+    }
+
     /// The clock.
     pub fn now(&self) -> Moment
         ensures { result ≡ self.now.now }
@@ -170,6 +206,13 @@ impl Measure {
             Some(recent) => recent.moments(),
             None => &[],
         }
+    }
+
+    /// The last three moments of each alarm, by number.
+    pub fn recents(&self) -> &[Recent]
+        ensures { result.now ≡ self.now.moments }
+    {
+        &self.moments
     }
 
     /// How many annunciations of an area came within the last 600 seconds.

@@ -38,6 +38,7 @@ pub use ages::Ages;
 pub use alarms::Alarms;
 pub use floods::is_flood;
 pub use list::List;
+pub use lists::fill_by_number;
 pub use plain_plant::PlainPlant;
 pub use plant_parts::PlantParts;
 pub use queries::look;

@@ -2,6 +2,7 @@
 
 use crate::step::Step;
 use alm_model::{Alarms, List, PlainPlant};
+use alm_plant::Plant;
 use alm_service::worked_table;
 use alm_types::{Action, AlarmId, Answer, Refusal, Request, Shown, Slot};
 use std::process::Abort;
@@ -103,5 +104,6 @@ fn check_on<P: Alarms + Drop, R: Abort + AllocGlobal>(
 
 /// Checks a row on each plant there is.
 pub fn check<R: Abort + AllocGlobal>(rt: &R, row: &[Step<'_>]) -> Result<(), Fail> {
-    check_on::<PlainPlant, R>(rt, row)
+    check_on::<PlainPlant, R>(rt, row)?;
+    check_on::<Plant, R>(rt, row)
 }

@@ -1,6 +1,7 @@
 //! Reads, and a desk over them.
 
 use crate::script::{Script, Step};
+use alm_plant::Plant;
 use alm_service::{CountedReader, ReadOutcome, RunFault, desk_run, worked_table};
 use alm_session::{CountedWriter, desk_of};
 use std::test::Fail;
@@ -37,7 +38,7 @@ fn each_take_is_one_read(rt: HostRuntime) -> Result<(), Fail> {
 #[test]
 fn a_desk_goes_on_after_a_read_that_failed(rt: HostRuntime) -> Result<(), Fail> {
     let alloc = rt.alloc();
-    let mut desk = desk_of(alloc, &worked_table(alloc)?)?;
+    let mut desk = desk_of::<Plant>(alloc, &worked_table(alloc)?)?;
     let steps = [
         Step::Gives(b"16 1 VAL 0 800\n0 2"),
         Step::Fails,

@@ -1,13 +1,13 @@
 //! A desk over the worked table, and what it prints.
 
-use alm_model::PlainPlant;
+use alm_plant::Plant;
 use alm_service::{CountedReader, RunFault, desk_run, worked_table};
 use alm_session::{CountedWriter, LocalDesk, desk_of};
 use std::alloc::{AllocError, Global};
 use std::io::Read;
 
 /// A desk over the new plant of the worked table.
-pub fn new_desk(alloc: Global) -> Result<LocalDesk<PlainPlant>, AllocError> {
+pub fn new_desk(alloc: Global) -> Result<LocalDesk<Plant>, AllocError> {
     let table = worked_table(alloc)?;
     desk_of(alloc, &table)
 }
@@ -15,7 +15,7 @@ pub fn new_desk(alloc: Global) -> Result<LocalDesk<PlainPlant>, AllocError> {
 /// What a desk prints for what a reader gives.
 pub fn printed<R: Read + Drop>(
     alloc: Global,
-    desk: &mut LocalDesk<PlainPlant>,
+    desk: &mut LocalDesk<Plant>,
     reader: R,
 ) -> Result<Vec<u8>, RunFault> {
     let mut reader = CountedReader::new(reader);

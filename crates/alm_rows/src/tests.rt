@@ -3,6 +3,7 @@
 use crate::desk::{new_desk, printed};
 use crate::slow_writer::SlowWriter;
 use alm_service::{CountedReader, RunFault, desk_run};
+use alm_plant::Plant;
 use alm_session::{CountedWriter, DeskFault, desk_of};
 use alm_types::{Attr, Kind, Settings, Slot, Table};
 use std::io::Read;
@@ -146,7 +147,7 @@ const ALARM: Settings = Settings {
 fn a_list_of_16384_alarms(rt: HostRuntime) -> Result<(), Fail> {
     let alloc = rt.alloc();
     let alarms = vec![in alloc; Attr::new(ALARM, b"T", b"")?; 16_384]?;
-    let mut desk = desk_of(alloc, &Table::new(alarms, 1)?)?;
+    let mut desk = desk_of::<Plant>(alloc, &Table::new(alarms, 1)?)?;
     let mut input = String::new(alloc);
     let mut wanted = String::new(alloc);
     for alarm in 0..16_384_u32 {

@@ -9,6 +9,7 @@ use crate::fault::Fault;
 use crate::running::desk_run;
 use crate::worked::worked_table;
 use alm_lines::{Part, put_parts};
+use alm_plant::Plant;
 use alm_session::{CountedWriter, desk_of};
 use std::env::{self, Env};
 use std::io::{self, BufWriter, ErrorKind};
@@ -18,7 +19,7 @@ use std::process::ExitCode;
 fn run_desk<R: Input + Print + AllocGlobal>(rt: &R) -> Result<(), Fault> {
     let alloc = rt.alloc();
     let table = worked_table(alloc)?;
-    let mut desk = desk_of(alloc, &table)?;
+    let mut desk = desk_of::<Plant>(alloc, &table)?;
     let mut reader = CountedReader::new(rt.reader());
     let writer = BufWriter::with_capacity(alloc, 65536, io::writer(rt)).map_err(
         |_| Fault::OutOfMemory,

@@ -3,14 +3,14 @@
 use crate::backend::Backend;
 use crate::judged::Judged;
 use crate::stopped::Stopped;
-use alm_model::{Alarms, PlainPlant, look};
+use alm_model::{Alarms, look};
 use alm_types::{Answer, Query, Refusal, Request, Verdict};
 
-/// A plant in memory, which never stops.
-impl Backend for PlainPlant {
+/// A plant in memory, however it keeps its alarms. It never stops.
+impl<P: Alarms> Backend for P {
     ghost use Rattle.std.specs.Prelude.{Some};
 
-    ghost stands = { λ p. Some p };
+    ghost stands = { λ p. Some (P.plant p) };
 
     ghost failures = { λ _. 0 };
 

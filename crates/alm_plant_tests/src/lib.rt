@@ -1,0 +1,25 @@
+//! Tests of the linked plant beside the plain one.
+//!
+//! | module | what it runs |
+//! |---|---|
+//! | `drawn` | 10,000 drawn actions through both plants: all lists, windows, ages, moments and rows are compared after each hundred |
+//! | `built` | plants of an image's parts: lists go by stamps, also where these run against the numbers |
+//! | `largest` | 16,384 alarms in 64 areas: made, built and copied |
+//! | `refused` | want of memory: a plant is made whole or not at all |
+//!
+//! They stand in a crate of their own, since a crate with tests is proved twice. The worked rows run over both plants in
+//! `alm_plant_rows`.
+#![tactic(auto)]
+
+#[cfg(test)]
+mod built;
+#[cfg(test)]
+mod drawn;
+#[cfg(test)]
+mod largest;
+#[cfg(test)]
+mod refused;
+#[cfg(test)]
+mod same;
+#[cfg(test)]
+mod tables;

@@ -1,0 +1,39 @@
+//! Want of memory: run with each allocation refused in turn (`rt try --test --fail-alloc N`), this passes. One is refused at
+//! most, so what was refused is made the second time: a maker that always gives up doesn't pass.
+
+use crate::tables::table;
+use alm_model::{Alarms, PlantParts};
+use alm_plant::Plant;
+use alm_types::Table;
+use std::alloc::{AllocError, Global};
+use std::test::Fail;
+
+/// A plant of a table, by its parts.
+fn built(alloc: Global, table: &Table) -> Result<Plant, AllocError> {
+    Plant::build(alloc, PlantParts::new(alloc, table)?)
+}
+
+#[test]
+fn a_plant_is_made_whole_or_not_at_all(rt: HostRuntime) -> Result<(), Fail> {
+    let alloc = rt.alloc();
+    let rows = match table(alloc, 6, 2) {
+        Ok(rows) => rows,
+        Err(_) => table(alloc, 6, 2)?,
+    };
+    let made = match Plant::new(alloc, &rows) {
+        Ok(plant) => plant,
+        Err(_) => Plant::new(alloc, &rows)?,
+    };
+    let parts = match built(alloc, &rows) {
+        Ok(plant) => plant,
+        Err(_) => built(alloc, &rows)?,
+    };
+    let copy = match parts.copy(alloc) {
+        Ok(plant) => plant,
+        Err(_) => parts.copy(alloc)?,
+    };
+    assert_eq!(rt; made.alarms(), 6);
+    assert_eq!(rt; copy.alarms(), 6);
+    assert_eq!(rt; copy.next_stamp(), 1);
+    Ok(())
+}

@@ -1,0 +1,35 @@
+//! Tables of alarms of all kinds, priorities and areas.
+
+ghost use Rattle.std.specs.Prelude.{◌<◌};
+
+use alm_types::{Attr, Kind, Settings, Table};
+use std::alloc::Global;
+use std::test::Fail;
+
+fn kind_of(number: u32) -> Kind {
+    match number % 3 {
+        0 => Kind::High,
+        1 => Kind::Low,
+        _ => Kind::Discrete,
+    }
+}
+
+/// So many alarms, spread over the areas, the priorities and the kinds; each fourth one latches. Each has its setpoint at 0.
+pub fn table(alloc: Global, rows: u32, areas: u8) -> Result<Table, Fail>
+    requires { 0 < areas }
+{
+    let mut alarms = Vec::with_capacity(alloc, rows as usize)?;
+    for number in 0..rows {
+        let settings = Settings {
+            kind: kind_of(number),
+            setpoint: 0,
+            deadband: 0,
+            priority: 1 + (number / 3 % 4) as u8,
+            area: (number % areas as u32) as u8,
+            latching: number % 4 == 1,
+            max_shelve: 3600,
+        };
+        alarms.push(Attr::new(settings, b"T", b"")?)?;
+    }
+    Ok(Table::new(alarms, areas)?)
+}
