@@ -11,7 +11,7 @@ use Rattle.std.proofs.lemmas.List.{take_min}
 use Rattle.alm_checkpoint.specs.declared.restore_fault.RestoreFault.{RestoreFault}
 use Rattle.alm_checkpoint.specs.declared.restore_fault.RestoreFault.TheVariants as restore
 use Rattle.alm_checkpoint.specs.Layouts.{part, header_len, head_len, half_at, image_at, segment_at, image_size}
-use Rattle.alm_checkpoint.specs.Opening.{Opened, opened_half, ◌>>=◌, choice, or_fault, gate_in, epoch_in, layout_from, layout_in, chosen_in, half_head_from, head_of, opened_in}
+use Rattle.alm_checkpoint.specs.Opening.{Opened, opened_with, opened_half, ◌>>=◌, choice, or_fault, gate_in, epoch_in, layout_from, layout_in, chosen_in, half_head_from, head_of, opened_in}
 use Rattle.alm_checkpoint.specs.Standing.{Stands, HasFault}
 use Rattle.alm_checkpoint.specs.Restoring.{Holds, IsUnrestored, IsRefused, StandsIn}
 
@@ -69,14 +69,11 @@ chosen_by device l a b x y e f r p q xa yb ea fb h =
 pub told_by : (device text : List ℕ) (l : Layout) (h : Half) (result : Result HalfHead Fault) → result ≡ half_head_from l h text → text ≡ head_of l h device → half_head_from l h (head_of l h device) ≡ result
 told_by device text l h result e f = sym (e ∙ ap (half_head_from l h) f)
 
-abbrev opened_of : Layout → Half → HalfHead → List ℕ → List ℕ → Opened
-opened_of l h t image segment = record { layout = l; half = h; head = t; image = image; segment = segment }
-
 -- what was read of the half
 pub held_by : (device image segment : List ℕ) (l : Layout) (h : Half) (t : HalfHead) (i s n m : ℕ) → image ≡ part i n device → i ≡ image_at l h → n ≡ image_size l → segment ≡ part s m device → s ≡ segment_at l h → m ≡ l.segment
-    → opened_of l h t image segment ≡ opened_half l h t device
+    → opened_with l h t image segment ≡ opened_half l h t device
 held_by device image segment l h t i s n m e ie ne f se me =
-    (λ j. opened_of l h t (e j) (f j)) ∙ (λ j. opened_of l h t (part (ie j) (ne j) device) (part (se j) (me j) device))
+    (λ j. opened_with l h t (e j) (f j)) ∙ (λ j. opened_with l h t (part (ie j) (ne j) device) (part (se j) (me j) device))
 
 pub stands_in_by : (device : List ℕ) (l : Layout) (h : Half) (t : HalfHead) (o : Opened) (plant : Condensed) (gate : ℕ) → layout_in device ≡ Ok l → chosen_in l device ≡ Ok h → half_head_from l h (head_of l h device) ≡ Ok t → o ≡ opened_half l h t device → Holds o plant gate
     → StandsIn device l h t.epoch plant gate

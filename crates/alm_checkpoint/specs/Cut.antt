@@ -34,7 +34,8 @@ pub record Cut : Type 0 where
 
 -- a half from its gate on, up to a place in its segment
 abbrev pub half_text : Layout → (epoch : ℕ) → Condensed → List (List Action) → List ℕ
-half_text l epoch base frames = 165 ∷ half_head_text l epoch base.panel.count ++ image_text base ++ frames_text epoch base.panel.count frames
+half_text l epoch base frames =
+    165 ∷ half_head_text l epoch base.panel.count ++ image_text base ++ frames_text epoch base.panel.count frames
 
 -- what stands before the half that stands, and behind it
 abbrev pub before : Half → List ℕ → List ℕ

@@ -27,7 +27,8 @@ header_text l = device_name ++ (to_be_bytes w32 l.rows ++ (to_be_bytes w16 l.are
 -- the header of a device of so many bytes
 abbrev pub header : (size : ℕ) → Format Layout
 header size =
-    coded (both name (λ _. both (tested (number w32 (2 ^ 32)) is_rows) (λ rows. both (tested (number w16 (2 ^ 16)) is_areas) (λ areas. tested (number w64 (2 ^ 64)) (suits size rows areas)))))
+    coded (both name (λ _. both (tested (number w32 (2 ^ 32)) is_rows) (λ rows.
+    both (tested (number w16 (2 ^ 16)) is_areas) (λ areas. tested (number w64 (2 ^ 64)) (suits size rows areas)))))
     (λ p. Some (of_rows p.1.0 p.1.1.0 p.1.1.1))
     (λ l. (device_name, (l.rows, (l.areas, l.segment))))
 
@@ -38,6 +39,7 @@ half_head_text l epoch count = to_be_bytes w64 epoch ++ (to_be_bytes w64 count +
 -- the head of a half whose image has so many bytes
 abbrev pub half_head : (image : ℕ) → Format HalfHead
 half_head image =
-    coded (both (number w64 (2 ^ 64)) (λ epoch. both (tested (number w64 (2 ^ 64)) (λ count. nat_le count (2 ^ 48))) (λ count. tested (number w64 (2 ^ 64)) (λ n. n == image))))
+    coded (both (number w64 (2 ^ 64)) (λ epoch.
+    both (tested (number w64 (2 ^ 64)) (λ count. nat_le count (2 ^ 48))) (λ count. tested (number w64 (2 ^ 64)) (λ n. n == image))))
     (λ p. Some (record { epoch = p.0; count = p.1.0 }))
     (λ h. (h.epoch, (h.count, image)))

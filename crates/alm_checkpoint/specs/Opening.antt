@@ -63,7 +63,7 @@ epoch_in bytes = from_be_bytes w64 (part 1 8 bytes)
 abbrev pub chosen_from : Layout → (first second : List ℕ) → Result Half Fault
 chosen_from l first second = or_fault l (choice (gate_in first) (gate_in second) (epoch_in first) (epoch_in second))
 
--- what the head of a half tells, by its bytes
+-- what the head of a half says, by its bytes
 unfoldable pub half_head_from : Layout → Half → List ℕ → Result HalfHead Fault
 half_head_from l h bytes = do
   x ← read_to (number_of h) (image_at l h) ((half_head (image_size l)).read (drop 1 bytes))
@@ -80,7 +80,7 @@ layout_in device = layout_from (length device) (part 0 header_len device)
 abbrev pub chosen_in : Layout → List ℕ → Result Half Fault
 chosen_in l device = chosen_from l (head_of l First device) (head_of l Second device)
 
--- the layout, the half that stands, what its head tells, and its image and segment
+-- the layout, the half that stands, what its head says, and its image and segment
 pub record Opened : Type 0 where
   pub layout : Layout
   pub half : Half
@@ -88,8 +88,11 @@ pub record Opened : Type 0 where
   pub image : List ℕ
   pub segment : List ℕ
 
+abbrev pub opened_with : Layout → Half → HalfHead → (image segment : List ℕ) → Opened
+opened_with l h t image segment = record { layout = l; half = h; head = t; image = image; segment = segment }
+
 abbrev pub opened_half : Layout → Half → HalfHead → List ℕ → Opened
-opened_half l h t device = record { layout = l; half = h; head = t; image = part (image_at l h) (image_size l) device; segment = part (segment_at l h) l.segment device }
+opened_half l h t device = opened_with l h t (part (image_at l h) (image_size l) device) (part (segment_at l h) l.segment device)
 
 unfoldable pub opened_in : List ℕ → Result Opened Fault
 opened_in device = do

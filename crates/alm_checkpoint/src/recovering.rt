@@ -16,10 +16,12 @@ use std::alloc::Global;
 #[derive(Drop)]
 pub struct Recovered<P: Drop> {
     pub layout: Layout,
+    /// The half that stands, and its epoch.
     pub half: Half,
     pub epoch: u64,
-    /// Where the first closed gate stands.
+    /// Where on the device the first closed gate of its segment is: the next frame goes behind it.
     pub gate: u64,
+    /// The plant, with the count of actions that made it.
     pub plant: P,
 }
 
@@ -34,7 +36,8 @@ fn part(bytes: &[u8], at: u64, n: usize) -> &[u8]
     text
 }
 
-/// What all the bytes of a device stand for, or the first fault.
+/// What the bytes of a whole device stand for, or their first fault: of the header, of the choice between the halves, of the
+/// head, the image and the frames of the half that stands, in this order.
 pub fn recover<P: Alarms + Drop>(alloc: Global, device: &[u8]) -> Result<Recovered<P>, RestoreFault>
     ensures stands { IfOk result (λ r. StandsIn device.now r.layout r.half r.epoch (P.plant r.plant) r.gate) }
     ensures fault { IfErr result (λ fault. IsRefused device.now fault) }

@@ -3,6 +3,7 @@
 ghost use Rattle.std.specs.Prelude.{◌≡◌, ◌≤◌, ◌^◌, length, IfOk, IfErr};
 ghost use Rattle.alm_checkpoint.specs.Layouts.{image_size};
 ghost use Rattle.alm_checkpoint.specs.Cut.{IsLayout};
+ghost use Rattle.alm_checkpoint.specs.Opening.{opened_with};
 ghost use Rattle.alm_checkpoint.specs.Restoring.{Holds, IsUnrestored};
 
 use crate::fault::Fault;
@@ -16,7 +17,10 @@ use alm_segment::replay;
 use std::alloc::Global;
 
 impl Layout {
-    /// The plant that a half holds, by its image and its segment, and where its first closed gate stands.
+    /// The plant that a half holds, by its head, its image and its segment, and where its first closed gate is on the device.
+    ///
+    /// Damage is at the first damaged field of the image, else at the first of the frames, an action that isn't admitted where
+    /// it stands among them. Want of memory says nothing of the bytes.
     pub fn restore<P: Alarms + Drop>(
         &self,
         alloc: Global,
@@ -29,8 +33,8 @@ impl Layout {
         requires count { head.now.count ≤ 2 ^ 48 }
         requires image { length image.now ≡ image_size self.now }
         requires segment { length segment.now ≡ self.now.segment }
-        ensures holds { IfOk result (λ x. Holds (record { layout = self.now; half = half; head = head.now; image = image.now; segment = segment.now }) (P.plant x.0) x.1) }
-        ensures damage { IfErr result (λ fault. IsUnrestored (record { layout = self.now; half = half; head = head.now; image = image.now; segment = segment.now }) fault) }
+        ensures holds { IfOk result (λ x. Holds (opened_with self.now half head.now image.now segment.now) (P.plant x.0) x.1) }
+        ensures damage { IfErr result (λ fault. IsUnrestored (opened_with self.now half head.now image.now segment.now) fault) }
     {
         let parts = match read_image(alloc, image, self.rows, self.areas, head.count) {
             Ok(parts) => parts,
