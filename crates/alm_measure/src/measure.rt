@@ -79,13 +79,7 @@ impl Measure {
         requires limit { sum_by sum ages.now < 2 ^ 64 }
         ensures { IfOk result (λ m. m ≡ record { now = now; areas = map (λ a. a.area) table.now.alarms; ages = ages.now; floods = floods.items; moments = moments.items }) }
     {
-        Ok(Measure {
-            clock: now,
-            areas: areas_of(alloc, table.alarms())?,
-            rings: rings_of(alloc, ages)?,
-            floods,
-            moments,
-        })
+        Measure::of_alarms(alloc, table.alarms(), now, ages, floods, moments)
     }
 
     /// The same of alarms that stand in no table.
