@@ -10,6 +10,7 @@ pub mod Ordering
 pub mod Parts
 pub mod Plain
 pub mod Plant
+pub mod Remaining
 pub mod Rising
 pub mod Rules
 pub mod Sound

@@ -20,6 +20,7 @@
 
 mod ages;
 mod alarms;
+mod alarms_by_number;
 mod floods;
 pub mod laws;
 mod list;
@@ -36,6 +37,7 @@ mod wanted;
 
 pub use ages::Ages;
 pub use alarms::Alarms;
+pub use alarms_by_number::AlarmsByNumber;
 pub use floods::is_flood;
 pub use list::List;
 pub use lists::fill_by_number;

@@ -6,7 +6,8 @@ ghost use Rattle.alm_model.specs.Keeping.{condensed};
 ghost use Rattle.alm_model.specs.Step.{put, touch, settle, unshelve, later, counted, acted, step};
 ghost use Rattle.alm_state.specs.Outcome.{outcome};
 ghost use Rattle.alm_model.specs.Lists.{due, exists, list_of, moments_in};
-ghost use Rattle.alm_model.specs.declared.list.List.TheVariants.{Priority, Area, Wheel};
+ghost use Rattle.alm_model.specs.declared.list.List.TheVariants.{Priority, Area, Wheel, Stale, Chatter};
+ghost use Rattle.alm_model.specs.Measured.{measured_by};
 ghost use Rattle.alm_model.specs.Parts.{plant_of, age_of};
 ghost use Rattle.alm_lists.specs.Orders.{IsSortedFilter};
 ghost use Rattle.alm_model.specs.New.{new_plant};
@@ -17,7 +18,7 @@ ghost use Rattle.alm_plant.specs.Linking.{IsMovedAt, AreSuited, AreSettled, is_a
 use crate::nodes::Nodes;
 use alm_links::ListNodes;
 use alm_measure::Measure;
-use alm_model::{List, PlantParts, fill_by_number, may_ask};
+use alm_model::{AlarmsByNumber, List, PlantParts, fill_by_number, may_ask};
 use alm_state::{Outcome, Row, outcome_of, row_refusal};
 use alm_types::{Action, AlarmId, Attr, Moment, Refusal, Request, Table};
 use std::alloc::{AllocError, Global};
@@ -181,6 +182,30 @@ impl Linked {
         ensures { result ≡ list_of (Wheel slot) self.now }
     {
         self.nodes.slot_list(slot)
+    }
+
+    pub fn stale(&self) -> AlarmsByNumber<'_>
+        ensures { result ≡ list_of Stale self.now }
+    {
+        self.by_number(List::Stale)
+    }
+
+    pub fn chattering(&self) -> AlarmsByNumber<'_>
+        ensures { result ≡ list_of Chatter self.now }
+    {
+        self.by_number(List::Chatter)
+    }
+
+    fn by_number(&self, list: List) -> AlarmsByNumber<'_>
+        ensures { result ≡ measured_by list self.now.panel.now self.now.panel.attrs self.now.panel.rows self.now.kept.moments }
+    {
+        AlarmsByNumber::new(
+            self.nodes.attrs(),
+            self.nodes.rows(),
+            self.measure.recents(),
+            list,
+            self.measure.now(),
+        )
     }
 
     pub fn fill(&self, list: List, out: &mut Vec<u32>)

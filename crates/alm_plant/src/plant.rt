@@ -2,12 +2,12 @@
 
 ghost use Rattle.std.specs.Prelude.{◌≡◌, ◌<◌, ◌≤◌, length};
 ghost use Rattle.alm_model.specs.Lists.{list_of};
-ghost use Rattle.alm_model.specs.declared.list.List.TheVariants.{Priority, Area, Wheel};
+ghost use Rattle.alm_model.specs.declared.list.List.TheVariants.{Priority, Area, Wheel, Stale, Chatter};
 
 use crate::linked::Linked;
 use crate::order::in_order;
 use alm_links::ListNodes;
-use alm_model::{Alarms, List, PlantParts};
+use alm_model::{Alarms, AlarmsByNumber, List, PlantParts};
 use alm_state::Row;
 use alm_types::{Action, AlarmId, Attr, Moment, Refusal, Request, Table};
 use std::alloc::{AllocError, Global};
@@ -56,6 +56,20 @@ impl Plant {
         ensures { result ≡ list_of (Wheel slot) self.now }
     {
         self.linked.wheel_list(slot)
+    }
+
+    /// The annunciated alarms whose last annunciation was a day ago or earlier, by number.
+    pub fn stale(&self) -> AlarmsByNumber<'_>
+        ensures { result ≡ list_of Stale self.now }
+    {
+        self.linked.stale()
+    }
+
+    /// The alarms with three annunciations or more within the last minute, by number.
+    pub fn chattering(&self) -> AlarmsByNumber<'_>
+        ensures { result ≡ list_of Chatter self.now }
+    {
+        self.linked.chattering()
     }
 }
 
