@@ -342,7 +342,13 @@ impl Linked {
         let index = id.0 as usize;
         let attr = self.nodes.attr(index);
         let area = attr.area;
-        let next = outcome_of(self.measure.now(), self.next_stamp, action, attr, self.nodes.row(index));
+        let next = outcome_of(
+            self.measure.now(),
+            self.next_stamp,
+            action,
+            attr,
+            self.nodes.row(index),
+        );
         if self.put(id.0, next) {
             self.measure.settle_area(u32::from(area));
         }

@@ -226,7 +226,13 @@ impl Nodes {
     }
 
     /// Alarms of rows, put by stamp.
-    pub fn build(alloc: Global, attrs: Vec<Attr>, rows: &[Row], areas: u32, order: &[u32]) -> Result<Self, AllocError>
+    pub fn build(
+        alloc: Global,
+        attrs: Vec<Attr>,
+        rows: &[Row],
+        areas: u32,
+        order: &[u32],
+    ) -> Result<Self, AllocError>
         requires few { length attrs.items ≤ 16384 }
         requires same { length attrs.items ≡ length rows.now }
         requires areas { All (λ a. a.area < areas) attrs.items }
