@@ -1,5 +1,5 @@
 -- The bytes of a device stand for a plant, or have a fault.
-use Rattle.std.proofs.Common.{◌≡◌, ◌⊎◌, inl, inr, ℕ, ◌+◌, ◌-◌, ◌≤◌, leb, List, Option, Some, None, Result, Ok, Err, refl}
+use Rattle.std.proofs.Common.{◌≡◌, inl, inr, ℕ, ◌+◌, ◌-◌, leb, List, Option, Some, None, Result, Ok, Err, refl}
 use Rattle.std.proofs.lemmas.Bool.{leb-true, and_parts}
 use Rattle.alm_model.specs.Plant.{Condensed}
 use Rattle.alm_codec.specs.ImageFields.{damage_in}
@@ -12,11 +12,11 @@ use Rattle.alm_checkpoint.specs.declared.half_head.HalfHead.{HalfHead}
 use Rattle.alm_checkpoint.specs.declared.half.Half.{Half}
 use Rattle.alm_checkpoint.specs.declared.fault.Fault.{Fault}
 use Rattle.alm_checkpoint.specs.declared.fault.Fault.TheVariants.{Damaged}
-use Rattle.alm_checkpoint.specs.Layouts.{part, image_at, segment_at, image_size, number_of}
+use Rattle.alm_checkpoint.specs.Layouts.{part, image_at, image_size, number_of}
 use Rattle.alm_checkpoint.specs.Opening.{Opened, opened_half, layout_in, chosen_in, half_head_from, head_of, opened_in}
-use Rattle.alm_checkpoint.specs.Standing.{Stands, Spells, HasFault, Meaning, end_of}
+use Rattle.alm_checkpoint.specs.Standing.{Spells, Meaning, end_of}
 use Rattle.alm_checkpoint.specs.Cut.{IsLayout}
-use Rattle.alm_checkpoint.proofs.CutOf.{layout_is, Headed}
+use Rattle.alm_checkpoint.proofs.CutOf.{layout_is}
 use Rattle.alm_checkpoint.proofs.Opens.{opens, no_layout, no_half_stands, not_told}
 
 by_fold : (device : List ℕ) (o : Opened) (base : Condensed) (r : Result (Condensed × ℕ) ℕ) → opened_in device ≡ Ok o → Spells o base → stored_in o.head.epoch base o.segment ≡ r → Meaning device
