@@ -82,7 +82,10 @@ fn the_largest_plant_is_copied(rt: HostRuntime) -> Result<(), Fail> {
     let copy = plant.copy(alloc)?;
     assert_eq!(rt; copy.alarms(), 16_384);
     assert_eq!(rt; copy.areas(), 64);
-    assert_eq!(rt; list(alloc, &copy, List::Area(63))?.as_slice(), [16_383].as_slice());
+    assert_eq!(rt;
+        list(alloc, &copy, List::Area(63))?.as_slice(),
+        [16_383].as_slice()
+    );
     Ok(())
 }
 

@@ -1,5 +1,5 @@
 -- From a new plant on the condensed plant measures what is counted from all annunciations.
-use Rattle.std.proofs.Common.{◌≡◌, ℕ, ◌+◌, ◌<◌, ◌≤◌, min, Bool, true, false, cond, List, [], ◌∷◌, ◌++◌, length, map, take, replicate, sum, suc, zero, refl, sym, ap, ◌∙◌, arith, inl, inr, Some, None}
+use Rattle.std.proofs.Common.{◌≡◌, ℕ, ◌+◌, ◌<◌, ◌≤◌, min, Bool, true, false, cond, List, [], ◌∷◌, length, map, take, replicate, sum, suc, zero, refl, sym, ap, ◌∙◌, arith, inl, inr, Some, None}
 use Rattle.std.specs.Prelude.{slice_get, filter, nat_le, nat_lt, ◌==◌, ◌&&◌}
 use Rattle.std.specs.List.{range_with_len}
 use Rattle.std.proofs.lemmas.Grind.{common_steps}
@@ -157,16 +157,6 @@ along-step p q a g timely free =
 along : (p : Plant) (q : Condensed) (actions : List Action) → GoesAlong p q → AreAdmitted q actions → GoesAlong (run_whole p actions) (run q actions)
 along p q [] g h = g
 along p q (a ∷ actions) g h = along (after p a) (step q a) actions (along-step p q a g h.0 h.1) h.2
-
--- one action more
-pub run-more : (q : Condensed) (actions : List Action) (a : Action) → run q (actions ++ a ∷ []) ≡ step (run q actions) a
-run-more q [] a = refl
-run-more q (x ∷ actions) a = run-more (step q x) actions a
-
--- one admitted action more
-pub admitted-more : (q : Condensed) (actions : List Action) (a : Action) → AreAdmitted q actions → IsTimely a → refusal (run q actions).panel a ≡ None → AreAdmitted q (actions ++ a ∷ [])
-admitted-more q [] a done timely free = (timely, free, tt)
-admitted-more q (x ∷ actions) a done timely free = (done.0, done.1, admitted-more (step q x) actions a done.2 timely free)
 
 pub along-new : (t : Listing) (actions : List Action) → IsTable t → AreAdmitted (new_plant t) actions → GoesAlong (run_whole (new_whole t) actions) (run (new_plant t) actions)
 along-new t actions h all = along (new_whole t) (new_plant t) actions (record { recorded = tt; same = new-cond t; rules = new-keeps t h }) all

@@ -24,7 +24,7 @@ fn parts_of(alloc: Global, plant: &PlainPlant) -> Result<PlantParts, Fail> {
 #[test]
 fn lists_go_by_stamps_that_run_against_the_numbers(rt: HostRuntime) -> Result<(), Fail> {
     let alloc = rt.alloc();
-    let mut plain = PlainPlant::new(alloc, &table(alloc, 24, 1)?)?;
+    let mut plain = PlainPlant::new(alloc, &table(alloc, 24, 1).ok_or("table")?)?;
     let zero = Reading::new(0).ok_or("reading")?;
     for number in (0..24u32).rev() {
         let come = Action::Value(AlarmId(number), zero);
@@ -46,7 +46,7 @@ fn lists_go_by_stamps_that_run_against_the_numbers(rt: HostRuntime) -> Result<()
 #[test]
 fn a_plant_of_parts_with_shelvings_goes_on_as_the_plain_one(rt: HostRuntime) -> Result<(), Fail> {
     let alloc = rt.alloc();
-    let mut plain = PlainPlant::new(alloc, &table(alloc, 9, 3)?)?;
+    let mut plain = PlainPlant::new(alloc, &table(alloc, 9, 3).ok_or("table")?)?;
     for number in [7u32, 2, 5] {
         let shelve = Action::Shelve(AlarmId(number), 300 - number);
         if plain.admits(&shelve).is_ok() {

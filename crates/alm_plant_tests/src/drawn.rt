@@ -48,14 +48,17 @@ fn action(drawn: u64, now: Moment) -> Result<Action, Fail> {
         7 => Action::Unshelve(id),
         8 => Action::Oos(id, on),
         9 => Action::Design(id, on),
-        _ => Action::Value(id, Reading::new(below(drawn, 50, 3) as i64 - 1).ok_or("reading")?),
+        _ => Action::Value(
+            id,
+            Reading::new(below(drawn, 50, 3) as i64 - 1).ok_or("reading")?,
+        ),
     })
 }
 
 #[test]
 fn drawn_actions_do_the_same_to_both_plants(rt: HostRuntime) -> Result<(), Fail> {
     let alloc = rt.alloc();
-    let table = table(alloc, ALARMS, 4)?;
+    let table = table(alloc, ALARMS, 4).ok_or("table")?;
     let mut plain = PlainPlant::new(alloc, &table)?;
     let mut linked = Plant::new(alloc, &table)?;
     let mut seed = 88_172_645_463_325_252;

@@ -9,7 +9,7 @@ use std::test::Fail;
 #[test]
 fn the_largest_plant_is_made_and_copied(rt: HostRuntime) -> Result<(), Fail> {
     let alloc = rt.alloc();
-    let mut plant = Plant::new(alloc, &table(alloc, 16_384, 64)?)?;
+    let mut plant = Plant::new(alloc, &table(alloc, 16_384, 64).ok_or("table")?)?;
     let zero = Reading::new(0).ok_or("reading")?;
     let come = Action::Value(AlarmId(16_383), zero);
     assert_eq!(rt; plant.admits(&come), Ok(()));
@@ -25,7 +25,7 @@ fn the_largest_plant_is_made_and_copied(rt: HostRuntime) -> Result<(), Fail> {
 #[test]
 fn the_largest_plant_is_built(rt: HostRuntime) -> Result<(), Fail> {
     let alloc = rt.alloc();
-    let parts = PlantParts::new(alloc, &table(alloc, 16_384, 64)?)?;
+    let parts = PlantParts::new(alloc, &table(alloc, 16_384, 64).ok_or("table")?)?;
     let plant = Plant::build(alloc, parts)?;
     assert_eq!(rt; plant.alarms(), 16_384);
     assert_eq!(rt; plant.next_stamp(), 1);

@@ -17,8 +17,8 @@ fn built(alloc: Global, table: &Table) -> Result<Plant, AllocError> {
 fn a_plant_is_made_whole_or_not_at_all(rt: HostRuntime) -> Result<(), Fail> {
     let alloc = rt.alloc();
     let rows = match table(alloc, 6, 2) {
-        Ok(rows) => rows,
-        Err(_) => table(alloc, 6, 2)?,
+        Some(rows) => rows,
+        None => table(alloc, 6, 2).ok_or("table")?,
     };
     let made = match Plant::new(alloc, &rows) {
         Ok(plant) => plant,

@@ -4,7 +4,6 @@ ghost use Rattle.std.specs.Prelude.{◌<◌};
 
 use alm_types::{Attr, Kind, Settings, Table};
 use std::alloc::Global;
-use std::test::Fail;
 
 fn kind_of(number: u32) -> Kind {
     match number % 3 {
@@ -15,10 +14,11 @@ fn kind_of(number: u32) -> Kind {
 }
 
 /// So many alarms, spread over the areas, the priorities and the kinds; each fourth one latches. Each has its setpoint at 0.
-pub fn table(alloc: Global, rows: u32, areas: u8) -> Result<Table, Fail>
+/// `None` for want of memory.
+pub fn table(alloc: Global, rows: u32, areas: u8) -> Option<Table>
     requires { 0 < areas }
 {
-    let mut alarms = Vec::with_capacity(alloc, rows as usize)?;
+    let mut alarms = Vec::with_capacity(alloc, rows as usize).ok()?;
     for number in 0..rows {
         let settings = Settings {
             kind: kind_of(number),
@@ -29,7 +29,7 @@ pub fn table(alloc: Global, rows: u32, areas: u8) -> Result<Table, Fail>
             latching: number % 4 == 1,
             max_shelve: 3600,
         };
-        alarms.push(Attr::new(settings, b"T", b"")?)?;
+        alarms.push(Attr::new(settings, b"T", b"").ok()?).ok()?;
     }
-    Ok(Table::new(alarms, areas)?)
+    Table::new(alarms, areas).ok()
 }

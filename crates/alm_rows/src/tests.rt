@@ -2,8 +2,8 @@
 
 use crate::desk::{new_desk, printed};
 use crate::slow_writer::SlowWriter;
-use alm_service::{CountedReader, RunFault, desk_run};
 use alm_plant::Plant;
+use alm_service::{CountedReader, RunFault, desk_run};
 use alm_session::{CountedWriter, DeskFault, desk_of};
 use alm_types::{Attr, Kind, Settings, Slot, Table};
 use std::io::Read;

@@ -5,7 +5,8 @@ use Rattle.alm_types.specs.declared.action.Action.{Action}
 use Rattle.alm_model.specs.Accept.{refusal}
 use Rattle.alm_model.specs.Rules.{AreAdmitted, AllAdmitted}
 use Rattle.alm_model.specs.Step.{run, step}
-use Rattle.alm_model.proofs.Whole.{counted-new, admitted-more, run-more}
+use Rattle.alm_model.proofs.Runs.{run_append, admitted_join}
+use Rattle.alm_model.proofs.Whole.{counted-new}
 use Rattle.alm_model.proofs.run.apply_all.Goals as goal
 
 pub loop-action-preserved : goal.loop-action-preserved
@@ -18,8 +19,8 @@ loop-action-preserved g c =
     let rest : drop k xs ≡ a ∷ drop (suc k) xs = drop-cons xs k a c.loop-action-test.true ∙ ap (λ x. x ∷ drop (suc k) xs) (sym c.action-item.is) in
     let here = subst (AllAdmitted (g.P.Alarms.plant c.loop-action.plant)) rest c.loop-action.invariant.rest in
     record {
-      done = rw more (admitted-more q (take k xs) a c.loop-action.invariant.done c.apply.ensures.timely (ap (λ p. refusal p.panel a) (sym c.loop-action.invariant.run) ∙ here.0));
-      run = rw more (c.apply.ensures.plant ∙ ap (λ p. step p a) c.loop-action.invariant.run ∙ sym (run-more q (take k xs) a));
+      done = rw more (admitted_join q (take k xs) (a ∷ []) c.loop-action.invariant.done (c.apply.ensures.timely, ap (λ p. refusal p.panel a) (sym c.loop-action.invariant.run) ∙ here.0, tt));
+      run = rw more (c.apply.ensures.plant ∙ ap (λ p. step p a) c.loop-action.invariant.run ∙ sym (run_append q (take k xs) (a ∷ [])));
       rest = subst (λ p. AllAdmitted p (drop (k + 1) xs)) (sym c.apply.ensures.plant) (subst (λ n. AllAdmitted (step (g.P.Alarms.plant c.loop-action.plant) a) (drop n xs)) (sym (add-one k)) here.1);
     }
 

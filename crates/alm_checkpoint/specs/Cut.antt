@@ -1,0 +1,125 @@
+-- A device cut into its fields.
+use Rattle.std.specs.Prelude.{◌≡◌, ◌⊎◌, ℕ, ◌+◌, ◌<◌, ◌≤◌, ◌^◌, true, false, List, [], ◌∷◌, ◌++◌, length}
+use Rattle.alm_types.specs.declared.action.Action.{Action}
+use Rattle.alm_model.specs.Plant.{Condensed}
+use Rattle.alm_model.specs.Step.{run}
+use Rattle.alm_model.specs.Rules.{AreAdmitted}
+use Rattle.alm_codec.specs.Image.{IsImage, IsOf, image_text}
+use Rattle.alm_segment.specs.Course.{is_open}
+use Rattle.alm_segment.specs.Texts.{frames_text, AreFrames, actions_in}
+use Rattle.alm_checkpoint.specs.declared.layout.Layout.{Layout}
+use Rattle.alm_checkpoint.specs.declared.half.Half.{Half}
+use Rattle.alm_checkpoint.specs.declared.half.Half.TheVariants.{First, Second}
+use Rattle.alm_checkpoint.specs.Layouts.{other, half_len, is_rows, is_areas, is_segment}
+use Rattle.alm_checkpoint.specs.Headers.{header_text, half_head_text}
+use Rattle.alm_checkpoint.specs.Opening.{gate_in, epoch_in}
+
+-- the limits of a layout
+pub record IsLayout (l : Layout) : Type 0 where
+  pub rows : is_rows l.rows ≡ true
+  pub areas : is_areas l.areas ≡ true
+  pub segment : is_segment l.segment ≡ true
+
+-- A device whose half stands, but for the bytes of its segment from the first closed gate on.
+pub record Cut : Type 0 where
+  pub layout : Layout
+  -- the half that stands, its epoch, the plant of its image and the actions of its frames
+  pub half : Half
+  pub epoch : ℕ
+  pub base : Condensed
+  pub frames : List (List Action)
+  -- the bytes of the other half, and those behind both
+  pub other : List ℕ
+  pub rest : List ℕ
+
+-- a half from its gate on, up to a place in its segment
+abbrev pub half_text : Layout → (epoch : ℕ) → Condensed → List (List Action) → List ℕ
+half_text l epoch base frames =
+    165 ∷ half_head_text l epoch base.panel.count ++ image_text base ++ frames_text epoch base.panel.count frames
+
+-- what stands before the half that stands, and behind it
+abbrev pub before : Half → List ℕ → List ℕ
+before First other = []
+before Second other = other
+
+abbrev pub behind : Half → List ℕ → List ℕ → List ℕ
+behind First other rest = other ++ rest
+behind Second other rest = rest
+
+abbrev pub front : Cut → List ℕ
+front c = (165 ∷ header_text c.layout ++ before c.half c.other) ++ half_text c.layout c.epoch c.base c.frames
+
+abbrev pub back : Cut → List ℕ
+back c = behind c.half c.other c.rest
+
+-- the device, with these bytes in its segment from the first closed gate on
+abbrev pub device_of : Cut → List ℕ → List ℕ
+device_of c tail = front c ++ tail ++ back c
+
+-- the bytes of the segment that are left behind the frames
+abbrev pub Reaches : Cut → List ℕ → Type 0
+Reaches c tail = length (frames_text c.epoch c.base.panel.count c.frames) + length tail ≡ c.layout.segment
+
+-- the other half does not stand beside one of this epoch
+abbrev pub IsBelow : ℕ → List ℕ → Type 0
+IsBelow epoch other = (gate_in other ≡ false) ⊎ (epoch_in other < epoch)
+
+-- it stores this plant
+pub record Stores (c : Cut) (plant : Condensed) : Type 0 where
+  pub layout : IsLayout c.layout
+  pub epoch : c.epoch < 2 ^ 64
+  pub image : IsImage c.base (image_text c.base)
+  pub sizes : IsOf c.layout.rows c.layout.areas c.base.panel.count c.base
+  pub count : c.base.panel.count ≤ 2 ^ 48
+  pub frames : AreFrames c.epoch c.base.panel.count c.frames
+  pub admitted : AreAdmitted c.base (actions_in c.frames)
+  pub runs : run c.base (actions_in c.frames) ≡ plant
+  pub size : length c.other ≡ half_len c.layout
+  pub below : IsBelow c.epoch c.other
+
+-- ---- the same device, changed
+
+-- one frame more behind the others
+abbrev pub with_frame : Cut → List Action → Cut
+with_frame c actions = record c { frames = c.frames ++ actions ∷ [] }
+
+-- another half beside the one that stands
+abbrev pub with_other : Cut → List ℕ → Cut
+with_other c bytes = record c { other = bytes }
+
+-- the other half stands, in the next epoch: with the image of this plant and no frames; these bytes end the half that stood before
+abbrev pub turned : Cut → Condensed → List ℕ → Cut
+turned c plant tail = record {
+  layout = c.layout;
+  half = other c.half;
+  epoch = c.epoch + 1;
+  base = plant;
+  frames = [];
+  other = half_text c.layout c.epoch c.base c.frames ++ tail;
+  rest = c.rest;
+}
+
+-- the bytes of a device are those of a cut that stores a plant, with its first closed gate at a place
+pub record IsCut (device : List ℕ) (epoch : ℕ) (plant : Condensed) (place : ℕ) : Type 0 where
+  pub cut : Cut
+  pub gate : ℕ
+  pub tail : List ℕ
+  pub is : device ≡ device_of cut (gate ∷ tail)
+  pub stores : Stores cut plant
+  pub shut : is_open gate ≡ false
+  pub reaches : Reaches cut (gate ∷ tail)
+  pub of_epoch : cut.epoch ≡ epoch
+  pub gate_is : length (front cut) ≡ place
+
+-- what stands before the other half on the device, and behind it
+abbrev pub side_front : Cut → Half → List ℕ → List ℕ
+side_front c First tail = front c ++ tail
+side_front c Second tail = 165 ∷ header_text c.layout
+
+abbrev pub side_back : Cut → Half → List ℕ → List ℕ
+side_back c First tail = c.rest
+side_back c Second tail = half_text c.layout c.epoch c.base c.frames ++ tail ++ c.rest
+
+-- the same, where the other half also has frames behind its image
+abbrev pub turned_with : Cut → Condensed → List (List Action) → List ℕ → Cut
+turned_with c base frames tail = record (turned c base tail) { frames = frames }

@@ -1,0 +1,49 @@
+//! Which half stands.
+
+ghost use Rattle.std.specs.Prelude.{◌≡◌, length};
+ghost use Rattle.alm_checkpoint.specs.Opening.{gate_in, epoch_in, choice};
+
+use crate::half::Half;
+use crate::no_choice::NoChoice;
+use alm_segment::OPEN_GATE;
+
+/// The gate of a half and its epoch, which decide between the halves.
+#[derive(Clone, Copy, Debug, PartialEq, Eq)]
+pub struct HalfGate {
+    pub open: bool,
+    pub epoch: u64,
+}
+
+/// The gate of a half and its epoch, by the 25 bytes of its head. The other fields are not looked at.
+pub fn read_half_gate(bytes: &[u8]) -> HalfGate
+    requires { length bytes.now ≡ 25 }
+    ensures gate { result.open ≡ gate_in bytes.now }
+    ensures epoch { result.epoch ≡ epoch_in bytes.now }
+{
+    HalfGate {
+        open: bytes[0] == OPEN_GATE,
+        epoch: u64::from_be_bytes([
+            bytes[1], bytes[2], bytes[3], bytes[4], bytes[5], bytes[6], bytes[7], bytes[8],
+        ]),
+    }
+}
+
+/// The half that stands: of those with open gates the one of greater epoch.
+pub fn choose(first: &HalfGate, second: &HalfGate) -> Result<Half, NoChoice>
+    ensures { result ≡ choice first.now.open second.now.open first.now.epoch second.now.epoch }
+{
+    match (first.open, second.open) {
+        (false, false) => Err(NoChoice::NoneOpen),
+        (true, false) => Ok(Half::First),
+        (false, true) => Ok(Half::Second),
+        (true, true) => {
+            if first.epoch == second.epoch {
+                Err(NoChoice::EqualEpochs)
+            } else if first.epoch < second.epoch {
+                Ok(Half::Second)
+            } else {
+                Ok(Half::First)
+            }
+        }
+    }
+}

@@ -1,0 +1,115 @@
+//! Reading the header of a device.
+
+ghost use Rattle.std.specs.Prelude.{◌≡◌, ◌≤◌, ◌^◌, true, length, IfOk};
+ghost use Rattle.std.specs.Int.{w16, w32, w64};
+ghost use Rattle.alm_codec.specs.Reading.{Gives};
+ghost use Rattle.alm_codec.specs.Format.{tested, number};
+ghost use Rattle.alm_checkpoint.specs.Cut.{IsLayout};
+ghost use Rattle.alm_checkpoint.specs.Layouts.{device_len, is_rows, is_areas, is_segment};
+ghost use Rattle.alm_checkpoint.specs.Headers.{name, header, suits};
+ghost use Rattle.alm_checkpoint.specs.Opening.{layout_from};
+
+use crate::fault::Fault;
+use crate::layout::{DEVICE_NAME, HEADER_LEN, LONGEST_SEGMENT, Layout, SHORTEST_SEGMENT};
+use alm_codec::Left;
+use alm_codec::fields::{u16_at, u32_at, u64_at};
+use alm_segment::OPEN_GATE;
+
+/// The name of the layout.
+fn name_of(bytes: &[u8]) -> Result<((), &[u8]), Left>
+    ensures { Gives (λ x. (Rattle.alm_checkpoint.specs.Headers.device_name, x.1.now)) result (name.read bytes.now) }
+{
+    if bytes.len() < 8 {
+        return Err(Left(bytes.len()));
+    }
+    let (text, rest) = bytes.split_at(8);
+    if text == DEVICE_NAME.as_slice() {
+        Ok(((), rest))
+    } else {
+        Err(Left(bytes.len()))
+    }
+}
+
+/// The number of alarms.
+fn rows_of(bytes: &[u8]) -> Result<(u32, &[u8]), Left>
+    ensures limits { IfOk result (λ x. is_rows x.0 ≡ true) }
+    ensures rows { Gives (λ x. (x.0, x.1.now)) result ((tested (number w32 (2 ^ 32)) is_rows).read bytes.now) }
+{
+    let (rows, rest) = u32_at(bytes)?;
+    if rows >= 1 && rows <= 16_384 {
+        Ok((rows, rest))
+    } else {
+        Err(Left(bytes.len()))
+    }
+}
+
+/// The number of areas.
+fn areas_of(bytes: &[u8]) -> Result<(u8, &[u8]), Left>
+    ensures limits { IfOk result (λ x. is_areas x.0 ≡ true) }
+    ensures areas { Gives (λ x. (x.0, x.1.now)) result ((tested (number w16 (2 ^ 16)) is_areas).read bytes.now) }
+{
+    let (areas, rest) = u16_at(bytes)?;
+    if areas >= 1 && areas <= 64 {
+        Ok((areas as u8, rest))
+    } else {
+        Err(Left(bytes.len()))
+    }
+}
+
+/// A segment in its limits, where two halves fit the device.
+fn segment_of(bytes: &[u8], size: u64, rows: u32, areas: u8) -> Result<(Layout, &[u8]), Left>
+    ensures segment { Gives (λ x. (x.0.segment, x.1.now)) result ((tested (number w64 (2 ^ 64)) (suits size rows areas)).read bytes.now) }
+    ensures layout { IfOk result (λ x. (x.0.rows ≡ rows) × (x.0.areas ≡ areas)) }
+    ensures limits { IfOk result (λ x. is_segment x.0.segment ≡ true) }
+    ensures fits { IfOk result (λ x. device_len x.0 ≤ size) }
+{
+    let (segment, rest) = u64_at(bytes)?;
+    if segment < SHORTEST_SEGMENT || segment > LONGEST_SEGMENT {
+        return Err(Left(bytes.len()));
+    }
+    let layout = Layout::of(rows, areas, segment as u32);
+    if layout.device_len() <= size {
+        Ok((layout, rest))
+    } else {
+        Err(Left(bytes.len()))
+    }
+}
+
+/// All fields behind the gate.
+fn fields_of(bytes: &[u8], size: u64) -> Result<(Layout, &[u8]), Left>
+    ensures limits { IfOk result (λ x. IsLayout x.0) }
+    ensures fits { IfOk result (λ x. device_len x.0 ≤ size) }
+    ensures fields { Gives (λ x. (x.0, x.1.now)) result ((header size).read bytes.now) }
+{
+    let (_, rest) = name_of(bytes)?;
+    let (rows, rest) = rows_of(rest)?;
+    let (areas, rest) = areas_of(rest)?;
+    segment_of(rest, size, rows, areas)
+}
+
+/// The layout of a device of so many bytes, by its first 23, or by all where it has fewer.
+///
+/// `Unformatted` where there are fewer than 23 bytes or the gate is closed; else damage of the header at the first field
+/// that breaks its rule: the name, the rows (1 to 16,384), the areas (1 to 64), or the length of a segment (4,116 to
+/// 16,777,216, and both halves fit the device).
+#[tactic(auto, unfolding(crate::specs::Opening::layout_from))]
+pub fn read_header(start: &[u8], size: u64) -> Result<Layout, Fault>
+    requires { length start.now ≤ 23 }
+    ensures layout { result ≡ layout_from size start.now }
+    ensures limits { IfOk result IsLayout }
+    ensures fits { IfOk result (λ l. device_len l ≤ size) }
+{
+    let [gate, fields @ ..] = start else {
+        return Err(Fault::Unformatted);
+    };
+    if start.len() < HEADER_LEN || *gate != OPEN_GATE {
+        return Err(Fault::Unformatted);
+    }
+    match fields_of(fields, size) {
+        Ok((layout, _)) => Ok(layout),
+        Err(left) => Err(Fault::Damaged {
+            half: 2,
+            at: (HEADER_LEN as u64).saturating_sub(left.0 as u64),
+        }),
+    }
+}

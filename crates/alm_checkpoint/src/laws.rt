@@ -1,0 +1,70 @@
+//! Laws of what a device stands for: each function does nothing, and its contract is the law.
+
+ghost use Rattle.std.specs.Prelude.{◌≡◌, ◌+◌, ◌<◌, ◌^◌, ℕ, false, List, [], ◌∷◌, ◌++◌, length};
+ghost use Rattle.alm_types.specs.declared.action.Action.{Action};
+ghost use Rattle.alm_model.specs.Plant.{Condensed};
+ghost use Rattle.alm_model.specs.Step.{run};
+ghost use Rattle.alm_model.specs.Rules.{AreAdmitted};
+ghost use Rattle.alm_codec.specs.Frames.{IsFrame, frame_text};
+ghost use Rattle.alm_codec.specs.Reading.{IsBytes};
+ghost use Rattle.alm_segment.specs.Course.{is_open};
+ghost use Rattle.alm_checkpoint.specs.declared.fault.Fault.{Fault};
+ghost use Rattle.alm_checkpoint.specs.Layouts.{half_len};
+ghost use Rattle.alm_checkpoint.specs.Standing.{Stands, HasFault, Meaning, gate_place};
+ghost use Rattle.alm_checkpoint.specs.Cut.{Cut, Stores, Reaches, IsBelow, IsCut, half_text, device_of, with_frame, with_other, turned};
+
+/// A device of these fields stands for the plant that they store, whatever lies behind the first closed gate.
+pub fn a_cut_stands()
+    ensures { (c : Cut) (plant : Condensed) (gate : ℕ) (tail : List ℕ) →
+        Stores c plant → is_open gate ≡ false → Reaches c (gate ∷ tail) → Stands (device_of c (gate ∷ tail)) c.epoch plant }
+{}
+
+/// A device that stands for a plant has such fields, and its first closed gate is where they end.
+pub fn what_stands_is_cut()
+    ensures { (device : List ℕ) (epoch : ℕ) (plant : Condensed) (s : Stands device epoch plant) →
+        IsBytes device → IsCut device epoch plant (gate_place s) }
+{}
+
+/// Where the gate behind the frames is open and a frame follows, they are the fields with that frame, and store the plant after
+/// its actions.
+pub fn a_frame_more()
+    ensures { (c : Cut) (plant : Condensed) (actions : List Action) (tail : List ℕ) →
+        Stores c plant → IsFrame c.epoch (plant.panel.count + 1) actions → AreAdmitted plant actions →
+        Stores (with_frame c actions) (run plant actions) ×
+        (device_of c (165 ∷ frame_text c.epoch (plant.panel.count + 1) actions ++ tail) ≡ device_of (with_frame c actions) tail) }
+{}
+
+/// Whatever bytes are in the other half, the same plant is stored, as long as its gate is closed or its epoch is smaller.
+pub fn another_half()
+    ensures { (c : Cut) (plant : Condensed) (bytes : List ℕ) →
+        Stores c plant → length bytes ≡ half_len c.layout → IsBelow c.epoch bytes → Stores (with_other c bytes) plant }
+{}
+
+/// Where the other half has an open gate, the next epoch and an image of the stored plant, that half stands, and the same plant
+/// is stored.
+pub fn a_turn()
+    ensures { (c : Cut) (plant : Condensed) (tail new_tail : List ℕ) →
+        Stores c plant → Reaches c tail → c.epoch + 1 < 2 ^ 64 →
+        Stores (turned c plant tail) plant ×
+        (device_of (with_other c (half_text c.layout (c.epoch + 1) plant [] ++ new_tail)) tail ≡ device_of (turned c plant tail) new_tail) }
+{}
+
+/// Bytes stand for at most one plant, in one epoch.
+pub fn one_plant()
+    ensures { (device : List ℕ) (e f : ℕ) (q r : Condensed) → Stands device e q → Stands device f r → (e ≡ f) × (q ≡ r) }
+{}
+
+/// Bytes that stand for a plant have no fault.
+pub fn no_fault_beside()
+    ensures { (device : List ℕ) (e : ℕ) (q : Condensed) (fault : Fault) → Stands device e q → HasFault device fault → ⊥ }
+{}
+
+/// Bytes have at most one fault.
+pub fn one_fault()
+    ensures { (device : List ℕ) (x y : Fault) → HasFault device x → HasFault device y → x ≡ y }
+{}
+
+/// Every list of bytes stands for a plant or has a fault.
+pub fn stands_or_has_a_fault()
+    ensures { (device : List ℕ) → IsBytes device → Meaning device }
+{}

@@ -1,0 +1,98 @@
+//! Where everything lies on a device.
+
+ghost use Rattle.std.specs.Prelude.{◌≡◌};
+ghost use Rattle.alm_checkpoint.specs.Layouts.{image_size, half_len, half_at, image_at, segment_at, device_len};
+
+use crate::half::Half;
+use alm_codec::image_len;
+
+/// How many bytes the header has, with its gate.
+pub const HEADER_LEN: usize = 23;
+
+/// How many bytes the head of a half has, with its gate.
+pub const HEAD_LEN: usize = 25;
+
+/// The shortest segment has room for one frame of 256 actions and the next gate.
+pub const SHORTEST_SEGMENT: u64 = 4116;
+
+/// The longest segment: 16 MiB.
+pub const LONGEST_SEGMENT: u64 = 16_777_216;
+
+/// The name that a header begins with.
+pub const DEVICE_NAME: [u8; 8] = *b"ALMSRV01";
+
+/// Where everything lies on a device: the header, then two halves, each a head, an image and a segment.
+#[derive(Clone, Copy, Debug, PartialEq, Eq)]
+pub struct Layout {
+    /// How many alarms there are, 1 to 16,384 on a formatted device.
+    pub rows: u32,
+    /// How many areas, 1 to 64.
+    pub areas: u8,
+    /// How many bytes a segment has, 4,116 to 16,777,216.
+    pub segment: u32,
+}
+
+impl Layout {
+    /// The layout of so many rows and areas with segments of a length.
+    pub fn of(rows: u32, areas: u8, segment: u32) -> Layout
+        ensures { result ≡ record { rows = rows; areas = areas; segment = segment } }
+    {
+        Layout {
+            rows,
+            areas,
+            segment,
+        }
+    }
+
+    /// How many bytes a segment has.
+    pub fn segment(&self) -> usize
+        ensures { result ≡ self.now.segment }
+    {
+        self.segment as usize
+    }
+
+    /// How many bytes an image has.
+    pub fn image_len(&self) -> usize
+        ensures { result ≡ image_size self.now }
+    {
+        image_len(self.rows, self.areas) as usize
+    }
+
+    /// How many bytes a half has.
+    pub fn half_len(&self) -> usize
+        ensures { result ≡ half_len self.now }
+    {
+        HEAD_LEN + self.image_len() + self.segment()
+    }
+
+    /// Where a half begins: its gate.
+    pub fn half_at(&self, half: Half) -> u64
+        ensures { result ≡ half_at self.now half }
+    {
+        match half {
+            Half::First => HEADER_LEN as u64,
+            Half::Second => (HEADER_LEN + self.half_len()) as u64,
+        }
+    }
+
+    /// Where the image of a half begins.
+    pub fn image_at(&self, half: Half) -> u64
+        ensures { result ≡ image_at self.now half }
+    {
+        self.half_at(half) + HEAD_LEN as u64
+    }
+
+    /// Where the segment of a half begins.
+    pub fn segment_at(&self, half: Half) -> u64
+        ensures { result ≡ segment_at self.now half }
+    {
+        self.image_at(half) + self.image_len() as u64
+    }
+
+    /// How many bytes the header and both halves take. A device may be longer.
+    pub fn device_len(&self) -> u64
+        ensures { result ≡ device_len self.now }
+    {
+        (HEADER_LEN + 2 * self.half_len()) as u64
+    }
+}

@@ -1,0 +1,65 @@
+//! The device as a whole: a header and two halves, each a head, an image and a segment of the journal.
+//!
+//! | offset | bytes | field of the header |
+//! |---|---|---|
+//! | 0 | 1 | gate |
+//! | 1 | 8 | `ALMSRV01` |
+//! | 9 | 4 | rows, 1 to 16,384 |
+//! | 13 | 2 | areas, 1 to 64 |
+//! | 15 | 8 | length of a segment, L: 4,116 to 16,777,216 |
+//!
+//! | offset in a half | bytes | field |
+//! |---|---|---|
+//! | 0 | 1 | gate |
+//! | 1 | 8 | epoch |
+//! | 9 | 8 | how many actions made the plant of the image, at most 2^48 |
+//! | 17 | 8 | length of the image, I |
+//! | 25 | I | image |
+//! | 25 + I | L | segment |
+//!
+//! The first half begins at 23, the second behind it. Of the halves with open gates the one of greater epoch stands: its image
+//! is that of a plant, and the frames of its segment up to the first closed gate make of it the plant that the device
+//! stands for. Nothing else is read. docs/FORMAT.md tells each field's rule, and where its fault is told.
+//!
+//! The definitions stand in specs/:
+//!
+//! | file | what it defines |
+//! |---|---|
+//! | Layouts | where everything lies, and the limits |
+//! | Headers | the texts of header and head, field by field |
+//! | Opening | which half stands, and the faults of header and heads, in their order |
+//! | Standing | the relations `Stands device epoch plant` and `HasFault device fault` |
+//! | Cut | a device cut into its fields, and what a frame, another half or a checkpoint make of it |
+//! | Restoring | what a half holds, for the contracts of the calls |
+//!
+//! What is used above: [`recover`] gives the plant, epoch and half for which the bytes of a device stand, or their first
+//! fault. By the [`laws`] every list of bytes stands for exactly one plant in one epoch or has exactly one fault, and whatever
+//! lies behind the first closed gate, or in a half that doesn't stand, changes nothing.
+//!
+//! Only [`recover`] and [`Layout::restore`] take memory, and a fault `OutOfMemory` says nothing of the bytes. No contract says
+//! that memory suffices: tests do. There is no checksum: damage that leaves every rule standing is not found.
+#![tactic(auto)]
+
+mod fault;
+mod half;
+mod half_gate;
+mod half_head;
+mod header;
+pub mod laws;
+mod layout;
+mod longest;
+mod no_choice;
+mod recovering;
+mod restore_fault;
+mod restoring;
+mod writing;
+
+pub use fault::Fault;
+pub use half::Half;
+pub use half_gate::{HalfGate, choose, read_half_gate};
+pub use half_head::HalfHead;
+pub use header::read_header;
+pub use layout::{DEVICE_NAME, HEAD_LEN, HEADER_LEN, LONGEST_SEGMENT, Layout, SHORTEST_SEGMENT};
+pub use no_choice::NoChoice;
+pub use recovering::{Recovered, recover};
+pub use restore_fault::RestoreFault;

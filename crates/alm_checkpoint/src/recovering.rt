@@ -1,0 +1,72 @@
+//! What the bytes of a device stand for.
+
+ghost use Rattle.std.specs.Prelude.{◌≡◌, ◌≤◌, ◌+◌, length, IfOk, IfErr};
+ghost use Rattle.alm_checkpoint.specs.Layouts.{part};
+ghost use Rattle.alm_checkpoint.specs.Restoring.{StandsIn, IsRefused};
+
+use crate::half::Half;
+use crate::half_gate::{choose, read_half_gate};
+use crate::header::read_header;
+use crate::layout::{HEAD_LEN, HEADER_LEN, Layout};
+use crate::restore_fault::RestoreFault;
+use alm_model::Alarms;
+use std::alloc::Global;
+
+/// What the bytes of a device stand for.
+#[derive(Drop)]
+pub struct Recovered<P: Drop> {
+    pub layout: Layout,
+    /// The half that stands, and its epoch.
+    pub half: Half,
+    pub epoch: u64,
+    /// Where on the device the first closed gate of its segment is: the next frame goes behind it.
+    pub gate: u64,
+    /// The plant, with the count of actions that made it.
+    pub plant: P,
+}
+
+/// So many bytes from a place on.
+fn part(bytes: &[u8], at: u64, n: usize) -> &[u8]
+    requires { at + n ≤ length bytes.now }
+    ensures bytes { result.now ≡ part at n bytes.now }
+    ensures len { length result.now ≡ n }
+{
+    let (_, rest) = bytes.split_at(at as usize);
+    let (text, _) = rest.split_at(n);
+    text
+}
+
+/// What the bytes of a whole device stand for, or their first fault: of the header, of the choice between the halves, of the
+/// head, the image and the frames of the half that stands, in this order.
+pub fn recover<P: Alarms + Drop>(alloc: Global, device: &[u8]) -> Result<Recovered<P>, RestoreFault>
+    ensures stands { IfOk result (λ r. StandsIn device.now r.layout r.half r.epoch (P.plant r.plant) r.gate) }
+    ensures fault { IfErr result (λ fault. IsRefused device.now fault) }
+{
+    let start = part(device, 0, HEADER_LEN.min(device.len()));
+    let layout = match read_header(start, device.len() as u64) {
+        Ok(layout) => layout,
+        Err(fault) => return Err(RestoreFault::Damaged(fault)),
+    };
+    let first = read_half_gate(part(device, layout.half_at(Half::First), HEAD_LEN));
+    let second = read_half_gate(part(device, layout.half_at(Half::Second), HEAD_LEN));
+    let half = match choose(&first, &second) {
+        Ok(half) => half,
+        Err(why) => return Err(RestoreFault::Damaged(why.fault(&layout))),
+    };
+    let head = match layout.read_half_head(half, part(device, layout.half_at(half), HEAD_LEN)) {
+        Ok(head) => head,
+        Err(fault) => return Err(RestoreFault::Damaged(fault)),
+    };
+    let image = part(device, layout.image_at(half), layout.image_len());
+    let segment = part(device, layout.segment_at(half), layout.segment());
+    match layout.restore(alloc, half, &head, image, segment) {
+        Ok((plant, gate)) => Ok(Recovered {
+            layout,
+            half,
+            epoch: head.epoch,
+            gate,
+            plant,
+        }),
+        Err(fault) => Err(fault),
+    }
+}

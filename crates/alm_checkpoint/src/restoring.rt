@@ -1,0 +1,60 @@
+//! The plant that a half holds.
+
+ghost use Rattle.std.specs.Prelude.{◌≡◌, ◌≤◌, ◌^◌, length, IfOk, IfErr};
+ghost use Rattle.alm_checkpoint.specs.Layouts.{image_size};
+ghost use Rattle.alm_checkpoint.specs.Cut.{IsLayout};
+ghost use Rattle.alm_checkpoint.specs.Opening.{opened_with};
+ghost use Rattle.alm_checkpoint.specs.Restoring.{Holds, IsUnrestored};
+
+use crate::fault::Fault;
+use crate::half::Half;
+use crate::half_head::HalfHead;
+use crate::layout::Layout;
+use crate::restore_fault::RestoreFault;
+use alm_codec::{Damage, ImageFault, read_image};
+use alm_model::{Alarms, PlantParts};
+use alm_segment::replay;
+use std::alloc::Global;
+
+impl Layout {
+    /// The plant that a half holds, by its head, its image and its segment, and where its first closed gate is on the device.
+    ///
+    /// Damage is at the first damaged field of the image, else at the first of the frames, an action that isn't admitted where
+    /// it stands among them. Want of memory says nothing of the bytes.
+    pub fn restore<P: Alarms + Drop>(
+        &self,
+        alloc: Global,
+        half: Half,
+        head: &HalfHead,
+        image: &[u8],
+        segment: &[u8],
+    ) -> Result<(P, u64), RestoreFault>
+        requires layout { IsLayout self.now }
+        requires count { head.now.count ≤ 2 ^ 48 }
+        requires image { length image.now ≡ image_size self.now }
+        requires segment { length segment.now ≡ self.now.segment }
+        ensures holds { IfOk result (λ x. Holds (opened_with self.now half head.now image.now segment.now) (P.plant x.0) x.1) }
+        ensures damage { IfErr result (λ fault. IsUnrestored (opened_with self.now half head.now image.now segment.now) fault) }
+    {
+        let parts = match read_image(alloc, image, self.rows, self.areas, head.count) {
+            Ok(parts) => parts,
+            Err(ImageFault::OutOfMemory) => return Err(RestoreFault::OutOfMemory),
+            Err(ImageFault::Damaged(damage)) => {
+                return Err(RestoreFault::Damaged(Fault::Damaged {
+                    half: half.number(),
+                    at: self.image_at(half) + damage.at as u64,
+                }));
+            }
+        };
+        let Ok(mut plant) = P::build(alloc, parts) else {
+            return Err(RestoreFault::OutOfMemory);
+        };
+        match replay(&mut plant, segment, head.epoch) {
+            Ok(at) => Ok((plant, self.segment_at(half) + at as u64)),
+            Err(damage) => Err(RestoreFault::Damaged(Fault::Damaged {
+                half: half.number(),
+                at: self.segment_at(half) + damage.at as u64,
+            })),
+        }
+    }
+}

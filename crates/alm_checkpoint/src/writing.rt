@@ -1,0 +1,31 @@
+//! Writing the header and the heads of the halves, from behind their gates.
+
+ghost use Rattle.std.specs.Prelude.{◌≡◌, ◌≤◌, ◌++◌, length, drop};
+ghost use Rattle.alm_checkpoint.specs.Headers.{header_text, half_head_text};
+
+use crate::half_head::HalfHead;
+use crate::layout::{DEVICE_NAME, Layout};
+use alm_codec::fields::{put, put_word};
+
+impl Layout {
+    /// Writes the header from behind its gate, 22 bytes; what follows stays.
+    pub fn write_header(&self, out: &mut [u8])
+        requires { 22 ≤ length out.old }
+        ensures { out.new ≡ header_text self.now ++ drop 22 out.old }
+    {
+        let rows_at = put(out, 0, &DEVICE_NAME);
+        let areas_at = put(out, rows_at, &self.rows.to_be_bytes());
+        let segment_at = put(out, areas_at, &(self.areas as u16).to_be_bytes());
+        put_word(out, segment_at, self.segment as u64);
+    }
+
+    /// Writes the head of a half from behind its gate, 24 bytes; what follows stays.
+    pub fn write_half_head(&self, head: &HalfHead, out: &mut [u8])
+        requires { 24 ≤ length out.old }
+        ensures { out.new ≡ half_head_text self.now head.now.epoch head.now.count ++ drop 24 out.old }
+    {
+        let count_at = put_word(out, 0, head.epoch);
+        let image_at = put_word(out, count_at, head.count);
+        put_word(out, image_at, self.image_len() as u64);
+    }
+}

@@ -1,0 +1,53 @@
+//! Every byte of the worked device set in turn to 00, 01, A5 and FF: opening tells what the second judge tells.
+
+use crate::judge::judged;
+use crate::worked::{device, open, set};
+use std::alloc::Global;
+use std::ops::Range;
+use std::test::Fail;
+
+/// The first place in a range where opening and the judge don't agree on a changed byte.
+fn first_dispute(alloc: Global, places: Range<usize>) -> Result<Option<usize>, Fail> {
+    let mut bytes = device(alloc, 2, 800)?;
+    for at in places {
+        let old = *bytes.get(at).ok_or("place")?;
+        for byte in [0, 1, 0xA5, 0xFF] {
+            set(&mut bytes, at, byte)?;
+            if open(alloc, &bytes) != judged(&bytes) {
+                return Ok(Some(at));
+            }
+        }
+        set(&mut bytes, at, old)?;
+    }
+    Ok(None)
+}
+
+#[test]
+fn header_and_head(rt: HostRuntime) -> Result<(), Fail> {
+    assert_eq!(rt; first_dispute(rt.alloc(), 0..64)?, None);
+    Ok(())
+}
+
+#[test]
+fn areas(rt: HostRuntime) -> Result<(), Fail> {
+    assert_eq!(rt; first_dispute(rt.alloc(), 64..9666)?, None);
+    Ok(())
+}
+
+#[test]
+fn alarms(rt: HostRuntime) -> Result<(), Fail> {
+    assert_eq!(rt; first_dispute(rt.alloc(), 9666..10_394)?, None);
+    Ok(())
+}
+
+#[test]
+fn segment(rt: HostRuntime) -> Result<(), Fail> {
+    assert_eq!(rt; first_dispute(rt.alloc(), 10_394..14_510)?, None);
+    Ok(())
+}
+
+#[test]
+fn second_half(rt: HostRuntime) -> Result<(), Fail> {
+    assert_eq!(rt; first_dispute(rt.alloc(), 14_510..28_997)?, None);
+    Ok(())
+}

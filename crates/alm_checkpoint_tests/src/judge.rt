@@ -1,0 +1,133 @@
+//! A second judge of a device: what its bytes stand for, by the tables of the format. It takes numbers at fixed places
+//! and lists each field's rule in order; nothing of the crates under test is called.
+//!
+//! Of actions it follows `CLOCK` and `VALUE` for alarms without flags, which the worked device has; another action counts
+//! as not admitted.
+
+use crate::judge_image::image;
+use crate::judge_journal::Journal;
+use crate::numbers::{byte, number, part, tail};
+use crate::worked::Opened;
+use alm_checkpoint::{Fault, Half};
+
+/// Rows, areas, and the length of a segment.
+#[derive(Clone, Copy)]
+pub struct Sizes {
+    pub rows: u16,
+    pub areas: u16,
+    pub segment: u32,
+}
+
+impl Sizes {
+    fn image(self) -> usize {
+        16 + 4801 * self.areas as usize + 182 * self.rows as usize
+    }
+
+    fn half(self) -> usize {
+        25 + 16 + 4801 * self.areas as usize + 182 * self.rows as usize + self.segment as usize
+    }
+}
+
+fn damaged(half: u8, at: usize) -> Fault {
+    Fault::Damaged {
+        half,
+        at: at as u64,
+    }
+}
+
+fn sizes_of(device: &[u8]) -> Result<Sizes, Fault> {
+    if device.len() < 23 || byte(device, 0) != 0xA5 {
+        return Err(Fault::Unformatted);
+    }
+    if part(device, 1, 8) != b"ALMSRV01".as_slice() {
+        return Err(damaged(2, 1));
+    }
+    let rows = number(device, 9, 4);
+    if rows < 1 || rows > 16_384 {
+        return Err(damaged(2, 9));
+    }
+    let areas = number(device, 13, 2);
+    if areas < 1 || areas > 64 {
+        return Err(damaged(2, 13));
+    }
+    let segment = number(device, 15, 8);
+    if segment < 4116 || segment > 16_777_216 {
+        return Err(damaged(2, 15));
+    }
+    let sizes = Sizes {
+        rows: rows as u16,
+        areas: areas as u16,
+        segment: segment as u32,
+    };
+    if sizes.half() > (device.len() - 23) / 2 {
+        return Err(damaged(2, 15));
+    }
+    Ok(sizes)
+}
+
+/// The half that stands, and where it begins.
+fn standing(device: &[u8], sizes: Sizes) -> Result<(Half, usize), Fault> {
+    let second = sizes.half().saturating_add(23);
+    let epochs = (number(device, 24, 8), number(tail(device, second), 1, 8));
+    match (byte(device, 23) == 0xA5, byte(device, second) == 0xA5) {
+        (false, false) => Err(damaged(2, 23)),
+        (true, false) => Ok((Half::First, 23)),
+        (false, true) => Ok((Half::Second, second)),
+        (true, true) => {
+            if epochs.0 == epochs.1 {
+                Err(damaged(1, second.saturating_add(1)))
+            } else if epochs.0 > epochs.1 {
+                Ok((Half::First, 23))
+            } else {
+                Ok((Half::Second, second))
+            }
+        }
+    }
+}
+
+/// The count after the journal of a half, and where its first closed gate is in the half; or where its first fault is.
+fn counted(bytes: &[u8], sizes: Sizes) -> Result<(u64, usize), usize> {
+    let count = number(bytes, 9, 8);
+    if count > 1 << 48 {
+        return Err(9);
+    }
+    if number(bytes, 17, 8) != sizes.image() as u64 {
+        return Err(17);
+    }
+    let stored = part(bytes, 25, sizes.image());
+    if let Err(at) = image(stored, sizes, count) {
+        return Err(at.saturating_add(25));
+    }
+    let start = sizes.image().saturating_add(25);
+    let segment = part(bytes, start, sizes.segment as usize);
+    match Journal::of(stored, sizes, number(bytes, 1, 8), count).follow(segment) {
+        Ok((count, gate)) => Ok((count, gate.saturating_add(start))),
+        Err(at) => Err(at.saturating_add(start)),
+    }
+}
+
+fn found(device: &[u8]) -> Result<Opened, Fault> {
+    let sizes = sizes_of(device)?;
+    let (which, start) = standing(device, sizes)?;
+    let bytes = tail(device, start);
+    match counted(bytes, sizes) {
+        Ok((count, gate)) => Ok(Opened::Stands {
+            half: which,
+            epoch: number(bytes, 1, 8),
+            count,
+            gate: gate.saturating_add(start) as u64,
+        }),
+        Err(at) => Err(damaged(
+            if which == Half::First { 0 } else { 1 },
+            at.saturating_add(start),
+        )),
+    }
+}
+
+/// What a device stands for, or its first fault.
+pub fn judged(device: &[u8]) -> Opened {
+    match found(device) {
+        Ok(stands) => stands,
+        Err(fault) => Opened::Fault(fault),
+    }
+}
