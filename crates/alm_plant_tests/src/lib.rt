@@ -4,6 +4,7 @@
 //! |---|---|
 //! | `drawn` | 10,000 drawn actions through both plants: all lists, windows, ages, moments and rows are compared after each hundred |
 //! | `built` | plants of an image's parts: lists go by stamps, also where these run against the numbers |
+//! | `iterated` | lists alarm by alarm are those that fill a vector |
 //! | `largest` | 16,384 alarms in 64 areas: made, built and copied |
 //! | `refused` | want of memory: a plant is made whole or not at all |
 //!
@@ -15,6 +16,8 @@
 mod built;
 #[cfg(test)]
 mod drawn;
+#[cfg(test)]
+mod iterated;
 #[cfg(test)]
 mod largest;
 #[cfg(test)]
