@@ -48,7 +48,7 @@ fn a_plant_of_parts_with_shelvings_goes_on_as_the_plain_one(rt: HostRuntime) -> 
     let alloc = rt.alloc();
     let mut plain = PlainPlant::new(alloc, &table(alloc, 9, 3).ok_or("table")?)?;
     for number in [7u32, 2, 5] {
-        let shelve = Action::Shelve(AlarmId(number), 300 - number);
+        let shelve = Action::Shelve(AlarmId(number), 300u32.saturating_sub(number));
         if plain.admits(&shelve).is_ok() {
             plain.apply(&shelve);
         }
