@@ -3,7 +3,6 @@
 //! | module | what it runs |
 //! |---|---|
 //! | `drawn` | 10,000 drawn actions through both plants: all lists, windows, ages, moments and rows are compared after each hundred |
-//! | `built` | plants of an image's parts: lists go by stamps, also where these run against the numbers |
 //! | `iterated` | lists alarm by alarm are those that fill a vector |
 //! | `largest` | 16,384 alarms in 64 areas: made, built and copied |
 //! | `refused` | want of memory: a plant is made whole or not at all |
@@ -12,8 +11,6 @@
 //! `alm_plant_rows`.
 #![tactic(auto)]
 
-#[cfg(test)]
-mod built;
 #[cfg(test)]
 mod drawn;
 #[cfg(test)]

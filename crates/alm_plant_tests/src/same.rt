@@ -67,8 +67,9 @@ pub fn is_same<P: Alarms, Q: Alarms>(
         && one.next_stamp() == other.next_stamp()
         && one.alarms() == other.alarms()
         && one.areas() == other.areas();
-    for area in 0..one.areas() as u32 {
-        same = same && is_area_same(one, other, area);
+    for area in 0..64 {
+        let is_area = one.has_list(List::Area(area));
+        same = same && (!is_area || is_area_same(one, other, area));
     }
     for number in 0..one.alarms() as u32 {
         same = same && is_alarm_same(one, other, number);
