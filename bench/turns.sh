@@ -22,7 +22,7 @@ run_in_turns() {
 }
 
 # Prints the best times in a unit, which is so many nanoseconds (an expression over `key`), and their ratio. The answers have to
-# be the same.
+# be the same. What the plain program doesn't do is printed alone.
 print_ratios() {
     awk '
         { key = $2; if (!(key in sum)) { order[++n] = key; sum[key] = $3 } }
@@ -33,6 +33,10 @@ print_ratios() {
                 key = order[i]
                 unit = '"$2"'
                 ours = best["ours", key]
+                if (!(("plain", key) in best)) {
+                    printf "%-28s ours %8.2f '"$1"'\n", key, ours / unit
+                    continue
+                }
                 plain = best["plain", key]
                 printf "%-28s ours %8.2f '"$1"'   plain %8.2f '"$1"'   ratio %.2f\n", key, ours / unit, plain / unit, ours / plain
             }

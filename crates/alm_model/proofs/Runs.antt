@@ -1,6 +1,7 @@
 -- Laws of runs: what actions count, and what they leave of a plant's sizes; lists of admitted actions.
 use Rattle.std.proofs.Common.{◌≡◌, ℕ, ◌+◌, ◌-◌, ◌^◌, ◌≤◌, ◌<◌, Bool, true, false, ltb, List, [], ◌∷◌, ◌++◌, length, map, sum, Option, Some, None, refl, ◌∙◌, arith}
-use Rattle.std.specs.Prelude.{fold, slice_get}
+use Rattle.std.specs.Prelude.{fold, slice_get, ◌&&◌}
+use Rattle.std.specs.Option.{is_none}
 use Rattle.std.proofs.lemmas.List.{length-set, length-map}
 use Rattle.std.proofs.lemmas.Bool.{ltb-true}
 use Rattle.alm_types.specs.declared.attr.Attr.{Attr}
@@ -13,11 +14,11 @@ use Rattle.alm_state.specs.Outcome.{outcome, unshelved, or_else, unless}
 use Rattle.alm_state.specs.declared.outcome.Outcome.{Outcome}
 use Rattle.alm_state.specs.declared.outcome.Outcome.TheVariants.{Changed, Annunciated, Shelved}
 use Rattle.alm_model.specs.Plant.{Condensed}
-use Rattle.alm_model.specs.Accept.{own_refusal}
+use Rattle.alm_model.specs.Accept.{own_refusal, refusal}
 use Rattle.alm_model.specs.Lists.{due}
 use Rattle.alm_model.specs.Keeping.{condensed, aged, one_more, area_of}
 use Rattle.alm_model.specs.Step.{put, touched, touch, unshelve, later, acted, counted, settled, step, run}
-use Rattle.alm_model.specs.Rules.{AreAdmitted, AllAdmitted}
+use Rattle.alm_model.specs.Rules.{AreAdmitted, AllAdmitted, admits_all}
 use Rattle.alm_model.proofs.Measured.{change-length}
 
 -- ---- each action is counted
@@ -149,3 +150,16 @@ admitted_parts q (x ∷ xs) ys h = let more = admitted_parts (step q x) xs ys h.
 pub all_admitted : (q : Condensed) (actions : List Action) → AreAdmitted q actions → AllAdmitted q actions
 all_admitted q [] h = tt
 all_admitted q (a ∷ actions) h = (h.1, all_admitted (step q a) actions h.2)
+
+-- both ways to say that actions are admitted
+admitted_by : (o : Option Refusal) (b : Bool) → (is_none o && b) ≡ true → (o ≡ None) × (b ≡ true)
+admitted_by None b is = (refl, is)
+admitted_by (Some r) b is = absurd cc
+
+pub admitted_where : (q : Condensed) (actions : List Action) → admits_all q actions ≡ true → AllAdmitted q actions
+admitted_where q [] is = tt
+admitted_where q (a ∷ actions) is = let both = admitted_by (refusal q.panel a) (admits_all (step q a) actions) is in (both.0, admitted_where (step q a) actions both.1)
+
+pub admits_where : (q : Condensed) (actions : List Action) → AllAdmitted q actions → admits_all q actions ≡ true
+admits_where q [] all = refl
+admits_where q (a ∷ actions) all = rw (all.0, admits_where (step q a) actions all.1) refl

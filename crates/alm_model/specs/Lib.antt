@@ -1,6 +1,7 @@
 pub mod Accept
 pub mod Condense
 pub mod Counted
+pub mod Judging
 pub mod Keeping
 pub mod Lists
 pub mod Look

@@ -8,6 +8,7 @@
 //! | Accept | which requests are accepted, and the first refusal of each other |
 //! | Step | what an action does: `after` on the whole plant, `step` on the condensed one, `run` for a list of actions |
 //! | Lists | the lists by priority, area and wheel slot, and those of the measures |
+//! | Judging | what is answered to a request, the plant after the answer, and the legal histories: lists of requests with their answers |
 //! | Keeping, Condense, Counted | windows, floods and chattering, from all annunciations and condensed |
 //! | Rules | the one record of what every plant keeps |
 //! | New, Parts | the new plant of a table, and the plant of its parts |
@@ -22,6 +23,7 @@ mod ages;
 mod alarms;
 mod alarms_by_number;
 mod floods;
+mod judging;
 pub mod laws;
 mod list;
 mod lists;
@@ -39,6 +41,7 @@ pub use ages::Ages;
 pub use alarms::Alarms;
 pub use alarms_by_number::AlarmsByNumber;
 pub use floods::is_flood;
+pub use judging::{accepted_in, judge};
 pub use list::List;
 pub use lists::fill_by_number;
 pub use plain_plant::PlainPlant;

@@ -120,6 +120,7 @@ fn free(wheel: &mut Wheel, node: u32)
 }
 
 /// An alarm's places in the lists of its priority and area, unless they stay.
+#[inline(always)]
 fn rechain(chains: &mut Chains, stays: bool, index: u32, attr: &Attr, row: &Row)
     requires two { length chains.old.families ≡ 2 }
     requires node { index < chains.old.nodes }

@@ -2,6 +2,7 @@
 //!
 //! | module | what it runs |
 //! |---|---|
+//! | `built` | a plant of an image's parts is the plain one of that image, in stamp order where stamps run against numbers, and goes on like it |
 //! | `drawn` | 10,000 drawn actions through both plants: all lists, windows, ages, moments and rows are compared after each hundred |
 //! | `iterated` | lists alarm by alarm are those that fill a vector |
 //! | `largest` | 16,384 alarms in 64 areas: made, built and copied |
@@ -11,6 +12,8 @@
 //! `alm_plant_rows`.
 #![tactic(auto)]
 
+#[cfg(test)]
+mod built;
 #[cfg(test)]
 mod drawn;
 #[cfg(test)]

@@ -15,10 +15,11 @@
 //!
 //! What is used above: contracts see all that ever went into a ring at one end, and all that ever came out at the
 //! other. Every call says that it is still the same end, and what became of these lists. Between threads nothing ties
-//! the two lists together, until both ends are in one thread: then [`beside`], [`batches_beside`] and [`close_slot`] say
-//! that what came out is a front of what went in, in order. A [`Receipt`] says more by its type, in whatever thread:
-//! the list that it tells reaches its number, and an accepted action stands there. A batch that comes back has no
-//! entries.
+//! the two lists together, until both ends are in one thread: then [`beside`], its halves [`requests_beside`] and
+//! [`replies_beside`], [`batches_beside`] and [`close_slot`] say that what came out is a front of what went in, in
+//! order. A [`Receipt`] says more by its type, in whatever thread: the list that it tells reaches its number, and an
+//! accepted action stands there. A batch that comes back has no entries. Who holds the ends of many slots finds them by
+//! their slots: specs/Placed defines the end of a slot, and what no slot with two ends means.
 //!
 //! It is not promised that anything sent is ever taken, nor anything released ever received.
 #![tactic(auto)]
@@ -45,6 +46,6 @@ pub use inbox::Inbox;
 pub use outbox::Outbox;
 pub use receipt::Receipt;
 pub use seal_ends::SealEnds;
-pub use slot::{beside, close_slot, open_slot};
+pub use slot::{beside, close_slot, open_slot, replies_beside, requests_beside};
 pub use slot_report::SlotReport;
 pub use told::Told;

@@ -2,6 +2,7 @@
 
 ghost use Rattle.std.specs.Prelude.{◌≡◌, ◌+◌, ◌-◌, ◌<◌, ◌≤◌, ◌^◌, ◌++◌, [], IfOk, IfSome, IsSome, length, min};
 ghost use mathlib.Core.List.{IsPrefix};
+ghost use Rattle.rtrb.specs.Ring.{IsPair};
 ghost use Rattle.alm_rings.specs.Ends.{AreEnds, SameConsole, SameInbox, SameOutbox, sent_of, received_of, taken_of, released_of, waiting_in, coming_to, room_of, room_in};
 
 use crate::console::{Console, ROOM};
@@ -47,6 +48,37 @@ pub fn open_slot<T: Told + Drop>(
     Ok((console, inbox, outbox))
 }
 
+/// Tells the two ends of a slot's ring of requests, in one thread, what the other did. Takes no memory.
+pub fn requests_beside<T: Told + Drop>(console: &mut Console<T>, inbox: &mut Inbox)
+    requires { IsPair console.old.requests inbox.old.requests }
+    ensures ends { IsPair console.new.requests inbox.new.requests }
+    ensures same { SameConsole console.old console.new × SameInbox inbox.old inbox.new }
+    ensures sent { (sent_of console.new ≡ sent_of console.old) × (taken_of inbox.new ≡ taken_of inbox.old) }
+    ensures replies { (received_of console.new ≡ received_of console.old) × (coming_to console.new ≡ coming_to console.old) }
+    ensures requests { taken_of inbox.new ++ waiting_in inbox.new ≡ sent_of console.new }
+    ensures serials { length (sent_of console.new) < 2 ^ 64 }
+    ensures few { length (sent_of console.new) ≤ 64 + length (received_of console.new) }
+    ensures room { 64 + length (taken_of inbox.new) ≤ room_of console.new + length (sent_of console.new) }
+{
+    let _serial = console.serial;
+    console.requests.slots_beside(&mut inbox.requests);
+    inbox.requests.slots_beside(&mut console.requests);
+}
+
+/// Tells the two ends of a slot's ring of receipts, in one thread, what the other did. Takes no memory.
+pub fn replies_beside<T: Told + Drop>(console: &mut Console<T>, outbox: &mut Outbox<T>)
+    requires { IsPair outbox.old.replies console.old.replies }
+    ensures ends { IsPair outbox.new.replies console.new.replies }
+    ensures same { SameConsole console.old console.new × SameOutbox outbox.old outbox.new }
+    ensures released { (received_of console.new ≡ received_of console.old) × (released_of outbox.new ≡ released_of outbox.old) }
+    ensures requests { (sent_of console.new ≡ sent_of console.old) × (room_of console.new ≡ room_of console.old) }
+    ensures replies { received_of console.new ++ coming_to console.new ≡ released_of outbox.new }
+    ensures room { 64 + length (received_of console.new) ≤ room_in outbox.new + length (released_of outbox.new) }
+{
+    outbox.replies.slots_beside(&mut console.replies);
+    console.replies.slots_beside(&mut outbox.replies);
+}
+
 /// Tells each of a slot's three ends, in one thread, what the others did. Takes no memory.
 pub fn beside<T: Told + Drop>(console: &mut Console<T>, inbox: &mut Inbox, outbox: &mut Outbox<T>)
     requires { AreEnds console.old inbox.old outbox.old }
@@ -61,11 +93,8 @@ pub fn beside<T: Told + Drop>(console: &mut Console<T>, inbox: &mut Inbox, outbo
     ensures room { 64 + length (taken_of inbox.new) ≤ room_of console.new + length (sent_of console.new) }
     ensures reply_room { 64 + length (received_of console.new) ≤ room_in outbox.new + length (released_of outbox.new) }
 {
-    let _serial = console.serial;
-    console.requests.slots_beside(&mut inbox.requests);
-    outbox.replies.slots_beside(&mut console.replies);
-    inbox.requests.slots_beside(&mut console.requests);
-    console.replies.slots_beside(&mut outbox.replies);
+    requests_beside(console, inbox);
+    replies_beside(console, outbox);
 }
 
 /// Ends a slot, and reports what went through it. Always `Some`, since all its ends are at hand.

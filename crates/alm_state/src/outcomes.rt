@@ -94,6 +94,7 @@ fn followed(row: Row, attr: &Attr, active: bool, stamp: u64) -> Outcome
 }
 
 /// What an action at a moment makes of the alarm that it names.
+#[inline(always)]
 pub fn outcome_of(now: Moment, stamp: u64, action: &Action, attr: &Attr, row: &Row) -> Outcome
     requires stamp { 0 < stamp }
     requires admitted { row_refusal action.now attr.now row.now ≡ None }

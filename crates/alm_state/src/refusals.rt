@@ -20,6 +20,7 @@ fn flag_refusal(on: bool, set: bool) -> Option<Refusal>
 }
 
 /// Why the alarm refuses an action that names it.
+#[inline(always)]
 pub fn row_refusal(action: &Action, attr: &Attr, row: &Row) -> Option<Refusal>
     ensures { result ≡ row_refusal action.now attr.now row.now }
 {

@@ -1,0 +1,10 @@
+#!/usr/bin/env bash
+# Times actions, seconds and fills of the linked plant beside plain Rust on the same input. It needs rt and rustc.
+set -eu
+here="$(cd "$(dirname "$0")" && pwd)"
+. "$here/../turns.sh"
+
+build alm_plant_speed
+rustc -O "$here/plain.rs" -o "$work/plain"
+run_in_turns alm_plant_speed
+print_ratios ns 'key == "fill" ? 2000 : key == "plain_fill" ? 2 : sum[key]'

@@ -1,0 +1,50 @@
+//! What shows the published plant.
+
+use alm_rings::Told;
+use alm_types::Batch;
+use std::alloc::AllocError;
+
+/// What shows the published plant.
+pub trait Board {
+    ghost use Rattle.std.specs.Prelude.{◌≡◌, List};
+    ghost use Rattle.alm_types.specs.declared.action.Action.{Action};
+    ghost use Rattle.alm_model.specs.Plant.{Condensed};
+
+    type Told: Told;
+
+    /// The plant that the run begins with.
+    ghost base: { Self → Condensed };
+
+    /// The actions that were published since, oldest first.
+    ghost published: { Self → List Action };
+
+    /// Those that were handed over and are not shown yet: a publish that was refused leaves them.
+    ghost pending: { Self → List Action };
+
+    /// What is published now.
+    fn tell(&self) -> Self::Told
+        ensures base { Self.Told.base_count result ≡ (base self.now).panel.count }
+        ensures list { Self.Told.list result ≡ published self.now };
+}
+
+/// A board that shows a batch more by `C`.
+pub trait Publish<C>: Board {
+    ghost use Rattle.std.specs.Prelude.{◌≡◌, ◌++◌, [], IsOk, OnOk, OnErr};
+    ghost use Rattle.alm_model.specs.Judging.{accepted_of};
+    ghost use Rattle.alm_model.specs.Rules.{AllAdmitted};
+    ghost use Rattle.alm_model.specs.Step.{run};
+    ghost use Rattle.alm_board.specs.Fronts.{IsFront};
+
+    /// It takes no memory.
+    ghost sure: { Type 0 };
+
+    /// Shows the accepted actions of a batch: the next ones, and after a refusal those of the same batch. An error only for want
+    /// of memory: nothing new is shown, and the next call goes on where it stopped.
+    fn publish(&mut self, by: &C, batch: &Batch) -> Result<(), AllocError>
+        requires admitted { AllAdmitted (run (Self.base self.old) (Self.published self.old)) (accepted_of batch.now.entries) }
+        requires same { IsFront (Self.pending self.old) (accepted_of batch.now.entries) }
+        ensures base { Self.base self.new ≡ Self.base self.old }
+        ensures ok { OnOk result ((Self.published self.new ≡ Self.published self.old ++ accepted_of batch.now.entries) × (Self.pending self.new ≡ [])) }
+        ensures err { OnErr result ((Self.published self.new ≡ Self.published self.old) × IsFront (Self.pending self.new) (accepted_of batch.now.entries)) }
+        ensures sure { sure → IsOk result };
+}

@@ -1,0 +1,146 @@
+//! A file as a device.
+
+ghost use Rattle.std.specs.Prelude.{◌≡◌, ◌≤◌, ℕ, IfOk, OnOk, OnErr};
+ghost use Rattle.alm_disk.specs.Failures.{CountsFault, last_count};
+
+use alm_disk::{Disk, DiskFault};
+use std::fs::{File, Files, OpenOptions};
+use std::io;
+use std::os::unix::fs::FileExt;
+use std::path::Path;
+
+/// A file, its size in bytes when it was opened, and how often a call of it failed.
+#[derive(Drop)]
+pub struct FileDisk {
+    file: File,
+    size: u64,
+    failures: u64,
+    ghost counted: { failures ≤ last_count },
+}
+
+/// Locks a file for this process alone.
+fn lock(file: &File) -> io::Result<()> {
+    file.try_lock()?;
+    Ok(())
+}
+
+/// Waits until the folder of a file, which has its name, is on the disk.
+fn sync_folder<R: Files<File = File>>(rt: &R, path: &str) -> io::Result<()> {
+    let folder = match Path::new(path).parent() {
+        Some(folder) if !folder.as_str().is_empty() => folder,
+        _ => Path::new("."),
+    };
+    File::open(rt, folder)?.sync_all()
+}
+
+/// How many bytes are read and written at once.
+const PIECE: usize = 16_384;
+
+/// Writes the bytes of a file up to a place anew, as they read: so each of them has its place on the disk, and a later write can't meet
+/// a full one.
+fn take_room(file: &File, used: u64) -> io::Result<()> {
+    let mut piece = [0u8; PIECE];
+    for at in (0..used).step_by(PIECE) {
+        let length = (used - at).min(PIECE as u64) as usize;
+        file.read_exact_at(&mut piece[..length], at)?;
+        file.write_all_at(&piece[..length], at)?;
+    }
+    Ok(())
+}
+
+impl FileDisk {
+    /// The file at a path, as long as it is. It is refused where there is none, or another process has it open.
+    pub fn open<R: Files<File = File>>(rt: &R, path: &str) -> io::Result<FileDisk>
+        ensures count { IfOk result (λ d. ⟦<FileDisk as Disk>⟧.failures d ≡ 0) }
+    {
+        let file = OpenOptions::new().read(true).write(true).open(rt, path)?;
+        lock(&file)?;
+        let size = file.metadata()?.len();
+        Ok(FileDisk {
+            file,
+            size,
+            failures: 0,
+        })
+    }
+
+    /// The file at a path, made where there is none, cut or lengthened with zeros to a size, with room on the disk for the
+    /// bytes that are used.
+    pub fn make<R: Files<File = File>>(
+        rt: &R,
+        path: &str,
+        size: u64,
+        used: u64,
+    ) -> io::Result<FileDisk>
+        ensures size { IfOk result (λ d. ⟦<FileDisk as Disk>⟧.size d ≡ size) }
+        ensures count { IfOk result (λ d. ⟦<FileDisk as Disk>⟧.failures d ≡ 0) }
+    {
+        let file = OpenOptions::new()
+            .read(true)
+            .write(true)
+            .create(true)
+            .open(rt, path)?;
+        lock(&file)?;
+        file.set_len(size)?;
+        take_room(&file, used.min(size))?;
+        file.sync_all()?;
+        sync_folder(rt, path)?;
+        Ok(FileDisk {
+            file,
+            size,
+            failures: 0,
+        })
+    }
+
+    /// Counts a failure.
+    fn count(&mut self, answer: io::Result<()>) -> Result<(), DiskFault>
+        ensures size { self.new.size ≡ self.old.size }
+        ensures count { CountsFault result self.old.failures self.new.failures }
+    {
+        match answer {
+            Ok(()) => Ok(()),
+            Err(_) => {
+                self.failures = self.failures.saturating_add(1);
+                Err(DiskFault)
+            }
+        }
+    }
+}
+
+impl Disk for FileDisk {
+    ghost use Rattle.std.specs.Prelude.{[], false, ⊤};
+    ghost use Rattle.alm_disk.specs.Device.{DeviceState};
+
+    // No proof says what a file does.
+    ghost honest = { λ _. ⊥ };
+
+    ghost state = { λ _. record { bytes = []; pending = λ _. false; faulted = false } };
+
+    ghost size = { λ d. d.size };
+
+    ghost failures = { λ d. d.failures };
+
+    ghost serves = { λ _ _ _ _. ⊤ };
+
+    ghost whole = { λ _ honest. absurd honest };
+
+    ghost own_image = { λ _ honest. absurd honest };
+
+    fn size(&self) -> u64 {
+        self.size
+    }
+
+    fn read_at(&mut self, at: u64, into: &mut [u8]) -> Result<(), DiskFault> {
+        let answer = self.file.read_exact_at(into, at);
+        self.count(answer)
+    }
+
+    fn write_at(&mut self, at: u64, bytes: &[u8]) -> Result<(), DiskFault> {
+        let answer = self.file.write_all_at(bytes, at);
+        self.count(answer)
+    }
+
+    fn sync(&mut self) -> Result<(), DiskFault> {
+        let answer = self.file.sync_data();
+        self.count(answer)
+    }
+}

@@ -1,0 +1,18 @@
+//! Tests of the parts between the threads, driven in one thread: the sequencer, the flusher and the plain board, with the
+//! ends of all 18 slots, over a keeper of a formatted device.
+//!
+//! [`parts`] has them all, and is proved with the crate itself. Expected answers are those of the worked rows, or counted by
+//! hand: a frame of one action has 35 bytes, a commit is four device calls, and so is a checkpoint.
+#![tactic(auto)]
+
+#[cfg(test)]
+mod course;
+pub mod ends;
+pub mod opened;
+pub mod parts;
+#[cfg(test)]
+mod rows;
+#[cfg(test)]
+mod slots;
+#[cfg(test)]
+mod storage;

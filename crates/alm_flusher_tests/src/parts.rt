@@ -1,0 +1,122 @@
+//! The parts between the threads, in one thread.
+
+ghost use Rattle.std.specs.Prelude.{◌≡◌, ◌<◌, ℕ, IsSome};
+ghost use Rattle.alm_rings.specs.Placed.{inbox_at};
+
+use crate::ends::{Ends, open_ends};
+use crate::opened::open_formatted;
+use alm_board::{PlainBoard, PlainTold};
+use alm_disk::MemDisk;
+use alm_flusher::{Advance, Fetch, Flusher, Publishes, Release};
+use alm_keeper::Keeper;
+use alm_model::Alarms;
+use alm_plant::Plant;
+use alm_rings::{Console, Receipt, batches_beside, open_batches};
+use alm_sequencer::{Seal, Sequencer, Take};
+use alm_service::worked_table;
+use alm_types::{Action, Slot};
+use std::alloc::{AllocError, Global};
+
+/// A flusher over a device in memory.
+pub type MemFlusher = Flusher<Keeper<MemDisk>, PlainTold, PlainBoard<Plant>>;
+
+/// The consoles, the sequencer and the flusher of all slots.
+#[derive(Drop)]
+pub struct Parts {
+    pub consoles: Vec<Console<PlainTold>>,
+    sequencer: Sequencer<Plant>,
+    pub flusher: MemFlusher,
+    ghost all: { (s : ℕ) → s < 18 → IsSome (inbox_at s sequencer.inboxes.items) },
+}
+
+impl Parts {
+    ghost use Rattle.std.specs.Prelude.{◌≡◌, []};
+    ghost use Rattle.alm_rings.specs.Ends.{taken_of, released_of};
+    ghost use Rattle.alm_flusher_tests.specs.Fresh.{AreFresh};
+
+    /// The parts of new ends over a device of a size that was formatted for the worked table, and that may be called so often.
+    pub fn open(alloc: Global, size: usize, calls: usize) -> Result<Self, AllocError> {
+        Parts::of(alloc, open_ends(alloc)?, size, calls)
+    }
+
+    /// The parts of these ends.
+    pub fn of(alloc: Global, ends: Ends, size: usize, calls: usize) -> Result<Self, AllocError>
+        requires inboxes { AreFresh (λ i. i.slot) (λ i. taken_of i ≡ []) 18 ends.inboxes.items }
+        requires outboxes { AreFresh (λ o. o.slot) (λ o. released_of o ≡ []) 18 ends.outboxes.items }
+    {
+        let table = worked_table(alloc)?;
+        let store = open_formatted(alloc, &table, size, calls)?;
+        let live = store.stored().copy(alloc)?;
+        let shown = store.stored().copy(alloc)?;
+        let (mut seal, mut fetch) = open_batches(alloc)?;
+        batches_beside(&mut seal, &mut fetch);
+        let Ends {
+            consoles,
+            inboxes,
+            outboxes,
+        } = ends;
+        Ok(Parts {
+            consoles,
+            sequencer: Sequencer::new(live, inboxes, seal),
+            flusher: Flusher::new(store, PlainBoard::new(shown), outboxes, fetch),
+        })
+    }
+
+    /// Sends an action, and gives its serial; `None` where it is busy.
+    pub fn send(&mut self, slot: Slot, action: Action) -> Option<u64> {
+        let console = self.consoles.get_mut(slot.number() as usize)?;
+        console.send(action).ok()
+    }
+
+    /// The next receipt of a slot.
+    pub fn receive(&mut self, slot: Slot) -> Option<Receipt<PlainTold>> {
+        let console = self.consoles.get_mut(slot.number() as usize)?;
+        console.receive()
+    }
+
+    /// Takes the next request of a slot.
+    pub fn take(&mut self, slot: Slot) -> Take {
+        self.sequencer.take(slot)
+    }
+
+    /// Seals the open batch.
+    pub fn seal(&mut self) -> Seal {
+        self.sequencer.seal()
+    }
+
+    /// Fetches a batch, commits it and publishes it: how many steps the commit took, or `None` where one of these didn't go.
+    pub fn store(&mut self, most: u64) -> Option<u64> {
+        match self.flusher.fetch() {
+            Fetch::Got => {}
+            _ => return None,
+        }
+        for step in 1..=most {
+            match self.flusher.advance() {
+                Advance::More => {}
+                Advance::Committed => {
+                    return match self.flusher.publish(&()) {
+                        Publishes::Published => Some(step),
+                        _ => None,
+                    };
+                }
+                _ => return None,
+            }
+        }
+        None
+    }
+
+    /// Releases so many verdicts: whether each went to its slot.
+    pub fn release(&mut self, slots: &[Slot]) -> bool {
+        for slot in slots {
+            match self.flusher.release() {
+                Release::Released(to) => {
+                    if to != *slot {
+                        return false;
+                    }
+                }
+                _ => return false,
+            }
+        }
+        true
+    }
+}

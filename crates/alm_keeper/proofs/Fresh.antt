@@ -1,0 +1,245 @@
+-- A device on which all is written stands for the new plant.
+use Rattle.std.proofs.Common.{◌≡◌, inl, inr, ⊎_elim, ℕ, suc, ◌+◌, ◌-◌, ◌≤◌, true, false, leb, List, [], ◌∷◌, ◌++◌, length, take, drop, refl, sym, ◌∙◌, ap, subst, arith, append_assoc, length-append, length-drop, take-append-drop}
+use Rattle.std.proofs.lemmas.Bool.{leb-true, le-leb, and_parts, and_from}
+use Rattle.std.proofs.lemmas.List.{append-nil, length-take-le, take_at, drop_at, length-replicate}
+use Rattle.alm_types.specs.Tables.{Listing, IsTable}
+use Rattle.alm_model.specs.Plant.{Condensed}
+use Rattle.alm_model.specs.New.{new_plant, at_rest}
+use Rattle.alm_model.proofs.Kept.{new-keeps}
+use Rattle.alm_codec.specs.Image.{IsOf, image_text, image_len}
+use Rattle.alm_codec.proofs.Spelled.{image_length}
+use Rattle.alm_disk.specs.Device.{DeviceState}
+use Rattle.alm_checkpoint.specs.declared.layout.Layout.{Layout}
+use Rattle.alm_checkpoint.specs.declared.half.Half.TheVariants.{First, Second}
+use Rattle.alm_checkpoint.specs.Layouts.{half_at, half_len, image_size, device_len, is_rows, is_areas, is_segment}
+use Rattle.alm_checkpoint.specs.Headers.{header_text, half_head_text, of_rows}
+use Rattle.alm_checkpoint.specs.Cut.{Cut, IsLayout, Stores, device_of}
+use Rattle.alm_checkpoint.proofs.Shown.{shown, shown_opens}
+use Rattle.alm_segment.proofs.Segments.{folds}
+use Rattle.alm_keeper.specs.Formatting.{IsLongest, IsNew, IsWritten, Leaves, LeavesOf, put, filled, opened, first_half}
+
+-- ---- the bytes
+
+put_mid : (at : ℕ) (bytes front old back : List ℕ) → at ≡ length front → length bytes ≡ length old → put at bytes (front ++ old ++ back) ≡ front ++ bytes ++ back
+put_mid at bytes front old back place long = (λ i. take (place i) (front ++ old ++ back) ++ bytes ++ drop (place i + long i) (front ++ old ++ back)) ∙ (λ i. take_front i ++ bytes ++ drop_back i)
+  where
+    take_front : take (length front) (front ++ old ++ back) ≡ front
+    take_front = ap (take (length front)) (append_assoc front old back) ∙ take_at front (old ++ back) (length front) refl
+
+    drop_back : drop (length front + length old) (front ++ old ++ back) ≡ back
+    drop_back = drop_at (front ++ old) back (length front + length old) (length-append front old)
+
+-- the same, where the list is regrouped before and behind
+put_in : (at : ℕ) (bytes front old back all after : List ℕ) → all ≡ front ++ old ++ back → front ++ bytes ++ back ≡ after → at ≡ length front → length bytes ≡ length old → put at bytes all ≡ after
+put_in at bytes front old back all after is to place long = ap (put at bytes) is ∙ put_mid at bytes front old back place long ∙ to
+
+record Split (n : ℕ) (x : List ℕ) : Type 0 where
+  first : List ℕ
+  second : List ℕ
+  long : length first ≡ n
+  is : x ≡ first ++ second
+  left : length second + n ≡ length x
+
+split : (n : ℕ) (x : List ℕ) → n ≤ length x → Split n x
+split n x le = record { first = take n x; second = drop n x; long = length-take-le n x le; is = sym (take-append-drop n x); left = omega (arith, length-drop n x) }
+
+-- a device cut at the places that the calls write
+record Pieces (l : Layout) (x : List ℕ) : Type 0 where
+  a : List ℕ
+  h : List ℕ
+  m : List ℕ
+  s : List ℕ
+  g : List ℕ
+  o : List ℕ
+  r : List ℕ
+  by_a : length a ≡ 1
+  by_h : length h ≡ 22
+  by_m : length m ≡ 26 + image_size l
+  by_s : length s + 1 ≡ l.segment
+  by_g : length g ≡ 1
+  by_o : length o + 1 ≡ half_len l
+  is : x ≡ a ++ (h ++ (m ++ (s ++ (g ++ (o ++ r)))))
+
+module _ (l : Layout) (x : List ℕ) (some : 1 ≤ l.segment) (fits : device_len l ≤ length x) where
+  cut_o : (a h m s g y : List ℕ) → length a ≡ 1 → length h ≡ 22 → length m ≡ 26 + image_size l → length s + 1 ≡ l.segment → length g ≡ 1 → x ≡ a ++ (h ++ (m ++ (s ++ (g ++ y)))) → Split (half_len l - 1) y → Pieces l x
+  cut_o a h m s g y by_a by_h by_m by_s by_g is p = record {
+    a = a;
+    h = h;
+    m = m;
+    s = s;
+    g = g;
+    o = p.first;
+    r = p.second;
+    by_a = by_a;
+    by_h = by_h;
+    by_m = by_m;
+    by_s = by_s;
+    by_g = by_g;
+    by_o = omega (arith, p.long);
+    is = is ∙ ap (λ (z : List ℕ). a ++ (h ++ (m ++ (s ++ (g ++ z))))) p.is;
+  }
+
+  cut_g : (a h m s y : List ℕ) → length a ≡ 1 → length h ≡ 22 → length m ≡ 26 + image_size l → length s + 1 ≡ l.segment → half_len l ≤ length y → x ≡ a ++ (h ++ (m ++ (s ++ y))) → Split 1 y → Pieces l x
+  cut_g a h m s y by_a by_h by_m by_s enough is p =
+      cut_o a h m s p.first p.second by_a by_h by_m by_s p.long (is ∙ ap (λ (z : List ℕ). a ++ (h ++ (m ++ (s ++ z)))) p.is) (split (half_len l - 1) p.second (omega (arith, enough, p.left)))
+
+  cut_s : (a h m y : List ℕ) → length a ≡ 1 → length h ≡ 22 → length m ≡ 26 + image_size l → l.segment + half_len l ≤ length y + 1 → x ≡ a ++ (h ++ (m ++ y)) → Split (l.segment - 1) y → Pieces l x
+  cut_s a h m y by_a by_h by_m enough is p =
+      cut_g a h m p.first p.second by_a by_h by_m (omega (arith, p.long, some)) (omega (arith, enough, p.left, some)) (is ∙ ap (λ (z : List ℕ). a ++ (h ++ (m ++ z))) p.is) (split 1 p.second (omega (arith, enough, p.left, some)))
+
+  cut_m : (a h y : List ℕ) → length a ≡ 1 → length h ≡ 22 → half_len l + half_len l ≤ length y → x ≡ a ++ (h ++ y) → Split (26 + image_size l) y → Pieces l x
+  cut_m a h y by_a by_h enough is p =
+      cut_s a h p.first p.second by_a by_h p.long (omega (arith, enough, p.left)) (is ∙ ap (λ (z : List ℕ). a ++ (h ++ z)) p.is) (split (l.segment - 1) p.second (omega (arith, enough, p.left)))
+
+  cut_h : (a y : List ℕ) → length a ≡ 1 → 22 + half_len l + half_len l ≤ length y → x ≡ a ++ y → Split 22 y → Pieces l x
+  cut_h a y by_a enough is p = cut_m a p.first p.second by_a p.long (omega (arith, enough, p.left)) (is ∙ ap (λ (z : List ℕ). a ++ z) p.is) (split (26 + image_size l) p.second (omega (arith, enough, p.left, some)))
+
+  cut_a : Split 1 x → Pieces l x
+  cut_a p = cut_h p.first p.second p.long (omega (arith, fits, p.left)) p.is (split 22 p.second (omega (arith, fits, p.left)))
+
+  pieces : Pieces l x
+  pieces = cut_a (split 1 x (omega (arith, fits)))
+
+g1 : (a h m s g r : List ℕ) → a ++ (h ++ (m ++ (s ++ (g ++ r)))) ≡ a ++ h ++ (m ++ (s ++ (g ++ r)))
+g1 a h m s g r = simp append_assoc
+
+g2 : (a h m s g r : List ℕ) → a ++ h ++ (m ++ (s ++ (g ++ r))) ≡ (a ++ h) ++ m ++ (s ++ (g ++ r))
+g2 a h m s g r = simp append_assoc
+
+g3 : (a h m s g r : List ℕ) → (a ++ h) ++ m ++ (s ++ (g ++ r)) ≡ (a ++ h ++ m ++ s) ++ g ++ r
+g3 a h m s g r = simp append_assoc
+
+g4 : (a h m s g r : List ℕ) → (a ++ h ++ (0 ∷ m) ++ s) ++ g ++ r ≡ (a ++ h) ++ (0 ∷ []) ++ (m ++ (s ++ (g ++ r)))
+g4 a h m s g r = simp append_assoc
+
+g5 : (a h k m s g r : List ℕ) → (a ++ h) ++ k ++ (m ++ (s ++ (g ++ r))) ≡ [] ++ a ++ (h ++ k ++ (m ++ (s ++ (g ++ r))))
+g5 a h k m s g r = simp append_assoc
+
+module _ (l : Layout) (header body a h m s g r : List ℕ) (by_a : length a ≡ 1) (by_h : length h ≡ length header) (header_long : length header ≡ 22) (by_m : length m ≡ suc (length body)) (body_long : length body ≡ 25 + image_size l) (by_s : length s + 1 ≡ l.segment) (by_g : length g ≡ 1) where
+  one : put 1 header (a ++ (h ++ (m ++ (s ++ (g ++ r))))) ≡ (a ++ header) ++ m ++ (s ++ (g ++ r))
+  one = put_in 1 header a h (m ++ (s ++ (g ++ r))) _ _ (g1 a h m s g r) (g2 a header m s g r) (sym by_a) (sym by_h)
+
+  front_long : 23 ≡ length (a ++ header)
+  front_long = omega (arith, length-append a header)
+
+  two : put 23 (0 ∷ body) ((a ++ header) ++ m ++ (s ++ (g ++ r))) ≡ (a ++ header ++ (0 ∷ body) ++ s) ++ g ++ r
+  two = put_in 23 (0 ∷ body) (a ++ header) m (s ++ (g ++ r)) _ _ refl (g3 a header (0 ∷ body) s g r) front_long (sym by_m)
+
+  second_long : half_at l Second ≡ length (a ++ header ++ (0 ∷ body) ++ s)
+  second_long = omega (arith, length-append (a ++ header ++ (0 ∷ body)) s, length-append (a ++ header) (0 ∷ body), length-append a header)
+
+  three : put (half_at l Second) (0 ∷ []) ((a ++ header ++ (0 ∷ body) ++ s) ++ g ++ r) ≡ (a ++ header) ++ (0 ∷ []) ++ (body ++ (s ++ ((0 ∷ []) ++ r)))
+  three = put_in (half_at l Second) (0 ∷ []) (a ++ header ++ (0 ∷ body) ++ s) g r _ _ refl (g4 a header body s (0 ∷ []) r) second_long (sym by_g)
+
+  four : put 23 (165 ∷ []) ((a ++ header) ++ (0 ∷ []) ++ (body ++ (s ++ ((0 ∷ []) ++ r)))) ≡ [] ++ a ++ (header ++ (165 ∷ []) ++ (body ++ (s ++ ((0 ∷ []) ++ r))))
+  four = put_in 23 (165 ∷ []) (a ++ header) (0 ∷ []) (body ++ (s ++ ((0 ∷ []) ++ r))) _ _ refl (g5 a header (165 ∷ []) body s (0 ∷ []) r) front_long refl
+
+  all_put : opened (filled l header (0 ∷ body) (a ++ (h ++ (m ++ (s ++ (g ++ r)))))) ≡ (165 ∷ []) ++ (header ++ (165 ∷ []) ++ (body ++ (s ++ ((0 ∷ []) ++ r))))
+  all_put =
+      ap (λ (x : List ℕ). opened (put 23 (165 ∷ []) (put (half_at l Second) (0 ∷ []) (put 23 (0 ∷ body) x)))) one
+      ∙ ap (λ (x : List ℕ). opened (put 23 (165 ∷ []) (put (half_at l Second) (0 ∷ []) x))) two ∙ ap (λ (x : List ℕ). opened (put 23 (165 ∷ []) x)) three ∙ ap opened four
+      ∙ put_mid 0 (165 ∷ []) [] a (header ++ (165 ∷ []) ++ (body ++ (s ++ ((0 ∷ []) ++ r)))) refl (sym by_a)
+
+-- ---- what is cut so
+
+regroup : (header head image s o r : List ℕ) → (165 ∷ []) ++ (header ++ (165 ∷ []) ++ ((head ++ image ++ 0 ∷ []) ++ (s ++ (o ++ r)))) ≡ ((165 ∷ header) ++ (165 ∷ head ++ image)) ++ (0 ∷ s) ++ (o ++ r)
+regroup header head image s o r = simp append_assoc
+
+nils : (p q t b : List ℕ) → (p ++ q) ++ t ++ b ≡ ((p ++ []) ++ (q ++ [])) ++ t ++ b
+nils p q t b = λ i. (sym (append-nil p) i ++ sym (append-nil q) i) ++ t ++ b
+
+-- the new device
+fresh : Layout → Condensed → List ℕ → List ℕ → Cut
+fresh l q other rest = record { layout = l; half = First; epoch = 1; base = q; frames = []; other = other; rest = rest }
+
+module _ (size : ℕ) (t : Listing) (l : Layout) (h : IsTable t) (k : IsLongest size t l) where
+  rows_in : is_rows (length t.alarms) ≡ true
+  rows_in = and_from (leb 1 (length t.alarms)) (leb (length t.alarms) 16384) (le-leb 1 (length t.alarms) h.some) (le-leb (length t.alarms) 16384 h.few)
+
+  areas_in : is_areas t.areas ≡ true
+  areas_in = and_from (leb 1 t.areas) (leb t.areas 64) (le-leb 1 t.areas h.areas.0) (le-leb t.areas 64 h.areas.1)
+
+  by_limits : (is_segment l.segment ≡ true) × (leb (device_len (of_rows (length t.alarms) t.areas l.segment)) size ≡ true)
+  by_limits = and_parts (is_segment l.segment) (leb (device_len (of_rows (length t.alarms) t.areas l.segment)) size) k.fits
+
+  pub layout_in : IsLayout l
+  layout_in = record { rows = subst (λ (n : ℕ). is_rows n ≡ true) (sym k.of_rows) rows_in; areas = subst (λ (n : ℕ). is_areas n ≡ true) (sym k.of_areas) areas_in; segment = by_limits.0 }
+
+  pub fits_device : device_len l ≤ size
+  fits_device = omega (arith, k.of_rows, k.of_areas, leb-true (device_len (of_rows (length t.alarms) t.areas l.segment)) size by_limits.1)
+
+  pub some_segment : 1 ≤ l.segment
+  some_segment = omega (arith, leb-true 4116 l.segment (and_parts (leb 4116 l.segment) (leb l.segment 16777216) by_limits.0).0)
+
+  pub new_sizes : IsOf l.rows l.areas 0 (new_plant t)
+  new_sizes = record { by_rows = length-replicate (length t.alarms) at_rest ∙ sym k.of_rows; by_areas = length-replicate t.areas false ∙ sym k.of_areas; by_count = refl }
+
+  new_image : length (image_text (new_plant t)) ≡ image_size l
+  new_image = image_length (new_plant t) (new-keeps t h) ∙ (λ i. image_len (new_sizes.by_rows i) (new_sizes.by_areas i))
+
+  abbrev body : List ℕ
+  body = half_head_text l 1 0 ++ image_text (new_plant t) ++ 0 ∷ []
+
+  head_long : length (half_head_text l 1 0) ≡ 24
+  head_long = refl
+
+  body_long : length body ≡ 25 + image_size l
+  body_long = omega (arith, new_image, head_long, length-append (half_head_text l 1 0 ++ image_text (new_plant t)) (0 ∷ []), length-append (half_head_text l 1 0) (image_text (new_plant t)))
+
+  pub half_long : length (first_half l (new_plant t)) ≡ 26 + image_size l
+  half_long = omega (arith, body_long)
+
+  -- the device as a cut
+  fresh_stores : (o rest : List ℕ) → length o + 1 ≡ half_len l → Stores (fresh l (new_plant t) (0 ∷ o) rest) (new_plant t)
+  unfolding fresh
+  fresh_stores o rest long = record {
+    layout = layout_in;
+    epoch = omega arith;
+    image = record { rules = new-keeps t h; fits = omega arith; text = refl };
+    sizes = new_sizes;
+    count = omega arith;
+    frames = tt;
+    admitted = tt;
+    runs = refl;
+    size = omega (arith, long);
+    below = inl refl;
+  }
+
+  fresh_stands : (s o rest : List ℕ) → length s + 1 ≡ l.segment → length o + 1 ≡ half_len l → IsNew size t (device_of (fresh l (new_plant t) (0 ∷ o) rest) (0 ∷ s))
+  unfolding fresh
+  fresh_stands s o rest by_s by_o =
+      let c = fresh l (new_plant t) (0 ∷ o) rest in
+      let stores = fresh_stores o rest by_o in
+      record {
+        stands = record {
+          opened = shown c (0 ∷ s);
+          opens = shown_opens c (new_plant t) (0 ∷ s) stores (omega (arith, by_s));
+          in_epoch = refl;
+          base = new_plant t;
+          spells = record { sizes = stores.sizes; image = stores.image };
+          left = suc (length s);
+          folds = folds (new_plant t) 1 0 [] 0 s tt tt refl;
+        };
+        longest = k;
+      }
+
+  fresh_is : (s o rest : List ℕ) → (165 ∷ []) ++ (header_text l ++ (165 ∷ []) ++ (body ++ (s ++ ((0 ∷ []) ++ (o ++ rest))))) ≡ device_of (fresh l (new_plant t) (0 ∷ o) rest) (0 ∷ s)
+  unfolding fresh
+  fresh_is s o rest =
+      regroup (header_text l) (half_head_text l 1 0) (image_text (new_plant t)) s (0 ∷ o) rest
+      ∙ nils (165 ∷ header_text l) (165 ∷ half_head_text l 1 0 ++ image_text (new_plant t)) (0 ∷ s) ((0 ∷ o) ++ rest)
+
+  new_cut : (x : List ℕ) (p : Pieces l x) → opened (filled l (header_text l) (0 ∷ body) x) ≡ (165 ∷ []) ++ (header_text l ++ (165 ∷ []) ++ (body ++ (p.s ++ ((0 ∷ []) ++ (p.o ++ p.r)))))
+  new_cut x p =
+      ap (λ (z : List ℕ). opened (filled l (header_text l) (0 ∷ body) z)) p.is
+      ∙ all_put l (header_text l) body p.a p.h p.m p.s p.g (p.o ++ p.r) p.by_a p.by_h refl (omega (arith, p.by_m, body_long)) body_long p.by_s p.by_g
+
+  new_is : (x b : List ℕ) → b ≡ opened (filled l (header_text l) (0 ∷ body) x) → Pieces l x → IsNew size t b
+  new_is x b is p = subst (IsNew size t) (sym (is ∙ new_cut x p ∙ fresh_is p.s p.o p.r)) (fresh_stands p.s p.o p.r p.by_s p.by_o)
+
+  pub new_here : (b : List ℕ) → IsWritten size l (header_text l) (first_half l (new_plant t)) b → IsNew size t b
+  new_here b w = new_is w.before b w.is (pieces l w.before some_segment (omega (arith, fits_device, w.long)))
+
+  -- what a crash leaves of a device whose formatting failed
+  pub new_leaves : (old new : DeviceState) → Leaves size l (header_text l) (first_half l (new_plant t)) old new → LeavesOf size t old new
+  new_leaves old new leaves = ⊎_elim (λ b. inl b) (λ all. inr (λ b image. ⊎_elim (λ u. inl u) (λ w. inr (new_here b w)) (all b image))) leaves

@@ -1,0 +1,73 @@
+-- What callers see of a book's calls.
+use Rattle.std.proofs.Common.{◌≡◌, ℕ, ◌+◌, ◌-◌, List, [], length, Result, Ok, Err, refl, ◌∙◌, ap, arith}
+use Rattle.alm_types.specs.declared.action.Action.{Action}
+use Rattle.alm_model.specs.Step.{run}
+use Rattle.alm_segment.specs.Course.{frame_len}
+use Rattle.alm_keeper.specs.declared.book.Book.{Book}
+use Rattle.alm_keeper.specs.declared.refused.Refused.{Refused}
+use Rattle.alm_keeper.specs.declared.refused.Refused.TheVariants as no
+use Rattle.alm_keeper.specs.declared.progress.Progress.{Progress}
+use Rattle.alm_keeper.specs.declared.progress.Progress.TheVariants.{More, Done, Failed}
+use Rattle.alm_keeper.specs.declared.stage.Stage.{Stage}
+use Rattle.alm_keeper.specs.declared.stage.Stage.TheVariants.{Idle, Close, CloseSync, Body, BodySync, Gate, GateSync, Stopped}
+use Rattle.alm_keeper.specs.declared.stage.Work.{Work}
+use Rattle.alm_keeper.specs.declared.stage.Work.TheVariants.{Commit, Checkpoint}
+use Rattle.alm_keeper.specs.Stand.{Account, Takes, committed, turned, end_of}
+use Rattle.alm_keeper.specs.Keeper.{HasRoom, with_actions, with_checkpoint, next_by, BeginsCommit, BeginsCheckpoint, Advances}
+use Rattle.alm_keeper.specs.Keeping.{account, done_with, begun, next_of, standing, held, Begins, Copies, Ends}
+
+-- a commit, a checkpoint
+after_commit : (a : Account) (actions : List Action) → standing (committed a actions) ≡ with_actions (standing a) actions
+after_commit a actions = λ i. record { epoch = a.epoch; plant = run a.plant actions; room = left i }
+  where
+    left : end_of a - (a.gate + frame_len (length actions)) ≡ end_of a - a.gate - frame_len (length actions)
+    left = omega arith
+
+after_checkpoint : (a : Account) → standing (turned a) ≡ with_checkpoint a.layout.segment (standing a)
+after_checkpoint a = λ i. record { epoch = a.epoch + 1; plant = a.plant; room = left i }
+  where
+    left : end_of (turned a) - (turned a).gate ≡ a.layout.segment
+    left = omega arith
+
+-- the work that is begun, where it is known
+begun_is : (b : Book) (work : Work) (a : Account) (actions : List Action) → b.work ≡ work → account b ≡ a → b.actions.items ≡ actions → begun b ≡ done_with work a actions
+begun_is b work a actions is same list = λ i. done_with (is i) (same i) (list i)
+
+checkpoint_is : (b : Book) (a : Account) → b.work ≡ Checkpoint → account b ≡ a → begun b ≡ turned a
+checkpoint_is b a is same = λ i. done_with (is i) (same i) b.actions.items
+
+module _ {D : Type 0} (disk : D) where
+  pub begins_seen : (result : Result Unit Refused) (actions : List Action) (old new : Book) → Begins result actions old new → BeginsCommit result actions (held disk old) (held disk new)
+  begins_seen (Ok _) actions old new b = (b.1, b.2, ap standing b.3, ap standing (begun_is new Commit (account old) actions b.2 b.3 b.4) ∙ after_commit (account old) actions)
+  begins_seen (Err (no.NotAccepted place)) actions old new b = (b.1, ap standing b.3, ap standing (begun_is new Commit (account old) [] b.2 b.3 b.4) ∙ after_commit (account old) [])
+  begins_seen (Err no.Stopped) actions old new b = ap (held disk) b
+  begins_seen (Err no.Working) actions old new b = ap (held disk) b
+  begins_seen (Err no.Gap) actions old new b = ap (held disk) b
+  begins_seen (Err no.Exhausted) actions old new b = ap (held disk) b
+
+  pub copies_seen : (result : Result Unit Refused) (old new : Book) → Copies result old new → BeginsCheckpoint result (held disk old) (held disk new)
+  copies_seen (Ok _) old new b = (b.1, b.2, ap standing b.3, ap standing (checkpoint_is new (account old) b.2 b.3) ∙ after_checkpoint (account old))
+  copies_seen (Err why) old new b = ap (held disk) b
+
+  pub ends_seen : (after : D) (result : Progress) (old new : Book) → Ends result old new → Advances result (held disk old) (held after new)
+  ends_seen after More old new e = (e.0, e.4, e.1, ap standing e.2, ap standing e.3)
+  ends_seen after Done old new e = (e.0, e.1, ap standing e.2)
+  ends_seen after Failed old new e = (e.0, e.1, ap standing e.2, ap standing e.3)
+
+-- what is next
+pub next_seen : (b : Book) (stage : Stage) → standing (next_of stage b.work (account b) b.actions.items) ≡ next_by stage (standing (account b)) (standing (begun b))
+next_seen b Idle = refl
+next_seen b Close = refl
+next_seen b CloseSync = refl
+next_seen b Body = refl
+next_seen b BodySync = refl
+next_seen b Gate = refl
+next_seen b GateSync = refl
+next_seen b Stopped = refl
+
+-- the room for frames
+pub room_seen : (a : Account) (n : ℕ) → Takes a n → HasRoom (standing a) n
+room_seen a n takes = omega (arith, takes)
+
+pub room_of : (a : Account) (n : ℕ) → HasRoom (standing a) n → Takes a n
+room_of a n room = omega (arith, room)

@@ -1,0 +1,33 @@
+use Rattle.std.proofs.Common.{ℕ, List, refl, sym, subst}
+use Rattle.alm_disk.specs.Device.{IsImage}
+use Rattle.alm_disk.specs.Settled.{IsSettled}
+use Rattle.alm_disk.proofs.Images.{settled_image}
+use Rattle.alm_keeper.specs.Opening.{Opens}
+use Rattle.alm_keeper.proofs.Opened.{on_ok}
+use Rattle.alm_keeper.proofs.opening.open_book.Goals as goal
+
+pub returns-in-Ok-clause-unwritten : goal.returns-in-Ok-clause-unwritten
+returns-in-Ok-clause-unwritten g c = λ honest b image.
+    let one = g.D.Disk.state c.sync.new.self in
+    let s = c.in-Ok.ensures.syncs honest in
+    let settled : IsSettled one one.bytes = record { reads = refl; nothing_pending = s.nothing_pending; sound = s.done } in
+    let kept = c.read_book.ensures.keeps one.bytes (c.sync.ensures.honest.0 honest) settled in
+    subst (IsImage (g.D.Disk.state c.args.disk.now)) (sym (settled_image (g.D.Disk.state c.read_book.new.disk) one.bytes b kept image)) s.one_image
+
+pub returns-in-Ok-clause-settled : goal.returns-in-Ok-clause-settled
+returns-in-Ok-clause-settled g c = λ honest.
+    let one = g.D.Disk.state c.sync.new.self in
+    let two = g.D.Disk.state c.read_book.new.disk in
+    let s = c.in-Ok.ensures.syncs honest in
+    let settled : IsSettled one one.bytes = record { reads = refl; nothing_pending = s.nothing_pending; sound = s.done } in
+    let kept = c.read_book.ensures.keeps one.bytes (c.sync.ensures.honest.0 honest) settled in
+    on_ok c.read_book.result (IsSettled two two.bytes) (record { reads = refl; nothing_pending = kept.nothing_pending; sound = kept.sound })
+
+pub returns-in-Ok-clause-opens : goal.returns-in-Ok-clause-opens
+returns-in-Ok-clause-opens g c = λ honest.
+    let one = g.D.Disk.state c.sync.new.self in
+    let s = c.in-Ok.ensures.syncs honest in
+    let now = c.sync.ensures.honest.0 honest in
+    let settled : IsSettled one one.bytes = record { reads = refl; nothing_pending = s.nothing_pending; sound = s.done } in
+    let kept = c.read_book.ensures.keeps one.bytes now settled in
+    subst (λ (b : List ℕ). Opens b c.read_book.result) (sym kept.reads) (c.read_book.ensures.opens one.bytes now settled (g.met.D.Disk.own_image c.sync.new.self now).bytes (g.met.D.Disk.whole c.sync.new.self now))

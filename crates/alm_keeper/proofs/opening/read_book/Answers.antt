@@ -1,0 +1,62 @@
+use Rattle.std.proofs.Common.{◌∙◌, arith}
+use Rattle.alm_checkpoint.specs.Layouts.{part}
+use Rattle.alm_keeper.proofs.Opened.{layout_fault, marks_fault, opens_by, fits_by}
+use Rattle.alm_keeper.proofs.opening.read_book.Goals as goal
+
+pub returns-in-Err-clause-opens : goal.returns-in-Err-clause-opens
+returns-in-Err-clause-opens g c = λ b honest settled bytes long. layout_fault b c.in-Err.fault (c.in-Err.ensures.layout b honest settled long)
+
+pub returns-in-Err-read_marks-clause-keeps : goal.returns-in-Err-read_marks-clause-keeps
+returns-in-Err-read_marks-clause-keeps g c = λ b honest settled.
+    c.read_marks.ensures.keeps b (c.read_layout.ensures.honest.0 honest) (c.read_layout.ensures.keeps b honest settled)
+
+pub returns-in-Err-read_marks-clause-opens : goal.returns-in-Err-read_marks-clause-opens
+returns-in-Err-read_marks-clause-opens g c = λ b honest settled bytes long.
+    let h = c.read_layout.ensures.honest.0 honest in
+    let s = c.read_layout.ensures.keeps b honest settled in
+    marks_fault c.in-Ok.layout b c.in-Err-read_marks.fault (c.in-Ok.ensures.layout b honest settled long) (c.in-Err-read_marks.ensures.marks b h s)
+
+pub returns-in-Err-read_room-clause-keeps : goal.returns-in-Err-read_room-clause-keeps
+returns-in-Err-read_room-clause-keeps g c = λ b honest settled.
+    let h = c.read_layout.ensures.honest.0 honest in
+    let s = c.read_layout.ensures.keeps b honest settled in
+    c.read_room.ensures.keeps b (c.read_marks.ensures.honest.0 h) (c.read_marks.ensures.keeps b h s)
+
+pub returns-in-Err-read_room-2-clause-keeps : goal.returns-in-Err-read_room-2-clause-keeps
+returns-in-Err-read_room-2-clause-keeps g c = λ b honest settled.
+    let h = c.read_layout.ensures.honest.0 honest in
+    let s = c.read_layout.ensures.keeps b honest settled in
+    let h' = c.read_marks.ensures.honest.0 h in
+    let s' = c.read_marks.ensures.keeps b h s in
+    c.read_room-2.ensures.keeps b (c.read_room.ensures.honest.0 h') (c.read_room.ensures.keeps b h' s')
+
+pub returns-clause-keeps : goal.returns-clause-keeps
+returns-clause-keeps g c = λ b honest settled.
+    let h = c.read_layout.ensures.honest.0 honest in
+    let s = c.read_layout.ensures.keeps b honest settled in
+    let h' = c.read_marks.ensures.honest.0 h in
+    let s' = c.read_marks.ensures.keeps b h s in
+    c.read_room-2.ensures.keeps b (c.read_room.ensures.honest.0 h') (c.read_room.ensures.keeps b h' s')
+
+pub returns-clause-opens : goal.returns-clause-opens
+returns-clause-opens g c = λ b honest settled bytes long.
+    let l = c.in-Ok.layout in
+    let m = c.in-Ok-read_marks.marks in
+    let h = c.read_layout.ensures.honest.0 honest in
+    let s = c.read_layout.ensures.keeps b honest settled in
+    let h' = c.read_marks.ensures.honest.0 h in
+    let s' = c.read_marks.ensures.keeps b h s in
+    let h'' = c.read_room.ensures.honest.0 h' in
+    let s'' = c.read_room.ensures.keeps b h' s' in
+    let image = c.deref.result.now in
+    let segment = c.deref-2.result.now in
+    opens_by b l m bytes (c.in-Ok.ensures.layout b honest settled long) (c.in-Ok-read_marks.ensures.marks b h s) image segment c.book_of.result
+    (c.deref.ensures.value ∙ c.in-Ok-read_room.ensures.given b h' s' ∙ (λ i. part (c.image_at.ensures i) (c.image_len.ensures i) b))
+    (c.deref-2.ensures.value ∙ c.in-Ok-read_room-2.ensures.given b h'' s'' ∙ (λ i. part (c.segment_at.ensures i) (c.segment.ensures i) b))
+    c.book_of.ensures.restores
+
+pub returns-clause-fits : goal.returns-clause-fits
+returns-clause-fits g c =
+    fits_by c.in-Ok.layout c.in-Ok-read_marks.marks c.deref.result.now c.deref-2.result.now (g.D.Disk.size c.read_room-2.new.disk) c.book_of.result c.book_of.ensures.restores
+    (omega (arith, c.in-Ok.ensures.fits, c.read_marks.ensures.size, c.read_room.ensures.size, c.read_room-2.ensures.size))
+    (omega (arith, c.in-Ok.ensures.memory, c.read_marks.ensures.size, c.read_room.ensures.size, c.read_room-2.ensures.size))

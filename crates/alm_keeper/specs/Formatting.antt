@@ -1,0 +1,92 @@
+-- Formatting a device.
+use Rattle.std.specs.Prelude.{◌≡◌, ◌⊎◌, ℕ, ◌+◌, ◌≤◌, ◌||◌, true, false, List, [], ◌∷◌, ◌++◌, length, take, drop}
+use Rattle.alm_types.specs.Tables.{Listing}
+use Rattle.alm_model.specs.Plant.{Condensed}
+use Rattle.alm_model.specs.New.{new_plant}
+use Rattle.alm_codec.specs.Image.{image_text}
+use Rattle.alm_disk.specs.Device.{DeviceState, IsImage, is_within}
+use Rattle.alm_disk.specs.Settled.{IsSettled}
+use Rattle.alm_segment.specs.Course.{is_open}
+use Rattle.alm_checkpoint.specs.declared.layout.Layout.{Layout}
+use Rattle.alm_checkpoint.specs.declared.half.Half.TheVariants.{Second}
+use Rattle.alm_checkpoint.specs.Layouts.{byte_at, half_at}
+use Rattle.alm_checkpoint.specs.Headers.{half_head_text, suits}
+use Rattle.alm_checkpoint.specs.declared.fault.Fault.TheVariants.{Unformatted}
+use Rattle.alm_checkpoint.specs.Standing.{HasFault, Stands}
+
+-- the bytes are not those of a formatted device
+abbrev pub IsUnformatted : List ℕ → Type 0
+IsUnformatted b = HasFault b Unformatted
+
+-- the layout has the longest segment that fits twice
+pub record IsLongest (size : ℕ) (t : Listing) (l : Layout) : Type 0 where
+  pub of_rows : l.rows ≡ length t.alarms
+  pub of_areas : l.areas ≡ t.areas
+  pub fits : suits size (length t.alarms) t.areas l.segment ≡ true
+  pub most : (n : ℕ) → suits size (length t.alarms) t.areas n ≡ true → n ≤ l.segment
+
+-- the bytes stand for the new plant of the table in epoch 1 (its count is 0), with the longest segment that fits twice
+pub record IsNew (size : ℕ) (t : Listing) (bytes : List ℕ) : Type 0 where
+  pub stands : Stands bytes 1 (new_plant t)
+  pub longest : IsLongest size t stands.opened.layout
+
+-- the header's gate reads closed, and no crash opens it
+pub record IsShut (state : DeviceState) : Type 0 where
+  pub stable : state.pending 0 ≡ false
+  pub closed : is_open (byte_at state.bytes 0) ≡ false
+
+-- at any moment of a call a crash leaves a device that isn't formatted
+abbrev pub StaysUnformatted : (old new : DeviceState) → Type 0
+StaysUnformatted old new = (b : List ℕ) → IsImage old b ⊎ IsImage new b → IsUnformatted b
+
+-- the device before, with the header's gate pending also
+abbrev pub gate_pending : DeviceState → DeviceState
+gate_pending state = record { bytes = state.bytes; pending = λ place. is_within 0 1 place || state.pending place; faulted = state.faulted }
+
+-- a crash leaves what it could leave before, but for the byte of the header's gate
+abbrev pub LeavesBefore : (old new : DeviceState) → Type 0
+LeavesBefore old new = (b : List ℕ) → IsImage new b → IsImage (gate_pending old) b
+
+-- these bytes in place of what stood from a place on
+abbrev pub put : ℕ → List ℕ → List ℕ → List ℕ
+put at bytes device = take at device ++ bytes ++ drop (at + length bytes) device
+
+-- the device with all that is written behind the header's gate: the header, half 0 up to its segment's first gate, half 1's gate,
+-- and half 0's gate, open
+abbrev pub filled : Layout → (header half : List ℕ) → List ℕ → List ℕ
+filled l header half device = put 23 (165 ∷ []) (put (half_at l Second) (0 ∷ []) (put 23 half (put 1 header device)))
+
+-- the header's gate is open too
+abbrev pub opened : List ℕ → List ℕ
+opened device = put 0 (165 ∷ []) device
+
+-- the device is settled, with the header's gate closed
+abbrev pub IsClosed : DeviceState → Type 0
+IsClosed state = IsSettled state state.bytes × (is_open (byte_at state.bytes 0) ≡ false)
+
+-- these bytes are those of the device with the header's gate open
+abbrev pub IsOpened : DeviceState → List ℕ → Type 0
+IsOpened state b = b ≡ opened state.bytes
+
+-- half 0 from its closed gate on, up to its segment's first gate, also closed
+abbrev pub first_half : Layout → Condensed → List ℕ
+first_half l plant = 0 ∷ (half_head_text l 1 plant.panel.count ++ image_text plant ++ 0 ∷ [])
+
+-- all of it is written on some device of a size
+pub record IsWritten (size : ℕ) (l : Layout) (header half bytes : List ℕ) : Type 0 where
+  pub before : List ℕ
+  pub long : length before ≡ size
+  pub is : bytes ≡ opened (filled l header half before)
+
+-- it is not formatted, or all is written
+abbrev pub MayBe : (size : ℕ) → Layout → (header half : List ℕ) → List ℕ → Type 0
+MayBe size l header half b = IsUnformatted b ⊎ IsWritten size l header half b
+
+-- what a crash leaves of a device whose formatting failed: what it could leave before, but for the header's gate (its first sync
+-- was not done), or nothing that is neither unformatted nor all written
+abbrev pub Leaves : (size : ℕ) → Layout → (header half : List ℕ) → (old new : DeviceState) → Type 0
+Leaves size l header half old new = LeavesBefore old new ⊎ ((b : List ℕ) → IsImage new b → MayBe size l header half b)
+
+-- the same, of a table
+abbrev pub LeavesOf : (size : ℕ) → Listing → (old new : DeviceState) → Type 0
+LeavesOf size t old new = LeavesBefore old new ⊎ ((b : List ℕ) → IsImage new b → IsUnformatted b ⊎ IsNew size t b)

@@ -1,0 +1,10 @@
+pub mod Gated
+pub mod Stand
+pub mod Batch
+pub mod Calls
+pub mod Keeping
+pub mod Keeper
+pub mod Stages
+pub mod Opening
+pub mod Formatting
+pub mod Moments

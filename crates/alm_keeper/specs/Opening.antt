@@ -1,0 +1,85 @@
+-- Opening a device.
+use Rattle.std.specs.Prelude.{◌≡◌, ℕ, List, Result, Ok, Err}
+use Rattle.alm_disk.specs.Failures.{HasFailed}
+use Rattle.alm_checkpoint.specs.declared.layout.Layout.{Layout}
+use Rattle.alm_checkpoint.specs.declared.half.Half.{Half}
+use Rattle.alm_checkpoint.specs.declared.half.Half.TheVariants.{First, Second}
+use Rattle.alm_keeper.specs.declared.opening.Marks.{Marks}
+use Rattle.alm_checkpoint.specs.declared.half_head.HalfHead.{HalfHead}
+use Rattle.alm_checkpoint.specs.declared.fault.Fault.{Fault}
+use Rattle.alm_checkpoint.specs.declared.fault.Fault.TheVariants as found
+use Rattle.alm_checkpoint.specs.Layouts.{other}
+use Rattle.alm_checkpoint.specs.Opening.{◌>>=◌, Opened, chosen_from, half_head_from, head_of, gate_in}
+use Rattle.alm_checkpoint.specs.Standing.{HasFault}
+use Rattle.alm_checkpoint.specs.Restoring.{IsUnrestored}
+use Rattle.alm_checkpoint.specs.Restoring.{Holds as RestoredAs}
+use Rattle.alm_checkpoint.specs.declared.restore_fault.RestoreFault.TheVariants as unrestored
+use Rattle.alm_keeper.specs.declared.open_fault.OpenFault.{OpenFault}
+use Rattle.alm_keeper.specs.declared.open_fault.OpenFault.TheVariants.{Unformatted, Damaged, Disk, OutOfMemory}
+use Rattle.alm_keeper.specs.declared.book.Book.{Book}
+use Rattle.alm_keeper.specs.Stand.{Ready}
+use Rattle.alm_keeper.specs.Keeping.{account}
+
+abbrev pub open_fault : Fault → OpenFault
+open_fault found.Unformatted = Unformatted
+open_fault (found.Damaged half at) = Damaged half at
+
+-- the device fails, or the count of its failures stays
+abbrev pub Counts : {A : Type 0} → Result A OpenFault → (before now : ℕ) → Type 0
+Counts (Ok x) before now = now ≡ before
+Counts (Err Disk) before now = HasFailed before now
+Counts (Err fault) before now = now ≡ before
+
+-- a fault of the device is told only where it failed
+abbrev pub CountsAs : OpenFault → (before now : ℕ) → Type 0
+CountsAs Disk before now = HasFailed before now
+CountsAs fault before now = now ≡ before
+
+-- a value that is read of the bytes, or their fault; a fault of the device or want of memory says nothing
+abbrev pub IsReadOf : {A : Type 0} → Result A OpenFault → Result A Fault → Type 0
+IsReadOf (Ok x) read = read ≡ Ok x
+IsReadOf (Err Disk) read = Unit {0}
+IsReadOf (Err OutOfMemory) read = Unit {0}
+IsReadOf (Err Unformatted) read = read ≡ Err found.Unformatted
+IsReadOf (Err (Damaged half at)) read = read ≡ Err (found.Damaged half at)
+
+-- the device was opened: its book is as the bytes are; or the fault is theirs
+abbrev pub Opens : (bytes : List ℕ) → Result Book OpenFault → Type 0
+Opens bytes (Ok book) = Ready (account book) bytes
+Opens bytes (Err Disk) = Unit {0}
+Opens bytes (Err OutOfMemory) = Unit {0}
+Opens bytes (Err Unformatted) = HasFault bytes found.Unformatted
+Opens bytes (Err (Damaged half at)) = HasFault bytes (found.Damaged half at)
+
+-- what the heads tell, by their bytes
+abbrev pub head_by : Half → (first second : List ℕ) → List ℕ
+head_by First first second = first
+head_by Second first second = second
+
+abbrev pub marks_from : Layout → (first second : List ℕ) → Result (Half × HalfHead) Fault
+marks_from l first second = do
+  h ← chosen_from l first second
+  t ← half_head_from l h (head_by h first second)
+  Ok (h, t)
+
+-- the half that stands, what its head tells, and whether the other half's gate is open; or the fault
+abbrev pub MarksFrom : Layout → (first second : List ℕ) → Result Marks OpenFault → Type 0
+MarksFrom l first second (Ok m) = (chosen_from l first second ≡ Ok m.half) × (half_head_from l m.half (head_by m.half first second) ≡ Ok m.head) × (m.other_open ≡ gate_in (head_by (other m.half) first second))
+MarksFrom l first second (Err Disk) = Unit {0}
+MarksFrom l first second (Err OutOfMemory) = Unit {0}
+MarksFrom l first second (Err Unformatted) = marks_from l first second ≡ Err found.Unformatted
+MarksFrom l first second (Err (Damaged half at)) = marks_from l first second ≡ Err (found.Damaged half at)
+
+abbrev pub AreMarks : Layout → List ℕ → Result Marks OpenFault → Type 0
+AreMarks l b result = MarksFrom l (head_of l First b) (head_of l Second b) result
+
+abbrev pub opened_by : Layout → Marks → (image segment : List ℕ) → Opened
+opened_by l m image segment = record { layout = l; half = m.half; head = m.head; image = image; segment = segment }
+
+-- the book of what the half holds, or why it holds nothing
+abbrev pub Restores : Layout → Marks → (image segment : List ℕ) → Result Book OpenFault → Type 0
+Restores l m image segment (Ok book) = RestoredAs (opened_by l m image segment) book.stored book.gate × (account book ≡ record { layout = l; half = m.half; other_open = m.other_open; epoch = m.head.epoch; gate = book.gate; plant = book.stored })
+Restores l m image segment (Err Disk) = ⊥
+Restores l m image segment (Err OutOfMemory) = Unit {0}
+Restores l m image segment (Err Unformatted) = IsUnrestored (opened_by l m image segment) (unrestored.Damaged found.Unformatted)
+Restores l m image segment (Err (Damaged half at)) = IsUnrestored (opened_by l m image segment) (unrestored.Damaged (found.Damaged half at))

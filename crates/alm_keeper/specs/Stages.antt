@@ -1,0 +1,58 @@
+-- The stages of a keeper's work: which device call is next.
+use Rattle.std.specs.Prelude.{◌⊎◌, ℕ, Bool, true, false, List, Result, Ok, Err}
+use Rattle.alm_keeper.specs.declared.phase.Phase.{Phase}
+use Rattle.alm_keeper.specs.declared.phase.Phase.TheVariants as at
+use Rattle.alm_keeper.specs.declared.stage.Work.{Work}
+use Rattle.alm_keeper.specs.declared.stage.Work.TheVariants.{Commit, Checkpoint}
+use Rattle.alm_keeper.specs.declared.stage.Stage.{Stage}
+use Rattle.alm_keeper.specs.declared.stage.Stage.TheVariants.{Idle, Close, CloseSync, Body, BodySync, Gate, GateSync, Stopped}
+
+abbrev pub IsWorking : Stage → Type 0
+IsWorking Idle = ⊥
+IsWorking Stopped = ⊥
+IsWorking stage = Unit {0}
+
+-- the stage after a call that was done
+abbrev pub following : Stage → Stage
+following Close = CloseSync
+following CloseSync = Body
+following Body = BodySync
+following BodySync = Gate
+following Gate = GateSync
+following stage = Idle
+
+-- the stage after a call
+abbrev pub stage_after : {E : Type 0} → Stage → Result Unit E → Stage
+stage_after stage (Ok _) = following stage
+stage_after stage (Err _) = Stopped
+
+-- the first stage of a checkpoint: it closes the gate of the half that doesn't stand only where that gate reads open
+abbrev pub first_stage : Bool → Stage
+first_stage true = Close
+first_stage false = Body
+
+-- what an image is at a stage
+abbrev pub May : (Before After : List ℕ → Type 0) → Stage → List ℕ → Type 0
+May Before After Idle b = After b
+May Before After Close b = Before b
+May Before After CloseSync b = Before b
+May Before After Body b = Before b
+May Before After BodySync b = Before b
+May Before After Gate b = Before b
+May Before After GateSync b = Before b ⊎ After b
+May Before After Stopped b = Before b ⊎ After b
+
+-- what an image is at any moment of the call that is next at a stage
+abbrev pub During : (Before After : List ℕ → Type 0) → Stage → List ℕ → Type 0
+During Before After Gate b = Before b ⊎ After b
+During Before After stage b = May Before After stage b
+
+abbrev pub phase_at : Work → Phase
+phase_at Commit = at.Committing
+phase_at Checkpoint = at.Copying
+
+-- where a store stands whose work is at a stage
+abbrev pub phase_of : Stage → Work → Phase
+phase_of Idle work = at.Idle
+phase_of Stopped work = at.Stopped
+phase_of stage work = phase_at work

@@ -1,0 +1,73 @@
+-- What a keeper knows of its device.
+use Rattle.std.specs.Prelude.{◌≡◌, ℕ, ◌+◌, ◌≤◌, Bool, true, false, List, [], ◌∷◌, ◌++◌, length}
+use Rattle.alm_types.specs.declared.action.Action.{Action}
+use Rattle.alm_model.specs.Plant.{Condensed}
+use Rattle.alm_model.specs.Step.{run}
+use Rattle.alm_codec.specs.Image.{image_text}
+use Rattle.alm_segment.specs.Course.{is_open, frame_len}
+use Rattle.alm_checkpoint.specs.declared.layout.Layout.{Layout}
+use Rattle.alm_checkpoint.specs.declared.half.Half.{Half}
+use Rattle.alm_checkpoint.specs.Layouts.{byte_at, half_at, half_len, image_size, head_len, other}
+use Rattle.alm_checkpoint.specs.Headers.{half_head_text}
+use Rattle.alm_checkpoint.specs.Cut.{Cut, Stores, Reaches, front, device_of}
+
+-- the device holds this plant in this epoch, in front of a closed gate
+pub record Holds (epoch : ℕ) (plant : Condensed) (bytes : List ℕ) : Type 0 where
+  pub cut : Cut
+  pub in_epoch : cut.epoch ≡ epoch
+  pub stores : Stores cut plant
+  pub gate : ℕ
+  pub closed : is_open gate ≡ false
+  pub tail : List ℕ
+  pub reaches : Reaches cut (gate ∷ tail)
+  pub text : bytes ≡ device_of cut (gate ∷ tail)
+
+-- what a keeper knows
+pub record Account : Type 0 where
+  pub layout : Layout
+  -- the half that stands
+  pub half : Half
+  -- the other half's gate reads open
+  pub other_open : Bool
+  pub epoch : ℕ
+  -- the place of the first closed gate of the half that stands
+  pub gate : ℕ
+  pub plant : Condensed
+
+-- what a keeper knows of a device that is cut so
+abbrev pub account_of : Cut → Condensed → Account
+account_of c plant = record { layout = c.layout; half = c.half; other_open = is_open (byte_at c.other 0); epoch = c.epoch; gate = length (front c); plant = plant }
+
+-- the device is as the account tells
+pub record Ready (a : Account) (bytes : List ℕ) : Type 0 where
+  pub cut : Cut
+  pub is : a ≡ account_of cut a.plant
+  pub stores : Stores cut a.plant
+  pub gate : ℕ
+  pub closed : is_open gate ≡ false
+  pub tail : List ℕ
+  pub reaches : Reaches cut (gate ∷ tail)
+  pub text : bytes ≡ device_of cut (gate ∷ tail)
+
+-- where the other half begins
+abbrev pub other_at : Account → ℕ
+other_at a = half_at a.layout (other a.half)
+
+-- where the half that stands ends
+abbrev pub end_of : Account → ℕ
+end_of a = half_at a.layout a.half + half_len a.layout
+
+-- a frame of so many actions and the next gate fit
+abbrev pub Takes : Account → ℕ → Type 0
+Takes a n = a.gate + frame_len n + 1 ≤ end_of a
+
+-- after a commit, after a checkpoint
+abbrev pub committed : Account → List Action → Account
+committed a actions = record a { gate = a.gate + frame_len (length actions); plant = run a.plant actions }
+
+abbrev pub turned : Account → Account
+turned a = record a { half = other a.half; other_open = true; epoch = a.epoch + 1; gate = other_at a + head_len + image_size a.layout }
+
+-- what a checkpoint writes behind the other half's gate: its head, the image, and the first gate of its segment, closed
+abbrev pub checkpoint_text : Account → List ℕ
+checkpoint_text a = half_head_text a.layout (a.epoch + 1) a.plant.panel.count ++ image_text a.plant ++ 0 ∷ []

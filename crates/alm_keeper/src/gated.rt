@@ -1,0 +1,40 @@
+//! A write behind a gate, one device call at a time.
+
+ghost use Rattle.std.specs.Prelude.{◌≡◌, ◌↔◌, ◌<◌, ◌≤◌, ◌+◌, ◌^◌, List, ℕ, length};
+ghost use Rattle.alm_keeper.specs.Stages.{IsWorking, stage_after};
+ghost use Rattle.alm_disk.specs.Calls.{IsOneCall};
+ghost use Rattle.alm_disk.specs.Failures.{CountsFault};
+ghost use Rattle.alm_keeper.specs.Calls.{IsCall};
+ghost use Rattle.alm_keeper.specs.Gated.{Kept, Passes};
+ghost use Rattle.alm_keeper.specs.Stand.{Account, Holds, Ready};
+
+use crate::stage::Stage;
+use alm_disk::{Disk, DiskFault};
+
+const OPEN: u8 = 0xA5;
+
+const CLOSED: u8 = 0;
+
+/// The one device call of a stage, for the text behind the gate at a place.
+pub fn call<D: Disk>(disk: &mut D, stage: Stage, at: u64, text: &[u8]) -> Result<(), DiskFault>
+    requires working { IsWorking stage }
+    requires in_range { at + 1 + length text.now ≤ D.size disk.old }
+    requires in_memory { D.size disk.old < 2 ^ 64 }
+    ensures honest { D.honest disk.old ↔ D.honest disk.new }
+    ensures size { D.size disk.new ≡ D.size disk.old }
+    ensures count { CountsFault result (D.failures disk.old) (D.failures disk.new) }
+    ensures one_call { IsOneCall D.serves result disk.old disk.new }
+    ensures is_call { D.honest disk.old → IsCall (D.state disk.old) (D.state disk.new) }
+    // What a crash leaves at any moment of the call, and what is kept behind it.
+    ensures passes { (before after : Account) → D.honest disk.old → ∥ Kept (Holds before.epoch before.plant) (Ready after) stage (D.state disk.old) at text.now ∥₁ → ∥ Passes (Holds before.epoch before.plant) (Ready after) stage (stage_after stage result) (D.state disk.old) (D.state disk.new) at text.now ∥₁ }
+{
+    match stage {
+        Stage::Close => disk.write_at(at, &[CLOSED]),
+        Stage::CloseSync => disk.sync(),
+        Stage::Body => disk.write_at(at + 1, text),
+        Stage::BodySync => disk.sync(),
+        Stage::Gate => disk.write_at(at, &[OPEN]),
+        Stage::GateSync => disk.sync(),
+        Stage::Idle | Stage::Stopped => unreachable!(),
+    }
+}

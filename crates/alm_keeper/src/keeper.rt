@@ -1,0 +1,175 @@
+//! Keepers.
+
+ghost use Rattle.std.specs.Prelude.{◌≡◌, ◌≤◌, ◌⊎◌, ◌↔◌, ◌+◌, ◌*◌, ◌^◌, List, ℕ, length, IsTrue, IfOk, IfErr, Err};
+ghost use Rattle.alm_disk.specs.Device.{IsImage};
+ghost use Rattle.alm_disk.specs.Failures.{HasFailed};
+ghost use Rattle.alm_disk.specs.Settled.{IsSettled};
+ghost use Rattle.alm_model.specs.Plant.{Condensed};
+ghost use Rattle.alm_model.specs.Judging.{accepted_of};
+ghost use Rattle.alm_keeper.specs.Calls.{IsCall};
+ghost use Rattle.alm_keeper.specs.Stages.{IsWorking, phase_of};
+ghost use Rattle.alm_keeper.specs.Opening.{Opens, CountsAs};
+ghost use Rattle.alm_keeper.specs.Keeper.{Held, next, HasRoom, StandsFor, StandsWithRoom, MayStand, begin_answer, checkpoint_answer, BeginsCommit, BeginsCheckpoint, Advances, CallsOnce};
+
+use crate::advancing::advance;
+use crate::book::Book;
+use crate::open_fault::OpenFault;
+use crate::opening::open_book;
+use crate::phase::Phase;
+use crate::progress::Progress;
+use crate::refused::Refused;
+use crate::stage::{Stage, is_working, phase_of};
+use alm_disk::Disk;
+use alm_model::Alarms;
+use alm_plant::Plant;
+use alm_types::Batch;
+use std::alloc::Global;
+use std::marker::Model;
+
+/// A device and what is known of it: what it stores, and the work that is begun on it.
+#[derive(Drop)]
+pub struct Keeper<D: Disk + Drop> {
+    disk: D,
+    book: Book,
+}
+
+impl<D: Disk + Drop> Model for Keeper<D> {
+    ghost use Rattle.alm_keeper.specs.Keeper.{Held};
+    ghost use Rattle.alm_keeper.specs.Keeping.{held, InOrder, FitsDevice, Keeps};
+
+    ghost Value = { Held D };
+
+    ghost view = { λ k. held k.disk k.book };
+
+    ghost invariant = { λ k. InOrder k.book × FitsDevice k.book (D.size k.disk) × (D.honest k.disk → ∥ Keeps (D.state k.disk) k.book ∥₁) };
+}
+
+impl<D: Disk + Drop> Keeper<D> {
+    /// Makes the one device call of the work that is begun which is next. Takes no memory.
+    ///
+    /// Failed is told only where the device failed in that call. The keeper is then stopped until the device is opened again.
+    pub fn advance(&mut self) -> Progress
+        requires working { IsWorking self.old.stage }
+        ensures honest { D.honest self.old.disk ↔ D.honest self.new.disk }
+        ensures advances { Advances result self.old self.new }
+        ensures call { CallsOnce D.serves result self.old.disk self.new.disk }
+        ensures is_call { D.honest self.old.disk → IsCall (D.state self.old.disk) (D.state self.new.disk) }
+        ensures failed { result ≡ Progress.Failed → HasFailed (D.failures self.old.disk) (D.failures self.new.disk) }
+        ensures count { D.failures self.old.disk ≤ D.failures self.new.disk }
+        // What a crash leaves at any moment of the call.
+        ensures any_moment { D.honest self.old.disk → (b : List ℕ) → (IsImage (D.state self.old.disk) b ⊎ IsImage (D.state self.new.disk) b) → ∥ MayStand self.old b ∥₁ }
+    {
+        advance(&mut self.disk, &mut self.book)
+    }
+
+    /// Begins a commit of the accepted actions of a batch. Makes no device call, and takes no memory.
+    ///
+    /// Refused, first of all, where the keeper is stopped; where other work is begun; where the batch's first number isn't the
+    /// next one; else at the first action that isn't admitted where it comes, and that stops the keeper.
+    pub fn begin(&mut self, batch: &Batch) -> Result<(), Refused>
+        requires some { 1 ≤ length (accepted_of batch.now.entries) }
+        requires fits { HasRoom self.old.stored (length (accepted_of batch.now.entries)) }
+        ensures disk { self.new.disk ≡ self.old.disk }
+        ensures answer { result ≡ begin_answer self.old.stage self.old.stored.plant batch.now }
+        ensures begins { BeginsCommit result (accepted_of batch.now.entries) self.old self.new }
+    {
+        self.book.begin(batch)
+    }
+
+    /// Begins a checkpoint. Makes no device call, and takes no memory.
+    ///
+    /// Refused, first of all, where the keeper is stopped; where other work is begun; where the epoch is the last.
+    pub fn begin_checkpoint(&mut self) -> Result<(), Refused>
+        ensures disk { self.new.disk ≡ self.old.disk }
+        ensures answer { result ≡ checkpoint_answer self.old.stage self.old.stored.epoch }
+        ensures begins { BeginsCheckpoint result self.old self.new }
+    {
+        self.book.begin_checkpoint()
+    }
+
+    /// Does nothing: it says what a crash leaves of the device. Each image stands for what is stored or for what is begun; an idle
+    /// keeper's device stands for what is stored, with its room.
+    pub fn images(&self)
+        ensures either { D.honest self.now.disk → (b : List ℕ) → IsImage (D.state self.now.disk) b → ∥ StandsFor self.now.stored b ⊎ StandsFor (next self.now) b ∥₁ }
+        ensures idle { D.honest self.now.disk → self.now.stage ≡ Stage.Idle → ∥ StandsWithRoom self.now.stored (D.state self.now.disk).bytes ∥₁ }
+    {
+        let _book = &self.book;
+    }
+
+    /// Whether it is idle, stopped, or which work is begun.
+    pub fn phase(&self) -> Phase
+        ensures { result ≡ phase_of self.now.stage self.now.work }
+    {
+        phase_of(self.book.stage, self.book.work)
+    }
+
+    /// Whether work is begun, so that a device call is next.
+    pub fn is_working(&self) -> bool
+        ensures { IsTrue result ↔ IsWorking self.now.stage }
+    {
+        is_working(self.book.stage)
+    }
+
+    /// The plant that is stored.
+    pub fn stored(&self) -> &Plant
+        ensures { result.now ≡ self.now.stored.plant }
+    {
+        &self.book.stored
+    }
+
+    /// How many actions are stored.
+    pub fn count(&self) -> u64
+        ensures { result ≡ self.now.stored.plant.panel.count }
+    {
+        self.book.stored.count()
+    }
+
+    /// The epoch of the half that stands.
+    pub fn epoch(&self) -> u64
+        ensures { result ≡ self.now.stored.epoch }
+    {
+        self.book.epoch
+    }
+
+    /// Whether a frame of so many actions fits behind what is stored.
+    pub fn fits(&self, actions: usize) -> bool
+        ensures { IsTrue result ↔ HasRoom self.now.stored actions }
+    {
+        self.book.fits(actions)
+    }
+
+    /// The device.
+    pub fn into_disk(self) -> D
+        ensures { result ≡ self.disk }
+    {
+        let Keeper { disk, book } = self;
+        drop(book);
+        disk
+    }
+}
+
+/// Opens a device: syncs it and reads what it stands for. Nothing is written. All memory that a keeper uses is taken here.
+///
+/// Where that fails the device is handed back: Unformatted or Damaged by its bytes, Disk only where it failed in one of these
+/// calls, OutOfMemory, which says nothing of the bytes.
+pub fn open_store<D: Disk + Drop>(alloc: Global, disk: D) -> Result<Keeper<D>, (OpenFault, D)>
+    ensures idle { IfOk result (λ k. k.stage ≡ Stage.Idle) }
+    // The plant and the epoch for which the read stands, and the room that is left.
+    ensures stands { D.honest disk → IfOk result (λ k. StandsWithRoom k.stored (D.state k.disk).bytes) }
+    ensures limit { IfOk result (λ k. k.stored.plant.panel.count ≤ 2 ^ 48) }
+    ensures settled { D.honest disk → IfOk result (λ k. IsSettled (D.state k.disk) (D.state k.disk).bytes) }
+    ensures counted { IfOk result (λ k. D.failures k.disk ≡ D.failures disk) }
+    // The fault of the read.
+    ensures fault { D.honest disk → IfErr result (λ x. Opens (D.state x.1).bytes (Err x.0)) }
+    ensures counts { IfErr result (λ x. CountsAs x.0 (D.failures disk) (D.failures x.1)) }
+    ensures honest { IfOk result (λ k. D.honest disk ↔ D.honest k.disk) }
+    ensures honest_back { IfErr result (λ x. D.honest disk ↔ D.honest x.1) }
+    ensures unwritten { D.honest disk → IfOk result (λ k. (b : List ℕ) → IsImage (D.state k.disk) b → IsImage (D.state disk) b) }
+    ensures unwritten_back { D.honest disk → IfErr result (λ x. (b : List ℕ) → IsImage (D.state x.1) b → IsImage (D.state disk) b) }
+{
+    let mut disk = disk;
+    match open_book(alloc, &mut disk) {
+        Ok(book) => Ok(Keeper { disk, book }),
+        Err(fault) => Err((fault, disk)),
+    }
+}

@@ -1,0 +1,274 @@
+//! Opening a device.
+
+ghost use Rattle.std.specs.Prelude.{◌≡◌, ◌≤◌, ◌<◌, ◌+◌, ◌^◌, ◌↔◌, ◌⊎◌, List, ℕ, length, take, OnOk, OnErr, IfOk, IfErr, ◌≢◌};
+ghost use Rattle.alm_disk.specs.Device.{IsImage, IsBytes};
+ghost use Rattle.alm_disk.specs.Failures.{HasFailed};
+ghost use Rattle.alm_disk.specs.Settled.{IsSettled};
+ghost use Rattle.alm_checkpoint.specs.Layouts.{part, device_len, image_size};
+ghost use Rattle.alm_checkpoint.specs.Cut.{IsLayout};
+ghost use Rattle.alm_checkpoint.specs.Opening.{layout_in};
+ghost use Rattle.alm_keeper.specs.Opening.{Counts, IsReadOf, AreMarks, MarksFrom, Opens, Restores};
+ghost use Rattle.alm_keeper.specs.Keeping.{InOrder, FitsDevice};
+
+use crate::book::Book;
+use crate::frame::FRAME_ROOM;
+use crate::open_fault::{OpenFault, open_fault};
+use crate::stage::{Stage, Work};
+use alm_checkpoint::{
+    HEAD_LEN, Half, HalfHead, Layout, RestoreFault, choose, read_half_gate, read_header,
+};
+use alm_codec::MOST_ACTIONS;
+use alm_disk::{Disk, DiskFault};
+use alm_model::Alarms;
+use alm_plant::Plant;
+use std::alloc::Global;
+
+/// Reads so many bytes from a place on.
+fn read<D: Disk>(disk: &mut D, at: u64, into: &mut [u8]) -> Result<(), DiskFault>
+    requires { at + length into.old ≤ D.size disk.old }
+    ensures honest { D.honest disk.old ↔ D.honest disk.new }
+    ensures size { D.size disk.new ≡ D.size disk.old }
+    ensures counts { OnOk result (D.failures disk.new ≡ D.failures disk.old) }
+    ensures failed { OnErr result (HasFailed (D.failures disk.old) (D.failures disk.new)) }
+    ensures keeps { (b : List ℕ) → D.honest disk.old → IsSettled (D.state disk.old) b → IsSettled (D.state disk.new) b }
+    ensures given { (b : List ℕ) → D.honest disk.old → IsSettled (D.state disk.old) b → OnOk result (into.new ≡ part at (length into.old) b) }
+    ensures long { length into.new ≡ length into.old }
+{
+    disk.read_at(at, into)
+}
+
+/// The layout of a device, by its header.
+fn read_layout<D: Disk>(disk: &mut D) -> Result<Layout, OpenFault>
+    ensures honest { D.honest disk.old ↔ D.honest disk.new }
+    ensures size { D.size disk.new ≡ D.size disk.old }
+    ensures counts { Counts result (D.failures disk.old) (D.failures disk.new) }
+    ensures keeps { (b : List ℕ) → D.honest disk.old → IsSettled (D.state disk.old) b → IsSettled (D.state disk.new) b }
+    ensures layout { (b : List ℕ) → D.honest disk.old → IsSettled (D.state disk.old) b → length b ≡ D.size disk.old → IsReadOf result (layout_in b) }
+    ensures limits { IfOk result IsLayout }
+    ensures fits { IfOk result (λ l. device_len l ≤ D.size disk.new) }
+    ensures small { IfOk result (λ l. device_len l < 2 ^ 64) }
+    ensures memory { OnOk result (D.size disk.new < 2 ^ 64) }
+{
+    let size = disk.size();
+    if size < 23 {
+        return Err(OpenFault::Unformatted);
+    }
+    let mut start = [0u8; 23];
+    match read(disk, 0, &mut start) {
+        Ok(()) => {}
+        Err(_) => return Err(OpenFault::Disk),
+    }
+    match read_header(&start, size) {
+        Ok(layout) => Ok(layout),
+        Err(fault) => Err(open_fault(fault)),
+    }
+}
+
+/// What the heads of the halves tell.
+#[derive(Clone, Copy)]
+struct Marks {
+    /// The half that stands.
+    half: Half,
+    /// The other half's gate reads open.
+    other_open: bool,
+    head: HalfHead,
+}
+
+/// The half that stands, and what its head tells.
+fn read_marks<D: Disk>(disk: &mut D, layout: Layout) -> Result<Marks, OpenFault>
+    requires fits { device_len layout ≤ D.size disk.old }
+    requires small { device_len layout < 2 ^ 64 }
+    ensures honest { D.honest disk.old ↔ D.honest disk.new }
+    ensures size { D.size disk.new ≡ D.size disk.old }
+    ensures counts { Counts result (D.failures disk.old) (D.failures disk.new) }
+    ensures keeps { (b : List ℕ) → D.honest disk.old → IsSettled (D.state disk.old) b → IsSettled (D.state disk.new) b }
+    ensures marks { (b : List ℕ) → D.honest disk.old → IsSettled (D.state disk.old) b → AreMarks layout b result }
+    ensures count { IfOk result (λ m. m.head.count ≤ 2 ^ 48) }
+{
+    let mut first = [0u8; 25];
+    match read(disk, layout.half_at(Half::First), &mut first) {
+        Ok(()) => {}
+        Err(_) => return Err(OpenFault::Disk),
+    }
+    let mut second = [0u8; 25];
+    match read(disk, layout.half_at(Half::Second), &mut second) {
+        Ok(()) => {}
+        Err(_) => return Err(OpenFault::Disk),
+    }
+    marks_of(layout, &first, &second)
+}
+
+/// The same by the bytes of both heads.
+fn marks_of(layout: Layout, first: &[u8], second: &[u8]) -> Result<Marks, OpenFault>
+    requires first { length first.now ≡ 25 }
+    requires second { length second.now ≡ 25 }
+    ensures marks { MarksFrom layout first.now second.now result }
+    ensures count { IfOk result (λ m. m.head.count ≤ 2 ^ 48) }
+    ensures fault { IfErr result (λ f. f ≢ OpenFault.Disk) }
+{
+    let zero = read_half_gate(first);
+    let one = read_half_gate(second);
+    match choose(&zero, &one) {
+        Err(why) => Err(open_fault(why.fault(&layout))),
+        Ok(Half::First) => match layout.read_half_head(Half::First, first) {
+            Ok(head) => Ok(Marks {
+                half: Half::First,
+                other_open: one.open,
+                head,
+            }),
+            Err(fault) => Err(open_fault(fault)),
+        },
+        Ok(Half::Second) => match layout.read_half_head(Half::Second, second) {
+            Ok(head) => Ok(Marks {
+                half: Half::Second,
+                other_open: zero.open,
+                head,
+            }),
+            Err(fault) => Err(open_fault(fault)),
+        },
+    }
+}
+
+/// Opens the device: syncs, and reads what it holds.
+pub fn open_book<D: Disk>(alloc: Global, disk: &mut D) -> Result<Book, OpenFault>
+    ensures honest { D.honest disk.old ↔ D.honest disk.new }
+    ensures size { D.size disk.new ≡ D.size disk.old }
+    ensures counts { Counts result (D.failures disk.old) (D.failures disk.new) }
+    // Nothing is written: what a crash may leave afterwards it could leave before.
+    ensures unwritten { D.honest disk.old → (b : List ℕ) → IsImage (D.state disk.new) b → IsImage (D.state disk.old) b }
+    ensures settled { D.honest disk.old → OnOk result (IsSettled (D.state disk.new) (D.state disk.new).bytes) }
+    ensures opens { D.honest disk.old → Opens (D.state disk.new).bytes result }
+    ensures in_order { IfOk result InOrder }
+    ensures idle { IfOk result (λ book. book.stage ≡ Stage.Idle) }
+    ensures fits { IfOk result (λ book. FitsDevice book (D.size disk.new)) }
+{
+    match disk.sync() {
+        Ok(()) => read_book(alloc, disk),
+        Err(_) => Err(OpenFault::Disk),
+    }
+}
+
+/// Reads what the device holds.
+fn read_book<D: Disk>(alloc: Global, disk: &mut D) -> Result<Book, OpenFault>
+    ensures honest { D.honest disk.old ↔ D.honest disk.new }
+    ensures size { D.size disk.new ≡ D.size disk.old }
+    ensures counts { Counts result (D.failures disk.old) (D.failures disk.new) }
+    ensures keeps { (b : List ℕ) → D.honest disk.old → IsSettled (D.state disk.old) b → IsSettled (D.state disk.new) b }
+    ensures opens { (b : List ℕ) → D.honest disk.old → IsSettled (D.state disk.old) b → IsBytes b → length b ≡ D.size disk.old → Opens b result }
+    ensures in_order { IfOk result InOrder }
+    ensures idle { IfOk result (λ book. book.stage ≡ Stage.Idle) }
+    ensures fits { IfOk result (λ book. FitsDevice book (D.size disk.new)) }
+{
+    let layout = match read_layout(disk) {
+        Ok(layout) => layout,
+        Err(fault) => return Err(fault),
+    };
+    let marks = match read_marks(disk, layout) {
+        Ok(marks) => marks,
+        Err(fault) => return Err(fault),
+    };
+    let image = match read_room(alloc, disk, layout.image_at(marks.half), layout.image_len()) {
+        Ok(image) => image,
+        Err(fault) => return Err(fault),
+    };
+    let segment = match read_room(alloc, disk, layout.segment_at(marks.half), layout.segment()) {
+        Ok(segment) => segment,
+        Err(fault) => return Err(fault),
+    };
+    book_of(alloc, layout, marks, &image, &segment)
+}
+
+/// Reads so many bytes from a place on into a buffer of its own.
+fn read_room<D: Disk>(
+    alloc: Global,
+    disk: &mut D,
+    at: u64,
+    len: usize,
+) -> Result<Vec<u8>, OpenFault>
+    requires { at + len ≤ D.size disk.old }
+    ensures honest { D.honest disk.old ↔ D.honest disk.new }
+    ensures size { D.size disk.new ≡ D.size disk.old }
+    ensures counts { Counts result (D.failures disk.old) (D.failures disk.new) }
+    ensures keeps { (b : List ℕ) → D.honest disk.old → IsSettled (D.state disk.old) b → IsSettled (D.state disk.new) b }
+    ensures given { (b : List ℕ) → D.honest disk.old → IsSettled (D.state disk.old) b → IfOk result (λ v. v.items ≡ part at len b) }
+    ensures long { IfOk result (λ v. length v.items ≡ len) }
+    ensures fault { IfErr result (λ f. (f ≡ OpenFault.Disk) ⊎ (f ≡ OpenFault.OutOfMemory)) }
+{
+    let Ok(mut room) = vec![in alloc; 0u8; len] else {
+        return Err(OpenFault::OutOfMemory);
+    };
+    match fill(disk, at, &mut room) {
+        Ok(()) => Ok(room),
+        Err(_) => Err(OpenFault::Disk),
+    }
+}
+
+/// Fills a buffer.
+fn fill<D: Disk>(disk: &mut D, at: u64, room: &mut Vec<u8>) -> Result<(), DiskFault>
+    requires { at + length room.old.items ≤ D.size disk.old }
+    ensures honest { D.honest disk.old ↔ D.honest disk.new }
+    ensures size { D.size disk.new ≡ D.size disk.old }
+    ensures counts { OnOk result (D.failures disk.new ≡ D.failures disk.old) }
+    ensures failed { OnErr result (HasFailed (D.failures disk.old) (D.failures disk.new)) }
+    ensures keeps { (b : List ℕ) → D.honest disk.old → IsSettled (D.state disk.old) b → IsSettled (D.state disk.new) b }
+    ensures given { (b : List ℕ) → D.honest disk.old → IsSettled (D.state disk.old) b → OnOk result (room.new.items ≡ part at (length room.old.items) b) }
+    ensures long { length room.new.items ≡ length room.old.items }
+{
+    read(disk, at, room)
+}
+
+/// The book by what was read.
+fn book_of(
+    alloc: Global,
+    layout: Layout,
+    marks: Marks,
+    text: &[u8],
+    segment: &[u8],
+) -> Result<Book, OpenFault>
+    requires limits { IsLayout layout }
+    requires small { device_len layout < 2 ^ 64 }
+    requires count { marks.head.count ≤ 2 ^ 48 }
+    requires image { length text.now ≡ image_size layout }
+    requires segment { length segment.now ≡ layout.segment }
+    ensures in_order { IfOk result InOrder }
+    ensures idle { IfOk result (λ book. book.stage ≡ Stage.Idle) }
+    ensures restores { Restores layout marks text.now segment.now result }
+{
+    let (stored, gate) = match layout.restore::<Plant>(
+        alloc,
+        marks.half,
+        &marks.head,
+        text,
+        segment,
+    ) {
+        Ok(found) => found,
+        Err(RestoreFault::OutOfMemory) => return Err(OpenFault::OutOfMemory),
+        Err(RestoreFault::Damaged(fault)) => return Err(open_fault(fault)),
+    };
+    let Ok(ahead) = stored.copy(alloc) else {
+        return Err(OpenFault::OutOfMemory);
+    };
+    let Ok(actions) = Vec::with_capacity(alloc, MOST_ACTIONS) else {
+        return Err(OpenFault::OutOfMemory);
+    };
+    let Ok(image) = vec![in alloc; 0u8; HEAD_LEN + layout.image_len()] else {
+        return Err(OpenFault::OutOfMemory);
+    };
+    let Ok(frame) = vec![in alloc; 0u8; FRAME_ROOM] else {
+        return Err(OpenFault::OutOfMemory);
+    };
+    Ok(Book {
+        stage: Stage::Idle,
+        work: Work::Commit,
+        layout,
+        half: marks.half,
+        other_open: marks.other_open,
+        epoch: marks.head.epoch,
+        gate,
+        stored,
+        ahead,
+        actions,
+        frame,
+        image,
+    })
+}

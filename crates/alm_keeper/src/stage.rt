@@ -1,0 +1,55 @@
+//! Where the work of a keeper stands.
+
+ghost use Rattle.std.specs.Prelude.{◌≡◌, ◌↔◌, IsTrue};
+ghost use Rattle.alm_keeper.specs.Stages.{IsWorking, phase_of};
+
+use crate::phase::Phase;
+
+/// Which device call is next.
+#[derive(Clone, Copy, Debug, PartialEq, Eq)]
+pub enum Stage {
+    /// No work is begun.
+    Idle,
+    /// A checkpoint writes the other half's gate closed, where it reads open.
+    Close,
+    /// .. and syncs.
+    CloseSync,
+    /// What the gate guards is written.
+    Body,
+    /// .. and synced.
+    BodySync,
+    /// The gate is written open.
+    Gate,
+    /// .. and synced: the work is done.
+    GateSync,
+    /// A device call has failed, or a batch wasn't accepted: no call is made any more.
+    Stopped,
+}
+
+/// Whether a device call is next.
+pub fn is_working(stage: Stage) -> bool
+    ensures { IsTrue result ↔ IsWorking stage }
+{
+    !matches!(stage, Stage::Idle | Stage::Stopped)
+}
+
+/// What is begun.
+#[derive(Clone, Copy, Debug, PartialEq, Eq)]
+pub enum Work {
+    /// A frame is stored behind the others.
+    Commit,
+    /// The other half is written, with the image of the stored plant, in the next epoch.
+    Checkpoint,
+}
+
+/// Where a store stands whose work is at a stage.
+pub fn phase_of(stage: Stage, work: Work) -> Phase
+    ensures { result ≡ phase_of stage work }
+{
+    match (stage, work) {
+        (Stage::Idle, _) => Phase::Idle,
+        (Stage::Stopped, _) => Phase::Stopped,
+        (_, Work::Commit) => Phase::Committing,
+        (_, Work::Checkpoint) => Phase::Copying,
+    }
+}

@@ -1,0 +1,97 @@
+//! Formatting a device.
+
+ghost use Rattle.std.specs.Prelude.{◌≡◌, ◌≢◌, ◌≤◌, ◌<◌, ◌+◌, ◌^◌, ◌↔◌, ◌∷◌, ◌++◌, [], ℕ, List, false, length, OnOk, OnErr, IfOk, IfErr, IfSome, None};
+ghost use Rattle.alm_types.specs.Tables.{IsTable};
+ghost use Rattle.alm_model.specs.New.{new_plant};
+ghost use Rattle.alm_model.specs.Rules.{KeepsRules};
+ghost use Rattle.alm_codec.specs.Image.{IsOf};
+ghost use Rattle.alm_checkpoint.specs.Cut.{IsLayout};
+ghost use Rattle.alm_disk.specs.Device.{IsImage};
+ghost use Rattle.alm_disk.specs.Failures.{HasFailed};
+ghost use Rattle.alm_disk.specs.Settled.{IsSettled};
+ghost use Rattle.alm_checkpoint.specs.Headers.{header_text, suits};
+ghost use Rattle.alm_checkpoint.specs.declared.layout.Layout.{Layout};
+ghost use Rattle.alm_checkpoint.specs.Layouts.{device_len, image_size};
+ghost use Rattle.alm_keeper.specs.Moments.{Formats, Goes, FailsIn};
+ghost use Rattle.alm_keeper.specs.Formatting.{IsLongest, IsNew, LeavesOf, first_half};
+
+use crate::format_fault::FormatFault;
+use crate::formatting::write_all;
+use crate::half_text::put_half;
+use alm_checkpoint::{HEAD_LEN, HalfHead, Layout};
+use alm_disk::Disk;
+use alm_model::Alarms;
+use alm_plant::Plant;
+use alm_types::Table;
+use std::alloc::{AllocError, Global};
+
+/// The layout of a device of a size for a table, with the longest segment that fits twice.
+fn layout_for(table: &Table, size: u64) -> Option<Layout>
+    ensures table { IsTable table.now }
+    ensures longest { IfSome result (IsLongest size table.now) }
+    ensures none { result ≡ None → (n : ℕ) → suits size (length table.now.alarms) table.now.areas n ≡ false }
+{
+    Layout::longest(table.alarms().len() as u32, table.areas(), size)
+}
+
+/// Fills half 0 from its closed gate on, up to its segment's first gate, also closed.
+fn put_first_half(layout: &Layout, plant: &Plant, out: &mut [u8])
+    requires rules { KeepsRules plant.now }
+    requires sizes { IsOf layout.now.rows layout.now.areas plant.now.panel.count plant.now }
+    requires room { length out.old ≡ 26 + image_size layout.now }
+    ensures text { out.new ≡ first_half layout.now plant.now }
+{
+    let head = HalfHead {
+        epoch: 1,
+        count: plant.count(),
+    };
+    out[0] = 0;
+    put_half(layout, &head, plant, &mut out[1..]);
+}
+
+/// Half 0 of the new plant of a table.
+fn new_half(alloc: Global, layout: &Layout, table: &Table) -> Result<Vec<u8>, AllocError>
+    requires limits { IsLayout layout.now }
+    requires rows { layout.now.rows ≡ length table.now.alarms }
+    requires areas { layout.now.areas ≡ table.now.areas }
+    ensures text { IfOk result (λ half. half.items ≡ first_half layout.now (new_plant table.now)) }
+{
+    let plant = Plant::new(alloc, table)?;
+    let mut half = vec![in alloc; 0u8; 1 + HEAD_LEN + layout.image_len()]?;
+    put_first_half(layout, &plant, &mut half);
+    Ok(half)
+}
+
+/// Formats a device for a table: whatever stood there is overwritten. The device is handed back where that fails.
+pub fn format<D: Disk + Drop>(alloc: Global, disk: D, table: &Table) -> Result<D, (FormatFault, D)>
+    ensures honest { IfOk result (λ d. D.honest disk ↔ D.honest d) }
+    ensures honest_back { IfErr result (λ x. D.honest disk ↔ D.honest x.1) }
+    ensures size { IfOk result (λ d. D.size d ≡ D.size disk) }
+    ensures size_back { IfErr result (λ x. D.size x.1 ≡ D.size disk) }
+    // It reads as one that stands for the new plant in epoch 1, and a crash leaves just that.
+    ensures settled { D.honest disk → IfOk result (λ d. IsSettled (D.state d) (D.state d).bytes) }
+    ensures stands { D.honest disk → IfOk result (λ d. IsNew (D.size disk) table.now (D.state d).bytes) }
+    ensures too_small { IfErr result (λ x. x.0 ≡ FormatFault.TooSmall → (n : ℕ) → suits (D.size disk) (length table.now.alarms) table.now.areas n ≡ false) }
+    ensures fits { IfErr result (λ x. x.0 ≢ FormatFault.TooSmall → (l : Layout) × IsLongest (D.size disk) table.now l) }
+    ensures unchanged { IfErr result (λ x. x.0 ≢ FormatFault.Disk → x.1 ≡ disk) }
+    ensures failed { IfErr result (λ x. x.0 ≡ FormatFault.Disk → HasFailed (D.failures disk) (D.failures x.1)) }
+    // The device calls that were made, and, where nothing had failed before, what a crash leaves at any moment of each.
+    ensures moments { IfOk result (λ d. Formats Goes D.serves D.state (D.honest disk × ((D.state disk).faulted ≡ false)) (D.size disk) table.now disk d) }
+    ensures moments_back { IfErr result (λ x. x.0 ≡ FormatFault.Disk → Formats FailsIn D.serves D.state (D.honest disk × ((D.state disk).faulted ≡ false)) (D.size disk) table.now disk x.1) }
+    // What a crash leaves where a call failed.
+    ensures leaves { D.honest disk → (D.state disk).faulted ≡ false → IfErr result (λ x. LeavesOf (D.size disk) table.now (D.state disk) (D.state x.1)) }
+{
+    let Some(layout) = layout_for(table, disk.size()) else {
+        return Err((FormatFault::TooSmall, disk));
+    };
+    let Ok(half) = new_half(alloc, &layout, table) else {
+        return Err((FormatFault::OutOfMemory, disk));
+    };
+    let mut header = [0u8; 22];
+    layout.write_header(&mut header);
+    let mut disk = disk;
+    match write_all(&mut disk, &layout, &header, &half) {
+        Ok(()) => Ok(disk),
+        Err(_) => Err((FormatFault::Disk, disk)),
+    }
+}

@@ -1,0 +1,47 @@
+//! Trying the actions of a batch on a plant.
+
+ghost use Rattle.std.specs.Prelude.{◌≡◌, ◌+◌, ◌<◌, ◌≤◌, ◌++◌, [], ℕ, length, MatchBool, MatchOption, Ok, Err, vec_len, vec_capacity};
+ghost use Rattle.alm_keeper.specs.Batch.{tried_one, tried, Tries, TriesAll};
+
+use alm_model::Alarms;
+use alm_plant::Plant;
+use alm_types::{Action, Entry, Verdict};
+
+/// Does the action of an entry, where it is admitted.
+fn try_one(plant: &mut Plant, entry: &Entry, actions: &mut Vec<Action>) -> bool
+    requires { vec_len actions.old < vec_capacity actions.old }
+    ensures tries { MatchBool result (Tries plant.old plant.new entry.now.verdict actions.old.items actions.new.items) ((place : ℕ) → tried_one plant.old place entry.now.verdict ≡ Err place) }
+    ensures len { vec_len actions.new ≤ vec_len actions.old + 1 }
+    ensures room { vec_capacity actions.old ≤ vec_capacity actions.new }
+{
+    match entry.verdict {
+        Verdict::Accepted(action) => {
+            match plant.admits(&action) {
+                Ok(()) => {
+                    plant.apply(&action);
+                    actions.push_reserved(action);
+                    true
+                }
+                Err(_) => false,
+            }
+        }
+        Verdict::Refused(_, _) => true,
+    }
+}
+
+/// Does the actions of a batch one after the other; the place of the first entry whose action isn't admitted there.
+pub fn try_all(plant: &mut Plant, entries: &[Entry], actions: &mut Vec<Action>) -> Option<usize>
+    requires none { actions.old.items ≡ [] }
+    requires room { length entries.now ≤ vec_capacity actions.old }
+    ensures tries { MatchOption result (TriesAll plant.old plant.new entries.now actions.new.items) (λ place. tried plant.old 0 entries.now ≡ Err place) }
+    ensures room { vec_capacity actions.old ≤ vec_capacity actions.new }
+{
+    let mut place: usize = 0;
+    while place < entries.len() {
+        if !try_one(plant, &entries[place], actions) {
+            return Some(place);
+        }
+        place += 1;
+    }
+    None
+}

@@ -1,0 +1,122 @@
+//! Devices with a changed byte.
+
+use crate::steps::{fresh, store};
+use crate::worked::{clock, value};
+use alm_disk::{Disk, MemDisk};
+use alm_keeper::{OpenFault, open_store};
+use std::alloc::Global;
+use std::ops::Range;
+use std::test::Fail;
+
+/// How many calls the devices of this module note.
+const CALLS: usize = 2_000_000;
+
+/// The bytes of a device with two commits: the clock, and an alarm that comes. Half 1 is all zero.
+fn stored(alloc: Global) -> Result<Vec<u8>, Fail> {
+    let mut keeper = fresh(alloc)?;
+    store(alloc, &mut keeper, &[clock(1000)])?;
+    store(alloc, &mut keeper, &[value(0, 800)])?;
+    let disk = keeper.into_disk();
+    let mut bytes = Vec::new(alloc);
+    for (at, byte) in disk.bytes().iter().enumerate() {
+        bytes.push(if at < 14_510 { *byte } else { 0 })?;
+    }
+    Ok(bytes)
+}
+
+/// Puts a byte on a device, and syncs.
+fn put(disk: &mut MemDisk, at: u64, byte: u8) {
+    if at < disk.size() {
+        let _put = disk.write_at(at, &[byte]);
+        let _synced = disk.sync();
+    }
+}
+
+/// The count and the epoch of a device, or why it isn't opened; and the device.
+fn opened(alloc: Global, disk: MemDisk) -> (Result<(u64, u64), OpenFault>, MemDisk) {
+    match open_store(alloc, disk) {
+        Ok(keeper) => {
+            let found = (keeper.count(), keeper.epoch());
+            (Ok(found), keeper.into_disk())
+        }
+        Err((fault, disk)) => (Err(fault), disk),
+    }
+}
+
+/// A field that is damaged.
+fn damaged(half: u8, at: u64) -> Result<(u64, u64), OpenFault> {
+    Err(OpenFault::Damaged { half, at })
+}
+
+#[test]
+fn one_changed_byte(rt: HostRuntime) -> Result<(), Fail> {
+    let alloc = rt.alloc();
+    let mut disk = MemDisk::new(alloc, stored(alloc)?, CALLS)?;
+    for (at, byte, wanted) in [
+        (0, 0x00, Err(OpenFault::Unformatted)),
+        (1, b'B', damaged(2, 1)),
+        (9, 0x01, damaged(2, 9)),
+        (23, 0x00, damaged(2, 23)),
+        (47, 0x00, damaged(0, 40)),
+        (10_394, 0x00, Ok((0, 1))),
+        (10_402, 0x02, damaged(0, 10_395)),
+        (10_410, 0x02, damaged(0, 10_403)),
+        (10_413, 0x03, damaged(0, 10_413)),
+        (14_510, 0xA5, Ok((2, 1))),
+    ] {
+        let old = disk.bytes().get(at as usize).copied().unwrap_or(0);
+        put(&mut disk, at, byte);
+        let (found, back) = opened(alloc, disk);
+        disk = back;
+        assert_eq!(rt; found, wanted, "{at} set to {byte}");
+        put(&mut disk, at, old);
+    }
+    Ok(())
+}
+
+#[test]
+fn two_changed_bytes(rt: HostRuntime) -> Result<(), Fail> {
+    let alloc = rt.alloc();
+    for (first, second, wanted) in [
+        ((10_411, 0), (10_412, 0), damaged(0, 10_411)),
+        ((14_510, 0xA5), (14_518, 0x01), damaged(1, 14_511)),
+    ] {
+        let mut disk = MemDisk::new(alloc, stored(alloc)?, CALLS)?;
+        put(&mut disk, first.0, first.1);
+        put(&mut disk, second.0, second.1);
+        let (found, _) = opened(alloc, disk);
+        assert_eq!(rt; found, wanted);
+    }
+    Ok(())
+}
+
+/// How many openings of a device whose bytes in a range are set in turn to 00, 01, A5 and FF gave a count, and a fault.
+fn openings(alloc: Global, places: Range<u64>) -> Result<(u64, u64), Fail> {
+    let mut disk = MemDisk::new(alloc, stored(alloc)?, CALLS)?;
+    let mut counts: u64 = 0;
+    let mut faults: u64 = 0;
+    for at in places {
+        let old = disk.bytes().get(at as usize).copied().unwrap_or(0);
+        for byte in [0x00, 0x01, 0xA5, 0xFF] {
+            put(&mut disk, at, byte);
+            let (found, back) = opened(alloc, disk);
+            disk = back;
+            match found {
+                Ok(_) => counts = counts.saturating_add(1),
+                Err(_) => faults = faults.saturating_add(1),
+            }
+        }
+        put(&mut disk, at, old);
+    }
+    Ok((counts, faults))
+}
+
+#[test]
+fn every_byte_of_header_head_and_frames(rt: HostRuntime) -> Result<(), Fail> {
+    let alloc = rt.alloc();
+    for (from, to) in [(0, 48), (10_394, 10_465), (14_510, 14_535)] {
+        let (counts, faults) = openings(alloc, from..to)?;
+        assert_eq!(rt; counts.saturating_add(faults), 4 * (to - from));
+    }
+    Ok(())
+}

@@ -1,0 +1,162 @@
+//! Formatting.
+
+use crate::choosers::Left;
+use crate::worked::{SIZE, device, table};
+use alm_disk::{Call, Chooser, Crashable, Disk, FuseDisk, MemDisk, OnceDisk};
+use alm_keeper::{FormatFault, OpenFault, format, open_store};
+use std::alloc::Global;
+use std::test::Fail;
+
+/// What a device opens as: its count, or why it isn't opened.
+fn opens<D: Crashable + Drop, C: Chooser>(
+    alloc: Global,
+    disk: D,
+    chooser: &mut C,
+) -> Result<u64, OpenFault> {
+    match open_store(alloc, disk.crash(chooser)) {
+        Ok(keeper) => Ok(keeper.count()),
+        Err((fault, _)) => Err(fault),
+    }
+}
+
+/// The epoch of a device, or why it isn't opened.
+fn epoch<D: Disk + Drop>(alloc: Global, disk: D) -> Result<u64, OpenFault> {
+    match open_store(alloc, disk) {
+        Ok(keeper) => Ok(keeper.epoch()),
+        Err((fault, _)) => Err(fault),
+    }
+}
+
+/// A formatting over a fuse of so many calls: what failed, and the device.
+fn burnt(alloc: Global, calls: u64) -> Result<(Option<FormatFault>, FuseDisk<MemDisk>), Fail> {
+    let fuse = FuseDisk::new(device(alloc, SIZE)?, calls);
+    match format(alloc, fuse, &table(alloc)?) {
+        Ok(disk) => Ok((None, disk)),
+        Err((fault, disk)) => Ok((Some(fault), disk)),
+    }
+}
+
+/// A formatting whose call of this number fails.
+fn faulted(alloc: Global, call: u64) -> Result<(Option<FormatFault>, OnceDisk<MemDisk>), Fail> {
+    let once = OnceDisk::new(device(alloc, SIZE)?, call);
+    match format(alloc, once, &table(alloc)?) {
+        Ok(disk) => Ok((None, disk)),
+        Err((fault, disk)) => Ok((Some(fault), disk)),
+    }
+}
+
+#[test]
+fn a_fuse_of_fewer_than_ten_calls(rt: HostRuntime) -> Result<(), Fail> {
+    let alloc = rt.alloc();
+    for calls in 0..10 {
+        let (fault, disk) = burnt(alloc, calls)?;
+        assert_eq!(rt; fault, Some(FormatFault::Disk), "a fuse of {calls}");
+        assert_eq!(rt; disk.disk.calls().len() as u64, calls);
+        if calls >= 2 {
+            let read = opens(alloc, disk, &mut Left::AsRead);
+            let wanted = if calls == 9 {
+                Ok(0)
+            } else {
+                Err(OpenFault::Unformatted)
+            };
+            assert_eq!(rt; read, wanted, "a fuse of {calls}");
+        }
+        for byte in [0x00, 0x5A, 0xA5, 0xFF] {
+            let (_, disk) = burnt(alloc, calls)?;
+            let left = opens(alloc, disk, &mut Left::Every(byte));
+            if calls >= 8 && byte == 0xA5 {
+                assert_eq!(rt; left, Ok(0), "a fuse of {calls}");
+            } else if calls >= 2 {
+                assert_eq!(rt;
+                    left,
+                    Err(OpenFault::Unformatted),
+                    "a fuse of {calls}, {byte}"
+                );
+            }
+        }
+    }
+    Ok(())
+}
+
+#[test]
+fn a_fuse_of_ten_calls(rt: HostRuntime) -> Result<(), Fail> {
+    let alloc = rt.alloc();
+    let (fault, disk) = burnt(alloc, 10)?;
+    assert_eq!(rt; fault, None);
+    assert_eq!(rt; opens(alloc, disk, &mut Left::Every(0x5A)), Ok(0));
+    Ok(())
+}
+
+#[test]
+fn one_fault(rt: HostRuntime) -> Result<(), Fail> {
+    let alloc = rt.alloc();
+    for call in 1..=10 {
+        let (fault, disk) = faulted(alloc, call)?;
+        assert_eq!(rt; fault, Some(FormatFault::Disk), "a fault in call {call}");
+        assert_eq!(rt; disk.disk.calls().len() as u64, call - 1);
+        if call >= 3 {
+            let left = opens(alloc, disk, &mut Left::Every(0x00));
+            assert_eq!(rt; left, Err(OpenFault::Unformatted), "a fault in call {call}");
+        }
+    }
+    Ok(())
+}
+
+#[test]
+fn the_calls_and_the_bytes(rt: HostRuntime) -> Result<(), Fail> {
+    let alloc = rt.alloc();
+    let Ok(disk) = format(alloc, device(alloc, SIZE)?, &table(alloc)?) else {
+        return Err(Fail::new("not formatted"));
+    };
+    let calls = [
+        Call::Write { at: 0, length: 1 },
+        Call::Sync,
+        Call::Write { at: 1, length: 22 },
+        Call::Write {
+            at: 23,
+            length: 10_372,
+        },
+        Call::Write {
+            at: 14_510,
+            length: 1,
+        },
+        Call::Sync,
+        Call::Write { at: 23, length: 1 },
+        Call::Sync,
+        Call::Write { at: 0, length: 1 },
+        Call::Sync,
+    ];
+    assert_eq!(rt; disk.calls(), calls.as_slice());
+    let start = [
+        0xa5, 0x41, 0x4c, 0x4d, 0x53, 0x52, 0x56, 0x30, 0x31, 0, 0, 0, 4, 0, 2, 0, 0, 0, 0, 0, 0,
+        0x10, 0x14, 0xa5, 0, 0, 0, 0, 0, 0, 0, 1, 0, 0, 0, 0, 0, 0, 0, 0, 0, 0, 0, 0, 0, 0, 0x28,
+        0x6a,
+    ];
+    assert_eq!(rt; disk.bytes().get(..48), Some(start.as_slice()));
+    // The segment's first gate is closed, and all behind it stands as before; so does the other half, but for its gate.
+    assert_eq!(rt;
+        disk.bytes().get(10_394..10_396),
+        Some([0, 0xa5].as_slice())
+    );
+    assert_eq!(rt;
+        disk.bytes().get(14_509..14_512),
+        Some([0xa5, 0, 0xa5].as_slice())
+    );
+    assert_eq!(rt; epoch(alloc, disk), Ok(1));
+    Ok(())
+}
+
+#[test]
+fn a_device_that_is_too_small(rt: HostRuntime) -> Result<(), Fail> {
+    let alloc = rt.alloc();
+    match format(alloc, device(alloc, SIZE - 1)?, &table(alloc)?) {
+        Ok(_) => return Err(Fail::new("formatted")),
+        Err((fault, disk)) => {
+            assert_eq!(rt; fault, FormatFault::TooSmall);
+            assert!(rt; disk.calls().is_empty());
+            assert_eq!(rt; disk.bytes().len(), SIZE - 1);
+            assert!(rt; disk.bytes().iter().all(|byte| *byte == 0xA5));
+        }
+    }
+    Ok(())
+}

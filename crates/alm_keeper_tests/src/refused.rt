@@ -1,0 +1,65 @@
+//! Want of memory: run with each allocation refused in turn (`rt try --test --fail-alloc N`), the tests of this module pass.
+
+use crate::worked::{SIZE, try_device, try_table};
+use alm_disk::{Call, MemDisk};
+use alm_keeper::{FormatFault, OpenFault, format, open_store};
+use std::alloc::Global;
+use std::test::Fail;
+
+/// A formatting, if there was memory for the device and the table: why it failed, and how many calls were made.
+fn formatted(alloc: Global) -> Option<(Option<FormatFault>, usize)> {
+    let disk = try_device(alloc, SIZE)?;
+    let table = try_table(alloc)?;
+    match format(alloc, disk, &table) {
+        Ok(disk) => Some((None, disk.calls().len())),
+        Err((fault, disk)) => Some((Some(fault), disk.calls().len())),
+    }
+}
+
+#[test]
+fn a_formatting_without_memory_makes_no_call(rt: HostRuntime) -> Result<(), Fail> {
+    match formatted(rt.alloc()) {
+        None => {}
+        Some((None, calls)) => assert_eq!(rt; calls, 10),
+        Some((Some(fault), calls)) => {
+            assert_eq!(rt; fault, FormatFault::OutOfMemory);
+            assert_eq!(rt; calls, 0);
+        }
+    }
+    Ok(())
+}
+
+/// A formatted device, if there was memory for it.
+fn made(alloc: Global) -> Option<MemDisk> {
+    let disk = try_device(alloc, SIZE)?;
+    let table = try_table(alloc)?;
+    format(alloc, disk, &table).ok()
+}
+
+/// How many writes a device has noted.
+fn writes(disk: &MemDisk) -> usize {
+    let mut writes: usize = 0;
+    for call in disk.calls() {
+        if matches!(call, Call::Write { .. }) {
+            writes = writes.saturating_add(1);
+        }
+    }
+    writes
+}
+
+#[test]
+fn an_opening_without_memory_writes_nothing(rt: HostRuntime) -> Result<(), Fail> {
+    let alloc = rt.alloc();
+    let Some(disk) = made(alloc) else {
+        return Ok(());
+    };
+    let before = writes(&disk);
+    match open_store(alloc, disk) {
+        Ok(keeper) => assert_eq!(rt; writes(&keeper.into_disk()), before),
+        Err((fault, disk)) => {
+            assert_eq!(rt; fault, OpenFault::OutOfMemory);
+            assert_eq!(rt; writes(&disk), before);
+        }
+    }
+    Ok(())
+}

@@ -1,0 +1,36 @@
+//! Accepts requests, and numbers them.
+//!
+//! The sequencer's thread takes requests from all slots, in whatever order it likes, and judges each on the live plant: that
+//! order is the one history of the server. Judged requests gather in the open batch; sealed batches go to the flusher.
+//!
+//! | call | answer | where |
+//! |---|---|---|
+//! | [`Sequencer::take`] | [`Take::Taken`] | the slot's next request was judged, and joined the open batch |
+//! | | [`Take::Empty`] | the slot's ring knew no request |
+//! | | [`Take::BatchFull`] | the open batch has 256 entries |
+//! | [`Sequencer::seal`] | [`Seal::Sealed`] | the open batch went to the flusher, and an empty one is open |
+//! | | [`Seal::NothingToSeal`] | the open batch has no entry |
+//! | | [`Seal::NoRoom`] | no empty batch is known, or no place for a sealed one |
+//!
+//! What is used above: at all times the entries of the sealed batches and then of the open one are one legal history from the
+//! base plant on, each verdict on the plant of the accepted actions before it, and of each slot they answer the requests that
+//! were taken, each once, in order. No call takes memory, and none waits.
+//!
+//! It is not promised that a request is ever taken: whoever calls chooses the slots.
+//!
+//! | call | answers |
+//! |---|---|
+//! | `take` | the verdict on a slot's next request; Empty only where that ring knew none; BatchFull at 256 entries |
+//! | `seal` | Sealed; NothingToSeal without an entry; NoRoom where no empty batch is known to wait |
+//! | `waits`, `live` | whether a batch is at hand; the plant of all accepted actions |
+//!
+//! Not promised: that a slot is ever asked, any order between slots, and any time.
+#![tactic(auto)]
+
+mod seal;
+mod sequencer;
+mod take;
+
+pub use seal::Seal;
+pub use sequencer::Sequencer;
+pub use take::Take;

@@ -1,0 +1,8 @@
+use Rattle.alm_store.proofs.Begun.{copied_cause}
+use Rattle.alm_store.specs.Resting.{is_idle}
+use Rattle.alm_store.proofs.keeper.KeeperStore.begin_checkpoint.Goals as goal
+
+pub returns-clause-cause : goal.returns-clause-cause
+returns-clause-cause g c = λ honest idle unspent.
+    let k = c.args.self.now in
+    copied_cause c.begin_checkpoint.result k (g.D.Disk.state k.disk) c.begin_checkpoint.ensures.answer idle (c.images.ensures.idle honest (is_idle k.stage k.work idle)) unspent

@@ -1,0 +1,9 @@
+use Rattle.alm_store.proofs.Opened.{cause_of, if_err}
+use Rattle.alm_store.proofs.keeper.KeeperStore.open.Goals as goal
+
+pub returns-clause-cause : goal.returns-clause-cause
+returns-clause-cause g c = λ honest.
+    let o = c.open_store.ensures in
+    let disk = c.args.disk in
+    if_err c.open_store.result (o.fault honest) o.counts (o.unwritten_back honest) o.honest_back
+    (λ e opens counts before same. cause_of (g.D.Disk.state disk) (g.D.Disk.state e.1).bytes e.0 (g.D.Disk.failures disk) (g.D.Disk.failures e.1) (before (g.D.Disk.state e.1).bytes (g.met.D.Disk.own_image e.1 (same.0 honest))) opens counts)

@@ -1,0 +1,4 @@
+pub mod Advancing
+pub mod Opening
+pub mod Keepers
+pub mod Resting

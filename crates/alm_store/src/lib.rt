@@ -1,0 +1,22 @@
+//! What the flusher sees of a keeper.
+//!
+//! A [`Keeper`](alm_keeper::Keeper) commits batches and makes checkpoints, one device call at a time. [`Store`] says of it
+//! what the flusher's proofs want, and no more: which plant is stored, and which one is when the work that is under way is
+//! done. A store in memory serves tests.
+//!
+//! | phase | `begin` | `begin_checkpoint` | `advance` |
+//! |---|---|---|---|
+//! | idle | begins a commit of the next batch | begins a checkpoint | |
+//! | committing, copying | refused | refused | one device call |
+//! | stopped | refused | refused | |
+//!
+//! What is used above: at any moment every image of the device stands for the stored plant, or for the next one. A commit
+//! that is done has stored its batch; a checkpoint stores what was stored. A call fails only where the device failed in it.
+//!
+//! It is not promised that there is room for a batch, nor that a checkpoint makes any.
+#![tactic(auto)]
+
+mod keeper;
+mod store;
+
+pub use store::Store;

@@ -1,0 +1,123 @@
+//! A store of actions over a device, one device call at a time.
+
+use alm_disk::Crashable;
+use alm_keeper::{OpenFault, Phase, Progress, Refused};
+use alm_plant::Plant;
+use alm_types::Batch;
+use std::alloc::Global;
+
+/// A store of actions over a device.
+pub trait Store: Drop {
+    ghost use Rattle.std.specs.Prelude.{◌≡◌, ◌≢◌, ◌⊎◌, ◌↔◌, ◌<◌, ◌≤◌, ◌+◌, ◌^◌, ℕ, true, false, List, length, IsOk, IfOk, IfErr, OnOk, OnErr, IsTrue};
+    ghost use Rattle.alm_types.specs.declared.action.Action.{Action};
+    ghost use Rattle.alm_disk.specs.Device.{DeviceState, IsImage};
+    ghost use Rattle.alm_disk.specs.Failures.{HasFailed};
+    ghost use Rattle.alm_model.specs.Plant.{Condensed};
+    ghost use Rattle.alm_model.specs.Step.{run};
+    ghost use Rattle.alm_model.specs.Judging.{accepted_of};
+    ghost use Rattle.alm_model.specs.Rules.{AllAdmitted, admits_all};
+    ghost use Rattle.alm_keeper.specs.declared.phase.Phase.{Phase};
+    ghost use Rattle.alm_keeper.specs.declared.phase.Phase.TheVariants.{Idle, Committing, Copying};
+    ghost use Rattle.alm_store.specs.Advancing.{Advanced, Same};
+    ghost use Rattle.alm_keeper.specs.Calls.{IsCall};
+    ghost use Rattle.alm_store.specs.Opening.{HasCause};
+
+    type Device: Crashable + Drop;
+
+    /// The device does what its trait says.
+    ghost honest: { Self → Type 0 };
+
+    ghost device: { Self → DeviceState };
+
+    /// How often a device call has failed, up to the last count.
+    ghost failures: { Self → ℕ };
+
+    /// These bytes of a device stand for this plant.
+    ghost recovers: { List ℕ → Condensed → Type 0 };
+
+    ghost phase: { Self → Phase };
+
+    /// The plant that is stored, and the one when the work that is under way is done.
+    ghost stored: { Self → Condensed };
+
+    ghost next: { Self → Condensed };
+
+    /// The next frame takes these actions.
+    ghost takes: { Self → List Action → Type 0 };
+
+    /// A device stands at the last epoch.
+    ghost spent: { DeviceState → Type 0 };
+
+    /// Opens what the device stands for: a sync comes first, and nothing is written.
+    fn open(alloc: Global, disk: Self::Device) -> Result<Self, (OpenFault, Self::Device)>
+        ensures honest { IfOk result (λ store. Self.Device.honest disk ↔ honest store) }
+        ensures idle { IfOk result (λ store. phase store ≡ Idle) }
+        ensures limit { IfOk result (λ store. (stored store).panel.count ≤ 2 ^ 48) }
+        /// What it reads is one of the images before, and stands for the stored plant.
+        ensures opened { Self.Device.honest disk → IfOk result (λ store. IsImage (Self.Device.state disk) (device store).bytes × recovers (device store).bytes (stored store)) }
+        ensures settled { Self.Device.honest disk → IfOk result (λ store. (place : ℕ) → (device store).pending place ≡ false) }
+        ensures counted { IfOk result (λ store. Self.Device.failures disk ≤ failures store) }
+        ensures honest_back { IfErr result (λ e. Self.Device.honest disk ↔ Self.Device.honest e.1) }
+        ensures no_new_image { Self.Device.honest disk → IfErr result (λ e. (image : List ℕ) → IsImage (Self.Device.state e.1) image → IsImage (Self.Device.state disk) image) }
+        ensures cause { Self.Device.honest disk → IfErr result (λ e. HasCause recovers (Self.Device.state disk) e.0 (Self.Device.failures disk) (Self.Device.failures e.1)) };
+
+    /// The device alone.
+    fn into_device(self) -> Self::Device
+        ensures honest { honest self ↔ Self.Device.honest result }
+        ensures device { Self.Device.state result ≡ device self }
+        ensures failures { Self.Device.failures result ≡ failures self };
+
+    /// Does nothing: it says what a crash leaves. In every phase each image stands for the stored plant or the next one.
+    fn images(&self)
+        ensures stands { honest self.now → (b : List ℕ) → IsImage (device self.now) b → ∥ recovers b (stored self.now) ⊎ recovers b (next self.now) ∥₁ };
+
+    fn phase(&self) -> Phase
+        ensures { result ≡ phase self.now };
+
+    /// How many actions are stored.
+    fn count(&self) -> u64
+        ensures { result ≡ (stored self.now).panel.count };
+
+    /// The stored plant.
+    fn stored(&self) -> &Plant
+        ensures { result.now ≡ stored self.now };
+
+    /// Whether the next frame takes the accepted actions of a batch.
+    fn takes(&self, batch: &Batch) -> bool
+        ensures { IsTrue result ↔ takes self.now (accepted_of batch.now.entries) };
+
+    /// Begins the commit of a batch that has actions, and is taken: no device call.
+    fn begin(&mut self, batch: &Batch) -> Result<(), Refused>
+        requires some { 0 < length (accepted_of batch.now.entries) }
+        requires takes { takes self.old (accepted_of batch.now.entries) }
+        ensures same { Same (device self.old) (device self.new) (stored self.old) (stored self.new) (failures self.old) (failures self.new) }
+        ensures honest { honest self.old ↔ honest self.new }
+        ensures refused { phase self.old ≡ Idle → OnErr result ((phase self.new ≢ Committing) × (phase self.new ≢ Copying) × (next self.new ≡ next self.old)) }
+        ensures begun { OnOk result ((phase self.new ≡ Committing) × (next self.new ≡ run (stored self.old) (accepted_of batch.now.entries))) }
+        ensures admitted { OnOk result (admits_all (stored self.old) (accepted_of batch.now.entries) ≡ true) }
+        /// An idle store begins a batch that is the next one and admitted.
+        ensures cause { phase self.old ≡ Idle → batch.now.first ≡ (stored self.old).panel.count + 1 → AllAdmitted (stored self.old) (accepted_of batch.now.entries) → IsOk result };
+
+    /// Begins a checkpoint: no device call.
+    fn begin_checkpoint(&mut self) -> Result<(), Refused>
+        ensures same { Same (device self.old) (device self.new) (stored self.old) (stored self.new) (failures self.old) (failures self.new) }
+        ensures honest { honest self.old ↔ honest self.new }
+        ensures refused { phase self.old ≡ Idle → OnErr result ((phase self.new ≢ Committing) × (phase self.new ≢ Copying) × (next self.new ≡ next self.old)) }
+        ensures begun { OnOk result ((phase self.new ≡ Copying) × (next self.new ≡ stored self.old)) }
+        ensures cause { honest self.old → phase self.old ≡ Idle → ¬ (spent (device self.old)) → IsOk result };
+
+    /// One device call of the work that was begun.
+    fn advance(&mut self) -> Progress
+        requires { (phase self.old ≡ Committing) ⊎ (phase self.old ≡ Copying) }
+        ensures honest { honest self.old ↔ honest self.new }
+        ensures call { honest self.old → IsCall (device self.old) (device self.new) }
+        ensures count { failures self.old ≤ failures self.new }
+        ensures advanced { Advanced result (phase self.old) (phase self.new) (stored self.old) (next self.old) (stored self.new) (next self.new) }
+        ensures cause { result ≡ Progress.Failed → HasFailed (failures self.old) (failures self.new) };
+
+    /// Where nothing is under way the next plant is the stored one.
+    ghost idle: { (store : Self) → phase store ≡ Idle → next store ≡ stored store };
+
+    /// No bytes stand for two plants.
+    ghost one: { (b : List ℕ) (p q : Condensed) → recovers b p → recovers b q → p ≡ q };
+}

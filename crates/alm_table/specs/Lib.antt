@@ -1,0 +1,2 @@
+pub mod TableFile
+pub mod Faults

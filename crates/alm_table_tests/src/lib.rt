@@ -1,0 +1,22 @@
+//! Tests of table files.
+//!
+//! | module | what it reads |
+//! |---|---|
+//! | `worked` | a file of four alarms: its size, its areas and each attribute, with and without the keys that may be missing |
+//! | `faulty` | files with a fault, and with several: the first is told |
+//! | `limits` | each number at both ends of its limits and beyond them; tags and texts at their longest |
+//! | `largest` | 16,384 alarms |
+//!
+//! They stand in a crate of their own, since a crate with tests is proved twice.
+#![tactic(auto)]
+
+#[cfg(test)]
+mod faulty;
+#[cfg(test)]
+mod largest;
+#[cfg(test)]
+mod limits;
+#[cfg(test)]
+mod outcome;
+#[cfg(test)]
+mod worked;
