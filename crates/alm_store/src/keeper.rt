@@ -1,14 +1,14 @@
 //! A keeper is a store.
 
 use crate::store::Store;
-use alm_disk::Crashable;
+use alm_disk::Disk;
 use alm_keeper::{Keeper, OpenFault, Phase, Progress, Refused, open_store};
 use alm_model::accepted_in;
 use alm_plant::Plant;
 use alm_types::Batch;
 use std::alloc::Global;
 
-impl<D: Crashable + Drop> Store for Keeper<D> {
+impl<D: Disk + Drop> Store for Keeper<D> {
     ghost use Rattle.std.specs.Prelude.{length};
     ghost use Rattle.alm_keeper.specs.Keeper.{HasRoom, next};
     ghost use Rattle.alm_keeper.specs.Stages.{phase_of};

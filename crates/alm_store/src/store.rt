@@ -1,6 +1,6 @@
 //! A store of actions over a device, one device call at a time.
 
-use alm_disk::Crashable;
+use alm_disk::Disk;
 use alm_keeper::{OpenFault, Phase, Progress, Refused};
 use alm_plant::Plant;
 use alm_types::Batch;
@@ -22,7 +22,7 @@ pub trait Store: Drop {
     ghost use Rattle.alm_keeper.specs.Calls.{IsCall};
     ghost use Rattle.alm_store.specs.Opening.{HasCause};
 
-    type Device: Crashable + Drop;
+    type Device: Disk + Drop;
 
     /// The device does what its trait says.
     ghost honest: { Self → Type 0 };
