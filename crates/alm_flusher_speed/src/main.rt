@@ -8,8 +8,10 @@
 mod asked;
 mod way;
 
-use alm_disk::{Disk, MemDisk};
+use alm_disk::MemDisk;
 use alm_file::FileDisk;
+use alm_flusher_tests::ends::open_ends;
+use alm_store::Store;
 use alm_types::Request;
 use anyhow::{Result, anyhow};
 use asked::{Course, Values, table};
@@ -17,7 +19,7 @@ use std::alloc::Global;
 use std::env;
 use std::rt::Clock;
 use std::time::Instant;
-use way::Way;
+use way::{Way, open_formatted};
 
 /// The bytes of a device for the largest table, with segments of 24 MiB.
 const DEVICE: usize = 58_720_256;
@@ -29,9 +31,9 @@ const SMALL: usize = 65_536;
 const FIRST_CALLS: usize = 32;
 
 /// Goes so many rounds of a course, and reports them.
-fn time_course<D: Disk + Drop>(
+fn time_course<K: Store>(
     rt: &(impl Print + Eprint + Clock),
-    way: &mut Way<D>,
+    way: &mut Way<K>,
     asked: &mut Vec<Request>,
     name: &str,
     course: Course,
@@ -60,7 +62,8 @@ fn time_refusals(
 ) -> Result<()> {
     let table = table(alloc, alarms)?;
     let disk = MemDisk::new(alloc, vec![in alloc; 0u8; device]?, FIRST_CALLS)?;
-    let mut way = Way::open(alloc, &table, disk)?;
+    let store = open_formatted(alloc, &table, disk)?;
+    let mut way = Way::new(alloc, store, open_ends(alloc)?)?;
     let mut asked = Vec::with_capacity(alloc, 256)?;
     let all = Course::Refused {
         slots: 18,
@@ -74,10 +77,14 @@ fn time_refusals(
 /// Batches of accepted actions, over a file.
 fn time_commits(rt: &(impl Print + Eprint + Clock), alloc: Global, disk: FileDisk) -> Result<()> {
     let table = table(alloc, 16_384)?;
-    let mut way = Way::open(alloc, &table, disk)?;
+    let store = open_formatted(alloc, &table, disk)?;
+    let mut way = Way::new(alloc, store, open_ends(alloc)?)?;
     let mut asked = Vec::with_capacity(alloc, 256)?;
     let many = Course::Accepted { each: 64, after: 0 };
-    let one = Course::Accepted { each: 1, after: 256_000 };
+    let one = Course::Accepted {
+        each: 1,
+        after: 256_000,
+    };
     time_course(rt, &mut way, &mut asked, "accepted_128", many, 4000)?;
     time_course(rt, &mut way, &mut asked, "accepted_2", one, 20_000)
 }

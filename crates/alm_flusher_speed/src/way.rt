@@ -1,50 +1,54 @@
 //! The way from a console to a receipt.
 
-ghost use Rattle.std.specs.Prelude.{◌≡◌, ◌<◌, ◌≤◌, ◌^◌, ℕ, IsSome};
+ghost use Rattle.std.specs.Prelude.{◌≡◌, ◌<◌, ◌≤◌, ◌^◌, ℕ, IsSome, IfOk};
 ghost use Rattle.alm_rings.specs.Placed.{inbox_at};
 
 use alm_board::{PlainBoard, PlainTold};
 use alm_disk::Disk;
 use alm_flusher::{Advance, Flusher, Release};
-use alm_flusher_tests::ends::{Ends, open_ends};
-use alm_keeper::{Keeper, Stage, format, open_store};
+use alm_flusher_tests::ends::Ends;
+use alm_keeper::{Keeper, Phase, Stage, format, open_store};
 use alm_model::Alarms;
 use alm_plant::Plant;
 use alm_rings::{Console, batches_beside, open_batches};
 use alm_sequencer::Sequencer;
+use alm_store::Store;
 use alm_types::{Request, Table, Verdict};
 use anyhow::{Result, anyhow};
 use std::alloc::Global;
 
-/// The consoles, the sequencer and the flusher of all slots, over a keeper of a device.
+/// The consoles, the sequencer and the flusher of all slots, over a store.
 #[derive(Drop)]
-pub struct Way<D: Disk + Drop> {
+pub struct Way<K: Store> {
     consoles: Vec<Console<PlainTold>>,
     sequencer: Sequencer<Plant>,
-    flusher: Flusher<Keeper<D>, PlainTold, PlainBoard<Plant>>,
+    flusher: Flusher<K, PlainTold, PlainBoard<Plant>>,
     ghost all: { (s : ℕ) → s < 18 → IsSome (inbox_at s sequencer.inboxes.items) },
 }
 
-impl<D: Disk + Drop> Way<D> {
+/// A keeper of a device that is formatted for a table.
+pub fn open_formatted<D: Disk + Drop>(alloc: Global, table: &Table, disk: D) -> Result<Keeper<D>>
+    ensures idle { IfOk result (λ keeper. keeper.stage ≡ Stage.Idle) }
+    ensures limit { IfOk result (λ keeper. keeper.stored.plant.panel.count ≤ 2 ^ 48) }
+{
+    match format(alloc, disk, table) {
+        Ok(disk) => match open_store(alloc, disk) {
+            Ok(keeper) => Ok(keeper),
+            Err(_) => Err(anyhow!("opening")),
+        },
+        Err(_) => Err(anyhow!("formatting")),
+    }
+}
+
+impl<K: Store> Way<K> {
     ghost use Rattle.std.specs.Prelude.{[]};
     ghost use Rattle.alm_rings.specs.Ends.{taken_of, released_of};
     ghost use Rattle.alm_flusher_tests.specs.Fresh.{AreFresh};
 
-    /// The way over a device that is formatted for a table.
-    pub fn open(alloc: Global, table: &Table, disk: D) -> Result<Self> {
-        match format(alloc, disk, table) {
-            Ok(disk) => match open_store(alloc, disk) {
-                Ok(store) => Way::of(alloc, store, open_ends(alloc)?),
-                Err(_) => Err(anyhow!("opening")),
-            },
-            Err(_) => Err(anyhow!("formatting")),
-        }
-    }
-
     /// The way over a store and new ends.
-    fn of(alloc: Global, store: Keeper<D>, ends: Ends) -> Result<Self>
-        requires idle { store.stage ≡ Stage.Idle }
-        requires limit { store.stored.plant.panel.count ≤ 2 ^ 48 }
+    pub fn new(alloc: Global, store: K, ends: Ends) -> Result<Self>
+        requires idle { K.phase store ≡ Phase.Idle }
+        requires limit { (K.stored store).panel.count ≤ 2 ^ 48 }
         requires inboxes { AreFresh (λ i. i.slot) (λ i. taken_of i ≡ []) 18 ends.inboxes.items }
         requires outboxes { AreFresh (λ o. o.slot) (λ o. released_of o ≡ []) 18 ends.outboxes.items }
     {
