@@ -38,7 +38,7 @@ impl Values {
     }
 }
 
-/// What is asked in a round.
+/// What is asked in a turn.
 #[derive(Clone, Copy)]
 pub enum Course {
     /// So many acknowledgements of each slot, none of which is admitted.
@@ -48,17 +48,17 @@ pub enum Course {
 }
 
 impl Course {
-    /// The requests of a round.
+    /// The requests of a turn.
     pub fn ask(
         self,
         values: &Values,
-        round: u64,
+        turn: u64,
         asked: &mut Vec<Request>,
     ) -> Result<(), AllocError> {
         asked.clear();
         match self {
             Course::Refused { slots, each } => ask_refused(slots, each, asked),
-            Course::Accepted { each, after } => ask_accepted(values, round, each, after, asked),
+            Course::Accepted { each, after } => ask_accepted(values, turn, each, after, asked),
         }
     }
 }
@@ -77,12 +77,12 @@ fn ask_refused(slots: u8, each: u8, asked: &mut Vec<Request>) -> Result<(), Allo
 
 fn ask_accepted(
     values: &Values,
-    round: u64,
+    turn: u64,
     each: u32,
     after: u64,
     asked: &mut Vec<Request>,
 ) -> Result<(), AllocError> {
-    let value = if round % 2 == 0 {
+    let value = if turn % 2 == 0 {
         values.high
     } else {
         values.low
@@ -92,7 +92,7 @@ fn ask_accepted(
             let want = Action::Value(AlarmId(number), value);
             asked.push(Request { slot, want })?;
         }
-        let second = round
+        let second = turn
             .wrapping_mul(u64::from(each))
             .wrapping_add(after)
             .wrapping_add(u64::from(number) + 1);

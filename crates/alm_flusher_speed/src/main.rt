@@ -6,20 +6,22 @@
 #![tactic(auto)]
 
 mod asked;
-mod way;
+mod round;
 
-use alm_disk::MemDisk;
+use alm_disk::{Disk, MemDisk};
 use alm_file::FileDisk;
 use alm_flusher_tests::ends::open_ends;
+use alm_flusher_tests::opened::open_formatted;
+use alm_flusher_tests::parts::Parts;
 use alm_store::Store;
 use alm_types::Request;
 use anyhow::{Result, anyhow};
 use asked::{Course, Values, table};
+use round::round;
 use std::alloc::Global;
 use std::env;
 use std::rt::Clock;
 use std::time::Instant;
-use way::{Way, open_formatted};
 
 /// The bytes of a device for the largest table, with segments of 24 MiB.
 const DEVICE: usize = 58_720_256;
@@ -33,7 +35,7 @@ const FIRST_CALLS: usize = 32;
 /// Goes so many rounds of a course, and reports them.
 fn time_course<K: Store>(
     rt: &(impl Print + Eprint + Clock),
-    way: &mut Way<K>,
+    parts: &mut Parts<K>,
     asked: &mut Vec<Request>,
     name: &str,
     course: Course,
@@ -42,9 +44,9 @@ fn time_course<K: Store>(
     let values = Values::new().ok_or_else(|| anyhow!("values"))?;
     let start = Instant::now(rt)?;
     let mut sum = 0u64;
-    for round in 0..rounds {
-        course.ask(&values, round, asked)?;
-        sum = sum.wrapping_add(way.round(asked));
+    for turn in 0..rounds {
+        course.ask(&values, turn, asked)?;
+        sum = sum.wrapping_add(round(parts, asked));
     }
     let took = start.elapsed(rt)?.as_nanos();
     println!(rt; "{name} {sum}")?;
@@ -52,41 +54,65 @@ fn time_course<K: Store>(
     Ok(())
 }
 
-/// Batches of refusals, over a device in memory for so many alarms.
+/// Two courses, each with its name and so many turns.
+type Courses<'a> = [(&'a str, Course, u64); 2];
+
+fn time_courses<K: Store>(
+    rt: &(impl Print + Eprint + Clock),
+    parts: &mut Parts<K>,
+    asked: &mut Vec<Request>,
+    courses: &Courses<'_>,
+) -> Result<()> {
+    for (name, course, turns) in courses {
+        time_course(rt, parts, asked, name, *course, *turns)?;
+    }
+    Ok(())
+}
+
+/// Courses over a device that is formatted for so many alarms.
+fn time_over<D: Disk + Drop>(
+    rt: &(impl Print + Eprint + Clock),
+    alloc: Global,
+    alarms: usize,
+    disk: D,
+    courses: &Courses<'_>,
+) -> Result<()> {
+    let table = table(alloc, alarms)?;
+    let mut asked = Vec::with_capacity(alloc, 256)?;
+    let store = open_formatted(alloc, &table, disk)?;
+    let mut parts = Parts::new(alloc, open_ends(alloc)?, store)?;
+    let timed = time_courses(rt, &mut parts, &mut asked, courses);
+    drop(parts.flusher.into_keeper().into_disk());
+    timed
+}
+
+/// Batches of refusals, over a device in memory.
 fn time_refusals(
     rt: &(impl Print + Eprint + Clock),
     alloc: Global,
     alarms: usize,
-    device: usize,
+    size: usize,
     names: [&str; 2],
 ) -> Result<()> {
-    let table = table(alloc, alarms)?;
-    let disk = MemDisk::new(alloc, vec![in alloc; 0u8; device]?, FIRST_CALLS)?;
-    let store = open_formatted(alloc, &table, disk)?;
-    let mut way = Way::new(alloc, store, open_ends(alloc)?)?;
-    let mut asked = Vec::with_capacity(alloc, 256)?;
+    let disk = MemDisk::new(alloc, vec![in alloc; 0u8; size]?, FIRST_CALLS)?;
     let all = Course::Refused {
         slots: 18,
         each: 14,
     };
     let one = Course::Refused { slots: 1, each: 1 };
-    time_course(rt, &mut way, &mut asked, names[0], all, 4000)?;
-    time_course(rt, &mut way, &mut asked, names[1], one, 200_000)
+    let courses = [(names[0], all, 4000), (names[1], one, 200_000)];
+    time_over(rt, alloc, alarms, disk, &courses)
 }
 
 /// Batches of accepted actions, over a file.
 fn time_commits(rt: &(impl Print + Eprint + Clock), alloc: Global, disk: FileDisk) -> Result<()> {
-    let table = table(alloc, 16_384)?;
-    let store = open_formatted(alloc, &table, disk)?;
-    let mut way = Way::new(alloc, store, open_ends(alloc)?)?;
-    let mut asked = Vec::with_capacity(alloc, 256)?;
     let many = Course::Accepted { each: 64, after: 0 };
     let one = Course::Accepted {
         each: 1,
         after: 256_000,
     };
-    time_course(rt, &mut way, &mut asked, "accepted_128", many, 4000)?;
-    time_course(rt, &mut way, &mut asked, "accepted_2", one, 20_000)
+    let courses = [("accepted_128", many, 4000), ("accepted_2", one, 20_000)];
+    time_over(rt, alloc, 16_384, disk, &courses)
 }
 
 fn main(rt: HostRuntime) -> Result<()> {

@@ -1,10 +1,17 @@
 //! Courses of calls, each with what it answers.
 
+ghost use Rattle.std.specs.Prelude.{◌≡◌, ◌≤◌, ◌^◌, IfOk};
+
+use crate::ends::open_ends;
+use crate::opened::open_formatted;
 use crate::parts::Parts;
 use alm_board::{Board, Look, Seen};
 use alm_disk::MemDisk;
 use alm_flusher::{Advance, Fetch, Publishes, Release};
+use alm_keeper::{Keeper, Stage};
 use alm_sequencer::{Seal, Take};
+use alm_service::worked_table;
+use alm_store::Store;
 use alm_types::{Action, AlarmId, Answer, Query, Refusal, Shown, Slot, Verdict};
 use std::alloc::{AllocError, Global};
 
@@ -47,7 +54,7 @@ pub enum Outcome {
     NotShown(Refusal),
 }
 
-impl Parts {
+impl<K: Store> Parts<K> {
     /// What a new looker sees of an alarm.
     fn look(&self, id: AlarmId, answer: &mut Answer) -> Outcome {
         let mut looker = self.flusher.board().looker(Seen::new());
@@ -97,6 +104,15 @@ pub struct Played {
     pub disk: MemDisk,
 }
 
+/// A keeper of a device in memory of a size that is formatted for the worked table, and that may be called so often.
+pub fn open_worked(alloc: Global, size: usize, calls: usize) -> Result<Keeper<MemDisk>, AllocError>
+    ensures idle { IfOk result (λ keeper. keeper.stage ≡ Stage.Idle) }
+    ensures limit { IfOk result (λ keeper. keeper.stored.plant.panel.count ≤ 2 ^ 48) }
+{
+    let disk = MemDisk::new(alloc, vec![in alloc; 0u8; size]?, calls)?;
+    open_formatted(alloc, &worked_table(alloc)?, disk)
+}
+
 /// Makes these calls on new parts over a device of a size that may be called so often.
 pub fn play(
     alloc: Global,
@@ -105,7 +121,8 @@ pub fn play(
     course: &[(Call, Outcome)],
 ) -> Result<Played, AllocError> {
     let mut answer = Answer::new(alloc);
-    let mut parts = Parts::open(alloc, size, calls)?;
+    let store = open_worked(alloc, size, calls)?;
+    let mut parts = Parts::new(alloc, open_ends(alloc)?, store)?;
     let differs_at = parts.differs_at(course, &mut answer);
     let keeper = parts.flusher.into_keeper();
     let count = keeper.count();

@@ -4,13 +4,14 @@ ghost use Rattle.std.specs.Prelude.{◌≡◌, [], IfOk};
 ghost use Rattle.alm_rings.specs.Ends.{taken_of, released_of};
 ghost use Rattle.alm_flusher_tests.specs.Fresh.{AreFresh};
 
-use crate::course::{Call, Outcome, differs_at};
+use crate::course::{Call, Outcome, differs_at, open_worked};
 use crate::ends::{Ends, open_ends};
 use crate::parts::Parts;
 use alm_board::{Board, PlainTold};
 use alm_flusher::Release;
 use alm_rings::{Console, Outbox, Receipt};
 use alm_sequencer::{Seal, Take};
+use alm_store::Store;
 use alm_types::{Action, AlarmId, Answer, Moment, Reading, Refusal, Slot, Verdict};
 use std::alloc::{AllocError, Global};
 use std::test::Fail;
@@ -180,7 +181,7 @@ fn going(slot: Slot) -> [(Call, Outcome); 2] {
 }
 
 /// Answers the slot's own console once, so that one of its requests is answered.
-fn answer(parts: &Parts, outboxes: &mut Vec<Outbox<PlainTold>>) -> bool {
+fn answer<K: Store>(parts: &Parts<K>, outboxes: &mut Vec<Outbox<PlainTold>>) -> bool {
     let receipt = Receipt {
         serial: 1,
         verdict: REFUSED,
@@ -240,8 +241,8 @@ struct Courses {
 }
 
 /// 64 receipts wait, the 65th reply stays, and all come in order once one is received.
-fn fills_the_ring(
-    parts: &mut Parts,
+fn fills_the_ring<K: Store>(
+    parts: &mut Parts<K>,
     answers: &mut Vec<Outbox<PlainTold>>,
     deaf: &mut Vec<Console<PlainTold>>,
     courses: &Courses,
@@ -263,7 +264,8 @@ fn keeps_the_reply(alloc: Global, courses: &Courses) -> Result<bool, AllocError>
         mut answers,
         mut deaf,
     } = cross_ends(alloc)?;
-    let mut parts = Parts::of(alloc, ends, DEVICE, 64)?;
+    let store = open_worked(alloc, DEVICE, 64)?;
+    let mut parts = Parts::new(alloc, ends, store)?;
     let fills = fills_the_ring(&mut parts, &mut answers, &mut deaf, courses, &mut shown);
     drop(parts.flusher.into_keeper().into_disk());
     Ok(fills)
