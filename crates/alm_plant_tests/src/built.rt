@@ -5,12 +5,12 @@ use crate::tables::table;
 use alm_codec::{image_len, read_image, write_image};
 use alm_model::{Alarms, List, PlainPlant};
 use alm_plant::Plant;
-use alm_types::{Action, AlarmId, Reading};
+use alm_types::{Action, AlarmId, Reading, Table};
 use std::alloc::Global;
 use std::test::Fail;
 
-/// The linked plant of what a plain one's image says.
-fn built_of(alloc: Global, plain: &PlainPlant) -> Option<Plant> {
+/// The plant of what another's image says.
+fn built_of<P: Alarms, Q: Alarms>(alloc: Global, plain: &P) -> Option<Q> {
     let rows = u32::try_from(plain.alarms()).ok()?;
     let areas = u8::try_from(plain.areas()).ok()?;
     let count = plain.count();
@@ -23,32 +23,35 @@ fn built_of(alloc: Global, plain: &PlainPlant) -> Option<Plant> {
     }
     write_image(plain, &mut bytes);
     let parts = read_image(alloc, &bytes, rows, areas, count).ok()?;
-    Plant::build(alloc, parts).ok()
+    Q::build(alloc, parts).ok()
 }
 
-/// Both plants do an action, where both admit it.
-fn both(plain: &mut PlainPlant, linked: &mut Plant, action: Action) -> bool {
-    let admitted = plain.admits(&action).is_ok() && linked.admits(&action).is_ok();
-    if plain.admits(&action).is_ok() {
-        plain.apply(&action);
-    }
-    if linked.admits(&action).is_ok() {
-        linked.apply(&action);
+/// Whether an action is admitted, and then done.
+fn act<P: Alarms>(plant: &mut P, action: Action) -> bool {
+    let admitted = plant.admits(&action).is_ok();
+    if admitted {
+        plant.apply(&action);
     }
     admitted
 }
 
-/// Actions, where the plant admits them.
-fn act(plain: &mut PlainPlant, action: Action) {
-    if plain.admits(&action).is_ok() {
-        plain.apply(&action);
+/// A list; `None` where there is none, or no memory.
+fn list_of<P: Alarms>(alloc: Global, plant: &P, list: List) -> Option<Vec<u32>> {
+    if !plant.has_list(list) {
+        return None;
     }
+    let mut all = Vec::with_capacity(alloc, plant.alarms()).ok()?;
+    plant.fill(list, &mut all);
+    Some(all)
 }
 
-#[test]
-fn lists_go_by_stamps_that_run_against_the_numbers(rt: HostRuntime) -> Result<(), Fail> {
-    let alloc = rt.alloc();
-    let mut plain = PlainPlant::new(alloc, &table(alloc, 24, 1).ok_or("table")?)?;
+/// The list of the area of a plant that is built of another's image, whose alarms came from the last to the first; `None` where
+/// the two differ.
+fn built_list<P: Alarms + Drop, Q: Alarms + Drop>(
+    alloc: Global,
+    rows: &Table,
+) -> Result<Option<Vec<u32>>, Fail> {
+    let mut plain = P::new(alloc, rows)?;
     let zero = Reading::new(0).ok_or("reading")?;
     for turn in 0..24u32 {
         act(
@@ -56,32 +59,45 @@ fn lists_go_by_stamps_that_run_against_the_numbers(rt: HostRuntime) -> Result<()
             Action::Value(AlarmId(23u32.saturating_sub(turn)), zero),
         );
     }
-    let linked = built_of(alloc, &plain).ok_or("built")?;
-    assert!(rt; is_same(alloc, &linked, &plain)?);
-    let mut all = Vec::with_capacity(alloc, linked.alarms())?;
-    assert!(rt; linked.has_list(List::Area(0)));
-    linked.fill(List::Area(0), &mut all);
+    let linked: Q = built_of(alloc, &plain).ok_or("built")?;
+    if !is_same(alloc, &linked, &plain)? {
+        return Ok(None);
+    }
+    Ok(list_of(alloc, &linked, List::Area(0)))
+}
+
+#[test]
+fn lists_go_by_stamps_that_run_against_the_numbers(rt: HostRuntime) -> Result<(), Fail> {
+    let rows = table(rt.alloc(), 24, 1).ok_or("table")?;
+    let all = built_list::<PlainPlant, Plant>(rt.alloc(), &rows)?.ok_or("list")?;
     assert_eq!(rt; all.len(), 24);
     assert_eq!(rt; all.as_slice().first().copied(), Some(23));
     assert_eq!(rt; all.as_slice().last().copied(), Some(0));
     Ok(())
 }
 
-#[test]
-fn a_built_plant_with_shelvings_goes_on_as_the_plain_one(rt: HostRuntime) -> Result<(), Fail> {
-    let alloc = rt.alloc();
-    let mut plain = PlainPlant::new(alloc, &table(alloc, 9, 3).ok_or("table")?)?;
+/// Whether a plant with shelvings that is built of another's image goes on as that one.
+fn goes_on<P: Alarms + Drop, Q: Alarms + Drop>(alloc: Global, rows: &Table) -> Result<bool, Fail> {
+    let mut plain = P::new(alloc, rows)?;
     for number in [7u32, 2, 5] {
         act(
             &mut plain,
             Action::Shelve(AlarmId(number), 300u32.saturating_sub(number)),
         );
     }
-    let mut linked = built_of(alloc, &plain).ok_or("built")?;
-    assert!(rt; is_same(alloc, &linked, &plain)?);
+    let mut linked: Q = built_of(alloc, &plain).ok_or("built")?;
+    let mut same = is_same(alloc, &linked, &plain)?;
     for number in [2u32, 7] {
-        assert!(rt; both(&mut plain, &mut linked, Action::Unshelve(AlarmId(number))));
+        same = same
+            && act(&mut plain, Action::Unshelve(AlarmId(number)))
+            && act(&mut linked, Action::Unshelve(AlarmId(number)));
     }
-    assert!(rt; is_same(alloc, &linked, &plain)?);
+    Ok(same && is_same(alloc, &linked, &plain)?)
+}
+
+#[test]
+fn a_built_plant_with_shelvings_goes_on_as_the_plain_one(rt: HostRuntime) -> Result<(), Fail> {
+    let rows = table(rt.alloc(), 9, 3).ok_or("table")?;
+    assert!(rt; goes_on::<PlainPlant, Plant>(rt.alloc(), &rows)?);
     Ok(())
 }

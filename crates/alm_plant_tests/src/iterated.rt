@@ -17,51 +17,73 @@ fn filled(alloc: Global, plant: &Plant, list: List) -> Result<Vec<u32>, Fail> {
     Ok(out)
 }
 
-/// Does an action, where it is admitted.
-fn act(plant: &mut Plant, action: Action) {
-    if plant.admits(&action).is_ok() {
-        plant.apply(&action);
-    }
+/// The actions of a plant of twelve alarms of which some are annunciated, a day ago, and some shelved.
+fn actions() -> Option<[Action; 7]> {
+    let zero = Reading::new(0)?;
+    let come = |number| Action::Value(AlarmId(number), zero);
+    let shelve = |number| Action::Shelve(AlarmId(number), 256);
+    Some([
+        come(7),
+        come(3),
+        come(11),
+        come(0),
+        Action::Clock(Moment::new(86_400)?),
+        shelve(5),
+        shelve(2),
+    ])
 }
 
-/// A plant of twelve alarms, of which some are annunciated, a day ago, and some shelved.
-fn plant(alloc: Global) -> Result<Plant, Fail> {
-    let mut plant = Plant::new(alloc, &table(alloc, 12, 2).ok_or("table")?)?;
-    let zero = Reading::new(0).ok_or("reading")?;
-    for number in [7u32, 3, 11, 0] {
-        act(&mut plant, Action::Value(AlarmId(number), zero));
-    }
-    act(
-        &mut plant,
-        Action::Clock(Moment::new(86_400).ok_or("moment")?),
-    );
-    for number in [5u32, 2] {
-        act(&mut plant, Action::Shelve(AlarmId(number), 256));
+/// The plant after them.
+fn plant<P: Alarms + Drop>(alloc: Global) -> Result<P, Fail> {
+    let rows = table(alloc, 12, 2).ok_or("table")?;
+    let mut plant = P::new(alloc, &rows)?;
+    for action in actions().ok_or("actions")? {
+        if plant.admits(&action).is_ok() {
+            plant.apply(&action);
+        }
     }
     Ok(plant)
 }
 
+/// Whether lists by stamp are the right ones.
+fn are_by_stamp(alloc: Global, plant: &Plant) -> Result<bool, Fail> {
+    let priority: Vec<u32> = plant.priority_list(2).collect(alloc)?;
+    let slot: Vec<u32> = plant.wheel_list(128).collect(alloc)?;
+    if plant.areas() < 2 {
+        return Ok(false);
+    }
+    let area: Vec<u32> = plant.area_list(1).collect(alloc)?;
+    Ok(
+        priority == filled(alloc, plant, List::Priority(2))?
+            && slot.as_slice() == [5, 2].as_slice()
+            && area.as_slice() == [7, 3, 11].as_slice(),
+    )
+}
+
 #[test]
 fn lists_by_stamp_are_those_that_fill_a_vector(rt: HostRuntime) -> Result<(), Fail> {
-    let alloc = rt.alloc();
-    let plant = plant(alloc)?;
-    let priority: Vec<u32> = plant.priority_list(2).collect(alloc)?;
-    assert!(rt; priority == filled(alloc, &plant, List::Priority(2))?);
-    let slot: Vec<u32> = plant.wheel_list(128).collect(alloc)?;
-    assert_eq!(rt; slot.as_slice(), [5, 2].as_slice());
-    assert!(rt; plant.areas() > 1);
-    let area: Vec<u32> = plant.area_list(1).collect(alloc)?;
-    assert_eq!(rt; area.as_slice(), [7, 3, 11].as_slice());
+    let plant = plant::<Plant>(rt.alloc())?;
+    let same = are_by_stamp(rt.alloc(), &plant);
+    drop(plant);
+    assert!(rt; same?);
     Ok(())
+}
+
+/// Whether those of measures are.
+fn are_of_measures(alloc: Global, plant: &Plant) -> Result<bool, Fail> {
+    let stale: Vec<u32> = plant.stale().collect(alloc)?;
+    let chattering: Vec<u32> = plant.chattering().collect(alloc)?;
+    Ok(
+        stale.as_slice() == [0, 3, 7, 11].as_slice()
+            && chattering == filled(alloc, plant, List::Chatter)?,
+    )
 }
 
 #[test]
 fn lists_of_measures_are_those_that_fill_a_vector(rt: HostRuntime) -> Result<(), Fail> {
-    let alloc = rt.alloc();
-    let plant = plant(alloc)?;
-    let stale: Vec<u32> = plant.stale().collect(alloc)?;
-    assert_eq!(rt; stale.as_slice(), [0, 3, 7, 11].as_slice());
-    let chattering: Vec<u32> = plant.chattering().collect(alloc)?;
-    assert!(rt; chattering == filled(alloc, &plant, List::Chatter)?);
+    let plant = plant::<Plant>(rt.alloc())?;
+    let same = are_of_measures(rt.alloc(), &plant);
+    drop(plant);
+    assert!(rt; same?);
     Ok(())
 }

@@ -9,8 +9,25 @@ use std::alloc::{AllocError, Global};
 use std::test::Fail;
 
 /// A plant of a table, by its parts.
-fn built(alloc: Global, table: &Table) -> Result<Plant, AllocError> {
-    Plant::build(alloc, PlantParts::new(alloc, table)?)
+fn built<P: Alarms + Drop>(alloc: Global, rows: &Table) -> Result<P, AllocError> {
+    P::build(alloc, PlantParts::new(alloc, rows)?)
+}
+
+/// Plants of six alarms: one made, one built, and its copy.
+fn are_made<P: Alarms + Drop>(alloc: Global, rows: &Table) -> Result<bool, AllocError> {
+    let made = match P::new(alloc, rows) {
+        Ok(plant) => plant,
+        Err(_) => P::new(alloc, rows)?,
+    };
+    let parts = match built::<P>(alloc, rows) {
+        Ok(plant) => plant,
+        Err(_) => built::<P>(alloc, rows)?,
+    };
+    let copy = match parts.copy(alloc) {
+        Ok(plant) => plant,
+        Err(_) => parts.copy(alloc)?,
+    };
+    Ok(made.alarms() == 6 && copy.alarms() == 6 && copy.next_stamp() == 1)
 }
 
 #[test]
@@ -20,20 +37,6 @@ fn a_plant_is_made_whole_or_not_at_all(rt: HostRuntime) -> Result<(), Fail> {
         Some(rows) => rows,
         None => table(alloc, 6, 2).ok_or("table")?,
     };
-    let made = match Plant::new(alloc, &rows) {
-        Ok(plant) => plant,
-        Err(_) => Plant::new(alloc, &rows)?,
-    };
-    let parts = match built(alloc, &rows) {
-        Ok(plant) => plant,
-        Err(_) => built(alloc, &rows)?,
-    };
-    let copy = match parts.copy(alloc) {
-        Ok(plant) => plant,
-        Err(_) => parts.copy(alloc)?,
-    };
-    assert_eq!(rt; made.alarms(), 6);
-    assert_eq!(rt; copy.alarms(), 6);
-    assert_eq!(rt; copy.next_stamp(), 1);
+    assert!(rt; are_made::<Plant>(alloc, &rows)?);
     Ok(())
 }
