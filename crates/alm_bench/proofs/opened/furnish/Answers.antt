@@ -6,7 +6,7 @@ use Rattle.alm_rings.specs.Placed.{inbox_at, outbox_at, taken_by, released_by}
 use Rattle.alm_rings.specs.Batches.{AreBatchEnds, sealed_of, fetched_of, emptied_of, given_of}
 use Rattle.alm_sequencer.specs.Spares.{spares}
 use Rattle.alm_flusher.specs.HeldBatch.{stored_of, shown_of}
-use Rattle.alm_bench.specs.Matches.{lists_of, notes_of, stage_of}
+use Rattle.alm_bench.specs.Matches.{IsGivenUp, lists_of, notes_of, stage_of}
 use Rattle.alm_bench.proofs.Placing.{ring_trans, ring_sym}
 use Rattle.alm_bench.proofs.opened.furnish.Goals as goal
 
@@ -29,7 +29,7 @@ invariant_of-result g c =
       batches = subst (λ x. AreBatchEnds seq.result.ends x) (sym fl.ensures.parts.3)
         (ring_trans seq.result.ends.full.end s.full.end f.full.end (ring_sym s.full.end seq.result.ends.full.end same.0.0) are.0,
          ring_trans f.empty.end s.empty.end seq.result.ends.empty.end are.1 same.1.0);
-      bases = seq.ensures.new.1 ∙ ((c.in-Ok-copy.ensures ∙ c.stored.ensures) ∙ (sym (c.in-Ok-copy-2.ensures ∙ c.stored-2.ensures) ∙ sym (ap (λ b. b.board.base.value) fl.ensures.parts.1 ∙ c.new.ensures.base)));
+      bases = seq.ensures.new.1 ∙ ((c.in-Ok-copy.ensures ∙ c.stored.ensures) ∙ (sym (c.in-Ok-copy-2.ensures ∙ c.stored-2.ensures) ∙ sym (ap (λ b. b.base.value) fl.ensures.parts.1 ∙ c.new.ensures.base)));
     }
 
 pub returns-clause-open : goal.returns-clause-open
@@ -47,6 +47,7 @@ returns-clause-open g c = λ base kept floor honest is enough.
     record {
       opened = refl;
       going = λ p. absurd (cc (c.requires.idle, ap g.K.Store.phase parts.0, p));
+      trying = λ x. subst IsGivenUp held.0 x;
       fits = record {
         honest = subst g.K.Store.honest (sym parts.0) honest;
         slots = record {
@@ -66,7 +67,7 @@ returns-clause-open g c = λ base kept floor honest is enough.
         lists = record {
           opened = kept;
           judged_from = seq.ensures.new.1 ∙ (c.in-Ok-copy.ensures ∙ (c.stored.ensures ∙ is));
-          stored_from = ap (λ b. b.board.base.value) parts.1 ∙ (c.new.ensures.base ∙ (c.in-Ok-copy-2.ensures ∙ (c.stored-2.ensures ∙ is)));
+          stored_from = ap (λ b. b.base.value) parts.1 ∙ (c.new.ensures.base ∙ (c.in-Ok-copy-2.ensures ∙ (c.stored-2.ensures ∙ is)));
           all = sym (ap (λ l. kept ++ accepted_of l) seq.ensures.new.0 ∙ append-nil kept);
           kept = sym ((λ i. kept ++ accepted_of (entries_in (before i) ++ stored_of (held.0 i))) ∙ append-nil kept);
           shown = sym ((λ i. kept ++ accepted_of (entries_in (before i) ++ shown_of (held.0 i))) ∙ append-nil kept);

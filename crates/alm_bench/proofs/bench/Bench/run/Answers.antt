@@ -44,7 +44,7 @@ loop-step-init g c =
     record {
       count = search rules;
       room = search rules;
-      run = λ w m. subst (λ (t : List Event). IsRun StandsFor IsSpent w here [] t here) (sym c.in_ok-trace.ensures.items) (c.images.ensures w m, refl);
+      run = λ w m. subst (λ (t : List Event). IsRun StandsFor IsSpent w here [] t here) (sym c.in_ok-trace.ensures.items) (c.images.ensures.headline w m, refl);
       stands = λ w m. m;
     }
 

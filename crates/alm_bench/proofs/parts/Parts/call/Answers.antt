@@ -42,7 +42,7 @@ returns-in-Committed-clause-fits g c = λ w m.
         lists = record {
           opened = f.lists.opened;
           judged_from = f.lists.judged_from;
-          stored_from = ap (λ b. b.board.base.value) same.0 ∙ f.lists.stored_from;
+          stored_from = ap (λ b. b.base.value) same.0 ∙ f.lists.stored_from;
           all = f.lists.all;
           kept = ap (λ l. l ++ accepted_of items) (f.lists.kept ∙ ap (λ h. f.lists.opened ++ accepted_of (before ++ stored_of h)) held.1)
             ∙ (append_assoc f.lists.opened _ (accepted_of items) ∙ (ap (λ l. f.lists.opened ++ l) (accepted_more before items)

@@ -54,7 +54,7 @@ returns-in-Got-clause-fits g c = λ w m.
         lists = record {
           opened = f.lists.opened;
           judged_from = f.lists.judged_from;
-          stored_from = ap (λ b. b.board.base.value) same.1 ∙ f.lists.stored_from;
+          stored_from = ap (λ b. b.base.value) same.1 ∙ f.lists.stored_from;
           all = f.lists.all;
           kept = f.lists.kept ∙ (ap (λ h. f.lists.opened ++ accepted_of (entries_in (fetched_of mid.flusher.before.value) ++ stored_of h)) gets.0
             ∙ (ap (λ h. f.lists.opened ++ accepted_of (entries_in (fetched_of mid.flusher.before.value) ++ stored_of h)) (sym gets.1.held)

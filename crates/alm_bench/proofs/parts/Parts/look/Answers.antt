@@ -16,7 +16,7 @@ returns-in-Ok-clause-answer g c = λ w m.
     let p = c.args.self.now in
     let plant : run p.flusher.board.base.value (list_of p.flusher.board.log) ≡ shown_in w = shown_plant w p m.fits in
     let is = c.in-Ok.ensures.shown in
-    let board = c.looker-look.ensures.board in
+    let board = c.looker-look.ensures.board ∙ c.board.ensures.board in
     let there = ap (λ b. run b.base.value (list_of b.log)) board ∙ plant in
     ((m.opened, subst (λ q. IsOk (look q c.args.query)) there (was_ok _ _ is.0)),
      is.1 ∙ (ap (λ q. q.panel.count) there ∙ run_count w.base w.published))

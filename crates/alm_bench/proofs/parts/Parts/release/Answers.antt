@@ -31,7 +31,7 @@ invariant_of-self g c =
       replies = λ s k o here there. let b = back_outbox (outbox_at s p.flusher.outboxes.items) (outbox_at s r.new.self.outboxes.items) o (r.ensures.ends s) there in
         ring_trans o.replies.end b.0.replies.end k.replies.end (ring_sym b.0.replies.end o.replies.end b.2.0.0) (p.replies s k b.0 here b.1);
       batches = subst (λ f. AreBatchEnds p.sequencer.ends f) (sym same.3) p.batches;
-      bases = p.bases ∙ sym (ap (λ b. b.board.base.value) same.1);
+      bases = p.bases ∙ sym (ap (λ b. b.base.value) same.1);
     }
 
 pub returns-in-Full-clause-answer : goal.returns-in-Full-clause-answer
@@ -111,7 +111,7 @@ returns-in-Released-clause-fits g c = λ w m.
         lists = record {
           opened = l.opened;
           judged_from = l.judged_from;
-          stored_from = ap (λ b. b.board.base.value) same.1 ∙ l.stored_from;
+          stored_from = ap (λ b. b.base.value) same.1 ∙ l.stored_from;
           all = l.all;
           kept = l.kept ∙ (ap (λ x. l.opened ++ accepted_of (before ++ x)) (sym (ap stored_of held ∙ stored_pass p.flusher.held)) ∙ ap (λ e. l.opened ++ accepted_of (entries_in (fetched_of e) ++ stored_of new.held)) (sym same.2));
           shown = l.shown ∙ (ap (λ x. l.opened ++ accepted_of (before ++ x)) (sym (ap shown_of held ∙ shown_pass p.flusher.held)) ∙ ap (λ e. l.opened ++ accepted_of (entries_in (fetched_of e) ++ shown_of new.held)) (sym same.2));
@@ -145,7 +145,7 @@ returns-in-Full-clause-fits g c = λ w m.
         lists = record {
           opened = l.opened;
           judged_from = l.judged_from;
-          stored_from = ap (λ b. b.board.base.value) same.1 ∙ l.stored_from;
+          stored_from = ap (λ b. b.base.value) same.1 ∙ l.stored_from;
           all = l.all;
           kept = l.kept ∙ (λ i. l.opened ++ accepted_of (entries_in (fetched_of (sym same.2 i)) ++ stored_of (sym a.held i)));
           shown = l.shown ∙ (λ i. l.opened ++ accepted_of (entries_in (fetched_of (sym same.2 i)) ++ shown_of (sym a.held i)));

@@ -43,7 +43,7 @@ invariant_of-self g c =
         | inr o ↦ old.replies s k x o.1 (sym (pb.ensures.others s (λ p. o.0 (p ∙ sym is))) ∙ there)
       ];
       batches = subst (λ e. AreBatchEnds e pb.new.self.fetch) (sym seals.0.1) (subst (λ f. AreBatchEnds old.sequencer.ends f) (sym same.3) old.batches);
-      bases = seals.0.0 ∙ (old.bases ∙ sym (ap (λ b. b.board.base.value) same.1));
+      bases = seals.0.0 ∙ (old.bases ∙ sym (ap (λ b. b.base.value) same.1));
     }
 
 pub returns-clause-open : goal.returns-clause-open
@@ -88,7 +88,7 @@ returns-clause-open g c = λ w m.
         lists = record {
           opened = l.opened;
           judged_from = seals.0.0 ∙ l.judged_from;
-          stored_from = ap (λ b. b.board.base.value) same.1 ∙ l.stored_from;
+          stored_from = ap (λ b. b.base.value) same.1 ∙ l.stored_from;
           all = l.all ∙ (λ i. l.opened ++ accepted_of (entries_in (sealed_of (sym seals.0.1 i)) ++ (sym seals.1 i).entries));
           kept = l.kept ∙ (λ i. l.opened ++ accepted_of (entries_in (fetched_of (sym same.2 i)) ++ stored_of (sym same.4 i)));
           shown = l.shown ∙ (λ i. l.opened ++ accepted_of (entries_in (fetched_of (sym same.2 i)) ++ shown_of (sym same.4 i)));
