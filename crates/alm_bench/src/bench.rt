@@ -74,19 +74,35 @@ impl<D: Crashable + Drop> Bench<D> {
         }
     }
 
+    // What it is made of, taken out.
+    fn take(&mut self) -> Setup<D>
+        ensures { result ≡ self.old.setup }
+    {
+        replace(&mut self.setup, Setup::Gone)
+    }
+
+    // Put in again.
+    fn put(&mut self, setup: Setup<D>)
+        ensures { self.new.setup ≡ setup }
+    {
+        self.setup = setup;
+    }
+
     // The power fails.
     fn crash(&mut self, bytes: &Vec<(u64, u8)>) -> Event
         ensures answer { (w : World) → Stands w self.old → Answers w (S.Crash bytes.now) result }
         ensures stands { (w : World) → Stands w self.old → Stands (after w (S.Crash bytes.now) result) self.new }
         ensures moves { (w : World) → Stands w self.old → Moves StandsFor IsSpent w (S.Crash bytes.now) result (sight_of self.old) (sight_of self.new) }
     {
-        match replace(&mut self.setup, Setup::Gone) {
+        match self.take() {
             Setup::Open(parts) => {
-                self.setup = Setup::Shut(crashed(parts.into_device(), bytes));
+                let disk = crashed(parts.into_device(), bytes);
+                self.put(Setup::Shut(disk));
                 Event::Crashed
             }
             Setup::Shut(disk) => {
-                self.setup = Setup::Shut(crashed(disk, bytes));
+                let disk = crashed(disk, bytes);
+                self.put(Setup::Shut(disk));
                 Event::Crashed
             }
             Setup::Gone => Event::Skipped,
@@ -99,20 +115,20 @@ impl<D: Crashable + Drop> Bench<D> {
         ensures stands { (w : World) → Stands w self.old → Stands (after w S.Reopen result) self.new }
         ensures moves { (w : World) → Stands w self.old → Moves StandsFor IsSpent w S.Reopen result (sight_of self.old) (sight_of self.new) }
     {
-        match replace(&mut self.setup, Setup::Gone) {
+        match self.take() {
             Setup::Shut(disk) => match open_parts::<Keeper<D>>(alloc, disk) {
                 Ok(parts) => {
                     let count = parts.count();
-                    self.setup = Setup::Open(parts);
+                    self.put(Setup::Open(parts));
                     Event::Opened(count)
                 }
                 Err((fault, disk)) => {
-                    self.setup = Setup::Shut(disk);
+                    self.put(Setup::Shut(disk));
                     Event::Unopened(fault)
                 }
             },
             setup => {
-                self.setup = setup;
+                self.put(setup);
                 Event::Skipped
             }
         }
@@ -124,27 +140,28 @@ impl<D: Crashable + Drop> Bench<D> {
         ensures stands { (w : World) → Stands w self.old → Stands (after w S.Call result) self.new }
         ensures moves { (w : World) → Stands w self.old → Moves StandsFor IsSpent w S.Call result (sight_of self.old) (sight_of self.new) }
     {
-        match replace(&mut self.setup, Setup::Gone) {
+        match self.take() {
             Setup::Open(mut parts) => match parts.call() {
                 Advance::More => {
-                    self.setup = Setup::Open(parts);
+                    self.put(Setup::Open(parts));
                     Event::More
                 }
                 Advance::Committed => {
-                    self.setup = Setup::Open(parts);
+                    self.put(Setup::Open(parts));
                     Event::Committed
                 }
                 Advance::Nothing => {
-                    self.setup = Setup::Open(parts);
+                    self.put(Setup::Open(parts));
                     Event::Skipped
                 }
                 Advance::Failed => {
-                    self.setup = Setup::Shut(parts.into_device());
+                    let disk = parts.into_device();
+                    self.put(Setup::Shut(disk));
                     Event::Failed
                 }
             },
             setup => {
-                self.setup = setup;
+                self.put(setup);
                 Event::Skipped
             }
         }
@@ -157,14 +174,14 @@ impl<D: Crashable + Drop> Bench<D> {
         ensures stands { (w : World) → Stands w self.old → Stands (after w step.now result) self.new }
         ensures moves { (w : World) → Stands w self.old → Moves StandsFor IsSpent w step.now result (sight_of self.old) (sight_of self.new) }
     {
-        match replace(&mut self.setup, Setup::Gone) {
+        match self.take() {
             Setup::Open(mut parts) => {
                 let event = parts.go(alloc, step);
-                self.setup = Setup::Open(parts);
+                self.put(Setup::Open(parts));
                 event
             }
             setup => {
-                self.setup = setup;
+                self.put(setup);
                 Event::Skipped
             }
         }
