@@ -11,3 +11,4 @@ pub mod Shown
 pub mod Ordered
 pub mod Placing
 pub mod Counts
+pub mod Carried

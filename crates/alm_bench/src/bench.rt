@@ -127,10 +127,11 @@ impl<D: Crashable + Drop> Bench<D> {
                     Event::Unopened(fault)
                 }
             },
-            setup => {
-                self.put(setup);
+            Setup::Open(parts) => {
+                self.put(Setup::Open(parts));
                 Event::Skipped
             }
+            Setup::Gone => Event::Skipped,
         }
     }
 
@@ -160,10 +161,11 @@ impl<D: Crashable + Drop> Bench<D> {
                     Event::Failed
                 }
             },
-            setup => {
-                self.put(setup);
+            Setup::Shut(disk) => {
+                self.put(Setup::Shut(disk));
                 Event::Skipped
             }
+            Setup::Gone => Event::Skipped,
         }
     }
 
@@ -180,10 +182,11 @@ impl<D: Crashable + Drop> Bench<D> {
                 self.put(Setup::Open(parts));
                 event
             }
-            setup => {
-                self.put(setup);
+            Setup::Shut(disk) => {
+                self.put(Setup::Shut(disk));
                 Event::Skipped
             }
+            Setup::Gone => Event::Skipped,
         }
     }
 
