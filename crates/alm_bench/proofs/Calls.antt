@@ -1,5 +1,5 @@
 -- What the answers of a flusher say of the batch that it holds.
-use Rattle.std.proofs.Common.{◌≡◌, ◌≢◌, ◌<◌, List, length, refl}
+use Rattle.std.proofs.Common.{◌≡◌, ◌≢◌, ◌<◌, length, refl}
 use Rattle.alm_types.specs.Batches.{Judged}
 use Rattle.alm_model.specs.Judging.{accepted_of}
 use Rattle.alm_keeper.specs.declared.phase.Phase.{Phase}

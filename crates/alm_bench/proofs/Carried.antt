@@ -20,7 +20,7 @@ use Rattle.alm_bench.specs.Stands.{IsSetup, sight}
 module _ {D : Type 0} {g : Ghosts (Keeper D) D} {d : Disk.Ghosts D} where
   pub carried : (w : World) (step : Step) (event : Event) (s s' t t' : T.Setup D D g d) → s ≡ s' → t ≡ t' → Moves StandsFor IsSpent w step event (sight s) (sight t) → Moves StandsFor IsSpent w step event (sight s') (sight t')
   carried w step event s s' t t' from to moves =
-    subst (λ (x : T.Setup D D g d). Moves StandsFor IsSpent w step event (sight x) (sight t')) from
+      subst (λ (x : T.Setup D D g d). Moves StandsFor IsSpent w step event (sight x) (sight t')) from
       (subst (λ (y : T.Setup D D g d). Moves StandsFor IsSpent w step event (sight s) (sight y)) to moves)
 
   pub still : (w : World) (s t : T.Setup D D g d) → s ≡ t → IsSetup w s → IsSetup w t

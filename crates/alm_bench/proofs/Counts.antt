@@ -1,8 +1,7 @@
 -- How many verdicts of a slot are released, and how many of its requests taken.
-use Rattle.std.proofs.Common.{◌≡◌, ◌<◌, ◌≤◌, ◌+◌, ℕ, zero, suc, List, [], ◌∷◌, ◌++◌, length, take, drop, map, Option, Some, slice_get, refl, ap, sym, ◌∙◌, arith, length-append, append_assoc}
+use Rattle.std.proofs.Common.{◌≡◌, ◌≤◌, ◌+◌, ℕ, zero, suc, List, [], ◌∷◌, ◌++◌, length, take, drop, Some, slice_get, refl, ap, sym, ◌∙◌, arith, length-append, append_assoc}
 use Rattle.std.proofs.lemmas.List.{append-nil}
 use Rattle.alm_types.specs.declared.entry.Entry.{Entry}
-use Rattle.alm_types.specs.Batches.{Judged}
 use Rattle.alm_model.specs.Judging.{entries_in, of_slot, wants_of}
 use Rattle.alm_model.proofs.Legal.{entries_append, of_slot_append, of_slot_here}
 use Rattle.alm_rings.specs.declared.receipt.Receipt.{Receipt}
@@ -62,34 +61,50 @@ module _ {T : Type 0} {g : ToldGhosts T} where
 
 module _ {K D : Type 0} {g : Ghosts K D} {d : Disk.Ghosts D} where
   history : (p : Parts K D g d) → KnowsAll p → (told rest : List Entry) → entries_in (batches_of p.flusher.held) ≡ told ++ rest
-    → entries_in (sealed_of p.sequencer.ends) ++ p.sequencer.batch.entries ≡ (entries_in (fetched_of p.flusher.before.value) ++ told) ++ (rest ++ (entries_in (coming_in p.flusher.fetch) ++ p.sequencer.batch.entries))
+      → entries_in (sealed_of p.sequencer.ends) ++ p.sequencer.batch.entries ≡ (entries_in (fetched_of p.flusher.before.value) ++ told) ++ (rest ++ (entries_in (coming_in p.flusher.fetch) ++ p.sequencer.batch.entries))
   history p n told rest is =
-    let before = fetched_of p.flusher.before.value in
-    let eb = entries_in before in
-    let coming = entries_in (coming_in p.flusher.fetch) in
-    let open' = p.sequencer.batch.entries in
-    ap (λ l. entries_in l ++ open') (sym n.batches) ∙ (ap (λ l. l ++ open') (entries_append (fetched_of p.flusher.fetch) (coming_in p.flusher.fetch)
+      let before = fetched_of p.flusher.before.value in
+      let eb = entries_in before in
+      let coming = entries_in (coming_in p.flusher.fetch) in
+      let open' = p.sequencer.batch.entries in
+      ap (λ l. entries_in l ++ open') (sym n.batches) ∙ (ap (λ l. l ++ open') (entries_append (fetched_of p.flusher.fetch) (coming_in p.flusher.fetch)
       ∙ ap (λ l. l ++ coming) (ap entries_in p.flusher.held_is ∙ (entries_append before (batches_of p.flusher.held) ∙ (ap (λ l. eb ++ l) is ∙ sym (append_assoc eb told rest)))))
       ∙ (append_assoc ((eb ++ told) ++ rest) coming open' ∙ append_assoc (eb ++ told) rest (coming ++ open')))
 
   pub released_le : (p : Parts K D g d) → KnowsAll p → (s : ℕ) → length (released_by s p.flusher.outboxes.items) ≤ length (taken_by s p.sequencer.inboxes.items)
   released_le p n s =
-    let before = entries_in (fetched_of p.flusher.before.value) in
-    let told = told_of p.flusher.held in
-    let all = entries_in (sealed_of p.sequencer.ends) ++ p.sequencer.batch.entries in
-    let split = told_split p.flusher.held in
-    omega (arith, ap length (p.flusher.released s), replies_in_length (released_by s p.flusher.outboxes.items), replies_to_length (of_slot s (before ++ told)),
-      ap length (p.sequencer.wants s), wants_length (of_slot s all), count_le s (before ++ told) _ all (history p n told split.0 split.1))
+      let before = entries_in (fetched_of p.flusher.before.value) in
+      let told = told_of p.flusher.held in
+      let all = entries_in (sealed_of p.sequencer.ends) ++ p.sequencer.batch.entries in
+      let split = told_split p.flusher.held in
+      omega (
+        arith,
+        ap length (p.flusher.released s),
+        replies_in_length (released_by s p.flusher.outboxes.items),
+        replies_to_length (of_slot s (before ++ told)),
+        ap length (p.sequencer.wants s),
+        wants_length (of_slot s all),
+        count_le s (before ++ told) _ all (history p n told split.0 split.1),
+      )
 
   pub released_lt : (p : Parts K D g d) → KnowsAll p → (s : ℕ) (e : Entry) → next_of p.flusher.held ≡ Some e → e.slot ≡ s → length (released_by s p.flusher.outboxes.items) + 1 ≤ length (taken_by s p.sequencer.inboxes.items)
   released_lt p n s e next of =
-    let before = entries_in (fetched_of p.flusher.before.value) in
-    let h = p.flusher.held in
-    let told = told_of h in
-    let more = told ++ e ∷ [] in
-    let all = entries_in (sealed_of p.sequencer.ends) ++ p.sequencer.batch.entries in
-    let split = told_split (passed h) in
-    let is : entries_in (batches_of h) ≡ more ++ split.0 = sym (ap entries_in (batches_pass h)) ∙ (split.1 ∙ ap (λ l. l ++ split.0) (told_pass h e next)) in
-    let here : of_slot s (before ++ more) ≡ of_slot s (before ++ told) ++ e ∷ [] = ap (of_slot s) (sym (append_assoc before told (e ∷ []))) ∙ of_slot_here s (before ++ told) e of in
-    omega (arith, ap length (p.flusher.released s), replies_in_length (released_by s p.flusher.outboxes.items), replies_to_length (of_slot s (before ++ told)),
-      ap length (p.sequencer.wants s), wants_length (of_slot s all), count_le s (before ++ more) _ all (history p n more split.0 is), ap length here, length-append (of_slot s (before ++ told)) (e ∷ []))
+      let before = entries_in (fetched_of p.flusher.before.value) in
+      let h = p.flusher.held in
+      let told = told_of h in
+      let more = told ++ e ∷ [] in
+      let all = entries_in (sealed_of p.sequencer.ends) ++ p.sequencer.batch.entries in
+      let split = told_split (passed h) in
+      let is : entries_in (batches_of h) ≡ more ++ split.0 = sym (ap entries_in (batches_pass h)) ∙ (split.1 ∙ ap (λ l. l ++ split.0) (told_pass h e next)) in
+      let here : of_slot s (before ++ more) ≡ of_slot s (before ++ told) ++ e ∷ [] = ap (of_slot s) (sym (append_assoc before told (e ∷ []))) ∙ of_slot_here s (before ++ told) e of in
+      omega (
+        arith,
+        ap length (p.flusher.released s),
+        replies_in_length (released_by s p.flusher.outboxes.items),
+        replies_to_length (of_slot s (before ++ told)),
+        ap length (p.sequencer.wants s),
+        wants_length (of_slot s all),
+        count_le s (before ++ more) _ all (history p n more split.0 is),
+        ap length here,
+        length-append (of_slot s (before ++ told)) (e ∷ []),
+      )

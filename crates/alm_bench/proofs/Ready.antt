@@ -1,9 +1,8 @@
 -- A fetched batch is the next one of the stored plant, and admitted; and what is left of a published one.
-use Rattle.std.proofs.Common.{◌+◌, ◌≡◌, ◌≢◌, ◌<◌, ◌≤◌, ◌∙◌, ◌++◌, [], ◌∷◌, ℕ, zero, suc, List, length, ap, sym, subst, refl, arith, append_assoc, slice_get, Option, Some, None}
+use Rattle.std.proofs.Common.{◌+◌, ◌≡◌, ◌<◌, ◌∙◌, ◌++◌, [], ◌∷◌, ℕ, zero, suc, List, length, ap, sym, subst, refl, arith, append_assoc, slice_get, Some, None}
 use Rattle.std.proofs.lemmas.List.{append-nil}
 use Rattle.alm_model.specs.Step.{run}
 use Rattle.alm_model.specs.Judging.{IsLegal, accepted_of, entries_in, firsts_from, firsts_of}
-use Rattle.alm_types.specs.declared.action.Action.{Action}
 use Rattle.alm_types.specs.declared.entry.Entry.{Entry}
 use Rattle.alm_model.specs.Plant.{Condensed}
 use Rattle.alm_types.specs.Batches.{Judged}
@@ -50,9 +49,9 @@ next_one h b stored base before fetched coming sealed open' is legal firsts all 
     let lists : sealed ≡ before ++ (b ∷ coming) = sym all ∙ (ap (λ l. l ++ coming) (held ∙ ap (λ h. before ++ batches_of h) is) ∙ append_assoc before (b ∷ []) coming) in
     let stands : stored ≡ run base (accepted_of (entries_in before)) = at ∙ (ap (λ h. run base (accepted_of (entries_in before ++ stored_of h))) is ∙ ap (λ l. run base (accepted_of l)) (append-nil (entries_in before))) in
     let admitted : AllAdmitted base (accepted_of (entries_in sealed)) =
-        admitted_front base (accepted_of (entries_in sealed)) (accepted_of open') (subst (AllAdmitted base) (accepted_append (entries_in sealed) open') (legal_admitted base (entries_in sealed ++ open') legal)) in
+    admitted_front base (accepted_of (entries_in sealed)) (accepted_of open') (subst (AllAdmitted base) (accepted_append (entries_in sealed) open') (legal_admitted base (entries_in sealed ++ open') legal)) in
     let next = next_batch base stored before b coming (subst (λ (l : List Judged). firsts_of l ≡ firsts_from (base.panel.count + 1) l) lists firsts)
-        (subst (λ (l : List Judged). AllAdmitted base (accepted_of (entries_in l))) lists admitted) stands in
+    (subst (λ (l : List Judged). AllAdmitted base (accepted_of (entries_in l))) lists admitted) stands in
     subst (λ (h : Held). IsNext h stored) (sym is) next
 
 pub next_at_is : (h : Held) (e : Entry) → next_of h ≡ Some e → next_at (stage_of h) ≡ Some e

@@ -1,5 +1,5 @@
 -- What an opening finds.
-use Rattle.std.proofs.Common.{◌≡◌, ◌≤◌, ◌+◌, ◌-◌, ℕ, List, length, take, [], ◌∷◌, refl, zero, suc, sym, subst, ◌∙◌, ap, arith}
+use Rattle.std.proofs.Common.{◌≡◌, ◌≤◌, ◌+◌, ◌-◌, ℕ, List, length, take, [], refl, zero, suc, sym, subst, ◌∙◌, ap, arith}
 use Rattle.std.proofs.lemmas.List.{length-take-le}
 use Rattle.std.proofs.Math.Logic.{∥∥₁_elim}
 use Rattle.std.proofs.Props.{props}
@@ -14,7 +14,6 @@ use Rattle.alm_types.specs.declared.action.Action.{Action}
 use Rattle.alm_bench.specs.World.{IsStorageFault}
 use Rattle.alm_model.proofs.ByStamp.{by-stamp-permutation, by-stamp-rises}
 use Rattle.alm_bench.specs.Headline.{IsFrontPlant, IsGood}
-
 
 pub storage_fault : (recovers : List ℕ → Condensed → Type 0) (base : Condensed) (accepted : List Action) (floor : ℕ) (state : DeviceState) (fault : OpenFault) (n n' : ℕ) → ((image : List ℕ) → IsImage state image → IsGood recovers base accepted floor image) → HasCause recovers state fault n n' → IsStorageFault fault
 storage_fault recovers base accepted floor state Unformatted n n' headline cause = ∥∥₁_elim cause (hlevel props) (λ f. ∥∥₁_elim (headline f.image f.is_image).some (hlevel props) (λ s. f.faulty s.0 s.1))
@@ -40,7 +39,7 @@ pub first_is : (recovers : List ℕ → Condensed → Type 0) → ((image : List
     → (plant : Condensed) (image : List ℕ) → IsBytes image → recovers image plant → IsGood recovers plant [] plant.panel.count image
 first_is recovers one rules plant image are is = record {
   lists = λ q r list by. record { filter = by-stamp-permutation q list by; rises = by-stamp-rises q list (rules image q are r) by };
-      some = ∣ (plant, is) ∣₁;
+  some = ∣ (plant, is) ∣₁;
   each = λ q r. subst (IsFrontPlant plant [] plant.panel.count) (one image plant q is r) (record {
     enough = omega arith;
     no_more = omega arith;

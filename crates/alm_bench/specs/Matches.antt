@@ -1,6 +1,5 @@
 -- The parts of a bench are those of a world.
-use Rattle.std.specs.Prelude.{◌≡◌, ◌≢◌, ◌<◌, ◌≤◌, ◌+◌, ◌^◌, ℕ, true, false, List, [], ◌∷◌, ◌++◌, length, slice_get, Some}
-use Rattle.alm_disk.specs.Device.{DeviceState, IsImage}
+use Rattle.std.specs.Prelude.{◌≡◌, ◌≢◌, ◌<◌, ◌≤◌, ◌+◌, ◌^◌, ℕ, false, List, [], ◌∷◌, ◌++◌, length, slice_get, Some}
 use Rattle.alm_types.specs.declared.action.Action.{Action}
 use Rattle.alm_types.specs.declared.entry.Entry.{Entry}
 use Rattle.alm_types.specs.Batches.{Judged}

@@ -1,5 +1,5 @@
 -- A bench stands for a world.
-use Rattle.std.specs.Prelude.{◌≡◌, true, false, ℕ, List, []}
+use Rattle.std.specs.Prelude.{◌≡◌, true, false, []}
 use Rattle.alm_disk.specs.declared.disk.Disk
 use Rattle.alm_keeper.specs.declared.keeper.Keeper.{Keeper}
 use Rattle.alm_store.specs.declared.store.Store.{Ghosts}

@@ -1,13 +1,12 @@
 -- The world: what each step answers, and what it makes of the world.
-use Rattle.std.specs.Prelude.{suc, ◌≡◌, ◌≢◌, ◌⊎◌, ◌<◌, ◌≤◌, ◌+◌, ◌-◌, ◌^◌, ◌==◌, if◌then◌else◌, ℕ, Bool, true, false, max, List, [], ◌∷◌, ◌++◌, length, take, drop, slice_get, Option, Some, None, is_some, IsOk}
+use Rattle.std.specs.Prelude.{suc, ◌≡◌, ◌⊎◌, ◌<◌, ◌≤◌, ◌+◌, ◌-◌, ◌^◌, ◌==◌, if◌then◌else◌, ℕ, Bool, true, false, max, List, [], ◌∷◌, ◌++◌, length, take, drop, slice_get, Option, Some, None, is_some, IsOk}
 use Rattle.alm_types.specs.declared.action.Action.{Action}
 use Rattle.alm_types.specs.declared.entry.Entry.{Entry}
 use Rattle.alm_types.specs.declared.verdict.Verdict.{Verdict}
-use Rattle.alm_types.specs.declared.query.Query.{Query}
 use Rattle.alm_model.specs.Plant.{Condensed}
 use Rattle.alm_model.specs.Step.{run}
 use Rattle.alm_model.specs.Look.{look, asks_list}
-use Rattle.alm_model.specs.Judging.{verdict_of, when_accepted, accepted_of}
+use Rattle.alm_model.specs.Judging.{verdict_of, accepted_of}
 use Rattle.alm_keeper.specs.declared.open_fault.OpenFault.{OpenFault}
 use Rattle.alm_keeper.specs.declared.open_fault.OpenFault.TheVariants as F
 use Rattle.alm_bench.specs.declared.step.Step.{Step}
@@ -65,8 +64,20 @@ with_at f slot x s = if s == slot then x else f s
 -- an open world with nothing under way
 abbrev pub fresh : Condensed → List Action → ℕ → World
 fresh plant kept least = record {
-  base = plant; accepted = kept; sent = λ _. []; taken = λ _. 0; released = λ _. []; received = λ _. 0; taking = []; sealed = [];
-  free = 7; stage = Nothing; stored = kept; published = kept; floor = least; closed = false;
+  base = plant;
+  accepted = kept;
+  sent = λ _. [];
+  taken = λ _. 0;
+  released = λ _. [];
+  received = λ _. 0;
+  taking = [];
+  sealed = [];
+  free = 7;
+  stage = Nothing;
+  stored = kept;
+  published = kept;
+  floor = least;
+  closed = false;
 }
 
 -- the world that begins with this plant

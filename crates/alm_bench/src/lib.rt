@@ -21,7 +21,6 @@
 
 mod bench;
 mod event;
-
 mod named;
 mod opened;
 mod parts;

@@ -1,9 +1,8 @@
-use Rattle.std.proofs.Common.{◌≡◌, ◌<◌, ◌≤◌, ◌+◌, ◌++◌, ℕ, [], length, slice_get, Some, is_some, ap, sym, subst, ◌∙◌, refl, arith}
+use Rattle.std.proofs.Common.{◌≡◌, ◌++◌, [], length, is_some, ap, sym, subst, ◌∙◌, refl, arith}
 use Rattle.std.proofs.lemmas.List.{append-nil}
 use Rattle.alm_model.specs.Judging.{accepted_of, entries_in}
-use Rattle.alm_rings.specs.Ends.{sent_of, received_of}
 use Rattle.alm_rings.specs.Placed.{inbox_at, outbox_at, taken_by, released_by}
-use Rattle.alm_rings.specs.Batches.{AreBatchEnds, sealed_of, fetched_of, emptied_of, given_of}
+use Rattle.alm_rings.specs.Batches.{AreBatchEnds, fetched_of, given_of}
 use Rattle.alm_sequencer.specs.Spares.{spares}
 use Rattle.alm_flusher.specs.HeldBatch.{stored_of, shown_of}
 use Rattle.alm_bench.specs.Matches.{IsGivenUp, lists_of, notes_of, stage_of}
@@ -26,9 +25,10 @@ invariant_of-result g c =
       outboxes = λ n few. ap (λ v. is_some (outbox_at n v.items)) fl.ensures.parts.2 ∙ e.outboxes n few;
       requests = λ n k i is there. e.requests n k i is (ap (λ v. inbox_at n v.items) (sym seq.ensures.inboxes) ∙ there);
       replies = λ n k o is there. e.replies n k o is (ap (λ v. outbox_at n v.items) (sym fl.ensures.parts.2) ∙ there);
-      batches = subst (λ x. AreBatchEnds seq.result.ends x) (sym fl.ensures.parts.3)
-        (ring_trans seq.result.ends.full.end s.full.end f.full.end (ring_sym s.full.end seq.result.ends.full.end same.0.0) are.0,
-         ring_trans f.empty.end s.empty.end seq.result.ends.empty.end are.1 same.1.0);
+      batches = subst (λ x. AreBatchEnds seq.result.ends x) (sym fl.ensures.parts.3) (
+        ring_trans seq.result.ends.full.end s.full.end f.full.end (ring_sym s.full.end seq.result.ends.full.end same.0.0) are.0,
+        ring_trans f.empty.end s.empty.end seq.result.ends.empty.end are.1 same.1.0,
+      );
       bases = seq.ensures.new.1 ∙ ((c.in-Ok-copy.ensures ∙ c.stored.ensures) ∙ (sym (c.in-Ok-copy-2.ensures ∙ c.stored-2.ensures) ∙ sym (ap (λ b. b.base.value) fl.ensures.parts.1 ∙ c.new.ensures.base)));
     }
 

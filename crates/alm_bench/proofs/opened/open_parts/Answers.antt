@@ -1,4 +1,4 @@
-use Rattle.std.proofs.Common.{◌≡◌, ◌∙◌, ap, sym}
+use Rattle.std.proofs.Common.{◌∙◌, ap, sym}
 use Rattle.alm_bench.proofs.opened.open_parts.Goals as goal
 
 pub returns-in-Ok-furnish-clause-open : goal.returns-in-Ok-furnish-clause-open

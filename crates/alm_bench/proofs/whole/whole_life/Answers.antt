@@ -1,4 +1,4 @@
-use Rattle.std.proofs.Common.{◌≡◌, List, ℕ, sym, subst}
+use Rattle.std.proofs.Common.{List, ℕ, sym, subst}
 use Rattle.alm_disk.proofs.Images.{settled_image}
 use Rattle.alm_model.specs.New.{new_plant}
 use Rattle.alm_store.specs.Keepers.{StandsFor}

@@ -1,6 +1,6 @@
 use Rattle.std.proofs.Common.{◌≡◌, sym, refl, subst}
 use Rattle.alm_store.specs.Keepers.{StandsFor, IsSpent}
-use Rattle.alm_bench.specs.World.{World, after, shut}
+use Rattle.alm_bench.specs.World.{after, shut}
 use Rattle.alm_bench.specs.Headline.{Moves, Sight}
 use Rattle.alm_bench.specs.declared.step.Step.TheVariants as S
 use Rattle.alm_bench.specs.declared.event.Event.TheVariants as E
@@ -52,10 +52,10 @@ returns-in-Failed-clause-moves g c = λ w m.
     let now = c.call.new.self.flusher.store in
     let disk = c.into_device-disk in
     let same : record { state = g.D.Disk.state now.disk; failures = g.D.Disk.failures now.disk } ≡ record { state = g.D.Disk.state disk.result; failures = g.D.Disk.failures disk.result } =
-        (λ i. record { state = sym disk.ensures.device i; failures = sym disk.ensures.failures i }) in
+    (λ i. record { state = sym disk.ensures.device i; failures = sym disk.ensures.failures i }) in
     carried w S.Call E.Failed _ _ _ _ c.in-Open.ensures (sym c.put-in-Failed.ensures)
-      (subst (λ (d : Sight). Moves StandsFor IsSpent w S.Call E.Failed (record { state = g.D.Disk.state was.disk; failures = g.D.Disk.failures was.disk }) d) same
-        (c.in-Failed.ensures.moves w (still w _ _ (sym c.in-Open.ensures) m)))
+    (subst (λ (d : Sight). Moves StandsFor IsSpent w S.Call E.Failed (record { state = g.D.Disk.state was.disk; failures = g.D.Disk.failures was.disk }) d) same
+    (c.in-Failed.ensures.moves w (still w _ _ (sym c.in-Open.ensures) m)))
 
 pub returns-in-Shut-clause-answer : goal.returns-in-Shut-clause-answer
 returns-in-Shut-clause-answer g c = λ w m possible. shut_not_open w.closed (still w _ _ (sym c.in-Shut.ensures) m).0 possible.0

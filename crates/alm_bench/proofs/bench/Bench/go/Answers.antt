@@ -1,9 +1,8 @@
-use Rattle.std.proofs.Common.{◌≡◌, sym, refl, subst}
+use Rattle.std.proofs.Common.{◌≡◌, sym, subst}
 use Rattle.alm_store.specs.Keepers.{StandsFor, IsSpent}
 use Rattle.alm_bench.specs.World.{World, after}
 use Rattle.alm_bench.specs.Headline.{Moves, Sight}
-use Rattle.alm_bench.specs.Stands.{IsSetup, sight}
-use Rattle.alm_bench.specs.declared.setup.Setup.TheVariants.{Open, Shut}
+use Rattle.alm_bench.specs.Stands.{IsSetup}
 use Rattle.alm_bench.specs.declared.event.Event.TheVariants.{Skipped}
 use Rattle.alm_bench.proofs.Carried.{carried, still, inner_skips, after_skipped, inner_moves}
 use Rattle.alm_bench.proofs.bench.Bench.go.Goals as goal
@@ -22,10 +21,10 @@ pub returns-in-Open-clause-moves : goal.returns-in-Open-clause-moves
 returns-in-Open-clause-moves g c = λ w m.
     let was = c.in-Open.parts.flusher.store in
     let same : record { state = g.D.Disk.state was.disk; failures = g.D.Disk.failures was.disk } ≡ record { state = g.D.Disk.state c.go-event.new.self.flusher.store.disk; failures = g.D.Disk.failures c.go-event.new.self.flusher.store.disk } =
-        (λ i. record { state = g.D.Disk.state (sym c.go-event.ensures.store i).disk; failures = g.D.Disk.failures (sym c.go-event.ensures.store i).disk }) in
+    (λ i. record { state = g.D.Disk.state (sym c.go-event.ensures.store i).disk; failures = g.D.Disk.failures (sym c.go-event.ensures.store i).disk }) in
     carried w c.args.step.now c.go-event.result _ _ _ _ c.in-Open.ensures (sym c.put.ensures)
-      (subst (λ (d : Sight). Moves StandsFor IsSpent w c.args.step.now c.go-event.result (record { state = g.D.Disk.state was.disk; failures = g.D.Disk.failures was.disk }) d) same
-        (inner_moves StandsFor IsSpent w c.args.step.now c.go-event.result _ c.requires))
+    (subst (λ (d : Sight). Moves StandsFor IsSpent w c.args.step.now c.go-event.result (record { state = g.D.Disk.state was.disk; failures = g.D.Disk.failures was.disk }) d) same
+    (inner_moves StandsFor IsSpent w c.args.step.now c.go-event.result _ c.requires))
 
 pub returns-in-Shut-clause-answer : goal.returns-in-Shut-clause-answer
 returns-in-Shut-clause-answer g c = λ w m. inner_skips w c.args.step.now c.requires (still w _ _ (sym c.in-Shut.ensures) m).0

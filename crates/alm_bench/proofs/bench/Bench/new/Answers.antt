@@ -1,5 +1,4 @@
-use Rattle.std.proofs.Common.{◌≡◌, ◌≤◌, ◌+◌, [], length, arith}
-use Rattle.alm_model.specs.Plant.{Condensed}
+use Rattle.std.proofs.Common.{◌≡◌, [], arith}
 use Rattle.alm_store.specs.Resting.{stands_for_one}
 use Rattle.alm_bench.proofs.bench.Bench.new.Goals as goal
 

@@ -1,7 +1,7 @@
-use Rattle.std.proofs.Common.{◌≡◌, ◌≤◌, ◌+◌, ◌-◌, length, take, sym, refl, subst, arith}
+use Rattle.std.proofs.Common.{◌-◌, take, sym, refl, subst, arith}
 use Rattle.alm_model.specs.Plant.{Condensed}
 use Rattle.alm_store.specs.Keepers.{StandsFor}
-use Rattle.alm_bench.specs.World.{World, after}
+use Rattle.alm_bench.specs.World.{after}
 use Rattle.alm_bench.specs.Headline.{IsFrontPlant}
 use Rattle.alm_bench.specs.declared.step.Step.TheVariants as S
 use Rattle.alm_bench.specs.declared.event.Event.TheVariants as E
@@ -25,8 +25,8 @@ returns-in-Ok-clause-stands g c = λ w m.
     let opened = c.in-Ok.ensures.opened shut.1 in
     let front : IsFrontPlant w.base w.accepted w.floor store.stored.plant = (shut.2 (g.D.Disk.state store.disk).bytes opened.0).each store.stored.plant opened.1 in
     still (after w S.Reopen (E.Opened n)) _ _ (sym c.put.ensures)
-      (c.in-Ok.ensures.«open» shut.1 w.base (take (n - w.base.panel.count) w.accepted) w.floor
-        (found w.base w.accepted w.floor store.stored.plant n c.count-count.ensures front) (reaches w.base w.accepted w.floor store.stored.plant n c.count-count.ensures front))
+    (c.in-Ok.ensures.«open» shut.1 w.base (take (n - w.base.panel.count) w.accepted) w.floor
+    (found w.base w.accepted w.floor store.stored.plant n c.count-count.ensures front) (reaches w.base w.accepted w.floor store.stored.plant n c.count-count.ensures front))
 
 pub returns-in-Ok-clause-moves : goal.returns-in-Ok-clause-moves
 returns-in-Ok-clause-moves g c = λ w m.
@@ -37,7 +37,7 @@ returns-in-Ok-clause-moves g c = λ w m.
     let opened = c.in-Ok.ensures.opened shut.1 in
     let front : IsFrontPlant w.base w.accepted w.floor store.stored.plant = (shut.2 bytes opened.0).each store.stored.plant opened.1 in
     carried w S.Reopen (E.Opened n) _ _ _ _ c.in-Shut.ensures (sym c.put.ensures)
-      (opened.0, c.in-Ok.ensures.settled shut.1, subst (λ (q : Condensed). StandsFor bytes q) (found w.base w.accepted w.floor store.stored.plant n c.count-count.ensures front) opened.1)
+    (opened.0, c.in-Ok.ensures.settled shut.1, subst (λ (q : Condensed). StandsFor bytes q) (found w.base w.accepted w.floor store.stored.plant n c.count-count.ensures front) opened.1)
 
 pub returns-in-Err-clause-answer : goal.returns-in-Err-clause-answer
 returns-in-Err-clause-answer g c = λ w m.

@@ -1,10 +1,9 @@
 use Rattle.alm_store.specs.Keepers.{StandsFor, IsSpent}
-use Rattle.std.proofs.Common.{rules, refl, ◌≡◌, ◌<◌, ◌+◌, ◌∙◌, ◌++◌, ◌∷◌, [], List, Some, slice_get, take, length, ap, sym, subst, arith, length-append}
+use Rattle.std.proofs.Common.{rules, refl, ◌≡◌, ◌+◌, ◌∙◌, ◌++◌, ◌∷◌, [], List, take, length, ap, sym, subst, arith, length-append}
 use Rattle.std.proofs.lemmas.List.{take_more, take_all}
-use Rattle.std.proofs.lemmas.Option.{slice_get-get_or}
 use Rattle.alm_bench.specs.declared.step.Step.{Step}
 use Rattle.alm_bench.specs.declared.event.Event.{Event}
-use Rattle.alm_bench.specs.World.{World, after}
+use Rattle.alm_bench.specs.World.{World}
 use Rattle.alm_bench.specs.Headline.{IsRun, after_all}
 use Rattle.alm_bench.specs.Stands.{Stands, sight_of}
 use Rattle.alm_bench.proofs.Runs.{run_more, after_more}
@@ -26,16 +25,16 @@ loop-step-preserved g c =
       count = omega (arith, ap length items, length-append tr (e ∷ []), inv.count);
       room = c.push_reserved.ensures.capacity ∙ inv.room;
       run = λ w m.
-        let at = after_all w (take i ss) tr in
-        let stood' = inv.stands w m in
-        subst (λ (l : List Step). IsRun StandsFor IsSpent w first l c.push_reserved.new.self.items (sight_of c.step-event.new.self)) (sym more)
-        (subst (λ (t : List Event). IsRun StandsFor IsSpent w first (take i ss ++ s ∷ []) t (sight_of c.step-event.new.self)) (sym items)
-        (run_more StandsFor IsSpent w first last (sight_of c.step-event.new.self) (take i ss) tr s e (inv.run w m)
+          let at = after_all w (take i ss) tr in
+          let stood' = inv.stands w m in
+          subst (λ (l : List Step). IsRun StandsFor IsSpent w first l c.push_reserved.new.self.items (sight_of c.step-event.new.self)) (sym more)
+          (subst (λ (t : List Event). IsRun StandsFor IsSpent w first (take i ss ++ s ∷ []) t (sight_of c.step-event.new.self)) (sym items)
+          (run_more StandsFor IsSpent w first last (sight_of c.step-event.new.self) (take i ss) tr s e (inv.run w m)
           (c.step-event.ensures.answer at stood') (c.step-event.ensures.moves at stood') (c.step-event.ensures.headline at stood')));
       stands = λ w m.
-        subst (λ (v : World). Stands v c.step-event.new.self)
-        (sym (after_more StandsFor IsSpent w first last (take i ss) tr s e (inv.run w m)) ∙ (ap (after_all w (take i ss ++ s ∷ [])) (sym items) ∙ ap (λ (l : List Step). after_all w l c.push_reserved.new.self.items) (sym more)))
-        (c.step-event.ensures.stands (after_all w (take i ss) tr) (inv.stands w m));
+          subst (λ (v : World). Stands v c.step-event.new.self)
+          (sym (after_more StandsFor IsSpent w first last (take i ss) tr s e (inv.run w m)) ∙ (ap (after_all w (take i ss ++ s ∷ [])) (sym items) ∙ ap (λ (l : List Step). after_all w l c.push_reserved.new.self.items) (sym more)))
+          (c.step-event.ensures.stands (after_all w (take i ss) tr) (inv.stands w m));
     }
 
 pub loop-step-init : goal.loop-step-init

@@ -1,10 +1,10 @@
-use Rattle.std.proofs.Common.{refl, ◌≡◌, ◌+◌, ◌∙◌, ◌++◌, length, false, ap, sym, subst, append_assoc, arith}
+use Rattle.std.proofs.Common.{refl, ◌≡◌, ◌+◌, ◌∙◌, ◌++◌, length, ap, sym, subst, append_assoc, arith}
 use Rattle.alm_model.specs.Judging.{IsLegal, accepted_of, entries_in, firsts_from}
 use Rattle.alm_rings.specs.Placed.{released_by}
 use Rattle.alm_rings.specs.Batches.{fetched_of, given_of}
 use Rattle.alm_flusher.specs.HeldBatch.{stored_of, shown_of}
 use Rattle.alm_flusher.proofs.HeldLaws.{accepted_more}
-use Rattle.alm_bench.specs.World.{World, Stage, Held, stores}
+use Rattle.alm_bench.specs.World.{Held, stores}
 use Rattle.alm_bench.specs.Matches.{IsGivenUp, stage_of, lists_of, notes_of, held_at}
 use Rattle.alm_bench.proofs.Calls.{committed_batch, failed_batch}
 use Rattle.alm_bench.proofs.Moved.{opened_as}
@@ -45,10 +45,10 @@ returns-in-Committed-clause-fits g c = λ w m.
           stored_from = ap (λ b. b.base.value) same.0 ∙ f.lists.stored_from;
           all = f.lists.all;
           kept = ap (λ l. l ++ accepted_of items) (f.lists.kept ∙ ap (λ h. f.lists.opened ++ accepted_of (before ++ stored_of h)) held.1)
-            ∙ (append_assoc f.lists.opened _ (accepted_of items) ∙ (ap (λ l. f.lists.opened ++ l) (accepted_more before items)
-            ∙ (ap (λ h. f.lists.opened ++ accepted_of (before ++ stored_of h)) (sym held.2) ∙ ap (λ e. f.lists.opened ++ accepted_of (entries_in (fetched_of e) ++ stored_of new.held)) (sym same.2))));
+              ∙ (append_assoc f.lists.opened _ (accepted_of items) ∙ (ap (λ l. f.lists.opened ++ l) (accepted_more before items)
+              ∙ (ap (λ h. f.lists.opened ++ accepted_of (before ++ stored_of h)) (sym held.2) ∙ ap (λ e. f.lists.opened ++ accepted_of (entries_in (fetched_of e) ++ stored_of new.held)) (sym same.2))));
           shown = f.lists.shown ∙ (ap (λ h. f.lists.opened ++ accepted_of (before ++ shown_of h)) held.1 ∙ (ap (λ h. f.lists.opened ++ accepted_of (before ++ shown_of h)) (sym held.2)
-            ∙ ap (λ e. f.lists.opened ++ accepted_of (entries_in (fetched_of e) ++ shown_of new.held)) (sym same.2)));
+              ∙ ap (λ e. f.lists.opened ++ accepted_of (entries_in (fetched_of e) ++ shown_of new.held)) (sym same.2)));
           enough = f.lists.enough;
         };
       };
@@ -61,9 +61,10 @@ returns-in-Failed-clause-moves g c = λ w m.
     let same = c.tell_batches.ensures.store in
     let failed = failed_batch (g.K.Store.phase p.flusher.store) p.flusher.held c.advance.new.self.held o.going o.trying c.in-Failed.ensures.held in
     let next = next_one p.flusher.held failed.0 (g.K.Store.stored p.flusher.store) p.flusher.board.base.value (fetched_of p.flusher.before.value) (fetched_of p.flusher.fetch) (coming_in p.flusher.fetch) (sealed_of p.sequencer.ends) p.sequencer.batch.entries failed.1
-      (subst (λ b. IsLegal b (entries_in (sealed_of p.sequencer.ends) ++ p.sequencer.batch.entries)) p.bases p.sequencer.legal)
-      (p.sequencer.firsts ∙ ap (λ b. firsts_from (b.panel.count + 1) (sealed_of p.sequencer.ends)) p.bases)
-      c.tell_batches.ensures.knows.batches p.flusher.held_is p.flusher.stored in
-    (subst (λ s. IsCalls (g.K.Store.device s) (g.K.Store.device c.advance.new.self.store)) same (c.in-Failed.ensures.call o.fits.honest),
-     λ left. subst (λ s. HasFailed (g.K.Store.failures s) (g.K.Store.failures c.advance.new.self.store)) same
-       (c.in-Failed.ensures.cause refl o.fits.honest o.going (λ spent. left (subst (λ s. g.K.Store.spent (g.K.Store.device s)) same spent)) next))
+    (subst (λ b. IsLegal b (entries_in (sealed_of p.sequencer.ends) ++ p.sequencer.batch.entries)) p.bases p.sequencer.legal)
+    (p.sequencer.firsts ∙ ap (λ b. firsts_from (b.panel.count + 1) (sealed_of p.sequencer.ends)) p.bases)
+    c.tell_batches.ensures.knows.batches p.flusher.held_is p.flusher.stored in (
+      subst (λ s. IsCalls (g.K.Store.device s) (g.K.Store.device c.advance.new.self.store)) same (c.in-Failed.ensures.call o.fits.honest),
+      λ left. subst (λ s. HasFailed (g.K.Store.failures s) (g.K.Store.failures c.advance.new.self.store)) same
+          (c.in-Failed.ensures.cause refl o.fits.honest o.going (λ spent. left (subst (λ s. g.K.Store.spent (g.K.Store.device s)) same spent)) next),
+    )

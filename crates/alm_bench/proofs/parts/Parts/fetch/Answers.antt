@@ -1,10 +1,9 @@
-use Rattle.std.proofs.Common.{◌≡◌, ◌<◌, ◌∙◌, ◌++◌, ◌∷◌, [], List, false, true, length, ap, sym, subst, refl, arith, append_assoc}
+use Rattle.std.proofs.Common.{◌≡◌, ◌∙◌, ◌++◌, length, ap, sym, subst, refl, arith}
 use Rattle.alm_model.specs.Judging.{accepted_of, entries_in}
-use Rattle.alm_types.specs.declared.entry.Entry.{Entry}
 use Rattle.alm_rings.specs.Placed.{released_by}
-use Rattle.alm_rings.specs.Batches.{fetched_of, sealed_of, coming_in, given_of}
+use Rattle.alm_rings.specs.Batches.{fetched_of, sealed_of, coming_in}
 use Rattle.alm_flusher.specs.HeldBatch.{stored_of, shown_of}
-use Rattle.alm_bench.specs.World.{World, Stage, Nothing, Held, fetches}
+use Rattle.alm_bench.specs.World.{Nothing, fetches}
 use Rattle.alm_bench.specs.Matches.{IsGivenUp, stage_of, lists_of, notes_of, held_at}
 use Rattle.alm_bench.proofs.Lists.{next_sealed, none_sealed}
 use Rattle.alm_bench.proofs.Moved.{opened_as}
@@ -15,7 +14,7 @@ returns-then-not-waits-clause-answer g c = λ w m possible.
     let mid = c.tell_batches.new.self in
     let f = (c.tell_batches.ensures.«open» w m).fits in
     none_sealed (fetched_of mid.flusher.fetch) (coming_in mid.flusher.fetch) (sealed_of mid.sequencer.ends) w.sealed c.tell_batches.ensures.knows.batches f.batches.waiting
-      (λ some. absurd (cc (c.if-not-waits.ensures.1 some))) possible.2
+    (λ some. absurd (cc (c.if-not-waits.ensures.1 some))) possible.2
 
 pub returns-in-Got-clause-answer : goal.returns-in-Got-clause-answer
 returns-in-Got-clause-answer g c = λ w m.
@@ -57,11 +56,11 @@ returns-in-Got-clause-fits g c = λ w m.
           stored_from = ap (λ b. b.base.value) same.1 ∙ f.lists.stored_from;
           all = f.lists.all;
           kept = f.lists.kept ∙ (ap (λ h. f.lists.opened ++ accepted_of (entries_in (fetched_of mid.flusher.before.value) ++ stored_of h)) gets.0
-            ∙ (ap (λ h. f.lists.opened ++ accepted_of (entries_in (fetched_of mid.flusher.before.value) ++ stored_of h)) (sym gets.1.held)
-            ∙ ap (λ e. f.lists.opened ++ accepted_of (entries_in (fetched_of e) ++ stored_of new.held)) (sym same.3)));
+              ∙ (ap (λ h. f.lists.opened ++ accepted_of (entries_in (fetched_of mid.flusher.before.value) ++ stored_of h)) (sym gets.1.held)
+              ∙ ap (λ e. f.lists.opened ++ accepted_of (entries_in (fetched_of e) ++ stored_of new.held)) (sym same.3)));
           shown = f.lists.shown ∙ (ap (λ h. f.lists.opened ++ accepted_of (entries_in (fetched_of mid.flusher.before.value) ++ shown_of h)) gets.0
-            ∙ (ap (λ h. f.lists.opened ++ accepted_of (entries_in (fetched_of mid.flusher.before.value) ++ shown_of h)) (sym gets.1.held)
-            ∙ ap (λ e. f.lists.opened ++ accepted_of (entries_in (fetched_of e) ++ shown_of new.held)) (sym same.3)));
+              ∙ (ap (λ h. f.lists.opened ++ accepted_of (entries_in (fetched_of mid.flusher.before.value) ++ shown_of h)) (sym gets.1.held)
+              ∙ ap (λ e. f.lists.opened ++ accepted_of (entries_in (fetched_of e) ++ shown_of new.held)) (sym same.3)));
           enough = f.lists.enough;
         };
       };

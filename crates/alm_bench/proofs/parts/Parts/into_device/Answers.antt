@@ -1,4 +1,4 @@
-use Rattle.std.proofs.Common.{◌≡◌, ◌∙◌, ap, subst}
+use Rattle.std.proofs.Common.{◌∙◌, ap, subst}
 use Rattle.alm_disk.specs.Device.{DeviceState, IsImage}
 use Rattle.alm_bench.proofs.parts.Parts.into_device.Goals as goal
 

@@ -1,13 +1,10 @@
-use Rattle.std.proofs.Common.{◌≡◌, ◌≤◌, ◌+◌, ◌∙◌, ◌++◌, length, ap, sym, arith, subst, length-append, IsOk}
+use Rattle.std.proofs.Common.{◌≡◌, ◌∙◌, ap, arith, subst, IsOk}
 use Rattle.std.proofs.Math.Nat.{max-le}
 use Rattle.alm_model.specs.Look.{look}
 use Rattle.alm_model.specs.Step.{run}
-use Rattle.alm_model.specs.Judging.{accepted_of, entries_in}
-use Rattle.alm_model.proofs.Runs.{run_count, run_append}
-use Rattle.alm_rings.specs.Batches.{fetched_of}
+use Rattle.alm_model.proofs.Runs.{run_count}
 use Rattle.alm_board.specs.Logs.{list_of}
-use Rattle.alm_flusher.specs.HeldBatch.{shown_of}
-use Rattle.alm_bench.specs.World.{World, shown_in}
+use Rattle.alm_bench.specs.World.{shown_in}
 use Rattle.alm_bench.proofs.Shown.{shown_plant, was_ok}
 use Rattle.alm_bench.proofs.parts.Parts.look.Goals as goal
 
@@ -17,9 +14,10 @@ returns-in-Ok-clause-answer g c = λ w m.
     let plant : run p.flusher.board.base.value (list_of p.flusher.board.log) ≡ shown_in w = shown_plant w p m.fits in
     let is = c.in-Ok.ensures.shown in
     let board = c.looker-look.ensures.board ∙ c.board.ensures.board in
-    let there = ap (λ b. run b.base.value (list_of b.log)) board ∙ plant in
-    ((m.opened, subst (λ q. IsOk (look q c.args.query)) there (was_ok _ _ is.0)),
-     is.1 ∙ (ap (λ q. q.panel.count) there ∙ run_count w.base w.published))
+    let there = ap (λ b. run b.base.value (list_of b.log)) board ∙ plant in (
+      (m.opened, subst (λ q. IsOk (look q c.args.query)) there (was_ok _ _ is.0)),
+      is.1 ∙ (ap (λ q. q.panel.count) there ∙ run_count w.base w.published),
+    )
 
 pub returns-in-Ok-clause-fits : goal.returns-in-Ok-clause-fits
 returns-in-Ok-clause-fits g c = λ w m.

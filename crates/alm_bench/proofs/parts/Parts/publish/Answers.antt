@@ -1,13 +1,13 @@
-use Rattle.std.proofs.Common.{is_some, ◌≡◌, ◌+◌, ◌∙◌, ◌++◌, length, ap, sym, subst, append_assoc, length-append, arith, ◌≤◌}
+use Rattle.std.proofs.Common.{is_some, ◌≡◌, ◌∙◌, ◌++◌, length, ap, sym, subst, append_assoc, length-append, arith}
 use Rattle.alm_model.specs.Judging.{accepted_of, entries_in}
 use Rattle.alm_rings.specs.Placed.{released_by}
 use Rattle.alm_rings.specs.Placed.{outbox_at}
 use Rattle.alm_rings.specs.Batches.{AreBatchEnds, fetched_of, given_of}
 use Rattle.alm_flusher.specs.HeldBatch.{stored_of, shown_of}
 use Rattle.alm_flusher.proofs.HeldLaws.{accepted_more}
-use Rattle.alm_bench.specs.World.{World, Stage, Stored, shows}
+use Rattle.alm_bench.specs.World.{Stored, shows}
 use Rattle.alm_bench.specs.Matches.{IsGivenUp, stage_of, lists_of, notes_of, held_at}
-use Rattle.alm_bench.proofs.Calls.{published_batch, not_yet}
+use Rattle.alm_bench.proofs.Calls.{published_batch}
 use Rattle.alm_bench.proofs.Moved.{opened_as}
 use Rattle.alm_bench.proofs.parts.Parts.publish.Goals as goal
 
@@ -56,12 +56,11 @@ returns-in-Published-clause-fits g c = λ w m.
           stored_from = c.in-Published.ensures.base ∙ f.lists.stored_from;
           all = f.lists.all;
           kept = f.lists.kept ∙ (ap (λ h. f.lists.opened ++ accepted_of (before ++ stored_of h)) held.1 ∙ (ap (λ h. f.lists.opened ++ accepted_of (before ++ stored_of h)) (sym held.2)
-            ∙ ap (λ e. f.lists.opened ++ accepted_of (entries_in (fetched_of e) ++ stored_of new.held)) (sym same.2)));
+              ∙ ap (λ e. f.lists.opened ++ accepted_of (entries_in (fetched_of e) ++ stored_of new.held)) (sym same.2)));
           shown = ap (λ l. l ++ accepted_of items) (f.lists.shown ∙ ap (λ h. f.lists.opened ++ accepted_of (before ++ shown_of h)) held.1)
-            ∙ (append_assoc f.lists.opened _ (accepted_of items) ∙ (ap (λ l. f.lists.opened ++ l) (accepted_more before items)
-            ∙ (ap (λ h. f.lists.opened ++ accepted_of (before ++ shown_of h)) (sym held.2) ∙ ap (λ e. f.lists.opened ++ accepted_of (entries_in (fetched_of e) ++ shown_of new.held)) (sym same.2))));
+              ∙ (append_assoc f.lists.opened _ (accepted_of items) ∙ (ap (λ l. f.lists.opened ++ l) (accepted_more before items)
+              ∙ (ap (λ h. f.lists.opened ++ accepted_of (before ++ shown_of h)) (sym held.2) ∙ ap (λ e. f.lists.opened ++ accepted_of (entries_in (fetched_of e) ++ shown_of new.held)) (sym same.2))));
           enough = omega (arith, f.lists.enough, length-append w.published (accepted_of items));
         };
       };
     })
-

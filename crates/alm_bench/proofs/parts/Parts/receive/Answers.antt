@@ -1,12 +1,10 @@
-use Rattle.std.proofs.Common.{◌≡◌, ◌≢◌, ◌⊎◌, ⊎_elim, inl, inr, ◌<◌, ◌≤◌, ◌+◌, ◌^◌, ◌++◌, ◌∷◌, [], List, ℕ, Some, Option, slice_get, length, ap, sym, subst, ◌∙◌, refl, arith, length-append}
+use Rattle.std.proofs.Common.{◌≡◌, ⊎_elim, inl, inr, ◌<◌, ◌≤◌, ◌+◌, ◌++◌, ◌∷◌, [], List, ℕ, Some, Option, slice_get, length, ap, sym, subst, ◌∙◌, refl, arith, length-append}
 use Rattle.std.proofs.lemmas.Bool.{cases_lt}
 use Rattle.std.proofs.lemmas.List.{length-set}
 use Rattle.std.proofs.lemmas.Option.{slice_get_read, same_Some}
 use Rattle.rtrb.specs.Ring.{IsPair}
-use Rattle.alm_types.specs.declared.action.Action.{Action}
 use Rattle.alm_rings.specs.declared.console.Console.{Console}
 use Rattle.alm_rings.specs.Ends.{sent_of, received_of, coming_to}
-use Rattle.alm_bench.specs.World.{World, with_at}
 use Rattle.alm_bench.proofs.Placing.{set_cases, still_requests, still_replies, same_or_not, with_here, with_there}
 use Rattle.alm_bench.proofs.Counts.{notes_length, notes_seam}
 use Rattle.alm_bench.proofs.Lists.{head_is}
@@ -54,9 +52,9 @@ returns-then-not-waits-clause-answer g c = λ w m possible.
     let here1 : slice_get cs slot ≡ Some first = ap (slice_get cs) (sym is) ∙ was1 in
     let k = c.tell_all.ensures.knows.0 first here1 in
     ⊎_elim
-      (λ (some : 0 < length (coming_to first)). absurd (cc (c.if-not-waits.ensures.1 some)))
-      (λ (none : length (coming_to first) ≤ 0). absurd (omega (arith, none, ap length k.replies, length-append (received_of first) (coming_to first), f.slots.receipts slot first here1, ap length (f.slots.notes slot), notes_length (released_by slot p.flusher.outboxes.items), possible.1)))
-      (cases_lt 0 (length (coming_to first)))
+    (λ (some : 0 < length (coming_to first)). absurd (cc (c.if-not-waits.ensures.1 some)))
+    (λ (none : length (coming_to first) ≤ 0). absurd (omega (arith, none, ap length k.replies, length-append (received_of first) (coming_to first), f.slots.receipts slot first here1, ap length (f.slots.notes slot), notes_length (released_by slot p.flusher.outboxes.items), possible.1)))
+    (cases_lt 0 (length (coming_to first)))
 
 pub returns-in-Some-clause-answer : goal.returns-in-Some-clause-answer
 returns-in-Some-clause-answer g c = λ w m.
@@ -78,10 +76,11 @@ returns-in-Some-clause-answer g c = λ w m.
     let r = c.in-Some.receipt in
     let h = head_is (coming_to old) (coming_to c.receive.new.self) r some c.in-Some.ensures.known in
     let next : slice_get (w.released slot) (w.received slot) ≡ Some (note r) =
-        ap (λ (n : ℕ). slice_get (w.released slot) n) (sym (f.slots.receipts slot old here)) ∙ (ap (λ (l : List Note). slice_get l (length (received_of old))) (sym (f.slots.notes slot))
-        ∙ (ap (λ l. slice_get (notes_of l) (length (received_of old))) (sym k.replies ∙ ap (λ l. received_of old ++ l) h.1) ∙ notes_seam (received_of old) h.0 r)) in
-    ((o.opened, omega (arith, some, ap length k.replies, length-append (received_of old) (coming_to old), f.slots.receipts slot old here, ap length (f.slots.notes slot), notes_length (released_by slot p.flusher.outboxes.items))),
-     subst (λ (n : Option Note). says n r.serial r.verdict r.number) (sym next) (refl, refl, refl))
+    ap (λ (n : ℕ). slice_get (w.released slot) n) (sym (f.slots.receipts slot old here)) ∙ (ap (λ (l : List Note). slice_get l (length (received_of old))) (sym (f.slots.notes slot))
+    ∙ (ap (λ l. slice_get (notes_of l) (length (received_of old))) (sym k.replies ∙ ap (λ l. received_of old ++ l) h.1) ∙ notes_seam (received_of old) h.0 r)) in (
+      (o.opened, omega (arith, some, ap length k.replies, length-append (received_of old) (coming_to old), f.slots.receipts slot old here, ap length (f.slots.notes slot), notes_length (released_by slot p.flusher.outboxes.items))),
+      subst (λ (n : Option Note). says n r.serial r.verdict r.number) (sym next) (refl, refl, refl),
+    )
 
 pub returns-in-Some-clause-fits : goal.returns-in-Some-clause-fits
 returns-in-Some-clause-fits g c = λ w m.

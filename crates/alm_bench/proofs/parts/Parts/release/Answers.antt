@@ -1,16 +1,15 @@
-use Rattle.std.proofs.Common.{suc, ◌≡◌, ◌≢◌, inl, inr, ◌<◌, ◌≤◌, ◌+◌, ◌-◌, ◌^◌, ◌∙◌, ◌++◌, ◌∷◌, [], ℕ, List, Option, Some, drop, max, length, is_some, ap, sym, subst, refl, arith, length-append}
+use Rattle.std.proofs.Common.{suc, ◌≡◌, inl, inr, ◌+◌, ◌-◌, ◌∙◌, ◌++◌, ◌∷◌, [], ℕ, Option, Some, drop, length, ap, sym, subst, refl, arith, length-append}
 use Rattle.std.proofs.Math.Nat.{max-le}
 use Rattle.std.proofs.lemmas.Option.{same_Some}
 use Rattle.alm_types.specs.declared.entry.Entry.{Entry}
 use Rattle.alm_model.specs.Judging.{accepted_of, entries_in}
 use Rattle.alm_model.proofs.Runs.{run_count}
 use Rattle.alm_board.specs.Logs.{list_of}
-use Rattle.alm_rings.specs.Ends.{received_of, coming_to}
 use Rattle.alm_rings.specs.Placed.{outbox_at, released_in, released_by, room_by, taken_by, waiting_by}
 use Rattle.alm_rings.specs.Batches.{AreBatchEnds, fetched_of, given_of}
 use Rattle.alm_flusher.specs.HeldBatch.{stored_of, shown_of, left_of, passed, next_of}
 use Rattle.alm_flusher.proofs.HeldLaws.{stored_pass, shown_pass}
-use Rattle.alm_bench.specs.World.{World, Stage, Shown, Note, HasVerdicts, goes_to, next_at, next_notes, note_of, raised, told_more, tells, with_at}
+use Rattle.alm_bench.specs.World.{Stage, Shown, Note, HasVerdicts, goes_to, next_at, next_notes, note_of, raised, told_more, tells, with_at}
 use Rattle.alm_bench.specs.Matches.{IsGivenUp, stage_of, lists_of, note, notes_of, held_at}
 use Rattle.alm_bench.proofs.Moved.{opened_as}
 use Rattle.alm_bench.proofs.Counts.{notes_append, released_lt}
@@ -29,7 +28,7 @@ invariant_of-self g c =
       outboxes = λ s few. still_outbox _ _ (r.ensures.ends s) (p.outboxes s few);
       requests = p.requests;
       replies = λ s k o here there. let b = back_outbox (outbox_at s p.flusher.outboxes.items) (outbox_at s r.new.self.outboxes.items) o (r.ensures.ends s) there in
-        ring_trans o.replies.end b.0.replies.end k.replies.end (ring_sym b.0.replies.end o.replies.end b.2.0.0) (p.replies s k b.0 here b.1);
+          ring_trans o.replies.end b.0.replies.end k.replies.end (ring_sym b.0.replies.end o.replies.end b.2.0.0) (p.replies s k b.0 here b.1);
       batches = subst (λ f. AreBatchEnds p.sequencer.ends f) (sym same.3) p.batches;
       bases = p.bases ∙ sym (ap (λ b. b.base.value) same.1);
     }
@@ -54,9 +53,10 @@ pub returns-in-Released-clause-answer : goal.returns-in-Released-clause-answer
 returns-in-Released-clause-answer g c = λ w m.
     let mid = c.tell_all.new.self in
     let o = c.tell_all.ensures.«open» w m in
-    let a = c.in-Released.ensures.answer in
-    ((o.opened, subst HasVerdicts o.fits.batches.held (something_left mid.flusher.held a.entry a.next)),
-     subst (λ (e : Option Entry). goes_to e c.in-Released.slot) (sym (next_at_is mid.flusher.held a.entry a.next) ∙ ap (λ (s : Stage). next_at s) o.fits.batches.held) a.of)
+    let a = c.in-Released.ensures.answer in (
+      (o.opened, subst HasVerdicts o.fits.batches.held (something_left mid.flusher.held a.entry a.next)),
+      subst (λ (e : Option Entry). goes_to e c.in-Released.slot) (sym (next_at_is mid.flusher.held a.entry a.next) ∙ ap (λ (s : Stage). next_at s) o.fits.batches.held) a.of,
+    )
 
 pub returns-in-Released-clause-fits : goal.returns-in-Released-clause-fits
 returns-in-Released-clause-fits g c = λ w m.
@@ -81,12 +81,12 @@ returns-in-Released-clause-fits g c = λ w m.
     let num : a.receipt.number + length (left_of p.flusher.held) ≡ p.flusher.board.base.value.panel.count + length (list_of p.flusher.board.log) = a.number in
     let log : length (list_of p.flusher.board.log) ≡ length shown = ap length p.flusher.published in
     let number : a.receipt.number ≡ total - length (accepted_of (drop (suc n) items)) =
-        omega (arith, num, left, ap (λ q. q.panel.count) l.stored_from, run_count w.base l.opened, log, ap length l.shown, length-append l.opened shown) in
+    omega (arith, num, left, ap (λ q. q.panel.count) l.stored_from, run_count w.base l.opened, log, ap length l.shown, length-append l.opened shown) in
     let one : note a.receipt ≡ next = λ i. record { serial = a.serial i; verdict = a.verdict i; number = number i } in
     let held : new.held ≡ passed p.flusher.held = a.held in
     let list = w.released slot ++ next ∷ [] in
     let world : record w { stage = told_more (Shown items n); released = with_at w.released slot list; floor = raised w.floor (next ∷ []) } ≡ tells w slot (next_notes w w.stage) =
-        λ i. record w { stage = told_more (sym stage i); released = with_at w.released slot (w.released slot ++ sym notes i); floor = raised w.floor (sym notes i) } in
+    λ i. record w { stage = told_more (sym stage i); released = with_at w.released slot (w.released slot ++ sym notes i); floor = raised w.floor (sym notes i) } in
     opened_as _ _ _ world (record {
       opened = o.opened;
       going = λ e. o.going (ap g.K.Store.phase (sym same.0) ∙ e);
@@ -94,12 +94,14 @@ returns-in-Released-clause-fits g c = λ w m.
       fits = record {
         honest = subst g.K.Store.honest (sym same.0) f.honest;
         slots = record {
-          requests = f.slots.requests; judged = f.slots.judged;
+          requests = f.slots.requests;
+          judged = f.slots.judged;
           notes = λ s. elim (same_or_not s slot) [
             | inl q ↦ ap (λ x. notes_of (released_by x new.outboxes.items)) q ∙ (ap notes_of a.released ∙ (notes_append (released_by slot p.flusher.outboxes.items) (a.receipt ∷ []) ∙ ((λ i. f.slots.notes slot i ++ one i ∷ []) ∙ sym (with_here w.released slot list s q))))
             | inr d ↦ ap (λ x. notes_of (released_in x)) (a.others s d) ∙ (f.slots.notes s ∙ sym (with_there w.released slot list s d))
           ];
-          receipts = f.slots.receipts; few = f.slots.few;
+          receipts = f.slots.receipts;
+          few = f.slots.few;
         };
         batches = record {
           entries = f.batches.entries;

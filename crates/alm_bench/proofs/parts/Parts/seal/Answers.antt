@@ -1,11 +1,11 @@
-use Rattle.std.proofs.Common.{◌≡◌, ◌<◌, ◌≤◌, ◌+◌, ◌-◌, ◌∙◌, ◌++◌, [], ◌∷◌, length, ap, sym, arith, append_assoc, length-append}
+use Rattle.std.proofs.Common.{◌≡◌, ◌∙◌, ◌++◌, [], ◌∷◌, length, ap, sym, arith, append_assoc, length-append}
 use Rattle.std.proofs.lemmas.List.{append-nil}
 use Rattle.alm_model.specs.Judging.{accepted_of, entries_in}
 use Rattle.alm_rings.specs.Placed.{taken_by}
-use Rattle.alm_rings.specs.Batches.{fetched_of, sealed_of, emptied_of, empties_in, given_of}
+use Rattle.alm_rings.specs.Batches.{fetched_of, sealed_of, emptied_of, empties_in}
 use Rattle.alm_model.proofs.Legal.{entries_snoc}
 use Rattle.alm_sequencer.specs.Spares.{spares}
-use Rattle.alm_bench.specs.World.{World, after}
+use Rattle.alm_bench.specs.World.{after}
 use Rattle.alm_bench.specs.Matches.{lists_of}
 use Rattle.alm_bench.specs.declared.step.Step.TheVariants as S
 use Rattle.alm_bench.specs.declared.event.Event.TheVariants as E
@@ -19,9 +19,11 @@ returns-in-Sealed-clause-answer g c = λ w m.
     let f = o.fits in
     let s = c.in-Sealed.ensures.answer in
     let later = c.tell_batches-in-Sealed.new.self in
-    let k = c.tell_batches-in-Sealed.ensures in
-    (o.opened, omega (arith, s.some, ap length f.batches.entries),
-     omega (arith, s.free, f.batches.spared, ap length k.knows.empties, length-append (emptied_of later.sequencer.ends) (empties_in later.sequencer.ends), ap length k.empties.0, ap length k.empties.1))
+    let k = c.tell_batches-in-Sealed.ensures in (
+      o.opened,
+      omega (arith, s.some, ap length f.batches.entries),
+      omega (arith, s.free, f.batches.spared, ap length k.knows.empties, length-append (emptied_of later.sequencer.ends) (empties_in later.sequencer.ends), ap length k.empties.0, ap length k.empties.1),
+    )
 
 pub returns-in-Sealed-clause-fits : goal.returns-in-Sealed-clause-fits
 returns-in-Sealed-clause-fits g c = λ w m.
@@ -35,7 +37,7 @@ returns-in-Sealed-clause-fits g c = λ w m.
     let items = old.batch.entries in
     let fetched = lists_of (fetched_of mid.flusher.fetch) in
     let entries : entries_in (sealed_of new.ends) ++ new.batch.entries ≡ entries_in (sealed_of old.ends) ++ items =
-        ap (λ l. entries_in (sealed_of new.ends) ++ l) s.entries ∙ (append-nil (entries_in (sealed_of new.ends)) ∙ (ap entries_in s.sealed ∙ entries_snoc (sealed_of old.ends) old.batch)) in
+    ap (λ l. entries_in (sealed_of new.ends) ++ l) s.entries ∙ (append-nil (entries_in (sealed_of new.ends)) ∙ (ap entries_in s.sealed ∙ entries_snoc (sealed_of old.ends) old.batch)) in
     c.tell_batches-in-Sealed.ensures.«open» (after w S.Seal E.Sealed) (record {
       opened = o.opened;
       going = o.going;

@@ -1,12 +1,10 @@
-use Rattle.std.proofs.Common.{◌≡◌, ◌≢◌, ◌⊎◌, ⊎_elim, inl, inr, ◌<◌, ◌≤◌, ◌+◌, ◌^◌, ◌++◌, ◌∷◌, [], List, ℕ, Some, slice_get, length, ap, sym, subst, ◌∙◌, refl, arith, length-append}
+use Rattle.std.proofs.Common.{◌≡◌, ⊎_elim, inl, inr, ◌<◌, ◌≤◌, ◌+◌, ◌^◌, ◌++◌, ◌∷◌, [], Some, slice_get, length, ap, sym, subst, ◌∙◌, refl, arith, length-append}
 use Rattle.std.proofs.lemmas.Bool.{cases_lt}
 use Rattle.std.proofs.lemmas.List.{length-set}
 use Rattle.std.proofs.lemmas.Option.{slice_get_read}
 use Rattle.rtrb.specs.Ring.{IsPair}
-use Rattle.alm_types.specs.declared.action.Action.{Action}
 use Rattle.alm_rings.specs.declared.console.Console.{Console}
 use Rattle.alm_rings.specs.Ends.{sent_of, received_of, coming_to}
-use Rattle.alm_bench.specs.World.{World, with_at}
 use Rattle.alm_bench.proofs.Placing.{set_cases, still_requests, still_replies, same_or_not, with_here, with_there}
 use Rattle.alm_bench.proofs.Counts.{released_le}
 use Rattle.alm_bench.proofs.parts.Parts.send.Goals as goal
@@ -103,14 +101,16 @@ returns-in-Err-clause-answer g c = λ w m.
     let k = c.tell_all.ensures.knows.0 old at in
     let sent = ap length (f.slots.requests slot old at) in
     let received = f.slots.receipts slot old at in
-    let replies = ap length k.replies in
-    (o.opened, ⊎_elim
-      (λ (few : length (w.sent slot) < 64 + w.received slot). inr (⊎_elim
-        (λ (left : length (w.sent slot) + 1 < 2 ^ 64). absurd (cc (c.in-Err.ensures.cause (omega (arith, few, sent, received)) (omega (arith, few, sent, received, k.room, released_le p c.tell_all.ensures.knows.1 slot, replies, length-append (received_of old) (coming_to old))) (omega (arith, left, sent)))))
-        (λ (spent : 2 ^ 64 ≤ length (w.sent slot) + 1). spent)
-        (cases_lt (length (w.sent slot) + 1) (2 ^ 64))))
-      (λ (many : 64 + w.received slot ≤ length (w.sent slot)). inl many)
-      (cases_lt (length (w.sent slot)) (64 + w.received slot)))
+    let replies = ap length k.replies in (
+      o.opened,
+      ⊎_elim
+          (λ (few : length (w.sent slot) < 64 + w.received slot). inr (⊎_elim
+          (λ (left : length (w.sent slot) + 1 < 2 ^ 64). absurd (cc (c.in-Err.ensures.cause (omega (arith, few, sent, received)) (omega (arith, few, sent, received, k.room, released_le p c.tell_all.ensures.knows.1 slot, replies, length-append (received_of old) (coming_to old))) (omega (arith, left, sent)))))
+          (λ (spent : 2 ^ 64 ≤ length (w.sent slot) + 1). spent)
+          (cases_lt (length (w.sent slot) + 1) (2 ^ 64))))
+          (λ (many : 64 + w.received slot ≤ length (w.sent slot)). inl many)
+          (cases_lt (length (w.sent slot)) (64 + w.received slot)),
+    )
 
 pub returns-in-Err-clause-fits : goal.returns-in-Err-clause-fits
 returns-in-Err-clause-fits g c = λ w m.

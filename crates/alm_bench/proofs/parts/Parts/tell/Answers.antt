@@ -1,17 +1,14 @@
-use Rattle.std.proofs.Common.{◌≡◌, ◌≢◌, ◌<◌, ◌≤◌, ◌+◌, ◌++◌, ℕ, length, slice_get, slice_set, Some, is_some, true, inl, inr, ap, sym, subst, ◌∙◌, refl, arith}
+use Rattle.std.proofs.Common.{◌≡◌, ◌++◌, length, slice_get, slice_set, is_some, true, inl, inr, ap, sym, subst, ◌∙◌, refl, arith}
 use Rattle.std.proofs.lemmas.List.{length-set}
 use Rattle.std.proofs.lemmas.Option.{slice_get_read}
 use Rattle.rtrb.specs.Ring.{IsPair}
 use Rattle.alm_model.specs.Judging.{accepted_of, entries_in}
 use Rattle.alm_rings.specs.declared.console.Console.{Console}
-use Rattle.alm_rings.specs.declared.inbox.Inbox.{Inbox}
-use Rattle.alm_rings.specs.declared.outbox.Outbox.{Outbox}
-use Rattle.alm_rings.specs.Ends.{sent_of, received_of, coming_to, room_of}
+use Rattle.alm_rings.specs.Ends.{sent_of, received_of}
 use Rattle.alm_rings.specs.Placed.{inbox_at, outbox_at}
 use Rattle.alm_rings.specs.Batches.{AreBatchEnds, sealed_of, fetched_of, emptied_of, given_of}
 use Rattle.alm_sequencer.specs.Spares.{spares}
 use Rattle.alm_flusher.specs.HeldBatch.{stored_of, shown_of}
-use Rattle.alm_bench.specs.World.{World}
 use Rattle.alm_bench.specs.Matches.{IsGivenUp, KnowsEnds, lists_of, notes_of, stage_of}
 use Rattle.alm_bench.proofs.Placing.{set_here, set_cases, still_inbox, still_outbox, ring_trans, ring_sym}
 use Rattle.alm_bench.proofs.parts.Parts.tell.Goals as goal
@@ -35,7 +32,7 @@ invariant_of-self g c =
       requests = λ s k i here there. elim (set_cases cs s at new k here) [
         | inl h ↦ subst (λ (x : Console _ _). IsPair x.requests i.requests) h.1
             (ring_trans new.requests.end rb.new.console.requests.end i.requests.end (ring_sym rb.new.console.requests.end new.requests.end pb.ensures.console.0.0.0)
-              (rb.ensures.ends i (ap (λ n. inbox_at n rb.new.self.inboxes.items) (sym is ∙ sym h.0) ∙ there)))
+            (rb.ensures.ends i (ap (λ n. inbox_at n rb.new.self.inboxes.items) (sym is ∙ sym h.0) ∙ there)))
         | inr o ↦ old.requests s k i o.1 (sym (rb.ensures.others s (λ p. o.0 (p ∙ sym is))) ∙ there)
       ];
       replies = λ s k x here there. elim (set_cases cs s at new k here) [
@@ -107,12 +104,12 @@ returns-clause-knows g c =
     let new = c.replies_beside.new.console in
     λ k is. elim (set_cases cs c.args.slot at new k is) [
       | inl h ↦ subst (λ (x : Console _ _). KnowsEnds c.args.slot x c.requests_beside.new.self.inboxes.items c.replies_beside.new.self.outboxes.items) h.1 (record {
-          requests = rb.requests ∙ sym pb.console.2;
-          replies = pb.replies;
-          serials = omega (arith, rb.serials, ap length pb.console.2);
-          room = omega (arith, rb.room, ap length pb.console.2, pb.console.3);
-          reply_room = pb.room;
-        })
+        requests = rb.requests ∙ sym pb.console.2;
+        replies = pb.replies;
+        serials = omega (arith, rb.serials, ap length pb.console.2);
+        room = omega (arith, rb.room, ap length pb.console.2, pb.console.3);
+        reply_room = pb.room;
+      })
       | inr o ↦ absurd (o.0 (sym c.number.ensures.number))
     ]
 
