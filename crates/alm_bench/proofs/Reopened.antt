@@ -13,9 +13,9 @@ use Rattle.alm_keeper.specs.declared.open_fault.OpenFault.TheVariants.{Unformatt
 use Rattle.alm_types.specs.declared.action.Action.{Action}
 use Rattle.alm_bench.specs.World.{IsStorageFault}
 use Rattle.alm_model.proofs.ByStamp.{by-stamp-permutation, by-stamp-rises}
-use Rattle.alm_bench.specs.Headline.{IsFrontPlant, IsGood}
+use Rattle.alm_bench.specs.Headline.{IsFrontPlant, IsSafe}
 
-pub storage_fault : (recovers : List ℕ → Condensed → Type 0) (base : Condensed) (accepted : List Action) (floor : ℕ) (state : DeviceState) (fault : OpenFault) (n n' : ℕ) → ((image : List ℕ) → IsImage state image → IsGood recovers base accepted floor image) → HasCause recovers state fault n n' → IsStorageFault fault
+pub storage_fault : (recovers : List ℕ → Condensed → Type 0) (base : Condensed) (accepted : List Action) (floor : ℕ) (state : DeviceState) (fault : OpenFault) (n n' : ℕ) → ((image : List ℕ) → IsImage state image → IsSafe recovers base accepted floor image) → HasCause recovers state fault n n' → IsStorageFault fault
 storage_fault recovers base accepted floor state Unformatted n n' headline cause = ∥∥₁_elim cause (hlevel props) (λ f. ∥∥₁_elim (headline f.image f.is_image).some (hlevel props) (λ s. f.faulty s.0 s.1))
 storage_fault recovers base accepted floor state (Damaged half at) n n' headline cause = ∥∥₁_elim cause (hlevel props) (λ f. ∥∥₁_elim (headline f.image f.is_image).some (hlevel props) (λ s. f.faulty s.0 s.1))
 storage_fault recovers base accepted floor state Disk n n' headline cause = tt
@@ -36,7 +36,7 @@ take_none (suc n) = refl
 
 -- the world that begins with a plant has this plant
 pub first_is : (recovers : List ℕ → Condensed → Type 0) → ((image : List ℕ) (p q : Condensed) → recovers image p → recovers image q → p ≡ q) → ((image : List ℕ) (p : Condensed) → IsBytes image → recovers image p → KeepsRules p)
-    → (plant : Condensed) (image : List ℕ) → IsBytes image → recovers image plant → IsGood recovers plant [] plant.panel.count image
+    → (plant : Condensed) (image : List ℕ) → IsBytes image → recovers image plant → IsSafe recovers plant [] plant.panel.count image
 first_is recovers one rules plant image are is = record {
   lists = λ q r list by. record { filter = by-stamp-permutation q list by; rises = by-stamp-rises q list (rules image q are r) by };
   some = ∣ (plant, is) ∣₁;

@@ -1,4 +1,5 @@
--- The headline, and the runs of a world beside its device.
+-- The headline: after a crash at any moment the device stands for the plant of a front of the accepted actions, which holds all that
+-- was told or shown. And the runs of a world beside its device, at each point of which it holds.
 use Rattle.std.specs.Prelude.{◌≡◌, ◌<◌, ◌≤◌, ◌+◌, ◌-◌, IsPermutation, true, ℕ, false, List, [], ◌∷◌, length, take}
 use Rattle.alm_disk.specs.Device.{DeviceState, IsImage, Crashes}
 use Rattle.alm_disk.specs.Failures.{HasFailed}
@@ -20,6 +21,8 @@ use Rattle.alm_bench.specs.declared.step.Step.TheVariants.{Call, Crash, Reopen}
 use Rattle.alm_bench.specs.declared.event.Event.{Event}
 use Rattle.alm_bench.specs.declared.event.Event.TheVariants.{More, Committed, Failed, Crashed, Opened, Unopened}
 
+-- ---- what a crash may leave
+
 -- this is the plant of a front of the accepted actions, and its count reaches the floor
 pub record IsFrontPlant (base : Condensed) (accepted : List Action) (floor : ℕ) (q : Condensed) : Type 0 where
   pub enough : floor ≤ q.panel.count
@@ -31,29 +34,33 @@ pub record IsFilter (q : Condensed) (list : Choice) : Type 0 where
   pub filter : IsPermutation (alarms (stands_in list) q.panel.attrs q.panel.rows) (list_of list q)
   pub rises : RisesByStamp q.panel (list_of list q)
 
--- an image recovers one plant, and this is such a plant
-pub record IsGood (recovers : List ℕ → Condensed → Type 0) (base : Condensed) (accepted : List Action) (floor : ℕ) (image : List ℕ) : Type 0 where
+-- an image stands for a plant; this is such a plant, and each of its lists that goes by stamp is the filter of its alarms
+pub record IsSafe (recovers : List ℕ → Condensed → Type 0) (base : Condensed) (accepted : List Action) (floor : ℕ) (image : List ℕ) : Type 0 where
   pub some : ∥ ((plant : Condensed) × recovers image plant) ∥₁
   pub each : (plant : Condensed) → recovers image plant → IsFrontPlant base accepted floor plant
-  -- each of its lists that goes by stamp is the filter of its alarms, in stamp order
   pub lists : (plant : Condensed) → recovers image plant → (list : Choice) → is_by_stamp list ≡ true → IsFilter plant list
 
 -- whatever a crash leaves of the device stands for the plant
 abbrev pub StandOnly : DeviceState → Condensed → Type 0
 StandOnly state plant = (image : List ℕ) → IsImage state image → StandsFor image plant
 
--- what contracts see of a device
+-- ---- runs
+
+-- what contracts see of a device: its state, and how often a call of it has failed
 pub record Sight : Type 0 where
   pub state : DeviceState
   pub failures : ℕ
 
--- what the device stands for, if for anything, and that it stands at the last epoch
+-- which bytes stand for which plant, and which device stands at the last epoch
 module _ (recovers : List ℕ → Condensed → Type 0) (spent : DeviceState → Type 0) where
-  -- each image that a crash may leave recovers such a plant
+  -- each image that a crash may leave of the device is safe
   abbrev pub Headline : World → DeviceState → Type 0
-  Headline w state = (image : List ℕ) → IsImage state image → IsGood recovers w.base w.accepted w.floor image
+  Headline w state = (image : List ℕ) → IsImage state image → IsSafe recovers w.base w.accepted w.floor image
 
-  -- what a step that was answered so does to the device
+  -- What a step that was answered so does to the device. A Call is one write or one sync, done or failed, or nothing for a batch
+  -- without actions; it fails only where the device failed in it, or where a checkpoint was due in the last epoch. A crash leaves
+  -- the bytes that it names. A reopening reads an image, and answers what it stands for, or a fault with its cause. No other step
+  -- touches the device.
   abbrev pub Moves : World → Step → Event → Sight → Sight → Type 0
   Moves w Call More d d' = IsCall d.state d'.state
   Moves w Call Committed d d' = (0 < length (accepted_of (entries_at w.stage)) → IsCall d.state d'.state) × (accepted_of (entries_at w.stage) ≡ [] → d' ≡ d)

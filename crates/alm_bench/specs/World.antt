@@ -1,4 +1,5 @@
--- The world: what each step answers, and what it makes of the world.
+-- The world: plain lists of what was sent, accepted, stored, shown and told; which steps are possible in it, what each step answers,
+-- and what the world is then. What a slot has seen is no part of it: no answer depends on that.
 use Rattle.std.specs.Prelude.{suc, ◌≡◌, ◌⊎◌, ◌<◌, ◌≤◌, ◌+◌, ◌-◌, ◌^◌, ◌==◌, if◌then◌else◌, ℕ, Bool, true, false, max, List, [], ◌∷◌, ◌++◌, length, take, drop, slice_get, Option, Some, None, is_some, IsOk}
 use Rattle.alm_types.specs.declared.action.Action.{Action}
 use Rattle.alm_types.specs.declared.entry.Entry.{Entry}
@@ -14,14 +15,16 @@ use Rattle.alm_bench.specs.declared.step.Step.TheVariants.{Send, Take, Seal, Fet
 use Rattle.alm_bench.specs.declared.event.Event.{Event}
 use Rattle.alm_bench.specs.declared.event.Event.TheVariants.{Sent, Busy, Took, Sealed, Fetched, More, Committed, Failed, Published, Released, GaveBack, Received, Looked, Crashed, Opened, Unopened, Skipped}
 
--- the held batch, and how far it is
+-- ---- the world
+
+-- the batch that was fetched, and how far it is: held, stored, and shown with so many of its verdicts released
 pub data Stage : Type 0 where
   Nothing : Stage
   Held : List Entry → Stage
   Stored : List Entry → Stage
   Shown : List Entry → ℕ → Stage
 
--- what a receipt says
+-- what a receipt says: the request's serial, its verdict, and the count of the plant with all accepted actions up to it
 pub record Note : Type 0 where
   pub serial : ℕ
   pub verdict : Verdict
@@ -37,15 +40,15 @@ pub record World : Type 0 where
   -- what was released to each slot, and how many of it were received
   pub released : ℕ → List Note
   pub received : ℕ → ℕ
-  -- the open batch, the sealed ones, those that are free, the held one
+  -- the open batch, the sealed ones in their order, how many are free, and the one that was fetched
   pub taking : List Entry
   pub sealed : List (List Entry)
   pub free : ℕ
   pub stage : Stage
-  -- fronts of the accepted list
+  -- how far the accepted list is stored, and shown
   pub stored : List Action
   pub published : List Action
-  -- the greatest number that was released, or count that was shown
+  -- the greatest number that was released or count that was shown, over all reopenings
   pub floor : ℕ
   pub closed : Bool
 
@@ -84,7 +87,9 @@ fresh plant kept least = record {
 abbrev pub first : Condensed → World
 first plant = fresh plant [] plant.panel.count
 
--- what is answered to the request that a slot has sent
+-- ---- what is possible, and what is answered
+
+-- what is answered to the request that a slot has sent: it is judged on the plant of all actions accepted before it
 abbrev pub judges : World → ℕ → Option Action → Verdict → Type 0
 judges w slot None v = ⊥
 judges w slot (Some a) v = v ≡ verdict_of (live w) (record { slot = slot; want = a })
@@ -185,7 +190,9 @@ Answers w Reopen (Unopened fault) = Possible w Reopen × IsStorageFault fault
 Answers w step Skipped = ¬ (Possible w step)
 Answers w step event = ⊥
 
--- all else but base, accepted list and floor is gone
+-- ---- the world after a step
+
+-- all but the base, the accepted list and the floor is gone
 abbrev pub shut : World → World
 shut w = record (fresh w.base w.accepted w.floor) { closed = true }
 
