@@ -1,0 +1,140 @@
+//! Drawn steps, with crashes at drawn calls and drawn bytes.
+
+ghost use Rattle.std.specs.Prelude.{◌<◌};
+
+use crate::traces::trace;
+use crate::world::World;
+use alm_bench::{Event, Step};
+use alm_service::worked_table;
+use alm_types::{Action, AlarmId, Moment, Query, Reading, Slot};
+use std::alloc::Global;
+use std::test::Fail;
+
+const RUNS: u32 = 60;
+
+const STEPS: u32 = 250;
+
+/// More calls than a run makes.
+const CALLS: usize = 2000;
+
+fn random(seed: u64) -> u64 {
+    let a = seed ^ (seed << 13);
+    let b = a ^ (a >> 7);
+    b ^ (b << 17)
+}
+
+/// A number below a bound, from some bits of a drawn one.
+fn below(drawn: u64, shift: u32, bound: u32) -> u32
+    requires { 0 < bound }
+{
+    (drawn.wrapping_shr(shift) % bound as u64) as u32
+}
+
+/// Two consoles, the feed or the clock.
+fn slot(drawn: u64) -> Result<Slot, Fail> {
+    let number = match below(drawn, 5, 6) {
+        0 => 0,
+        1 => 7,
+        2 => 17,
+        _ => 16,
+    };
+    Ok(Slot::new(number).ok_or("slot")?)
+}
+
+/// A drawn action; the clock moves to a moment.
+fn action(drawn: u64, now: u64) -> Result<Action, Fail> {
+    let id = AlarmId(below(drawn, 8, 5));
+    Ok(match below(drawn, 12, 12) {
+        0 | 1 => Action::Clock(Moment::new(now).ok_or("moment")?),
+        2 => Action::Ack(id),
+        3 => Action::Shelve(id, below(drawn, 44, 900)),
+        4 => Action::Oos(id, below(drawn, 40, 2) == 0),
+        _ => Action::Value(id, Reading::new(below(drawn, 50, 900) as i64).ok_or("reading")?),
+    })
+}
+
+fn query(drawn: u64) -> Query {
+    match below(drawn, 20, 4) {
+        0 => Query::State(AlarmId(below(drawn, 8, 5))),
+        1 => Query::Priority(below(drawn, 8, 6)),
+        2 => Query::Flood(below(drawn, 8, 3)),
+        _ => Query::Wheel(below(drawn, 8, 300)),
+    }
+}
+
+/// Bytes for a few places, most of them near the end of the first frames.
+fn bytes(alloc: Global, drawn: u64) -> Result<Vec<(u64, u8)>, Fail> {
+    let mut bytes = Vec::new(alloc);
+    let from = 24_400u64.wrapping_add(below(drawn, 30, 900) as u64);
+    for place in 0..below(drawn, 24, 120) as u64 {
+        bytes.push((from.wrapping_add(place), below(drawn, 16, 256) as u8))?;
+    }
+    Ok(bytes)
+}
+
+/// A drawn step.
+fn step(alloc: Global, drawn: u64, now: u64) -> Result<Step, Fail> {
+    Ok(match below(drawn, 54, 64) {
+        0..=13 => Step::Send(slot(drawn)?, action(drawn, now)?),
+        14..=24 => Step::Take(slot(drawn)?),
+        25..=28 => Step::Seal,
+        29..=32 => Step::Fetch,
+        33..=44 => Step::Call,
+        45..=47 => Step::Publish,
+        48..=52 => Step::Release,
+        53..=54 => Step::GiveBack,
+        55..=57 => Step::Receive(slot(drawn)?),
+        58..=59 => Step::Look(slot(drawn)?, query(drawn)),
+        60 => Step::Crash(bytes(alloc, drawn)?),
+        _ => Step::Reopen,
+    })
+}
+
+/// The steps of a run, of which the last are a crash and a reopening.
+fn steps(alloc: Global, seed: u64) -> Result<Vec<Step>, Fail> {
+    let mut steps = Vec::new(alloc);
+    let mut drawn = seed;
+    steps.push(Step::Reopen)?;
+    for turn in 0..STEPS {
+        drawn = random(drawn);
+        steps.push(step(alloc, drawn, turn as u64)?)?;
+    }
+    steps.push(Step::Crash(Vec::new(alloc)))?;
+    steps.push(Step::Reopen)?;
+    Ok(steps)
+}
+
+/// The first place where a trace isn't the world's.
+fn differs_at(world: &mut World, steps: &[Step], trace: &[Event]) -> Result<Option<usize>, Fail> {
+    if trace.len() != steps.len() {
+        return Ok(Some(trace.len()));
+    }
+    for (place, step) in steps.iter().enumerate() {
+        let Some(event) = trace.get(place) else {
+            return Ok(Some(place));
+        };
+        let wanted = world.answers(step, *event)?;
+        if wanted != *event {
+            return Ok(Some(place));
+        }
+    }
+    Ok(None)
+}
+
+/// The first place where the trace of drawn steps isn't the world's.
+fn run_differs_at(alloc: Global, seed: u64) -> Result<Option<usize>, Fail> {
+    let steps = steps(alloc, seed)?;
+    let trace = trace(alloc, CALLS, &steps)?;
+    let mut world = World::new(alloc, worked_table(alloc)?)?;
+    differs_at(&mut world, &steps, &trace)
+}
+
+#[test]
+fn drawn_steps_answer_as_the_world_does(rt: HostRuntime) -> Result<(), Fail> {
+    let mut seed = 88_172_645_463_325_252;
+    for run in 0..RUNS {
+        seed = random(seed);
+        assert_eq!(rt; run_differs_at(rt.alloc(), seed)?, None, "run {run}");
+    }
+    Ok(())
+}
