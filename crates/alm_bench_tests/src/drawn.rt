@@ -10,12 +10,12 @@ use alm_types::{Action, AlarmId, Moment, Query, Reading, Slot};
 use std::alloc::Global;
 use std::test::Fail;
 
-const RUNS: u32 = 60;
+const RUNS: u32 = 40;
 
-const STEPS: u32 = 250;
+const STEPS: u32 = 1000;
 
 /// More calls than a run makes.
-const CALLS: usize = 2000;
+const CALLS: usize = 5000;
 
 fn random(seed: u64) -> u64 {
     let a = seed ^ (seed << 13);
@@ -32,11 +32,11 @@ fn below(drawn: u64, shift: u32, bound: u32) -> u32
 
 /// Two consoles, the feed or the clock.
 fn slot(drawn: u64) -> Result<Slot, Fail> {
-    let number = match below(drawn, 5, 6) {
+    let number = match below(drawn, 5, 4) {
         0 => 0,
         1 => 7,
-        2 => 17,
-        _ => 16,
+        2 => 16,
+        _ => 17,
     };
     Ok(Slot::new(number).ok_or("slot")?)
 }
@@ -44,13 +44,29 @@ fn slot(drawn: u64) -> Result<Slot, Fail> {
 /// A drawn action; the clock moves to a moment.
 fn action(drawn: u64, now: u64) -> Result<Action, Fail> {
     let id = AlarmId(below(drawn, 8, 5));
-    Ok(match below(drawn, 12, 12) {
-        0 | 1 => Action::Clock(Moment::new(now).ok_or("moment")?),
-        2 => Action::Ack(id),
-        3 => Action::Shelve(id, below(drawn, 44, 900)),
-        4 => Action::Oos(id, below(drawn, 40, 2) == 0),
-        _ => Action::Value(id, Reading::new(below(drawn, 50, 900) as i64).ok_or("reading")?),
+    Ok(match below(drawn, 12, 16) {
+        0 | 1 | 2 => Action::Clock(Moment::new(now).ok_or("moment")?),
+        3 | 4 | 5 => Action::Ack(id),
+        6 => Action::Shelve(id, 1 + below(drawn, 44, 9)),
+        7 => Action::Oos(id, below(drawn, 40, 2) == 0),
+        _ => Action::Value(
+            id,
+            Reading::new(100 * below(drawn, 50, 10) as i64).ok_or("reading")?,
+        ),
     })
+}
+
+/// Whose action it is, and at times another slot.
+fn sender(drawn: u64, action: &Action) -> Result<Slot, Fail> {
+    if below(drawn, 36, 8) == 0 {
+        return slot(drawn);
+    }
+    let number = match action {
+        Action::Clock(_) => 17,
+        Action::Value(_, _) => 16,
+        _ => 7,
+    };
+    Ok(Slot::new(number).ok_or("slot")?)
 }
 
 fn query(drawn: u64) -> Query {
@@ -62,30 +78,40 @@ fn query(drawn: u64) -> Query {
     }
 }
 
-/// Bytes for a few places, most of them near the end of the first frames.
+/// Where the frames begin of the half that stands at first.
+const FRAMES: u64 = 10_394;
+
+/// Bytes for a few places among the first frames.
 fn bytes(alloc: Global, drawn: u64) -> Result<Vec<(u64, u8)>, Fail> {
     let mut bytes = Vec::new(alloc);
-    let from = 24_400u64.wrapping_add(below(drawn, 30, 900) as u64);
-    for place in 0..below(drawn, 24, 120) as u64 {
+    let from = FRAMES.wrapping_add(below(drawn, 30, 400) as u64);
+    for place in 0..below(drawn, 24, 200) as u64 {
         bytes.push((from.wrapping_add(place), below(drawn, 16, 256) as u8))?;
     }
     Ok(bytes)
 }
 
+/// A request of the slot whose it is.
+fn send(drawn: u64, now: u64) -> Result<Step, Fail> {
+    let action = action(drawn, now)?;
+    let slot = sender(drawn, &action)?;
+    Ok(Step::Send(slot, action))
+}
+
 /// A drawn step.
 fn step(alloc: Global, drawn: u64, now: u64) -> Result<Step, Fail> {
-    Ok(match below(drawn, 54, 64) {
-        0..=13 => Step::Send(slot(drawn)?, action(drawn, now)?),
-        14..=24 => Step::Take(slot(drawn)?),
-        25..=28 => Step::Seal,
-        29..=32 => Step::Fetch,
-        33..=44 => Step::Call,
-        45..=47 => Step::Publish,
-        48..=52 => Step::Release,
-        53..=54 => Step::GiveBack,
-        55..=57 => Step::Receive(slot(drawn)?),
-        58..=59 => Step::Look(slot(drawn)?, query(drawn)),
-        60 => Step::Crash(bytes(alloc, drawn)?),
+    Ok(match below(drawn, 54, 1024) {
+        0..=179 => send(drawn, now)?,
+        180..=359 => Step::Take(slot(drawn)?),
+        360..=419 => Step::Seal,
+        420..=489 => Step::Fetch,
+        490..=709 => Step::Call,
+        710..=769 => Step::Publish,
+        770..=879 => Step::Release,
+        880..=929 => Step::GiveBack,
+        930..=979 => Step::Receive(slot(drawn)?),
+        980..=999 => Step::Look(slot(drawn)?, query(drawn)),
+        1000..=1003 => Step::Crash(bytes(alloc, drawn)?),
         _ => Step::Reopen,
     })
 }

@@ -84,7 +84,11 @@ fn opened_after(alloc: Global, calls: usize) -> Result<Option<Event>, Fail> {
 #[test]
 fn a_crash_after_each_call(rt: HostRuntime) -> Result<(), Fail> {
     for (calls, count) in [(0, 0), (1, 0), (2, 0), (3, 1), (4, 1)] {
-        assert_eq!(rt; opened_after(rt.alloc(), calls)?, Some(Event::Opened(count)), "after {calls}");
+        assert_eq!(rt;
+            opened_after(rt.alloc(), calls)?,
+            Some(Event::Opened(count)),
+            "after {calls}"
+        );
     }
     Ok(())
 }
@@ -199,6 +203,9 @@ fn fault_of_zeros(alloc: Global, size: usize) -> Result<Option<OpenFault>, Fail>
 
 #[test]
 fn an_unformatted_device_is_refused(rt: HostRuntime) -> Result<(), Fail> {
-    assert_eq!(rt; fault_of_zeros(rt.alloc(), 28_997)?, Some(OpenFault::Unformatted));
+    assert_eq!(rt;
+        fault_of_zeros(rt.alloc(), 28_997)?,
+        Some(OpenFault::Unformatted)
+    );
     Ok(())
 }
