@@ -47,7 +47,7 @@ fn action(drawn: u64, now: u64) -> Result<Action, Fail> {
     Ok(match below(drawn, 12, 16) {
         0 | 1 | 2 => Action::Clock(Moment::new(now).ok_or("moment")?),
         3 | 4 | 5 => Action::Ack(id),
-        6 => Action::Shelve(id, 1 + below(drawn, 44, 9)),
+        6 => Action::Shelve(id, below(drawn, 44, 9)),
         7 => Action::Oos(id, below(drawn, 40, 2) == 0),
         _ => Action::Value(
             id,
@@ -81,12 +81,21 @@ fn query(drawn: u64) -> Query {
 /// Where the frames begin of the half that stands at first.
 const FRAMES: u64 = 10_394;
 
+/// A closed gate, an open one, or another byte.
+fn byte(drawn: u64) -> u8 {
+    match below(drawn, 16, 3) {
+        0 => 0x00,
+        1 => 0xA5,
+        _ => 0x3C,
+    }
+}
+
 /// Bytes for a few places among the first frames.
 fn bytes(alloc: Global, drawn: u64) -> Result<Vec<(u64, u8)>, Fail> {
     let mut bytes = Vec::new(alloc);
     let from = FRAMES.wrapping_add(below(drawn, 30, 400) as u64);
     for place in 0..below(drawn, 24, 200) as u64 {
-        bytes.push((from.wrapping_add(place), below(drawn, 16, 256) as u8))?;
+        bytes.push((from.wrapping_add(place), byte(drawn)))?;
     }
     Ok(bytes)
 }
