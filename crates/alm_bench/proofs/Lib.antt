@@ -12,3 +12,5 @@ pub mod Ordered
 pub mod Placing
 pub mod Counts
 pub mod Carried
+pub mod Order
+pub mod Told

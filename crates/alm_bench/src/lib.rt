@@ -8,6 +8,7 @@
 //! | [`Event`] | what came of it; the events of a run are its trace |
 //! | [`life`] | a run from a formatted device |
 //! | [`whole_life`] | a run from a device that is formatted first |
+//! | [`laws`] | what was told or shown in a run is recovered ever after |
 //!
 //! The one contract that is used above is that of [`Bench::run`], and [`life`] says it in one call. The trace is that of a world
 //! of plain lists (specs/World.antt): each event is the answer of its step, and Skipped stands only where the step isn't possible or
@@ -21,6 +22,7 @@
 
 mod bench;
 mod event;
+pub mod laws;
 mod named;
 mod opened;
 mod parts;

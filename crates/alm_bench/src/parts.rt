@@ -79,6 +79,7 @@ impl<K: Store> Parts<K> {
         self.tell_batches();
     }
 
+    /// A slot sends a request.
     pub fn send(&mut self, slot: Slot, action: Action) -> Event
         ensures answer { (w : World) → IsOpen w self.old → Answers w (S.Send slot action) result }
         ensures fits { (w : World) → IsOpen w self.old → IsOpen (after w (S.Send slot action) result) self.new }
@@ -92,6 +93,7 @@ impl<K: Store> Parts<K> {
         }
     }
 
+    /// The next request of a slot is judged and joins the open batch. It is asked first whether one waits, so that Skipped means that none does.
     pub fn take(&mut self, slot: Slot) -> Event
         ensures answer { (w : World) → IsOpen w self.old → Answers w (S.Take slot) result }
         ensures fits { (w : World) → IsOpen w self.old → IsOpen (after w (S.Take slot) result) self.new }
@@ -108,6 +110,7 @@ impl<K: Store> Parts<K> {
         }
     }
 
+    /// The open batch is sealed. Its ends are told once more, so that the batch that was opened is known to have been free.
     pub fn seal(&mut self) -> Event
         ensures answer { (w : World) → IsOpen w self.old → Answers w S.Seal result }
         ensures fits { (w : World) → IsOpen w self.old → IsOpen (after w S.Seal result) self.new }
@@ -124,6 +127,7 @@ impl<K: Store> Parts<K> {
         }
     }
 
+    /// The next sealed batch is fetched.
     pub fn fetch(&mut self) -> Event
         ensures answer { (w : World) → IsOpen w self.old → Answers w S.Fetch result }
         ensures fits { (w : World) → IsOpen w self.old → IsOpen (after w S.Fetch result) self.new }
@@ -140,6 +144,7 @@ impl<K: Store> Parts<K> {
         }
     }
 
+    /// The one device call that is next.
     pub fn call(&mut self) -> Advance
         ensures answer { (w : World) → IsOpen w self.old → Answers w S.Call (called result) }
         ensures fits { (w : World) → IsOpen w self.old → CallFits w (called result) self.new }
@@ -154,6 +159,7 @@ impl<K: Store> Parts<K> {
         }
     }
 
+    /// The committed batch is shown.
     pub fn publish(&mut self) -> Event
         ensures answer { (w : World) → IsOpen w self.old → Answers w S.Publish result }
         ensures fits { (w : World) → IsOpen w self.old → IsOpen (after w S.Publish result) self.new }
@@ -167,6 +173,7 @@ impl<K: Store> Parts<K> {
         }
     }
 
+    /// The next verdict is released to its slot.
     pub fn release(&mut self) -> Event
         ensures answer { (w : World) → IsOpen w self.old → Answers w S.Release result }
         ensures fits { (w : World) → IsOpen w self.old → IsOpen (after w S.Release result) self.new }
@@ -183,6 +190,7 @@ impl<K: Store> Parts<K> {
         }
     }
 
+    /// The batch goes back once its verdicts are released.
     pub fn give_back(&mut self) -> Event
         ensures answer { (w : World) → IsOpen w self.old → Answers w S.GiveBack result }
         ensures fits { (w : World) → IsOpen w self.old → IsOpen (after w S.GiveBack result) self.new }
@@ -196,6 +204,7 @@ impl<K: Store> Parts<K> {
         }
     }
 
+    /// A slot receives its next receipt.
     pub fn receive(&mut self, slot: Slot) -> Event
         ensures answer { (w : World) → IsOpen w self.old → Answers w (S.Receive slot) result }
         ensures fits { (w : World) → IsOpen w self.old → IsOpen (after w (S.Receive slot) result) self.new }
@@ -221,12 +230,11 @@ impl<K: Store> Parts<K> {
         }
     }
 
-    pub fn look(&mut self, alloc: Global, slot: Slot, query: Query) -> Event
-        ensures answer { (w : World) → IsOpen w self.old → Answers w (S.Look slot query) result }
-        ensures fits { (w : World) → IsOpen w self.old → IsOpen (after w (S.Look slot query) result) self.new }
-        ensures store { self.new.flusher.store ≡ self.old.flusher.store }
+    /// Asks the published plant, for any slot.
+    pub fn look(&self, alloc: Global, query: Query) -> Event
+        ensures answer { (w : World) (slot : ℕ) → IsOpen w self.now → Answers w (S.Look slot query) result }
+        ensures fits { (w : World) (slot : ℕ) → IsOpen w self.now → IsOpen (after w (S.Look slot query) result) self.now }
     {
-        let _slot = slot;
         let mut look = self.flusher.board().looker(Seen::new());
         let mut answer = Answer::new(alloc);
         match look.look(query, &mut answer) {
@@ -251,7 +259,7 @@ impl<K: Store> Parts<K> {
             Step::Release => self.release(),
             Step::GiveBack => self.give_back(),
             Step::Receive(slot) => self.receive(*slot),
-            Step::Look(slot, query) => self.look(alloc, *slot, *query),
+            Step::Look(_, query) => self.look(alloc, *query),
             Step::Call => unreachable!(),
             Step::Crash(_) => unreachable!(),
             Step::Reopen => unreachable!(),

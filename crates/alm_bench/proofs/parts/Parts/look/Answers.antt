@@ -9,7 +9,7 @@ use Rattle.alm_bench.proofs.Shown.{shown_plant, was_ok}
 use Rattle.alm_bench.proofs.parts.Parts.look.Goals as goal
 
 pub returns-in-Ok-clause-answer : goal.returns-in-Ok-clause-answer
-returns-in-Ok-clause-answer g c = λ w m.
+returns-in-Ok-clause-answer g c = λ w slot m.
     let p = c.args.self.now in
     let plant : run p.flusher.board.base.value (list_of p.flusher.board.log) ≡ shown_in w = shown_plant w p m.fits in
     let is = c.in-Ok.ensures.shown in
@@ -20,10 +20,10 @@ returns-in-Ok-clause-answer g c = λ w m.
     )
 
 pub returns-in-Ok-clause-fits : goal.returns-in-Ok-clause-fits
-returns-in-Ok-clause-fits g c = λ w m.
+returns-in-Ok-clause-fits g c = λ w slot m.
     let f = m.fits in
     let l = f.lists in
-    let count = (returns-in-Ok-clause-answer g c w m).1 in
+    let count = (returns-in-Ok-clause-answer g c w slot m).1 in
     record {
       opened = m.opened;
       going = m.going;
