@@ -12,12 +12,14 @@ build() {
     }
 }
 
-# Runs a crate's program and the plain one, five times. Each says on its standard error or output what it timed, its answer
+# Runs a crate's program and the plain one with the same arguments, five times. Each says on its standard error or output what it timed, its answer
 # and the nanoseconds.
 run_in_turns() {
+    local crate="$1"
+    shift
     for _ in 1 2 3 4 5; do
-        "$top/crates/$1/out/$1" 2>&1 > "$work/sums" | sed 's/^/ours /' >> "$work/times"
-        "$work/plain" | sed 's/^/plain /' >> "$work/times"
+        "$top/crates/$crate/out/$crate" "$@" 2>&1 > "$work/sums" | sed 's/^/ours /' >> "$work/times"
+        "$work/plain" "$@" | sed 's/^/plain /' >> "$work/times"
     done
 }
 

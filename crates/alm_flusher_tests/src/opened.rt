@@ -1,24 +1,21 @@
-//! A keeper of a formatted device in memory.
+//! A keeper of a formatted device.
 
 ghost use Rattle.std.specs.Prelude.{◌≡◌, ◌≤◌, ◌^◌, IfOk};
 
-use alm_disk::MemDisk;
+use alm_disk::Disk;
 use alm_keeper::{Keeper, Stage, format, open_store};
 use alm_types::Table;
 use std::alloc::{AllocError, Global};
 
-/// A keeper of a device of a size that was formatted for a table, and that may be called so often. An error for want of memory,
-/// or where that isn't enough.
-pub fn open_formatted(
+/// A keeper of a device that is formatted for a table. An error for want of memory, or where it isn't formatted and opened.
+pub fn open_formatted<D: Disk + Drop>(
     alloc: Global,
     table: &Table,
-    size: usize,
-    calls: usize,
-) -> Result<Keeper<MemDisk>, AllocError>
+    disk: D,
+) -> Result<Keeper<D>, AllocError>
     ensures idle { IfOk result (λ keeper. keeper.stage ≡ Stage.Idle) }
     ensures limit { IfOk result (λ keeper. keeper.stored.plant.panel.count ≤ 2 ^ 48) }
 {
-    let disk = MemDisk::new(alloc, vec![in alloc; 0u8; size]?, calls)?;
     match format(alloc, disk, table) {
         Ok(disk) => reopen(alloc, disk),
         Err(_) => Err(AllocError),
@@ -26,7 +23,7 @@ pub fn open_formatted(
 }
 
 /// A keeper of a device. An error for want of memory, or where it isn't opened.
-pub fn reopen(alloc: Global, disk: MemDisk) -> Result<Keeper<MemDisk>, AllocError>
+pub fn reopen<D: Disk + Drop>(alloc: Global, disk: D) -> Result<Keeper<D>, AllocError>
     ensures idle { IfOk result (λ keeper. keeper.stage ≡ Stage.Idle) }
     ensures limit { IfOk result (λ keeper. keeper.stored.plant.panel.count ≤ 2 ^ 48) }
 {

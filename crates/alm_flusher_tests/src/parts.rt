@@ -3,49 +3,39 @@
 ghost use Rattle.std.specs.Prelude.{◌≡◌, ◌<◌, ℕ, IsSome};
 ghost use Rattle.alm_rings.specs.Placed.{inbox_at};
 
-use crate::ends::{Ends, open_ends};
-use crate::opened::open_formatted;
+use crate::ends::Ends;
 use alm_board::{PlainBoard, PlainTold};
-use alm_disk::MemDisk;
 use alm_flusher::{Advance, Fetch, Flusher, Publishes, Release};
-use alm_keeper::Keeper;
+use alm_keeper::Phase;
 use alm_model::Alarms;
 use alm_plant::Plant;
 use alm_rings::{Console, Receipt, batches_beside, open_batches};
 use alm_sequencer::{Seal, Sequencer, Take};
-use alm_service::worked_table;
+use alm_store::Store;
 use alm_types::{Action, Slot};
 use std::alloc::{AllocError, Global};
 
-/// A flusher over a device in memory.
-pub type MemFlusher = Flusher<Keeper<MemDisk>, PlainTold, PlainBoard<Plant>>;
-
-/// The consoles, the sequencer and the flusher of all slots.
+/// The consoles, the sequencer and the flusher of all slots, over a store.
 #[derive(Drop)]
-pub struct Parts {
+pub struct Parts<K: Store> {
     pub consoles: Vec<Console<PlainTold>>,
     sequencer: Sequencer<Plant>,
-    pub flusher: MemFlusher,
+    pub flusher: Flusher<K, PlainTold, PlainBoard<Plant>>,
     ghost all: { (s : ℕ) → s < 18 → IsSome (inbox_at s sequencer.inboxes.items) },
 }
 
-impl Parts {
-    ghost use Rattle.std.specs.Prelude.{◌≡◌, []};
+impl<K: Store> Parts<K> {
+    ghost use Rattle.std.specs.Prelude.{◌≡◌, ◌≤◌, ◌^◌, []};
     ghost use Rattle.alm_rings.specs.Ends.{taken_of, released_of};
     ghost use Rattle.alm_flusher_tests.specs.Fresh.{AreFresh};
 
-    /// The parts of new ends over a device of a size that was formatted for the worked table, and that may be called so often.
-    pub fn open(alloc: Global, size: usize, calls: usize) -> Result<Self, AllocError> {
-        Parts::of(alloc, open_ends(alloc)?, size, calls)
-    }
-
-    /// The parts of these ends.
-    pub fn of(alloc: Global, ends: Ends, size: usize, calls: usize) -> Result<Self, AllocError>
+    /// The parts of these new ends over a store at rest.
+    pub fn new(alloc: Global, ends: Ends, store: K) -> Result<Self, AllocError>
         requires inboxes { AreFresh (λ i. i.slot) (λ i. taken_of i ≡ []) 18 ends.inboxes.items }
         requires outboxes { AreFresh (λ o. o.slot) (λ o. released_of o ≡ []) 18 ends.outboxes.items }
+        requires idle { K.phase store ≡ Phase.Idle }
+        requires limit { (K.stored store).panel.count ≤ 2 ^ 48 }
     {
-        let table = worked_table(alloc)?;
-        let store = open_formatted(alloc, &table, size, calls)?;
         let live = store.stored().copy(alloc)?;
         let shown = store.stored().copy(alloc)?;
         let (mut seal, mut fetch) = open_batches(alloc)?;

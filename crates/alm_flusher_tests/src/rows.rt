@@ -1,12 +1,9 @@
 //! The worked rows.
 
-use crate::course::{Call, Outcome};
-use crate::parts::Parts;
-use alm_board::{Look, Seen};
+use crate::course::{Call, Outcome, differs_at};
 use alm_flusher::{Advance, Fetch, Publishes, Release};
 use alm_sequencer::{Seal, Take};
-use alm_types::{Action, AlarmId, Answer, Query, Reading, Refusal, Shown, Slot, Verdict};
-use std::alloc::Global;
+use alm_types::{Action, AlarmId, Reading, Refusal, Shown, Slot, Verdict};
 use std::test::Fail;
 
 const DEVICE: usize = 65_536;
@@ -47,103 +44,83 @@ fn a_refusal_goes_its_way(rt: HostRuntime) -> Result<(), Fail> {
             Outcome::Received(Some((1, 0, REFUSED))),
         ),
     ];
-    let mut parts = Parts::open(rt.alloc(), DEVICE, 64)?;
-    assert_eq!(rt; parts.differs_at(&course), None);
+    assert_eq!(rt; differs_at(rt.alloc(), DEVICE, 64, &course)?, None);
     Ok(())
 }
 
-/// Sends, takes and seals a request of its own, eight times: the eighth finds no batch.
-fn seals_eight(parts: &mut Parts, slot: Slot) -> bool {
-    let mut same = true;
-    for turn in 1..=8 {
-        let sealed = if turn == 8 {
-            Seal::NoRoom
-        } else {
-            Seal::Sealed
-        };
-        same = same
-            && parts.goes(&[
-                (
-                    Call::Send(slot, Action::Ack(AlarmId(0))),
-                    Outcome::Sent(Some(turn)),
-                ),
-                (Call::Take(slot), Outcome::Took(Take::Taken(REFUSED))),
-                (Call::Seal, Outcome::Sealed(sealed)),
-            ]);
-    }
-    same
+/// A slot's request of a serial, taken and refused.
+fn refused(slot: Slot, serial: u64) -> [(Call, Outcome); 2] {
+    [
+        (
+            Call::Send(slot, Action::Ack(AlarmId(0))),
+            Outcome::Sent(Some(serial)),
+        ),
+        (Call::Take(slot), Outcome::Took(Take::Taken(REFUSED))),
+    ]
 }
 
-/// Stores each of eight batches without a device call; when the first comes back, the eighth is sealed.
-fn stores_eight(parts: &mut Parts, slot: Slot) -> bool {
-    let mut same = true;
-    for turn in 1..=8 {
-        same = same
-            && parts.goes(&[
-                (Call::Store(1), Outcome::Stored(Some(1))),
-                (Call::Release, Outcome::Released(Release::Released(slot))),
-                (Call::GiveBack, Outcome::GaveBack(true)),
-                (
-                    Call::Receive(slot),
-                    Outcome::Received(Some((turn, 0, REFUSED))),
-                ),
-            ]);
-        if turn == 1 {
-            same = same && parts.goes(&[(Call::Seal, Outcome::Sealed(Seal::Sealed))]);
-        }
-    }
-    same
+/// Its batch is stored without a device call, its reply goes, and the batch comes back.
+fn answered(slot: Slot, serial: u64) -> [(Call, Outcome); 4] {
+    [
+        (Call::Store(1), Outcome::Stored(Some(1))),
+        (Call::Release, Outcome::Released(Release::Released(slot))),
+        (Call::GiveBack, Outcome::GaveBack(true)),
+        (
+            Call::Receive(slot),
+            Outcome::Received(Some((serial, 0, REFUSED))),
+        ),
+    ]
 }
 
 #[test]
 fn the_eighth_seal_finds_no_room(rt: HostRuntime) -> Result<(), Fail> {
     let slot = Slot::new(3).ok_or("slot")?;
-    let mut parts = Parts::open(rt.alloc(), DEVICE, 64)?;
-    let goes = seals_eight(&mut parts, slot)
-        && stores_eight(&mut parts, slot)
-        && parts.goes(&[(Call::Fetch, Outcome::Fetched(Fetch::Empty))]);
-    assert!(rt; goes);
+    let mut course = Vec::new(rt.alloc());
+    for serial in 1..=7 {
+        course.extend_from_slice(&refused(slot, serial))?;
+        course.push((Call::Seal, Outcome::Sealed(Seal::Sealed)))?;
+    }
+    course.extend_from_slice(&refused(slot, 8))?;
+    course.push((Call::Seal, Outcome::Sealed(Seal::NoRoom)))?;
+    // When the first comes back, the eighth is sealed.
+    course.extend_from_slice(&answered(slot, 1))?;
+    course.push((Call::Seal, Outcome::Sealed(Seal::Sealed)))?;
+    for serial in 2..=8 {
+        course.extend_from_slice(&answered(slot, serial))?;
+    }
+    course.push((Call::Fetch, Outcome::Fetched(Fetch::Empty)))?;
+    assert_eq!(rt; differs_at(rt.alloc(), DEVICE, 64, &course)?, None);
     Ok(())
-}
-
-/// What a new looker sees of an alarm.
-fn seen(parts: &Parts, alarm: u32, answer: &mut Answer) -> Result<u64, Refusal> {
-    let mut looker = parts.flusher.board().looker(Seen::new());
-    looker.look(Query::State(AlarmId(alarm)), answer)
-}
-
-/// A value is seen once it is published, before its receipt is released.
-fn is_seen_when_published(parts: &mut Parts, feed: Slot, come: &Action, alloc: Global) -> bool {
-    let mut answer = Answer::new(alloc);
-    let judged = parts.goes(&[
-        (Call::Send(feed, *come), Outcome::Sent(Some(1))),
-        (
-            Call::Take(feed),
-            Outcome::Took(Take::Taken(Verdict::Accepted(*come))),
-        ),
-        (Call::Seal, Outcome::Sealed(Seal::Sealed)),
-    ]);
-    let before = seen(parts, 0, &mut answer) == Ok(0)
-        && seen(parts, 4, &mut answer) == Err(Refusal::NoSuchAlarm);
-    let stored = parts.goes(&[(Call::Store(8), Outcome::Stored(Some(4)))]);
-    let after = seen(parts, 0, &mut answer) == Ok(1) && answer.shown == Shown::Unack;
-    let released = parts.goes(&[
-        (Call::Release, Outcome::Released(Release::Released(feed))),
-        (
-            Call::Receive(feed),
-            Outcome::Received(Some((1, 1, Verdict::Accepted(*come)))),
-        ),
-    ]);
-    judged && before && stored && after && released
 }
 
 #[test]
 fn a_look_shows_what_is_published(rt: HostRuntime) -> Result<(), Fail> {
     let feed = Slot::new(16).ok_or("slot")?;
     let high = Reading::new(900).ok_or("reading")?;
-    let come = Action::Value(AlarmId(0), high);
-    let mut parts = Parts::open(rt.alloc(), DEVICE, 64)?;
-    let is_seen = is_seen_when_published(&mut parts, feed, &come, rt.alloc());
-    assert!(rt; is_seen);
+    let course = [
+        (
+            Call::Send(feed, Action::Value(AlarmId(0), high)),
+            Outcome::Sent(Some(1)),
+        ),
+        (
+            Call::Take(feed),
+            Outcome::Took(Take::Taken(Verdict::Accepted(Action::Value(AlarmId(0), high)))),
+        ),
+        (Call::Seal, Outcome::Sealed(Seal::Sealed)),
+        (Call::Look(AlarmId(0)), Outcome::Looked(0, Shown::Normal)),
+        (
+            Call::Look(AlarmId(4)),
+            Outcome::NotShown(Refusal::NoSuchAlarm),
+        ),
+        // It is seen once it is published, before its receipt is released.
+        (Call::Store(8), Outcome::Stored(Some(4))),
+        (Call::Look(AlarmId(0)), Outcome::Looked(1, Shown::Unack)),
+        (Call::Release, Outcome::Released(Release::Released(feed))),
+        (
+            Call::Receive(feed),
+            Outcome::Received(Some((1, 1, Verdict::Accepted(Action::Value(AlarmId(0), high))))),
+        ),
+    ];
+    assert_eq!(rt; differs_at(rt.alloc(), DEVICE, 64, &course)?, None);
     Ok(())
 }

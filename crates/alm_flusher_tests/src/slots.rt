@@ -1,13 +1,19 @@
 //! All slots at once.
 
-use crate::course::{Call, Outcome};
+ghost use Rattle.std.specs.Prelude.{◌≡◌, [], IfOk};
+ghost use Rattle.alm_rings.specs.Ends.{taken_of, released_of};
+ghost use Rattle.alm_flusher_tests.specs.Fresh.{AreFresh};
+
+use crate::course::{Call, Outcome, differs_at, open_worked};
 use crate::ends::{Ends, open_ends};
 use crate::parts::Parts;
 use alm_board::{Board, PlainTold};
 use alm_flusher::Release;
 use alm_rings::{Console, Outbox, Receipt};
 use alm_sequencer::{Seal, Take};
-use alm_types::{Action, AlarmId, Moment, Reading, Refusal, Slot, Verdict};
+use alm_store::Store;
+use alm_types::{Action, AlarmId, Answer, Moment, Reading, Refusal, Slot, Verdict};
+use std::alloc::{AllocError, Global};
 use std::test::Fail;
 
 const DEVICE: usize = 65_536;
@@ -55,23 +61,16 @@ fn each_slot_gets_its_own(rt: HostRuntime) -> Result<(), Fail> {
             Outcome::Received(Some((1, 1, answered(slot, moment)))),
         ))?;
     }
-    let stores = [
-        (Call::Seal, Outcome::Sealed(Seal::Sealed)),
-        // One action: four device calls.
-        (Call::Store(8), Outcome::Stored(Some(4))),
-    ];
-    let ends = [
-        (Call::Release, Outcome::Released(Release::Nothing)),
-        (Call::GiveBack, Outcome::GaveBack(true)),
-    ];
-    let mut parts = Parts::open(rt.alloc(), DEVICE, 64)?;
-    let goes = parts.goes(&sends)
-        && parts.goes(&takes)
-        && parts.goes(&stores)
-        && parts.goes(&releases)
-        && parts.goes(&ends)
-        && parts.goes(&receives);
-    assert!(rt; goes);
+    let mut course = sends;
+    course.extend_from_slice(&takes)?;
+    course.push((Call::Seal, Outcome::Sealed(Seal::Sealed)))?;
+    // One action: four device calls.
+    course.push((Call::Store(8), Outcome::Stored(Some(4))))?;
+    course.extend_from_slice(&releases)?;
+    course.push((Call::Release, Outcome::Released(Release::Nothing)))?;
+    course.push((Call::GiveBack, Outcome::GaveBack(true)))?;
+    course.extend_from_slice(&receives)?;
+    assert_eq!(rt; differs_at(rt.alloc(), DEVICE, 64, &course)?, None);
     Ok(())
 }
 
@@ -118,43 +117,71 @@ fn the_verdict_is_of_the_actions_before(rt: HostRuntime) -> Result<(), Fail> {
             Outcome::Received(Some((2, 2, SECOND_REFUSED))),
         ),
     ];
-    let mut parts = Parts::open(rt.alloc(), DEVICE, 64)?;
-    assert_eq!(rt; parts.differs_at(&course), None);
+    assert_eq!(rt; differs_at(rt.alloc(), DEVICE, 64, &course)?, None);
     Ok(())
 }
 
 const REFUSED: Verdict = Verdict::Refused(Refusal::NotUnacknowledged, 0);
 
 /// A slot's requests from a serial to another are refused, and stored in one batch without a device call.
-fn refuses(parts: &mut Parts, slot: Slot, first: u64, last: u64) -> bool {
-    let mut same = true;
+fn refuse(
+    course: &mut Vec<(Call, Outcome)>,
+    slot: Slot,
+    first: u64,
+    last: u64,
+) -> Result<(), AllocError> {
     for serial in first..=last {
-        same = same
-            && parts.goes(&[
-                (
-                    Call::Send(slot, Action::Ack(AlarmId(1))),
-                    Outcome::Sent(Some(serial)),
-                ),
-                (Call::Take(slot), Outcome::Took(Take::Taken(REFUSED))),
-            ]);
+        course.push((
+            Call::Send(slot, Action::Ack(AlarmId(1))),
+            Outcome::Sent(Some(serial)),
+        ))?;
+        course.push((Call::Take(slot), Outcome::Took(Take::Taken(REFUSED))))?;
     }
-    same && parts.goes(&[
-        (Call::Seal, Outcome::Sealed(Seal::Sealed)),
-        (Call::Store(1), Outcome::Stored(Some(1))),
-    ])
+    course.push((Call::Seal, Outcome::Sealed(Seal::Sealed)))?;
+    course.push((Call::Store(1), Outcome::Stored(Some(1))))?;
+    Ok(())
 }
 
-/// 64 receipts are released, and the batch goes back.
-fn releases_64(parts: &mut Parts, slot: Slot) -> bool {
-    let mut same = true;
+/// 64 receipts fill the ring.
+fn filling(alloc: Global, slot: Slot) -> Result<Vec<(Call, Outcome)>, AllocError> {
+    let mut course = Vec::new(alloc);
+    refuse(&mut course, slot, 1, 64)?;
+    course.push((
+        Call::Send(slot, Action::Ack(AlarmId(1))),
+        Outcome::Sent(None),
+    ))?;
     for _receipt in 0..64 {
-        same = same && parts.goes(&[(Call::Release, Outcome::Released(Release::Released(slot)))]);
+        course.push((Call::Release, Outcome::Released(Release::Released(slot))))?;
     }
-    same && parts.goes(&[(Call::GiveBack, Outcome::GaveBack(true))])
+    course.push((Call::GiveBack, Outcome::GaveBack(true)))?;
+    Ok(course)
+}
+
+/// The 65th reply stays.
+fn full(alloc: Global, slot: Slot) -> Result<Vec<(Call, Outcome)>, AllocError> {
+    let mut course = Vec::new(alloc);
+    course.push((
+        Call::Receive(slot),
+        Outcome::Received(Some((1, 0, REFUSED))),
+    ))?;
+    refuse(&mut course, slot, 65, 65)?;
+    for _again in 0..2 {
+        course.push((Call::Release, Outcome::Released(Release::Full(slot))))?;
+    }
+    course.push((Call::GiveBack, Outcome::GaveBack(false)))?;
+    Ok(course)
+}
+
+/// It goes once a receipt was received.
+fn going(slot: Slot) -> [(Call, Outcome); 2] {
+    [
+        (Call::Release, Outcome::Released(Release::Released(slot))),
+        (Call::GiveBack, Outcome::GaveBack(true)),
+    ]
 }
 
 /// Answers the slot's own console once, so that one of its requests is answered.
-fn answer(parts: &Parts, outboxes: &mut Vec<Outbox<PlainTold>>) -> bool {
+fn answer<K: Store>(parts: &Parts<K>, outboxes: &mut Vec<Outbox<PlainTold>>) -> bool {
     let receipt = Receipt {
         serial: 1,
         verdict: REFUSED,
@@ -167,68 +194,91 @@ fn answer(parts: &Parts, outboxes: &mut Vec<Outbox<PlainTold>>) -> bool {
     }
 }
 
-/// Whether that console's next receipt has this serial.
-fn hears(consoles: &mut Vec<Console<PlainTold>>, serial: u64) -> bool {
-    match consoles.get_mut(9).and_then(Console::receive) {
-        Some(receipt) => receipt.serial == serial,
-        None => false,
+/// Whether that console's next receipts have these serials.
+fn hears(consoles: &mut Vec<Console<PlainTold>>, first: u64, last: u64) -> bool {
+    let mut same = true;
+    for serial in first..=last {
+        same = same
+            && match consoles.get_mut(9).and_then(Console::receive) {
+                Some(receipt) => receipt.serial == serial,
+                None => false,
+            };
     }
+    same
 }
 
-/// The 65th reply stays until a receipt is received.
-fn keeps_the_reply(parts: &mut Parts, slot: Slot, deaf: &mut Vec<Console<PlainTold>>) -> bool {
-    let full = parts.goes(&[
-        (Call::Release, Outcome::Released(Release::Full(slot))),
-        (Call::Release, Outcome::Released(Release::Full(slot))),
-        (Call::GiveBack, Outcome::GaveBack(false)),
-    ]);
-    let first = hears(deaf, 1);
-    let released = parts.goes(&[(Call::Release, Outcome::Released(Release::Released(slot)))]);
-    let mut others = true;
-    for serial in 2..=65 {
-        others = others && hears(deaf, serial);
-    }
-    full && first && released && others
+/// The ends of a ring that fills: replies go to consoles that receive none, so that requests may go on.
+#[derive(Drop)]
+struct Crossed {
+    ends: Ends,
+    answers: Vec<Outbox<PlainTold>>,
+    deaf: Vec<Console<PlainTold>>,
+}
+
+fn cross_ends(alloc: Global) -> Result<Crossed, AllocError>
+    ensures inboxes { IfOk result (λ x. AreFresh (λ i. i.slot) (λ i. taken_of i ≡ []) 18 x.ends.inboxes.items) }
+    ensures outboxes { IfOk result (λ x. AreFresh (λ o. o.slot) (λ o. released_of o ≡ []) 18 x.ends.outboxes.items) }
+{
+    let first = open_ends(alloc)?;
+    let second = open_ends(alloc)?;
+    Ok(Crossed {
+        ends: Ends {
+            consoles: first.consoles,
+            inboxes: first.inboxes,
+            outboxes: second.outboxes,
+        },
+        answers: first.outboxes,
+        deaf: second.consoles,
+    })
+}
+
+/// The courses of a ring that fills, is full and goes on.
+#[derive(Drop)]
+struct Courses {
+    filling: Vec<(Call, Outcome)>,
+    full: Vec<(Call, Outcome)>,
+    going: [(Call, Outcome); 2],
 }
 
 /// 64 receipts wait, the 65th reply stays, and all come in order once one is received.
-fn fills_the_ring(
-    parts: &mut Parts,
-    slot: Slot,
-    outboxes: &mut Vec<Outbox<PlainTold>>,
+fn fills_the_ring<K: Store>(
+    parts: &mut Parts<K>,
+    answers: &mut Vec<Outbox<PlainTold>>,
     deaf: &mut Vec<Console<PlainTold>>,
+    courses: &Courses,
+    shown: &mut Answer,
 ) -> bool {
-    let busy = [(
-        Call::Send(slot, Action::Ack(AlarmId(1))),
-        Outcome::Sent(None),
-    )];
-    let received = [(
-        Call::Receive(slot),
-        Outcome::Received(Some((1, 0, REFUSED))),
-    )];
-    refuses(parts, slot, 1, 64)
-        && parts.goes(&busy)
-        && releases_64(parts, slot)
-        && answer(parts, outboxes)
-        && parts.goes(&received)
-        && refuses(parts, slot, 65, 65)
-        && keeps_the_reply(parts, slot, deaf)
+    parts.differs_at(&courses.filling, shown).is_none()
+        && answer(parts, answers)
+        && parts.differs_at(&courses.full, shown).is_none()
+        && hears(deaf, 1, 1)
+        && parts.differs_at(&courses.going, shown).is_none()
+        && hears(deaf, 2, 65)
+}
+
+/// Whether a full ring keeps the reply.
+fn keeps_the_reply(alloc: Global, courses: &Courses) -> Result<bool, AllocError> {
+    let mut shown = Answer::new(alloc);
+    let Crossed {
+        ends,
+        mut answers,
+        mut deaf,
+    } = cross_ends(alloc)?;
+    let store = open_worked(alloc, DEVICE, 64)?;
+    let mut parts = Parts::new(alloc, ends, store)?;
+    let fills = fills_the_ring(&mut parts, &mut answers, &mut deaf, courses, &mut shown);
+    drop(parts.flusher.into_keeper().into_disk());
+    Ok(fills)
 }
 
 #[test]
 fn a_full_ring_keeps_the_reply(rt: HostRuntime) -> Result<(), Fail> {
-    // The replies go to consoles that receive none, so that requests may go on.
     let slot = Slot::new(9).ok_or("slot")?;
-    let first = open_ends(rt.alloc())?;
-    let second = open_ends(rt.alloc())?;
-    let (mut answers, mut deaf) = (first.outboxes, second.consoles);
-    let ends = Ends {
-        consoles: first.consoles,
-        inboxes: first.inboxes,
-        outboxes: second.outboxes,
+    let courses = Courses {
+        filling: filling(rt.alloc(), slot)?,
+        full: full(rt.alloc(), slot)?,
+        going: going(slot),
     };
-    let mut parts = Parts::of(rt.alloc(), ends, DEVICE, 64)?;
-    let fills = fills_the_ring(&mut parts, slot, &mut answers, &mut deaf);
-    assert!(rt; fills);
+    assert!(rt; keeps_the_reply(rt.alloc(), &courses)?);
     Ok(())
 }

@@ -1,13 +1,13 @@
 //! What is stored.
 
-use crate::course::{Call, Outcome};
+use crate::course::{Call, Outcome, Played, play};
 use crate::opened::reopen;
-use crate::parts::Parts;
-use alm_disk::Disk;
+use alm_disk::{Disk, MemDisk};
 use alm_flusher::{Advance, Fetch, Publishes, Release};
 use alm_model::Alarms;
 use alm_sequencer::{Seal, Take};
 use alm_types::{Action, Moment, Slot, Verdict};
+use std::alloc::{AllocError, Global};
 use std::test::Fail;
 
 /// A device for the worked table with segments of 4,116 bytes, room for 117 frames of one action.
@@ -17,8 +17,8 @@ const SMALL: usize = 28_997;
 const FIRST_CALLS: usize = 16;
 
 /// A moment by the clock's slot is judged, and sealed in a batch of its own.
-fn seals_clock(parts: &mut Parts, slot: Slot, moment: &Moment) -> bool {
-    parts.goes(&[
+fn sealed(slot: Slot, moment: &Moment) -> [(Call, Outcome); 3] {
+    [
         (
             Call::Send(slot, Action::Clock(*moment)),
             Outcome::Sent(Some(moment.seconds())),
@@ -28,58 +28,59 @@ fn seals_clock(parts: &mut Parts, slot: Slot, moment: &Moment) -> bool {
             Outcome::Took(Take::Taken(Verdict::Accepted(Action::Clock(*moment)))),
         ),
         (Call::Seal, Outcome::Sealed(Seal::Sealed)),
-    ])
+    ]
 }
 
 /// It is stored in so many steps, and its receipt comes.
-fn stores_clock(parts: &mut Parts, slot: Slot, moment: &Moment, steps: u64) -> bool {
+fn stored(slot: Slot, moment: &Moment, steps: u64) -> [(Call, Outcome); 4] {
     let number = moment.seconds();
-    parts.goes(&[
+    let verdict = Verdict::Accepted(Action::Clock(*moment));
+    [
         (Call::Store(16), Outcome::Stored(Some(steps))),
         (Call::Release, Outcome::Released(Release::Released(slot))),
         (Call::GiveBack, Outcome::GaveBack(true)),
         (
             Call::Receive(slot),
-            Outcome::Received(Some((number, number, Verdict::Accepted(Action::Clock(*moment))))),
+            Outcome::Received(Some((number, number, verdict))),
         ),
-    ])
-}
-
-/// Second after second is stored: before the 118th comes a checkpoint, of four device calls more.
-fn stores_120(parts: &mut Parts, slot: Slot) -> bool {
-    let mut same = true;
-    for turn in 1..=120 {
-        let steps = if turn == 118 { 8 } else { 4 };
-        same = same
-            && match Moment::new(turn) {
-                Some(moment) => {
-                    seals_clock(parts, slot, &moment) && stores_clock(parts, slot, &moment, steps)
-                }
-                None => false,
-            };
-    }
-    same
+    ]
 }
 
 #[test]
 fn a_checkpoint_comes_first_where_there_is_no_room(rt: HostRuntime) -> Result<(), Fail> {
     let slot = Slot::new(17).ok_or("slot")?;
-    let mut parts = Parts::open(rt.alloc(), SMALL, 1024)?;
-    let stored = stores_120(&mut parts, slot);
-    let disk = parts.flusher.into_keeper().into_disk();
-    assert!(rt; stored);
-    let again = reopen(rt.alloc(), disk)?;
-    let found = (again.count(), again.epoch());
-    drop(again);
-    assert_eq!(rt; found, (120, 2));
+    let mut course = Vec::new(rt.alloc());
+    for second in 1..=120 {
+        let moment = Moment::new(second).ok_or("moment")?;
+        // Before the 118th comes a checkpoint, of four device calls more.
+        let steps = if second == 118 { 8 } else { 4 };
+        course.extend_from_slice(&sealed(slot, &moment))?;
+        course.extend_from_slice(&stored(slot, &moment, steps))?;
+    }
+    let played = play(rt.alloc(), SMALL, 1024, &course)?;
+    let Played {
+        differs_at,
+        disk,
+        ..
+    } = played;
+    let found = reopened(rt.alloc(), disk)?;
+    assert_eq!(rt; (differs_at, found), (None, (120, 2)));
     Ok(())
+}
+
+/// The count and epoch of a device.
+fn reopened(alloc: Global, disk: MemDisk) -> Result<(u64, u64), AllocError> {
+    let keeper = reopen(alloc, disk)?;
+    Ok((keeper.count(), keeper.epoch()))
 }
 
 #[test]
 fn what_has_failed_fails_for_good(rt: HostRuntime) -> Result<(), Fail> {
     let slot = Slot::new(17).ok_or("slot")?;
     let moment = Moment::new(1).ok_or("moment")?;
-    let course = [
+    let mut course = Vec::new(rt.alloc());
+    course.extend_from_slice(&sealed(slot, &moment))?;
+    course.extend_from_slice(&[
         (Call::Fetch, Outcome::Fetched(Fetch::Got)),
         (Call::Advance, Outcome::Advanced(Advance::More)),
         (Call::Advance, Outcome::Advanced(Advance::More)),
@@ -91,15 +92,9 @@ fn what_has_failed_fails_for_good(rt: HostRuntime) -> Result<(), Fail> {
         (Call::GiveBack, Outcome::GaveBack(false)),
         (Call::Fetch, Outcome::Fetched(Fetch::Held)),
         (Call::Receive(slot), Outcome::Received(None)),
-    ];
-    let mut parts = Parts::open(rt.alloc(), SMALL, FIRST_CALLS + 2)?;
-    let sealed = seals_clock(&mut parts, slot, &moment);
-    let differs_at = parts.differs_at(&course);
-    let keeper = parts.flusher.into_keeper();
-    let count = keeper.count();
-    let failures = keeper.into_disk().failures();
-    assert!(rt; sealed);
-    assert_eq!(rt; differs_at, None);
-    assert_eq!(rt; (count, failures), (0, 1));
+    ])?;
+    let played = play(rt.alloc(), SMALL, FIRST_CALLS + 2, &course)?;
+    let found = (played.differs_at, played.count, played.disk.failures());
+    assert_eq!(rt; found, (None, 0, 1));
     Ok(())
 }

@@ -93,8 +93,9 @@ pub fn play<D: Disk + Drop>(alloc: Global, disk: D) -> Result<(bool, D), Fail> {
     };
     match open_store(alloc, disk) {
         Ok(mut keeper) => {
-            let done = works(alloc, &mut keeper)?;
-            Ok((done, keeper.into_disk()))
+            let done = works(alloc, &mut keeper);
+            let disk = keeper.into_disk();
+            Ok((done?, disk))
         }
         Err((_, disk)) => Ok((false, disk)),
     }
@@ -141,5 +142,6 @@ pub fn is_after(alloc: Global, plant: &Plant, count: u64) -> Result<bool, Fail> 
     for number in 0..4 {
         same = same && plant.state(AlarmId(number)) == judge.state(AlarmId(number));
     }
+    drop(judge);
     Ok(same && plant.count() == count)
 }

@@ -1,6 +1,6 @@
 //! Devices with a changed byte.
 
-use crate::steps::{fresh, store};
+use crate::steps::{batch, fresh, stores, worked};
 use crate::worked::{clock, value};
 use alm_disk::{Disk, MemDisk};
 use alm_keeper::{OpenFault, open_store};
@@ -13,10 +13,13 @@ const CALLS: usize = 2_000_000;
 
 /// The bytes of a device with two commits: the clock, and an alarm that comes. Half 1 is all zero.
 fn stored(alloc: Global) -> Result<Vec<u8>, Fail> {
+    let (first, second) = (
+        batch(alloc, 1, &[clock(1000)])?,
+        batch(alloc, 2, &[value(0, 800)])?,
+    );
     let mut keeper = fresh(alloc)?;
-    store(alloc, &mut keeper, &[clock(1000)])?;
-    store(alloc, &mut keeper, &[value(0, 800)])?;
-    let disk = keeper.into_disk();
+    let stored = stores(&mut keeper, &first) && stores(&mut keeper, &second);
+    let disk = worked(keeper.into_disk(), stored)?;
     let mut bytes = Vec::new(alloc);
     for (at, byte) in disk.bytes().iter().enumerate() {
         bytes.push(if at < 14_510 { *byte } else { 0 })?;

@@ -13,8 +13,10 @@ use std::test::Fail;
 fn found<D: Crashable + Drop>(alloc: Global, disk: D) -> Result<(Stored, bool), Fail> {
     match open_store(alloc, disk) {
         Ok(keeper) => {
-            let same = is_after(alloc, keeper.stored(), keeper.count())?;
-            Ok((Some((keeper.epoch(), keeper.count())), same))
+            let same = is_after(alloc, keeper.stored(), keeper.count());
+            let stored = (keeper.epoch(), keeper.count());
+            drop(keeper);
+            Ok((Some(stored), same?))
         }
         Err((OpenFault::Unformatted, _)) => Ok((None, true)),
         Err(_) => Ok((Some((0, 0)), false)),

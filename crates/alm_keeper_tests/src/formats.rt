@@ -14,7 +14,11 @@ fn opens<D: Crashable + Drop, C: Chooser>(
     chooser: &mut C,
 ) -> Result<u64, OpenFault> {
     match open_store(alloc, disk.crash(chooser)) {
-        Ok(keeper) => Ok(keeper.count()),
+        Ok(keeper) => {
+            let count = keeper.count();
+            drop(keeper);
+            Ok(count)
+        }
         Err((fault, _)) => Err(fault),
     }
 }
@@ -22,7 +26,11 @@ fn opens<D: Crashable + Drop, C: Chooser>(
 /// The epoch of a device, or why it isn't opened.
 fn epoch<D: Disk + Drop>(alloc: Global, disk: D) -> Result<u64, OpenFault> {
     match open_store(alloc, disk) {
-        Ok(keeper) => Ok(keeper.epoch()),
+        Ok(keeper) => {
+            let epoch = keeper.epoch();
+            drop(keeper);
+            Ok(epoch)
+        }
         Err((fault, _)) => Err(fault),
     }
 }

@@ -1,7 +1,7 @@
 //! The worked devices: their bytes, and what they open as after a crash.
 
 use crate::choosers::Left;
-use crate::steps::{advance, batch, batch_of, begin, copy, fresh, open, refused, store};
+use crate::steps::{advance, batch, batch_of, begin, copies, fresh, open, refused, stores, worked};
 use crate::worked::{SIZE, ack, clock, device, value};
 use alm_disk::{Crashable, FuseDisk, MemDisk, OnceDisk};
 use alm_keeper::{Keeper, OpenFault, Phase, Progress, Refused, open_store};
@@ -11,33 +11,35 @@ use std::test::Fail;
 
 /// Three actions are stored: the clock, and two alarms that come.
 fn three(alloc: Global) -> Result<Keeper<MemDisk>, Fail> {
+    let first = batch(alloc, 1, &[clock(1000)])?;
+    let second = batch(alloc, 2, &[value(0, 800), value(1, 100)])?;
     let mut keeper = fresh(alloc)?;
-    store(alloc, &mut keeper, &[clock(1000)])?;
-    store(alloc, &mut keeper, &[value(0, 800), value(1, 100)])?;
-    Ok(keeper)
+    let stored = stores(&mut keeper, &first) && stores(&mut keeper, &second);
+    worked(keeper, stored)
 }
 
 /// The count and the epoch after a crash.
 fn reopened(alloc: Global, keeper: Keeper<MemDisk>, left: &mut Left) -> Result<(u64, u64), Fail> {
     let keeper = open(alloc, keeper.into_disk().crash(left))?;
-    Ok((keeper.count(), keeper.epoch()))
+    let found = (keeper.count(), keeper.epoch());
+    drop(keeper);
+    Ok(found)
 }
 
 #[test]
 fn the_bytes_of_two_commits(rt: HostRuntime) -> Result<(), Fail> {
     let alloc = rt.alloc();
+    let first = batch(alloc, 1, &[clock(1000)])?;
+    let second = batch(alloc, 2, &[value(0, 800)])?;
     let mut keeper = fresh(alloc)?;
-    assert_eq!(rt; store(alloc, &mut keeper, &[clock(1000)])?, Progress::Done);
-    assert_eq!(rt;
-        store(alloc, &mut keeper, &[value(0, 800)])?,
-        Progress::Done
-    );
+    let stored = stores(&mut keeper, &first) && stores(&mut keeper, &second);
+    let disk = keeper.into_disk();
+    assert!(rt; stored);
     let frames = [
         0xa5, 0, 0, 0, 0, 0, 0, 0, 1, 0, 0, 0, 0, 0, 0, 0, 1, 0, 1, 1, 0, 0, 0, 0, 0, 0, 0, 0, 0,
         0, 0, 0, 0, 3, 0xe8, 0xa5, 0, 0, 0, 0, 0, 0, 0, 1, 0, 0, 0, 0, 0, 0, 0, 2, 0, 1, 2, 0, 0,
         0, 0, 0, 0, 0, 0, 0, 0, 0, 0, 0, 3, 0x20, 0,
     ];
-    let disk = keeper.into_disk();
     assert_eq!(rt; disk.bytes().get(10_394..10_465), Some(frames.as_slice()));
     Ok(())
 }
@@ -57,11 +59,12 @@ fn a_crash_after_each_call_of_a_commit(rt: HostRuntime) -> Result<(), Fail> {
         (4, 0x00, 5),
         (4, 0x5A, 5),
     ] {
+        let batch = acks(alloc, 4)?;
         let mut keeper = three(alloc)?;
-        let batch = batch(alloc, 4, &[ack(0), ack(1)])?;
-        assert_eq!(rt; begin(&mut keeper, &batch), Some(Ok(())));
+        let begun = begin(&mut keeper, &batch);
         advance(&mut keeper, calls);
         let found = reopened(alloc, keeper, &mut Left::Every(gate))?;
+        assert_eq!(rt; begun, Some(Ok(())));
         assert_eq!(rt; found, (count, 1), "{calls} calls, {gate}");
     }
     Ok(())
@@ -78,7 +81,9 @@ fn a_batch_that_does_not_come_next(rt: HostRuntime) -> Result<(), Fail> {
     for (first, answer) in [(3, Err(Refused::Gap)), (5, Err(Refused::Gap)), (4, Ok(()))] {
         let batch = acks(alloc, first)?;
         let mut keeper = three(alloc)?;
-        assert_eq!(rt; begin(&mut keeper, &batch), Some(answer), "from {first}");
+        let begun = begin(&mut keeper, &batch);
+        drop(keeper);
+        assert_eq!(rt; begun, Some(answer), "from {first}");
     }
     Ok(())
 }
@@ -101,11 +106,9 @@ fn a_batch_while_another_is_committed(rt: HostRuntime) -> Result<(), Fail> {
     for calls in 0..4 {
         let batch = acks(alloc, 4)?;
         let mut keeper = three(alloc)?;
-        assert_eq!(rt;
-            asked_again(&mut keeper, &batch, calls),
-            (true, true),
-            "{calls} calls"
-        );
+        let refused = asked_again(&mut keeper, &batch, calls);
+        drop(keeper);
+        assert_eq!(rt; refused, (true, true), "{calls} calls");
     }
     Ok(())
 }
@@ -130,8 +133,10 @@ fn a_batch_that_is_not_accepted(rt: HostRuntime) -> Result<(), Fail> {
     let next = acks(alloc, 4)?;
     let vain = batch_of(alloc, 6, &[refused(5), Verdict::Accepted(ack(3))])?;
     let mut keeper = three(alloc)?;
-    assert_eq!(rt; torn(&mut keeper, &next, &vain), (true, true, true));
-    assert_eq!(rt; reopened(alloc, keeper, &mut Left::AsRead)?, (5, 1));
+    let refused = torn(&mut keeper, &next, &vain);
+    let found = reopened(alloc, keeper, &mut Left::AsRead)?;
+    assert_eq!(rt; refused, (true, true, true));
+    assert_eq!(rt; found, (5, 1));
     Ok(())
 }
 
@@ -143,8 +148,10 @@ fn faulted(alloc: Global, call: u64) -> Result<(Progress, bool, u64), Fail> {
     let _begun = begin(&mut keeper, &batch);
     let last = advance(&mut keeper, 4);
     let stopped = begin(&mut keeper, &batch) == Some(Err(Refused::Stopped));
-    let keeper = open(alloc, keeper.into_disk())?;
-    Ok((last, stopped, keeper.count()))
+    let again = open(alloc, keeper.into_disk())?;
+    let count = again.count();
+    drop(again);
+    Ok((last, stopped, count))
 }
 
 #[test]
@@ -163,19 +170,22 @@ fn a_fault_in_each_call_of_a_commit(rt: HostRuntime) -> Result<(), Fail> {
 #[test]
 fn a_device_that_was_not_zero(rt: HostRuntime) -> Result<(), Fail> {
     let alloc = rt.alloc();
+    let first = batch(alloc, 1, &[clock(1000)])?;
     let mut keeper = fresh(alloc)?;
-    store(alloc, &mut keeper, &[clock(1000)])?;
-    assert_eq!(rt; reopened(alloc, keeper, &mut Left::AsRead)?, (1, 1));
+    let stored = stores(&mut keeper, &first);
+    let found = reopened(alloc, keeper, &mut Left::AsRead)?;
+    assert!(rt; stored);
+    assert_eq!(rt; found, (1, 1));
     Ok(())
 }
 
 /// A commit and a checkpoint are done, and a second checkpoint is begun.
 fn second_begun(alloc: Global) -> Result<Keeper<MemDisk>, Fail> {
+    let first = batch(alloc, 1, &[clock(1000)])?;
     let mut keeper = fresh(alloc)?;
-    store(alloc, &mut keeper, &[clock(1000)])?;
-    copy(&mut keeper)?;
-    let _begun = keeper.begin_checkpoint();
-    Ok(keeper)
+    let done = stores(&mut keeper, &first) && copies(&mut keeper);
+    let begun = keeper.begin_checkpoint().is_ok();
+    worked(keeper, done && begun)
 }
 
 #[test]
@@ -183,34 +193,42 @@ fn a_crash_in_the_first_call_of_a_second_checkpoint(rt: HostRuntime) -> Result<(
     let alloc = rt.alloc();
     for byte in [0xA5, 0x00, 0x5A] {
         let mut keeper = second_begun(alloc)?;
-        assert_eq!(rt; keeper.phase(), Phase::Copying);
+        let phase = keeper.phase();
         let _made = advance(&mut keeper, 1);
-        assert_eq!(rt;
-            reopened(alloc, keeper, &mut Left::Every(byte))?,
-            (1, 2),
-            "{byte}"
-        );
+        let found = reopened(alloc, keeper, &mut Left::Every(byte))?;
+        assert_eq!(rt; phase, Phase::Copying);
+        assert_eq!(rt; found, (1, 2), "{byte}");
     }
     Ok(())
+}
+
+/// Whether a keeper takes 256 actions; then, with one stored, 253 and 254; and 256 after a checkpoint.
+fn rooms(keeper: &mut Keeper<MemDisk>, first: &Batch) -> [bool; 4] {
+    let new = keeper.fits(256);
+    let stored = stores(keeper, first);
+    let (just, above) = (keeper.fits(253), keeper.fits(254));
+    let copied = copies(keeper);
+    [new, stored && just, above, copied && keeper.fits(256)]
 }
 
 #[test]
 fn the_room_for_a_frame(rt: HostRuntime) -> Result<(), Fail> {
     let alloc = rt.alloc();
+    let first = batch(alloc, 1, &[clock(1000)])?;
     let mut keeper = fresh(alloc)?;
-    assert!(rt; keeper.fits(256));
-    store(alloc, &mut keeper, &[clock(1000)])?;
-    assert!(rt; keeper.fits(253));
-    assert!(rt; !keeper.fits(254));
-    copy(&mut keeper)?;
-    assert!(rt; keeper.fits(256));
+    let rooms = rooms(&mut keeper, &first);
+    drop(keeper);
+    assert_eq!(rt; rooms, [true, true, false, true]);
     Ok(())
 }
 
 /// Why a device isn't opened, and its bytes' number; `None` where it is opened.
 fn unopened(alloc: Global, disk: FuseDisk<MemDisk>) -> Option<(OpenFault, usize)> {
     match open_store(alloc, disk) {
-        Ok(_) => None,
+        Ok(keeper) => {
+            drop(keeper);
+            None
+        }
         Err((fault, disk)) => Some((fault, disk.disk.bytes().len())),
     }
 }

@@ -58,31 +58,28 @@ pub fn advance<D: Disk + Drop>(keeper: &mut Keeper<D>, calls: u32) -> Progress {
     last
 }
 
-/// Stores the actions that come next, to the end.
-pub fn store<D: Disk + Drop>(
-    alloc: Global,
-    keeper: &mut Keeper<D>,
-    actions: &[Action],
-) -> Result<Progress, Fail> {
-    let next = keeper.count().saturating_add(1);
-    let batch = batch(alloc, next, actions)?;
-    match begin(keeper, &batch) {
-        Some(Ok(())) => Ok(advance(keeper, 4)),
-        _ => Err(Fail::new("not begun")),
-    }
+/// Whether a batch is stored, to the end.
+pub fn stores<D: Disk + Drop>(keeper: &mut Keeper<D>, batch: &Batch) -> bool {
+    begin(keeper, batch) == Some(Ok(())) && advance(keeper, 4) == Progress::Done
 }
 
-/// Makes a checkpoint, to the end.
-pub fn copy<D: Disk + Drop>(keeper: &mut Keeper<D>) -> Result<Progress, Fail> {
-    match keeper.begin_checkpoint() {
-        Ok(()) => Ok(advance(keeper, 6)),
-        Err(_) => Err(Fail::new("not begun")),
-    }
+/// Whether a checkpoint is made, to the end.
+pub fn copies<D: Disk + Drop>(keeper: &mut Keeper<D>) -> bool {
+    keeper.begin_checkpoint().is_ok() && advance(keeper, 6) == Progress::Done
 }
 
 /// A refusal, told against a count.
 pub fn refused(count: u64) -> Verdict {
     Verdict::Refused(Refusal::NoSuchAlarm, count)
+}
+
+/// What works were done on, where they were.
+pub fn worked<T: Drop>(on: T, done: bool) -> Result<T, Fail> {
+    if done {
+        Ok(on)
+    } else {
+        Err(Fail::new("not done"))
+    }
 }
 
 /// A keeper of this device.

@@ -1,0 +1,13 @@
+#!/usr/bin/env bash
+# Times checkpoints, commits and openings of a file in memory, beside plain Rust: a copy of as many bytes, the same calls, and
+# opening the same device. It needs rt and rustc.
+set -eu
+here="$(cd "$(dirname "$0")" && pwd)"
+. "$here/../turns.sh"
+
+build alm_keeper_speed
+rustc --edition 2021 -O "$here/plain.rs" -o "$work/plain"
+device="$(mktemp /dev/shm/alm_keeper_speed.XXXXXX)"
+trap 'rm -rf "$work" "$device"' EXIT
+run_in_turns alm_keeper_speed "$device"
+print_ratios us 'key == "open" ? 1000 : 1000 * sum[key]'

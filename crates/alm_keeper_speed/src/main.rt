@@ -1,0 +1,152 @@
+//! A keeper, timed: checkpoints, commits of 256 actions until a segment of 16 MiB is full, and opening what they leave. Each line:
+//! what was done, and how often; on standard error nanoseconds too.
+//!
+//! With the path of a file as an argument it is a device of the largest table, and is left with a full segment; else a small one in
+//! memory. `bench/keeper/run.sh` runs it beside plain Rust that makes the same calls and reads the same bytes.
+#![tactic(auto)]
+
+mod stored;
+
+use alm_disk::{Disk, MemDisk};
+use alm_file::FileDisk;
+use alm_keeper::{Keeper, format, open_store};
+use alm_types::{Batch, Table};
+use anyhow::{Result, anyhow};
+use std::alloc::Global;
+use std::env;
+use std::rt::Clock;
+use std::time::Instant;
+use stored::{commit_all, copy_all, table};
+
+/// What is done to a device: how many alarms it has, and how many checkpoints and commits are made.
+#[derive(Clone, Copy)]
+struct Course {
+    alarms: u32,
+    checkpoints: u32,
+    commits: u32,
+    openings: u32,
+}
+
+const SMALL: Course = Course {
+    alarms: 256,
+    checkpoints: 2,
+    commits: 4,
+    openings: 1,
+};
+
+const LARGEST: Course = Course {
+    alarms: 16_384,
+    checkpoints: 20,
+    commits: 4077,
+    openings: 3,
+};
+
+/// The bytes of a device for 256 alarms.
+const SMALL_SIZE: usize = 1_048_576;
+
+/// The bytes of a device for 16,384 alarms in 64 areas, with segments of 16 MiB.
+const LARGEST_SIZE: u64 = 40_132_841;
+
+/// How many calls the small course makes, at most.
+const CALLS: usize = 128;
+
+/// Writes how often something was done, and to standard error the time with it.
+fn report(rt: &(impl Print + Eprint), name: &str, sum: u32, took: u128) -> Result<()> {
+    println!(rt; "{name} {sum}")?;
+    eprintln!(rt; "{name} {sum} {took}")?;
+    Ok(())
+}
+
+fn time_checkpoints<D: Disk + Drop>(
+    rt: &(impl Print + Eprint + Clock),
+    keeper: &mut Keeper<D>,
+    course: Course,
+) -> Result<()> {
+    let start = Instant::now(rt)?;
+    let done = copy_all(keeper, course.checkpoints);
+    let took = start.elapsed(rt)?.as_nanos();
+    report(rt, "checkpoint", done, took)
+}
+
+fn time_commits<D: Disk + Drop>(
+    rt: &(impl Print + Eprint + Clock),
+    keeper: &mut Keeper<D>,
+    batch: &mut Batch,
+    course: Course,
+) -> Result<()> {
+    let start = Instant::now(rt)?;
+    let done = commit_all(keeper, batch, course.alarms, course.commits);
+    let took = start.elapsed(rt)?.as_nanos();
+    report(rt, "commit", done, took)
+}
+
+/// Opens a device, and gives it back with the count that it stands for.
+fn open_and_close<D: Disk + Drop>(alloc: Global, disk: D) -> (D, u64) {
+    match open_store(alloc, disk) {
+        Ok(keeper) => {
+            let count = keeper.count();
+            (keeper.into_disk(), count)
+        }
+        Err((_fault, disk)) => (disk, 0),
+    }
+}
+
+fn time_opening<D: Disk + Drop>(
+    rt: &(impl Print + Eprint + Clock),
+    alloc: Global,
+    disk: D,
+) -> Result<D> {
+    let start = Instant::now(rt)?;
+    let (disk, count) = open_and_close(alloc, disk);
+    let took = start.elapsed(rt)?.as_nanos();
+    report(rt, "open", u32::try_from(count).unwrap_or(0), took)?;
+    Ok(disk)
+}
+
+/// The works of a keeper of this device.
+fn work<D: Disk + Drop>(
+    rt: &(impl Print + Eprint + Clock),
+    keeper: &mut Keeper<D>,
+    batch: &mut Batch,
+    course: Course,
+) -> Result<()> {
+    time_checkpoints(rt, keeper, course)?;
+    time_commits(rt, keeper, batch, course)
+}
+
+fn go<D: Disk + Drop>(
+    rt: &(impl Print + Eprint + Clock),
+    alloc: Global,
+    table: &Table,
+    disk: D,
+    course: Course,
+) -> Result<()> {
+    let mut batch = Batch::new(alloc)?;
+    let Ok(disk) = format(alloc, disk, table) else {
+        return Err(anyhow!("formatting"));
+    };
+    let Ok(mut keeper) = open_store(alloc, disk) else {
+        return Err(anyhow!("opening"));
+    };
+    let worked = work(rt, &mut keeper, &mut batch, course);
+    let mut disk = keeper.into_disk();
+    worked?;
+    for _opening in 0..course.openings {
+        disk = time_opening(rt, alloc, disk)?;
+    }
+    Ok(())
+}
+
+fn main(rt: HostRuntime) -> Result<()> {
+    let alloc = rt.alloc();
+    match env::args(&rt)?.nth(1) {
+        Some(path) => {
+            let disk = FileDisk::make(&rt, &path, LARGEST_SIZE, LARGEST_SIZE)?;
+            go(&rt, alloc, &table(alloc, LARGEST.alarms)?, disk, LARGEST)
+        }
+        None => {
+            let disk = MemDisk::new(alloc, vec![in alloc; 0u8; SMALL_SIZE]?, CALLS)?;
+            go(&rt, alloc, &table(alloc, SMALL.alarms)?, disk, SMALL)
+        }
+    }
+}

@@ -1,0 +1,109 @@
+//! What is stored in a keeper.
+
+use alm_disk::Disk;
+use alm_keeper::{Keeper, Progress};
+use alm_model::accepted_in;
+use alm_types::{
+    Action, AlarmId, Attr, Batch, Entry, Kind, Reading, Settings, Slot, Table, Verdict,
+};
+use anyhow::{Result, anyhow};
+use std::alloc::Global;
+
+const AREAS: u32 = 64;
+
+/// How many actions a batch has.
+const ACTIONS: u32 = 256;
+
+/// A table of so many alarms in 64 areas.
+pub fn table(alloc: Global, alarms: u32) -> Result<Table> {
+    let mut attrs = Vec::with_capacity(alloc, alarms as usize)?;
+    for number in 0..alarms {
+        let settings = Settings {
+            kind: Kind::High,
+            setpoint: 800,
+            deadband: 10,
+            priority: (number % 4) as u8 + 1,
+            area: (number % AREAS) as u8,
+            latching: false,
+            max_shelve: 0,
+        };
+        attrs.push(Attr::new(settings, b"T", b"").map_err(|_| anyhow!("attributes"))?)?;
+    }
+    Table::new(attrs, AREAS as u8).map_err(|_| anyhow!("table"))
+}
+
+/// Fills a batch with the values of a turn: alarm after alarm comes, and once all have, one after the other goes.
+fn fill(batch: &mut Batch, alarms: u32, turn: u32) {
+    let first = turn.wrapping_mul(ACTIONS);
+    batch.restart(u64::from(first) + 1);
+    for number in 0..ACTIONS {
+        let place = first.wrapping_add(number);
+        let value = if (place / alarms.max(1)) % 2 == 0 {
+            Reading::new(1000)
+        } else {
+            Reading::new(0)
+        };
+        if let (Some(slot), Some(value)) = (Slot::new(16), value) {
+            let id = AlarmId(place % alarms.max(1));
+            if !batch.is_full() {
+                batch.push(Entry {
+                    slot,
+                    serial: u64::from(place),
+                    want: Action::Value(id, value),
+                    verdict: Verdict::Accepted(Action::Value(id, value)),
+                });
+            }
+        }
+    }
+}
+
+/// The calls of the work that is begun; 1 where it was done.
+fn finish<D: Disk + Drop>(keeper: &mut Keeper<D>) -> u32 {
+    for _call in 0..6 {
+        if keeper.is_working() {
+            match keeper.advance() {
+                Progress::More => {}
+                Progress::Done => return 1,
+                Progress::Failed => return 0,
+            }
+        }
+    }
+    0
+}
+
+fn commit<D: Disk + Drop>(keeper: &mut Keeper<D>, batch: &Batch) -> u32 {
+    let actions = accepted_in(batch);
+    if actions == 0 || !keeper.fits(actions) {
+        return 0;
+    }
+    match keeper.begin(batch) {
+        Ok(()) => finish(keeper),
+        Err(_) => 0,
+    }
+}
+
+/// So many commits of 256 values; how many were done.
+pub fn commit_all<D: Disk + Drop>(
+    keeper: &mut Keeper<D>,
+    batch: &mut Batch,
+    alarms: u32,
+    commits: u32,
+) -> u32 {
+    let mut done = 0u32;
+    for turn in 0..commits {
+        fill(batch, alarms, turn);
+        done = done.wrapping_add(commit(keeper, batch));
+    }
+    done
+}
+
+/// So many checkpoints; how many were done.
+pub fn copy_all<D: Disk + Drop>(keeper: &mut Keeper<D>, checkpoints: u32) -> u32 {
+    let mut done = 0u32;
+    for _checkpoint in 0..checkpoints {
+        if keeper.begin_checkpoint().is_ok() {
+            done = done.wrapping_add(finish(keeper));
+        }
+    }
+    done
+}
