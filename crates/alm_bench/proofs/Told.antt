@@ -1,5 +1,5 @@
 -- What was told or shown stays, and is recovered.
-use Rattle.std.proofs.Common.{◌≡◌, ◌≤◌, ◌<◌, ◌+◌, ◌-◌, ℕ, zero, suc, List, [], ◌∷◌, ◌++◌, length, take, drop, max, Option, Some, None, slice_get, refl, sym, ◌∙◌, ap, subst, arith, append_assoc, length-append}
+use Rattle.std.proofs.Common.{◌≡◌, ◌≤◌, ◌+◌, ◌-◌, ℕ, suc, List, [], ◌∷◌, ◌++◌, length, take, drop, Option, Some, None, slice_get, refl, sym, ◌∙◌, ap, subst, arith, append_assoc, length-append}
 use Rattle.std.proofs.lemmas.List.{take-append-drop, length-take-le}
 use Rattle.alm_types.specs.declared.action.Action.{Action}
 use Rattle.alm_types.specs.declared.entry.Entry.{Entry}
@@ -17,7 +17,7 @@ use Rattle.alm_bench.specs.declared.step.Step.{Step}
 use Rattle.alm_bench.specs.declared.step.Step.TheVariants.{Send, Take, Seal, Fetch, Call, Publish, Release, GiveBack, Receive, Look, Crash, Reopen}
 use Rattle.alm_bench.specs.declared.event.Event.{Event}
 use Rattle.alm_bench.specs.declared.event.Event.TheVariants.{Sent, Took, Sealed, Fetched, Committed, Failed, Published, Released, GaveBack, Received, Looked, Crashed, Opened}
-use Rattle.alm_bench.specs.World.{World, Note, Stage, Nothing, Held, Stored, Shown, Answers, after, entry_of, fetches, goes_to, next_at, next_notes, note_of, raised, shows, stores, with_entry}
+use Rattle.alm_bench.specs.World.{World, Note, Stage, Nothing, Held, Stored, Shown, Answers, after, entry_of, fetches, goes_to, next_at, next_notes, note_of, raised, shows, stores}
 use Rattle.alm_bench.specs.Headline.{Sight, Headline, IsRun, after_all}
 use Rattle.alm_bench.specs.Told.{EndsWith, Tells, TellsUpTo}
 use Rattle.alm_bench.proofs.Order.{InOrder, in_order, shown_at, ready_at, waiting_at, flat_of}

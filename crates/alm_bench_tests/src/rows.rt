@@ -1,6 +1,6 @@
 //! The worked rows.
 
-use crate::traces::{differs_at, trace};
+use crate::traces::{differs_at, formatted, trace};
 use alm_bench::{Bench, Event, Step};
 use alm_disk::MemDisk;
 use alm_keeper::OpenFault;
@@ -207,5 +207,50 @@ fn an_unformatted_device_is_refused(rt: HostRuntime) -> Result<(), Fail> {
         fault_of_zeros(rt.alloc(), 28_997)?,
         Some(OpenFault::Unformatted)
     );
+    Ok(())
+}
+
+/// Whether a bench answers these steps so.
+fn goes(bench: &mut Bench<MemDisk>, alloc: Global, steps: &[Step], wanted: &[Event]) -> bool {
+    match bench.run(alloc, steps) {
+        Ok(trace) => differs_at(&trace, wanted).is_none(),
+        Err(_) => false,
+    }
+}
+
+/// Whether a bench that is opened goes on in a second run where the first one ended.
+fn goes_on(alloc: Global, disk: MemDisk, slot: Slot) -> bool {
+    let ack = Action::Ack(AlarmId(0));
+    let refused = Verdict::Refused(Refusal::NotUnacknowledged, 0);
+    match Bench::new(alloc, disk) {
+        Ok(mut bench) => {
+            let first = goes(
+                &mut bench,
+                alloc,
+                &[Step::Reopen, Step::Send(slot, ack)],
+                &[Event::Skipped, Event::Sent(1)],
+            );
+            let second = goes(
+                &mut bench,
+                alloc,
+                &[Step::Take(slot), Step::Seal, Step::Fetch, Step::Call],
+                &[
+                    Event::Took(refused),
+                    Event::Sealed,
+                    Event::Fetched,
+                    Event::Committed,
+                ],
+            );
+            first && second
+        }
+        Err(_) => false,
+    }
+}
+
+#[test]
+fn a_bench_goes_on_where_it_was(rt: HostRuntime) -> Result<(), Fail> {
+    let alloc = rt.alloc();
+    let console = Slot::new(0).ok_or("slot")?;
+    assert!(rt; goes_on(alloc, formatted(alloc, CALLS)?, console));
     Ok(())
 }

@@ -2,12 +2,23 @@
 
 use alm_bench::{Event, Step, whole_life};
 use alm_disk::MemDisk;
+use alm_keeper::format;
 use alm_service::worked_table;
 use std::alloc::Global;
 use std::test::Fail;
 
 /// The smallest device that takes the worked table.
 const SIZE: usize = 28_997;
+
+/// A device that is formatted for the worked table.
+pub fn formatted(alloc: Global, calls: usize) -> Result<MemDisk, Fail> {
+    let table = worked_table(alloc)?;
+    let disk = MemDisk::new(alloc, vec![in alloc; 0u8; SIZE]?, calls)?;
+    match format(alloc, disk, &table) {
+        Ok(disk) => Ok(disk),
+        Err(_) => Err("a device".into()),
+    }
+}
 
 /// The trace of these steps on a device that is formatted for the worked table, and of which so many calls go well.
 pub fn trace(alloc: Global, calls: usize, steps: &[Step]) -> Result<Vec<Event>, Fail> {

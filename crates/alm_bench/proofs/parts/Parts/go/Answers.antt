@@ -1,6 +1,6 @@
-use Rattle.std.proofs.Common.{◌≡◌, sym, subst}
+use Rattle.std.proofs.Common.{sym, subst}
 use Rattle.alm_bench.specs.declared.step.Step.{Step}
-use Rattle.alm_bench.specs.World.{World, Answers, after}
+use Rattle.alm_bench.specs.World.{Answers, after}
 use Rattle.alm_bench.specs.Matches.{IsOpen}
 use Rattle.alm_bench.proofs.parts.Parts.go.Goals as goal
 
