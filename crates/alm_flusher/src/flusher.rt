@@ -25,7 +25,7 @@ use alm_rings::{
     Console, FetchEnds, Outbox, Receipt, SealEnds, Told, batches_beside, replies_beside,
 };
 use alm_store::Store;
-use alm_types::{Slot, Verdict};
+use alm_types::{Entry, Slot, Verdict};
 use std::mem::replace;
 use std::snapshot::Snapshot;
 
@@ -84,7 +84,7 @@ fn number_of(verdict: Verdict, before: u64, count: u64) -> u64
 }
 
 impl<K: Store, T: Told + Drop, B: Board<Told = T>> Flusher<K, T, B> {
-    ghost use Rattle.std.specs.Prelude.{◌≡◌, ◌≢◌, ◌↔◌, ◌+◌, ◌<◌, ◌≤◌, ◌++◌, [], ℕ, List, length, MatchBool, false, slice_get, Some, None, IsSome};
+    ghost use Rattle.std.specs.Prelude.{◌≡◌, ◌≢◌, ◌↔◌, ◌+◌, ◌<◌, ◌≤◌, ◌++◌, [], ℕ, List, length, MatchBool, false, slice_get, Some, None, IsSome, IsTrue};
     ghost use Rattle.alm_disk.specs.Failures.{HasFailed};
     ghost use Rattle.alm_keeper.specs.Calls.{IsCall};
     ghost use Rattle.alm_store.specs.Advancing.{IsCalls};
@@ -95,7 +95,7 @@ impl<K: Store, T: Told + Drop, B: Board<Told = T>> Flusher<K, T, B> {
     ghost use Rattle.rtrb.specs.Ring.{IsPair};
     ghost use Rattle.alm_rings.specs.declared.outbox.Outbox.{Outbox};
     ghost use Rattle.alm_flusher.specs.Flushes.{FetchAnswers, AdvanceAnswers, PublishAnswers, ReleaseAnswers, GivesBack, IsDone, IsNext};
-    ghost use Rattle.alm_flusher.specs.HeldBatch.{to_commit};
+    ghost use Rattle.alm_flusher.specs.HeldBatch.{next_of, to_commit};
     ghost use Rattle.alm_rings.specs.declared.receipt.Receipt.{Receipt};
 
     /// Nothing is held at first. The store has no work begun, and the board shows the plant that is stored.
@@ -124,6 +124,20 @@ impl<K: Store, T: Told + Drop, B: Board<Told = T>> Flusher<K, T, B> {
             fetch,
             held: Held::Nothing,
         }
+    }
+
+    /// Whether a sealed batch is known to wait.
+    pub fn waits(&self) -> bool
+        ensures { IsTrue result ↔ (0 < length (coming_in self.now.fetch)) }
+    {
+        self.fetch.waits()
+    }
+
+    /// The entry whose verdict is the next to be released.
+    pub fn next(&self) -> Option<Entry>
+        ensures { result ≡ next_of self.now.held }
+    {
+        self.held.next()
     }
 
     /// Fetches the next sealed batch.

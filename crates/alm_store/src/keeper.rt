@@ -13,7 +13,7 @@ impl<D: Disk + Drop> Store for Keeper<D> {
     ghost use Rattle.alm_keeper.specs.Keeper.{HasRoom, next};
     ghost use Rattle.alm_keeper.specs.Stages.{phase_of};
     ghost use Rattle.alm_store.specs.Keepers.{StandsFor, IsSpent};
-    ghost use Rattle.alm_store.specs.Resting.{rests, stands_for_one};
+    ghost use Rattle.alm_store.specs.Resting.{keeps_rules, rests, stands_for_one};
 
     type Device = D;
 
@@ -79,4 +79,6 @@ impl<D: Disk + Drop> Store for Keeper<D> {
     ghost idle = { λ k is. rests k is };
 
     ghost one = { λ bytes p q x y. stands_for_one bytes p q x y };
+
+    ghost rules = { λ bytes p are x. keeps_rules bytes p are x };
 }

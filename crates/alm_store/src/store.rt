@@ -10,12 +10,12 @@ use std::alloc::Global;
 pub trait Store: Drop {
     ghost use Rattle.std.specs.Prelude.{◌≡◌, ◌≢◌, ◌⊎◌, ◌↔◌, ◌<◌, ◌≤◌, ◌+◌, ◌^◌, ℕ, true, false, List, length, IsOk, IfOk, IfErr, OnOk, OnErr, IsTrue};
     ghost use Rattle.alm_types.specs.declared.action.Action.{Action};
-    ghost use Rattle.alm_disk.specs.Device.{DeviceState, IsImage};
+    ghost use Rattle.alm_disk.specs.Device.{DeviceState, IsBytes, IsImage};
     ghost use Rattle.alm_disk.specs.Failures.{HasFailed};
     ghost use Rattle.alm_model.specs.Plant.{Condensed};
     ghost use Rattle.alm_model.specs.Step.{run};
     ghost use Rattle.alm_model.specs.Judging.{accepted_of};
-    ghost use Rattle.alm_model.specs.Rules.{AllAdmitted, admits_all};
+    ghost use Rattle.alm_model.specs.Rules.{AllAdmitted, KeepsRules, admits_all};
     ghost use Rattle.alm_keeper.specs.declared.phase.Phase.{Phase};
     ghost use Rattle.alm_keeper.specs.declared.phase.Phase.TheVariants.{Idle, Committing, Copying};
     ghost use Rattle.alm_store.specs.Advancing.{Advanced, Same};
@@ -120,4 +120,7 @@ pub trait Store: Drop {
 
     /// No bytes stand for two plants.
     ghost one: { (b : List ℕ) (p q : Condensed) → recovers b p → recovers b q → p ≡ q };
+
+    /// What bytes stand for keeps the rules of every plant.
+    ghost rules: { (b : List ℕ) (p : Condensed) → IsBytes b → recovers b p → KeepsRules p };
 }

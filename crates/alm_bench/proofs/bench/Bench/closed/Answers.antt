@@ -1,0 +1,8 @@
+use Rattle.std.proofs.Common.{refl}
+use Rattle.alm_store.specs.Keepers.{StandsFor}
+use Rattle.alm_store.specs.Resting.{keeps_rules, stands_for_one}
+use Rattle.alm_bench.proofs.Reopened.{first_is}
+use Rattle.alm_bench.proofs.bench.Bench.closed.Goals as goal
+
+pub returns-clause-stands : goal.returns-clause-stands
+returns-clause-stands g c = λ honest plant all. (refl, honest, λ image is. first_is StandsFor stands_for_one keeps_rules plant image is.bytes (all image is))

@@ -1,0 +1,12 @@
+use Rattle.std.proofs.Common.{sym, subst, refl}
+use Rattle.alm_bench.specs.World.{shut}
+use Rattle.alm_bench.specs.Stands.{IsSetup}
+use Rattle.alm_bench.specs.declared.setup.Setup as T
+use Rattle.alm_bench.proofs.bench.Bench.crash.Goals as goal
+
+pub returns-in-Open-clause-stands : goal.returns-in-Open-clause-stands
+returns-in-Open-clause-stands g c = λ w m.
+    let is = subst (λ (s : T.Setup _ _ _ _). IsSetup w s) (sym c.in-Open.ensures) m in
+    let honest = c.into_device.ensures.honest.0 is.fits.honest in
+    subst (λ (s : T.Setup _ _ _ _). IsSetup (shut w) s) (sym c.put.ensures)
+    (refl, c.crashed-disk.ensures.honest.0 honest, λ image left. c.into_device.ensures.headline w is.fits image (c.crashed-disk.ensures.no_new_image honest image left))

@@ -1,0 +1,45 @@
+use Rattle.std.proofs.Common.{◌≡◌, sym, subst}
+use Rattle.alm_store.specs.Keepers.{StandsFor, IsSpent}
+use Rattle.alm_bench.specs.World.{World, after}
+use Rattle.alm_bench.specs.Headline.{Moves, Sight}
+use Rattle.alm_bench.specs.Stands.{IsSetup}
+use Rattle.alm_bench.specs.declared.event.Event.TheVariants.{Skipped}
+use Rattle.alm_bench.proofs.Carried.{carried, still, inner_skips, after_skipped, inner_moves}
+use Rattle.alm_bench.proofs.bench.Bench.go.Goals as goal
+
+pub go-event-requires : goal.go-event-requires
+go-event-requires g c = c.requires
+
+pub returns-in-Open-clause-answer : goal.returns-in-Open-clause-answer
+returns-in-Open-clause-answer g c = λ w m. c.go-event.ensures.answer w (still w _ _ (sym c.in-Open.ensures) m)
+
+pub returns-in-Open-clause-stands : goal.returns-in-Open-clause-stands
+returns-in-Open-clause-stands g c = λ w m.
+    still (after w c.args.step.now c.go-event.result) _ _ (sym c.put.ensures) (c.go-event.ensures.fits w (still w _ _ (sym c.in-Open.ensures) m))
+
+pub returns-in-Open-clause-moves : goal.returns-in-Open-clause-moves
+returns-in-Open-clause-moves g c = λ w m.
+    let was = c.in-Open.parts.flusher.store in
+    let same : record { state = g.D.Disk.state was.disk; failures = g.D.Disk.failures was.disk } ≡ record { state = g.D.Disk.state c.go-event.new.self.flusher.store.disk; failures = g.D.Disk.failures c.go-event.new.self.flusher.store.disk } =
+    (λ i. record { state = g.D.Disk.state (sym c.go-event.ensures.store i).disk; failures = g.D.Disk.failures (sym c.go-event.ensures.store i).disk }) in
+    carried w c.args.step.now c.go-event.result _ _ _ _ c.in-Open.ensures (sym c.put.ensures)
+    (subst (λ (d : Sight). Moves StandsFor IsSpent w c.args.step.now c.go-event.result (record { state = g.D.Disk.state was.disk; failures = g.D.Disk.failures was.disk }) d) same
+    (inner_moves StandsFor IsSpent w c.args.step.now c.go-event.result _ c.requires))
+
+pub returns-in-Shut-clause-answer : goal.returns-in-Shut-clause-answer
+returns-in-Shut-clause-answer g c = λ w m. inner_skips w c.args.step.now c.requires (still w _ _ (sym c.in-Shut.ensures) m).0
+
+pub returns-in-Shut-clause-stands : goal.returns-in-Shut-clause-stands
+returns-in-Shut-clause-stands g c = λ w m.
+    subst (λ (v : World). IsSetup v c.put-in-Shut.new.self.setup) (sym (after_skipped w c.args.step.now)) (still w _ _ (sym c.put-in-Shut.ensures) (still w _ _ (sym c.in-Shut.ensures) m))
+
+pub returns-in-Shut-clause-moves : goal.returns-in-Shut-clause-moves
+returns-in-Shut-clause-moves g c = λ w m.
+    carried w c.args.step.now Skipped _ _ _ _ c.in-Shut.ensures (sym c.put-in-Shut.ensures) (inner_moves StandsFor IsSpent w c.args.step.now Skipped _ c.requires)
+
+pub returns-in-Gone : goal.returns-in-Gone
+returns-in-Gone g c = record {
+  answer = λ w m. absurd (still w _ _ (sym c.in-Gone.ensures) m);
+  stands = λ w m. absurd (still w _ _ (sym c.in-Gone.ensures) m);
+  moves = λ w m. absurd (still w _ _ (sym c.in-Gone.ensures) m);
+}

@@ -1,0 +1,12 @@
+use Rattle.std.proofs.Common.{◌≡◌, [], arith}
+use Rattle.alm_store.specs.Resting.{stands_for_one}
+use Rattle.alm_bench.proofs.bench.Bench.new.Goals as goal
+
+pub returns-in-Ok-clause-stands : goal.returns-in-Ok-clause-stands
+returns-in-Ok-clause-stands g c = λ honest plant all.
+    let e = c.in-Ok.ensures in
+    let opened = e.opened honest in
+    let store = c.in-Ok.parts.flusher.store in
+    let bytes = (g.D.Disk.state store.disk).bytes in
+    let is : store.stored.plant ≡ plant = stands_for_one bytes store.stored.plant plant opened.1 (all bytes opened.0) in
+    e.open honest plant [] plant.panel.count is (omega arith)

@@ -1,0 +1,16 @@
+use Rattle.std.proofs.Common.{List, ℕ, sym, subst}
+use Rattle.alm_disk.proofs.Images.{settled_image}
+use Rattle.alm_model.specs.New.{new_plant}
+use Rattle.alm_store.specs.Keepers.{StandsFor}
+use Rattle.alm_bench.specs.Headline.{StandOnly}
+use Rattle.alm_bench.proofs.whole.whole_life.Goals as goal
+
+pub returns-in-Ok-life : goal.returns-in-Ok-life
+returns-in-Ok-life g c = λ honest.
+    let state = g.D.Disk.state c.in-Ok.disk in
+    let plant = new_plant c.args.table.now in
+    let settled = c.in-Ok.ensures.settled honest in
+    let new = c.in-Ok.ensures.stands honest in
+    let only : StandOnly state plant = λ image is. subst (λ (bytes : List ℕ). StandsFor bytes plant) (sym (settled_image state state.bytes image settled is)) (1, new.stands) in
+    let run = c.in-Ok-life.ensures (c.in-Ok.ensures.honest.0 honest) plant only in
+    (record { state = state; failures = g.D.Disk.failures c.in-Ok.disk }, run.0, only, run.1)

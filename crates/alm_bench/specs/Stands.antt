@@ -1,0 +1,31 @@
+-- A bench stands for a world.
+use Rattle.std.specs.Prelude.{◌≡◌, true, false, []}
+use Rattle.alm_disk.specs.declared.disk.Disk
+use Rattle.alm_keeper.specs.declared.keeper.Keeper.{Keeper}
+use Rattle.alm_store.specs.declared.store.Store.{Ghosts}
+use Rattle.alm_store.specs.Keepers.{StandsFor, IsSpent}
+use Rattle.alm_bench.specs.declared.setup.Setup as T
+use Rattle.alm_bench.specs.declared.setup.Setup.TheVariants.{Open, Shut, Gone}
+use Rattle.alm_bench.specs.declared.bench.Bench.{Bench}
+use Rattle.alm_bench.specs.World.{World}
+use Rattle.alm_bench.specs.Headline.{Headline, Sight}
+use Rattle.alm_bench.specs.Matches.{IsOpen}
+
+module _ {D : Type 0} {g : Ghosts (Keeper D) D} {d : Disk.Ghosts D} where
+  -- an open bench has the parts of the world; a closed one has an honest device, of which each image stands for what the world has
+  abbrev pub IsSetup : World → T.Setup D D g d → Type 0
+  IsSetup w (Open parts) = IsOpen w parts
+  IsSetup w (Shut disk) = (w.closed ≡ true) × d.honest disk × Headline StandsFor IsSpent w (d.state disk)
+  IsSetup w Gone = ⊥
+
+  abbrev pub Stands : World → Bench D D g d → Type 0
+  Stands w bench = IsSetup w bench.setup
+
+  -- its device
+  abbrev pub sight : T.Setup D D g d → Sight
+  sight (Open parts) = record { state = g.device parts.flusher.store; failures = g.failures parts.flusher.store }
+  sight (Shut disk) = record { state = d.state disk; failures = d.failures disk }
+  sight Gone = record { state = record { bytes = []; pending = λ _. false; faulted = false }; failures = 0 }
+
+  abbrev pub sight_of : Bench D D g d → Sight
+  sight_of bench = sight bench.setup

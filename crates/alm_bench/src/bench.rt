@@ -1,0 +1,244 @@
+//! A bench: all parts over a device, driven step by step.
+
+ghost use Rattle.std.specs.Prelude.{◌≡◌, ◌↔◌, ℕ, List, IfOk, IfErr, OnErr};
+ghost use Rattle.alm_disk.specs.Device.{IsImage};
+ghost use Rattle.alm_model.specs.Plant.{Condensed};
+ghost use Rattle.alm_store.specs.Keepers.{StandsFor, IsSpent};
+ghost use Rattle.alm_store.specs.Opening.{HasCause};
+ghost use Rattle.alm_bench.specs.World.{World, Answers, after, first, shut};
+ghost use Rattle.alm_bench.specs.declared.step.Step.TheVariants as S;
+
+use crate::event::Event;
+use crate::named::crashed;
+use crate::opened::open_parts;
+use crate::parts::Parts;
+use crate::setup::Setup;
+use crate::step::Step;
+use alm_disk::Crashable;
+use alm_flusher::Advance;
+use alm_keeper::{Keeper, OpenFault};
+use alm_store::Store;
+use std::alloc::{AllocError, Global};
+use std::mem::replace;
+
+/// All parts over a device, in one thread; or the device alone, where it is closed.
+#[derive(Drop)]
+pub struct Bench<D: Crashable + Drop>
+where
+    Keeper<D>: Store,
+{
+    setup: Setup<D>,
+}
+
+impl<D: Crashable + Drop> Bench<D> {
+    ghost use Rattle.alm_bench.specs.Matches.{IsInner};
+    ghost use Rattle.alm_bench.specs.Stands.{Stands, sight_of};
+    ghost use Rattle.alm_bench.specs.Headline.{Headline, Moves, IsRun, StandOnly, after_all};
+    ghost use Rattle.alm_bench.specs.declared.step.Step.TheVariants as S;
+
+    /// A closed bench.
+    pub fn closed(disk: D) -> Bench<D>
+        ensures stands { D.honest disk → (plant : Condensed) → StandOnly (D.state disk) plant → Stands (shut (first plant)) result }
+        ensures device { sight_of result ≡ record { state = D.state disk; failures = D.failures disk } }
+    {
+        Bench {
+            setup: Setup::Shut(disk),
+        }
+    }
+
+    /// Opens what a device stands for: a sync comes first, and nothing is written.
+    ///
+    /// Refused, and the device is given back, where it stands for nothing, where it failed, or for want of memory.
+    pub fn new(alloc: Global, disk: D) -> Result<Bench<D>, (OpenFault, D)>
+        ensures stands { D.honest disk → (plant : Condensed) → StandOnly (D.state disk) plant → IfOk result (λ bench. Stands (first plant) bench) }
+        ensures honest { IfErr result (λ e. D.honest disk ↔ D.honest e.1) }
+        ensures no_new_image { D.honest disk → IfErr result (λ e. (image : List ℕ) → IsImage (D.state e.1) image → IsImage (D.state disk) image) }
+        ensures cause { D.honest disk → IfErr result (λ e. HasCause StandsFor (D.state disk) e.0 (D.failures disk) (D.failures e.1)) }
+    {
+        match open_parts::<Keeper<D>>(alloc, disk) {
+            Ok(parts) => Ok(Bench {
+                setup: Setup::Open(parts),
+            }),
+            Err(refused) => Err(refused),
+        }
+    }
+
+    // Does nothing: it says what a crash leaves.
+    fn images(&self)
+        ensures headline { (w : World) → Stands w self.now → Headline StandsFor IsSpent w (sight_of self.now).state }
+    {
+        match &self.setup {
+            Setup::Open(parts) => parts.images(),
+            Setup::Shut(_) => {}
+            Setup::Gone => {}
+        }
+    }
+
+    // What it is made of, taken out.
+    fn take(&mut self) -> Setup<D>
+        ensures { result ≡ self.old.setup }
+    {
+        replace(&mut self.setup, Setup::Gone)
+    }
+
+    // Put in again.
+    fn put(&mut self, setup: Setup<D>)
+        ensures { self.new.setup ≡ setup }
+    {
+        self.setup = setup;
+    }
+
+    // The power fails.
+    fn crash(&mut self, bytes: &Vec<(u64, u8)>) -> Event
+        ensures answer { (w : World) → Stands w self.old → Answers w (S.Crash bytes.now) result }
+        ensures stands { (w : World) → Stands w self.old → Stands (after w (S.Crash bytes.now) result) self.new }
+        ensures moves { (w : World) → Stands w self.old → Moves StandsFor IsSpent w (S.Crash bytes.now) result (sight_of self.old) (sight_of self.new) }
+    {
+        match self.take() {
+            Setup::Open(parts) => {
+                let disk = crashed(parts.into_device(), bytes);
+                self.put(Setup::Shut(disk));
+                Event::Crashed
+            }
+            Setup::Shut(disk) => {
+                let disk = crashed(disk, bytes);
+                self.put(Setup::Shut(disk));
+                Event::Crashed
+            }
+            Setup::Gone => Event::Skipped,
+        }
+    }
+
+    // The device is opened again, and all else begins anew.
+    fn reopen(&mut self, alloc: Global) -> Event
+        ensures answer { (w : World) → Stands w self.old → Answers w S.Reopen result }
+        ensures stands { (w : World) → Stands w self.old → Stands (after w S.Reopen result) self.new }
+        ensures moves { (w : World) → Stands w self.old → Moves StandsFor IsSpent w S.Reopen result (sight_of self.old) (sight_of self.new) }
+    {
+        match self.take() {
+            Setup::Shut(disk) => match open_parts::<Keeper<D>>(alloc, disk) {
+                Ok(parts) => {
+                    let count = parts.count();
+                    self.put(Setup::Open(parts));
+                    Event::Opened(count)
+                }
+                Err((fault, disk)) => {
+                    self.put(Setup::Shut(disk));
+                    Event::Unopened(fault)
+                }
+            },
+            Setup::Open(parts) => {
+                self.put(Setup::Open(parts));
+                Event::Skipped
+            }
+            Setup::Gone => Event::Skipped,
+        }
+    }
+
+    // The one device call that is next. A failure closes the bench.
+    fn call(&mut self) -> Event
+        ensures answer { (w : World) → Stands w self.old → Answers w S.Call result }
+        ensures stands { (w : World) → Stands w self.old → Stands (after w S.Call result) self.new }
+        ensures moves { (w : World) → Stands w self.old → Moves StandsFor IsSpent w S.Call result (sight_of self.old) (sight_of self.new) }
+    {
+        match self.take() {
+            Setup::Open(mut parts) => match parts.call() {
+                Advance::More => {
+                    self.put(Setup::Open(parts));
+                    Event::More
+                }
+                Advance::Committed => {
+                    self.put(Setup::Open(parts));
+                    Event::Committed
+                }
+                Advance::Nothing => {
+                    self.put(Setup::Open(parts));
+                    Event::Skipped
+                }
+                Advance::Failed => {
+                    let disk = parts.into_device();
+                    self.put(Setup::Shut(disk));
+                    Event::Failed
+                }
+            },
+            Setup::Shut(disk) => {
+                self.put(Setup::Shut(disk));
+                Event::Skipped
+            }
+            Setup::Gone => Event::Skipped,
+        }
+    }
+
+    // A step that leaves the device alone.
+    fn go(&mut self, alloc: Global, step: &Step) -> Event
+        requires { IsInner step.now }
+        ensures answer { (w : World) → Stands w self.old → Answers w step.now result }
+        ensures stands { (w : World) → Stands w self.old → Stands (after w step.now result) self.new }
+        ensures moves { (w : World) → Stands w self.old → Moves StandsFor IsSpent w step.now result (sight_of self.old) (sight_of self.new) }
+    {
+        match self.take() {
+            Setup::Open(mut parts) => {
+                let event = parts.go(alloc, step);
+                self.put(Setup::Open(parts));
+                event
+            }
+            Setup::Shut(disk) => {
+                self.put(Setup::Shut(disk));
+                Event::Skipped
+            }
+            Setup::Gone => Event::Skipped,
+        }
+    }
+
+    // One step.
+    fn act(&mut self, alloc: Global, step: &Step) -> Event
+        ensures answer { (w : World) → Stands w self.old → Answers w step.now result }
+        ensures stands { (w : World) → Stands w self.old → Stands (after w step.now result) self.new }
+        ensures moves { (w : World) → Stands w self.old → Moves StandsFor IsSpent w step.now result (sight_of self.old) (sight_of self.new) }
+    {
+        match step {
+            Step::Crash(bytes) => self.crash(bytes),
+            Step::Reopen => self.reopen(alloc),
+            Step::Call => self.call(),
+            Step::Send(_, _) => self.go(alloc, step),
+            Step::Take(_) => self.go(alloc, step),
+            Step::Seal => self.go(alloc, step),
+            Step::Fetch => self.go(alloc, step),
+            Step::Publish => self.go(alloc, step),
+            Step::Release => self.go(alloc, step),
+            Step::GiveBack => self.go(alloc, step),
+            Step::Receive(_) => self.go(alloc, step),
+            Step::Look(_, _) => self.go(alloc, step),
+        }
+    }
+
+    /// One step, before and after which the headline holds.
+    pub fn step(&mut self, alloc: Global, step: &Step) -> Event
+        ensures answer { (w : World) → Stands w self.old → Answers w step.now result }
+        ensures stands { (w : World) → Stands w self.old → Stands (after w step.now result) self.new }
+        ensures moves { (w : World) → Stands w self.old → Moves StandsFor IsSpent w step.now result (sight_of self.old) (sight_of self.new) }
+        ensures before { (w : World) → Stands w self.old → Headline StandsFor IsSpent w (sight_of self.old).state }
+        ensures headline { (w : World) → Stands w self.old → Headline StandsFor IsSpent (after w step.now result) (sight_of self.new).state }
+    {
+        self.images();
+        let event = self.act(alloc, step);
+        self.images();
+        event
+    }
+
+    /// The world's run of exactly these steps, before the first of which and after each the headline holds. Room for the trace is
+    /// taken before the first step.
+    pub fn run(&mut self, alloc: Global, steps: &[Step]) -> Result<Vec<Event>, AllocError>
+        ensures run { IfOk result (λ trace. (w : World) → Stands w self.old → IsRun StandsFor IsSpent w (sight_of self.old) steps.now trace.items (sight_of self.new)) }
+        ensures stands { IfOk result (λ trace. (w : World) → Stands w self.old → Stands (after_all w steps.now trace.items) self.new) }
+        ensures memory { OnErr result (self.new ≡ self.old) }
+    {
+        let mut trace = Vec::with_capacity(alloc, steps.len())?;
+        self.images();
+        for step in steps {
+            let event = self.step(alloc, step);
+            trace.push_reserved(event);
+        }
+        Ok(trace)
+    }
+}

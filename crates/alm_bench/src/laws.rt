@@ -1,0 +1,34 @@
+//! Laws of the runs of a bench: each function does nothing, and its contract is the law.
+
+ghost use Rattle.std.specs.Prelude.{◌≡◌, ℕ, List, ◌∷◌, ◌++◌, length};
+ghost use Rattle.alm_types.specs.declared.action.Action.{Action};
+ghost use Rattle.alm_disk.specs.Device.{IsImage};
+ghost use Rattle.alm_model.specs.Plant.{Condensed};
+ghost use Rattle.alm_model.specs.Step.{run};
+ghost use Rattle.alm_board.specs.Fronts.{IsFront};
+ghost use Rattle.alm_store.specs.Keepers.{StandsFor, IsSpent};
+ghost use Rattle.alm_bench.specs.World.{first, shut};
+ghost use Rattle.alm_bench.specs.Headline.{Sight, IsRun, after_all};
+ghost use Rattle.alm_bench.specs.Told.{Tells};
+ghost use Rattle.alm_bench.specs.declared.step.Step.{Step};
+ghost use Rattle.alm_bench.specs.declared.step.Step.TheVariants.{Release};
+ghost use Rattle.alm_bench.specs.declared.event.Event.{Event};
+ghost use Rattle.alm_bench.specs.declared.event.Event.TheVariants.{Released};
+
+/// In any run, what a step told of the accepted actions is recovered ever after: whatever a crash leaves at the end of the run, it stands for
+/// the plant of a list of actions that begins with those. A reply that is released tells the actions up to its own, a look those that it shows.
+pub fn what_was_told_is_recovered()
+    ensures { (plant : Condensed) (d last : Sight) (steps behind : List Step) (trace rest : List Event) (step : Step) (event : Event) (told : List Action) →
+        length steps ≡ length trace → IsRun StandsFor IsSpent (shut (first plant)) d (steps ++ step ∷ behind) (trace ++ event ∷ rest) last →
+        Tells (after_all (shut (first plant)) steps trace) step event told →
+        (image : List ℕ) (recovered : Condensed) → IsImage last.state image → StandsFor image recovered →
+        (actions : List Action) × (recovered ≡ run plant actions) × IsFront told actions }
+{}
+
+/// Each reply that is released in a run tells such a list: as many actions as its number says beyond the first plant's, and where its action was
+/// accepted, that action is the last of them.
+pub fn each_reply_tells_its_action()
+    ensures { (plant : Condensed) (d last : Sight) (steps behind : List Step) (trace rest : List Event) (slot : ℕ) →
+        length steps ≡ length trace → IsRun StandsFor IsSpent (shut (first plant)) d (steps ++ Release ∷ behind) (trace ++ Released slot ∷ rest) last →
+        (told : List Action) × Tells (after_all (shut (first plant)) steps trace) Release (Released slot) told }
+{}

@@ -1,0 +1,37 @@
+//! The parts of a server over one device, driven step by step in one thread: every interleaving of consoles, sequencer,
+//! flusher and device, with crashes and reopenings.
+//!
+//! | name | is |
+//! |---|---|
+//! | [`Bench`] | all parts over a device, or a closed device alone |
+//! | [`Step`] | what happens next: one slot sends or receives, one part goes on, the power fails, the device is opened again |
+//! | [`Event`] | what came of it; the events of a run are its trace |
+//! | [`life`] | a run from a formatted device |
+//! | [`whole_life`] | a run from a device that is formatted first |
+//! | [`laws`] | what was told or shown in a run is recovered ever after |
+//!
+//! The one contract that is used above is that of [`Bench::run`], and [`life`] says it in one call. The trace is that of a world
+//! of plain lists (specs/World.antt): each event is the answer of its step, and Skipped stands only where the step isn't possible or
+//! a look is refused. Before the first step and after each, every image that a crash may leave of the device stands for the plant of
+//! a front of the accepted actions, which holds every action whose reply was released or that a look showed; and each of its lists
+//! is the filter of its alarms, in the order of their stamps (specs/Headline.antt).
+//!
+//! The premise is that the device does what its trait says of it, and that it was formatted. Not promised: that any step is possible
+//! again after a failure, that memory suffices, and anything of threads that run beside each other.
+#![tactic(auto)]
+
+mod bench;
+mod event;
+pub mod laws;
+mod named;
+mod opened;
+mod parts;
+mod setup;
+mod slots;
+mod step;
+mod whole;
+
+pub use bench::Bench;
+pub use event::Event;
+pub use step::Step;
+pub use whole::{life, whole_life};

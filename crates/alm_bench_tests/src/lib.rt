@@ -1,0 +1,20 @@
+//! Tests of the bench over devices in memory.
+//!
+//! | module | what it runs |
+//! |---|---|
+//! | `rows` | the worked course of one action, crashes within its commit, a failure of the device, a refusal behind an action |
+//! | `drawn` | drawn steps of four slots with crashes at drawn calls and drawn bytes: the trace is that of a world kept here |
+//! | `world` | that world: plain vectors beside the plain plant |
+//!
+//! They stand in a crate of their own, since a crate with tests is proved twice. Expected answers are those of the worked rows, or
+//! of the world, which knows nothing of the bench.
+#![tactic(auto)]
+
+#[cfg(test)]
+mod drawn;
+#[cfg(test)]
+mod rows;
+#[cfg(test)]
+mod traces;
+#[cfg(test)]
+mod world;

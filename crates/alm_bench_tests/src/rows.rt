@@ -1,0 +1,256 @@
+//! The worked rows.
+
+use crate::traces::{differs_at, formatted, trace};
+use alm_bench::{Bench, Event, Step};
+use alm_disk::MemDisk;
+use alm_keeper::OpenFault;
+use alm_types::{Action, AlarmId, Moment, Query, Reading, Refusal, Slot, Verdict};
+use std::alloc::Global;
+use std::test::Fail;
+
+/// More calls than any of these runs makes.
+const CALLS: usize = 1000;
+
+const LOOK: Query = Query::State(AlarmId(0));
+
+#[test]
+fn one_action_goes_its_way(rt: HostRuntime) -> Result<(), Fail> {
+    let alloc = rt.alloc();
+    let clock = Slot::new(17).ok_or("slot")?;
+    let console = Slot::new(0).ok_or("slot")?;
+    let now = Action::Clock(Moment::new(1000).ok_or("moment")?);
+    let steps = [
+        Step::Reopen,
+        Step::Send(clock, now),
+        Step::Take(clock),
+        Step::Look(console, LOOK),
+        Step::Seal,
+        Step::Fetch,
+        Step::Call,
+        Step::Call,
+        Step::Call,
+        Step::Call,
+        Step::Release,
+        Step::Publish,
+        Step::Look(console, LOOK),
+        Step::Release,
+        Step::Receive(clock),
+        Step::Crash(Vec::new(alloc)),
+        Step::Send(console, Action::Ack(AlarmId(0))),
+        Step::Reopen,
+    ];
+    let wanted = [
+        Event::Opened(0),
+        Event::Sent(1),
+        Event::Took(Verdict::Accepted(now)),
+        Event::Looked(0),
+        Event::Sealed,
+        Event::Fetched,
+        Event::More,
+        Event::More,
+        Event::More,
+        Event::Committed,
+        Event::Skipped,
+        Event::Published,
+        Event::Looked(1),
+        Event::Released(clock),
+        Event::Received(1, Verdict::Accepted(now), 1),
+        Event::Crashed,
+        Event::Skipped,
+        Event::Opened(1),
+    ];
+    assert_eq!(rt; differs_at(&trace(alloc, CALLS, &steps)?, &wanted), None);
+    Ok(())
+}
+
+/// What is opened after a crash behind so many calls of a commit of one action, where the pending bytes stay as they read.
+fn opened_after(alloc: Global, calls: usize) -> Result<Option<Event>, Fail> {
+    let clock = Slot::new(17).ok_or("slot")?;
+    let now = Action::Clock(Moment::new(1000).ok_or("moment")?);
+    let mut steps = Vec::new(alloc);
+    steps.push(Step::Reopen)?;
+    steps.push(Step::Send(clock, now))?;
+    steps.push(Step::Take(clock))?;
+    steps.push(Step::Seal)?;
+    steps.push(Step::Fetch)?;
+    for _call in 0..calls {
+        steps.push(Step::Call)?;
+    }
+    steps.push(Step::Crash(Vec::new(alloc)))?;
+    steps.push(Step::Reopen)?;
+    Ok(trace(alloc, CALLS, &steps)?.last().copied())
+}
+
+#[test]
+fn a_crash_after_each_call(rt: HostRuntime) -> Result<(), Fail> {
+    for (calls, count) in [(0, 0), (1, 0), (2, 0), (3, 1), (4, 1)] {
+        assert_eq!(rt;
+            opened_after(rt.alloc(), calls)?,
+            Some(Event::Opened(count)),
+            "after {calls}"
+        );
+    }
+    Ok(())
+}
+
+#[test]
+fn a_failure_closes_the_bench(rt: HostRuntime) -> Result<(), Fail> {
+    let alloc = rt.alloc();
+    let clock = Slot::new(17).ok_or("slot")?;
+    let now = Action::Clock(Moment::new(1000).ok_or("moment")?);
+    let steps = [
+        Step::Reopen,
+        Step::Send(clock, now),
+        Step::Take(clock),
+        Step::Seal,
+        Step::Fetch,
+        Step::Call,
+        Step::Call,
+        Step::Call,
+        Step::Call,
+        Step::Look(clock, LOOK),
+        Step::Reopen,
+        Step::Crash(Vec::new(alloc)),
+        Step::Reopen,
+    ];
+    let wanted = [
+        Event::Opened(0),
+        Event::Sent(1),
+        Event::Took(Verdict::Accepted(now)),
+        Event::Sealed,
+        Event::Fetched,
+        Event::More,
+        Event::More,
+        Event::Failed,
+        Event::Skipped,
+        Event::Skipped,
+        Event::Unopened(OpenFault::Disk),
+        Event::Crashed,
+        Event::Unopened(OpenFault::Disk),
+    ];
+    // Ten calls to format, six to open, and two of the commit.
+    assert_eq!(rt; differs_at(&trace(alloc, 18, &steps)?, &wanted), None);
+    Ok(())
+}
+
+#[test]
+fn a_refusal_waits_for_the_actions_before_it(rt: HostRuntime) -> Result<(), Fail> {
+    let alloc = rt.alloc();
+    let feed = Slot::new(16).ok_or("slot")?;
+    let console = Slot::new(0).ok_or("slot")?;
+    let value = Action::Value(AlarmId(0), Reading::new(800).ok_or("reading")?);
+    let refused = Verdict::Refused(Refusal::WrongRole, 1);
+    let steps = [
+        Step::Reopen,
+        Step::Send(feed, value),
+        Step::Send(console, value),
+        Step::Take(feed),
+        Step::Take(console),
+        Step::Receive(console),
+        Step::Seal,
+        Step::Fetch,
+        Step::Call,
+        Step::Call,
+        Step::Call,
+        Step::Call,
+        Step::Publish,
+        Step::Receive(console),
+        Step::Release,
+        Step::GiveBack,
+        Step::Release,
+        Step::GiveBack,
+        Step::Receive(console),
+        Step::Look(console, Query::State(AlarmId(4))),
+        Step::Look(console, Query::Priority(5)),
+        Step::Look(console, Query::Priority(1)),
+    ];
+    let wanted = [
+        Event::Opened(0),
+        Event::Sent(1),
+        Event::Sent(1),
+        Event::Took(Verdict::Accepted(value)),
+        Event::Took(refused),
+        Event::Skipped,
+        Event::Sealed,
+        Event::Fetched,
+        Event::More,
+        Event::More,
+        Event::More,
+        Event::Committed,
+        Event::Published,
+        Event::Skipped,
+        Event::Released(feed),
+        Event::Skipped,
+        Event::Released(console),
+        Event::GaveBack,
+        Event::Received(1, refused, 1),
+        Event::Skipped,
+        Event::Skipped,
+        Event::Looked(1),
+    ];
+    assert_eq!(rt; differs_at(&trace(alloc, CALLS, &steps)?, &wanted), None);
+    Ok(())
+}
+
+/// Why a device of so many zeros isn't opened.
+fn fault_of_zeros(alloc: Global, size: usize) -> Result<Option<OpenFault>, Fail> {
+    let disk = MemDisk::new(alloc, vec![in alloc; 0u8; size]?, CALLS)?;
+    Ok(match Bench::new(alloc, disk) {
+        Ok(_) => None,
+        Err((fault, _)) => Some(fault),
+    })
+}
+
+#[test]
+fn an_unformatted_device_is_refused(rt: HostRuntime) -> Result<(), Fail> {
+    assert_eq!(rt;
+        fault_of_zeros(rt.alloc(), 28_997)?,
+        Some(OpenFault::Unformatted)
+    );
+    Ok(())
+}
+
+/// Whether a bench answers these steps so.
+fn goes(bench: &mut Bench<MemDisk>, alloc: Global, steps: &[Step], wanted: &[Event]) -> bool {
+    match bench.run(alloc, steps) {
+        Ok(trace) => differs_at(&trace, wanted).is_none(),
+        Err(_) => false,
+    }
+}
+
+/// Whether a bench that is opened goes on in a second run where the first one ended.
+fn goes_on(alloc: Global, disk: MemDisk, slot: Slot) -> bool {
+    let ack = Action::Ack(AlarmId(0));
+    let refused = Verdict::Refused(Refusal::NotUnacknowledged, 0);
+    match Bench::new(alloc, disk) {
+        Ok(mut bench) => {
+            let first = goes(
+                &mut bench,
+                alloc,
+                &[Step::Reopen, Step::Send(slot, ack)],
+                &[Event::Skipped, Event::Sent(1)],
+            );
+            let second = goes(
+                &mut bench,
+                alloc,
+                &[Step::Take(slot), Step::Seal, Step::Fetch, Step::Call],
+                &[
+                    Event::Took(refused),
+                    Event::Sealed,
+                    Event::Fetched,
+                    Event::Committed,
+                ],
+            );
+            first && second
+        }
+        Err(_) => false,
+    }
+}
+
+#[test]
+fn a_bench_goes_on_where_it_was(rt: HostRuntime) -> Result<(), Fail> {
+    let alloc = rt.alloc();
+    let console = Slot::new(0).ok_or("slot")?;
+    assert!(rt; goes_on(alloc, formatted(alloc, CALLS)?, console));
+    Ok(())
+}

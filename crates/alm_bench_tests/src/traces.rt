@@ -1,0 +1,42 @@
+//! Traces of runs on newly formatted devices.
+
+use alm_bench::{Event, Step, whole_life};
+use alm_disk::MemDisk;
+use alm_keeper::format;
+use alm_service::worked_table;
+use std::alloc::Global;
+use std::test::Fail;
+
+/// The smallest device that takes the worked table.
+const SIZE: usize = 28_997;
+
+/// A device that is formatted for the worked table.
+pub fn formatted(alloc: Global, calls: usize) -> Result<MemDisk, Fail> {
+    let table = worked_table(alloc)?;
+    let disk = MemDisk::new(alloc, vec![in alloc; 0u8; SIZE]?, calls)?;
+    match format(alloc, disk, &table) {
+        Ok(disk) => Ok(disk),
+        Err(_) => Err("a device".into()),
+    }
+}
+
+/// The trace of these steps on a device that is formatted for the worked table, and of which so many calls go well.
+pub fn trace(alloc: Global, calls: usize, steps: &[Step]) -> Result<Vec<Event>, Fail> {
+    let table = worked_table(alloc)?;
+    let disk = MemDisk::new(alloc, vec![in alloc; 0u8; SIZE]?, calls)?;
+    Ok(whole_life(alloc, disk, &table, steps).ok().ok_or("a run")?)
+}
+
+/// The first place where a trace isn't the one that is wanted.
+pub fn differs_at(trace: &[Event], wanted: &[Event]) -> Option<usize> {
+    if trace.len() != wanted.len() {
+        return Some(trace.len());
+    }
+    for (place, event) in trace.iter().enumerate() {
+        match wanted.get(place) {
+            Some(other) if other == event => {}
+            _ => return Some(place),
+        }
+    }
+    None
+}

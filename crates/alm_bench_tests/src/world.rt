@@ -1,0 +1,356 @@
+//! The world beside a bench: plain vectors, and the plain plant of all accepted actions.
+
+use alm_bench::{Event, Step};
+use alm_model::{Alarms, PlainPlant, judge};
+use alm_types::{Action, AlarmId, Query, Request, Slot, Table, Verdict};
+use std::alloc::{AllocError, Global};
+
+/// What one slot sent, and the places of the entries whose verdicts were released to it.
+#[derive(Drop)]
+struct Line {
+    sent: Vec<Action>,
+    taken: usize,
+    released: Vec<usize>,
+    received: usize,
+}
+
+/// A request that was judged, and the count of the plant then.
+#[derive(Clone, Copy)]
+struct Judged {
+    slot: Slot,
+    serial: u64,
+    verdict: Verdict,
+    number: u64,
+}
+
+/// What becomes of the fetched batch.
+#[derive(Clone, Copy, PartialEq, Eq)]
+enum Stage {
+    Nothing,
+    /// So many device calls of its commit were made.
+    Held(u32),
+    Stored,
+    /// So many of its verdicts are released.
+    Shown(usize),
+}
+
+/// The world.
+#[derive(Drop)]
+pub struct World {
+    alloc: Global,
+    table: Table,
+    plant: PlainPlant,
+    accepted: Vec<Action>,
+    lines: Vec<Line>,
+    entries: Vec<Judged>,
+    /// Where each sealed batch ends among the entries, and how many of them were fetched and given back.
+    ends: Vec<usize>,
+    fetched: usize,
+    given: usize,
+    stage: Stage,
+    stored: u64,
+    published: u64,
+    floor: u64,
+    closed: bool,
+    /// Counts that a closed device may stand for.
+    sure: u64,
+    may: u64,
+}
+
+/// How many device calls a commit takes.
+const COMMIT: u32 = 4;
+
+/// The lines of all slots, on which nothing was sent.
+fn lines(alloc: Global) -> Result<Vec<Line>, AllocError> {
+    let mut lines = Vec::new(alloc);
+    for _slot in 0..18 {
+        lines.push(Line {
+            sent: Vec::new(alloc),
+            taken: 0,
+            released: Vec::new(alloc),
+            received: 0,
+        })?;
+    }
+    Ok(lines)
+}
+
+/// Whether the worked table has what a query asks for.
+fn exists(query: &Query) -> bool {
+    match query {
+        Query::State(AlarmId(alarm)) => *alarm < 4,
+        Query::Priority(priority) => *priority >= 1 && *priority <= 4,
+        Query::Area(area) => *area < 2,
+        Query::Flood(area) => *area < 2,
+        Query::Wheel(slot) => *slot < 256,
+        Query::Stale => true,
+        Query::Chatter => true,
+    }
+}
+
+impl World {
+    /// A closed world with the new plant of a table.
+    pub fn new(alloc: Global, table: Table) -> Result<Self, AllocError> {
+        Ok(World {
+            alloc,
+            plant: PlainPlant::new(alloc, &table)?,
+            table,
+            accepted: Vec::new(alloc),
+            lines: lines(alloc)?,
+            entries: Vec::new(alloc),
+            ends: Vec::new(alloc),
+            fetched: 0,
+            given: 0,
+            stage: Stage::Nothing,
+            stored: 0,
+            published: 0,
+            floor: 0,
+            closed: true,
+            sure: 0,
+            may: 0,
+        })
+    }
+
+    /// What a step answers, where this was seen: it decides which image a crash left, where there are two.
+    pub fn answers(&mut self, step: &Step, seen: Event) -> Result<Event, AllocError> {
+        match step {
+            Step::Crash(bytes) => Ok(self.crash(bytes.is_empty())),
+            Step::Reopen => self.reopen(seen),
+            open => {
+                if self.closed {
+                    Ok(Event::Skipped)
+                } else {
+                    self.goes(open)
+                }
+            }
+        }
+    }
+
+    fn goes(&mut self, step: &Step) -> Result<Event, AllocError> {
+        match step {
+            Step::Send(slot, action) => self.send(*slot, *action),
+            Step::Take(slot) => self.take(*slot),
+            Step::Seal => self.seal(),
+            Step::Fetch => Ok(self.fetch()),
+            Step::Call => Ok(self.call()),
+            Step::Publish => Ok(self.publish()),
+            Step::Release => self.release(),
+            Step::GiveBack => Ok(self.give_back()),
+            Step::Receive(slot) => Ok(self.receive(*slot)),
+            Step::Look(_, query) => Ok(self.look(query)),
+            Step::Crash(_) => Ok(Event::Skipped),
+            Step::Reopen => Ok(Event::Skipped),
+        }
+    }
+
+    fn send(&mut self, slot: Slot, action: Action) -> Result<Event, AllocError> {
+        let Some(line) = self.lines.get_mut(slot.number() as usize) else {
+            return Ok(Event::Skipped);
+        };
+        if line.sent.len() >= line.received.wrapping_add(64) {
+            return Ok(Event::Busy);
+        }
+        line.sent.push(action)?;
+        Ok(Event::Sent(line.sent.len() as u64))
+    }
+
+    /// Where the open batch begins.
+    fn open(&self) -> usize {
+        self.ends.last().copied().unwrap_or(0)
+    }
+
+    fn take(&mut self, slot: Slot) -> Result<Event, AllocError> {
+        if self.entries.len() >= self.open().wrapping_add(256) {
+            return Ok(Event::Skipped);
+        }
+        let Some(line) = self.lines.get_mut(slot.number() as usize) else {
+            return Ok(Event::Skipped);
+        };
+        let Some(want) = line.sent.get(line.taken) else {
+            return Ok(Event::Skipped);
+        };
+        let request = Request { slot, want: *want };
+        line.taken = line.taken.wrapping_add(1);
+        let serial = line.taken as u64;
+        let verdict = judge(&mut self.plant, request);
+        if let Verdict::Accepted(action) = &verdict {
+            self.accepted.push(*action)?;
+        }
+        self.entries.push(Judged {
+            slot,
+            serial,
+            verdict,
+            number: self.plant.count(),
+        })?;
+        Ok(Event::Took(verdict))
+    }
+
+    fn seal(&mut self) -> Result<Event, AllocError> {
+        let out = self.ends.len().wrapping_sub(self.given);
+        if self.entries.len() == self.open() || out >= 7 {
+            return Ok(Event::Skipped);
+        }
+        self.ends.push(self.entries.len())?;
+        Ok(Event::Sealed)
+    }
+
+    fn fetch(&mut self) -> Event {
+        if self.stage != Stage::Nothing || self.fetched == self.ends.len() {
+            return Event::Skipped;
+        }
+        self.fetched = self.fetched.wrapping_add(1);
+        self.stage = Stage::Held(0);
+        Event::Fetched
+    }
+
+    /// The entries of the fetched batch, from one place to another.
+    fn held(&self) -> (usize, usize) {
+        let from = self.ends.get(self.fetched.wrapping_sub(2)).copied();
+        let to = self.ends.get(self.fetched.wrapping_sub(1)).copied();
+        (from.unwrap_or(0), to.unwrap_or(0))
+    }
+
+    /// The count of the plant with all of the fetched batch.
+    fn last_number(&self) -> u64 {
+        let (_, to) = self.held();
+        match self.entries.get(to.wrapping_sub(1)) {
+            Some(entry) => entry.number,
+            None => 0,
+        }
+    }
+
+    fn call(&mut self) -> Event {
+        let Stage::Held(made) = self.stage else {
+            return Event::Skipped;
+        };
+        let made = made.wrapping_add(1);
+        let last = self.last_number();
+        if last == self.stored || made == COMMIT {
+            self.stored = last;
+            self.stage = Stage::Stored;
+            return Event::Committed;
+        }
+        self.stage = Stage::Held(made);
+        Event::More
+    }
+
+    fn publish(&mut self) -> Event {
+        if self.stage != Stage::Stored {
+            return Event::Skipped;
+        }
+        self.published = self.last_number();
+        self.stage = Stage::Shown(0);
+        Event::Published
+    }
+
+    fn release(&mut self) -> Result<Event, AllocError> {
+        let Stage::Shown(released) = self.stage else {
+            return Ok(Event::Skipped);
+        };
+        let (from, to) = self.held();
+        let place = from.wrapping_add(released);
+        if place >= to {
+            return Ok(Event::Skipped);
+        }
+        let Some(entry) = self.entries.get(place) else {
+            return Ok(Event::Skipped);
+        };
+        let (slot, number) = (entry.slot, entry.number);
+        if let Some(line) = self.lines.get_mut(slot.number() as usize) {
+            line.released.push(place)?;
+        }
+        self.floor = self.floor.max(number);
+        self.stage = Stage::Shown(released.wrapping_add(1));
+        Ok(Event::Released(slot))
+    }
+
+    fn give_back(&mut self) -> Event {
+        let Stage::Shown(released) = self.stage else {
+            return Event::Skipped;
+        };
+        let (from, to) = self.held();
+        if from.wrapping_add(released) < to {
+            return Event::Skipped;
+        }
+        self.given = self.given.wrapping_add(1);
+        self.stage = Stage::Nothing;
+        Event::GaveBack
+    }
+
+    fn receive(&mut self, slot: Slot) -> Event {
+        let Some(line) = self.lines.get_mut(slot.number() as usize) else {
+            return Event::Skipped;
+        };
+        let Some(place) = line.released.get(line.received) else {
+            return Event::Skipped;
+        };
+        line.received = line.received.wrapping_add(1);
+        match self.entries.get(*place) {
+            Some(entry) => Event::Received(entry.serial, entry.verdict, entry.number),
+            None => Event::Skipped,
+        }
+    }
+
+    fn look(&mut self, query: &Query) -> Event {
+        if !exists(query) {
+            return Event::Skipped;
+        }
+        self.floor = self.floor.max(self.published);
+        Event::Looked(self.published)
+    }
+
+    /// The power fails; the pending bytes stay as they read, or some of them become other bytes.
+    fn crash(&mut self, as_read: bool) -> Event {
+        if !self.closed {
+            self.sure = self.stored;
+            self.may = self.stored;
+            // The gate of the batch is written, and not yet synced.
+            if self.stage == Stage::Held(3) {
+                self.may = self.last_number();
+                if as_read {
+                    self.sure = self.may;
+                }
+            }
+        }
+        self.closed = true;
+        Event::Crashed
+    }
+
+    /// All but the accepted actions that were recovered is gone.
+    fn reopen(&mut self, seen: Event) -> Result<Event, AllocError> {
+        if !self.closed {
+            return Ok(Event::Skipped);
+        }
+        let count = if seen == Event::Opened(self.may) {
+            self.may
+        } else {
+            self.sure
+        };
+        if count < self.floor {
+            return Ok(Event::Skipped);
+        }
+        self.refold(count)?;
+        self.lines = lines(self.alloc)?;
+        self.entries = Vec::new(self.alloc);
+        self.ends = Vec::new(self.alloc);
+        self.fetched = 0;
+        self.given = 0;
+        self.stage = Stage::Nothing;
+        self.stored = count;
+        self.published = count;
+        self.closed = false;
+        Ok(Event::Opened(count))
+    }
+
+    /// The plant of the first accepted actions.
+    fn refold(&mut self, count: u64) -> Result<(), AllocError> {
+        let mut plant = PlainPlant::new(self.alloc, &self.table)?;
+        self.accepted.truncate(count as usize);
+        for action in &self.accepted {
+            if plant.admits(action).is_ok() {
+                plant.apply(action);
+            }
+        }
+        self.plant = plant;
+        Ok(())
+    }
+}
