@@ -1,6 +1,9 @@
 //! The whole life of a device under any steps.
 
-ghost use Rattle.std.specs.Prelude.{IfOk};
+ghost use Rattle.std.specs.Prelude.{◌≡◌, ℕ, false, length, IfOk, IfErr};
+ghost use Rattle.alm_disk.specs.Failures.{HasFailed};
+ghost use Rattle.alm_checkpoint.specs.Headers.{suits};
+ghost use Rattle.alm_keeper.specs.Moments.{Formats, FailsIn};
 ghost use Rattle.alm_model.specs.New.{new_plant};
 ghost use Rattle.alm_model.specs.Plant.{Condensed};
 ghost use Rattle.alm_store.specs.Keepers.{StandsFor, IsSpent};
@@ -31,20 +34,26 @@ pub fn life<D: Crashable + Drop>(
 
 /// The headline from the first byte on: an honest device is formatted for a table, and goes through these steps. At first it stands
 /// for the table's new plant.
+///
+/// Refused where `format` refuses, and for want of memory.
 pub fn whole_life<D: Crashable + Drop>(
     alloc: Global,
     disk: D,
     table: &Table,
     steps: &[Step],
 ) -> Result<Vec<Event>, FormatFault>
-    ensures { D.honest disk →
+    ensures run { D.honest disk →
         IfOk result (λ trace. (formatted last : Sight) × StandOnly formatted.state (new_plant table.now) × IsRun StandsFor IsSpent (shut (first (new_plant table.now))) formatted steps.now trace.items last) }
+    ensures too_small { IfErr result (λ fault. fault ≡ FormatFault.TooSmall → (n : ℕ) → suits (D.size disk) (length table.now.alarms) table.now.areas n ≡ false) }
+    // The device calls that were made, of which the last failed.
+    ensures failed { IfErr result (λ fault. fault ≡ FormatFault.Disk → (left : D) × HasFailed (D.failures disk) (D.failures left) ×
+        Formats FailsIn D.serves D.state (D.honest disk × ((D.state disk).faulted ≡ false)) (D.size disk) table.now disk left) }
 {
     match format(alloc, disk, table) {
         Ok(disk) => match life(alloc, disk, steps) {
             Ok(trace) => Ok(trace),
             Err(AllocError) => Err(FormatFault::OutOfMemory),
         },
-        Err((fault, _)) => Err(fault),
+        Err((fault, _left)) => Err(fault),
     }
 }

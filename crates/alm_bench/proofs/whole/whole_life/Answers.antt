@@ -5,8 +5,8 @@ use Rattle.alm_store.specs.Keepers.{StandsFor}
 use Rattle.alm_bench.specs.Headline.{StandOnly}
 use Rattle.alm_bench.proofs.whole.whole_life.Goals as goal
 
-pub returns-in-Ok-life : goal.returns-in-Ok-life
-returns-in-Ok-life g c = λ honest.
+pub returns-in-Ok-life-clause-run : goal.returns-in-Ok-life-clause-run
+returns-in-Ok-life-clause-run g c = λ honest.
     let state = g.D.Disk.state c.in-Ok.disk in
     let plant = new_plant c.args.table.now in
     let settled = c.in-Ok.ensures.settled honest in
