@@ -8,7 +8,6 @@ pub mod Calls
 pub mod Ready
 pub mod Results
 pub mod Shown
-pub mod Ordered
 pub mod Placing
 pub mod Counts
 pub mod Carried

@@ -27,7 +27,6 @@ mod named;
 mod opened;
 mod parts;
 mod setup;
-mod slots;
 mod step;
 mod whole;
 

@@ -10,12 +10,11 @@ ghost use Rattle.alm_bench.specs.World.{fresh};
 ghost use Rattle.alm_bench.specs.Matches.{IsOpen};
 
 use crate::parts::Parts;
-use crate::slots::{Ends, open_slots};
 use alm_board::PlainBoard;
 use alm_flusher::Flusher;
 use alm_keeper::{OpenFault, Phase};
 use alm_model::Alarms;
-use alm_rings::{batches_beside, open_batches};
+use alm_rings::{SlotEnds, batches_beside, open_batches, open_slots};
 use alm_sequencer::Sequencer;
 use alm_store::Store;
 use std::alloc::Global;
@@ -29,7 +28,7 @@ fn furnish<K: Store>(alloc: Global, store: K) -> Result<Parts<K>, K>
     ensures refused { IfErr result (λ back. back ≡ store) }
 {
     let Ok(
-        Ends {
+        SlotEnds {
             consoles,
             inboxes,
             outboxes,

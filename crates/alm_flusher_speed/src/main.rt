@@ -10,9 +10,9 @@ mod round;
 
 use alm_disk::{Disk, MemDisk};
 use alm_file::FileDisk;
-use alm_flusher_tests::ends::open_ends;
 use alm_flusher_tests::opened::open_formatted;
 use alm_flusher_tests::parts::Parts;
+use alm_rings::open_slots;
 use alm_store::Store;
 use alm_types::Request;
 use anyhow::{Result, anyhow};
@@ -80,7 +80,7 @@ fn time_over<D: Disk + Drop>(
     let table = table(alloc, alarms)?;
     let mut asked = Vec::with_capacity(alloc, 256)?;
     let store = open_formatted(alloc, &table, disk)?;
-    let mut parts = Parts::new(alloc, open_ends(alloc)?, store)?;
+    let mut parts = Parts::new(alloc, open_slots(alloc)?, store)?;
     let timed = time_courses(rt, &mut parts, &mut asked, courses);
     drop(parts.flusher.into_keeper().into_disk());
     timed

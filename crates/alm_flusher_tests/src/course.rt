@@ -2,13 +2,13 @@
 
 ghost use Rattle.std.specs.Prelude.{◌≡◌, ◌≤◌, ◌^◌, IfOk};
 
-use crate::ends::open_ends;
 use crate::opened::open_formatted;
 use crate::parts::Parts;
 use alm_board::{Board, Look, Seen};
 use alm_disk::MemDisk;
 use alm_flusher::{Advance, Fetch, Publishes, Release};
 use alm_keeper::{Keeper, Stage};
+use alm_rings::open_slots;
 use alm_sequencer::{Seal, Take};
 use alm_service::worked_table;
 use alm_store::Store;
@@ -122,7 +122,7 @@ pub fn play(
 ) -> Result<Played, AllocError> {
     let mut answer = Answer::new(alloc);
     let store = open_worked(alloc, size, calls)?;
-    let mut parts = Parts::new(alloc, open_ends(alloc)?, store)?;
+    let mut parts = Parts::new(alloc, open_slots(alloc)?, store)?;
     let differs_at = parts.differs_at(course, &mut answer);
     let keeper = parts.flusher.into_keeper();
     let count = keeper.count();

@@ -7,7 +7,6 @@
 
 #[cfg(test)]
 mod course;
-pub mod ends;
 pub mod opened;
 pub mod parts;
 #[cfg(test)]

@@ -3,13 +3,12 @@
 ghost use Rattle.std.specs.Prelude.{◌≡◌, ◌<◌, ℕ, IsSome};
 ghost use Rattle.alm_rings.specs.Placed.{inbox_at};
 
-use crate::ends::Ends;
 use alm_board::{PlainBoard, PlainTold};
 use alm_flusher::{Advance, Fetch, Flusher, Publishes, Release};
 use alm_keeper::Phase;
 use alm_model::Alarms;
 use alm_plant::Plant;
-use alm_rings::{Console, Receipt, batches_beside, open_batches};
+use alm_rings::{Console, Receipt, SlotEnds, batches_beside, open_batches};
 use alm_sequencer::{Seal, Sequencer, Take};
 use alm_store::Store;
 use alm_types::{Action, Slot};
@@ -25,14 +24,15 @@ pub struct Parts<K: Store> {
 }
 
 impl<K: Store> Parts<K> {
-    ghost use Rattle.std.specs.Prelude.{◌≡◌, ◌≤◌, ◌^◌, []};
-    ghost use Rattle.alm_rings.specs.Ends.{taken_of, released_of};
-    ghost use Rattle.alm_flusher_tests.specs.Fresh.{AreFresh};
+    ghost use Rattle.std.specs.Prelude.{◌≡◌, ◌<◌, ◌≤◌, ◌^◌, ℕ, [], IsSome};
+    ghost use Rattle.alm_rings.specs.Placed.{AreApart, inbox_at, taken_by, released_by};
 
     /// The parts of these new ends over a store at rest.
-    pub fn new(alloc: Global, ends: Ends, store: K) -> Result<Self, AllocError>
-        requires inboxes { AreFresh (λ i. i.slot) (λ i. taken_of i ≡ []) 18 ends.inboxes.items }
-        requires outboxes { AreFresh (λ o. o.slot) (λ o. released_of o ≡ []) 18 ends.outboxes.items }
+    pub fn new(alloc: Global, ends: SlotEnds<PlainTold>, store: K) -> Result<Self, AllocError>
+        requires apart { AreApart (λ i. i.slot) ends.inboxes.items × AreApart (λ o. o.slot) ends.outboxes.items }
+        requires all { (s : ℕ) → s < 18 → IsSome (inbox_at s ends.inboxes.items) }
+        requires taken { (s : ℕ) → taken_by s ends.inboxes.items ≡ [] }
+        requires released { (s : ℕ) → released_by s ends.outboxes.items ≡ [] }
         requires idle { K.phase store ≡ Phase.Idle }
         requires limit { (K.stored store).panel.count ≤ 2 ^ 48 }
     {
@@ -40,7 +40,7 @@ impl<K: Store> Parts<K> {
         let shown = store.stored().copy(alloc)?;
         let (mut seal, mut fetch) = open_batches(alloc)?;
         batches_beside(&mut seal, &mut fetch);
-        let Ends {
+        let SlotEnds {
             consoles,
             inboxes,
             outboxes,

@@ -1,15 +1,13 @@
 //! All slots at once.
 
-ghost use Rattle.std.specs.Prelude.{◌≡◌, [], IfOk};
-ghost use Rattle.alm_rings.specs.Ends.{taken_of, released_of};
-ghost use Rattle.alm_flusher_tests.specs.Fresh.{AreFresh};
+ghost use Rattle.std.specs.Prelude.{◌≡◌, ◌<◌, ℕ, [], IfOk, IsSome};
+ghost use Rattle.alm_rings.specs.Placed.{AreApart, inbox_at, taken_by, released_by};
 
 use crate::course::{Call, Outcome, differs_at, open_worked};
-use crate::ends::{Ends, open_ends};
 use crate::parts::Parts;
 use alm_board::{Board, PlainTold};
 use alm_flusher::Release;
-use alm_rings::{Console, Outbox, Receipt};
+use alm_rings::{Console, Outbox, Receipt, SlotEnds, open_slots};
 use alm_sequencer::{Seal, Take};
 use alm_store::Store;
 use alm_types::{Action, AlarmId, Answer, Moment, Reading, Refusal, Slot, Verdict};
@@ -210,19 +208,21 @@ fn hears(consoles: &mut Vec<Console<PlainTold>>, first: u64, last: u64) -> bool 
 /// The ends of a ring that fills: replies go to consoles that receive none, so that requests may go on.
 #[derive(Drop)]
 struct Crossed {
-    ends: Ends,
+    ends: SlotEnds<PlainTold>,
     answers: Vec<Outbox<PlainTold>>,
     deaf: Vec<Console<PlainTold>>,
 }
 
 fn cross_ends(alloc: Global) -> Result<Crossed, AllocError>
-    ensures inboxes { IfOk result (λ x. AreFresh (λ i. i.slot) (λ i. taken_of i ≡ []) 18 x.ends.inboxes.items) }
-    ensures outboxes { IfOk result (λ x. AreFresh (λ o. o.slot) (λ o. released_of o ≡ []) 18 x.ends.outboxes.items) }
+    ensures apart { IfOk result (λ x. AreApart (λ i. i.slot) x.ends.inboxes.items × AreApart (λ o. o.slot) x.ends.outboxes.items) }
+    ensures all { IfOk result (λ x. (s : ℕ) → s < 18 → IsSome (inbox_at s x.ends.inboxes.items)) }
+    ensures taken { IfOk result (λ x. (s : ℕ) → taken_by s x.ends.inboxes.items ≡ []) }
+    ensures released { IfOk result (λ x. (s : ℕ) → released_by s x.ends.outboxes.items ≡ []) }
 {
-    let first = open_ends(alloc)?;
-    let second = open_ends(alloc)?;
+    let first = open_slots(alloc)?;
+    let second = open_slots(alloc)?;
     Ok(Crossed {
-        ends: Ends {
+        ends: SlotEnds {
             consoles: first.consoles,
             inboxes: first.inboxes,
             outboxes: second.outboxes,

@@ -9,7 +9,7 @@
 //! | sealed batches | [`SealEnds::seal`] | [`FetchEnds::fetch`] |
 //! | empty batches | [`FetchEnds::give_back`] | [`SealEnds::empty`] |
 //!
-//! [`open_slot`] and [`open_batches`] take all the memory that there is to take. No other call takes any, and none waits:
+//! [`open_slot`], [`open_slots`] and [`open_batches`] take all the memory that there is to take. No other call takes any, and none waits:
 //! where a ring is not known to have a place, what was to go in comes back, and where it is not known to hold an item,
 //! none comes out. Each such answer has its causes in the contract, and changes nothing.
 //!
@@ -24,6 +24,7 @@
 //! It is not promised that anything sent is ever taken, nor anything released ever received.
 #![tactic(auto)]
 
+mod all_slots;
 mod batches;
 mod busy;
 mod console;
@@ -38,6 +39,7 @@ mod slot;
 mod slot_report;
 mod told;
 
+pub use all_slots::{SlotEnds, open_slots};
 pub use batches::{batches_beside, open_batches};
 pub use busy::Busy;
 pub use console::Console;

@@ -8,8 +8,11 @@ ghost use Rattle.alm_rings.specs.declared.outbox.Outbox.{Outbox};
 ghost use Rattle.alm_rings.specs.Ends.{sent_of, received_of};
 ghost use Rattle.alm_rings.specs.Placed.{AreApart, inbox_at, outbox_at, taken_by, released_by};
 
-use alm_board::PlainTold;
-use alm_rings::{Console, Inbox, Outbox, open_slot};
+use crate::console::Console;
+use crate::inbox::Inbox;
+use crate::outbox::Outbox;
+use crate::slot::open_slot;
+use crate::told::Told;
 use alm_types::Slot;
 use std::alloc::{AllocError, Global};
 
@@ -18,14 +21,14 @@ const SLOTS: u8 = 18;
 
 /// The ends of all slots, in the order of the slots.
 #[derive(Drop)]
-pub struct Ends {
-    pub consoles: Vec<Console<PlainTold>>,
+pub struct SlotEnds<T: Told + Drop> {
+    pub consoles: Vec<Console<T>>,
     pub inboxes: Vec<Inbox>,
-    pub outboxes: Vec<Outbox<PlainTold>>,
+    pub outboxes: Vec<Outbox<T>>,
 }
 
-/// Opens all slots.
-pub fn open_slots(alloc: Global) -> Result<Ends, AllocError>
+/// The ends of all slots, new; an error only for want of memory.
+pub fn open_slots<T: Told + Drop>(alloc: Global) -> Result<SlotEnds<T>, AllocError>
     ensures count { IfOk result (λ e. length e.consoles.items ≡ 18) }
     ensures apart { IfOk result (λ e. AreApart (λ i. i.slot) e.inboxes.items × AreApart (λ o. o.slot) e.outboxes.items) }
     ensures inboxes { IfOk result (λ e. (s : ℕ) → s < 18 → IsSome (inbox_at s e.inboxes.items)) }
@@ -50,7 +53,7 @@ pub fn open_slots(alloc: Global) -> Result<Ends, AllocError>
             None => unreachable!(),
         }
     }
-    Ok(Ends {
+    Ok(SlotEnds {
         consoles,
         inboxes,
         outboxes,
