@@ -1,4 +1,4 @@
--- The parts of a bench are those of a world.
+-- The parts of a bench are those of a world. For the proofs: no public call's reader needs it.
 use Rattle.std.specs.Prelude.{◌≡◌, ◌≢◌, ◌<◌, ◌≤◌, ◌+◌, ◌^◌, ℕ, false, List, [], ◌∷◌, ◌++◌, length, slice_get, Some}
 use Rattle.alm_types.specs.declared.action.Action.{Action}
 use Rattle.alm_types.specs.declared.entry.Entry.{Entry}
@@ -31,6 +31,7 @@ use Rattle.alm_bench.specs.declared.event.Event.{Event}
 use Rattle.alm_bench.specs.declared.event.Event.TheVariants.{More, Committed, Failed, Skipped}
 use Rattle.alm_bench.specs.World.{World, Stage, Nothing, Held, Stored, Shown, Note, after}
 
+-- how far the flusher's batch is
 abbrev pub stage_of : H.Held → Stage
 stage_of V.Nothing = Nothing
 stage_of (V.Fetched b) = Held b.entries
@@ -43,10 +44,12 @@ abbrev pub IsGivenUp : H.Held → Type 0
 IsGivenUp (V.Failed b) = Unit {0}
 IsGivenUp held = ⊥
 
+-- the entries of each batch
 abbrev pub lists_of : List Judged → List (List Entry)
 lists_of [] = []
 lists_of (b ∷ batches) = b.entries ∷ lists_of batches
 
+-- how many batches are held
 abbrev pub held_at : Stage → ℕ
 held_at Nothing = 0
 held_at stage = 1
@@ -60,6 +63,7 @@ pub record Batches (taking : List Entry) (sealed : List (List Entry)) (free : �
   pub eight : free + length sealed + held_at stage + 1 ≡ 8
 
 module _ {T : Type 0} {g : ToldGhosts T} where
+  -- what a receipt says
   abbrev pub note : Receipt T g → Note
   note r = record { serial = r.serial; verdict = r.verdict; number = r.number }
 
@@ -136,6 +140,7 @@ module _ {K D : Type 0} {g : Ghosts K D} {d : Disk.Ghosts D} where
   CallFits w Failed p = Fits w p
   CallFits w event p = IsOpen (after w Call event) p
 
+  -- the ends of a slot, and those of the batch rings, know what the others did
   abbrev pub Knows : ℕ → Parts K D g d → Type 0
   Knows s p = KnowsSlot s p.consoles.items p.sequencer.inboxes.items p.flusher.outboxes.items
 

@@ -254,3 +254,62 @@ fn a_bench_goes_on_where_it_was(rt: HostRuntime) -> Result<(), Fail> {
     assert!(rt; goes_on(alloc, formatted(alloc, CALLS)?, console));
     Ok(())
 }
+
+/// One action of the clock from its request to its receipt, with so many device calls.
+fn tick(
+    steps: &mut Vec<Step>,
+    wanted: &mut Vec<Event>,
+    clock: Slot,
+    turn: u64,
+    calls: u32,
+) -> Result<(), Fail> {
+    let now = Action::Clock(Moment::new(turn).ok_or("moment")?);
+    let verdict = Verdict::Accepted(now);
+    steps.push(Step::Send(clock, now))?;
+    wanted.push(Event::Sent(turn))?;
+    steps.push(Step::Take(clock))?;
+    wanted.push(Event::Took(verdict))?;
+    steps.push(Step::Seal)?;
+    wanted.push(Event::Sealed)?;
+    steps.push(Step::Fetch)?;
+    wanted.push(Event::Fetched)?;
+    for call in 1..=calls {
+        steps.push(Step::Call)?;
+        wanted.push(if call == calls {
+            Event::Committed
+        } else {
+            Event::More
+        })?;
+    }
+    steps.push(Step::Publish)?;
+    wanted.push(Event::Published)?;
+    steps.push(Step::Release)?;
+    wanted.push(Event::Released(clock))?;
+    steps.push(Step::GiveBack)?;
+    wanted.push(Event::GaveBack)?;
+    steps.push(Step::Receive(clock))?;
+    wanted.push(Event::Received(turn, verdict, turn))?;
+    Ok(())
+}
+
+/// A segment of 4,116 bytes takes 117 frames of one action, each of 35 bytes, and a closed gate behind them. The next commit begins with a
+/// checkpoint, which is four calls.
+#[test]
+fn a_full_segment_makes_a_checkpoint_first(rt: HostRuntime) -> Result<(), Fail> {
+    let alloc = rt.alloc();
+    let clock = Slot::new(17).ok_or("slot")?;
+    let mut steps = Vec::new(alloc);
+    let mut wanted = Vec::new(alloc);
+    steps.push(Step::Reopen)?;
+    wanted.push(Event::Opened(0))?;
+    for turn in 1..=119 {
+        let calls = if turn == 118 { 8 } else { 4 };
+        tick(&mut steps, &mut wanted, clock, turn, calls)?;
+    }
+    steps.push(Step::Crash(Vec::new(alloc)))?;
+    wanted.push(Event::Crashed)?;
+    steps.push(Step::Reopen)?;
+    wanted.push(Event::Opened(119))?;
+    assert_eq!(rt; differs_at(&trace(alloc, CALLS, &steps)?, &wanted), None);
+    Ok(())
+}
