@@ -1,7 +1,11 @@
 -- What a store's laws are of a keeper.
 use Rattle.std.specs.Prelude.{◌≡◌, List, ℕ}
 use Rattle.std.proofs.Common.{refl, ap}
+use Rattle.alm_disk.specs.Device.{IsBytes}
 use Rattle.alm_model.specs.Plant.{Condensed}
+use Rattle.alm_model.specs.Rules.{KeepsRules}
+use Rattle.alm_checkpoint.proofs.CutOf.{stands_cut}
+use Rattle.alm_checkpoint.proofs.Turned.{rules_stored}
 use Rattle.alm_checkpoint.proofs.Unique.{stands_once}
 use Rattle.alm_keeper.specs.declared.phase.Phase.TheVariants as at
 use Rattle.alm_keeper.specs.declared.stage.Stage.{Stage}
@@ -34,3 +38,7 @@ rests k idle = ap (λ (s : Stage). (next_by s k.stored k.begun).plant) (is_idle 
 -- no bytes stand for two plants
 pub stands_for_one : (bytes : List ℕ) (p q : Condensed) → StandsFor bytes p → StandsFor bytes q → p ≡ q
 stands_for_one bytes p q x y = (stands_once bytes x.0 y.0 p q x.1 y.1).1
+
+-- what bytes stand for keeps the rules of every plant
+pub keeps_rules : (bytes : List ℕ) (p : Condensed) → IsBytes bytes → StandsFor bytes p → KeepsRules p
+keeps_rules bytes p are x = let k = stands_cut bytes x.0 p x.1 are in rules_stored k.cut p k.stores
