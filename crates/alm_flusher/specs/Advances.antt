@@ -28,3 +28,10 @@ abbrev pub Begins : Phase → (left : ℕ) → (will_take : Type 0) → (actions
 Begins Committing left will_take actions = left ≤ 4
 Begins Copying left will_take actions = (left ≤ 6) × (actions ≤ 256 → will_take)
 Begins phase left will_take actions = ⊥
+
+-- no checkpoint is to be begun: work is under way, or the next frame takes the actions
+abbrev pub IsSure : Phase → (takes : Type 0) → Type 0
+IsSure Idle takes = takes
+IsSure Committing takes = Unit {0}
+IsSure Copying takes = Unit {0}
+IsSure Stopped takes = ⊥

@@ -7,7 +7,7 @@ ghost use Rattle.alm_model.specs.Rules.{AllAdmitted, admits_all};
 ghost use Rattle.alm_model.specs.Step.{run};
 ghost use Rattle.alm_keeper.specs.Calls.{IsCall};
 ghost use Rattle.alm_store.specs.Advancing.{IsCalls};
-ghost use Rattle.alm_flusher.specs.Advances.{Advances, Begins, Within};
+ghost use Rattle.alm_flusher.specs.Advances.{Advances, Begins, IsSure, Within};
 
 use crate::advance::Advance;
 use alm_keeper::{Phase, Progress};
@@ -30,6 +30,7 @@ fn start<K: Store>(store: &mut K, batch: &Batch) -> bool
     ensures next { IsTrue result → K.phase store.new ≡ Phase.Committing → K.next store.new ≡ run (K.stored store.old) (accepted_of batch.now.entries) }
     ensures copy { IsTrue result → K.phase store.new ≡ Phase.Copying → K.next store.new ≡ K.stored store.old }
     ensures admitted { IsTrue result → K.phase store.new ≡ Phase.Committing → admits_all (K.stored store.old) (accepted_of batch.now.entries) ≡ true }
+    ensures sure { K.takes store.old (accepted_of batch.now.entries) → batch.now.first ≡ (K.stored store.old).panel.count + 1 → AllAdmitted (K.stored store.old) (accepted_of batch.now.entries) → IsTrue result }
     ensures cause { K.honest store.old → ¬ (K.spent (K.device store.old)) → batch.now.first ≡ (K.stored store.old).panel.count + 1 → AllAdmitted (K.stored store.old) (accepted_of batch.now.entries) → IsTrue result }
 {
     if store.takes(batch) {
@@ -64,6 +65,7 @@ pub(crate) fn advance_by<K: Store>(store: &mut K, batch: &Batch) -> Advance
     ensures either { result ≢ Advance.Committed → ∥ (K.next store.new ≡ K.stored store.new) ⊎ (K.next store.new ≡ run (K.stored store.new) (accepted_of batch.now.entries)) ∥₁ }
     ensures rests { result ≡ Advance.Committed → ∥ K.next store.new ≡ K.stored store.new ∥₁ }
     ensures idle { accepted_of batch.now.entries ≡ [] → K.phase store.new ≢ Phase.Committing }
+    ensures sure { result ≡ Advance.Failed → IsSure (K.phase store.old) (K.takes store.old (accepted_of batch.now.entries)) → batch.now.first ≡ (K.stored store.old).panel.count + 1 → AllAdmitted (K.stored store.old) (accepted_of batch.now.entries) → HasFailed (K.failures store.old) (K.failures store.new) }
     ensures cause { result ≡ Advance.Failed → K.honest store.old → K.phase store.old ≢ Phase.Stopped → ¬ (K.spent (K.device store.old)) → batch.now.first ≡ (K.stored store.old).panel.count + 1 → AllAdmitted (K.stored store.old) (accepted_of batch.now.entries) → HasFailed (K.failures store.old) (K.failures store.new) }
 {
     if accepted_in(batch) == 0 {

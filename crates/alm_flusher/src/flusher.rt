@@ -94,7 +94,7 @@ impl<K: Store, T: Told + Drop, B: Board<Told = T>> Flusher<K, T, B> {
     ghost use Rattle.alm_rings.specs.Ends.{sent_of, received_of, coming_to, room_of, SameConsole};
     ghost use Rattle.rtrb.specs.Ring.{IsPair};
     ghost use Rattle.alm_rings.specs.declared.outbox.Outbox.{Outbox};
-    ghost use Rattle.alm_flusher.specs.Advances.{Within};
+    ghost use Rattle.alm_flusher.specs.Advances.{IsSure, Within};
     ghost use Rattle.alm_flusher.specs.Flushes.{FetchAnswers, AdvanceAnswers, PublishAnswers, ReleaseAnswers, GivesBack, IsDone, IsNext};
     ghost use Rattle.alm_flusher.specs.HeldBatch.{to_commit};
     ghost use Rattle.alm_rings.specs.declared.receipt.Receipt.{Receipt};
@@ -162,6 +162,8 @@ impl<K: Store, T: Told + Drop, B: Board<Told = T>> Flusher<K, T, B> {
         ensures count { K.failures self.old.store ≤ K.failures self.new.store }
         ensures going { K.phase self.old.store ≢ Phase.Stopped → result ≢ Advance.Failed → K.phase self.new.store ≢ Phase.Stopped }
         ensures held { AdvanceAnswers result (K.phase self.old.store) self.old.held self.new.held }
+        // Only the device fails once no checkpoint is to be begun any more.
+        ensures sure { result ≡ Advance.Failed → IsSure (K.phase self.old.store) (K.takes self.old.store (to_commit self.old.held)) → IsNext self.old.held (K.stored self.old.store) → HasFailed (K.failures self.old.store) (K.failures self.new.store) }
         // The first failure has a cause.
         ensures cause { result ≡ Advance.Failed → K.honest self.old.store → K.phase self.old.store ≢ Phase.Stopped → ¬ (K.spent (K.device self.old.store)) → IsNext self.old.held (K.stored self.old.store) → HasFailed (K.failures self.old.store) (K.failures self.new.store) }
     {
