@@ -7,7 +7,7 @@ use Rattle.alm_types.specs.declared.verdict.Verdict.{Verdict}
 use Rattle.alm_types.specs.Batches.{Judged}
 use Rattle.alm_model.specs.Plant.{Condensed}
 use Rattle.alm_model.specs.Step.{run}
-use Rattle.alm_model.specs.Judging.{accepted_of, after_verdict, entries_in}
+use Rattle.alm_model.specs.Judging.{accepted_of, after_verdict, verdict_of, entries_in}
 use Rattle.alm_disk.specs.declared.disk.Disk
 use Rattle.alm_rings.specs.declared.told.Told.{Ghosts as ToldGhosts}
 use Rattle.alm_rings.specs.declared.receipt.Receipt.{Receipt}
@@ -23,12 +23,18 @@ use Rattle.alm_keeper.specs.declared.phase.Phase.TheVariants.{Idle}
 use Rattle.alm_store.specs.declared.store.Store.{Ghosts}
 use Rattle.alm_flusher.specs.declared.held.Held.{Held}
 use Rattle.alm_flusher.specs.declared.held.Held.TheVariants.{Nothing, Fetched, Committed, Published}
+use Rattle.alm_session.specs.Answers.{request}
+use Rattle.alm_session.specs.declared.judged.Judged as J
 use Rattle.alm_stack.specs.declared.pipeline.Pipeline.{Pipeline}
 
 -- what a receipt says of a request: the verdict, and the action's number or the count against which it was refused
 pub record Note : Type 0 where
   pub verdict : Verdict
   pub number : ℕ
+
+-- a request was judged so
+abbrev pub IsNote : Note → J.Judged → Type 0
+IsNote note j = (j.verdict ≡ note.verdict) × (j.number ≡ note.number)
 
 -- where the one request is that is under way
 pub record Situation : Type 0 where
@@ -78,6 +84,17 @@ given_back x = record x { held = Nothing; free = 7 }
 
 abbrev pub received : Situation → Situation
 received x = record x { replies = []; unanswered = 0 }
+
+-- the batch of one request, which the flusher holds
+abbrev pub flushing : (base plant : Condensed) → Held → Situation
+flushing base plant held = record (resting base plant) { held = held; free = 6; unanswered = 1 }
+
+-- a batch has one request of a slot, judged on a plant
+pub record IsJudgedIn (slot : ℕ) (want : Action) (plant : Condensed) (b : Judged) : Type 0 where
+  pub entry : Entry
+  pub of : entry.slot ≡ slot
+  pub verdict : entry.verdict ≡ verdict_of plant (request slot want)
+  pub only : b.entries ≡ entry ∷ []
 
 module _ {T : Type 0} {t : ToldGhosts T} where
   abbrev pub note_of : Receipt T t → Note

@@ -1,5 +1,6 @@
 //! The whole stack over a device, in one thread.
 #![tactic(auto)]
 
+mod judging;
 mod pipeline;
 mod slots;
