@@ -54,7 +54,7 @@ pub(crate) fn advance_by<K: Store>(store: &mut K, batch: &Batch) -> Advance
     ensures taken { K.phase store.old ≡ Phase.Idle → K.takes store.old (accepted_of batch.now.entries) → result ≡ Advance.More → K.phase store.new ≡ Phase.Committing }
     ensures ends { (m : ℕ) → result ≡ Advance.More → Within (m + 1) (K.phase store.old) (K.left store.old) (K.takes store.old (accepted_of batch.now.entries)) (K.will_take store.old (accepted_of batch.now.entries)) (length (accepted_of batch.now.entries))
         → Within m (K.phase store.new) (K.left store.new) (K.takes store.new (accepted_of batch.now.entries)) (K.will_take store.new (accepted_of batch.now.entries)) (length (accepted_of batch.now.entries)) }
-    ensures at_rest { result ≡ Advance.Committed → (store.new ≡ store.old) ⊎ (K.phase store.new ≡ Phase.Idle) }
+    ensures at_rest { result ≡ Advance.Committed → ((accepted_of batch.now.entries ≡ []) × (store.new ≡ store.old)) ⊎ (K.phase store.new ≡ Phase.Idle) }
     ensures count { K.failures store.old ≤ K.failures store.new }
     ensures going { result ≢ Advance.Failed → K.phase store.new ≢ Phase.Stopped }
     ensures answer { Advances result (K.phase store.old) (K.phase store.new) (K.stored store.old) (K.stored store.new) (accepted_of batch.now.entries) }

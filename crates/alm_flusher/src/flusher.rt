@@ -158,7 +158,7 @@ impl<K: Store, T: Told + Drop, B: Board<Told = T>> Flusher<K, T, B> {
         // A batch is committed in a bounded number of steps: 12 where the store is idle.
         ensures ends { (m : ℕ) → result ≡ Advance.More → Within (m + 1) (K.phase self.old.store) (K.left self.old.store) (K.takes self.old.store (to_commit self.old.held)) (K.will_take self.old.store (to_commit self.old.held)) (length (to_commit self.old.held))
             → Within m (K.phase self.new.store) (K.left self.new.store) (K.takes self.new.store (to_commit self.new.held)) (K.will_take self.new.store (to_commit self.new.held)) (length (to_commit self.new.held)) }
-        ensures at_rest { result ≡ Advance.Committed → (self.new.store ≡ self.old.store) ⊎ (K.phase self.new.store ≡ Phase.Idle) }
+        ensures at_rest { result ≡ Advance.Committed → ((to_commit self.old.held ≡ []) × (self.new.store ≡ self.old.store)) ⊎ (K.phase self.new.store ≡ Phase.Idle) }
         ensures count { K.failures self.old.store ≤ K.failures self.new.store }
         ensures going { K.phase self.old.store ≢ Phase.Stopped → result ≢ Advance.Failed → K.phase self.new.store ≢ Phase.Stopped }
         ensures held { AdvanceAnswers result (K.phase self.old.store) self.old.held self.new.held }

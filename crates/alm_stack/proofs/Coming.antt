@@ -1,5 +1,5 @@
 -- What comes out of rings in which one thing waits.
-use Rattle.std.proofs.Common.{◌≡◌, ◌<◌, ℕ, List, [], ◌∷◌, ◌++◌, length, refl, sym, ◌∙◌, ap, suc}
+use Rattle.std.proofs.Common.{◌≡◌, ◌<◌, ℕ, List, [], ◌∷◌, ◌++◌, length, refl, sym, ◌∙◌, ap, suc, Option, Some, None, IfSome}
 use mathlib.Core.List.{IsPrefix}
 use Rattle.alm_rings.specs.declared.told.Told.{Ghosts}
 use Rattle.alm_rings.specs.declared.receipt.Receipt.{Receipt}
@@ -16,6 +16,10 @@ first_of (z ∷ known) later x y is p =
     let same : z ≡ x = cc (p.1) in
     let here : z ≡ y = cc is in
     sym same ∙ here
+
+pub if_some : {A : Type 0} {P Q : A → Type 0} (o : Option A) → IfSome o P → ((a : A) → P a → Q a) → IfSome o Q
+if_some None p f = tt
+if_some (Some a) p f = f a p
 
 module _ {T : Type 0} {t : Ghosts T} where
   pub notes_append : (xs ys : List (Receipt T t)) → notes_of (xs ++ ys) ≡ notes_of xs ++ notes_of ys

@@ -190,10 +190,16 @@ impl<K: Store> Pipeline<K> {
             → (b : B.Judged) × (j : IsJudgedIn slot want plant b) × IsAt slot (flushing base (after_verdict plant j.entry.verdict) (H.Fetched b)) console.new self.new }
         ensures spent { result ≡ false → (base plant : Condensed) → IsAt slot (resting base plant) console.old self.old → (2 ^ 64 ≤ length (sent_of console.old) + 1) × (self.new.flusher.held ≡ H.Nothing) }
     {
-        self.send(slot, console, want)
-            && self.take(slot, console)
-            && self.seal(slot, console)
-            && self.fetch(slot, console)
+        if !self.send(slot, console, want) {
+            return false;
+        }
+        if !self.take(slot, console) {
+            return false;
+        }
+        if !self.seal(slot, console) {
+            return false;
+        }
+        self.fetch(slot, console)
     }
 
     /// Commits the batch that is held: whether that was done.
@@ -201,7 +207,7 @@ impl<K: Store> Pipeline<K> {
         ensures same { (self.new.sequencer ≡ self.old.sequencer) × (self.new.flusher.board ≡ self.old.flusher.board) × (self.new.flusher.outboxes ≡ self.old.flusher.outboxes) × (self.new.flusher.before.value ≡ self.old.flusher.before.value) × (self.new.flusher.fetch ≡ self.old.flusher.fetch) }
         ensures honest { K.honest self.old.flusher.store ↔ K.honest self.new.flusher.store }
         ensures count { K.failures self.old.flusher.store ≤ K.failures self.new.flusher.store }
-        ensures done { IsTrue result → (b : B.Judged) → self.old.flusher.held ≡ H.Fetched b → K.phase self.old.flusher.store ≡ Phase.Idle → (self.new.flusher.held ≡ H.Committed b) × (K.phase self.new.flusher.store ≡ Phase.Idle) }
+        ensures done { IsTrue result → (b : B.Judged) → self.old.flusher.held ≡ H.Fetched b → K.phase self.old.flusher.store ≡ Phase.Idle → length (accepted_of b.entries) ≤ 256 → (self.new.flusher.held ≡ H.Committed b) × (K.phase self.new.flusher.store ≡ Phase.Idle) }
         ensures failed { result ≡ false → (b : B.Judged) → self.old.flusher.held ≡ H.Fetched b → K.phase self.old.flusher.store ≡ Phase.Idle → length (accepted_of b.entries) ≤ 256 → self.new.flusher.held ≡ H.Failed b }
         ensures cause { result ≡ false → (b : B.Judged) → self.old.flusher.held ≡ H.Fetched b → K.phase self.old.flusher.store ≡ Phase.Idle → length (accepted_of b.entries) ≤ 256
             → IsNext (H.Fetched b) (K.stored self.old.flusher.store) → K.honest self.old.flusher.store → ¬ (K.spent (K.device self.old.flusher.store)) → HasFailed (K.failures self.old.flusher.store) (K.failures self.new.flusher.store) }
