@@ -1,2 +1,4 @@
 pub mod Coming
 pub mod Ordered
+pub mod Stored
+pub mod Verdicts

@@ -1,5 +1,5 @@
 -- One request on its way through rings, sequencer and flusher.
-use Rattle.std.specs.Prelude.{◌≡◌, ◌≢◌, ◌+◌, ◌<◌, ◌≤◌, ℕ, List, [], ◌∷◌, ◌++◌, length, Some, None, IsSome}
+use Rattle.std.specs.Prelude.{◌≡◌, ◌≢◌, ◌⊎◌, ◌+◌, ◌<◌, ◌≤◌, ℕ, List, [], ◌∷◌, ◌++◌, length, Some, None, IsSome}
 use Rattle.rtrb.specs.Ring.{IsPair}
 use Rattle.alm_types.specs.declared.action.Action.{Action}
 use Rattle.alm_types.specs.declared.entry.Entry.{Entry}
@@ -7,7 +7,7 @@ use Rattle.alm_types.specs.declared.verdict.Verdict.{Verdict}
 use Rattle.alm_types.specs.Batches.{Judged}
 use Rattle.alm_model.specs.Plant.{Condensed}
 use Rattle.alm_model.specs.Step.{run}
-use Rattle.alm_model.specs.Judging.{accepted_of, after_verdict, verdict_of, entries_in}
+use Rattle.alm_model.specs.Judging.{accepted_of, after_verdict, when_accepted, verdict_of, entries_in}
 use Rattle.alm_disk.specs.declared.disk.Disk
 use Rattle.alm_rings.specs.declared.told.Told.{Ghosts as ToldGhosts}
 use Rattle.alm_rings.specs.declared.receipt.Receipt.{Receipt}
@@ -23,6 +23,7 @@ use Rattle.alm_keeper.specs.declared.phase.Phase.TheVariants.{Idle}
 use Rattle.alm_store.specs.declared.store.Store.{Ghosts}
 use Rattle.alm_flusher.specs.declared.held.Held.{Held}
 use Rattle.alm_flusher.specs.declared.held.Held.TheVariants.{Nothing, Fetched, Committed, Published}
+use Rattle.alm_flusher.specs.HeldBatch.{waiting_of}
 use Rattle.alm_session.specs.Answers.{request}
 use Rattle.alm_session.specs.declared.judged.Judged as J
 use Rattle.alm_stack.specs.declared.pipeline.Pipeline.{Pipeline}
@@ -95,6 +96,10 @@ pub record IsJudgedIn (slot : ℕ) (want : Action) (plant : Condensed) (b : Judg
   pub of : entry.slot ≡ slot
   pub verdict : entry.verdict ≡ verdict_of plant (request slot want)
   pub only : b.entries ≡ entry ∷ []
+
+-- no action waits at the flusher, or the one of this verdict
+abbrev pub MayWait : Held → Verdict → Type 0
+MayWait held verdict = (accepted_of (waiting_of held) ≡ []) ⊎ (accepted_of (waiting_of held) ≡ when_accepted verdict)
 
 module _ {T : Type 0} {t : ToldGhosts T} where
   abbrev pub note_of : Receipt T t → Note

@@ -19,7 +19,7 @@ pub struct Pipeline<K: Store> {
 }
 
 impl<K: Store> Pipeline<K> {
-    ghost use Rattle.std.specs.Prelude.{◌≡◌, ◌≤◌, ◌+◌, ◌^◌, ◌∷◌, ◌⊎◌, ◌↔◌, [], ℕ, length, IsTrue, IfSome, IsNone, false};
+    ghost use Rattle.std.specs.Prelude.{◌≡◌, ◌<◌, ◌≤◌, ◌+◌, ◌^◌, ◌∷◌, ◌⊎◌, ◌↔◌, [], ℕ, length, IsTrue, IfSome, IsNone, false};
     ghost use Rattle.alm_types.specs.declared.action.Action.{Action};
     ghost use Rattle.alm_types.specs.declared.entry.Entry.{Entry};
     ghost use Rattle.alm_types.specs.Batches as B;
@@ -30,8 +30,10 @@ impl<K: Store> Pipeline<K> {
     ghost use Rattle.alm_rings.specs.Ends.{sent_of};
     ghost use Rattle.alm_flusher.specs.Flushes.{IsNext};
     ghost use Rattle.alm_flusher.specs.declared.held.Held.TheVariants as H;
+    ghost use Rattle.alm_model.specs.Accept.{accept};
     ghost use Rattle.alm_session.specs.Answers.{request};
-    ghost use Rattle.alm_stack.specs.Passing.{Situation, Note, AreLinked, Knows, IsAt, KeepsOthers, resting, sent, taken, sealed_as, fetched, committed, published, released, given_back, received, flushing, IsJudgedIn, IsNote};
+    ghost use Rattle.alm_session.specs.Backends.{judged, if_accepted};
+    ghost use Rattle.alm_stack.specs.Passing.{Situation, Note, AreLinked, Knows, IsAt, KeepsOthers, resting, sent, taken, sealed_as, fetched, committed, published, released, given_back, received, flushing, IsJudgedIn, IsNote, MayWait};
 
     /// Tells the ends of a slot, and those of the batch rings, what the others did.
     fn tell(&mut self, slot: Slot, console: &mut Console<PlainTold>)
@@ -242,5 +244,33 @@ impl<K: Store> Pipeline<K> {
             return None;
         }
         self.receive(slot, console)
+    }
+
+    /// Does what a slot asks: what became of it, once that is stored and published. None where the device failed, where the last
+    /// epoch is spent, or where the slot's serials are.
+    pub fn exchange(
+        &mut self,
+        slot: Slot,
+        console: &mut Console<PlainTold>,
+        want: Action,
+    ) -> Option<Judged>
+        requires { AreLinked slot console.old self.old.sequencer.inboxes.items self.old.flusher.outboxes.items self.old.sequencer.ends self.old.flusher.fetch }
+        ensures answered { IfSome result (λ j. (base plant : Condensed) → IsAt slot (resting base plant) console.old self.old
+            → (j ≡ judged plant (request slot want)) × IsAt slot (resting base (if_accepted plant (accept plant.panel (request slot want)))) console.new self.new × KeepsOthers slot self.old self.new) }
+        ensures linked { AreLinked slot console.new self.new.sequencer.inboxes.items self.new.flusher.outboxes.items self.new.sequencer.ends self.new.flusher.fetch }
+        ensures honest { K.honest self.old.flusher.store ↔ K.honest self.new.flusher.store }
+        ensures count { K.failures self.old.flusher.store ≤ K.failures self.new.flusher.store }
+        ensures left { IsNone result → (base plant : Condensed) → IsAt slot (resting base plant) console.old self.old
+            → (K.stored self.new.flusher.store ≡ plant) × MayWait self.new.flusher.held (verdict_of plant (request slot want)) }
+        ensures cause { IsNone result → (base plant : Condensed) → IsAt slot (resting base plant) console.old self.old → K.honest self.old.flusher.store
+            → ¬ (K.spent (K.device self.old.flusher.store)) → length (sent_of console.old) + 1 < 2 ^ 64 → HasFailed (K.failures self.old.flusher.store) (K.failures self.new.flusher.store) }
+    {
+        if !self.pass(slot, console, want) {
+            return None;
+        }
+        if !self.commit() {
+            return None;
+        }
+        self.answer(slot, console)
     }
 }
