@@ -1,4 +1,5 @@
 pub mod Coming
 pub mod Ordered
+pub mod Rings
 pub mod Stored
 pub mod Verdicts

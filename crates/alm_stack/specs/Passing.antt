@@ -23,6 +23,7 @@ use Rattle.alm_keeper.specs.declared.phase.Phase.TheVariants.{Idle}
 use Rattle.alm_store.specs.declared.store.Store.{Ghosts}
 use Rattle.alm_flusher.specs.declared.held.Held.{Held}
 use Rattle.alm_flusher.specs.declared.held.Held.TheVariants.{Nothing, Fetched, Committed, Published}
+use Rattle.alm_sequencer.specs.Sequences.{live_of}
 use Rattle.alm_flusher.specs.HeldBatch.{waiting_of}
 use Rattle.alm_session.specs.Answers.{request}
 use Rattle.alm_session.specs.declared.judged.Judged as J
@@ -145,6 +146,11 @@ module _ {T : Type 0} {t : ToldGhosts T} {K D : Type 0} {g : Ghosts K D} {d : Di
     pub replies : notes_of (released_by slot p.flusher.outboxes.items) ≡ notes_of (received_of console) ++ x.replies
     pub unanswered : length (sent_of console) ≡ length (received_of console) + x.unanswered
     pub idle : g.phase p.flusher.store ≡ Idle
+
+module _ {T : Type 0} {t : ToldGhosts T} {K D : Type 0} {g : Ghosts K D} {d : Disk.Ghosts D} where
+  -- no request of a slot is under way, nor of any other
+  abbrev pub RestsAt : ℕ → Console T t → Pipeline K D g d → Type 0
+  RestsAt slot console p = IsAt slot (resting p.sequencer.base.value (live_of p.sequencer)) console p
 
 module _ {K D : Type 0} {g : Ghosts K D} {d : Disk.Ghosts D} where
   -- the ends of all other slots stay

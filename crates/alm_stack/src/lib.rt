@@ -2,5 +2,6 @@
 #![tactic(auto)]
 
 mod judging;
+mod opening;
 mod pipeline;
 mod slots;
