@@ -5,3 +5,4 @@ mod judging;
 mod opening;
 mod pipeline;
 mod slots;
+mod stack;
