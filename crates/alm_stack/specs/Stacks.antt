@@ -7,11 +7,10 @@ use Rattle.alm_disk.specs.declared.disk.Disk
 use Rattle.alm_rings.specs.declared.told.Told.{Ghosts as ToldGhosts}
 use Rattle.alm_rings.specs.declared.console.Console.{Console}
 use Rattle.alm_rings.specs.Ends.{sent_of}
-use Rattle.alm_keeper.specs.declared.keeper.Keeper.{Keeper}
 use Rattle.alm_store.specs.declared.store.Store.{Ghosts}
 use Rattle.alm_sequencer.specs.Sequences.{live_of}
 use Rattle.alm_session.specs.Backends.{if_accepted}
-use Rattle.alm_stack.specs.declared.stack.Stack.{Stack}
+use Rattle.alm_stack.specs.declared.stack.StackOver.{StackOver}
 
 -- none from the request on at which the storage stopped
 abbrev pub running : Option Request → Condensed → Option Condensed
@@ -28,17 +27,17 @@ module _ {T : Type 0} {t : ToldGhosts T} where
   sent_to None = 0
   sent_to (Some c) = length (sent_of c)
 
-module _ {D : Type 0} {g : Ghosts (Keeper D) D} {d : Disk.Ghosts D} where
-  abbrev pub stands_of : Stack D D d g d → Option Condensed
+module _ {K D : Type 0} {g : Ghosts K D} {d : Disk.Ghosts D} where
+  abbrev pub stands_of : StackOver K D g d → Option Condensed
   stands_of s = running s.halted (live_of s.pipeline.sequencer)
 
-  abbrev pub kept_of : Stack D D d g d → List Condensed
-  kept_of s = kept_at s.halted (live_of s.pipeline.sequencer) s.pipeline.flusher.store.stored.plant
+  abbrev pub kept_of : StackOver K D g d → List Condensed
+  kept_of s = kept_at s.halted (live_of s.pipeline.sequencer) (g.stored s.pipeline.flusher.store)
 
-  -- its device
-  abbrev pub disk_of : Stack D D d g d → D
-  disk_of s = s.pipeline.flusher.store.disk
+  -- its store
+  abbrev pub store_of : StackOver K D g d → K
+  store_of s = s.pipeline.flusher.store
 
   -- how many requests of a slot were sent
-  abbrev pub serial_of : ℕ → Stack D D d g d → ℕ
+  abbrev pub serial_of : ℕ → StackOver K D g d → ℕ
   serial_of slot s = sent_to (slice_get s.consoles.items slot)

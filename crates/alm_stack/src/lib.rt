@@ -23,4 +23,4 @@ mod pipeline;
 mod slots;
 mod stack;
 
-pub use stack::Stack;
+pub use stack::{Stack, StackOver};

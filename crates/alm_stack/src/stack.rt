@@ -9,22 +9,21 @@ ghost use Rattle.alm_stack.specs.Passing.{AreLinked, RestsAt, MayWait};
 use crate::opening::{Furnished, furnish};
 use crate::pipeline::Pipeline;
 use alm_board::{Look, PlainTold, Seen};
-use alm_disk::Disk;
-use alm_keeper::{Keeper, OpenFault, open_store};
+use alm_keeper::{Keeper, OpenFault};
 use alm_rings::Console;
 use alm_session::{Backend, Judged, Stopped};
 use alm_store::Store;
 use alm_types::{Answer, Query, Refusal, Request};
 use std::alloc::Global;
 
-/// The parts of a server over a device, one request at a time.
+/// The stack over a device.
+pub type Stack<D> = StackOver<Keeper<D>>;
+
+/// The parts of a server over a store, one request at a time.
 #[derive(Drop)]
-pub struct Stack<D: Disk + Drop>
-where
-    Keeper<D>: Store,
-{
+pub struct StackOver<K: Store> {
     consoles: Vec<Console<PlainTold>>,
-    pipeline: Pipeline<Keeper<D>>,
+    pipeline: Pipeline<K>,
     // The request at which the storage stopped.
     halted: Option<Request>,
     failures: u64,
@@ -33,41 +32,40 @@ where
     pub ghost linked: { halted ≡ None → (s : ℕ) (c : Console _ _) → slice_get consoles.items s ≡ Some c → AreLinked s c pipeline.sequencer.inboxes.items pipeline.flusher.outboxes.items pipeline.sequencer.ends pipeline.flusher.fetch },
     pub ghost rests: { halted ≡ None → (s : ℕ) (c : Console _ _) → slice_get consoles.items s ≡ Some c → RestsAt s c pipeline },
     /// and once it has stopped, at most the action that met it.
-    pub ghost halts: { (r : Request) → halted ≡ Some r → ∥ MayWait pipeline.flusher.held (verdict_of pipeline.flusher.store.stored.plant r) ∥₁ },
+    pub ghost halts: { (r : Request) → halted ≡ Some r → ∥ MayWait pipeline.flusher.held (verdict_of (K.stored pipeline.flusher.store) r) ∥₁ },
 }
 
-impl<D: Disk + Drop> Stack<D> {
-    ghost use Rattle.std.specs.Prelude.{◌≡◌, ◌↔◌, ℕ, List, [], ◌∷◌, IfOk, IfErr, Some, Err, Contains};
+impl<K: Store> StackOver<K> {
+    ghost use Rattle.std.specs.Prelude.{◌≡◌, ◌≤◌, ◌↔◌, ℕ, List, [], ◌∷◌, IfOk, IfErr, Some, Contains, false};
     ghost use Rattle.alm_model.specs.Plant.{Condensed};
     ghost use Rattle.alm_disk.specs.Device.{IsImage};
-    ghost use Rattle.alm_disk.specs.Settled.{IsSettled};
-    ghost use Rattle.alm_keeper.specs.Opening.{Opens, CountsAs};
-    ghost use Rattle.alm_store.specs.Keepers.{StandsFor};
-    ghost use Rattle.alm_stack.specs.Stacks.{stands_of, kept_of, disk_of};
+    ghost use Rattle.alm_store.specs.Opening.{HasCause};
+    ghost use Rattle.alm_stack.specs.Stacks.{stands_of, kept_of, store_of};
 
     /// Opens what a device stands for: it is synced and read, and nothing is written. All memory is taken here.
     ///
     /// The device comes back where it stands for nothing, where it failed, or for want of memory.
-    pub fn open(alloc: Global, disk: D) -> Result<Stack<D>, (OpenFault, D)>
-        // The plant for which the read stands.
-        ensures stands { D.honest disk → IfOk result (λ s. (plant : Condensed) × StandsFor (D.state (disk_of s)).bytes plant × (stands_of s ≡ Some plant) × (kept_of s ≡ plant ∷ [])) }
-        ensures settled { D.honest disk → IfOk result (λ s. IsSettled (D.state (disk_of s)) (D.state (disk_of s)).bytes) }
+    pub fn open(alloc: Global, disk: K::Device) -> Result<StackOver<K>, (OpenFault, K::Device)>
+        // What it reads is one of the images before, and stands for the plant.
+        ensures opened { K.Device.honest disk → IfOk result (λ s. IsImage (K.Device.state disk) (K.device (store_of s)).bytes × K.recovers (K.device (store_of s)).bytes (K.stored (store_of s))) }
+        ensures settled { K.Device.honest disk → IfOk result (λ s. (place : ℕ) → (K.device (store_of s)).pending place ≡ false) }
+        ensures stands { IfOk result (λ s. (stands_of s ≡ Some (K.stored (store_of s))) × (kept_of s ≡ K.stored (store_of s) ∷ [])) }
         ensures failures { IfOk result (λ s. s.failures ≡ 0) }
-        ensures honest { IfOk result (λ s. D.honest disk ↔ D.honest (disk_of s)) }
-        ensures honest_back { IfErr result (λ x. D.honest disk ↔ D.honest x.1) }
-        ensures unwritten { D.honest disk → IfOk result (λ s. (b : List ℕ) → IsImage (D.state (disk_of s)) b → IsImage (D.state disk) b) }
-        ensures unwritten_back { D.honest disk → IfErr result (λ x. (b : List ℕ) → IsImage (D.state x.1) b → IsImage (D.state disk) b) }
-        ensures counts { IfErr result (λ x. CountsAs x.0 (D.failures disk) (D.failures x.1)) }
+        ensures counted { IfOk result (λ s. K.Device.failures disk ≤ K.failures (store_of s)) }
+        ensures honest { IfOk result (λ s. K.Device.honest disk ↔ K.honest (store_of s)) }
+        ensures honest_back { IfErr result (λ x. K.Device.honest disk ↔ K.Device.honest x.1) }
+        ensures unwritten_back { K.Device.honest disk → IfErr result (λ x. (b : List ℕ) → IsImage (K.Device.state x.1) b → IsImage (K.Device.state disk) b) }
+        ensures cause { K.Device.honest disk → IfErr result (λ x. HasCause K.recovers (K.Device.state disk) x.0 (K.Device.failures disk) (K.Device.failures x.1)) }
     {
-        match open_store(alloc, disk) {
-            Ok(keeper) => match furnish(alloc, keeper) {
-                Ok(Furnished { consoles, pipeline }) => Ok(Stack {
+        match K::open(alloc, disk) {
+            Ok(store) => match furnish(alloc, store) {
+                Ok(Furnished { consoles, pipeline }) => Ok(StackOver {
                     consoles,
                     pipeline,
                     halted: None,
                     failures: 0,
                 }),
-                Err(keeper) => Err((OpenFault::OutOfMemory, keeper.into_disk())),
+                Err(store) => Err((OpenFault::OutOfMemory, store.into_device())),
             },
             Err(refused) => Err(refused),
         }
@@ -76,16 +74,18 @@ impl<D: Disk + Drop> Stack<D> {
     /// Does nothing: it says what a crash leaves of the device. Each image stands for one of the plants that are kept: for the plant
     /// itself while it runs, and once it has stopped for the one before, without the action that met it or with it.
     pub fn images(&self)
-        ensures { D.honest (disk_of self.now) → (b : List ℕ) → IsImage (D.state (disk_of self.now)) b → ∥ ((plant : Condensed) × Contains (kept_of self.now) plant × StandsFor b plant) ∥₁ }
+        ensures { K.honest (store_of self.now) → (b : List ℕ) → IsImage (K.device (store_of self.now)) b → ∥ ((plant : Condensed) × Contains (kept_of self.now) plant × K.recovers b plant) ∥₁ }
     {
         self.pipeline.flusher.keeper().images();
     }
 
     /// The device.
-    pub fn into_disk(self) -> D
-        ensures { result ≡ disk_of self }
+    pub fn into_disk(self) -> K::Device
+        ensures honest { K.honest (store_of self) ↔ K.Device.honest result }
+        ensures device { K.Device.state result ≡ K.device (store_of self) }
+        ensures failures { K.Device.failures result ≡ K.failures (store_of self) }
     {
-        let Stack {
+        let StackOver {
             consoles: _,
             pipeline,
             halted: _,
@@ -95,16 +95,15 @@ impl<D: Disk + Drop> Stack<D> {
             sequencer: _,
             flusher,
         } = pipeline;
-        flusher.into_keeper().into_disk()
+        flusher.into_keeper().into_device()
     }
 }
 
-impl<D: Disk + Drop> Backend for Stack<D> {
-    ghost use Rattle.std.specs.Prelude.{◌≡◌, ◌<◌, ◌+◌, ◌^◌, Some, None, IsSome, OnErr};
+impl<K: Store> Backend for StackOver<K> {
+    ghost use Rattle.std.specs.Prelude.{◌≡◌, ◌↔◌, ◌<◌, ◌+◌, ◌^◌, IsSome, OnErr};
     ghost use Rattle.alm_disk.specs.Failures.{HasFailed};
     ghost use Rattle.alm_session.specs.Backends.{IsJudged, CountsStop, kept_by};
-    ghost use Rattle.alm_store.specs.Keepers.{IsSpent};
-    ghost use Rattle.alm_stack.specs.Stacks.{stands_of, kept_of, disk_of, serial_of};
+    ghost use Rattle.alm_stack.specs.Stacks.{stands_of, kept_of, store_of, serial_of};
 
     ghost stands = { stands_of };
 
@@ -117,7 +116,8 @@ impl<D: Disk + Drop> Backend for Stack<D> {
         ensures stored { kept_of self.new ≡ kept_by (stands_of self.old) (kept_of self.old) request.now result }
         ensures count { CountsStop (stands_of self.old) result self.old.failures self.new.failures }
         // It stops only where the device failed in this call, where the last epoch is spent, or where the slot's serials are.
-        ensures cause { IsSome (stands_of self.old) → D.honest (disk_of self.old) → ¬ (IsSpent (D.state (disk_of self.old))) → serial_of request.now.slot self.old + 1 < 2 ^ 64 → OnErr result (HasFailed (D.failures (disk_of self.old)) (D.failures (disk_of self.new))) }
+        ensures cause { IsSome (stands_of self.old) → K.honest (store_of self.old) → ¬ (K.spent (K.device (store_of self.old))) → serial_of request.now.slot self.old + 1 < 2 ^ 64 → OnErr result (HasFailed (K.failures (store_of self.old)) (K.failures (store_of self.new))) }
+        ensures honest { K.honest (store_of self.old) ↔ K.honest (store_of self.new) }
     {
         match self.halted {
             Some(_) => return Err(Stopped),
