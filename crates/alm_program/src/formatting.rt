@@ -1,13 +1,18 @@
 //! Making a device of a table file.
 
+ghost use Rattle.alm_lines.specs.Written.{Prints};
+ghost use Rattle.alm_program.specs.Formatted.{formatted_text};
+
 use crate::fault::Fault;
 use crate::io_fault::io_fault;
 use alm_checkpoint::Layout;
 use alm_file::FileDisk;
 use alm_keeper::format;
+use alm_lines::{Part, put_parts};
 use alm_table::table_of;
 use alm_types::Table;
 use std::fs::{self, File, Files};
+use std::io;
 use std::os::unix::fs::MetadataExt;
 
 /// Whether two paths name the same file.
@@ -42,6 +47,29 @@ fn format_file<R: Files<File = File> + AllocGlobal>(
     }
 }
 
+/// Writes that a device was formatted: its rows, its areas, and the bytes of a segment.
+fn print_formatted<W: io::Write>(
+    rows: u64,
+    areas: u64,
+    segment: u64,
+    writer: &mut W,
+) -> io::Result<()>
+    ensures { Prints (W.contents writer.old) (W.contents writer.new) (formatted_text rows areas segment) result }
+{
+    put_parts(
+        &[
+            Part::Word("formatted "),
+            Part::Number(rows),
+            Part::Word(" "),
+            Part::Number(areas),
+            Part::Word(" "),
+            Part::Number(segment),
+            Part::Word("\n"),
+        ],
+        writer,
+    )
+}
+
 /// Makes a device of a table file, and prints its rows, areas and segment. Nothing is made where the table is refused.
 pub fn run_format<R: Files<File = File> + Print + AllocGlobal>(
     rt: &R,
@@ -54,7 +82,7 @@ pub fn run_format<R: Files<File = File> + Print + AllocGlobal>(
     let text = fs::read(rt, table).map_err(io_fault)?;
     let (size, table) = table_of(rt.alloc(), text.as_slice())?;
     let segment = format_file(rt, device, size, &table)?;
-    let rows = table.alarms().len();
-    let areas = table.areas();
-    println!(rt; "formatted {rows} {areas} {segment}").map_err(io_fault)
+    let rows = table.alarms().len() as u64;
+    let areas = u64::from(table.areas());
+    print_formatted(rows, areas, u64::from(segment), &mut io::writer(rt)).map_err(io_fault)
 }

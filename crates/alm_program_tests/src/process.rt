@@ -21,12 +21,7 @@ pub struct Process<'a> {
 }
 
 impl<'a> Process<'a> {
-    pub fn new(
-        files: &'a HostRuntime,
-        words: &'a [u8],
-        input: Script<'a>,
-        writes: usize,
-    ) -> Self {
+    pub fn new(files: &'a HostRuntime, words: &'a [u8], input: Script<'a>, writes: usize) -> Self {
         let alloc = files.alloc();
         Process {
             alloc,

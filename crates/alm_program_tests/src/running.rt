@@ -120,10 +120,7 @@ fn a_failed_write_is_a_fault_at_each_write(rt: HostRuntime) -> Result<(), Fail> 
     let taken = [0, 3, 6, 9, 10, 13, 16, 19, 22, 25, 28, 31, 34, 37, 40, 43];
     for (writes, printed) in taken.iter().enumerate() {
         let done = *printed == wanted.len();
-        let end = run(
-            alloc,
-            Process::new(&rt, DESK, Script::new(&steps), writes),
-        )?;
+        let end = run(alloc, Process::new(&rt, DESK, Script::new(&steps), writes))?;
         assert_eq!(rt;
             end.printed.as_slice(),
             &wanted[..*printed],
