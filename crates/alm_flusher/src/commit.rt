@@ -1,13 +1,13 @@
 //! One step of the commit of a batch.
 
-ghost use Rattle.std.specs.Prelude.{◌≡◌, ◌≢◌, ◌⊎◌, ◌↔◌, ◌+◌, ◌<◌, ◌≤◌, [], length, IsTrue, true, false};
+ghost use Rattle.std.specs.Prelude.{◌≡◌, ◌≢◌, ℕ, ◌⊎◌, ◌↔◌, ◌+◌, ◌<◌, ◌≤◌, [], length, IsTrue, true, false};
 ghost use Rattle.alm_disk.specs.Failures.{HasFailed};
 ghost use Rattle.alm_model.specs.Judging.{accepted_of};
 ghost use Rattle.alm_model.specs.Rules.{AllAdmitted, admits_all};
 ghost use Rattle.alm_model.specs.Step.{run};
 ghost use Rattle.alm_keeper.specs.Calls.{IsCall};
 ghost use Rattle.alm_store.specs.Advancing.{IsCalls};
-ghost use Rattle.alm_flusher.specs.Advances.{Advances};
+ghost use Rattle.alm_flusher.specs.Advances.{Advances, Begins, IsSure, Within};
 
 use crate::advance::Advance;
 use alm_keeper::{Phase, Progress};
@@ -26,9 +26,11 @@ fn start<K: Store>(store: &mut K, batch: &Batch) -> bool
     ensures refused { result ≡ false → (K.phase store.new ≢ Phase.Committing) × (K.phase store.new ≢ Phase.Copying) × (K.next store.new ≡ K.next store.old) }
     ensures begun { IsTrue result → (K.phase store.new ≡ Phase.Committing) ⊎ (K.phase store.new ≡ Phase.Copying) }
     ensures taken { IsTrue result → K.takes store.old (accepted_of batch.now.entries) → K.phase store.new ≡ Phase.Committing }
+    ensures calls { IsTrue result → Begins (K.phase store.new) (K.left store.new) (K.will_take store.new (accepted_of batch.now.entries)) (length (accepted_of batch.now.entries)) }
     ensures next { IsTrue result → K.phase store.new ≡ Phase.Committing → K.next store.new ≡ run (K.stored store.old) (accepted_of batch.now.entries) }
     ensures copy { IsTrue result → K.phase store.new ≡ Phase.Copying → K.next store.new ≡ K.stored store.old }
     ensures admitted { IsTrue result → K.phase store.new ≡ Phase.Committing → admits_all (K.stored store.old) (accepted_of batch.now.entries) ≡ true }
+    ensures sure { K.takes store.old (accepted_of batch.now.entries) → batch.now.first ≡ (K.stored store.old).panel.count + 1 → AllAdmitted (K.stored store.old) (accepted_of batch.now.entries) → IsTrue result }
     ensures cause { K.honest store.old → ¬ (K.spent (K.device store.old)) → batch.now.first ≡ (K.stored store.old).panel.count + 1 → AllAdmitted (K.stored store.old) (accepted_of batch.now.entries) → IsTrue result }
 {
     if store.takes(batch) {
@@ -50,6 +52,9 @@ pub(crate) fn advance_by<K: Store>(store: &mut K, batch: &Batch) -> Advance
     ensures one { K.honest store.old → 0 < length (accepted_of batch.now.entries) → result ≢ Advance.Failed → IsCall (K.device store.old) (K.device store.new) }
     ensures none { accepted_of batch.now.entries ≡ [] → store.new ≡ store.old }
     ensures taken { K.phase store.old ≡ Phase.Idle → K.takes store.old (accepted_of batch.now.entries) → result ≡ Advance.More → K.phase store.new ≡ Phase.Committing }
+    ensures ends { (m : ℕ) → result ≡ Advance.More → Within (m + 1) (K.phase store.old) (K.left store.old) (K.takes store.old (accepted_of batch.now.entries)) (K.will_take store.old (accepted_of batch.now.entries)) (length (accepted_of batch.now.entries))
+        → Within m (K.phase store.new) (K.left store.new) (K.takes store.new (accepted_of batch.now.entries)) (K.will_take store.new (accepted_of batch.now.entries)) (length (accepted_of batch.now.entries)) }
+    ensures at_rest { result ≡ Advance.Committed → ((accepted_of batch.now.entries ≡ []) × (store.new ≡ store.old)) ⊎ (K.phase store.new ≡ Phase.Idle) }
     ensures count { K.failures store.old ≤ K.failures store.new }
     ensures going { result ≢ Advance.Failed → K.phase store.new ≢ Phase.Stopped }
     ensures answer { Advances result (K.phase store.old) (K.phase store.new) (K.stored store.old) (K.stored store.new) (accepted_of batch.now.entries) }
@@ -60,6 +65,7 @@ pub(crate) fn advance_by<K: Store>(store: &mut K, batch: &Batch) -> Advance
     ensures either { result ≢ Advance.Committed → ∥ (K.next store.new ≡ K.stored store.new) ⊎ (K.next store.new ≡ run (K.stored store.new) (accepted_of batch.now.entries)) ∥₁ }
     ensures rests { result ≡ Advance.Committed → ∥ K.next store.new ≡ K.stored store.new ∥₁ }
     ensures idle { accepted_of batch.now.entries ≡ [] → K.phase store.new ≢ Phase.Committing }
+    ensures sure { result ≡ Advance.Failed → IsSure (K.phase store.old) (K.takes store.old (accepted_of batch.now.entries)) → batch.now.first ≡ (K.stored store.old).panel.count + 1 → AllAdmitted (K.stored store.old) (accepted_of batch.now.entries) → HasFailed (K.failures store.old) (K.failures store.new) }
     ensures cause { result ≡ Advance.Failed → K.honest store.old → K.phase store.old ≢ Phase.Stopped → ¬ (K.spent (K.device store.old)) → batch.now.first ≡ (K.stored store.old).panel.count + 1 → AllAdmitted (K.stored store.old) (accepted_of batch.now.entries) → HasFailed (K.failures store.old) (K.failures store.new) }
 {
     if accepted_in(batch) == 0 {

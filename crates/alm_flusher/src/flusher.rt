@@ -84,7 +84,7 @@ fn number_of(verdict: Verdict, before: u64, count: u64) -> u64
 }
 
 impl<K: Store, T: Told + Drop, B: Board<Told = T>> Flusher<K, T, B> {
-    ghost use Rattle.std.specs.Prelude.{◌≡◌, ◌≢◌, ◌↔◌, ◌+◌, ◌<◌, ◌≤◌, ◌++◌, [], ℕ, List, length, MatchBool, false, slice_get, Some, None, IsSome, IsTrue};
+    ghost use Rattle.std.specs.Prelude.{◌≡◌, ◌≢◌, ◌↔◌, ◌⊎◌, ◌+◌, ◌<◌, ◌≤◌, ◌++◌, [], ℕ, List, length, MatchBool, false, slice_get, Some, None, IsSome, IsTrue};
     ghost use Rattle.alm_disk.specs.Failures.{HasFailed};
     ghost use Rattle.alm_keeper.specs.Calls.{IsCall};
     ghost use Rattle.alm_store.specs.Advancing.{IsCalls};
@@ -94,6 +94,7 @@ impl<K: Store, T: Told + Drop, B: Board<Told = T>> Flusher<K, T, B> {
     ghost use Rattle.alm_rings.specs.Ends.{sent_of, received_of, coming_to, room_of, SameConsole};
     ghost use Rattle.rtrb.specs.Ring.{IsPair};
     ghost use Rattle.alm_rings.specs.declared.outbox.Outbox.{Outbox};
+    ghost use Rattle.alm_flusher.specs.Advances.{IsSure, Within};
     ghost use Rattle.alm_flusher.specs.Flushes.{FetchAnswers, AdvanceAnswers, PublishAnswers, ReleaseAnswers, GivesBack, IsDone, IsNext};
     ghost use Rattle.alm_flusher.specs.HeldBatch.{next_of, to_commit};
     ghost use Rattle.alm_rings.specs.declared.receipt.Receipt.{Receipt};
@@ -168,9 +169,15 @@ impl<K: Store, T: Told + Drop, B: Board<Told = T>> Flusher<K, T, B> {
         ensures none { to_commit self.old.held ≡ [] → self.new.store ≡ self.old.store }
         // A checkpoint only where the store doesn't take the batch.
         ensures taken { K.phase self.old.store ≡ Phase.Idle → K.takes self.old.store (to_commit self.old.held) → result ≡ Advance.More → K.phase self.new.store ≡ Phase.Committing }
+        // A batch is committed in a bounded number of steps: 12 where the store is idle.
+        ensures ends { (m : ℕ) → result ≡ Advance.More → Within (m + 1) (K.phase self.old.store) (K.left self.old.store) (K.takes self.old.store (to_commit self.old.held)) (K.will_take self.old.store (to_commit self.old.held)) (length (to_commit self.old.held))
+            → Within m (K.phase self.new.store) (K.left self.new.store) (K.takes self.new.store (to_commit self.new.held)) (K.will_take self.new.store (to_commit self.new.held)) (length (to_commit self.new.held)) }
+        ensures at_rest { result ≡ Advance.Committed → ((to_commit self.old.held ≡ []) × (self.new.store ≡ self.old.store)) ⊎ (K.phase self.new.store ≡ Phase.Idle) }
         ensures count { K.failures self.old.store ≤ K.failures self.new.store }
         ensures going { K.phase self.old.store ≢ Phase.Stopped → result ≢ Advance.Failed → K.phase self.new.store ≢ Phase.Stopped }
         ensures held { AdvanceAnswers result (K.phase self.old.store) self.old.held self.new.held }
+        // Only the device fails once no checkpoint is to be begun any more.
+        ensures sure { result ≡ Advance.Failed → IsSure (K.phase self.old.store) (K.takes self.old.store (to_commit self.old.held)) → IsNext self.old.held (K.stored self.old.store) → HasFailed (K.failures self.old.store) (K.failures self.new.store) }
         // The first failure has a cause.
         ensures cause { result ≡ Advance.Failed → K.honest self.old.store → K.phase self.old.store ≢ Phase.Stopped → ¬ (K.spent (K.device self.old.store)) → IsNext self.old.held (K.stored self.old.store) → HasFailed (K.failures self.old.store) (K.failures self.new.store) }
     {

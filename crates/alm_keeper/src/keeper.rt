@@ -131,6 +131,14 @@ impl<D: Disk + Drop> Keeper<D> {
         self.book.epoch
     }
 
+    /// How many bytes a segment has: room for one frame of 256 actions and the next gate, or more.
+    pub fn segment(&self) -> u64
+        ensures value { result ≡ self.now.segment }
+        ensures least { 4116 ≤ self.now.segment }
+    {
+        u64::from(self.book.layout.segment)
+    }
+
     /// Whether a frame of so many actions fits behind what is stored.
     pub fn fits(&self, actions: usize) -> bool
         ensures { IsTrue result ↔ HasRoom self.now.stored actions }

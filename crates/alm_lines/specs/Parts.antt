@@ -2,11 +2,12 @@
 use Rattle.std.specs.Prelude.{ℕ, List, decimal}
 use Rattle.std.specs.List.{flat_map}
 use Rattle.alm_lines.specs.declared.part.Part.{Part}
-use Rattle.alm_lines.specs.declared.part.Part.TheVariants.{Word, Number}
+use Rattle.alm_lines.specs.declared.part.Part.TheVariants.{Word, Bytes, Number}
 
 -- the text of a part
 abbrev pub part_text : Part → List ℕ
 part_text (Word word) = word.now
+part_text (Bytes bytes) = bytes.now
 part_text (Number n) = decimal n
 
 -- the texts of parts, one after the other

@@ -11,6 +11,8 @@ use std::io;
 pub enum Part<'a> {
     /// As it stands.
     Word(&'a str),
+    /// As they stand.
+    Bytes(&'a [u8]),
     /// In decimal digits.
     Number(u64),
 }
@@ -21,6 +23,7 @@ fn put_part<W: io::Write>(part: Part<'_>, writer: &mut W) -> io::Result<()>
 {
     match part {
         Part::Word(word) => put(word.as_bytes(), writer),
+        Part::Bytes(bytes) => put(bytes, writer),
         Part::Number(number) => put(itoa::Buffer::new().format(number).as_bytes(), writer),
     }
 }

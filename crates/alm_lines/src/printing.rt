@@ -1,8 +1,8 @@
 //! The texts of replies.
 
-ghost use Rattle.std.specs.Prelude.{◌≡◌};
+ghost use Rattle.std.specs.Prelude.{◌≡◌, ◌++◌};
 ghost use Rattle.alm_types.specs.Reports.{report, alarms};
-ghost use Rattle.alm_lines.specs.Parts.{part_text};
+ghost use Rattle.alm_lines.specs.Parts.{part_text, text_of_parts};
 ghost use Rattle.alm_lines.specs.Reply.{text_of, shown_word, letters, query_word, told_text, report_text, spaced, deadline};
 ghost use Rattle.alm_lines.specs.Written.{Prints};
 
@@ -139,6 +139,21 @@ fn print_query<W: io::Write>(
     )?;
     print_report(query, answer, writer)?;
     put(b"\n", writer)
+}
+
+/// Prints what an answer tells, between words.
+pub fn print_told<W: io::Write>(
+    front: &[Part<'_>],
+    query: Query,
+    answer: &Answer,
+    end: &str,
+    writer: &mut W,
+) -> io::Result<()>
+    ensures { Prints (W.contents writer.old) (W.contents writer.new) (text_of_parts front.now ++ report_text (report query answer.now) ++ end.now) result }
+{
+    put_parts(front, writer)?;
+    print_report(query, answer, writer)?;
+    put(end.as_bytes(), writer)
 }
 
 /// Prints a reply. Where the writer fails, a front of it is written.

@@ -1,7 +1,9 @@
-//! The program under test: its words, its faults and its statuses, in a process of the tests' own, and reads that are
+//! The program under test: its words, its faults and its statuses, in a process of the tests' own, devices in its files, and reads that are
 //! interrupted, that fail and that give a byte at a time.
 #![tactic(auto)]
 
+#[cfg(test)]
+mod devices;
 #[cfg(test)]
 mod process;
 #[cfg(test)]

@@ -5,6 +5,7 @@ use std::alloc::{Allocator, Global};
 use std::cell::{Cell, RefCell};
 use std::env::{Env, FillError};
 use std::fmt::Display;
+use std::fs::{File, Files, Metadata, OpenOptions};
 use std::io::{self, BufRead, Error, ErrorKind, Lines, Read};
 
 /// A process: its words, each with an LF behind it, its standard input, and a standard output that takes at most three bytes at a write and fails at
@@ -12,6 +13,7 @@ use std::io::{self, BufRead, Error, ErrorKind, Lines, Read};
 #[derive(Drop)]
 pub struct Process<'a> {
     alloc: Global,
+    files: &'a HostRuntime,
     words: &'a [u8],
     input: Script<'a>,
     writes_left: Cell<usize>,
@@ -19,9 +21,11 @@ pub struct Process<'a> {
 }
 
 impl<'a> Process<'a> {
-    pub fn new(alloc: Global, words: &'a [u8], input: Script<'a>, writes: usize) -> Self {
+    pub fn new(files: &'a HostRuntime, words: &'a [u8], input: Script<'a>, writes: usize) -> Self {
+        let alloc = files.alloc();
         Process {
             alloc,
+            files,
             words,
             input,
             writes_left: Cell::new(writes),
@@ -62,6 +66,53 @@ impl Env for Process<'_> {
 
     fn var_at(&self, _i: usize, _buf: &mut [u8]) -> Result<usize, FillError> {
         Err(FillError::NotPresent)
+    }
+}
+
+/// Its files are those of the tests' own process.
+impl Files for Process<'_> {
+    type File = File;
+
+    type Dir = <HostRuntime as Files>::Dir;
+
+    fn open_file(&self, how: &OpenOptions, path: &str) -> io::Result<File> {
+        self.files.open_file(how, path)
+    }
+
+    fn open_dir(&self, path: &str) -> io::Result<Self::Dir> {
+        self.files.open_dir(path)
+    }
+
+    fn metadata(&self, path: &str) -> io::Result<Metadata> {
+        self.files.metadata(path)
+    }
+
+    fn symlink_metadata(&self, path: &str) -> io::Result<Metadata> {
+        self.files.symlink_metadata(path)
+    }
+
+    fn copy(&self, from: &str, to: &str) -> io::Result<u64> {
+        self.files.copy(from, to)
+    }
+
+    fn rename(&self, from: &str, to: &str) -> io::Result<()> {
+        self.files.rename(from, to)
+    }
+
+    fn remove_file(&self, path: &str) -> io::Result<()> {
+        self.files.remove_file(path)
+    }
+
+    fn create_dir(&self, path: &str) -> io::Result<()> {
+        self.files.create_dir(path)
+    }
+
+    fn remove_dir(&self, path: &str) -> io::Result<()> {
+        self.files.remove_dir(path)
+    }
+
+    fn remove_dir_all<A: Allocator>(&self, alloc: A, path: &str) -> io::Result<()> {
+        self.files.remove_dir_all(alloc, path)
     }
 }
 

@@ -2,7 +2,7 @@
 
 use crate::process::Process;
 use crate::script::{Script, Step};
-use alm_service::run_program;
+use alm_program::run_program;
 use std::alloc::Global;
 use std::test::Fail;
 
@@ -43,13 +43,13 @@ fn words_that_are_none_of_the_programs(rt: HostRuntime) -> Result<(), Fail> {
         b"alm_server\n\n",
         b"alm_server\nDesk\n",
         b"alm_server\ndesk \n",
-        b"alm_server\ndesk\nextra\n",
+        b"alm_server\ndesk\nextra\nmore\n",
         b"alm_server\nextra\ndesk\n",
         b"alm_server\ndes\xff\n",
     ];
     for words in table {
         let steps = [Step::Gives(b"0 1 STATE 0\n")];
-        let end = run(alloc, Process::new(alloc, words, Script::new(&steps), 100))?;
+        let end = run(alloc, Process::new(&rt, words, Script::new(&steps), 100))?;
         assert_eq!(rt;
             end.status.as_str(),
             USAGE,
@@ -65,7 +65,7 @@ fn words_that_are_none_of_the_programs(rt: HostRuntime) -> Result<(), Fail> {
 #[test]
 fn an_empty_input_prints_nothing(rt: HostRuntime) -> Result<(), Fail> {
     let alloc = rt.alloc();
-    let end = run(alloc, Process::new(alloc, DESK, Script::new(&[]), 0))?;
+    let end = run(alloc, Process::new(&rt, DESK, Script::new(&[]), 0))?;
     assert_eq!(rt; end.status.as_str(), DONE);
     assert_eq!(rt; end.errors.as_slice(), b"".as_slice());
     assert_eq!(rt; end.printed.as_slice(), b"".as_slice());
@@ -99,7 +99,7 @@ fn a_reader_that_fails_is_a_fault_after_what_was_read(rt: HostRuntime) -> Result
         ),
     ] {
         let script = Script::new(&steps[..length]);
-        let end = run(alloc, Process::new(alloc, DESK, script, 100))?;
+        let end = run(alloc, Process::new(&rt, DESK, script, 100))?;
         assert_eq!(rt; end.status.as_str(), status, "{length} steps");
         assert_eq!(rt; end.printed.as_slice(), printed, "{length} steps");
         assert_eq!(rt; end.errors.as_slice(), errors, "{length} steps");
@@ -120,10 +120,7 @@ fn a_failed_write_is_a_fault_at_each_write(rt: HostRuntime) -> Result<(), Fail> 
     let taken = [0, 3, 6, 9, 10, 13, 16, 19, 22, 25, 28, 31, 34, 37, 40, 43];
     for (writes, printed) in taken.iter().enumerate() {
         let done = *printed == wanted.len();
-        let end = run(
-            alloc,
-            Process::new(alloc, DESK, Script::new(&steps), writes),
-        )?;
+        let end = run(alloc, Process::new(&rt, DESK, Script::new(&steps), writes))?;
         assert_eq!(rt;
             end.printed.as_slice(),
             &wanted[..*printed],

@@ -1,6 +1,7 @@
 //! A check of a row.
 
 use crate::desk::{new_desk, printed};
+use crate::device_desk::prints_over_a_device;
 use std::alloc::Global;
 use std::io::Read;
 use std::process::Abort;
@@ -44,8 +45,17 @@ fn cut_at_each_byte<R: Abort + AllocGlobal>(rt: &R, row: &[(u8, &str, &str)]) ->
     Ok(())
 }
 
-/// Checks the replies of a new desk to the lines of a row, each a slot, a line and its reply, however they are cut.
+/// Checks the replies of a new desk to the lines of a row, each a slot, a line and its reply, however they are cut; and the
+/// same over a device.
 pub fn check<R: Abort + AllocGlobal>(rt: &R, row: &[(u8, &str, &str)]) -> Result<(), Fail> {
     line_by_line(rt, row)?;
-    cut_at_each_byte(rt, row)
+    cut_at_each_byte(rt, row)?;
+    let (input, wanted) = texts(rt.alloc(), row)?;
+    let same = prints_over_a_device(
+        rt.alloc(),
+        input.as_str().as_bytes(),
+        wanted.as_str().as_bytes(),
+    );
+    assert!(rt; same, "over a device");
+    Ok(())
 }

@@ -2,7 +2,7 @@
 
 use alm_plant::Plant;
 use alm_service::{CountedReader, RunFault, desk_run, worked_table};
-use alm_session::{CountedWriter, LocalDesk, desk_of};
+use alm_session::{Backend, CountedWriter, LocalDesk, desk_of};
 use std::alloc::{AllocError, Global};
 use std::io::Read;
 
@@ -13,9 +13,9 @@ pub fn new_desk(alloc: Global) -> Result<LocalDesk<Plant>, AllocError> {
 }
 
 /// What a desk prints for what a reader gives.
-pub fn printed<R: Read + Drop>(
+pub fn printed<B: Backend + Drop, R: Read + Drop>(
     alloc: Global,
-    desk: &mut LocalDesk<Plant>,
+    desk: &mut LocalDesk<B>,
     reader: R,
 ) -> Result<Vec<u8>, RunFault> {
     let mut reader = CountedReader::new(reader);

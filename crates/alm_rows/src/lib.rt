@@ -1,15 +1,19 @@
 //! The worked rows of the alarm server, run through its public calls.
 //!
 //! Each row of `rows` begins with a new plant of the worked table: a line at a slot, and its one reply. A row is fed line by
-//! line, and again in two pieces cut at each of its bytes.
+//! line, and again in two pieces cut at each of its bytes, and once over a formatted device in memory.
 #![tactic(auto)]
 
 #[cfg(test)]
 mod check;
 pub mod desk;
 #[cfg(test)]
+mod device_desk;
+#[cfg(test)]
 mod rows;
 #[cfg(test)]
 mod slow_writer;
+#[cfg(test)]
+mod stops;
 #[cfg(test)]
 mod tests;

@@ -1,5 +1,5 @@
 pub mod Desk
-pub mod Faults
 pub mod Reads
+pub mod Showing
 pub mod Turns
 pub mod Worked

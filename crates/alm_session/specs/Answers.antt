@@ -25,11 +25,13 @@ use Rattle.alm_session.specs.declared.hindrance.Hindrance.TheVariants as hindran
 -- the plant, none once its storage has stopped; how often the storage failed, and how many growths of a list were refused
 pub record Standing : Type 0 where
   pub plant : Option Condensed
+  -- the plants for one of which the storage stands
+  pub kept : List Condensed
   pub failures : ℕ
   pub refused : ℕ
 
-abbrev pub standing_of : Option Condensed → ℕ → ℕ → Standing
-standing_of plant failures refused = record { plant = plant; failures = failures; refused = refused }
+abbrev pub standing_of : Option Condensed → List Condensed → ℕ → ℕ → Standing
+standing_of plant kept failures refused = record { plant = plant; kept = kept; failures = failures; refused = refused }
 
 -- a line that came at a slot
 pub record SlotLine : Type 0 where
@@ -102,6 +104,16 @@ abbrev pub plant_after : Option Condensed → SlotLine → Hindrance → Option 
 plant_after None s c = None
 plant_after (Some q) s c = ask_after q s.slot s.line.ask c
 
+-- the storage stands for the plant alone; where it stopped at an action, for the plant before, without that action or with it
+abbrev pub kept_on : Condensed → List Condensed → ℕ → Ask → Hindrance → List Condensed
+kept_on q kept slot (Act want) hindrance.Stopped = q ∷ if_accepted q (accept q.panel (request slot want)) ∷ []
+kept_on q kept slot (Act want) _ = if_accepted q (accept q.panel (request slot want)) ∷ []
+kept_on q kept slot _ c = kept
+
+abbrev pub kept_after : Option Condensed → List Condensed → SlotLine → Hindrance → List Condensed
+kept_after None kept s c = kept
+kept_after (Some q) kept s c = kept_on q kept s.slot s.line.ask c
+
 -- the storage failed where it stopped at an action
 abbrev pub failed_by : ℕ → Ask → Hindrance → ℕ
 failed_by n (Act want) hindrance.Stopped = one_more n
@@ -123,7 +135,7 @@ refused_after (Some q) n s c = refused_by q n s.line.ask c
 -- what stands after a line
 abbrev pub after : Standing → AnsweredLine → Standing
 after s m =
-    standing_of (plant_after s.plant m.asked m.hindrance) (failures_after s.plant s.failures m.asked m.hindrance) (refused_after s.plant
+    standing_of (plant_after s.plant m.asked m.hindrance) (kept_after s.plant s.kept m.asked m.hindrance) (failures_after s.plant s.failures m.asked m.hindrance) (refused_after s.plant
     s.refused m.asked m.hindrance)
 
 -- the replies to lines, and what stands after them

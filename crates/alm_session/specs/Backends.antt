@@ -1,5 +1,5 @@
 -- What a desk stands on.
-use Rattle.std.specs.Prelude.{◌≡◌, ℕ, ◌+◌, Option, Some, None, Result}
+use Rattle.std.specs.Prelude.{◌≡◌, ℕ, ◌+◌, List, [], ◌∷◌, Option, Some, None, Result}
 use Rattle.std.specs.Prelude.{Ok as Good, Err as Wrong}
 use Rattle.alm_types.specs.Counts.{one_more}
 use Rattle.alm_types.specs.declared.action.Action.{Action}
@@ -33,6 +33,13 @@ abbrev pub IsJudged : Option Condensed → Request → Result Judged Stopped →
 IsJudged None r (Good j) new = ⊥
 IsJudged (Some q) r (Good j) new = (j ≡ judged q r) × (new ≡ Some (if_accepted q (accept q.panel r)))
 IsJudged old r (Wrong e) new = new ≡ None
+
+-- the plants for one of which a storage stands, after a request: the plant alone, and where the storage stopped in it the plant before,
+-- without the request's own action or with it
+abbrev pub kept_by : Option Condensed → List Condensed → Request → Result Judged Stopped → List Condensed
+kept_by None kept r result = kept
+kept_by (Some q) kept r (Good j) = if_accepted q (accept q.panel r) ∷ []
+kept_by (Some q) kept r (Wrong e) = q ∷ if_accepted q (accept q.panel r) ∷ []
 
 -- a plant stops where a failure is counted, and nothing else is counted
 abbrev pub CountsStop : Option Condensed → Result Judged Stopped → ℕ → ℕ → Type 0

@@ -4,7 +4,7 @@ ghost use Rattle.std.specs.Prelude.{◌≡◌, OnOk, OnErr};
 ghost use Rattle.alm_types.specs.Counts.{one_more};
 ghost use Rattle.alm_lines.specs.Reply.{text_of};
 ghost use Rattle.alm_lines.specs.Written.{Prints};
-ghost use Rattle.alm_session.specs.Answers.{judged_reply, reply_on, plant_after, failures_after, refused_after};
+ghost use Rattle.alm_session.specs.Answers.{judged_reply, reply_on, plant_after, kept_after, failures_after, refused_after};
 ghost use Rattle.alm_lines.specs.declared.ask.Ask.TheVariants.{Act, Look};
 
 use crate::backend::Backend;
@@ -47,6 +47,14 @@ fn act<B: Backend>(
             want;
       };
     }) result.1 }
+    ensures kept { B.kept backend.new ≡ kept_after (B.stands backend.old) (B.kept backend.old) (record {
+      slot = slot;
+      line = record {
+        id = id;
+        ask = Act
+            want;
+      };
+    }) result.1 }
     ensures failures { B.failures backend.new ≡ failures_after (B.stands backend.old) (B.failures backend.old) (record {
       slot = slot;
       line
@@ -78,6 +86,14 @@ fn answer_query<B: Backend, W: Write + Drop>(
       line = record { id = id; ask = Look query };
     }) result.0) result.1 }
     ensures plant { B.stands backend.new ≡ plant_after (B.stands backend.old) (record {
+      slot = slot;
+      line = record {
+        id = id;
+        ask = Look
+            query;
+      };
+    }) result.0 }
+    ensures kept { B.kept backend.new ≡ kept_after (B.stands backend.old) (B.kept backend.old) (record {
       slot = slot;
       line = record {
         id = id;
@@ -135,6 +151,7 @@ pub fn answer_line<B: Backend, W: Write + Drop>(
       line = line;
     }) result.0) result.1 }
     ensures plant { B.stands backend.new ≡ plant_after (B.stands backend.old) (record { slot = slot; line = line }) result.0 }
+    ensures kept { B.kept backend.new ≡ kept_after (B.stands backend.old) (B.kept backend.old) (record { slot = slot; line = line }) result.0 }
     ensures failures { B.failures backend.new ≡ failures_after (B.stands backend.old) (B.failures backend.old) (record {
       slot = slot;
       line

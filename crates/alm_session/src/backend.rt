@@ -1,8 +1,8 @@
 //! What a desk stands on.
 
-ghost use Rattle.std.specs.Prelude.{◌≡◌, ℕ, Option, is_none};
+ghost use Rattle.std.specs.Prelude.{◌≡◌, ℕ, List, Option, is_none};
 ghost use Rattle.alm_model.specs.Plant.{Condensed};
-ghost use Rattle.alm_session.specs.Backends.{IsJudged, CountsStop, IsAsked};
+ghost use Rattle.alm_session.specs.Backends.{IsJudged, CountsStop, IsAsked, kept_by};
 
 use crate::judged::Judged;
 use crate::stopped::Stopped;
@@ -13,6 +13,10 @@ pub trait Backend {
     /// The plant; none from the moment on at which its storage has stopped.
     ghost stands: { Self → Option Condensed };
 
+    /// The plants for one of which its storage stands: the plant alone, and from the moment on at which the storage has stopped
+    /// the one before, without the action that met it or with it.
+    ghost kept: { Self → List Condensed };
+
     /// How often its storage has failed: a device failed, or numbers that storage gives out were spent. Up to 2^64 - 1, where
     /// the count stays.
     ghost failures: { Self → ℕ };
@@ -21,13 +25,14 @@ pub trait Backend {
     /// counted; nothing is said of the action then.
     fn submit(&mut self, request: &Request) -> Result<Judged, Stopped>
         ensures judged { IsJudged (stands self.old) request.now result (stands self.new) }
+        ensures stored { kept self.new ≡ kept_by (stands self.old) (kept self.old) request.now result }
         ensures count { CountsStop (stands self.old) result (failures self.old) (failures self.new) };
 
     /// Answers a query, under the count of actions. `Stopped` once its storage has stopped, and the answer stays as it was;
     /// `OutOfMemory` for lists alone, where a growth was refused.
     fn ask(&mut self, query: Query, answer: &mut Answer) -> Result<u64, Refusal>
         ensures asked { IsAsked (stands self.old) query answer.old answer.new result }
-        ensures kept { stands self.new ≡ stands self.old }
+        ensures same { (stands self.new ≡ stands self.old) × (kept self.new ≡ kept self.old) }
         ensures count { failures self.new ≡ failures self.old };
 
     /// Whether its storage has stopped.

@@ -31,7 +31,7 @@ impl<B: Backend + Drop> Model for LocalDesk<B> {
     ghost Value = { Desk };
 
     ghost view = { λ d. record {
-      standing = standing_of (B.stands d.backend) (B.failures d.backend) d.answer.refused;
+      standing = standing_of (B.stands d.backend) (B.kept d.backend) (B.failures d.backend) d.answer.refused;
       helds = d.decoders.items;
       closed = d.closed;
     } };
@@ -60,7 +60,7 @@ impl<B: Backend + Drop> LocalDesk<B> {
 
     pub fn new(alloc: Global, backend: B) -> Result<Self, AllocError>
         ensures { IfOk result (λ desk. desk ≡ record {
-          standing = standing_of (B.stands backend) (B.failures backend) 0;
+          standing = standing_of (B.stands backend) (B.kept backend) (B.failures backend) 0;
           helds = replicate 18 [];
           closed = false;
         }) }
@@ -92,6 +92,30 @@ impl<B: Backend + Drop> LocalDesk<B> {
         ensures { result ≡ self.now.closed }
     {
         self.closed
+    }
+
+    /// What the desk stands on.
+    pub fn backend(&self) -> &B
+        ensures stands { B.stands result.now ≡ self.now.standing.plant }
+        ensures kept { B.kept result.now ≡ self.now.standing.kept }
+        ensures failures { B.failures result.now ≡ self.now.standing.failures }
+    {
+        &self.backend
+    }
+
+    /// The backend alone.
+    pub fn into_backend(self) -> B
+        ensures stands { B.stands result ≡ self.standing.plant }
+        ensures kept { B.kept result ≡ self.standing.kept }
+        ensures failures { B.failures result ≡ self.standing.failures }
+    {
+        let LocalDesk {
+            backend,
+            decoders: _,
+            answer: _,
+            closed: _,
+        } = self;
+        backend
     }
 
     /// Closes the desk, where something else that was written to the same writer failed.

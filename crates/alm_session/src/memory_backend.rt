@@ -8,9 +8,11 @@ use alm_types::{Answer, Query, Refusal, Request, Verdict};
 
 /// A plant in memory, however it keeps its alarms. It never stops.
 impl<P: Alarms> Backend for P {
-    ghost use Rattle.std.specs.Prelude.{Some};
+    ghost use Rattle.std.specs.Prelude.{Some, [], ◌∷◌};
 
     ghost stands = { λ p. Some (P.plant p) };
+
+    ghost kept = { λ p. P.plant p ∷ [] };
 
     ghost failures = { λ _. 0 };
 

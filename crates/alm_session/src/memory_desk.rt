@@ -1,6 +1,6 @@
 //! A desk over a plant in memory.
 
-ghost use Rattle.std.specs.Prelude.{◌≡◌, IfOk, Some, [], replicate, false};
+ghost use Rattle.std.specs.Prelude.{◌≡◌, IfOk, Some, [], ◌∷◌, replicate, false};
 ghost use Rattle.alm_model.specs.New.{new_plant};
 ghost use Rattle.alm_session.specs.Answers.{standing_of};
 
@@ -12,7 +12,7 @@ use std::alloc::{AllocError, Global};
 /// A desk over the new plant of a table.
 pub fn desk_of<P: Alarms + Drop>(alloc: Global, table: &Table) -> Result<LocalDesk<P>, AllocError>
     ensures { IfOk result (λ desk. desk ≡ record {
-      standing = standing_of (Some (new_plant table.now)) 0 0;
+      standing = standing_of (Some (new_plant table.now)) (new_plant table.now ∷ []) 0 0;
       helds = replicate 18 [];
       closed = false;
     }) }

@@ -12,7 +12,7 @@ impl<D: Disk + Drop> Store for Keeper<D> {
     ghost use Rattle.std.specs.Prelude.{length};
     ghost use Rattle.alm_keeper.specs.Keeper.{HasRoom, next};
     ghost use Rattle.alm_keeper.specs.Stages.{phase_of};
-    ghost use Rattle.alm_store.specs.Keepers.{StandsFor, IsSpent};
+    ghost use Rattle.alm_store.specs.Keepers.{StandsFor, IsSpent, calls_left};
     ghost use Rattle.alm_store.specs.Resting.{keeps_rules, rests, stands_for_one};
 
     type Device = D;
@@ -32,6 +32,10 @@ impl<D: Disk + Drop> Store for Keeper<D> {
     ghost next = { λ k. (next k).plant };
 
     ghost takes = { λ k actions. HasRoom k.stored (length actions) };
+
+    ghost will_take = { λ k actions. HasRoom (next k) (length actions) };
+
+    ghost left = { λ k. calls_left k.stage };
 
     ghost spent = { IsSpent };
 
@@ -69,6 +73,7 @@ impl<D: Disk + Drop> Store for Keeper<D> {
 
     fn begin_checkpoint(&mut self) -> Result<(), Refused> {
         Keeper::images(self);
+        let _least = self.segment();
         Keeper::begin_checkpoint(self)
     }
 

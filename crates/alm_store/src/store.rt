@@ -45,6 +45,12 @@ pub trait Store: Drop {
     /// The next frame takes these actions.
     ghost takes: { Self → List Action → Type 0 };
 
+    /// It does when the work that is under way is done.
+    ghost will_take: { Self → List Action → Type 0 };
+
+    /// How many device calls are left of that work.
+    ghost left: { Self → ℕ };
+
     /// A device stands at the last epoch.
     ghost spent: { DeviceState → Type 0 };
 
@@ -95,6 +101,7 @@ pub trait Store: Drop {
         ensures refused { phase self.old ≡ Idle → OnErr result ((phase self.new ≢ Committing) × (phase self.new ≢ Copying) × (next self.new ≡ next self.old)) }
         ensures begun { OnOk result ((phase self.new ≡ Committing) × (next self.new ≡ run (stored self.old) (accepted_of batch.now.entries))) }
         ensures admitted { OnOk result (admits_all (stored self.old) (accepted_of batch.now.entries) ≡ true) }
+        ensures calls { OnOk result (left self.new ≤ 4) }
         /// An idle store begins a batch that is the next one and admitted.
         ensures cause { phase self.old ≡ Idle → batch.now.first ≡ (stored self.old).panel.count + 1 → AllAdmitted (stored self.old) (accepted_of batch.now.entries) → IsOk result };
 
@@ -104,6 +111,9 @@ pub trait Store: Drop {
         ensures honest { honest self.old ↔ honest self.new }
         ensures refused { phase self.old ≡ Idle → OnErr result ((phase self.new ≢ Committing) × (phase self.new ≢ Copying) × (next self.new ≡ next self.old)) }
         ensures begun { OnOk result ((phase self.new ≡ Copying) × (next self.new ≡ stored self.old)) }
+        ensures calls { OnOk result (left self.new ≤ 6) }
+        /// A checkpoint makes room for a whole batch.
+        ensures room { OnOk result ((actions : List Action) → length actions ≤ 256 → will_take self.new actions) }
         ensures cause { honest self.old → phase self.old ≡ Idle → ¬ (spent (device self.old)) → IsOk result };
 
     /// One device call of the work that was begun.
@@ -113,6 +123,8 @@ pub trait Store: Drop {
         ensures call { honest self.old → IsCall (device self.old) (device self.new) }
         ensures count { failures self.old ≤ failures self.new }
         ensures advanced { Advanced result (phase self.old) (phase self.new) (stored self.old) (next self.old) (stored self.new) (next self.new) }
+        ensures fewer { result ≡ Progress.More → (phase self.new ≡ phase self.old) × (left self.new < left self.old) × ((actions : List Action) → will_take self.old actions → will_take self.new actions) }
+        ensures done { result ≡ Progress.Done → (phase self.new ≡ Idle) × ((actions : List Action) → will_take self.old actions → takes self.new actions) }
         ensures cause { result ≡ Progress.Failed → HasFailed (failures self.old) (failures self.new) };
 
     /// Where nothing is under way the next plant is the stored one.

@@ -1,0 +1,56 @@
+//! The desk over standard input and output.
+
+use crate::fault::Fault;
+use crate::file_stack::FileStack;
+use crate::io_fault::io_fault;
+use alm_file::FileDisk;
+use alm_model::Alarms;
+use alm_plant::Plant;
+use alm_service::{CountedReader, desk_run, worked_table};
+use alm_session::{Backend, CountedWriter, LocalDesk};
+use alm_stack::Stack;
+use std::alloc::Global;
+use std::fs::{File, Files};
+use std::io::{self, BufWriter};
+
+/// Runs a desk over a backend. Where the storage stops it goes on to the end of the input, and stopped is its fault.
+fn run_over<R: Input + Print + AllocGlobal, B: Backend + Drop>(
+    rt: &R,
+    backend: B,
+) -> Result<(), Fault> {
+    let alloc = rt.alloc();
+    let mut desk = LocalDesk::new(alloc, backend)?;
+    let mut reader = CountedReader::new(rt.reader());
+    let writer = BufWriter::with_capacity(alloc, 65536, io::writer(rt)).map_err(io_fault)?;
+    let mut writer = CountedWriter::new(writer);
+    desk_run(&mut reader, &mut writer, &mut desk)?;
+    if desk.stopped() {
+        return Err(Fault::Stopped);
+    }
+    Ok(())
+}
+
+/// Runs the desk over the worked table in memory.
+pub fn run_desk<R: Input + Print + AllocGlobal>(rt: &R) -> Result<(), Fault> {
+    let table = worked_table(rt.alloc())?;
+    let plant = Plant::new(rt.alloc(), &table)?;
+    run_over(rt, plant)
+}
+
+/// Opens the stack over a file.
+fn open_stack(alloc: Global, disk: FileDisk) -> Result<FileStack, Fault> {
+    match Stack::open(alloc, disk) {
+        Ok(stack) => Ok(FileStack { stack }),
+        Err((fault, _)) => Err(Fault::from(fault)),
+    }
+}
+
+/// Runs the desk over a device.
+pub fn run_device_desk<R: Input + Print + Files<File = File> + AllocGlobal>(
+    rt: &R,
+    device: &str,
+) -> Result<(), Fault> {
+    let disk = FileDisk::open(rt, device).map_err(io_fault)?;
+    let stack = open_stack(rt.alloc(), disk)?;
+    run_over(rt, stack)
+}

@@ -1,0 +1,39 @@
+//! The program: its words, its commands, and how it ends.
+//!
+//! | words | do |
+//! |---|---|
+//! | `desk` | the worked table in memory, over standard input and output |
+//! | `desk DEVICE` | the same over a formatted device |
+//! | `format DEVICE TABLE` | makes the file of a device, and formats it for a table file |
+//! | `show DEVICE` | prints the plant that a device stands for |
+//!
+//! Every other word, and a request for help, is wrong usage.
+//!
+//! | fault | status | its line on standard error |
+//! |---|---|---|
+//! | of the words | 1 | `fault usage` |
+//! | of the table | 2 | `fault toml`, `fault table <alarm or -> <key>`, `fault rows` |
+//! | of the device's bytes or size | 2 | `fault too-small`, `fault unformatted`, `fault damaged <half> <at>` |
+//! | of the device as it is opened or formatted | 3 | `fault disk` |
+//! | of the device later | 3 | `fault stopped` |
+//! | of memory, files, streams, ports | 3 | `fault memory`, `fault io`, `fault net` |
+//!
+//! What is used above: [`run_program`] ends with status 0 and no line, or with the status and the line of one fault.
+//!
+//! Not promised: what a file holds. That which words give which job, and which cause which fault, is tested.
+#![tactic(auto)]
+
+mod desk;
+mod fault;
+mod fault_line;
+mod file_stack;
+mod formatting;
+mod host;
+mod io_fault;
+mod program;
+mod showing;
+
+pub use fault::Fault;
+pub use fault_line::print_fault;
+pub use host::run_in_process;
+pub use program::run_program;

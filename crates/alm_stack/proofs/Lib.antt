@@ -1,0 +1,7 @@
+pub mod Coming
+pub mod Kept
+pub mod Ordered
+pub mod Resting
+pub mod Rings
+pub mod Stored
+pub mod Verdicts

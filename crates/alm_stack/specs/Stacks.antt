@@ -1,0 +1,43 @@
+-- A stack, and for which plants its device stands.
+use Rattle.std.specs.Prelude.{ℕ, List, [], ◌∷◌, length, Option, Some, None, slice_get}
+use Rattle.alm_types.specs.declared.request.Request.{Request}
+use Rattle.alm_model.specs.Accept.{accept}
+use Rattle.alm_model.specs.Plant.{Condensed}
+use Rattle.alm_disk.specs.declared.disk.Disk
+use Rattle.alm_rings.specs.declared.told.Told.{Ghosts as ToldGhosts}
+use Rattle.alm_rings.specs.declared.console.Console.{Console}
+use Rattle.alm_rings.specs.Ends.{sent_of}
+use Rattle.alm_store.specs.declared.store.Store.{Ghosts}
+use Rattle.alm_sequencer.specs.Sequences.{live_of}
+use Rattle.alm_session.specs.Backends.{if_accepted}
+use Rattle.alm_stack.specs.declared.stack.StackOver.{StackOver}
+
+-- none from the request on at which the storage stopped
+abbrev pub running : Option Request → Condensed → Option Condensed
+running None live = Some live
+running (Some r) live = None
+
+-- the plant alone; once the storage has stopped, what was stored before, without the request's own action or with it
+abbrev pub kept_at : Option Request → (live stored : Condensed) → List Condensed
+kept_at None live stored = live ∷ []
+kept_at (Some r) live stored = stored ∷ if_accepted stored (accept stored.panel r) ∷ []
+
+module _ {T : Type 0} {t : ToldGhosts T} where
+  abbrev pub sent_to : Option (Console T t) → ℕ
+  sent_to None = 0
+  sent_to (Some c) = length (sent_of c)
+
+module _ {K D : Type 0} {g : Ghosts K D} {d : Disk.Ghosts D} where
+  abbrev pub stands_of : StackOver K D g d → Option Condensed
+  stands_of s = running s.halted (live_of s.pipeline.sequencer)
+
+  abbrev pub kept_of : StackOver K D g d → List Condensed
+  kept_of s = kept_at s.halted (live_of s.pipeline.sequencer) (g.stored s.pipeline.flusher.store)
+
+  -- its store
+  abbrev pub store_of : StackOver K D g d → K
+  store_of s = s.pipeline.flusher.store
+
+  -- how many requests of a slot were sent
+  abbrev pub serial_of : ℕ → StackOver K D g d → ℕ
+  serial_of slot s = sent_to (slice_get s.consoles.items slot)

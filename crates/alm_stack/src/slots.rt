@@ -1,0 +1,58 @@
+//! The ends of all slots.
+
+ghost use Rattle.std.specs.Prelude.{◌≡◌, ◌<◌, ℕ, [], length, slice_get, Some, IfOk, IsSome};
+ghost use Rattle.rtrb.specs.Ring.{IsPair};
+ghost use Rattle.alm_rings.specs.declared.console.Console.{Console};
+ghost use Rattle.alm_rings.specs.declared.inbox.Inbox.{Inbox};
+ghost use Rattle.alm_rings.specs.declared.outbox.Outbox.{Outbox};
+ghost use Rattle.alm_rings.specs.Ends.{sent_of, received_of};
+ghost use Rattle.alm_rings.specs.Placed.{AreApart, inbox_at, outbox_at, taken_by, released_by};
+
+use alm_board::PlainTold;
+use alm_rings::{Console, Inbox, Outbox, open_slot};
+use alm_types::Slot;
+use std::alloc::{AllocError, Global};
+
+/// How many slots there are.
+const SLOTS: u8 = 18;
+
+/// The ends of all slots, in the order of the slots.
+#[derive(Drop)]
+pub struct Ends {
+    pub consoles: Vec<Console<PlainTold>>,
+    pub inboxes: Vec<Inbox>,
+    pub outboxes: Vec<Outbox<PlainTold>>,
+}
+
+/// Opens all slots.
+pub fn open_slots(alloc: Global) -> Result<Ends, AllocError>
+    ensures count { IfOk result (λ e. length e.consoles.items ≡ 18) }
+    ensures apart { IfOk result (λ e. AreApart (λ i. i.slot) e.inboxes.items × AreApart (λ o. o.slot) e.outboxes.items) }
+    ensures inboxes { IfOk result (λ e. (s : ℕ) → s < 18 → IsSome (inbox_at s e.inboxes.items)) }
+    ensures outboxes { IfOk result (λ e. (s : ℕ) → s < 18 → IsSome (outbox_at s e.outboxes.items)) }
+    ensures requests { IfOk result (λ e. (s : ℕ) (c : Console _ _) (i : Inbox) → slice_get e.consoles.items s ≡ Some c → inbox_at s e.inboxes.items ≡ Some i → IsPair c.requests i.requests) }
+    ensures replies { IfOk result (λ e. (s : ℕ) (c : Console _ _) (o : Outbox _ _) → slice_get e.consoles.items s ≡ Some c → outbox_at s e.outboxes.items ≡ Some o → IsPair o.replies c.replies) }
+    ensures consoles { IfOk result (λ e. (s : ℕ) (c : Console _ _) → slice_get e.consoles.items s ≡ Some c → (sent_of c ≡ []) × (received_of c ≡ [])) }
+    ensures taken { IfOk result (λ e. (s : ℕ) → taken_by s e.inboxes.items ≡ []) }
+    ensures released { IfOk result (λ e. (s : ℕ) → released_by s e.outboxes.items ≡ []) }
+{
+    let mut consoles = Vec::with_capacity(alloc, 18)?;
+    let mut inboxes = Vec::with_capacity(alloc, 18)?;
+    let mut outboxes = Vec::with_capacity(alloc, 18)?;
+    for number in 0..SLOTS {
+        match Slot::new(number) {
+            Some(slot) => {
+                let (console, inbox, outbox) = open_slot(alloc, slot)?;
+                consoles.push_reserved(console);
+                inboxes.push_reserved(inbox);
+                outboxes.push_reserved(outbox);
+            }
+            None => unreachable!(),
+        }
+    }
+    Ok(Ends {
+        consoles,
+        inboxes,
+        outboxes,
+    })
+}

@@ -1,0 +1,154 @@
+//! The whole stack.
+
+ghost use Rattle.std.specs.Prelude.{◌≡◌, ℕ, None, Some, length, slice_get};
+ghost use Rattle.alm_types.specs.declared.request.Request.{Request};
+ghost use Rattle.alm_model.specs.Judging.{verdict_of};
+ghost use Rattle.alm_rings.specs.declared.console.Console.{Console};
+ghost use Rattle.alm_stack.specs.Passing.{AreLinked, RestsAt, MayWait};
+
+use crate::opening::{Furnished, furnish};
+use crate::pipeline::Pipeline;
+use alm_board::{Look, PlainTold, Seen};
+use alm_keeper::{Keeper, OpenFault};
+use alm_rings::Console;
+use alm_session::{Backend, Judged, Stopped};
+use alm_store::Store;
+use alm_types::{Answer, Query, Refusal, Request};
+use std::alloc::Global;
+
+/// The stack over a device.
+pub type Stack<D> = StackOver<Keeper<D>>;
+
+/// The parts of a server over a store, one request at a time.
+#[derive(Drop)]
+pub struct StackOver<K: Store> {
+    consoles: Vec<Console<PlainTold>>,
+    pipeline: Pipeline<K>,
+    // The request at which the storage stopped.
+    halted: Option<Request>,
+    failures: u64,
+    pub ghost count: { length consoles.items ≡ 18 },
+    /// While it runs, nothing is under way between two requests,
+    pub ghost linked: { halted ≡ None → (s : ℕ) (c : Console _ _) → slice_get consoles.items s ≡ Some c → AreLinked s c pipeline.sequencer.inboxes.items pipeline.flusher.outboxes.items pipeline.sequencer.ends pipeline.flusher.fetch },
+    pub ghost rests: { halted ≡ None → (s : ℕ) (c : Console _ _) → slice_get consoles.items s ≡ Some c → RestsAt s c pipeline },
+    /// and once it has stopped, at most the action that met it.
+    pub ghost halts: { (r : Request) → halted ≡ Some r → ∥ MayWait pipeline.flusher.held (verdict_of (K.stored pipeline.flusher.store) r) ∥₁ },
+}
+
+impl<K: Store> StackOver<K> {
+    ghost use Rattle.std.specs.Prelude.{◌≡◌, ◌≤◌, ◌↔◌, ℕ, List, [], ◌∷◌, IfOk, IfErr, Some, Contains, false};
+    ghost use Rattle.alm_model.specs.Plant.{Condensed};
+    ghost use Rattle.alm_disk.specs.Device.{IsImage};
+    ghost use Rattle.alm_store.specs.Opening.{HasCause};
+    ghost use Rattle.alm_stack.specs.Stacks.{stands_of, kept_of, store_of};
+
+    /// Opens what a device stands for: it is synced and read, and nothing is written. All memory is taken here.
+    ///
+    /// The device comes back where it stands for nothing, where it failed, or for want of memory.
+    pub fn open(alloc: Global, disk: K::Device) -> Result<StackOver<K>, (OpenFault, K::Device)>
+        // What it reads is one of the images before, and stands for the plant.
+        ensures opened { K.Device.honest disk → IfOk result (λ s. IsImage (K.Device.state disk) (K.device (store_of s)).bytes × K.recovers (K.device (store_of s)).bytes (K.stored (store_of s))) }
+        ensures settled { K.Device.honest disk → IfOk result (λ s. (place : ℕ) → (K.device (store_of s)).pending place ≡ false) }
+        ensures stands { IfOk result (λ s. (stands_of s ≡ Some (K.stored (store_of s))) × (kept_of s ≡ K.stored (store_of s) ∷ [])) }
+        ensures failures { IfOk result (λ s. s.failures ≡ 0) }
+        ensures counted { IfOk result (λ s. K.Device.failures disk ≤ K.failures (store_of s)) }
+        ensures honest { IfOk result (λ s. K.Device.honest disk ↔ K.honest (store_of s)) }
+        ensures honest_back { IfErr result (λ x. K.Device.honest disk ↔ K.Device.honest x.1) }
+        ensures unwritten_back { K.Device.honest disk → IfErr result (λ x. (b : List ℕ) → IsImage (K.Device.state x.1) b → IsImage (K.Device.state disk) b) }
+        ensures cause { K.Device.honest disk → IfErr result (λ x. HasCause K.recovers (K.Device.state disk) x.0 (K.Device.failures disk) (K.Device.failures x.1)) }
+    {
+        match K::open(alloc, disk) {
+            Ok(store) => match furnish(alloc, store) {
+                Ok(Furnished { consoles, pipeline }) => Ok(StackOver {
+                    consoles,
+                    pipeline,
+                    halted: None,
+                    failures: 0,
+                }),
+                Err(store) => Err((OpenFault::OutOfMemory, store.into_device())),
+            },
+            Err(refused) => Err(refused),
+        }
+    }
+
+    /// Does nothing: it says what a crash leaves of the device. Each image stands for one of the plants that are kept: for the plant
+    /// itself while it runs, and once it has stopped for the one before, without the action that met it or with it.
+    pub fn images(&self)
+        ensures { K.honest (store_of self.now) → (b : List ℕ) → IsImage (K.device (store_of self.now)) b → ∥ ((plant : Condensed) × Contains (kept_of self.now) plant × K.recovers b plant) ∥₁ }
+    {
+        self.pipeline.flusher.keeper().images();
+    }
+
+    /// The device.
+    pub fn into_disk(self) -> K::Device
+        ensures honest { K.honest (store_of self) ↔ K.Device.honest result }
+        ensures device { K.Device.state result ≡ K.device (store_of self) }
+        ensures failures { K.Device.failures result ≡ K.failures (store_of self) }
+    {
+        let StackOver {
+            consoles: _,
+            pipeline,
+            halted: _,
+            failures: _,
+        } = self;
+        let Pipeline {
+            sequencer: _,
+            flusher,
+        } = pipeline;
+        flusher.into_keeper().into_device()
+    }
+}
+
+impl<K: Store> Backend for StackOver<K> {
+    ghost use Rattle.std.specs.Prelude.{◌≡◌, ◌↔◌, ◌<◌, ◌+◌, ◌^◌, IsSome, OnErr};
+    ghost use Rattle.alm_disk.specs.Failures.{HasFailed};
+    ghost use Rattle.alm_session.specs.Backends.{IsJudged, CountsStop, kept_by};
+    ghost use Rattle.alm_stack.specs.Stacks.{stands_of, kept_of, store_of, serial_of};
+
+    ghost stands = { stands_of };
+
+    ghost kept = { kept_of };
+
+    ghost failures = { λ s. s.failures };
+
+    fn submit(&mut self, request: &Request) -> Result<Judged, Stopped>
+        ensures judged { IsJudged (stands_of self.old) request.now result (stands_of self.new) }
+        ensures stored { kept_of self.new ≡ kept_by (stands_of self.old) (kept_of self.old) request.now result }
+        ensures count { CountsStop (stands_of self.old) result self.old.failures self.new.failures }
+        // It stops only where the device failed in this call, where the last epoch is spent, or where the slot's serials are.
+        ensures cause { IsSome (stands_of self.old) → K.honest (store_of self.old) → ¬ (K.spent (K.device (store_of self.old))) → serial_of request.now.slot self.old + 1 < 2 ^ 64 → OnErr result (HasFailed (K.failures (store_of self.old)) (K.failures (store_of self.new))) }
+        ensures honest { K.honest (store_of self.old) ↔ K.honest (store_of self.new) }
+    {
+        match self.halted {
+            Some(_) => return Err(Stopped),
+            None => {}
+        }
+        let slot = request.slot;
+        let console = &mut self.consoles[slot.number() as usize];
+        match self.pipeline.exchange(slot, console, request.want) {
+            Some(judged) => Ok(judged),
+            None => {
+                self.halted = Some(*request);
+                self.failures = self.failures.saturating_add(1);
+                Err(Stopped)
+            }
+        }
+    }
+
+    fn ask(&mut self, query: Query, answer: &mut Answer) -> Result<u64, Refusal> {
+        match self.halted {
+            Some(_) => return Err(Refusal::Stopped),
+            None => {}
+        }
+        let mut look = self.pipeline.flusher.board().looker(Seen::new());
+        look.look(query, answer)
+    }
+
+    fn is_stopped(&self) -> bool {
+        self.halted.is_some()
+    }
+
+    fn failures(&self) -> u64 {
+        self.failures
+    }
+}
