@@ -1,6 +1,5 @@
 pub mod Coming
 pub mod Kept
-pub mod Ordered
 pub mod Resting
 pub mod Rings
 pub mod Stored

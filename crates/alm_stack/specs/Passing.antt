@@ -57,7 +57,15 @@ pub record Situation : Type 0 where
 -- none is under way
 abbrev pub resting : (base plant : Condensed) → Situation
 resting base plant = record {
-  base = base; plant = plant; requests = []; entries = []; sealed = []; held = Nothing; free = 7; replies = []; unanswered = 0;
+  base = base;
+  plant = plant;
+  requests = [];
+  entries = [];
+  sealed = [];
+  held = Nothing;
+  free = 7;
+  replies = [];
+  unanswered = 0;
 }
 
 abbrev pub sent : Action → Situation → Situation

@@ -20,7 +20,6 @@
 mod judging;
 mod opening;
 mod pipeline;
-mod slots;
 mod stack;
 
 pub use stack::{Stack, StackOver};

@@ -6,12 +6,11 @@ ghost use Rattle.alm_sequencer.specs.Sequences.{live_of};
 ghost use Rattle.alm_stack.specs.Passing.{AreLinked, RestsAt};
 
 use crate::pipeline::Pipeline;
-use crate::slots::{Ends, open_slots};
 use alm_board::{PlainBoard, PlainTold};
 use alm_flusher::Flusher;
 use alm_keeper::Phase;
 use alm_model::Alarms;
-use alm_rings::{Console, batches_beside, open_batches};
+use alm_rings::{Console, SlotEnds, batches_beside, open_batches, open_slots};
 use alm_sequencer::Sequencer;
 use alm_store::Store;
 use std::alloc::Global;
@@ -35,11 +34,14 @@ pub fn furnish<K: Store>(alloc: Global, store: K) -> Result<Furnished<K>, K>
     ensures store { IfOk result (λ f. f.pipeline.flusher.store ≡ store) }
     ensures refused { IfErr result (λ back. back ≡ store) }
 {
-    let Ok(Ends {
-        consoles,
-        inboxes,
-        outboxes,
-    }) = open_slots(alloc) else {
+    let Ok(
+        SlotEnds {
+            consoles,
+            inboxes,
+            outboxes,
+        },
+    ) = open_slots(alloc)
+    else {
         return Err(store);
     };
     let Ok((ends, fetch)) = open_batches(alloc) else {

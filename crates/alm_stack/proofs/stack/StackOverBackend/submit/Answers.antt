@@ -89,7 +89,7 @@ invariant_of-self-in-None-exchange g c =
       linked = λ is. absurd (cc is);
       rests = λ is. absurd (cc is);
       halts = λ r is. ∣ subst (λ (y : Request). MayWait q.flusher.held (verdict_of (g.K.Store.stored q.flusher.store) y)) (same_Some c.args.request.now r is)
-        (subst (λ (x : Condensed). MayWait q.flusher.held (verdict_of x c.args.request.now)) (sym stored) left.1) ∣₁;
+          (subst (λ (x : Condensed). MayWait q.flusher.held (verdict_of x c.args.request.now)) (sym stored) left.1) ∣₁;
     }
 
 pub returns-in-Some-exchange-clause-judged : goal.returns-in-Some-exchange-clause-judged
