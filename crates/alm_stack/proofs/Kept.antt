@@ -1,5 +1,5 @@
 -- For which plants the images of a stack's device stand.
-use Rattle.std.proofs.Common.{◌≡◌, ◌⊎◌, ⊎_elim, inl, inr, ◌∙◌, ℕ, List, [], ◌∷◌, Option, Some, None, refl, sym, ap, subst, arith}
+use Rattle.std.proofs.Common.{◌≡◌, ◌⊎◌, ⊎_elim, ◌∙◌, ℕ, List, [], ◌∷◌, Option, Some, None, refl, sym, ap, subst, arith}
 use Rattle.std.specs.List.{Contains}
 use mathlib.Core.Logic.{∥∥₁_elim, ∥∥₁_prop}
 use Rattle.alm_types.specs.declared.request.Request.{Request}
@@ -39,15 +39,15 @@ module _ (R : List ℕ → Condensed → Type 0) where
   kept_image None live stored next held b rests halts either stands =
       let r = rests refl in
       ∥∥₁_elim either ∥∥₁_prop (λ e. ∥∥₁_elim stands ∥∥₁_prop (λ s.
-        let same : next ≡ stored = ⊎_elim (λ x. x) (λ x. x ∙ ap (run stored) r.1) e in
-        let here : R b stored = ⊎_elim (λ x. x) (λ x. subst (R b) same x) s in
-        only live b (subst (R b) (sym r.0) here)))
+      let same : next ≡ stored = ⊎_elim (λ x. x) (λ x. x ∙ ap (run stored) r.1) e in
+      let here : R b stored = ⊎_elim (λ x. x) (λ x. subst (R b) same x) s in
+      only live b (subst (R b) (sym r.0) here)))
   kept_image (Some request) live stored next held b rests halts either stands =
       let after = if_accepted stored (accept stored.panel request) in
       ∥∥₁_elim (halts request refl) ∥∥₁_prop (λ h. ∥∥₁_elim either ∥∥₁_prop (λ e. ∥∥₁_elim stands ∥∥₁_prop (λ s.
-        ⊎_elim (λ x. first stored after b x) (λ x.
-          ⊎_elim (λ (y : next ≡ stored). first stored after b (subst (R b) y x))
-            (λ (y : next ≡ run stored (accepted_of (waiting_of held))).
-              ⊎_elim (λ (z : accepted_of (waiting_of held) ≡ []). first stored after b (subst (R b) (y ∙ ap (run stored) z) x))
-                (λ (z : accepted_of (waiting_of held) ≡ when_accepted (verdict_of stored request)).
-                  second stored after b (subst (R b) (y ∙ (ap (run stored) z ∙ (run_one stored (verdict_of stored request) ∙ after_is stored request))) x)) h) e) s)))
+      ⊎_elim (λ x. first stored after b x) (λ x.
+      ⊎_elim (λ (y : next ≡ stored). first stored after b (subst (R b) y x))
+      (λ (y : next ≡ run stored (accepted_of (waiting_of held))).
+      ⊎_elim (λ (z : accepted_of (waiting_of held) ≡ []). first stored after b (subst (R b) (y ∙ ap (run stored) z) x))
+      (λ (z : accepted_of (waiting_of held) ≡ when_accepted (verdict_of stored request)).
+      second stored after b (subst (R b) (y ∙ (ap (run stored) z ∙ (run_one stored (verdict_of stored request) ∙ after_is stored request))) x)) h) e) s)))

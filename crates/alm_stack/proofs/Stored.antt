@@ -1,8 +1,7 @@
 -- What is stored where nothing is under way, and where a batch waits.
-use Rattle.std.proofs.Common.{◌≡◌, ◌+◌, ◌∙◌, ◌++◌, ◌∷◌, [], List, length, refl, sym, ap, subst, arith, inl, inr, append_assoc, ◌⊎◌, ◌≤◌}
+use Rattle.std.proofs.Common.{◌≡◌, ◌+◌, ◌∙◌, ◌++◌, ◌∷◌, [], length, sym, ap, subst}
 use Rattle.std.proofs.lemmas.List.{append-nil}
 use Rattle.alm_types.specs.declared.entry.Entry.{Entry}
-use Rattle.alm_types.specs.declared.verdict.Verdict.{Verdict}
 use Rattle.alm_types.specs.Batches.{Judged}
 use Rattle.alm_model.specs.Plant.{Condensed}
 use Rattle.alm_model.specs.Step.{run}
@@ -17,7 +16,7 @@ use Rattle.alm_keeper.specs.declared.phase.Phase.TheVariants.{Idle}
 use Rattle.alm_store.specs.declared.store.Store.{Ghosts}
 use Rattle.alm_flusher.specs.declared.held.Held.TheVariants.{Fetched, Committed}
 use Rattle.alm_flusher.specs.Flushes.{IsNext}
-use Rattle.alm_flusher.specs.HeldBatch.{batches_of, stored_of, waiting_of}
+use Rattle.alm_flusher.specs.HeldBatch.{batches_of, stored_of}
 use Rattle.alm_stack.specs.declared.pipeline.Pipeline.{Pipeline}
 use Rattle.alm_stack.specs.Passing.{IsAt, resting, flushing, notes_of}
 
@@ -38,13 +37,13 @@ module _ {T : Type 0} {t : ToldGhosts T} {K D : Type 0} {g : Ghosts K D} {d : Di
       let fetched : fetched_of p.flusher.fetch ≡ before ++ b ∷ [] = p.flusher.held_is ∙ ap (λ h. before ++ batches_of h) m.held in
       let sealed : sealed_of p.sequencer.ends ≡ before ++ b ∷ [] = sym m.sealed ∙ (append-nil (fetched_of p.flusher.fetch) ∙ fetched) in
       let stored : g.stored p.flusher.store ≡ run base (accepted_of (entries_in before)) =
-          p.flusher.stored ∙ ((λ i. run (m.board i) (accepted_of (entries_in before ++ stored_of (m.held i)))) ∙ ap (λ l. run base (accepted_of l)) (append-nil (entries_in before))) in
+      p.flusher.stored ∙ ((λ i. run (m.board i) (accepted_of (entries_in before ++ stored_of (m.held i)))) ∙ ap (λ l. run base (accepted_of l)) (append-nil (entries_in before))) in
       let history : entries_in (sealed_of p.sequencer.ends) ++ p.sequencer.batch.entries ≡ entries_in (before ++ b ∷ []) =
-          (λ i. entries_in (sealed i) ++ m.entries i) ∙ append-nil (entries_in (before ++ b ∷ [])) in
+      (λ i. entries_in (sealed i) ++ m.entries i) ∙ append-nil (entries_in (before ++ b ∷ [])) in
       let legal : IsLegal base (entries_in (before ++ b ∷ [])) =
-          subst (IsLegal base) history (subst (λ (q : Condensed). IsLegal q (entries_in (sealed_of p.sequencer.ends) ++ p.sequencer.batch.entries)) m.base p.sequencer.legal) in
+      subst (IsLegal base) history (subst (λ (q : Condensed). IsLegal q (entries_in (sealed_of p.sequencer.ends) ++ p.sequencer.batch.entries)) m.base p.sequencer.legal) in
       let firsts : firsts_of (before ++ b ∷ []) ≡ firsts_from (base.panel.count + 1) (before ++ b ∷ []) =
-          subst (λ l. firsts_of l ≡ firsts_from (base.panel.count + 1) l) sealed (p.sequencer.firsts ∙ ap (λ (q : Condensed). firsts_from (q.panel.count + 1) (sealed_of p.sequencer.ends)) m.base) in
+      subst (λ l. firsts_of l ≡ firsts_from (base.panel.count + 1) l) sealed (p.sequencer.firsts ∙ ap (λ (q : Condensed). firsts_from (q.panel.count + 1) (sealed_of p.sequencer.ends)) m.base) in
       next_batch base (g.stored p.flusher.store) before b [] firsts (legal_admitted base (entries_in (before ++ b ∷ [])) legal) stored
 
 module _ {T : Type 0} {t : ToldGhosts T} {K D : Type 0} {g : Ghosts K D} {d : Disk.Ghosts D} where

@@ -1,5 +1,5 @@
 -- One request on its way through rings, sequencer and flusher.
-use Rattle.std.specs.Prelude.{◌≡◌, ◌≢◌, ◌⊎◌, ◌+◌, ◌<◌, ◌≤◌, ℕ, List, [], ◌∷◌, ◌++◌, length, Some, None, IsSome}
+use Rattle.std.specs.Prelude.{◌≡◌, ◌≢◌, ◌⊎◌, ◌+◌, ◌≤◌, ℕ, List, [], ◌∷◌, ◌++◌, length, Some, None, IsSome}
 use Rattle.rtrb.specs.Ring.{IsPair}
 use Rattle.alm_types.specs.declared.action.Action.{Action}
 use Rattle.alm_types.specs.declared.entry.Entry.{Entry}
@@ -57,7 +57,15 @@ pub record Situation : Type 0 where
 -- none is under way
 abbrev pub resting : (base plant : Condensed) → Situation
 resting base plant = record {
-  base = base; plant = plant; requests = []; entries = []; sealed = []; held = Nothing; free = 7; replies = []; unanswered = 0;
+  base = base;
+  plant = plant;
+  requests = [];
+  entries = [];
+  sealed = [];
+  held = Nothing;
+  free = 7;
+  replies = [];
+  unanswered = 0;
 }
 
 abbrev pub sent : Action → Situation → Situation

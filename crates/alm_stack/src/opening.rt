@@ -35,11 +35,14 @@ pub fn furnish<K: Store>(alloc: Global, store: K) -> Result<Furnished<K>, K>
     ensures store { IfOk result (λ f. f.pipeline.flusher.store ≡ store) }
     ensures refused { IfErr result (λ back. back ≡ store) }
 {
-    let Ok(Ends {
-        consoles,
-        inboxes,
-        outboxes,
-    }) = open_slots(alloc) else {
+    let Ok(
+        Ends {
+            consoles,
+            inboxes,
+            outboxes,
+        },
+    ) = open_slots(alloc)
+    else {
         return Err(store);
     };
     let Ok((ends, fetch)) = open_batches(alloc) else {

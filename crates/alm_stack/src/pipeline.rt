@@ -1,9 +1,9 @@
 //! Sequencer and flusher in one thread.
 
 use crate::judging::judged_of;
-use alm_keeper::Phase;
 use alm_board::{PlainBoard, PlainTold};
 use alm_flusher::{Advance, Fetch, Flusher, Publishes, Release};
+use alm_keeper::Phase;
 use alm_plant::Plant;
 use alm_rings::Console;
 use alm_sequencer::{Seal, Sequencer, Take};

@@ -1,5 +1,5 @@
-use Rattle.std.proofs.Common.{◌≡◌, ◌<◌, ◌≤◌, ◌+◌, ◌++◌, ℕ, [], length, ap, sym, subst, ◌∙◌, refl, arith}
-use Rattle.std.specs.Prelude.{slice_get, IsSome}
+use Rattle.std.proofs.Common.{◌≡◌, ◌<◌, ◌++◌, [], length, ap, sym, subst, ◌∙◌, refl, arith}
+use Rattle.std.specs.Prelude.{IsSome}
 use Rattle.std.proofs.lemmas.List.{append-nil}
 use Rattle.std.proofs.lemmas.Option.{slice_get_within}
 use Rattle.alm_model.specs.Step.{run}
@@ -26,9 +26,10 @@ returns-clause-linked g c = λ s k here.
       outbox = subst (λ v. IsSome (outbox_at s v.items)) (sym fl.ensures.parts.2) (e.outboxes s few);
       requests = λ i there. e.requests s k i here (ap (λ v. inbox_at s v.items) (sym seq.ensures.inboxes) ∙ there);
       replies = λ o there. e.replies s k o here (ap (λ v. outbox_at s v.items) (sym fl.ensures.parts.2) ∙ there);
-      batches = subst (λ x. AreBatchEnds seq.result.ends x) (sym fl.ensures.parts.3)
-        (ring_trans seq.result.ends.full.end sl.full.end f.full.end (ring_sym sl.full.end seq.result.ends.full.end same.0.0) are.0,
-         ring_trans f.empty.end sl.empty.end seq.result.ends.empty.end are.1 same.1.0);
+      batches = subst (λ x. AreBatchEnds seq.result.ends x) (sym fl.ensures.parts.3) (
+        ring_trans seq.result.ends.full.end sl.full.end f.full.end (ring_sym sl.full.end seq.result.ends.full.end same.0.0) are.0,
+        ring_trans f.empty.end sl.empty.end seq.result.ends.empty.end are.1 same.1.0,
+      );
     }
 
 pub returns-clause-rests : goal.returns-clause-rests

@@ -1,11 +1,11 @@
-use Rattle.std.proofs.Common.{rules, ◌≡◌, ◌<◌, ◌≤◌, ◌+◌, ◌++◌, ◌∷◌, ℕ, List, [], length, slice_get, Some, is_some, inl, inr, ap, sym, subst, ◌∙◌, refl, arith, length-append}
+use Rattle.std.proofs.Common.{rules, ◌≡◌, ◌∷◌, ℕ, [], length, slice_get, Some, inl, inr, ap, sym, subst, ◌∙◌, arith, length-append}
 use Rattle.std.proofs.lemmas.Option.{slice_get_within}
 use Rattle.rtrb.specs.Ring.{IsPair}
 use Rattle.alm_rings.specs.declared.console.Console.{Console}
 use Rattle.alm_rings.specs.declared.inbox.Inbox.{Inbox}
 use Rattle.alm_rings.specs.declared.outbox.Outbox.{Outbox}
 use Rattle.alm_rings.specs.Ends.{sent_of, received_of, taken_of, released_of}
-use Rattle.alm_rings.specs.Placed.{taken_in, released_in, inbox_at, outbox_at}
+use Rattle.alm_rings.specs.Placed.{taken_in, released_in}
 use Rattle.alm_stack.proofs.Ordered.{push_cases, opt_cases, in_order_at, has_one}
 use Rattle.alm_stack.proofs.slots.open_slots.Goals as goal
 

@@ -26,13 +26,16 @@ returns-clause-answered g c = if_some c.receive.result c.receive.ensures.receive
     let shown = c.if-not-publish.ensures.published refl (flushing base plant (Committed b)) b refl m in
     let told = c.if-not-release.ensures.released refl (flushing base plant (Published b 0)) b e refl only of refl refl refl shown in
     let given = c.if-not-give_back.ensures.given refl (released b note (flushing base plant (Published b 0))) b e refl only refl told.0 in
-    let last = says (given_back (released b note (flushing base plant (Published b 0)))) note refl refl given in
-    ((λ i. record { verdict = last.0.0 i; number = last.0.1 i }), last.1, λ s other.
-      let one = c.if-not-publish.ensures.others refl s other in
-      let two = told.1 s other in
-      let three = c.if-not-give_back.ensures.others refl s other in
-      let four = c.receive.ensures.others s other in
-      (four.0 ∙ (three.0 ∙ (two.0 ∙ one.0)), four.1 ∙ (three.1 ∙ (two.1 ∙ one.1)))))
+    let last = says (given_back (released b note (flushing base plant (Published b 0)))) note refl refl given in (
+      (λ i. record { verdict = last.0.0 i; number = last.0.1 i }),
+      last.1,
+      λ s other.
+          let one = c.if-not-publish.ensures.others refl s other in
+          let two = told.1 s other in
+          let three = c.if-not-give_back.ensures.others refl s other in
+          let four = c.receive.ensures.others s other in
+          (four.0 ∙ (three.0 ∙ (two.0 ∙ one.0)), four.1 ∙ (three.1 ∙ (two.1 ∙ one.1))),
+    ))
 
 pub returns-clause-sure : goal.returns-clause-sure
 returns-clause-sure g c = λ no base plant b e only of m.

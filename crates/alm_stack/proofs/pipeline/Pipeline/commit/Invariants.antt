@@ -19,6 +19,6 @@ invariant-loop-step g l = record {
   first : l._step ≡ 0 → l.self.flusher.store ≡ l.initial.self.flusher.store;
   none : (b : Judged) → l.initial.self.flusher.held ≡ Fetched b → accepted_of b.entries ≡ [] → l.self.flusher.store ≡ l.initial.self.flusher.store;
   going : (b : Judged) → l.initial.self.flusher.held ≡ Fetched b → g.K.Store.phase l.initial.self.flusher.store ≡ Idle → length (accepted_of b.entries) ≤ 256
-    → (l.self.flusher.held ≡ Fetched b) × Within (12 - l._step) (g.K.Store.phase l.self.flusher.store) (g.K.Store.left l.self.flusher.store)
+      → (l.self.flusher.held ≡ Fetched b) × Within (12 - l._step) (g.K.Store.phase l.self.flusher.store) (g.K.Store.left l.self.flusher.store)
       (g.K.Store.takes l.self.flusher.store (accepted_of b.entries)) (g.K.Store.will_take l.self.flusher.store (accepted_of b.entries)) (length (accepted_of b.entries));
 }

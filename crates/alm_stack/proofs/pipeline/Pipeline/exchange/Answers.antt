@@ -1,4 +1,4 @@
-use Rattle.std.proofs.Common.{◌≡◌, ◌≤◌, ◌+◌, ◌∙◌, ◌++◌, [], length, refl, sym, ap, subst, arith, inl, inr}
+use Rattle.std.proofs.Common.{◌≡◌, ◌≤◌, ◌∙◌, ◌++◌, length, refl, sym, ap, subst, arith, inl, inr}
 use Rattle.alm_model.specs.Accept.{accept}
 use Rattle.alm_model.specs.Plant.{Condensed}
 use Rattle.alm_model.specs.Step.{run}
@@ -8,7 +8,6 @@ use Rattle.alm_types.specs.declared.verdict.Verdict.{Verdict}
 use Rattle.alm_rings.specs.Batches.{fetched_of}
 use Rattle.alm_rings.specs.Placed.{inbox_at, outbox_at}
 use Rattle.alm_flusher.specs.HeldBatch.{stored_of, waiting_of}
-use Rattle.alm_flusher.specs.declared.held.Held.TheVariants.{Fetched}
 use Rattle.alm_session.specs.Answers.{request}
 use Rattle.alm_session.specs.Backends.{if_accepted}
 use Rattle.alm_session.specs.declared.judged.Judged.{Judged}
@@ -38,10 +37,11 @@ returns-then-not-commit-clause-left g c = λ _ base plant m.
     let same = c.commit.ensures.same in
     let failed = c.if-not-commit.ensures.failed refl p.0 p.2.held p.2.idle few in
     let stored : g.K.Store.stored new.flusher.store ≡ g.K.Store.stored mid.flusher.store =
-        new.flusher.stored ∙ ((λ i. run (same.1 i).base.value (accepted_of (entries_in (fetched_of (same.3 i)) ++ stored_of (failed i))))
-        ∙ sym (mid.flusher.stored ∙ ap (λ h. run mid.flusher.board.base.value (accepted_of (entries_in (fetched_of mid.flusher.before.value) ++ stored_of h))) p.2.held)) in
-    (stored ∙ (ap g.K.Store.stored c.pass.ensures.store ∙ stored_at_rest c.args.slot base plant c.args.console.now c.args.self.now m),
-     inr (ap (λ h. accepted_of (waiting_of h)) failed ∙ (one ∙ ap when_accepted p.1.verdict)))
+    new.flusher.stored ∙ ((λ i. run (same.1 i).base.value (accepted_of (entries_in (fetched_of (same.3 i)) ++ stored_of (failed i))))
+    ∙ sym (mid.flusher.stored ∙ ap (λ h. run mid.flusher.board.base.value (accepted_of (entries_in (fetched_of mid.flusher.before.value) ++ stored_of h))) p.2.held)) in (
+      stored ∙ (ap g.K.Store.stored c.pass.ensures.store ∙ stored_at_rest c.args.slot base plant c.args.console.now c.args.self.now m),
+      inr (ap (λ h. accepted_of (waiting_of h)) failed ∙ (one ∙ ap when_accepted p.1.verdict)),
+    )
 
 pub returns-then-not-commit-clause-cause : goal.returns-then-not-commit-clause-cause
 returns-then-not-commit-clause-cause g c = λ _ base plant m honest unspent more.
@@ -50,7 +50,7 @@ returns-then-not-commit-clause-cause g c = λ _ base plant m honest unspent more
     let same = c.pass.ensures.store in
     let next = next_held c.args.slot base (after_verdict plant p.1.entry.verdict) p.0 c.pass.new.console c.pass.new.self p.2 in
     subst (λ s. HasFailed (g.K.Store.failures s) (g.K.Store.failures c.commit.new.self.flusher.store)) same
-      (c.if-not-commit.ensures.cause refl p.0 p.2.held p.2.idle few next (subst g.K.Store.honest (sym same) honest) (λ spent. unspent (subst (λ s. g.K.Store.spent (g.K.Store.device s)) same spent)))
+    (c.if-not-commit.ensures.cause refl p.0 p.2.held p.2.idle few next (subst g.K.Store.honest (sym same) honest) (λ spent. unspent (subst (λ s. g.K.Store.spent (g.K.Store.device s)) same spent)))
 
 pub returns-clause-answered : goal.returns-clause-answered
 returns-clause-answered g c = if_some c.answer.result c.answer.ensures.answered (λ j says base plant m.
@@ -61,13 +61,14 @@ returns-clause-answered g c = if_some c.answer.result c.answer.ensures.answered 
     let after = after_verdict plant p.1.entry.verdict in
     let at = committed_at c.args.slot base after p.0 c.pass.new.console c.pass.new.self c.commit.new.self same (c.if-not-commit.ensures.done refl p.0 p.2.held p.2.idle few) p.2 in
     let a = says base after p.0 p.1.entry p.1.only p.1.of at in
-    let plants : after ≡ if_accepted plant (accept plant.panel asked) = ap (after_verdict plant) p.1.verdict ∙ after_is plant asked in
-    (a.0 ∙ (ap (λ (v : Verdict). let j : Judged = record { verdict = v; number = (after_verdict plant v).panel.count } in j) p.1.verdict ∙ judged_is plant asked),
-     subst (λ (q : Condensed). IsAt c.args.slot (resting base q) c.answer.new.console c.answer.new.self) plants a.1,
-     λ s other.
-       let three = a.2 s other in
-       let one = c.if-not-pass.ensures.others refl s other in
-       (three.0 ∙ (ap (λ q. inbox_at s q.inboxes.items) same.0 ∙ one.0), three.1 ∙ (ap (λ v. outbox_at s v.items) same.2 ∙ one.1))))
+    let plants : after ≡ if_accepted plant (accept plant.panel asked) = ap (after_verdict plant) p.1.verdict ∙ after_is plant asked in (
+      a.0 ∙ (ap (λ (v : Verdict). let j : Judged = record { verdict = v; number = (after_verdict plant v).panel.count } in j) p.1.verdict ∙ judged_is plant asked),
+      subst (λ (q : Condensed). IsAt c.args.slot (resting base q) c.answer.new.console c.answer.new.self) plants a.1,
+      λ s other.
+          let three = a.2 s other in
+          let one = c.if-not-pass.ensures.others refl s other in
+          (three.0 ∙ (ap (λ q. inbox_at s q.inboxes.items) same.0 ∙ one.0), three.1 ∙ (ap (λ v. outbox_at s v.items) same.2 ∙ one.1)),
+    ))
 
 pub returns-clause-left : goal.returns-clause-left
 returns-clause-left g c = λ none base plant m.

@@ -23,9 +23,11 @@ returns-clause-passed g c = λ ok base plant m.
     let want = c.args.want in
     let one = c.if-not-send.ensures.sent refl (resting base plant) refl refl m in
     let two = c.if-not-take.ensures.taken refl (sent want (resting base plant)) want refl refl one in
-    let three = c.if-not-seal.ensures.sealed refl (taken two.0 (sent want (resting base plant))) two.0 refl refl refl two.3 in
-    (three.0, record { entry = two.0; of = two.1; verdict = two.2; only = three.1 },
-     c.fetch.ensures.fetched ok (sealed_as three.0 (taken two.0 (sent want (resting base plant)))) three.0 refl refl three.2)
+    let three = c.if-not-seal.ensures.sealed refl (taken two.0 (sent want (resting base plant))) two.0 refl refl refl two.3 in (
+      three.0,
+      record { entry = two.0; of = two.1; verdict = two.2; only = three.1 },
+      c.fetch.ensures.fetched ok (sealed_as three.0 (taken two.0 (sent want (resting base plant)))) three.0 refl refl three.2,
+    )
 
 pub returns-clause-spent : goal.returns-clause-spent
 returns-clause-spent g c = λ no base plant m.

@@ -25,18 +25,22 @@ returns-in-Taken-clause-taken g c = λ _ x want waits none m.
     let history = entries_in (sealed_of p.sequencer.ends) in
     let lives : live_of p.sequencer ≡ x.plant = (λ i. run (o.base i) (accepted_of (history ++ o.entries i))) ∙ o.plant in
     let sealed = ap (λ s. sealed_of s) seals.1 in
-    let plant : run x.base (accepted_of history) ≡ x.plant = ap (λ l. run x.base (accepted_of l)) (sym (append-nil history)) ∙ (ap (λ l. run x.base (accepted_of (history ++ l))) (sym none) ∙ o.plant) in
-    (t.entry, t.of, t.told ∙ (t.judged ∙ (λ i. verdict_of (lives i) (record { slot = t.of i; want = is i }))), record {
-      base = seals.0 ∙ o.base;
-      board = o.board;
-      plant = ap (λ l. run x.base (accepted_of (entries_in l ++ t.entry ∷ []))) sealed ∙ (run_snoc x.base history t.entry ∙ ap (λ q. after_verdict q t.entry.verdict) plant);
-      requests = append-nil (taken_by c.args.slot new.inboxes.items) ∙ (t.taken ∙ (ap (λ a. before ++ a ∷ []) is ∙ all));
-      entries = t.entries ∙ ap (λ l. l ++ t.entry ∷ []) (o.entries ∙ none);
-      spare = seals.2 ∙ o.spare;
-      sealed = o.sealed ∙ sym sealed;
-      held = o.held;
-      free = o.free ∙ ap (λ s. length (emptied_of s) + x.free) (sym seals.1);
-      replies = o.replies;
-      unanswered = o.unanswered;
-      idle = o.idle;
-    })
+    let plant : run x.base (accepted_of history) ≡ x.plant = ap (λ l. run x.base (accepted_of l)) (sym (append-nil history)) ∙ (ap (λ l. run x.base (accepted_of (history ++ l))) (sym none) ∙ o.plant) in (
+      t.entry,
+      t.of,
+      t.told ∙ (t.judged ∙ (λ i. verdict_of (lives i) (record { slot = t.of i; want = is i }))),
+      record {
+        base = seals.0 ∙ o.base;
+        board = o.board;
+        plant = ap (λ l. run x.base (accepted_of (entries_in l ++ t.entry ∷ []))) sealed ∙ (run_snoc x.base history t.entry ∙ ap (λ q. after_verdict q t.entry.verdict) plant);
+        requests = append-nil (taken_by c.args.slot new.inboxes.items) ∙ (t.taken ∙ (ap (λ a. before ++ a ∷ []) is ∙ all));
+        entries = t.entries ∙ ap (λ l. l ++ t.entry ∷ []) (o.entries ∙ none);
+        spare = seals.2 ∙ o.spare;
+        sealed = o.sealed ∙ sym sealed;
+        held = o.held;
+        free = o.free ∙ ap (λ s. length (emptied_of s) + x.free) (sym seals.1);
+        replies = o.replies;
+        unanswered = o.unanswered;
+        idle = o.idle;
+      },
+    )

@@ -18,4 +18,4 @@ returns-clause-asked g c =
     let board : c.looker-look.result.board.now ≡ s.pipeline.flusher.board = c.looker-look.ensures.board ∙ c.board.ensures.board in
     let shown = ap (λ d. run d.base.value (list_of d.log)) board ∙ shown_at_rest 0 s.pipeline.sequencer.base.value live h.0 s.pipeline m in
     subst (λ (o : Option Condensed). IsAsked o c.args.query c.args.answer.now c.look.new.answer c.look.result) (sym (ap (λ x. running x live) c.in-None.is))
-      (subst (λ (q : Condensed). IsLook q c.args.query c.args.answer.now c.look.new.answer c.look.result) shown c.look.ensures.shown)
+    (subst (λ (q : Condensed). IsLook q c.args.query c.args.answer.now c.look.new.answer c.look.result) shown c.look.ensures.shown)

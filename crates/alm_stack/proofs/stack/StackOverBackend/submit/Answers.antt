@@ -1,4 +1,4 @@
-use Rattle.std.proofs.Common.{◌≡◌, ◌<◌, ◌+◌, ◌∙◌, ◌⊎◌, inl, inr, ℕ, List, [], ◌∷◌, length, Option, Some, None, Ok, Err, refl, sym, ap, subst, arith}
+use Rattle.std.proofs.Common.{◌≡◌, ◌∙◌, inl, inr, ℕ, [], ◌∷◌, Option, Some, Ok, Err, refl, sym, ap, subst, arith}
 use Rattle.std.specs.Prelude.{slice_get}
 use Rattle.std.proofs.lemmas.List.{length-set}
 use Rattle.std.proofs.lemmas.Option.{slice_get_read, same_Some}
@@ -89,7 +89,7 @@ invariant_of-self-in-None-exchange g c =
       linked = λ is. absurd (cc is);
       rests = λ is. absurd (cc is);
       halts = λ r is. ∣ subst (λ (y : Request). MayWait q.flusher.held (verdict_of (g.K.Store.stored q.flusher.store) y)) (same_Some c.args.request.now r is)
-        (subst (λ (x : Condensed). MayWait q.flusher.held (verdict_of x c.args.request.now)) (sym stored) left.1) ∣₁;
+          (subst (λ (x : Condensed). MayWait q.flusher.held (verdict_of x c.args.request.now)) (sym stored) left.1) ∣₁;
     }
 
 pub returns-in-Some-exchange-clause-judged : goal.returns-in-Some-exchange-clause-judged
