@@ -1,5 +1,5 @@
 -- What comes out of rings in which one thing waits.
-use Rattle.std.proofs.Common.{◌≡◌, ◌<◌, ℕ, List, [], ◌∷◌, ◌++◌, length, refl, sym, ◌∙◌, ap, suc, Option, Some, None, IfSome}
+use Rattle.std.proofs.Common.{◌≡◌, List, [], ◌∷◌, ◌++◌, length, refl, sym, ◌∙◌, ap, suc, Option, Some, None, IfSome}
 use mathlib.Core.List.{IsPrefix}
 use Rattle.alm_rings.specs.declared.told.Told.{Ghosts}
 use Rattle.alm_rings.specs.declared.receipt.Receipt.{Receipt}

@@ -1,9 +1,8 @@
 -- Between two requests.
-use Rattle.std.proofs.Common.{◌≡◌, ◌≢◌, ◌<◌, ◌⊎◌, inl, inr, ◌∙◌, ◌++◌, ℕ, zero, suc, List, [], ◌∷◌, length, Option, Some, None, refl, sym, ap, subst, arith}
+use Rattle.std.proofs.Common.{◌≡◌, ◌≢◌, ◌<◌, ◌⊎◌, inl, inr, ◌∙◌, ◌++◌, ℕ, zero, suc, List, [], ◌∷◌, length, Some, refl, sym, ap, subst, arith}
 use Rattle.std.specs.Prelude.{slice_get, slice_set, IsSome}
 use Rattle.std.proofs.lemmas.List.{append-nil}
 use Rattle.std.proofs.lemmas.Option.{none-some, same_Some}
-use Rattle.rtrb.specs.Ring.{IsPair}
 use Rattle.alm_model.specs.Plant.{Condensed}
 use Rattle.alm_model.specs.Step.{run}
 use Rattle.alm_model.specs.Judging.{accepted_of, entries_in}
@@ -15,13 +14,13 @@ use Rattle.alm_rings.specs.declared.inbox.Inbox.{Inbox}
 use Rattle.alm_rings.specs.declared.outbox.Outbox.{Outbox}
 use Rattle.alm_rings.specs.declared.seal_ends.SealEnds.{SealEnds}
 use Rattle.alm_rings.specs.declared.fetch_ends.FetchEnds.{FetchEnds}
-use Rattle.alm_rings.specs.Batches.{AreBatchEnds, sealed_of, fetched_of}
+use Rattle.alm_rings.specs.Batches.{sealed_of, fetched_of}
 use Rattle.alm_rings.specs.Placed.{inbox_at, outbox_at, taken_in, released_in}
 use Rattle.alm_sequencer.specs.Sequences.{live_of}
 use Rattle.alm_flusher.specs.HeldBatch.{batches_of, shown_of}
 use Rattle.alm_store.specs.declared.store.Store.{Ghosts}
 use Rattle.alm_stack.specs.declared.pipeline.Pipeline.{Pipeline}
-use Rattle.alm_stack.specs.Passing.{AreLinked, IsAt, RestsAt, KeepsOthers, resting, notes_of}
+use Rattle.alm_stack.specs.Passing.{AreLinked, IsAt, RestsAt, resting, notes_of}
 
 -- what stands at a place after a write
 pub set_cases : {E : Type 0} (xs : List E) (k at : ℕ) (new e : E) → slice_get (slice_set xs at new) k ≡ Some e → ((k ≡ at) × (new ≡ e)) ⊎ ((k ≢ at) × (slice_get xs k ≡ Some e))

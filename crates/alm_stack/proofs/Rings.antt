@@ -1,5 +1,5 @@
 -- The ends of rings.
-use Rattle.std.proofs.Common.{◌≡◌, ◌∙◌, sym}
+use Rattle.std.proofs.Common.{◌∙◌, sym}
 use Rattle.rtrb.specs.Ends.{SameRing}
 use Rattle.rtrb.specs.declared.end.End.{End}
 

@@ -1,8 +1,7 @@
 -- What is stored where nothing is under way, and where a batch waits.
-use Rattle.std.proofs.Common.{◌≡◌, ◌+◌, ◌∙◌, ◌++◌, ◌∷◌, [], List, length, refl, sym, ap, subst, arith, inl, inr, append_assoc, ◌⊎◌, ◌≤◌}
+use Rattle.std.proofs.Common.{◌≡◌, ◌+◌, ◌∙◌, ◌++◌, ◌∷◌, [], length, sym, ap, subst}
 use Rattle.std.proofs.lemmas.List.{append-nil}
 use Rattle.alm_types.specs.declared.entry.Entry.{Entry}
-use Rattle.alm_types.specs.declared.verdict.Verdict.{Verdict}
 use Rattle.alm_types.specs.Batches.{Judged}
 use Rattle.alm_model.specs.Plant.{Condensed}
 use Rattle.alm_model.specs.Step.{run}
@@ -17,7 +16,7 @@ use Rattle.alm_keeper.specs.declared.phase.Phase.TheVariants.{Idle}
 use Rattle.alm_store.specs.declared.store.Store.{Ghosts}
 use Rattle.alm_flusher.specs.declared.held.Held.TheVariants.{Fetched, Committed}
 use Rattle.alm_flusher.specs.Flushes.{IsNext}
-use Rattle.alm_flusher.specs.HeldBatch.{batches_of, stored_of, waiting_of}
+use Rattle.alm_flusher.specs.HeldBatch.{batches_of, stored_of}
 use Rattle.alm_stack.specs.declared.pipeline.Pipeline.{Pipeline}
 use Rattle.alm_stack.specs.Passing.{IsAt, resting, flushing, notes_of}
 

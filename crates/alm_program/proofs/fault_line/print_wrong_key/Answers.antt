@@ -1,4 +1,4 @@
-use Rattle.std.proofs.Common.{◌≡◌, ℕ, List, [], ◌∷◌, ◌++◌, codes}
+use Rattle.std.proofs.Common.{ℕ, List, ◌++◌, codes}
 use Rattle.alm_lines.proofs.Prefixes.{prints_err, prints_then, cut_in_first}
 use Rattle.alm_program.specs.Faults.{alarm_text, key_text}
 use Rattle.alm_program.proofs.fault_line.print_wrong_key.Goals as goal

@@ -1,4 +1,4 @@
-use Rattle.std.proofs.Common.{◌≡◌, ℕ, List, Option, Result, Ok, Err, ◌⊎◌, inl, inr, rules}
+use Rattle.std.proofs.Common.{ℕ, List, Option, Result, Ok, Err, ◌⊎◌, inl, inr, rules}
 use Rattle.std.specs.Bool.{⊤}
 use Rattle.std.specs.Io.KnownBytes.{Appends}
 use Rattle.alm_lines.specs.Written.{IsCutShort, Prints}

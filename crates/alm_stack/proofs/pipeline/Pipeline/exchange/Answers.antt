@@ -1,4 +1,4 @@
-use Rattle.std.proofs.Common.{◌≡◌, ◌≤◌, ◌+◌, ◌∙◌, ◌++◌, [], length, refl, sym, ap, subst, arith, inl, inr}
+use Rattle.std.proofs.Common.{◌≡◌, ◌≤◌, ◌∙◌, ◌++◌, length, refl, sym, ap, subst, arith, inl, inr}
 use Rattle.alm_model.specs.Accept.{accept}
 use Rattle.alm_model.specs.Plant.{Condensed}
 use Rattle.alm_model.specs.Step.{run}
@@ -8,7 +8,6 @@ use Rattle.alm_types.specs.declared.verdict.Verdict.{Verdict}
 use Rattle.alm_rings.specs.Batches.{fetched_of}
 use Rattle.alm_rings.specs.Placed.{inbox_at, outbox_at}
 use Rattle.alm_flusher.specs.HeldBatch.{stored_of, waiting_of}
-use Rattle.alm_flusher.specs.declared.held.Held.TheVariants.{Fetched}
 use Rattle.alm_session.specs.Answers.{request}
 use Rattle.alm_session.specs.Backends.{if_accepted}
 use Rattle.alm_session.specs.declared.judged.Judged.{Judged}

@@ -1,4 +1,4 @@
-use Rattle.std.proofs.Common.{◌≡◌, ◌∙◌, ◌++◌, ◌∷◌, [], length, ap, sym, arith, length-append}
+use Rattle.std.proofs.Common.{◌∙◌, ◌++◌, ◌∷◌, [], length, ap, sym, arith, length-append}
 use Rattle.std.proofs.lemmas.List.{append-nil}
 use Rattle.alm_rings.specs.Ends.{sent_of}
 use Rattle.alm_rings.specs.Placed.{taken_by}
