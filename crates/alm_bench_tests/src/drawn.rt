@@ -10,9 +10,10 @@ use alm_types::{Action, AlarmId, Moment, Query, Reading, Slot};
 use std::alloc::Global;
 use std::test::Fail;
 
-const RUNS: u32 = 40;
+/// Long runs, and short ones: how many, and of how many steps.
+const LONG: (u32, u32) = (40, 1000);
 
-const STEPS: u32 = 1000;
+const SHORT: (u32, u32) = (10_000, 60);
 
 /// More calls than a run makes.
 const CALLS: usize = 5000;
@@ -126,11 +127,11 @@ fn step(alloc: Global, drawn: u64, now: u64) -> Result<Step, Fail> {
 }
 
 /// The steps of a run, of which the last are a crash and a reopening.
-fn steps(alloc: Global, seed: u64) -> Result<Vec<Step>, Fail> {
+fn steps(alloc: Global, seed: u64, count: u32) -> Result<Vec<Step>, Fail> {
     let mut steps = Vec::new(alloc);
     let mut drawn = seed;
     steps.push(Step::Reopen)?;
-    for turn in 0..STEPS {
+    for turn in 0..count {
         drawn = random(drawn);
         steps.push(step(alloc, drawn, turn as u64)?)?;
     }
@@ -156,20 +157,34 @@ fn differs_at(world: &mut World, steps: &[Step], trace: &[Event]) -> Result<Opti
     Ok(None)
 }
 
-/// The first place where the trace of drawn steps isn't the world's.
-fn run_differs_at(alloc: Global, seed: u64) -> Result<Option<usize>, Fail> {
-    let steps = steps(alloc, seed)?;
+/// The first place where the trace of so many drawn steps isn't the world's.
+fn run_differs_at(alloc: Global, seed: u64, count: u32) -> Result<Option<usize>, Fail> {
+    let steps = steps(alloc, seed, count)?;
     let trace = trace(alloc, CALLS, &steps)?;
     let mut world = World::new(alloc, worked_table(alloc)?)?;
     differs_at(&mut world, &steps, &trace)
 }
 
-#[test]
-fn drawn_steps_answer_as_the_world_does(rt: HostRuntime) -> Result<(), Fail> {
+/// The first of so many runs that differs, and where.
+fn runs_differ_at(alloc: Global, (runs, count): (u32, u32)) -> Result<Option<(u32, usize)>, Fail> {
     let mut seed = 88_172_645_463_325_252;
-    for run in 0..RUNS {
+    for run in 0..runs {
         seed = random(seed);
-        assert_eq!(rt; run_differs_at(rt.alloc(), seed)?, None, "run {run}");
+        if let Some(place) = run_differs_at(alloc, seed, count)? {
+            return Ok(Some((run, place)));
+        }
     }
+    Ok(None)
+}
+
+#[test]
+fn long_runs_of_drawn_steps_answer_as_the_world_does(rt: HostRuntime) -> Result<(), Fail> {
+    assert_eq!(rt; runs_differ_at(rt.alloc(), LONG)?, None);
+    Ok(())
+}
+
+#[test]
+fn short_runs_of_drawn_steps_answer_as_the_world_does(rt: HostRuntime) -> Result<(), Fail> {
+    assert_eq!(rt; runs_differ_at(rt.alloc(), SHORT)?, None);
     Ok(())
 }
