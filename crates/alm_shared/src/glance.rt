@@ -5,7 +5,7 @@ use crossbeam_utils::rule::Unruled;
 use left_right::reader::{Reader, Reading};
 use std::ops::Deref;
 
-/// A look at what is published. Its writer turns no further than once while it lives.
+/// A look at what is published. A turn may have to wait until it ends.
 pub struct Glance<'a, T: Drop> {
     pub(crate) home: &'a mut Option<Reader<T, (), Unruled>>,
     pub(crate) reading: Reading<T, (), Unruled>,

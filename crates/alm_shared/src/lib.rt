@@ -1,6 +1,6 @@
 //! The published plant, which threads share.
 //!
-//! The flusher's thread shows batches, and each slot looks at what is shown, without a lock. The plant is shown with the list of the actions
+//! One thread shows batches, and each slot looks at what is shown, without a lock. The plant is shown with the list of the actions
 //! that it comes from.
 //!
 //! | name | is |
