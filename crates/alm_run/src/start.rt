@@ -14,7 +14,6 @@ use std::alloc::Global;
 use std::snapshot::Snapshot;
 use std::sync::Wait;
 use std::sync::atomic::Ordering;
-use std::thread;
 use std::thread::{PromisedHandle, Scope, Threads};
 
 type Handle<T> = PromisedHandle<Console<T>, ConsoleBack<T>>;
