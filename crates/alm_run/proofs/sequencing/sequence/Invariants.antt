@@ -1,0 +1,11 @@
+use Rattle.alm_rings.specs.Batches.{SameSealEnds}
+use Rattle.alm_sequencer.specs.Sequences.{SameInboxes}
+use Rattle.alm_run.specs.Serving.{Serves}
+use Rattle.alm_run.proofs.sequencing.sequence.Given as goal
+
+abbrev pub invariant-loop : goal.invariant-loop
+invariant-loop g l = record {
+  serves : Serves l.slots l.sequencer.inboxes.items;
+  inboxes : SameInboxes l.fn.sequencer.inboxes.items l.sequencer.inboxes.items;
+  ends : SameSealEnds l.fn.sequencer.ends l.sequencer.ends;
+}

@@ -1,0 +1,15 @@
+//! A promise of what a source's thread gives back.
+
+use alm_rings::{Console, Told};
+use std::snapshot::Snapshot;
+use std::thread::Promise;
+
+/// The console that comes back is the end that it was.
+#[derive(Drop)]
+pub struct ConsoleBack<T: Told + Drop>(pub Snapshot<Console<T>>);
+
+impl<T: Told + Drop> Promise<Console<T>> for ConsoleBack<T> {
+    ghost use Rattle.alm_rings.specs.Ends.{SameConsole};
+
+    ghost kept_by = { λ p r. SameConsole p.0.value r };
+}

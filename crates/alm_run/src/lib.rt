@@ -1,0 +1,48 @@
+//! The parts of the server, each in a thread of its own.
+//!
+//! | thread | runs | ends |
+//! |---|---|---|
+//! | of each slot | [`sit`]: one turn of its [`Source`] after another | after a turn that says [`Go::End`], or before one where `stop` is set |
+//! | the sequencer's | [`run_sequencer`]: takes one request of each slot in turn, and seals where no batch is out or the open one is full | where all sources had ended before a pass that took nothing, and the open batch is empty; or where `stop` is set |
+//! | the flusher's | [`run_flusher`]: commits, publishes and releases | where nothing more was to be sealed before a fetch that gave nothing; at a failure of the device; after 1,000 refused publishes in a row |
+//!
+//! [`Flags`] are hints, each read before the step that it bounds. A thread that has nothing to do yields.
+//!
+//! What is used above: each thread gives back the ends that it was given, so that whoever joins them all has both ends of each ring
+//! again and may close the slots; a sequencer and a flusher are made in their threads, and what their types say holds throughout. Where the
+//! flusher's thread answers [`Storage::Whole`], the store has not stopped.
+//!
+//! Not promised: that a thread ever ends, that a request is ever answered, and any time.
+#![tactic(auto)]
+
+mod chair;
+mod console_back;
+mod finishing;
+mod flags;
+mod flushing;
+mod go;
+mod rings;
+mod sequencer_ends;
+mod sequencing;
+mod sitting;
+mod source;
+mod start;
+mod start_fault;
+mod starting;
+mod storage;
+
+pub use chair::Chair;
+pub use console_back::ConsoleBack;
+pub use finishing::run_flusher;
+pub use flags::Flags;
+pub use flushing::flush;
+pub use go::Go;
+pub use rings::Rings;
+pub use sequencer_ends::SequencerEnds;
+pub use sequencing::sequence;
+pub use sitting::sit;
+pub use source::Source;
+pub use start::{join_all, start_all, start_one};
+pub use start_fault::StartFault;
+pub use starting::{run_sequencer, start_rings};
+pub use storage::Storage;

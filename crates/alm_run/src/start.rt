@@ -1,0 +1,117 @@
+//! Starts the sources, and joins them.
+ghost use Rattle.std.specs.Prelude.{◌≡◌, map, IfOk, vec_len};
+ghost use Rattle.alm_run.specs.Same.{AllSame};
+
+use crate::chair::Chair;
+use crate::console_back::ConsoleBack;
+use crate::flags::Flags;
+use crate::sitting::sit;
+use crate::source::Source;
+use crate::start_fault::StartFault;
+use alm_board::Look;
+use alm_rings::{Console, Told};
+use std::alloc::Global;
+use std::snapshot::Snapshot;
+use std::sync::Wait;
+use std::sync::atomic::Ordering;
+use std::thread::{PromisedHandle, Scope, Threads};
+
+type Handle<T> = PromisedHandle<Console<T>, ConsoleBack<T>>;
+
+/// Starts one source in a thread of its own.
+pub fn start_one<
+    's,
+    E,
+    T: Told + Drop + Send,
+    L: Look<Told = T> + Drop + Send,
+    S: Source<T, L> + Drop + Send,
+    R: Wait + Sync,
+>(
+    scope: &Scope<'s, E>,
+    rt: &'s R,
+    flags: &'s Flags,
+    chair: Chair<T, L, S>,
+) -> Result<Handle<T>, StartFault>
+where
+    T: 's,
+    L: 's,
+    S: 's,
+    ensures { IfOk result (λ handle. handle.promise.0.value ≡ chair.console) }
+{
+    let Chair {
+        console,
+        look,
+        source,
+    } = chair;
+    let promise = ConsoleBack(Snapshot::of(&console));
+    match scope.spawn_with(promise, move || sit(rt, flags, console, look, source)) {
+        Ok(handle) => Ok(handle),
+        Err(_) => Err(StartFault::NoThread),
+    }
+}
+
+/// Starts each source in a thread of its own, in order. At a fault those that run are told to stop.
+pub fn start_all<
+    's,
+    E,
+    T: Told + Drop + Send,
+    L: Look<Told = T> + Drop + Send,
+    S: Source<T, L> + Drop + Send,
+    R: Wait + Sync,
+>(
+    scope: &Scope<'s, E>,
+    rt: &'s R,
+    alloc: Global,
+    flags: &'s Flags,
+    chairs: Vec<Chair<T, L, S>>,
+) -> Result<Vec<Handle<T>>, StartFault>
+where
+    T: 's,
+    L: 's,
+    S: 's,
+    ensures len { IfOk result (λ handles. vec_len handles ≡ vec_len chairs) }
+    ensures each { IfOk result (λ handles. map (λ h. h.promise.0.value) handles.items ≡ map (λ chair. chair.console) chairs.items) }
+{
+    let mut handles = match Vec::with_capacity(alloc, chairs.len()) {
+        Ok(handles) => handles,
+        Err(_) => return Err(StartFault::OutOfMemory),
+    };
+    for chair in chairs {
+        match start_one(scope, rt, flags, chair) {
+            Ok(handle) => {
+                if handles.push(handle).is_err() {
+                    flags.stop.store(true, Ordering::SeqCst);
+                    return Err(StartFault::OutOfMemory);
+                }
+            }
+            Err(fault) => {
+                flags.stop.store(true, Ordering::SeqCst);
+                return Err(fault);
+            }
+        }
+    }
+    Ok(handles)
+}
+
+/// Joins them in the order of the slots.
+pub fn join_all<T: Told + Drop, R: Threads>(
+    rt: &R,
+    alloc: Global,
+    handles: Vec<Handle<T>>,
+) -> Result<Vec<Console<T>>, StartFault>
+    ensures len { IfOk result (λ consoles. vec_len consoles ≡ vec_len handles) }
+    ensures each { IfOk result (λ consoles. AllSame (map (λ h. h.promise.0.value) handles.items) consoles.items) }
+{
+    let mut consoles = match Vec::with_capacity(alloc, handles.len()) {
+        Ok(consoles) => consoles,
+        Err(_) => return Err(StartFault::OutOfMemory),
+    };
+    for handle in handles {
+        let console = handle.join(rt);
+        match consoles.push(console) {
+            Ok(()) => {}
+            Err(_) => return Err(StartFault::OutOfMemory),
+        }
+    }
+    Ok(consoles)
+}

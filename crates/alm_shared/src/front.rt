@@ -1,0 +1,134 @@
+//! A beginning of a run's history.
+ghost use Rattle.std.specs.Prelude.{◌≡◌, ◌+◌, ◌-◌, ◌≤◌, ◌^◌, ◌++◌, ◌∷◌, ◌⊎◌, ◌↔◌, [], length, MatchBool, IsTrue, Some, None, slice_get};
+ghost use mathlib.Core.List.{IsPrefix};
+ghost use Rattle.alm_model.specs.Accept.{refusal};
+ghost use Rattle.alm_model.specs.Step.{run};
+
+use crate::add::Add;
+use crate::head::Head;
+use crate::law::Law;
+use crate::naming::Naming;
+use crate::nothing::Nothing;
+use alm_rings::Told;
+use alm_types::Action;
+use logbook::{Offer, Seen};
+use std::marker::{Model, PhantomData};
+
+// What no history's length is above.
+const LONGEST: u64 = 1 << 48;
+
+/// A beginning of a run's history, as long as it was seen: eight bytes, however long. Each action is admitted where it comes. Contracts see
+/// it as its actions.
+#[derive(Drop)]
+pub struct Front<J: Naming> {
+    len: u64,
+    seen: Seen<Action, u64, Law>,
+    of: PhantomData<J>,
+}
+
+impl<J: Naming> Model for Front<J> {
+    ghost use Rattle.std.specs.Prelude.{◌≡◌, ◌≤◌, ◌^◌, List, length};
+    ghost use Rattle.alm_types.specs.declared.action.Action.{Action};
+    ghost use Rattle.alm_model.specs.Rules.{AllAdmitted};
+
+    ghost Value = { List Action };
+
+    ghost view = { λ f. f.seen.log };
+
+    ghost invariant = { λ f. (f.len ≡ length f.seen.log) × (f.len ≤ 2 ^ 48) × (f.seen.book ≡ J.book) × AllAdmitted J.base f.seen.log };
+}
+
+impl<J: Naming> Told for Front<J> {
+    ghost base_count = { λ _. J.base.panel.count };
+
+    ghost list = { λ front. front };
+}
+
+impl<J: Naming> Front<J> {
+    ghost use Rattle.alm_model.specs.Rules.{AllAdmitted};
+
+    // A front that has seen nothing.
+    pub(crate) fn new(seen: Seen<Action, u64, Law>) -> Front<J>
+        requires empty { seen.log ≡ [] }
+        requires book { seen.book ≡ J.book }
+        ensures { result ≡ [] }
+    {
+        Front {
+            len: 0,
+            seen,
+            of: PhantomData,
+        }
+    }
+
+    /// How many actions it holds.
+    pub fn len(&self) -> u64
+        ensures length { result ≡ length self.now }
+        ensures most { result ≤ 2 ^ 48 }
+        ensures admitted { AllAdmitted J.base self.now }
+    {
+        self.len
+    }
+
+    /// The same front.
+    pub fn again(&self) -> Front<J>
+        ensures { result ≡ self.now }
+    {
+        Front {
+            len: self.len,
+            seen: self.seen.again(),
+            of: PhantomData,
+        }
+    }
+
+    /// The longer of two fronts: it begins with the other.
+    pub fn longer(&self, other: &Front<J>) -> Front<J>
+        ensures one { (result ≡ self.now) ⊎ (result ≡ other.now) }
+        ensures this { IsPrefix self.now result }
+        ensures that { IsPrefix other.now result }
+    {
+        let mut both = self.seen.again();
+        both.learn(&other.seen);
+        if self.len < other.len {
+            other.again()
+        } else {
+            self.again()
+        }
+    }
+
+    /// Whether `next` is this front with one action more, which is then `action`.
+    pub fn is_followed_by(&self, next: &Front<J>, action: Action) -> bool
+        requires last { slice_get next.now (length next.now - 1) ≡ Some action }
+        ensures one_more { IsTrue result ↔ (length next.now ≡ length self.now + 1) }
+        ensures next { IsTrue result → next.now ≡ self.now ++ action ∷ [] }
+        ensures admitted { IsTrue result → refusal (run J.base self.now).panel action ≡ None }
+    {
+        let both = self.longer(next);
+        drop(both);
+        next.len() == self.len() + 1
+    }
+
+    // Adds an action to the history, and holds it too. Nothing changes where the history is longer than this front, or has no room.
+    pub(crate) fn extend(&mut self, head: &Head<J>, action: Action) -> bool
+        requires { refusal (run J.base self.old).panel action ≡ None }
+        ensures { MatchBool result (self.new ≡ self.old ++ action ∷ []) (self.new ≡ self.old) }
+    {
+        let len = self.len;
+        if len >= LONGEST {
+            return false;
+        }
+        let mut seen = self.seen.again();
+        let mut offer: Offer<Action, u64, Law, Nothing> = seen.plain::<Nothing, Action, Add>(
+            &action,
+        );
+        let mut pen = seen.no_pen();
+        let found = head
+            .head
+            .compare_exchange::<Add, Nothing>(len, len + 1, &mut seen, &mut offer, &mut pen);
+        if found != len {
+            return false;
+        }
+        self.seen = seen;
+        self.len = len + 1;
+        true
+    }
+}

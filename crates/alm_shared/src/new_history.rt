@@ -1,0 +1,39 @@
+//! An empty history, before it has a name.
+ghost use Rattle.std.specs.Prelude.{◌≡◌, []};
+ghost use Rattle.alm_shared.specs.History.{head_of};
+
+use crate::front::Front;
+use crate::head::Head;
+use crate::law::Law;
+use crate::naming::Naming;
+use alm_types::Action;
+use logbook::{Seen, Start, Word};
+
+/// An empty history, before it has a name.
+#[derive(Drop)]
+pub struct NewHistory {
+    head: Word<Action, u64, Law>,
+    seen: Seen<Action, u64, Law>,
+    pub ghost empty: { seen.log ≡ [] },
+    pub ghost head_is: { head ≡ head_of seen.book },
+}
+
+impl NewHistory {
+    /// A history of its own.
+    pub fn new() -> NewHistory {
+        let (seen, mut first, _second) = Seen::open(Start::alone(), 0, 0);
+        NewHistory {
+            head: Word::tracked(0, &mut first),
+            seen,
+        }
+    }
+
+    // Its length under a name, and the front that has seen nothing.
+    pub(crate) fn named<J: Naming>(self) -> (Head<J>, Front<J>)
+        requires { self.seen.book ≡ J.book }
+        ensures { result.1 ≡ [] }
+    {
+        let NewHistory { head, seen } = self;
+        (Head::new(head), Front::new(seen))
+    }
+}
