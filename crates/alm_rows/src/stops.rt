@@ -16,6 +16,7 @@ const PRINTS: [&[u8]; 4] = [
 
 /// Ten calls format the device, and a sync and five reads open it.
 const FORMAT: usize = 10;
+
 const OPENING: usize = 6;
 
 #[test]

@@ -77,7 +77,7 @@ module _ {D : Type 0} where
       → OnOk result ((actions : List Action) → length actions ≤ 256 → HasRoom (next new) (length actions))
   checkpoint_room (Ok u) old new least begins = λ actions few.
       let is : next new ≡ with_checkpoint old.segment old.stored =
-          ap (λ (s : Stage). next_by s new.stored new.begun) begins.0 ∙ (first_next old.other_open new.stored new.begun ∙ begins.3) in
+      ap (λ (s : Stage). next_by s new.stored new.begun) begins.0 ∙ (first_next old.other_open new.stored new.begun ∙ begins.3) in
       let room : (next new).room ≡ old.segment = ap (λ (s : Standing). s.room) is in
       omega (arith, room, least, few)
   checkpoint_room (Err why) old new least begins = tt
@@ -87,18 +87,20 @@ module _ {D : Type 0} where
   fewer More old new goes is =
       let working : IsWorking (following old.stage) = subst IsWorking goes.0 goes.1 in
       let same : next new ≡ next old =
-          working_next new.stage new.stored new.begun goes.1 ∙ (goes.4 ∙ sym (begun_next old.stage old.stored old.begun working)) in
-      ((λ i. phase_of (goes.0 i) (goes.2 i)) ∙ same_phase old.stage old.work working,
-       (let less = fewer_calls old.stage working in let stage = ap calls_left goes.0 in omega (arith, less, stage)),
-       λ actions room. subst (λ (s : Standing). HasRoom s (length actions)) (sym same) room)
+      working_next new.stage new.stored new.begun goes.1 ∙ (goes.4 ∙ sym (begun_next old.stage old.stored old.begun working)) in (
+        (λ i. phase_of (goes.0 i) (goes.2 i)) ∙ same_phase old.stage old.work working,
+        (let less = fewer_calls old.stage working in let stage = ap calls_left goes.0 in omega (arith, less, stage)),
+        λ actions room. subst (λ (s : Standing). HasRoom s (length actions)) (sym same) room,
+      )
   fewer Done old new goes is = absurd cc
   fewer Failed old new goes is = absurd cc
 
   pub done : (result : Progress) (old new : Held D) → Advances result old new → result ≡ Done
       → (phase_of new.stage new.work ≡ at.Idle) × ((actions : List Action) → HasRoom (next old) (length actions) → HasRoom new.stored (length actions))
   done Done old new goes is =
-      let same : next old ≡ new.stored = ap (λ (s : Stage). next_by s old.stored old.begun) goes.0 ∙ sym goes.2 in
-      (ap (λ (s : Stage). phase_of s new.work) goes.1,
-       λ actions room. subst (λ (s : Standing). HasRoom s (length actions)) same room)
+      let same : next old ≡ new.stored = ap (λ (s : Stage). next_by s old.stored old.begun) goes.0 ∙ sym goes.2 in (
+        ap (λ (s : Stage). phase_of s new.work) goes.1,
+        λ actions room. subst (λ (s : Standing). HasRoom s (length actions)) same room,
+      )
   done More old new goes is = absurd cc
   done Failed old new goes is = absurd cc
