@@ -1,0 +1,259 @@
+/* Makes one call of a program fail, or ends the program at it. Loaded before the C library (LD_PRELOAD).
+ *
+ *     ALM_FAULT=CALL:N:KIND[:SEED]   at the N-th CALL, from 1
+ *     ALM_COUNTS=FILE                at the end of the program: how often each call was made, a line each
+ *
+ * CALL is pwrite, pread, fdatasync, fsync, ftruncate, openat or memory (each request for it), or device: any of pwrite,
+ * pread, fdatasync. KIND is
+ *
+ *     eio, enospc   the call does nothing and fails so (of memory: it is refused)
+ *     short         a write or read of half the bytes, where it has more than one
+ *     kill          the process is killed before the call
+ *     old new zeros a5 ff alternating mixed
+ *                   the power fails in the call: what was written since the last sync, this call's bytes too, becomes what stood
+ *                   there before, or what was written, or such bytes, or byte for byte by lot one of these. Then the process is killed
+ *
+ * A device is the file whose calls are positional; each file has its own list of pending writes.
+ */
+#define _GNU_SOURCE
+#include <dlfcn.h>
+#include <errno.h>
+#include <fcntl.h>
+#include <signal.h>
+#include <stdarg.h>
+#include <stdbool.h>
+#include <stdint.h>
+#include <stdio.h>
+#include <stdlib.h>
+#include <string.h>
+#include <sys/syscall.h>
+#include <sys/types.h>
+#include <unistd.h>
+
+enum call { PWRITE, PREAD, FDATASYNC, FSYNC, FTRUNCATE, OPENAT, MEMORY, DEVICE, CALLS };
+
+static const char *const names[CALLS] = {"pwrite", "pread", "fdatasync", "fsync", "ftruncate", "openat", "memory", "device"};
+
+struct pending {
+    struct pending *next;
+    int file;
+    off_t at;
+    size_t length;
+    unsigned char bytes[]; /* as they were, then as they were written */
+};
+
+static unsigned long made[CALLS];
+static enum call wanted = CALLS;
+static unsigned long wanted_at;
+static char kind[16];
+static uint64_t seed;
+static const char *counts;
+static bool ready;
+static struct pending *pending;
+static int pending_lock;
+
+/* Memory of its own, so that a refused request is never one of this library's. */
+static _Alignas(16) unsigned char store[64 << 20];
+static size_t store_used;
+
+static void *take(size_t length) {
+    size_t at = __atomic_fetch_add(&store_used, (length + 15) & ~(size_t)15, __ATOMIC_SEQ_CST);
+    if (at + length > sizeof store) {
+        static const char text[] = "preload: no room for pending writes\n";
+        syscall(SYS_write, 2, text, sizeof text - 1);
+        _exit(99);
+    }
+    return store + at;
+}
+
+static void begin(void) {
+    if (ready) return;
+    ready = true;
+    counts = getenv("ALM_COUNTS");
+    const char *fault = getenv("ALM_FAULT");
+    if (!fault) return;
+    char call[16] = "";
+    unsigned long long drawn = 0;
+    if (sscanf(fault, "%15[a-z]:%lu:%15[a-z0-9]:%llu", call, &wanted_at, kind, &drawn) < 3) _exit(98);
+    seed = drawn * 2 + 1;
+    for (int i = 0; i < CALLS; i++)
+        if (!strcmp(call, names[i])) wanted = i;
+    if (wanted == CALLS) _exit(98);
+}
+
+__attribute__((constructor)) static void start(void) { begin(); }
+
+__attribute__((destructor)) static void end(void) {
+    if (!counts) return;
+    int file = syscall(SYS_openat, AT_FDCWD, counts, O_WRONLY | O_CREAT | O_TRUNC, 0644);
+    for (int i = 0; i < CALLS; i++) dprintf(file, "%s %lu\n", names[i], made[i]);
+    syscall(SYS_close, file);
+}
+
+/* Whether this call, which is counted, is the one that shall fail. */
+static bool is_wanted(enum call call) {
+    begin();
+    unsigned long nth = __atomic_add_fetch(&made[call], 1, __ATOMIC_SEQ_CST);
+    bool hit = call == wanted && nth == wanted_at;
+    if (call == PWRITE || call == PREAD || call == FDATASYNC) {
+        nth = __atomic_add_fetch(&made[DEVICE], 1, __ATOMIC_SEQ_CST);
+        hit = hit || (wanted == DEVICE && nth == wanted_at);
+    }
+    return hit;
+}
+
+static void lock(void) {
+    while (__atomic_exchange_n(&pending_lock, 1, __ATOMIC_ACQUIRE)) {}
+}
+
+static void unlock(void) { __atomic_store_n(&pending_lock, 0, __ATOMIC_RELEASE); }
+
+static unsigned draw(void) {
+    seed ^= seed << 13;
+    seed ^= seed >> 7;
+    seed ^= seed << 17;
+    return seed >> 33;
+}
+
+/* What a byte becomes at a failure of the power. */
+static unsigned char outcome(unsigned char old, unsigned char new, size_t place, const char *how) {
+    static const char *const lots[] = {"old", "new", "zeros", "a5", "ff"};
+    if (!strcmp(how, "mixed")) return outcome(old, new, place, lots[draw() % 5]);
+    if (!strcmp(how, "alternating")) return place % 2 ? old : new;
+    if (!strcmp(how, "new")) return new;
+    if (!strcmp(how, "zeros")) return 0;
+    if (!strcmp(how, "a5")) return 0xA5;
+    if (!strcmp(how, "ff")) return 0xFF;
+    return old;
+}
+
+static void note(int file, const void *new, size_t length, off_t at) {
+    struct pending *one = take(sizeof *one + 2 * length);
+    one->file = file;
+    one->at = at;
+    one->length = length;
+    memset(one->bytes, 0, length);
+    syscall(SYS_pread64, file, one->bytes, length, at);
+    memcpy(one->bytes + length, new, length);
+    lock();
+    one->next = pending;
+    pending = one;
+    unlock();
+}
+
+static void forget(int file) {
+    lock();
+    struct pending **link = &pending;
+    while (*link)
+        if ((*link)->file == file) *link = (*link)->next;
+        else link = &(*link)->next;
+    unlock();
+}
+
+static void die(void) {
+    syscall(SYS_kill, getpid(), SIGKILL);
+    for (;;) {}
+}
+
+/* The last write first, so that old bytes come back where two writes overlap. */
+static void fail_power(void) {
+    lock();
+    for (struct pending *one = pending; one; one = one->next) {
+        unsigned char *now = take(one->length);
+        for (size_t i = 0; i < one->length; i++)
+            now[i] = outcome(one->bytes[i], one->bytes[one->length + i], i, kind);
+        syscall(SYS_pwrite64, one->file, now, one->length, one->at);
+    }
+    die();
+}
+
+/* Does what shall be done at this call, and says whether it fails. */
+static bool fails(void) {
+    if (!strcmp(kind, "kill")) die();
+    if (!strcmp(kind, "eio") || !strcmp(kind, "enospc")) {
+        errno = kind[1] == 'i' ? EIO : ENOSPC;
+        return true;
+    }
+    if (strcmp(kind, "short")) fail_power();
+    return false;
+}
+
+static ssize_t write_at(int file, const void *bytes, size_t length, off_t at) {
+    bool hit = is_wanted(PWRITE);
+    if (!hit || (strcmp(kind, "eio") && strcmp(kind, "enospc") && strcmp(kind, "kill"))) note(file, bytes, length, at);
+    if (hit) {
+        if (fails()) return -1;
+        if (length > 1) length /= 2;
+    }
+    return syscall(SYS_pwrite64, file, bytes, length, at);
+}
+
+static ssize_t read_at(int file, void *into, size_t length, off_t at) {
+    if (is_wanted(PREAD)) {
+        if (fails()) return -1;
+        if (length > 1) length /= 2;
+    }
+    return syscall(SYS_pread64, file, into, length, at);
+}
+
+static int sync_by(enum call call, long number, int file) {
+    if (is_wanted(call) && fails()) return -1;
+    int answer = syscall(number, file);
+    if (answer == 0) forget(file);
+    return answer;
+}
+
+static int truncate_to(int file, off_t length) {
+    if (is_wanted(FTRUNCATE) && fails()) return -1;
+    return syscall(SYS_ftruncate, file, length);
+}
+
+static int open_at(int folder, const char *path, int flags, mode_t mode) {
+    if (is_wanted(OPENAT) && fails()) return -1;
+    return syscall(SYS_openat, folder, path, flags, mode);
+}
+
+ssize_t pwrite(int file, const void *bytes, size_t length, off_t at) { return write_at(file, bytes, length, at); }
+ssize_t pwrite64(int file, const void *bytes, size_t length, off_t at) { return write_at(file, bytes, length, at); }
+ssize_t pread(int file, void *into, size_t length, off_t at) { return read_at(file, into, length, at); }
+ssize_t pread64(int file, void *into, size_t length, off_t at) { return read_at(file, into, length, at); }
+int fdatasync(int file) { return sync_by(FDATASYNC, SYS_fdatasync, file); }
+int fsync(int file) { return sync_by(FSYNC, SYS_fsync, file); }
+int ftruncate(int file, off_t length) { return truncate_to(file, length); }
+int ftruncate64(int file, off_t length) { return truncate_to(file, length); }
+
+#define MODE_OF(flags, mode)                                        \
+    mode_t mode = 0;                                                \
+    if ((flags) & (O_CREAT | O_TMPFILE)) {                          \
+        va_list rest;                                               \
+        va_start(rest, flags);                                      \
+        mode = va_arg(rest, mode_t);                                \
+        va_end(rest);                                               \
+    }
+
+int open(const char *path, int flags, ...) { MODE_OF(flags, mode) return open_at(AT_FDCWD, path, flags, mode); }
+int open64(const char *path, int flags, ...) { MODE_OF(flags, mode) return open_at(AT_FDCWD, path, flags, mode); }
+int openat(int folder, const char *path, int flags, ...) { MODE_OF(flags, mode) return open_at(folder, path, flags, mode); }
+int openat64(int folder, const char *path, int flags, ...) { MODE_OF(flags, mode) return open_at(folder, path, flags, mode); }
+
+/* Requests for memory. The C library's own names do the work. */
+extern void *__libc_malloc(size_t);
+extern void *__libc_calloc(size_t, size_t);
+extern void *__libc_realloc(void *, size_t);
+extern void *__libc_memalign(size_t, size_t);
+
+static bool is_refused(void) {
+    if (!is_wanted(MEMORY)) return false;
+    errno = ENOMEM;
+    return true;
+}
+
+void *malloc(size_t length) { return is_refused() ? NULL : __libc_malloc(length); }
+void *calloc(size_t count, size_t length) { return is_refused() ? NULL : __libc_calloc(count, length); }
+void *realloc(void *old, size_t length) { return is_refused() ? NULL : __libc_realloc(old, length); }
+void *aligned_alloc(size_t align, size_t length) { return is_refused() ? NULL : __libc_memalign(align, length); }
+int posix_memalign(void **into, size_t align, size_t length) {
+    if (is_refused()) return ENOMEM;
+    *into = __libc_memalign(align, length);
+    return *into ? 0 : ENOMEM;
+}
