@@ -7,6 +7,8 @@ Each is shown whole, or refused with a fault line that has the place; it is neve
 The format has no check sums, so a byte of an image that still fits its rules is shown as it stands: those that change what is
 shown are counted.
 """
+import collections
+import multiprocessing
 import os
 import re
 import sys
@@ -49,24 +51,39 @@ def try_byte(program, device, at, value, old, shown, size):
     return "shown as before" if run.stdout == shown else "shown otherwise"
 
 
+def try_bytes(job):
+    """The bytes of a device from one on, every so many: how often opening said what, or what is wrong."""
+    program, folder, first, step = job
+    device = os.path.join(folder, f"device{first}")
+    with open(os.path.join(folder, "course"), "rb") as file:
+        before = file.read()
+    with open(device, "wb") as file:
+        file.write(before)
+    shown = run_words(program, ["show", device]).stdout
+    found = collections.Counter()
+    try:
+        for at in range(first, len(before), step):
+            for value in VALUES:
+                found[try_byte(program, device, at, value, before[at], shown, len(before))] += 1
+    except Wrong as wrong:
+        return str(wrong)
+    return found
+
+
 def main():
     program, step, folder = begin("damage", sys.argv, 1, 41)
     started = time.monotonic()
-    try:
-        course = Course(program, folder, 5, 12)
-        device = os.path.join(folder, "course")
-        with open(device, "rb") as file:
-            before = file.read()
-        shown = run_words(program, ["show", device]).stdout
-        found = {}
-        for at in range(0, len(before), step):
-            for value in VALUES:
-                word = try_byte(program, device, at, value, before[at], shown, len(before))
-                found[word] = found.get(word, 0) + 1
-    except Wrong as wrong:
-        sys.exit(f"damage: {wrong}; devices are in {folder}")
+    Course(program, folder, 5, 12)
+    found, workers = collections.Counter(), os.cpu_count()
+    jobs = [(program, folder, step * worker, step * workers) for worker in range(workers)]
+    with multiprocessing.Pool(workers) as pool:
+        for answer in pool.imap_unordered(try_bytes, jobs):
+            if isinstance(answer, str):
+                sys.exit(f"damage: {answer}; devices are in {folder}")
+            found += answer
     told = ", ".join(f"{count} {word}" for word, count in sorted(found.items()))
     finish("damage", folder, f"{sum(found.values())} bytes changed: {told}, {time.monotonic() - started:.0f} s")
 
 
-main()
+if __name__ == "__main__":
+    main()

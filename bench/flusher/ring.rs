@@ -1,4 +1,5 @@
-//! A ring between one writer and one reader.
+//! A ring between one writer and one reader. With `--cfg exchanges` its ends tell each other how far they are by exchanges, as
+//! the toolchain's rings do, otherwise by stores.
 use std::cell::UnsafeCell;
 use std::mem::MaybeUninit;
 use std::sync::Arc;
@@ -8,6 +9,15 @@ struct Ring<T> {
     places: Box<[UnsafeCell<MaybeUninit<T>>]>,
     read: AtomicUsize,
     written: AtomicUsize,
+}
+
+/// Tells the other end how far this one is.
+fn tell(place: &AtomicUsize, value: usize) {
+    if cfg!(exchanges) {
+        place.swap(value, Ordering::AcqRel);
+    } else {
+        place.store(value, Ordering::Release);
+    }
 }
 
 /// The end that writes. It keeps what it last saw of the other.
@@ -55,7 +65,7 @@ impl<T> Writer<T> {
         }
         unsafe { (*self.ring.places[self.written % room].get()).write(value) };
         self.written += 1;
-        self.ring.written.store(self.written, Ordering::Release);
+        tell(&self.ring.written, self.written);
         Ok(())
     }
 }
@@ -71,7 +81,7 @@ impl<T> Reader<T> {
         let room = self.ring.places.len();
         let value = unsafe { (*self.ring.places[self.read % room].get()).assume_init_read() };
         self.read += 1;
-        self.ring.read.store(self.read, Ordering::Release);
+        tell(&self.ring.read, self.read);
         Some(value)
     }
 }

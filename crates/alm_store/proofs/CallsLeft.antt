@@ -1,12 +1,10 @@
 -- How many calls of a keeper's work are left, and what it takes when they are done.
-use Rattle.std.proofs.Common.{◌≡◌, ◌<◌, ◌≤◌, ◌+◌, ◌*◌, ℕ, Bool, true, false, List, length, Result, Ok, Err, OnOk, refl, sym, ◌∙◌, ap, subst, arith}
+use Rattle.std.proofs.Common.{◌≡◌, ◌<◌, ◌≤◌, Bool, true, false, List, length, Result, Ok, Err, OnOk, refl, sym, ◌∙◌, ap, subst, arith}
 use Rattle.alm_types.specs.declared.action.Action.{Action}
-use Rattle.alm_keeper.specs.declared.phase.Phase.{Phase}
 use Rattle.alm_keeper.specs.declared.phase.Phase.TheVariants as at
 use Rattle.alm_keeper.specs.declared.progress.Progress.{Progress}
 use Rattle.alm_keeper.specs.declared.progress.Progress.TheVariants.{More, Done, Failed}
 use Rattle.alm_keeper.specs.declared.refused.Refused.{Refused}
-use Rattle.alm_keeper.specs.declared.refused.Refused.TheVariants as no
 use Rattle.alm_keeper.specs.declared.stage.Stage.{Stage}
 use Rattle.alm_keeper.specs.declared.stage.Stage.TheVariants.{Idle, Close, CloseSync, Body, BodySync, Gate, GateSync, Stopped}
 use Rattle.alm_keeper.specs.declared.stage.Work.{Work}
