@@ -1,7 +1,15 @@
-pub mod Behind
 pub mod Devices
 pub mod Commit
-pub mod Checkpoint
+pub mod Sides
+pub mod Resting
+pub mod Piecewise
+pub mod Sending
+pub mod Ending
+pub mod Closing
+pub mod Between
+pub mod Carried
+pub mod Phases
+pub mod Begun
 pub mod Tried
 pub mod Order
 pub mod Going

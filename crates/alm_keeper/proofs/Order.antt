@@ -19,22 +19,46 @@ use Rattle.alm_keeper.specs.declared.stage.Work.TheVariants.{Commit, Checkpoint}
 use Rattle.alm_keeper.specs.Stand.{Account, checkpoint_text}
 use Rattle.alm_keeper.specs.Keeping.{account, Committing, Copying, DoesWork, Does, InOrder}
 
+-- the stages in which the other half's gate is closed
+abbrev pub IsClosing : Stage → Type 0
+IsClosing Close = Unit {0}
+IsClosing CloseSync = Unit {0}
+IsClosing stage = ⊥
+
 abbrev pub WorkOf : Work → Book → Type 0
 WorkOf work b = DoesWork work (account b) b.actions.items b.frame.items b.image.items b.ahead
 
 -- at work a book does its work
 pub working : (b : Book) (stage : Stage) → InOrder b → b.stage ≡ stage → IsWorking stage → WorkOf b.work b
-working b stage i is works = by_stage stage works (subst (λ (s : Stage). Does s b.work (account b) b.actions.items b.frame.items b.image.items b.ahead) is i.does)
+working b stage i is works = by_stage stage b.work works (subst (λ (s : Stage). Does s b.work (account b) b.actions.items b.frame.items b.image.items b.ahead) is i.does)
   where
-    by_stage : (s : Stage) → IsWorking s → Does s b.work (account b) b.actions.items b.frame.items b.image.items b.ahead → WorkOf b.work b
-    by_stage Idle never d = absurd never
-    by_stage Close works d = d
-    by_stage CloseSync works d = d
-    by_stage Body works d = d
-    by_stage BodySync works d = d
-    by_stage Gate works d = d
-    by_stage GateSync works d = d
-    by_stage Stopped never d = absurd never
+    by_stage : (s : Stage) (w : Work) → IsWorking s → Does s w (account b) b.actions.items b.frame.items b.image.items b.ahead → WorkOf w b
+    by_stage Idle w never d = absurd never
+    by_stage Close Commit works d = absurd d
+    by_stage Close Checkpoint works d = d
+    by_stage CloseSync Commit works d = absurd d
+    by_stage CloseSync Checkpoint works d = d
+    by_stage Body w works d = d
+    by_stage BodySync w works d = d
+    by_stage Gate w works d = d
+    by_stage GateSync w works d = d
+    by_stage Stopped w never d = absurd never
+
+-- a gate is closed by a checkpoint alone
+pub closing : (b : Book) (stage : Stage) → InOrder b → b.stage ≡ stage → IsClosing stage → b.work ≡ Checkpoint
+closing b stage i is closes = by_stage stage b.work closes (subst (λ (s : Stage). Does s b.work (account b) b.actions.items b.frame.items b.image.items b.ahead) is i.does)
+  where
+    by_stage : (s : Stage) (w : Work) → IsClosing s → Does s w (account b) b.actions.items b.frame.items b.image.items b.ahead → w ≡ Checkpoint
+    by_stage Close Commit closes d = absurd d
+    by_stage Close Checkpoint closes d = refl
+    by_stage CloseSync Commit closes d = absurd d
+    by_stage CloseSync Checkpoint closes d = refl
+    by_stage Idle w closes d = absurd closes
+    by_stage Body w closes d = absurd closes
+    by_stage BodySync w closes d = absurd closes
+    by_stage Gate w closes d = absurd closes
+    by_stage GateSync w closes d = absurd closes
+    by_stage Stopped w closes d = absurd closes
 
 pub commits : (b : Book) → InOrder b → IsWorking b.stage → b.work ≡ Commit → Committing (account b) b.actions.items b.frame.items b.ahead
 commits b i works work = subst (λ (w : Work). WorkOf w b) work (working b b.stage i refl works)
@@ -65,9 +89,12 @@ copying s o a actions frame image ahead is c = subst (λ (x : Stage). Does x Che
 pub rests : (b : Book) → b.stage ≡ Idle → InOrder b → b.ahead ≡ b.stored
 rests b is i = subst (λ (s : Stage). Does s b.work (account b) b.actions.items b.frame.items b.image.items b.ahead) is i.does
 
--- how long the body of a half is
+-- how long the image is, and the body of a half
+pub image_size_is : (b : Book) → InOrder b → length (image_text b.stored) ≡ image_size b.layout
+image_size_is b i = image_length b.stored i.rules ∙ (λ j. image_len (i.sizes.by_rows j) (i.sizes.by_areas j))
+
 pub half_body_long : (b : Book) → InOrder b → length (checkpoint_text (account b)) ≡ 25 + image_size b.layout
 half_body_long b i =
-    let image : length (image_text b.stored) ≡ image_size b.layout = image_length b.stored i.rules ∙ (λ j. image_len (i.sizes.by_rows j) (i.sizes.by_areas j)) in
+    let image = image_size_is b i in
     let head : length (half_head_text b.layout (b.epoch + 1) b.stored.panel.count) ≡ 24 = refl in
     omega (arith, image, head, length-append (half_head_text b.layout (b.epoch + 1) b.stored.panel.count ++ image_text b.stored) (0 ∷ []), length-append (half_head_text b.layout (b.epoch + 1) b.stored.panel.count) (image_text b.stored))

@@ -50,7 +50,7 @@ module _ {D : Type 0} (disk : D) where
   copies_seen (Err why) old new b = ap (held disk) b
 
   pub ends_seen : (after : D) (result : Progress) (old new : Book) → Ends result old new → Advances result (held disk old) (held after new)
-  ends_seen after More old new e = (e.0, e.4, e.1, ap standing e.2, ap standing e.3)
+  ends_seen after More old new e = (e.0, e.4, e.1, e.2, ap standing e.3)
   ends_seen after Done old new e = (e.0, e.1, ap standing e.2)
   ends_seen after Failed old new e = (e.0, e.1, ap standing e.2, ap standing e.3)
 

@@ -1,4 +1,6 @@
-pub mod Gated
+pub mod Resting
+pub mod Piecewise
+pub mod Phases
 pub mod Stand
 pub mod Batch
 pub mod Calls

@@ -9,7 +9,7 @@ ghost use Rattle.alm_keeper.specs.Stand.{other_at, end_of, Takes};
 ghost use Rattle.alm_keeper.specs.declared.stage.Stage.{Stage};
 ghost use Rattle.alm_keeper.specs.declared.stage.Work.{Work};
 ghost use Rattle.alm_keeper.specs.Keeper.{begin_answer, checkpoint_answer};
-ghost use Rattle.alm_keeper.specs.Keeping.{account, done_with, next, InOrder, Begins, Copies, GoesOn, place_of, text_of};
+ghost use Rattle.alm_keeper.specs.Keeping.{account, done_with, next, InOrder, Begins, Copies, GoesOn};
 
 use crate::frame::write_frame;
 use crate::half_text::write_half;
@@ -84,16 +84,6 @@ impl Book {
         match self.half {
             Half::First => 23 + self.layout.half_len() as u64,
             Half::Second => 23 + self.layout.half_len() as u64 + self.layout.half_len() as u64,
-        }
-    }
-
-    /// Where the gate is that the work opens.
-    pub fn place(&self) -> u64
-        ensures { result ≡ place_of self.now.work (account self.now) }
-    {
-        match self.work {
-            Work::Commit => self.gate,
-            Work::Checkpoint => self.other_at(),
         }
     }
 
@@ -183,6 +173,7 @@ impl Book {
                 Progress::More
             }
             Stage::CloseSync => {
+                self.other_open = false;
                 self.stage = Stage::Body;
                 Progress::More
             }

@@ -1,12 +1,11 @@
 //! A write behind a gate, one device call at a time.
 
 ghost use Rattle.std.specs.Prelude.{◌≡◌, ◌↔◌, ◌<◌, ◌≤◌, ◌+◌, ◌^◌, List, ℕ, length};
-ghost use Rattle.alm_keeper.specs.Stages.{IsWorking, stage_after};
+ghost use Rattle.alm_keeper.specs.Stages.{IsWorking};
 ghost use Rattle.alm_disk.specs.Calls.{IsOneCall};
 ghost use Rattle.alm_disk.specs.Failures.{CountsFault};
 ghost use Rattle.alm_keeper.specs.Calls.{IsCall};
-ghost use Rattle.alm_keeper.specs.Gated.{Kept, Passes};
-ghost use Rattle.alm_keeper.specs.Stand.{Account, Holds, Ready};
+ghost use Rattle.alm_keeper.specs.Phases.{StageCall};
 
 use crate::stage::Stage;
 use alm_disk::{Disk, DiskFault};
@@ -25,8 +24,7 @@ pub fn call<D: Disk>(disk: &mut D, stage: Stage, at: u64, text: &[u8]) -> Result
     ensures count { CountsFault result (D.failures disk.old) (D.failures disk.new) }
     ensures one_call { IsOneCall D.serves result disk.old disk.new }
     ensures is_call { D.honest disk.old → IsCall (D.state disk.old) (D.state disk.new) }
-    // What a crash leaves at any moment of the call, and what is kept behind it.
-    ensures passes { (before after : Account) → D.honest disk.old → ∥ Kept (Holds before.epoch before.plant) (Ready after) stage (D.state disk.old) at text.now ∥₁ → ∥ Passes (Holds before.epoch before.plant) (Ready after) stage (stage_after stage result) (D.state disk.old) (D.state disk.new) at text.now ∥₁ }
+    ensures stage_call { D.honest disk.old → StageCall stage at text.now result (D.state disk.old) (D.state disk.new) }
 {
     match stage {
         Stage::Close => disk.write_at(at, &[CLOSED]),

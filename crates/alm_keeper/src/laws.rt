@@ -1,14 +1,24 @@
 //! Laws: each function does nothing, and its contract is the law.
 
-ghost use Rattle.std.specs.Prelude.{◌≡◌, ◌+◌, Ok};
+ghost use Rattle.std.specs.Prelude.{◌≡◌, ◌≤◌, ◌+◌, ℕ, Result, Ok};
+ghost use Rattle.alm_disk.specs.Device.{DeviceState};
+ghost use Rattle.alm_disk.specs.declared.disk_fault.DiskFault.{DiskFault};
 ghost use Rattle.alm_types.specs.Batches.{Judged};
 ghost use Rattle.alm_model.specs.Plant.{Condensed};
 ghost use Rattle.alm_model.specs.Rules.{AllAdmitted};
 ghost use Rattle.alm_model.specs.Judging.{accepted_of};
 ghost use Rattle.alm_keeper.specs.Keeper.{begin_answer};
+ghost use Rattle.alm_keeper.specs.Phases.{UnderWay, KeptIn, Call, Advances};
+ghost use Rattle.alm_keeper.specs.Stand.{Account, end_of};
 ghost use Rattle.alm_keeper.specs.declared.stage.Stage.{Stage};
 
 /// A batch that is the next one and admitted is begun by an idle keeper.
 pub fn next_batch_is_begun()
     ensures { (plant : Condensed) (batch : Judged) → batch.first ≡ plant.panel.count + 1 → AllAdmitted plant (accepted_of batch.entries) → begin_answer Stage.Idle plant batch ≡ Ok tt }
+{}
+
+/// What each device call leaves at any moment of it, done or failed, and what is kept once it was done: of a commit, of a checkpoint in any
+/// pieces, and of a commit between its pieces.
+pub fn each_call_keeps_what_is_under_way()
+    ensures { (work : UnderWay) (a : Account) (n : ℕ) (result : Result Unit DiskFault) (old new : DeviceState) → a.gate + 1 ≤ end_of a → KeptIn work a old → Call work a n result old new → Advances work a n result old new }
 {}

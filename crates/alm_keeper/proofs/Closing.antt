@@ -1,0 +1,106 @@
+-- The closing of the other half's gate.
+use Rattle.std.proofs.Common.{◌≡◌, inr, ⊎_elim, ℕ, ◌+◌, true, false, List, [], ◌∷◌, ◌++◌, length, drop, Result, Ok, refl, sym, ◌∙◌, ap, subst, arith, length-drop, true≢false}
+use Rattle.alm_model.specs.Plant.{Condensed}
+use Rattle.alm_disk.specs.Device.{DeviceState, Writes, Syncs}
+use Rattle.alm_disk.specs.Device.{IsImage as IsLeft}
+use Rattle.alm_disk.proofs.Images.{synced_image}
+use Rattle.alm_segment.specs.Course.{is_open}
+use Rattle.alm_checkpoint.specs.Layouts.{byte_at, half_at, half_len, other}
+use Rattle.alm_checkpoint.specs.Cut.{Cut, Stores, Reaches, IsBelow, front, with_other, side_front, side_back}
+use Rattle.alm_checkpoint.specs.Cut.{device_of}
+use Rattle.alm_keeper.specs.Stand.{Holds, Account, account_of, Ready, other_at}
+use Rattle.alm_keeper.specs.Resting.{Rests, also}
+use Rattle.alm_keeper.specs.Phases.{shut, Closes, Rested}
+use Rattle.alm_checkpoint.proofs.Grown.{gate_at}
+use Rattle.alm_checkpoint.proofs.Turned.{stores_other}
+use Rattle.alm_keeper.proofs.Sides.{by_gate}
+use Rattle.alm_keeper.proofs.Resting.{any_gate, gate_rests, syncs_rest, resting}
+use Rattle.alm_keeper.proofs.Piecewise.{there, ahead_long}
+use Rattle.alm_keeper.proofs.Ending.{none, blind_none}
+
+module _ (c : Cut) (plant : Condensed) (gate : ℕ) (tail : List ℕ) (stores : Stores c plant) (closed : is_open gate ≡ false) (reaches : Reaches c (gate ∷ tail)) (opened : is_open (byte_at c.other 0) ≡ true) where
+  abbrev ahead : List ℕ
+  ahead = side_front c c.half (gate ∷ tail)
+
+  abbrev rear : List ℕ
+  rear = side_back c c.half (gate ∷ tail)
+
+  abbrev body : List ℕ
+  body = drop 1 c.other
+
+  other_is : c.other ≡ byte_at c.other 0 ∷ body
+  other_is = by_gate c.other (omega (arith, stores.size))
+
+  body_long : 1 + length body ≡ half_len c.layout
+  body_long = omega (arith, stores.size, length-drop 1 c.other)
+
+  -- it is an older half
+  older : (g : ℕ) → IsBelow c.epoch (g ∷ body)
+  older g = inr (⊎_elim (λ s. absurd (true≢false (sym opened ∙ s))) (λ lt. lt) stores.below)
+
+  with_gate : (g : ℕ) → Stores (with_other c (g ∷ body)) plant
+  with_gate g = stores_other c plant (g ∷ body) stores (omega (arith, body_long)) (older g)
+
+  pub holds : (g : ℕ) → Holds c.epoch plant (ahead ++ (g ∷ body) ++ rear)
+  holds g = record {
+    cut = with_other c (g ∷ body);
+    in_epoch = refl;
+    stores = with_gate g;
+    gate = gate;
+    closed = closed;
+    tail = tail;
+    reaches = reaches;
+    text = sym (there c plant gate tail stores closed reaches (g ∷ body));
+  }
+
+  pub now_shut : Ready (shut (account_of c plant)) (ahead ++ (0 ∷ body) ++ rear)
+  now_shut =
+      let place : length (front c) ≡ length (front (with_other c (0 ∷ body))) = omega (arith, gate_at c plant (gate ∷ tail) stores reaches, gate_at (with_other c (0 ∷ body)) plant (gate ∷ tail) (with_gate 0) reaches) in
+      record {
+        cut = with_other c (0 ∷ body);
+        is = λ i. record { layout = c.layout; half = c.half; other_open = false; epoch = c.epoch; gate = place i; plant = plant };
+        stores = with_gate 0;
+        gate = gate;
+        closed = closed;
+        tail = tail;
+        reaches = reaches;
+        text = sym (there c plant gate tail stores closed reaches (0 ∷ body));
+      }
+
+  shown : (state : DeviceState) (b : List ℕ) → b ≡ device_of c (gate ∷ tail) → Rests none state b → Rests none state (ahead ++ (byte_at c.other 0 ∷ body) ++ rear)
+  shown state b is rests = subst (Rests none state) (is ∙ there c plant gate tail stores closed reaches c.other ∙ ap (λ (o : List ℕ). ahead ++ o ++ rear) other_is) rests
+
+  pub close_images : {E : Type 0} (result : Result Unit E) (state new : DeviceState) (b : List ℕ) → b ≡ device_of c (gate ∷ tail) → Rests none state b → Writes (half_at c.layout (other c.half)) (0 ∷ []) result state new → (x : List ℕ) → IsLeft new x → Holds c.epoch plant x
+  close_images result state new b is rests writes x image =
+      any_gate result none state new (half_at c.layout (other c.half)) (byte_at c.other 0) 0 ahead body rear (Holds c.epoch plant) (blind_none (Holds c.epoch plant)) (shown state b is rests) writes (sym (ahead_long c plant gate tail stores closed reaches)) holds x image
+
+  pub close_rests : (E : Type 0) (state new : DeviceState) (b : List ℕ) → b ≡ device_of c (gate ∷ tail) → Rests none state b → Writes {E = E} (half_at c.layout (other c.half)) (0 ∷ []) (Ok tt) state new → Rests (also (half_at c.layout (other c.half)) 1 none) new (ahead ++ (0 ∷ body) ++ rear)
+  close_rests E state new b is rests writes =
+      gate_rests none state new (half_at c.layout (other c.half)) (byte_at c.other 0) 0 ahead body rear (shown state b is rests) writes (sym (ahead_long c plant gate tail stores closed reaches))
+
+-- the write of the closed gate
+pub closes_images : {E : Type 0} (result : Result Unit E) (a : Account) (state new : DeviceState) → a.other_open ≡ true → Rested a state → Writes (other_at a) (0 ∷ []) result state new → (b : List ℕ) → IsLeft new b → Holds a.epoch a.plant b
+closes_images result a state new opened p writes =
+    let r = p.ready in
+    subst (λ (y : Account). Writes (other_at y) (0 ∷ []) result state new → (b : List ℕ) → IsLeft new b → Holds y.epoch y.plant b) (sym r.is)
+    (close_images r.cut a.plant r.gate r.tail r.stores r.closed r.reaches (ap (λ (y : Account). y.other_open) (sym r.is) ∙ opened) result state new p.bytes r.text p.rests) writes
+
+pub closes : (E : Type 0) (a : Account) (state new : DeviceState) → a.other_open ≡ true → Rested a state → Writes {E = E} (other_at a) (0 ∷ []) (Ok tt) state new → Closes a new
+closes E a state new opened p writes =
+    let r = p.ready in
+    let done : Result Unit E = Ok tt in
+    let here = ap (λ (y : Account). y.other_open) (sym r.is) ∙ opened in
+    let images = closes_images done a state new opened p writes in
+    let goes : (y : Account) → y ≡ account_of r.cut a.plant → Writes {E = E} (other_at y) (0 ∷ []) (Ok tt) state new → ((b : List ℕ) → IsLeft new b → Holds y.epoch y.plant b) → Closes y new = λ y is.
+    subst (λ (z : Account). Writes {E = E} (other_at z) (0 ∷ []) (Ok tt) state new → ((b : List ℕ) → IsLeft new b → Holds z.epoch z.plant b) → Closes z new) (sym is)
+    (λ w im. record { images = im; bytes = _; ready = now_shut r.cut a.plant r.gate r.tail r.stores r.closed r.reaches here; rests = close_rests r.cut a.plant r.gate r.tail r.stores r.closed r.reaches here E state new p.bytes r.text p.rests w }) in
+    goes a r.is writes images
+
+-- its sync: the other half is free
+pub closed_rests : (E : Type 0) (a : Account) (state new : DeviceState) → Closes a state → Syncs {E = E} (Ok tt) state new → Rested (shut a) new
+closed_rests E a state new p syncs =
+    let rests : Rests none new p.bytes = syncs_rest (also (other_at a) 1 none) none state new p.bytes p.rests syncs in
+    record { images = λ b image. resting none new p.bytes b (Ready (shut a)) (blind_none (Ready (shut a))) rests p.ready image; bytes = p.bytes; ready = p.ready; rests = rests }
+
+pub sync_images : {E : Type 0} (result : Result Unit E) (a : Account) (state new : DeviceState) → Closes a state → Syncs result state new → (b : List ℕ) → IsLeft new b → Holds a.epoch a.plant b
+sync_images result a state new p syncs b image = p.images b (synced_image result state new b syncs image)
