@@ -19,11 +19,11 @@ use Rattle.alm_keeper.specs.declared.progress.Progress.{Progress}
 use Rattle.alm_keeper.specs.declared.progress.Progress.TheVariants.{More, Done, Failed}
 use Rattle.alm_keeper.specs.declared.stage.Work.{Work}
 use Rattle.alm_keeper.specs.declared.stage.Work.TheVariants.{Commit, Checkpoint}
-use Rattle.alm_keeper.specs.Stages.{IsWorking, following, During}
+use Rattle.alm_keeper.specs.Stages.{IsWorking, following, open_after, During}
 use Rattle.alm_keeper.specs.Stand.{Holds, Ready, Account, other_at, committed, turned, checkpoint_text}
 use Rattle.alm_keeper.specs.Piecewise.{fresh, open_text, run_text, turned_by, sent}
 use Rattle.alm_keeper.specs.Phases.{UnderWay, Rest, Pause, End, KeptIn, StageCall, Call, DuringIn, next_work, next_account, shut}
-use Rattle.alm_keeper.specs.Keeping.{account, done_with, next_of, next, begun, standing, InOrder, GoesOn, under_way, KeptBy, Keeps, PassesOn, MayLeave, Ends}
+use Rattle.alm_keeper.specs.Keeping.{account, done_with, next_of, next, begun, InOrder, GoesOn, under_way, KeptBy, Keeps, PassesOn, MayLeave, Ends}
 use Rattle.alm_keeper.proofs.Commit.{ready_holds}
 use Rattle.alm_keeper.proofs.Order.{IsClosing, closing, copies, image_size_is}
 use Rattle.alm_keeper.proofs.Phases.{advances}
@@ -248,9 +248,13 @@ goes_on step old new state i works goes kept = by_work_of step old new state i o
 abbrev Moves : Stage → Book → Book → Type 0
 Moves to old new = new ≡ record old { stage = to }
 
-ends_more : (stage to : Stage) (old new : Book) → old.stage ≡ stage → following stage ≡ to → IsWorking to → Moves to old new → Ends More old new
-ends_more stage to old new is after works goes =
-    (ap (λ (b : Book). b.stage) goes ∙ sym after ∙ sym (ap following is), ap (λ (b : Book). b.work) goes, ap (λ (b : Book). standing (account b)) goes, ap begun goes, subst IsWorking (sym (ap (λ (b : Book). b.stage) goes)) works)
+-- the account, with the mark of the stage
+marked : (stage : Stage) (old : Book) → old.stage ≡ stage → (mark : Bool) → open_after stage old.work old.other_open ≡ mark → record (account old) { other_open = mark } ≡ record (account old) { other_open = open_after old.stage old.work old.other_open }
+marked stage old is mark same = ap (λ (m : Bool). record (account old) { other_open = m }) (sym (ap (λ (s : Stage). open_after s old.work old.other_open) is ∙ same))
+
+ends_more : (stage to : Stage) (old new : Book) → old.stage ≡ stage → following stage ≡ to → open_after stage old.work old.other_open ≡ old.other_open → IsWorking to → Moves to old new → Ends More old new
+ends_more stage to old new is after mark works goes =
+    (ap (λ (b : Book). b.stage) goes ∙ sym after ∙ sym (ap following is), ap (λ (b : Book). b.work) goes, ap account goes ∙ marked stage old is old.other_open mark, ap begun goes, subst IsWorking (sym (ap (λ (b : Book). b.stage) goes)) works)
 
 -- closed, the account tells the same of what is stored, and of what the work makes of it
 closed_begun : (work : Work) (old : Book) (actions : List Action) → work ≡ Checkpoint → done_with work (shut (account old)) actions ≡ done_with work (account old) actions
@@ -259,18 +263,18 @@ closed_begun Checkpoint old actions is = refl
 
 pub ends_by : (stage : Stage) (step : Progress) (old new : Book) → old.stage ≡ stage → IsWorking stage → (stage ≡ CloseSync → old.work ≡ Checkpoint) → GoesOn stage step old new → Ends step old new
 ends_by Idle step old new is never work goes = absurd never
-ends_by Close step old new is works work goes = subst (λ (s : Progress). Ends s old new) (sym goes.0) (ends_more Close CloseSync old new is refl tt goes.1)
+ends_by Close step old new is works work goes = subst (λ (s : Progress). Ends s old new) (sym goes.0) (ends_more Close CloseSync old new is refl refl tt goes.1)
 ends_by CloseSync step old new is works work goes =
     subst (λ (s : Progress). Ends s old new) (sym goes.0) (
       ap (λ (b : Book). b.stage) goes.1 ∙ sym (ap following is),
       ap (λ (b : Book). b.work) goes.1,
-      ap (λ (b : Book). standing (account b)) goes.1,
+      ap account goes.1 ∙ marked CloseSync old is false refl,
       ap begun goes.1 ∙ closed_begun old.work old old.actions.items (work refl),
       subst IsWorking (sym (ap (λ (b : Book). b.stage) goes.1)) tt,
     )
-ends_by Body step old new is works work goes = subst (λ (s : Progress). Ends s old new) (sym goes.0) (ends_more Body BodySync old new is refl tt goes.1)
-ends_by BodySync step old new is works work goes = subst (λ (s : Progress). Ends s old new) (sym goes.0) (ends_more BodySync Gate old new is refl tt goes.1)
-ends_by Gate step old new is works work goes = subst (λ (s : Progress). Ends s old new) (sym goes.0) (ends_more Gate GateSync old new is refl tt goes.1)
+ends_by Body step old new is works work goes = subst (λ (s : Progress). Ends s old new) (sym goes.0) (ends_more Body BodySync old new is refl refl tt goes.1)
+ends_by BodySync step old new is works work goes = subst (λ (s : Progress). Ends s old new) (sym goes.0) (ends_more BodySync Gate old new is refl refl tt goes.1)
+ends_by Gate step old new is works work goes = subst (λ (s : Progress). Ends s old new) (sym goes.0) (ends_more Gate GateSync old new is refl refl tt goes.1)
 ends_by GateSync step old new is works work goes = subst (λ (s : Progress). Ends s old new) (sym goes.0) (is, goes.1, goes.2)
 ends_by Stopped step old new is never work goes = absurd never
 

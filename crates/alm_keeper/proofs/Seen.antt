@@ -1,5 +1,5 @@
 -- What callers see of a book's calls.
-use Rattle.std.proofs.Common.{◌≡◌, ℕ, ◌+◌, ◌-◌, List, [], length, Result, Ok, Err, refl, ◌∙◌, ap, arith}
+use Rattle.std.proofs.Common.{◌≡◌, ℕ, ◌+◌, ◌-◌, List, [], length, Result, Ok, Err, refl, sym, ◌∙◌, ap, arith}
 use Rattle.alm_types.specs.declared.action.Action.{Action}
 use Rattle.alm_model.specs.Step.{run}
 use Rattle.alm_segment.specs.Course.{frame_len}
@@ -13,6 +13,7 @@ use Rattle.alm_keeper.specs.declared.stage.Stage.TheVariants.{Idle, Close, Close
 use Rattle.alm_keeper.specs.declared.stage.Work.{Work}
 use Rattle.alm_keeper.specs.declared.stage.Work.TheVariants.{Commit, Checkpoint}
 use Rattle.alm_keeper.specs.Stand.{Account, Takes, committed, turned, end_of}
+use Rattle.alm_keeper.specs.Stages.{open_after}
 use Rattle.alm_keeper.specs.Keeper.{HasRoom, with_actions, with_checkpoint, next_by, BeginsCommit, BeginsCheckpoint, Advances}
 use Rattle.alm_keeper.specs.Keeping.{account, done_with, begun, next_of, standing, held, Begins, Copies, Ends}
 
@@ -36,23 +37,38 @@ begun_is b work a actions is same list = λ i. done_with (is i) (same i) (list i
 checkpoint_is : (b : Book) (a : Account) → b.work ≡ Checkpoint → account b ≡ a → begun b ≡ turned a
 checkpoint_is b a is same = λ i. done_with (is i) (same i) b.actions.items
 
+-- segment and mark, by the account
+stays : (old new : Book) → account new ≡ account old → (new.layout.segment ≡ old.layout.segment) × (new.other_open ≡ old.other_open)
+stays old new same = (ap (λ (a : Account). a.layout.segment) same, ap (λ (a : Account). a.other_open) same)
+
+-- .. once the work is done
+done_marks : (work : Work) (a : Account) (actions : List Action) → (a.layout.segment ≡ (done_with work a actions).layout.segment) × ((done_with work a actions).other_open ≡ open_after GateSync work a.other_open)
+done_marks Commit a actions = (refl, refl)
+done_marks Checkpoint a actions = (refl, refl)
+
 module _ {D : Type 0} (disk : D) where
   pub begins_seen : (result : Result Unit Refused) (actions : List Action) (old new : Book) → Begins result actions old new → BeginsCommit result actions (held disk old) (held disk new)
-  begins_seen (Ok _) actions old new b = (b.1, b.2, ap standing b.3, ap standing (begun_is new Commit (account old) actions b.2 b.3 b.4) ∙ after_commit (account old) actions)
-  begins_seen (Err (no.NotAccepted place)) actions old new b = (b.1, ap standing b.3, ap standing (begun_is new Commit (account old) [] b.2 b.3 b.4) ∙ after_commit (account old) [])
+  begins_seen (Ok _) actions old new b = (b.1, b.2, ap standing b.3, ap standing (begun_is new Commit (account old) actions b.2 b.3 b.4) ∙ after_commit (account old) actions, stays old new b.3)
+  begins_seen (Err (no.NotAccepted place)) actions old new b = (b.1, ap standing b.3, ap standing (begun_is new Commit (account old) [] b.2 b.3 b.4) ∙ after_commit (account old) [], stays old new b.3)
   begins_seen (Err no.Stopped) actions old new b = ap (held disk) b
   begins_seen (Err no.Working) actions old new b = ap (held disk) b
   begins_seen (Err no.Gap) actions old new b = ap (held disk) b
   begins_seen (Err no.Exhausted) actions old new b = ap (held disk) b
 
   pub copies_seen : (result : Result Unit Refused) (old new : Book) → Copies result old new → BeginsCheckpoint result (held disk old) (held disk new)
-  copies_seen (Ok _) old new b = (b.1, b.2, ap standing b.3, ap standing (checkpoint_is new (account old) b.2 b.3) ∙ after_checkpoint (account old))
+  copies_seen (Ok _) old new b = (b.1, b.2, ap standing b.3, ap standing (checkpoint_is new (account old) b.2 b.3) ∙ after_checkpoint (account old), stays old new b.3)
   copies_seen (Err why) old new b = ap (held disk) b
 
   pub ends_seen : (after : D) (result : Progress) (old new : Book) → Ends result old new → Advances result (held disk old) (held after new)
-  ends_seen after More old new e = (e.0, e.4, e.1, e.2, ap standing e.3)
-  ends_seen after Done old new e = (e.0, e.1, ap standing e.2)
-  ends_seen after Failed old new e = (e.0, e.1, ap standing e.2, ap standing e.3)
+  ends_seen after More old new e = (e.0, e.4, e.1, ap standing e.2, ap standing e.3, (ap (λ (a : Account). a.layout.segment) e.2, ap (λ (a : Account). a.other_open) e.2))
+  ends_seen after Done old new e =
+      let marks = done_marks old.work (account old) old.actions.items in (
+        e.0,
+        e.1,
+        ap standing e.2,
+        (ap (λ (a : Account). a.layout.segment) e.2 ∙ sym marks.0, ap (λ (a : Account). a.other_open) e.2 ∙ marks.1 ∙ ap (λ (s : Stage). open_after s old.work old.other_open) (sym e.0)),
+      )
+  ends_seen after Failed old new e = (e.0, e.1, ap standing e.2, ap standing e.3, stays old new e.2)
 
 -- what is next
 pub next_seen : (b : Book) (stage : Stage) → standing (next_of stage b.work (account b) b.actions.items) ≡ next_by stage (standing (account b)) (standing (begun b))

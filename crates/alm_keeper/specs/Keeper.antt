@@ -18,7 +18,7 @@ use Rattle.alm_keeper.specs.declared.refused.Refused.TheVariants as no
 use Rattle.alm_keeper.specs.declared.progress.Progress.{Progress}
 use Rattle.alm_keeper.specs.declared.progress.Progress.TheVariants.{More, Done, Failed}
 use Rattle.alm_keeper.specs.Batch.{tried}
-use Rattle.alm_keeper.specs.Stages.{first_stage, following, IsWorking, During}
+use Rattle.alm_keeper.specs.Stages.{first_stage, following, open_after, IsWorking, During}
 
 -- what a device stands for: a plant in an epoch, and how many bytes of the segment are left from its first closed gate on
 pub record Standing : Type 0 where
@@ -94,22 +94,30 @@ checkpoint_answer stage epoch = Err no.Working
 
 -- ---- what a call makes of a keeper
 
+-- what stays as long as nothing is begun or done: how long a segment is, and how the other half's gate reads
+abbrev pub Stays : {D : Type 0} → (old new : Held D) → Type 0
+Stays old new = (new.segment ≡ old.segment) × (new.other_open ≡ old.other_open)
+
 -- a batch with these actions: the commit is begun; a batch that isn't accepted stops the keeper, and nothing of it is begun
 abbrev pub BeginsCommit : {D : Type 0} → Result Unit Refused → List Action → (old new : Held D) → Type 0
-BeginsCommit (Ok _) actions old new = (new.stage ≡ Body) × (new.work ≡ Commit) × (new.stored ≡ old.stored) × (new.begun ≡ with_actions old.stored actions)
-BeginsCommit (Err (no.NotAccepted place)) actions old new = (new.stage ≡ Stopped) × (new.stored ≡ old.stored) × (new.begun ≡ with_actions old.stored [])
+BeginsCommit (Ok _) actions old new = (new.stage ≡ Body) × (new.work ≡ Commit) × (new.stored ≡ old.stored) × (new.begun ≡ with_actions old.stored actions) × Stays old new
+BeginsCommit (Err (no.NotAccepted place)) actions old new = (new.stage ≡ Stopped) × (new.stored ≡ old.stored) × (new.begun ≡ with_actions old.stored []) × Stays old new
 BeginsCommit (Err why) actions old new = new ≡ old
 
 abbrev pub BeginsCheckpoint : {D : Type 0} → Result Unit Refused → (old new : Held D) → Type 0
 BeginsCheckpoint (Ok _) old new =
-    (new.stage ≡ first_stage old.other_open) × (new.work ≡ Checkpoint) × (new.stored ≡ old.stored) × (new.begun ≡ with_checkpoint old.segment old.stored)
+    (new.stage ≡ first_stage old.other_open) × (new.work ≡ Checkpoint) × (new.stored ≡ old.stored) × (new.begun ≡ with_checkpoint old.segment old.stored) × Stays old new
 BeginsCheckpoint (Err why) old new = new ≡ old
+
+-- how the other half's gate reads after a call that was done
+abbrev pub Marks : {D : Type 0} → (old new : Held D) → Type 0
+Marks old new = (new.segment ≡ old.segment) × (new.other_open ≡ open_after old.stage old.work old.other_open)
 
 -- one device call of the work
 abbrev pub Advances : {D : Type 0} → Progress → (old new : Held D) → Type 0
-Advances More old new = (new.stage ≡ following old.stage) × IsWorking new.stage × (new.work ≡ old.work) × (new.stored ≡ old.stored) × (new.begun ≡ old.begun)
-Advances Done old new = (old.stage ≡ GateSync) × (new.stage ≡ Idle) × (new.stored ≡ old.begun)
-Advances Failed old new = (new.stage ≡ Stopped) × (new.work ≡ old.work) × (new.stored ≡ old.stored) × (new.begun ≡ old.begun)
+Advances More old new = (new.stage ≡ following old.stage) × IsWorking new.stage × (new.work ≡ old.work) × (new.stored ≡ old.stored) × (new.begun ≡ old.begun) × Marks old new
+Advances Done old new = (old.stage ≡ GateSync) × (new.stage ≡ Idle) × (new.stored ≡ old.begun) × Marks old new
+Advances Failed old new = (new.stage ≡ Stopped) × (new.work ≡ old.work) × (new.stored ≡ old.stored) × (new.begun ≡ old.begun) × Stays old new
 
 -- exactly one call was made of the device, and it failed where that is told
 pub record CallsOnce {D : Type 0} (serves : D → Call → Result Unit DiskFault → D → Type 0) (told : Progress) (old new : D) : Type 0 where

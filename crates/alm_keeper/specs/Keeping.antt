@@ -1,7 +1,7 @@
 -- What a keeper knows and has begun.
 use Rattle.std.specs.Prelude.{◌≡◌, ◌⊎◌, ℕ, ◌+◌, ◌-◌, ◌*◌, ◌^◌, ◌<◌, ◌≤◌, false, None, List, [], length, take, vec_capacity, Result, Ok, Err}
 use Rattle.alm_keeper.specs.Keeper.{Standing, Held}
-use Rattle.alm_keeper.specs.Stages.{During, IsWorking, following, first_stage}
+use Rattle.alm_keeper.specs.Stages.{During, IsWorking, following, open_after, first_stage}
 use Rattle.alm_types.specs.declared.action.Action.{Action}
 use Rattle.alm_model.specs.Plant.{Condensed}
 use Rattle.alm_model.specs.Rules.{KeepsRules, AreAdmitted}
@@ -138,7 +138,7 @@ standing a = record { epoch = a.epoch; plant = a.plant; room = end_of a - a.gate
 
 -- how a step ends
 abbrev pub Ends : Progress → (old new : Book) → Type 0
-Ends More old new = (new.stage ≡ following old.stage) × (new.work ≡ old.work) × (standing (account new) ≡ standing (account old)) × (begun new ≡ begun old) × IsWorking new.stage
+Ends More old new = (new.stage ≡ following old.stage) × (new.work ≡ old.work) × (account new ≡ record (account old) { other_open = open_after old.stage old.work old.other_open }) × (begun new ≡ begun old) × IsWorking new.stage
 Ends Done old new = (old.stage ≡ GateSync) × (new.stage ≡ Idle) × (account new ≡ begun old)
 Ends Failed old new = (new.stage ≡ Stopped) × (new.work ≡ old.work) × (account new ≡ account old) × (begun new ≡ begun old)
 

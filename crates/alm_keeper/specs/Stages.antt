@@ -31,6 +31,12 @@ abbrev pub first_stage : Bool → Stage
 first_stage true = Close
 first_stage false = Body
 
+-- whether the other half's gate reads open after the call that is next was done
+abbrev pub open_after : Stage → Work → Bool → Bool
+open_after CloseSync work opened = false
+open_after GateSync Checkpoint opened = true
+open_after stage work opened = opened
+
 -- what an image is at a stage
 abbrev pub May : (Before After : List ℕ → Type 0) → Stage → List ℕ → Type 0
 May Before After Idle b = After b

@@ -16,7 +16,7 @@ use std::alloc::Global;
 use std::env;
 use std::rt::Clock;
 use std::time::Instant;
-use stored::{commit_all, copy_all, table};
+use stored::{begin_copy, commit_all, end_copy, table};
 
 /// What is done to a device: how many alarms it has, and how many checkpoints and commits are made.
 #[derive(Clone, Copy)]
@@ -57,15 +57,26 @@ fn report(rt: &(impl Print + Eprint), name: &str, sum: u32, took: u128) -> Resul
     Ok(())
 }
 
+/// Checkpoints, and apart from their calls how long their bodies take to make.
 fn time_checkpoints<D: Disk + Drop>(
     rt: &(impl Print + Eprint + Clock),
     keeper: &mut Keeper<D>,
     course: Course,
 ) -> Result<()> {
-    let start = Instant::now(rt)?;
-    let done = copy_all(keeper, course.checkpoints);
-    let took = start.elapsed(rt)?.as_nanos();
-    report(rt, "checkpoint", done, took)
+    let mut bodies = 0u128;
+    let mut calls = 0u128;
+    let mut begun = 0u32;
+    let mut done = 0u32;
+    for _checkpoint in 0..course.checkpoints {
+        let start = Instant::now(rt)?;
+        begun = begun.wrapping_add(begin_copy(keeper));
+        bodies = bodies.saturating_add(start.elapsed(rt)?.as_nanos());
+        let start = Instant::now(rt)?;
+        done = done.wrapping_add(end_copy(keeper));
+        calls = calls.saturating_add(start.elapsed(rt)?.as_nanos());
+    }
+    report(rt, "body", begun, bodies)?;
+    report(rt, "checkpoint", done, bodies.saturating_add(calls))
 }
 
 fn time_commits<D: Disk + Drop>(

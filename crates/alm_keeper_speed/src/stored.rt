@@ -97,13 +97,12 @@ pub fn commit_all<D: Disk + Drop>(
     done
 }
 
-/// So many checkpoints; how many were done.
-pub fn copy_all<D: Disk + Drop>(keeper: &mut Keeper<D>, checkpoints: u32) -> u32 {
-    let mut done = 0u32;
-    for _checkpoint in 0..checkpoints {
-        if keeper.begin_checkpoint().is_ok() {
-            done = done.wrapping_add(finish(keeper));
-        }
-    }
-    done
+/// The body of a checkpoint is made in the keeper's buffer: 1 where it was.
+pub fn begin_copy<D: Disk + Drop>(keeper: &mut Keeper<D>) -> u32 {
+    u32::from(keeper.begin_checkpoint().is_ok())
+}
+
+/// Its calls; 1 where it was done.
+pub fn end_copy<D: Disk + Drop>(keeper: &mut Keeper<D>) -> u32 {
+    finish(keeper)
 }
