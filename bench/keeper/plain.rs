@@ -191,11 +191,20 @@ fn main() {
         copy.copy_from_slice(black_box(&image));
         black_box(&mut copy);
     }
-    report("checkpoint", CHECKPOINTS as u64, start);
+    report("body", CHECKPOINTS as u64, start);
 
     let other = format!("{path}.plain");
     let file = File::options().read(true).write(true).create(true).truncate(true).open(&other).expect("a file");
     file.write_all_at(&vec![0; SEGMENT], 0).expect("room");
+    let start = Instant::now();
+    for _ in 0..CHECKPOINTS {
+        copy.copy_from_slice(black_box(&image));
+        file.write_all_at(&copy, 1).expect("a body");
+        file.sync_data().expect("a sync");
+        file.write_all_at(&[OPEN], 0).expect("a gate");
+        file.sync_data().expect("a sync");
+    }
+    report("checkpoint", CHECKPOINTS as u64, start);
     let mut journal = Journal {
         file,
         at: 0,

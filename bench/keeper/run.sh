@@ -1,5 +1,5 @@
 #!/usr/bin/env bash
-# Times checkpoints, commits and openings of a file in memory, beside plain Rust: a copy of as many bytes, the same calls, and
+# Times checkpoints and the making of their bodies, commits and openings of a file in memory, beside plain Rust: a copy of as many bytes, the same calls, and
 # opening the same device. It needs rt and rustc.
 set -eu
 here="$(cd "$(dirname "$0")" && pwd)"
