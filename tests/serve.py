@@ -1,0 +1,210 @@
+#!/usr/bin/env python3
+"""The server under faults, kills and power cuts, and lines that come cut at drawn places.
+
+    tests/serve.py PROGRAM [--short]
+
+Clients on several ports ask one request after another, each behind the answer to its last. At a drawn call on the device's file
+the call fails, the process is killed or the power fails. Then the server has ended with the status of its fault line; the device
+holds each action that was answered, at the number that the answer named, and of those without an answer what may have
+come before or behind; and a server over it goes on. Lines of a grammar that breaks itself (lines.py) are sent to a port in pieces that end
+anywhere; the replies fit the second reading of the lines.
+"""
+import itertools
+import os
+import random
+import re
+import shutil
+import socket
+import subprocess
+import sys
+import threading
+import time
+
+import lines as grammar
+from program import PLANT, Fault, Wrong, begin, check, ends, finish, preload, run_words, state
+
+SLOTS = (0, 5, 16, 17)
+KINDS = ["eio", "enospc", "kill", "old", "new", "zeros", "a5", "ff", "alternating", "mixed"]
+
+
+class Server:
+    """A server over a device."""
+
+    def __init__(self, program, device, port, loaded=None):
+        self.port = port
+        self.process = subprocess.Popen(
+            [program, "serve", device, "--port", str(port)], stdout=subprocess.PIPE, stderr=subprocess.PIPE,
+            env={**os.environ, **(loaded or {})})
+        self.serves = self.process.stdout.readline() == f"serving {port}\n".encode()
+
+    def connect(self, slot):
+        one = socket.create_connection(("127.0.0.1", self.port + slot), timeout=20)
+        one.setsockopt(socket.IPPROTO_TCP, socket.TCP_NODELAY, 1)
+        return one
+
+    def end(self):
+        """Kills it where it runs."""
+        self.process.kill()
+        return self.process.communicate()
+
+
+class Client(threading.Thread):
+    """Asks at a slot until the connection ends: what was answered, and the line in doubt."""
+
+    def __init__(self, server, slot, seed, count):
+        super().__init__()
+        self.server, self.slot, self.dice, self.count = server, slot, random.Random(seed), count
+        self.answered, self.doubt = [], None
+
+    def draw(self, number):
+        alarm = self.dice.randrange(4)
+        if self.slot == 16:
+            return f"{number} VAL {alarm} {self.dice.choice([0, 1, 49, 50, 90, 110, 790, 800, 900])}"
+        if self.slot == 17:
+            return f"{number} CLOCK {int(time.monotonic() * 1000) + number}"
+        kind = self.dice.randrange(4)
+        words = [f"ACK {alarm}", f"SHELVE {alarm} {self.dice.randrange(1, 3000)}", f"OOS {alarm} {self.dice.choice(['ON', 'OFF'])}", f"STATE {alarm}"]
+        return f"{number} {words[kind]}"
+
+    def run(self):
+        try:
+            with self.server.connect(self.slot) as one, one.makefile("rb") as replies:
+                for number in range(1, self.count + 1):
+                    line = self.draw(number)
+                    self.doubt = line
+                    one.sendall(line.encode() + b"\n")
+                    reply = replies.readline()
+                    if not reply.endswith(b"\n"):
+                        return
+                    self.doubt = None
+                    self.answered.append((line, reply.decode()))
+        except OSError:
+            pass
+
+
+def accepted_of(clients):
+    """The accepted actions by their numbers, as desk lines; and those whose answer didn't come."""
+    known, doubts = {}, []
+    for client in clients:
+        for line, reply in client.answered:
+            found = re.fullmatch(r"\d+ OK (\d+)\n", reply)
+            if found:
+                check(int(found[1]) not in known, "two actions of one number", reply)
+                known[int(found[1])] = f"{client.slot} {line}\n"
+            stopped = reply.endswith(" NO 15\n")
+            if stopped:
+                doubts.append(f"{client.slot} {line}\n")
+        if client.doubt:
+            doubts.append(f"{client.slot} {client.doubt}\n")
+    return known, doubts
+
+
+class Serving:
+    def __init__(self, program, folder):
+        self.program, self.folder = program, folder
+        self.library = preload(folder)
+        self.port = random.Random(time.time_ns()).randrange(20_000, 45_000)
+        self.fresh = os.path.join(folder, "fresh")
+        check(run_words(program, ["format", self.fresh, PLANT]).returncode == 0, "format")
+
+    def start(self, device, loaded=None):
+        """A server, at ports that are free."""
+        for _ in range(20):
+            self.port = 20_000 + (self.port - 20_000 + 18) % 40_000
+            server = Server(self.program, device, self.port, loaded)
+            if server.serves:
+                return server
+            said = server.process.communicate()[1]
+            if said != b"fault net\n":
+                server.process.returncode = server.process.wait()
+                return server
+        raise Wrong("no ports")
+
+    def replay(self, actions):
+        """What a device stands for after these desk lines."""
+        device = os.path.join(self.folder, "replayed")
+        shutil.copyfile(self.fresh, device)
+        run = run_words(self.program, ["desk", device], lines="".join(actions).encode())
+        check(run.returncode == 0, "desk", run.stderr)
+        return state(self.program, device)
+
+    def one_fault(self, fault, seed, count):
+        device = os.path.join(self.folder, "device")
+        shutil.copyfile(self.fresh, device)
+        server = self.start(device, fault.loaded)
+        clients = [Client(server, slot, seed * 100 + slot, count) for slot in SLOTS] if server.serves else []
+        for client in clients:
+            client.start()
+        for client in clients:
+            client.join()
+        if server.process.poll() is None:
+            time.sleep(0.05)
+        _, said = server.end()
+        if not fault.kills and server.process.returncode != -9:
+            check(said in (b"fault stopped\n", b"fault disk\n", b"fault io\n") and server.process.returncode == 3, fault.text, server.process.returncode, said)
+        self.judge(device, fault, clients)
+
+    def judge(self, device, fault, clients):
+        """Each answered action is there at its number; of those in doubt some may have come in any order."""
+        known, doubts = accepted_of(clients)
+        now = state(self.program, device)
+        count = int(re.match(rb"NOW \d+ COUNT (\d+)\n", now)[1])
+        check(count >= max(known, default=0), fault.text, "an answered action is gone")
+        missing = [number for number in range(1, count + 1) if number not in known]
+        check(len(missing) <= len(doubts), fault.text, "actions that nobody asked for", count, len(known), len(doubts))
+        for chosen in itertools.permutations(doubts, len(missing)):
+            filled = {**known, **dict(zip(missing, chosen))}
+            if self.replay([filled[number] for number in sorted(filled)]) == now:
+                return
+        raise Wrong(f"{fault.text}: the device stands for something else")
+
+    def faults(self, rounds):
+        dice = random.Random(7)
+        for seed in range(rounds):
+            kind = KINDS[seed % len(KINDS)]
+            self.one_fault(Fault(self.library, "device", dice.randrange(3, 260), kind, seed), seed, 40)
+
+    def cut_lines(self, seed, count):
+        """Lines of one slot, in pieces that end anywhere. How many there were."""
+        device = os.path.join(self.folder, "device")
+        shutil.copyfile(self.fresh, device)
+        server = self.start(device)
+        dice = random.Random(seed)
+        drawn = []
+        while len(drawn) < count:
+            line = grammar.draw_line(dice).partition(b" ")[2]
+            drawn.append(line)
+        slot = dice.choice(SLOTS)
+        text = b"".join(line + b"\n" for line in drawn)
+        with server.connect(slot) as one, one.makefile("rb") as replies:
+            writer = threading.Thread(target=self.send_cut, args=(one, text, dice))
+            writer.start()
+            for line in drawn:
+                reply = replies.readline()
+                wanted = b"0 NO 14" if len(line) > 127 else grammar.read_request(slot, line)
+                check(re.fullmatch(wanted + b"\n", reply), seed, slot, line, "was answered", reply, "and not", wanted)
+            writer.join()
+        server.end()
+        return count
+
+    def send_cut(self, one, text, dice):
+        at = 0
+        while at < len(text):
+            length = dice.choice([1, 2, 7, 50, 127, 128, 129, 1000, 20_000])
+            one.sendall(text[at:at + length])
+            at += length
+
+
+def main():
+    program, rounds, folder = begin("serve", sys.argv, 600, 30)
+    started = time.monotonic()
+    try:
+        serving = Serving(program, folder)
+        serving.faults(rounds)
+        lines = sum(serving.cut_lines(seed, 5_000) for seed in range(rounds // 15))
+    except Wrong as wrong:
+        sys.exit(f"serve: {wrong}; devices are in {folder}")
+    finish("serve", folder, f"{rounds} faults, kills and power cuts, {lines} lines in pieces, none wrong, {time.monotonic() - started:.0f} s")
+
+
+main()
