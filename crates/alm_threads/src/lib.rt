@@ -1,0 +1,19 @@
+//! A run of the whole server in threads.
+#![tactic(auto)]
+
+mod closing;
+mod crew;
+mod ends;
+mod middle;
+mod opening;
+mod parts;
+mod report;
+mod running;
+mod slots;
+
+pub use ends::Ends;
+pub use middle::Middle;
+pub use opening::parts_of;
+pub use parts::Parts;
+pub use report::RunReport;
+pub use running::{run_threads, run_with_bells};
