@@ -84,6 +84,14 @@ impl Output {
         })
     }
 
+    /// Nothing is to be written any more.
+    pub fn clear(&mut self)
+        ensures { self.new ≡ record { left = []; used = 0 } }
+    {
+        self.text.clear();
+        self.written = 0;
+    }
+
     /// Prints that an action was accepted.
     pub fn ok(&mut self, id: u32, number: u64)
         requires { self.old.used + 64 ≤ 131072 }

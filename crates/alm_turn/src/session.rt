@@ -3,12 +3,11 @@
 ghost use Rattle.std.specs.Prelude.{◌≡◌, ◌+◌, ◌*◌, ◌≤◌, length};
 ghost use Rattle.arrayvec.specs.ArrayVec.{array_vec_len};
 
-use crate::free_look::FreeLook;
 use crate::intake::Intake;
 use crate::output::{Output, Sent};
 use crate::turn::Turn;
 use crate::wire::{ReadGave, Wire};
-use alm_board::Look;
+use alm_board::{FreeLook, Look};
 use alm_lines::{Ask, Line};
 use alm_rings::{Busy, Console, Told};
 use alm_types::{Action, Answer, Query, Refusal, Slot, Verdict};
@@ -30,7 +29,7 @@ pub struct Session {
 impl Session {
     ghost use Rattle.std.specs.Prelude.{◌≡◌, ◌+◌, ◌≤◌, ◌<◌, ◌⊎◌, ℕ, List, [], ◌∷◌, length, Option, None, Some, IfOk, true, false, IsTrue};
     ghost use Rattle.arrayvec.specs.ArrayVec.{array_vec_len};
-    ghost use Rattle.alm_rings.specs.Ends.{sent_of, received_of, coming_to, room_of};
+    ghost use Rattle.alm_rings.specs.Ends.{SameConsole, sent_of, received_of, coming_to, room_of};
     ghost use Rattle.alm_turn.specs.Wires.{blocked_write, blocked_read, failed_call};
     ghost use Rattle.alm_turn.specs.Turns.{IsTurn, IsOwn, Side, Heard};
     ghost use Rattle.alm_types.specs.declared.action.Action.{Action};
@@ -58,6 +57,19 @@ impl Session {
         })
     }
 
+    /// Another connection at the slot, on which nothing has come. It keeps its buffers.
+    pub fn restart(&mut self)
+        ensures slot { self.new.slot ≡ self.old.slot }
+        ensures held { self.new.intake ≡ record { line = None; held = []; rest = [] } }
+        ensures waiting { self.new.waiting.items ≡ [] }
+        ensures left { self.new.output.left ≡ [] }
+        ensures refused { self.new.answer.refused ≡ self.old.answer.refused }
+    {
+        self.intake = Intake::new();
+        self.waiting.clear();
+        self.output.clear();
+    }
+
     /// Prints the reply to the first action that waits, if there is one.
     fn answer_first(&mut self, verdict: Verdict, number: u64)
         ensures held { self.new.intake ≡ self.old.intake }
@@ -82,6 +94,7 @@ impl Session {
         look: &mut L,
     ) -> bool
         ensures base { L.Look.base look.new ≡ L.Look.base look.old }
+        ensures end { SameConsole console.old console.new }
         ensures turn { (coming written : Option (List ℕ)) → IsTurn (L.Look.base look.old) (if result then 1 else 0) (side_of self.old (L.Look.knows look.old) coming written (sent_of console.old) (heard_by console.old)) (side_of self.new (L.Look.knows look.new) coming written (sent_of console.new) (heard_by console.new)) }
         ensures quiet { result ≡ false → IsQuiet console.old }
         ensures left { result ≡ false → self.new.output ≡ self.old.output }
@@ -100,6 +113,7 @@ impl Session {
     fn send<T: Told + Drop>(&mut self, id: u32, want: Action, console: &mut Console<T>) -> Turn
         requires line { self.old.intake.line ≡ Some (record { id = id; ask = ask.Act want }) }
         requires empty { self.old.output.used ≡ 0 }
+        ensures end { SameConsole console.old console.new }
         ensures turn { (base : Condensed) (known : List Action) (coming written : Option (List ℕ)) → IsTurn base (least_of result) (side_of self.old known coming written (sent_of console.old) (heard_by console.old)) (side_of self.new known coming written (sent_of console.new) (heard_by console.new)) }
         ensures cases { (result ≡ turn.Went) ⊎ ((result ≡ turn.Idle) × IsStuck self.new console.new) }
         ensures left { self.new.output ≡ self.old.output }
@@ -160,6 +174,7 @@ impl Session {
         requires line { self.old.intake.line ≡ Some line }
         requires empty { (self.old.output.left ≡ []) × (self.old.output.used ≡ 0) }
         ensures base { L.Look.base look.new ≡ L.Look.base look.old }
+        ensures end { SameConsole console.old console.new }
         ensures turn { (coming written : Option (List ℕ)) → IsTurn (L.Look.base look.old) (least_of result) (side_of self.old (L.Look.knows look.old) coming written (sent_of console.old) (heard_by console.old)) (side_of self.new (L.Look.knows look.new) coming written (sent_of console.new) (heard_by console.new)) }
         ensures cases { (result ≡ turn.Went) ⊎ ((result ≡ turn.Idle) × IsStuck self.new console.new × (self.new.output.left ≡ [])) }
     {
@@ -212,6 +227,7 @@ impl Session {
     ) -> Turn
         requires empty { (self.old.output.left ≡ []) × (self.old.output.used ≡ 0) }
         ensures base { L.Look.base look.new ≡ L.Look.base look.old }
+        ensures end { SameConsole console.old console.new }
         ensures turn { IsTurn (L.Look.base look.old) (least_of result) (side_of self.old (L.Look.knows look.old) (W.coming wire.old) (W.written wire.old) (sent_of console.old) (heard_by console.old)) (side_of self.new (L.Look.knows look.new) (W.coming wire.new) (W.written wire.new) (sent_of console.new) (heard_by console.new)) }
         ensures answer { GoneOn result self.new console.new (W.counts wire.old) (W.counts wire.new) (W.coming wire.new) }
     {
@@ -229,6 +245,7 @@ impl Session {
         look: &mut L,
     ) -> Turn
         ensures base { L.Look.base look.new ≡ L.Look.base look.old }
+        ensures end { SameConsole console.old console.new }
         ensures turn { IsTurn (L.Look.base look.old) (least_of result) (side_of self.old (L.Look.knows look.old) (W.coming wire.old) (W.written wire.old) (sent_of console.old) (heard_by console.old)) (side_of self.new (L.Look.knows look.new) (W.coming wire.new) (W.written wire.new) (sent_of console.new) (heard_by console.new)) }
         ensures answer { Turns result self.new console.old console.new (W.counts wire.old) (W.counts wire.new) (W.coming wire.new) }
     {
@@ -243,10 +260,4 @@ impl Session {
         }
     }
 
-    /// Whether no action of this connection waits for its reply.
-    pub fn is_settled(&self) -> bool
-        ensures { result ≡ (array_vec_len self.now.waiting == 0) }
-    {
-        self.waiting.is_empty()
-    }
 }
