@@ -15,8 +15,11 @@
 //! Not promised: that a thread ever ends, that a request is ever answered, and any time.
 #![tactic(auto)]
 
+mod bell;
+mod bells;
 mod chair;
 mod console_back;
+mod doorbell;
 mod finishing;
 mod flags;
 mod flushing;
@@ -31,8 +34,11 @@ mod start_fault;
 mod starting;
 mod storage;
 
+pub use bell::Bell;
+pub use bells::Bells;
 pub use chair::Chair;
 pub use console_back::ConsoleBack;
+pub use doorbell::Doorbell;
 pub use finishing::run_flusher;
 pub use flags::Flags;
 pub use flushing::flush;
