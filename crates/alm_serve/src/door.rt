@@ -2,6 +2,7 @@
 
 ghost use Rattle.alm_rings.specs.Ends.{SameConsole};
 
+use crate::bound::Bound;
 use crate::guest::Guest;
 use crate::slot_bell::SlotBell;
 use crate::stream_wire::StreamWire;
@@ -19,7 +20,6 @@ use std::time::Duration;
 /// The tokens of what is polled. They are not read: after each poll all is tried.
 const LISTENER: Token = Token(0);
 const STREAM: Token = Token(1);
-pub const BELL: Token = Token(2);
 
 /// How many turns in a row find nothing, and only let others run, before the bell is to wake the thread: some 50 microseconds.
 const TURNS: u32 = 64;
@@ -33,7 +33,7 @@ pub struct Door {
     listener: TcpListener,
     poll: Poll,
     events: Events,
-    bell: Arc<SlotBell>,
+    bell: SlotBell,
     visits: Arc<Visits>,
     session: Session,
     guest: Guest,
@@ -46,14 +46,17 @@ impl Door {
 
     /// A port with nobody connected, whose listener is polled from now on.
     pub fn new(
-        listener: TcpListener,
-        poll: Poll,
+        bound: Bound,
         events: Events,
-        bell: Arc<SlotBell>,
         visits: Arc<Visits>,
         session: Session,
     ) -> io::Result<Self> {
-        let mut listener = listener;
+        let Bound {
+            mut listener,
+            poll,
+            bell,
+            slot: _,
+        } = bound;
         poll.registry()
             .register(&mut listener, LISTENER, Interest::READABLE)?;
         Ok(Door {

@@ -1,7 +1,7 @@
 //! How many connections have ended.
 
 use crate::slot_bell::SlotBell;
-use std::sync::Arc;
+use alm_run::Bell;
 use std::sync::atomic::{AtomicU64, Ordering};
 
 /// How many connections have ended, of as many as the server is to have.
@@ -10,12 +10,12 @@ pub struct Visits {
     // 0 is without end.
     most: u64,
     ended: AtomicU64,
-    bells: Vec<Arc<SlotBell>>,
+    bells: Vec<SlotBell>,
 }
 
 impl Visits {
     /// So many connections in all, 0 without end. These bells are rung when the last one has ended.
-    pub fn new(most: u32, bells: Vec<Arc<SlotBell>>) -> Self {
+    pub fn new(most: u32, bells: Vec<SlotBell>) -> Self {
         Visits {
             most: u64::from(most),
             ended: AtomicU64::new(0),

@@ -10,14 +10,13 @@ use crate::wire::{ReadGave, Wire};
 use alm_board::{FreeLook, Look};
 use alm_lines::{Ask, Line};
 use alm_rings::{Busy, Console, Told};
-use alm_types::{Action, Answer, Query, Refusal, Slot, Verdict};
+use alm_types::{Action, Answer, Query, Refusal, Verdict};
 use arrayvec::ArrayVec;
 use std::alloc::{AllocError, Global};
 
 /// One slot's connection.
 #[derive(Drop)]
 pub struct Session {
-    slot: Slot,
     intake: Intake,
     /// The ids of the actions that are unanswered, oldest first.
     waiting: ArrayVec<u32, 64>,
@@ -41,15 +40,13 @@ impl Session {
     ghost use Rattle.alm_turn.specs.declared.turn.Turn.TheVariants as turn;
     ghost use Rattle.alm_lines.specs.declared.ask.Ask.TheVariants as ask;
 
-    /// A connection at a slot, on which nothing has come.
-    pub fn new(alloc: Global, slot: Slot) -> Result<Self, AllocError>
-        ensures slot { IfOk result (λ s. s.slot ≡ slot) }
+    /// A connection on which nothing has come.
+    pub fn new(alloc: Global) -> Result<Self, AllocError>
         ensures held { IfOk result (λ s. s.intake ≡ record { line = None; held = []; rest = [] }) }
         ensures waiting { IfOk result (λ s. s.waiting.items ≡ []) }
         ensures left { IfOk result (λ s. s.output.left ≡ []) }
     {
         Ok(Session {
-            slot,
             intake: Intake::new(),
             waiting: ArrayVec::new(),
             output: Output::new(alloc)?,
@@ -57,9 +54,8 @@ impl Session {
         })
     }
 
-    /// Another connection at the slot, on which nothing has come. It keeps its buffers.
+    /// Another connection, on which nothing has come. It keeps its buffers.
     pub fn restart(&mut self)
-        ensures slot { self.new.slot ≡ self.old.slot }
         ensures held { self.new.intake ≡ record { line = None; held = []; rest = [] } }
         ensures waiting { self.new.waiting.items ≡ [] }
         ensures left { self.new.output.left ≡ [] }

@@ -12,7 +12,7 @@ use std::test::Fail;
 fn replies_to(alloc: Global, slot: Slot, input: &[u8]) -> Result<Vec<u8>, AllocError> {
     let (mut console, mut inbox, mut outbox) = open_slot(alloc, slot)?;
     let mut look = worked_look(alloc)?;
-    let mut session = Session::new(alloc, slot)?;
+    let mut session = Session::new(alloc)?;
     let input = Vec::from_slice(alloc, input)?;
     let mut wire = PieceWire::new(input, 1, Vec::new(alloc), 1);
     play(
@@ -55,7 +55,7 @@ fn a_line_without_end(rt: HostRuntime) -> Result<(), Fail> {
     let slot = Slot::new(0).ok_or("slot")?;
     let (mut console, mut inbox, mut outbox) = open_slot(alloc, slot)?;
     let mut look = worked_look(alloc)?;
-    let mut session = Session::new(alloc, slot)?;
+    let mut session = Session::new(alloc)?;
     let mut input = vec![in alloc; b'A'; 1_000_000]?;
     input.extend_from_slice(b"\n1 STATE 0\n")?;
     let mut wire = MemWire::new(alloc, input, 1000)?;
@@ -81,7 +81,7 @@ fn a_client_that_never_reads(rt: HostRuntime) -> Result<(), Fail> {
     for line in ["x\n", "7 ACK 0\n", "1 STATE 0\n"] {
         let (mut console, mut inbox, mut outbox) = open_slot(alloc, slot)?;
         let mut look = worked_look(alloc)?;
-        let mut session = Session::new(alloc, slot)?;
+        let mut session = Session::new(alloc)?;
         let mut input = Vec::new(alloc);
         for _line in 0..10_000 {
             input.extend_from_slice(line.as_bytes())?;
@@ -110,7 +110,7 @@ fn no_room(rt: HostRuntime) -> Result<(), Fail> {
     let slot = Slot::new(0).ok_or("slot")?;
     let (mut console, mut inbox, mut outbox) = open_slot(alloc, slot)?;
     let mut look = worked_look(alloc)?;
-    let mut session = Session::new(alloc, slot)?;
+    let mut session = Session::new(alloc)?;
     let input = Vec::from_slice(alloc, b"1 STATE 0\n".as_slice())?;
     let mut wire = MemWire::new(alloc, input, 5)?;
     let course = play(

@@ -49,7 +49,28 @@ pub fn answer(
     beside(console, inbox, outbox);
 }
 
-/// Takes turns until the connection ends, or so many were idle in a row. One request is answered at each idle turn, as long as some
+/// One turn. One request is answered where it is idle and some are unanswered.
+fn go_on<W: Wire>(
+    session: &mut Session,
+    wire: &mut W,
+    look: &mut StillLook<PlainPlant>,
+    console: &mut Console<StillTold>,
+    inbox: &mut Inbox,
+    outbox: &mut Outbox<StillTold>,
+    answers: &mut u64,
+) -> Turn
+    requires { AreEnds console.old inbox.old outbox.old }
+    ensures { AreEnds console.new inbox.new outbox.new }
+{
+    let turn = session.turn(wire, console, look);
+    if turn == Turn::Idle && console.unanswered() > 0 {
+        *answers = u64::saturating_add(*answers, 1);
+        answer(console, inbox, outbox, *answers);
+    }
+    turn
+}
+
+/// Takes turns until the connection ends, or a hundred were idle in a row. One request is answered at each idle turn, as long as some
 /// are unanswered.
 pub fn play<W: Wire>(
     session: &mut Session,
@@ -62,29 +83,26 @@ pub fn play<W: Wire>(
     requires { AreEnds console.old inbox.old outbox.old }
     ensures { AreEnds console.new inbox.new outbox.new }
 {
+    let mut last = Turn::Idle;
     let mut idle: u32 = 0;
     let mut row: u32 = 0;
     let mut answers: u64 = 0;
     for _turn in 0..10_000_000_u32 {
-        let last = session.turn(wire, console, look);
+        last = go_on(session, wire, look, console, inbox, outbox, &mut answers);
         match last {
             Turn::Went => row = 0,
             Turn::Idle => {
                 idle = idle.saturating_add(1);
                 row = row.saturating_add(1);
-                if console.unanswered() > 0 {
-                    answers = answers.saturating_add(1);
-                    answer(console, inbox, outbox, answers);
-                }
             }
-            Turn::Ended | Turn::Fault => return Course { last, idle, answers },
+            Turn::Ended | Turn::Fault => row = 101,
         }
         if row > 100 {
             break;
         }
     }
     Course {
-        last: Turn::Idle,
+        last,
         idle,
         answers,
     }

@@ -27,7 +27,7 @@ fn is_answered(
 ) -> Result<bool, AllocError> {
     let (mut console, mut inbox, mut outbox) = open_slot(alloc, slot)?;
     let mut look = worked_look(alloc)?;
-    let mut session = Session::new(alloc, slot)?;
+    let mut session = Session::new(alloc)?;
     let mut wire = PieceWire::new(bytes(alloc, lines)?, piece, Vec::new(alloc), room);
     let course = play(
         &mut session,
@@ -47,7 +47,7 @@ fn a_query_and_the_end(rt: HostRuntime) -> Result<(), Fail> {
     let slot = Slot::new(0).ok_or("slot")?;
     let (mut console, mut inbox, mut outbox) = open_slot(alloc, slot)?;
     let mut look = worked_look(alloc)?;
-    let mut session = Session::new(alloc, slot)?;
+    let mut session = Session::new(alloc)?;
     let mut wire = MemWire::new(alloc, bytes(alloc, "1 STATE 0\n")?, 100)?;
     let course = play(
         &mut session,
@@ -88,7 +88,7 @@ fn a_query_waits_for_actions(rt: HostRuntime) -> Result<(), Fail> {
     let slot = Slot::new(0).ok_or("slot")?;
     let (mut console, mut inbox, mut outbox) = open_slot(alloc, slot)?;
     let mut look = worked_look(alloc)?;
-    let mut session = Session::new(alloc, slot)?;
+    let mut session = Session::new(alloc)?;
     let mut wire = MemWire::new(alloc, bytes(alloc, LINES)?, 1000)?;
     let course = play(
         &mut session,
@@ -116,7 +116,7 @@ fn a_lost_connection(rt: HostRuntime) -> Result<(), Fail> {
     let slot = Slot::new(0).ok_or("slot")?;
     let (mut console, mut inbox, mut outbox) = open_slot(alloc, slot)?;
     let mut look = worked_look(alloc)?;
-    let mut session = Session::new(alloc, slot)?;
+    let mut session = Session::new(alloc)?;
     let mut wire = MemWire::new(alloc, bytes(alloc, "7 ACK 0\n8 ACK 1\n9 ACK 1\n1 ST")?, 200)?;
     assert_eq!(rt; session.turn(&mut wire, &mut console, &mut look), Turn::Went);
     assert_eq!(rt; session.turn(&mut wire, &mut console, &mut look), Turn::Went);
