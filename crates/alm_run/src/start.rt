@@ -1,5 +1,5 @@
 //! Starts the sources, and joins them.
-ghost use Rattle.std.specs.Prelude.{◌≡◌, map, IfOk, vec_len};
+ghost use Rattle.std.specs.Prelude.{◌≡◌, ◌≤◌, [], map, IfOk, vec_len, vec_capacity};
 ghost use Rattle.alm_run.specs.Same.{AllSame};
 
 use crate::bell::Bell;
@@ -97,25 +97,19 @@ where
     Ok(handles)
 }
 
-/// Joins them in the order of the slots.
+/// Joins them in the order of the slots. Takes no memory: the consoles go into `room`.
 pub fn join_all<T: Told + Drop, R: Threads>(
     rt: &R,
-    alloc: Global,
     handles: Vec<Handle<T>>,
-) -> Result<Vec<Console<T>>, StartFault>
-    ensures len { IfOk result (λ consoles. vec_len consoles ≡ vec_len handles) }
-    ensures each { IfOk result (λ consoles. AllSame (map (λ h. h.promise.0.value) handles.items) consoles.items) }
+    room: Vec<Console<T>>,
+) -> Vec<Console<T>>
+    requires room { (room.items ≡ []) × (vec_len handles ≤ vec_capacity room) }
+    ensures len { vec_len result ≡ vec_len handles }
+    ensures each { AllSame (map (λ h. h.promise.0.value) handles.items) result.items }
 {
-    let mut consoles = match Vec::with_capacity(alloc, handles.len()) {
-        Ok(consoles) => consoles,
-        Err(_) => return Err(StartFault::OutOfMemory),
-    };
+    let mut consoles = room;
     for handle in handles {
-        let console = handle.join(rt);
-        match consoles.push(console) {
-            Ok(()) => {}
-            Err(_) => return Err(StartFault::OutOfMemory),
-        }
+        consoles.push_reserved(handle.join(rt));
     }
-    Ok(consoles)
+    consoles
 }
