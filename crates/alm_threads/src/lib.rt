@@ -10,6 +10,7 @@ mod parts;
 mod report;
 mod running;
 mod slots;
+mod watched_look;
 
 pub use ends::Ends;
 pub use middle::Middle;
@@ -17,3 +18,4 @@ pub use opening::parts_of;
 pub use parts::Parts;
 pub use report::RunReport;
 pub use running::{run_threads, run_with_bells};
+pub use watched_look::WatchedLook;

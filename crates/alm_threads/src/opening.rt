@@ -5,6 +5,8 @@ ghost use Rattle.alm_rings.specs.Placed.{AreApart};
 use crate::middle::Middle;
 use crate::parts::Parts;
 use crate::slots::open_some;
+use crate::watched_look::{WatchedLook, watched};
+use alm_disk::Hold;
 use alm_keeper::Phase;
 use alm_model::Alarms;
 use alm_plant::Plant;
@@ -16,14 +18,18 @@ use alm_types::Slot;
 use std::alloc::Global;
 use std::sync::Wait;
 
-/// The parts of a run for these slots, over an idle store. The store comes back where memory is short.
-pub fn parts_of<J: Naming, K: Store, R: Wait>(
+/// The parts of a run for these slots, over an idle store; the hold is told of each look. The store comes back where memory is short.
+pub fn parts_of<'h, J: Naming, K: Store, H: Hold, R: Wait>(
     rt: &R,
     alloc: Global,
     history: NewHistory,
     store: K,
     slots: Vec<Slot>,
-) -> Result<Parts<Front<J>, SharedLook<J, Plant>, SharedBoard<J, Plant>, K>, K>
+    hold: &'h H,
+) -> Result<
+    Parts<Front<J>, WatchedLook<'h, SharedLook<J, Plant>, H>, SharedBoard<J, Plant>, K>,
+    K,
+>
     requires book { history.seen.book ≡ J.book }
     requires base { K.stored store ≡ J.base }
     requires idle { K.phase store ≡ Phase.Idle }
@@ -56,6 +62,10 @@ pub fn parts_of<J: Naming, K: Store, R: Wait>(
     };
     let Ok((board, looks)) = open_board::<J, Plant, R>(rt, alloc, history, shown, slots.len())
     else {
+        return Err(store);
+    };
+    let Ok(looks) = watched(alloc, hold, slots.as_slice(), looks) else {
+        drop(board.take(rt));
         return Err(store);
     };
     let flusher = FlusherParts {

@@ -18,7 +18,7 @@ use alm_board::{Board, Look, Publish};
 use alm_disk::Hold;
 use alm_rings::{Console, SlotReport, Told, batches_beside};
 use alm_run::{
-    Bell, Bells, Chair, Closes, Doorbell, Flags, Landed, Parcel, Rings, Source, StartFault, WatchedLook, join_all,
+    Bell, Bells, Chair, Closes, Doorbell, Flags, Landed, Parcel, Rings, Source, StartFault, join_all,
     run_flusher, start_all, start_rings,
 };
 use alm_store::Store;
@@ -35,7 +35,7 @@ fn run_all<
     K: Store,
     T: Told + Drop + Send,
     L: Look<Told = T> + Drop + Send,
-    S: Source<T, WatchedLook<'s, L, H>> + Drop + Send,
+    S: Source<T, L> + Drop + Send,
     B: Board<Told = T> + Publish<R> + Closes<R>,
     E: Bell + Drop + Sync,
     H: Hold + Sync,
@@ -83,7 +83,7 @@ where
             return Err(fault);
         }
     };
-    let sources = match start_all(scope, rt, alloc, flags, hold, chairs) {
+    let sources = match start_all(scope, rt, alloc, flags, chairs) {
         Ok(handles) => handles,
         Err(fault) => {
             board.close(rt);
@@ -132,7 +132,7 @@ fn in_scope<
     K: Store,
     T: Told + Drop + Send,
     L: Look<Told = T> + Drop + Send,
-    S: Source<T, WatchedLook<'s, L, H>> + Drop + Send,
+    S: Source<T, L> + Drop + Send,
     B: Board<Told = T> + Publish<R> + Closes<R>,
     E: Bell + Drop + Sync,
     H: Hold + Sync,
@@ -178,20 +178,19 @@ fn in_scope<
 /// It ends when all sources have ended and nothing is left, or when the storage is stopped: then no source gets another turn. A fault
 /// where memory is short or no thread can be made: the parts are gone, and the device is to be opened again.
 pub fn run_with_bells<
-    'h,
     K: Store,
     T: Told + Drop + Send,
     L: Look<Told = T> + Drop + Send,
-    S: Source<T, WatchedLook<'h, L, H>> + Drop + Send,
+    S: Source<T, L> + Drop + Send,
     B: Board<Told = T> + Publish<R> + Closes<R>,
     E: Bell + Drop + Sync,
     H: Hold + Sync,
     R: Threads + Wait + Sync,
 >(
-    rt: &'h R,
+    rt: &R,
     alloc: Global,
     parts: Parts<T, L, B, K>,
-    hold: &'h H,
+    hold: &H,
     bells: Vec<E>,
     sources: Vec<S>,
 ) -> Result<RunReport<K>, StartFault>
@@ -232,19 +231,18 @@ pub fn run_with_bells<
 
 /// Runs these parts with a source for each slot, in the order of the slots, each woken when a receipt is released to it.
 pub fn run_threads<
-    'h,
     K: Store,
     T: Told + Drop + Send,
     L: Look<Told = T> + Drop + Send,
-    S: Source<T, WatchedLook<'h, L, H>> + Drop + Send,
+    S: Source<T, L> + Drop + Send,
     B: Board<Told = T> + Publish<R> + Closes<R>,
     H: Hold + Sync,
     R: Threads + Wait + Sync,
 >(
-    rt: &'h R,
+    rt: &R,
     alloc: Global,
     parts: Parts<T, L, B, K>,
-    hold: &'h H,
+    hold: &H,
     sources: Vec<S>,
 ) -> Result<RunReport<K>, StartFault>
     requires sources { length sources.items ≡ length parts.slots.items }
