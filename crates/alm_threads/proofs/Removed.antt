@@ -1,5 +1,5 @@
 -- Ends that are taken out of a list.
-use Rattle.std.proofs.Common.{◌≡◌, ◌≢◌, ◌<◌, ℕ, zero, suc, List, [], ◌∷◌, ◌++◌, take, drop, Some, None, slice_get, true, false, inl, inr, refl, sym, ap, ◌∙◌, arith, eq-eqb}
+use Rattle.std.proofs.Common.{◌≡◌, ◌≢◌, ◌<◌, ◌+◌, ◌⊎◌, ℕ, zero, suc, List, [], ◌∷◌, ◌++◌, take, drop, Some, None, slice_get, true, false, inl, inr, refl, sym, ap, ◌∙◌, arith, eq-eqb}
 use Rattle.std.specs.Prelude.{◌==◌}
 use Rattle.std.proofs.lemmas.Bool.{cases_Bool, eqb-true}
 use Rattle.std.proofs.lemmas.Option.{none-some, same_Some}
@@ -34,3 +34,17 @@ module _ {E : Type 0} (number : E → ℕ) where
   nowhere (x ∷ ends) slot none =
       let no : (number x == slot) ≡ false = apart_numbers (number x) slot (none 0 x refl) in
       rw no (nowhere ends slot (λ j y at. none (suc j) y at))
+
+  split : (j k : ℕ) → j < suc k → (j < k) ⊎ (j ≡ k)
+  split zero zero less = inr refl
+  split zero (suc k) less = inl (omega arith)
+  split (suc j) zero less = absurd (omega (arith, less))
+  split (suc j) (suc k) less = elim (split j k (omega (arith, less))) [ inl l ↦ inl (omega (arith, l)) | inr e ↦ inr (ap suc e) ]
+
+  -- one more that is not the slot's
+  pub none_more : (ends : List E) (k slot : ℕ) (e : E) → slice_get ends k ≡ Some e → number e ≢ slot → ((j : ℕ) (x : E) → j < k → slice_get ends j ≡ Some x → number x ≢ slot)
+      → (j : ℕ) (x : E) → j < k + 1 → slice_get ends j ≡ Some x → number x ≢ slot
+  none_more ends k slot e here other none j x less at = elim (split j k (omega (arith, less))) [
+    | inl before ↦ none j x before at
+    | inr same ↦ λ p. other (ap number (same_Some e x (sym here ∙ (ap (slice_get ends) (sym same) ∙ at))) ∙ p)
+  ]

@@ -48,10 +48,13 @@ pub fn close_all<T: Told + Drop>(
     let (mut inboxes, mut outboxes, mut reports) = (inboxes, outboxes, room);
     for console in consoles {
         let slot = console.slot();
-        match (take_inbox(&mut inboxes, slot), take_outbox(&mut outboxes, slot)) {
-            (Some(inbox), Some(outbox)) => reports.push_reserved(close_slot(console, inbox, outbox)),
-            _ => unreachable!(),
-        }
+        let Some(inbox) = take_inbox(&mut inboxes, slot) else {
+            unreachable!()
+        };
+        let Some(outbox) = take_outbox(&mut outboxes, slot) else {
+            unreachable!()
+        };
+        reports.push_reserved(close_slot(console, inbox, outbox));
     }
     reports
 }
