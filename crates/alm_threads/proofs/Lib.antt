@@ -1,3 +1,4 @@
 pub mod Closed
 pub mod Opened
 pub mod Removed
+pub mod Tied

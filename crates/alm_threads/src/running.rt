@@ -1,12 +1,14 @@
 //! A run.
 ghost use Rattle.std.specs.Prelude.{◌≡◌, ◌≤◌, ℕ, [], length, map, vec_len, vec_capacity, IfOk};
-ghost use Rattle.alm_rings.specs.Batches.{SameSealEnds, SameFetchEnds};
-ghost use Rattle.alm_rings.specs.Placed.{SameOutboxAt, outbox_at};
+ghost use mathlib.Core.List.{IsPrefix};
+ghost use Rattle.alm_rings.specs.Batches.{AreBatchEnds, SameSealEnds, SameFetchEnds, fetched_of, sealed_of};
+ghost use Rattle.alm_rings.specs.Placed.{AreApart, SameOutboxAt, outbox_at};
 ghost use Rattle.alm_sequencer.specs.Sequences.{SameInboxes};
 ghost use Rattle.alm_run.specs.Histories.{Judged, Flushed};
 ghost use Rattle.alm_run.specs.Same.{AllSame};
 ghost use Rattle.alm_run.specs.Serving.{Serves};
-ghost use Rattle.alm_threads.specs.Runs.{IsRun};
+ghost use Rattle.alm_threads.specs.Runs.{AreClosed, IsRun};
+ghost use Rattle.alm_threads.specs.Slots.{AreTied};
 
 use crate::closing::close_all;
 use crate::crew::seat;
@@ -104,7 +106,15 @@ where
 fn report_of<K: Store, T: Told + Drop>(
     ends: Ends<K, T>,
     room: Vec<Option<SlotReport>>,
-) -> RunReport<K> {
+) -> RunReport<K>
+    requires apart { AreApart (λ c. c.slot) ends.consoles.items }
+    requires tied { AreTied ends.consoles.items ends.rings.inboxes.items ends.landed.outboxes.items }
+    requires batches { AreBatchEnds ends.rings.ends ends.landed.fetch }
+    requires room { (room.items ≡ []) × (vec_len ends.consoles ≤ vec_capacity room) }
+    ensures keeper { result.keeper ≡ ends.landed.store }
+    ensures closed { AreClosed ends.consoles.items ends.rings.inboxes.items ends.landed.outboxes.items result.slots.items }
+    ensures fetched { IsPrefix (fetched_of ends.landed.fetch) (sealed_of ends.rings.ends) }
+{
     let Ends {
         consoles,
         rings,
@@ -253,7 +263,10 @@ pub fn run_threads<
         return Err(StartFault::OutOfMemory);
     };
     for _ in 0..sources.len() {
-        bells.push_reserved(Doorbell::new());
+        if bells.push(Doorbell::new()).is_err() {
+            drop(parts.close(rt));
+            return Err(StartFault::OutOfMemory);
+        }
     }
     run_with_bells(rt, alloc, parts, hold, bells, sources)
 }
