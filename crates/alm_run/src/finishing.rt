@@ -24,12 +24,7 @@ pub fn run_flusher<
     B: Board<Told = T> + Publish<R> + Closes<R>,
     E: Bell + Drop,
     R: Wait,
->(
-    rt: &R,
-    flags: &Flags<E>,
-    board: B,
-    parts: FlusherParts<K, T>,
-) -> Landed<K, T>
+>(rt: &R, flags: &Flags<E>, board: B, parts: FlusherParts<K, T>) -> Landed<K, T>
     requires apart { AreApart (λ o. o.slot) parts.outboxes.items }
     requires released { (s : ℕ) → released_by s parts.outboxes.items ≡ [] }
     requires fetched { fetched_of parts.fetch ≡ [] }

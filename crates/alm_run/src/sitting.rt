@@ -32,13 +32,7 @@ pub fn sit<
     S: Source<T, L> + Drop,
     B: Bell + Drop,
     R: Wait,
->(
-    rt: &R,
-    flags: &Flags<B>,
-    console: Console<T>,
-    look: L,
-    source: S,
-) -> Console<T>
+>(rt: &R, flags: &Flags<B>, console: Console<T>, look: L, source: S) -> Console<T>
     ensures { SameConsole console result }
 {
     let mut console = console;

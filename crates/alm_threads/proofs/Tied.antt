@@ -97,9 +97,9 @@ module _ {T : Type 0} {g : Ghosts T} where
     has_inbox = λ k d at. (let c = all_same_at cs ds all k d at in subst (λ s. IsSome (inbox_at s js)) (sym c.1.1.2) (some_still (inbox_at c.0.slot is) (inbox_at c.0.slot js) (ins c.0.slot) (tied.has_inbox k c.0 c.1.0)));
     has_outbox = λ k d at. (let c = all_same_at cs ds all k d at in subst (λ s. IsSome (outbox_at s ps)) (sym c.1.1.2) (out_still (outbox_at c.0.slot os) (outbox_at c.0.slot ps) (outs c.0.slot) (tied.has_outbox k c.0 c.1.0)));
     requests = λ k d j at its. (let c = all_same_at cs ds all k d at in
-      let i = was_in (inbox_at c.0.slot is) j (subst (λ o. SameInboxAt (inbox_at c.0.slot is) o) (ap (λ s. inbox_at s js) (sym c.1.1.2) ∙ its) (ins c.0.slot)) in
-      pair_on c.0 d i.0 j c.1.1 i.1.1 (tied.requests k c.0 i.0 c.1.0 i.1.0));
+        let i = was_in (inbox_at c.0.slot is) j (subst (λ o. SameInboxAt (inbox_at c.0.slot is) o) (ap (λ s. inbox_at s js) (sym c.1.1.2) ∙ its) (ins c.0.slot)) in
+        pair_on c.0 d i.0 j c.1.1 i.1.1 (tied.requests k c.0 i.0 c.1.0 i.1.0));
     replies = λ k d p at its. (let c = all_same_at cs ds all k d at in
-      let o = was_out (outbox_at c.0.slot os) p (subst (λ o. SameOutboxAt (outbox_at c.0.slot os) o) (ap (λ s. outbox_at s ps) (sym c.1.1.2) ∙ its) (outs c.0.slot)) in
-      pair_back c.0 d o.0 p c.1.1 o.1.1 (tied.replies k c.0 o.0 c.1.0 o.1.0));
+        let o = was_out (outbox_at c.0.slot os) p (subst (λ o. SameOutboxAt (outbox_at c.0.slot os) o) (ap (λ s. outbox_at s ps) (sym c.1.1.2) ∙ its) (outs c.0.slot)) in
+        pair_back c.0 d o.0 p c.1.1 o.1.1 (tied.replies k c.0 o.0 c.1.0 o.1.0));
   }

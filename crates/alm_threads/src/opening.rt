@@ -26,10 +26,7 @@ pub fn parts_of<'h, J: Naming, K: Store, H: Hold, R: Wait>(
     store: K,
     slots: Vec<Slot>,
     hold: &'h H,
-) -> Result<
-    Parts<Front<J>, WatchedLook<'h, SharedLook<J, Plant>, H>, SharedBoard<J, Plant>, K>,
-    K,
->
+) -> Result<Parts<Front<J>, WatchedLook<'h, SharedLook<J, Plant>, H>, SharedBoard<J, Plant>, K>, K>
     requires book { history.seen.book ≡ J.book }
     requires base { K.stored store ≡ J.base }
     requires idle { K.phase store ≡ Phase.Idle }

@@ -20,8 +20,8 @@ use alm_board::{Board, Look, Publish};
 use alm_disk::Hold;
 use alm_rings::{Console, SlotReport, Told, batches_beside};
 use alm_run::{
-    Bell, Bells, Chair, Closes, Doorbell, Flags, Landed, Parcel, Rings, Source, StartFault, join_all,
-    run_flusher, start_all, start_rings,
+    Bell, Bells, Chair, Closes, Doorbell, Flags, Landed, Parcel, Rings, Source, StartFault,
+    join_all, run_flusher, start_all, start_rings,
 };
 use alm_store::Store;
 use alm_types::Slot;
@@ -178,7 +178,20 @@ fn in_scope<
         |scope| -> Result<Ends<K, T>, StartFault>
             requires { Serves slots.now.items middle.rings.inboxes.items × (K.stored middle.flusher.store ≡ B.Board.base parcel.board) × (B.Board.published parcel.board ≡ []) × (B.Board.pending parcel.board ≡ []) × (room.items ≡ []) × (vec_len chairs ≤ vec_capacity room) }
             ensures { IfOk result (λ e. AllSame (map (λ chair. chair.console) chairs.items) e.consoles.items × SameInboxes middle.rings.inboxes.items e.rings.inboxes.items × SameSealEnds middle.rings.ends e.rings.ends × ((s : ℕ) → SameOutboxAt (outbox_at s middle.flusher.outboxes.items) (outbox_at s e.landed.outboxes.items)) × SameFetchEnds middle.flusher.fetch e.landed.fetch × Judged (K.stored middle.flusher.store) e.rings.inboxes.items e.rings.ends × Flushed (K.stored middle.flusher.store) (K.stored e.landed.store) e.landed.outboxes.items e.landed.fetch) }
-        { run_all(scope, rt, alloc, flags, slots, hold, chairs, room, parcel.open(), middle) },
+        {
+            run_all(
+                scope,
+                rt,
+                alloc,
+                flags,
+                slots,
+                hold,
+                chairs,
+                room,
+                parcel.open(),
+                middle,
+            )
+        },
     )
 }
 

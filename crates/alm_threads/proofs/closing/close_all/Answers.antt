@@ -49,20 +49,20 @@ loop-console-preserved g c =
       outboxes = λ s none. c.take_outbox.ensures.others s (λ p. none (length l.yielded) x (here l.yielded [] x) (sym (p ∙ c.slot-slot.ensures))) ∙ inv.outboxes s (λ j y at. none j y (before l.yielded (x ∷ []) j y at));
       closed = λ k y at. elim (push_cases l.yielded x y k at) [
         | inl old ↦ (let was = inv.closed k y old in record {
-            report = was.report;
-            at = ap (λ l. slice_get l k) c.push_reserved.ensures.items ∙ before l.reports.items (c.close_slot.result ∷ []) k (Some was.report) was.at;
-            is = was.is;
-          })
+          report = was.report;
+          at = ap (λ l. slice_get l k) c.push_reserved.ensures.items ∙ before l.reports.items (c.close_slot.result ∷ []) k (Some was.report) was.at;
+          is = was.is;
+        })
         | inr new ↦ record {
-            report = r.0;
-            at = ap (λ l. slice_get l k) c.push_reserved.ensures.items ∙ (ap (λ n. slice_get (l.reports.items ++ c.close_slot.result ∷ []) n) (new.0 ∙ sym inv.count) ∙ (here l.reports.items [] c.close_slot.result ∙ ap Some r.1));
-            is = record {
-              taken_is = requests.1 ∙ ap length (sym (ap (λ (z : Console _ _). taken_in (inbox_at z.slot c.args.inboxes.items)) (sym new.1) ∙ ap taken_in inbox));
-              released_is = receipts.0 ∙ ap (λ n. min n (2 ^ 64 - 1)) (ap length (sym (ap (λ (z : Console _ _). released_in (outbox_at z.slot c.args.outboxes.items)) (sym new.1) ∙ ap released_in outbox)));
-              sent = omega (arith, requests.0, requests.1, prefix_length (taken_of c.in-Some-take_inbox.inbox) (sent_of x) c.close_slot.ensures.taken);
-              received = later _ _ (2 ^ 64 - 1) _ _ (prefix_length (received_of x) (released_of c.in-Some-take_outbox.outbox) c.close_slot.ensures.received) receipts.1 receipts.0;
-            };
-          }
+          report = r.0;
+          at = ap (λ l. slice_get l k) c.push_reserved.ensures.items ∙ (ap (λ n. slice_get (l.reports.items ++ c.close_slot.result ∷ []) n) (new.0 ∙ sym inv.count) ∙ (here l.reports.items [] c.close_slot.result ∙ ap Some r.1));
+          is = record {
+            taken_is = requests.1 ∙ ap length (sym (ap (λ (z : Console _ _). taken_in (inbox_at z.slot c.args.inboxes.items)) (sym new.1) ∙ ap taken_in inbox));
+            released_is = receipts.0 ∙ ap (λ n. min n (2 ^ 64 - 1)) (ap length (sym (ap (λ (z : Console _ _). released_in (outbox_at z.slot c.args.outboxes.items)) (sym new.1) ∙ ap released_in outbox)));
+            sent = omega (arith, requests.0, requests.1, prefix_length (taken_of c.in-Some-take_inbox.inbox) (sent_of x) c.close_slot.ensures.taken);
+            received = later _ _ (2 ^ 64 - 1) _ _ (prefix_length (received_of x) (released_of c.in-Some-take_outbox.outbox) c.close_slot.ensures.received) receipts.1 receipts.0;
+          };
+        }
       ];
     }
 

@@ -51,18 +51,20 @@ returns g c =
     let fetched = fetched_of e.landed.fetch in
     let sealed = sealed_of e.rings.ends in
     let reports = c.report_of.result.slots.items in
-    record { run = record {
-      entries = entries;
-      legal = f.judged.legal;
-      kept = f.flushed.kept;
-      front = front_on f.flushed.kept (entries_in fetched) entries f.flushed.fetched (front_on (entries_in fetched) (entries_in sealed) entries (entries_front fetched sealed c.report_of.ensures.fetched) f.judged.sealed);
-      stored_is = ap (λ k. g.K.Store.stored k) c.report_of.ensures.keeper ∙ f.flushed.stored_is;
-      told = f.flushed.told;
-      within = f.flushed.within;
-      count = c.report_of.ensures.closed.0 ∙ (sym (map_count (λ (x : Console _ _). x.slot) e.consoles.items) ∙ ap length order);
-      each = λ k s at. (
-        let d = stands_at (λ (x : Console _ _). x.slot) e.consoles.items p.slots.items k s order at in
-        let taken : length (taken_by d.0.slot e.rings.inboxes.items) ≡ length (of_slot s entries) = ap (λ n. length (taken_by n e.rings.inboxes.items)) d.1.1 ∙ (ap length (sym (f.judged.wants s)) ∙ wants_count (of_slot s entries)) in
-        let told : length (released_by d.0.slot e.landed.outboxes.items) ≡ length (of_slot s f.flushed.told) = ap (λ n. length (released_by n e.landed.outboxes.items)) d.1.1 ∙ (sym (received_count (released_by s e.landed.outboxes.items)) ∙ (ap length (f.flushed.released s) ∙ replies_count (of_slot s f.flushed.told))) in
-        subst (λ n. Closes reports k (length (of_slot s entries)) n) told (subst (λ n. Closes reports k n (length (released_by d.0.slot e.landed.outboxes.items))) taken (c.report_of.ensures.closed.1 k d.0 d.1.0)));
-    } }
+    record {
+      run = record {
+        entries = entries;
+        legal = f.judged.legal;
+        kept = f.flushed.kept;
+        front = front_on f.flushed.kept (entries_in fetched) entries f.flushed.fetched (front_on (entries_in fetched) (entries_in sealed) entries (entries_front fetched sealed c.report_of.ensures.fetched) f.judged.sealed);
+        stored_is = ap (λ k. g.K.Store.stored k) c.report_of.ensures.keeper ∙ f.flushed.stored_is;
+        told = f.flushed.told;
+        within = f.flushed.within;
+        count = c.report_of.ensures.closed.0 ∙ (sym (map_count (λ (x : Console _ _). x.slot) e.consoles.items) ∙ ap length order);
+        each = λ k s at. (
+            let d = stands_at (λ (x : Console _ _). x.slot) e.consoles.items p.slots.items k s order at in
+            let taken : length (taken_by d.0.slot e.rings.inboxes.items) ≡ length (of_slot s entries) = ap (λ n. length (taken_by n e.rings.inboxes.items)) d.1.1 ∙ (ap length (sym (f.judged.wants s)) ∙ wants_count (of_slot s entries)) in
+            let told : length (released_by d.0.slot e.landed.outboxes.items) ≡ length (of_slot s f.flushed.told) = ap (λ n. length (released_by n e.landed.outboxes.items)) d.1.1 ∙ (sym (received_count (released_by s e.landed.outboxes.items)) ∙ (ap length (f.flushed.released s) ∙ replies_count (of_slot s f.flushed.told))) in
+            subst (λ n. Closes reports k (length (of_slot s entries)) n) told (subst (λ n. Closes reports k n (length (released_by d.0.slot e.landed.outboxes.items))) taken (c.report_of.ensures.closed.1 k d.0 d.1.0)));
+      };
+    }
