@@ -25,7 +25,8 @@ fn rest<T: Told + Drop, B: Bell + Drop, R: Wait>(
     }
 }
 
-/// Takes turns until the source ends or `stop` is set. The sequencer and the flusher are woken after each.
+/// Takes turns until the source ends or `stop` is set. The sequencer and the flusher are woken after each that may
+/// have something for them.
 pub fn sit<
     T: Told + Drop,
     L: Look<Told = T> + Drop,
@@ -44,8 +45,11 @@ pub fn sit<
             break;
         }
         let go = source.turn(&mut console, &mut look);
-        flags.sequencer.ring();
-        flags.flusher.ring();
+        // A slot with nothing on its way wakes nobody.
+        if go != Go::Rest || console.unanswered() > 0 {
+            flags.sequencer.ring();
+            flags.flusher.ring();
+        }
         match go {
             Go::Go => idle = 0,
             Go::Rest => {
