@@ -11,7 +11,7 @@ use std::time::Duration;
 const YIELDS: u32 = 64;
 
 /// How long it sleeps at most, in milliseconds.
-const NAP: u64 = 20;
+const NAP: u64 = 100;
 
 /// A bell that one thread sleeps by. It is rung by a load alone while that thread is awake.
 #[derive(Drop)]
