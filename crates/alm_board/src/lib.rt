@@ -5,6 +5,7 @@
 //! | [`Board`] | what is published: it tells its list to receipts |
 //! | [`Publish`] | shows one batch more, or nothing new |
 //! | [`Look`] | one slot's sight of it: it sees, is told and learns |
+//! | [`FreeLook`] | one that may learn any receipt of its type |
 //! | [`PlainBoard`], [`PlainLook`], [`PlainTold`] | the board within one thread |
 //!
 //! What is used above: a look shows the plant of a list of published actions, with its count. The list begins with all that
@@ -14,6 +15,7 @@
 #![tactic(auto)]
 
 mod board;
+mod free_look;
 mod log;
 mod look;
 mod plain_board;
@@ -22,6 +24,7 @@ mod plain_told;
 mod seen;
 
 pub use board::{Board, Publish};
+pub use free_look::FreeLook;
 pub use log::Log;
 pub use look::Look;
 pub use plain_board::PlainBoard;

@@ -1,10 +1,13 @@
 //! What the threads tell each other beside the rings.
 
-use std::sync::atomic::{AtomicBool, AtomicUsize};
+use crate::bell::Bell;
+use crate::bells::Bells;
+use crate::doorbell::Doorbell;
+use std::sync::atomic::{AtomicBool, AtomicUsize, Ordering};
 
 /// What the threads tell each other beside the rings: hints, on which no contract rests.
 #[derive(Drop)]
-pub struct Flags {
+pub struct Flags<B: Bell + Drop> {
     /// No source gets another turn.
     pub stop: AtomicBool,
     /// A sealed batch is on its way, or held.
@@ -13,16 +16,38 @@ pub struct Flags {
     pub sealed: AtomicBool,
     /// So many sources have ended.
     pub ended: AtomicUsize,
+    /// Wakes the sequencer's thread.
+    pub sequencer: Doorbell,
+    /// Wakes the flusher's thread.
+    pub flusher: Doorbell,
+    /// Wake the slots' threads.
+    pub slots: Bells<B>,
 }
 
-impl Flags {
+impl<B: Bell + Drop> Flags<B> {
     /// None of it yet.
-    pub fn new() -> Self {
+    pub fn new(slots: Bells<B>) -> Self {
         Flags {
             stop: AtomicBool::new(false),
             out: AtomicBool::new(false),
             sealed: AtomicBool::new(false),
             ended: AtomicUsize::new(0),
+            sequencer: Doorbell::new(),
+            flusher: Doorbell::new(),
+            slots,
         }
+    }
+
+    /// Stops all threads, each before its next turn.
+    pub fn stop_all(&self) {
+        self.stop.store(true, Ordering::SeqCst);
+        self.sequencer.ring();
+        self.flusher.ring();
+        self.slots.ring_all();
+    }
+
+    /// Whether all threads are to stop.
+    pub fn is_stopped(&self) -> bool {
+        self.stop.load(Ordering::SeqCst)
     }
 }

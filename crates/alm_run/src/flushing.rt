@@ -3,6 +3,7 @@ ghost use Rattle.std.specs.Prelude.{◌≡◌, ◌≢◌, ℕ};
 ghost use Rattle.alm_rings.specs.Batches.{SameFetchEnds};
 ghost use Rattle.alm_rings.specs.Placed.{SameOutboxAt, outbox_at};
 
+use crate::bell::Bell;
 use crate::flags::Flags;
 use crate::storage::Storage;
 use alm_board::{Board, Publish};
@@ -12,55 +13,130 @@ use alm_rings::Told;
 use alm_store::Store;
 use std::sync::Wait;
 use std::sync::atomic::Ordering;
-use std::thread;
 
 /// How often the same publish is refused before the run stops.
 const REFUSALS: u64 = 1000;
 
-/// Commits, publishes and releases until nothing more is sealed and nothing is left, or the store has stopped, or a publish was
-/// refused 1,000 times in a row.
-pub fn flush<K: Store, T: Told + Drop, B: Board<Told = T> + Publish<R>, R: Wait>(
+// What a pass found.
+#[derive(Clone, Copy, Debug, PartialEq, Eq)]
+enum Pass {
+    Work,
+    // No sealed batch was there.
+    Empty,
+    // The console of the next receipt has no room for it.
+    Full,
+    Stopped,
+}
+
+// Commits a step of the held batch and publishes it, where that is next.
+fn commit<K: Store, T: Told + Drop, B: Board<Told = T> + Publish<R>, R: Wait>(
     rt: &R,
-    flags: &Flags,
+    flusher: &mut Flusher<K, T, B>,
+    refused: &mut u64,
+) -> Pass
+    ensures fetch { SameFetchEnds flusher.old.fetch flusher.new.fetch }
+    ensures outboxes { flusher.new.outboxes ≡ flusher.old.outboxes }
+    ensures base { B.Board.base flusher.new.board ≡ B.Board.base flusher.old.board }
+{
+    if flusher.advance() == Advance::Failed {
+        return Pass::Stopped;
+    }
+    match flusher.publish::<R>(rt) {
+        Publishes::Published => *refused = 0,
+        Publishes::OutOfMemory => {
+            *refused = u64::saturating_add(*refused, 1);
+            if *refused >= REFUSALS {
+                return Pass::Stopped;
+            }
+        }
+        Publishes::NotYet => {}
+    }
+    Pass::Work
+}
+
+// Releases the next receipt and wakes its slot, or gives the batch back.
+fn answer<K: Store, T: Told + Drop, B: Board<Told = T>, E: Bell + Drop>(
+    flags: &Flags<E>,
+    flusher: &mut Flusher<K, T, B>,
+) -> Pass
+    ensures fetch { SameFetchEnds flusher.old.fetch flusher.new.fetch }
+    ensures outboxes { (s : ℕ) → SameOutboxAt (outbox_at s flusher.old.outboxes.items) (outbox_at s flusher.new.outboxes.items) }
+    ensures base { B.base flusher.new.board ≡ B.base flusher.old.board }
+{
+    match flusher.release() {
+        Release::Released(slot) => flags.slots.ring(slot),
+        Release::Full(slot) => {
+            flags.slots.ring(slot);
+            return Pass::Full;
+        }
+        Release::Nothing => {}
+    }
+    if flusher.give_back() {
+        flags.sequencer.ring();
+    }
+    Pass::Work
+}
+
+// One step of each kind.
+fn step<K: Store, T: Told + Drop, B: Board<Told = T> + Publish<R>, E: Bell + Drop, R: Wait>(
+    rt: &R,
+    flags: &Flags<E>,
+    flusher: &mut Flusher<K, T, B>,
+    refused: &mut u64,
+) -> Pass
+    ensures fetch { SameFetchEnds flusher.old.fetch flusher.new.fetch }
+    ensures outboxes { (s : ℕ) → SameOutboxAt (outbox_at s flusher.old.outboxes.items) (outbox_at s flusher.new.outboxes.items) }
+    ensures base { B.Board.base flusher.new.board ≡ B.Board.base flusher.old.board }
+{
+    if flusher.fetch() == Fetch::Empty {
+        return Pass::Empty;
+    }
+    if commit(rt, flusher, refused) == Pass::Stopped {
+        return Pass::Stopped;
+    }
+    answer(flags, flusher)
+}
+
+/// Commits, publishes and releases until nothing more is sealed and nothing is left, or the store has stopped, or a publish was
+/// refused 1,000 times in a row. Whoever waits for what it does is woken.
+pub fn flush<K: Store, T: Told + Drop, B: Board<Told = T> + Publish<R>, E: Bell + Drop, R: Wait>(
+    rt: &R,
+    flags: &Flags<E>,
     flusher: &mut Flusher<K, T, B>,
 ) -> Storage
     ensures fetch { SameFetchEnds flusher.old.fetch flusher.new.fetch }
     ensures outboxes { (s : ℕ) → SameOutboxAt (outbox_at s flusher.old.outboxes.items) (outbox_at s flusher.new.outboxes.items) }
+    ensures base { B.Board.base flusher.new.board ≡ B.Board.base flusher.old.board }
     ensures storage { result ≡ Storage.Whole → K.phase flusher.new.store ≢ Phase.Stopped }
 {
     let mut refused: u64 = 0;
+    let mut idle: u32 = 0;
     for _ in rt.forever() {
-        if flags.stop.load(Ordering::SeqCst) {
+        if flags.is_stopped() {
             break;
         }
         // Before the fetch: what was sealed then is found by it.
         let last = flags.sealed.load(Ordering::SeqCst);
-        if flusher.fetch() == Fetch::Empty {
-            flags.out.store(false, Ordering::SeqCst);
-            if last {
-                break;
+        match step(rt, flags, flusher, &mut refused) {
+            Pass::Work => {
+                idle = 0;
+                continue;
             }
-            thread::yield_now();
-        }
-        if flusher.advance() == Advance::Failed {
-            flags.stop.store(true, Ordering::SeqCst);
-        }
-        match flusher.publish::<R>(rt) {
-            Publishes::Published => refused = 0,
-            Publishes::OutOfMemory => {
-                refused = u64::saturating_add(refused, 1);
-                if refused >= REFUSALS {
-                    flags.stop.store(true, Ordering::SeqCst);
-                    return Storage::Stopped;
+            Pass::Empty => {
+                flags.out.store(false, Ordering::SeqCst);
+                flags.sequencer.ring();
+                if last {
+                    break;
                 }
             }
-            Publishes::NotYet => {}
+            Pass::Full => {}
+            Pass::Stopped => {
+                flags.stop_all();
+                return Storage::Stopped;
+            }
         }
-        match flusher.release() {
-            Release::Full(_) => thread::yield_now(),
-            _ => {}
-        }
-        flusher.give_back();
+        flags.flusher.wait(rt, idle);
+        idle = idle.saturating_add(1);
     }
     if flusher.keeper().phase() == Phase::Stopped {
         return Storage::Stopped;

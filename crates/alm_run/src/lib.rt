@@ -6,21 +6,30 @@
 //! | the sequencer's | [`run_sequencer`]: takes one request of each slot in turn, and seals where no batch is out or the open one is full | where all sources had ended before a pass that took nothing, and the open batch is empty; or where `stop` is set |
 //! | the flusher's | [`run_flusher`]: commits, publishes and releases | where nothing more was to be sealed before a fetch that gave nothing; at a failure of the device; after 1,000 refused publishes in a row |
 //!
-//! [`Flags`] are hints, each read before the step that it bounds. A thread that has nothing to do yields.
+//! [`Flags`] are hints, each read before the step that it bounds. A thread that has nothing to do looks again some 64 times, and then sleeps by
+//! its [`Bell`]: whoever has something for it rings, and it wakes by itself every 100 milliseconds.
 //!
 //! What is used above: each thread gives back the ends that it was given, so that whoever joins them all has both ends of each ring
 //! again and may close the slots; a sequencer and a flusher are made in their threads, and what their types say holds throughout. Where the
-//! flusher's thread answers [`Storage::Whole`], the store has not stopped.
+//! flusher's thread answers [`Storage::Whole`], the store has not stopped. What went through the ends is one history: what was taken is
+//! judged as by one thread, what is stored is a front of it, and what was released a front of that.
 //!
 //! Not promised: that a thread ever ends, that a request is ever answered, and any time.
 #![tactic(auto)]
 
+mod bell;
+mod bells;
 mod chair;
+mod closes;
 mod console_back;
+mod doorbell;
 mod finishing;
 mod flags;
+mod flusher_parts;
 mod flushing;
 mod go;
+mod landed;
+mod parcel;
 mod rings;
 mod sequencer_ends;
 mod sequencing;
@@ -31,12 +40,19 @@ mod start_fault;
 mod starting;
 mod storage;
 
+pub use bell::Bell;
+pub use bells::Bells;
 pub use chair::Chair;
+pub use closes::Closes;
 pub use console_back::ConsoleBack;
+pub use doorbell::Doorbell;
 pub use finishing::run_flusher;
 pub use flags::Flags;
+pub use flusher_parts::FlusherParts;
 pub use flushing::flush;
 pub use go::Go;
+pub use landed::Landed;
+pub use parcel::Parcel;
 pub use rings::Rings;
 pub use sequencer_ends::SequencerEnds;
 pub use sequencing::sequence;

@@ -1,16 +1,22 @@
 //! A promise of what the sequencer's thread gives back.
 
 use crate::rings::Rings;
+use alm_model::Alarms;
 use std::snapshot::Snapshot;
 use std::thread::Promise;
 
-/// The ends that come back are those that went in.
+/// The ends that come back are those that went in, and what went through them is one legal history from the plant that the
+/// sequencer began with.
 #[derive(Drop)]
-pub struct SequencerEnds(pub Snapshot<Rings>);
+pub struct SequencerEnds<P: Alarms + Drop> {
+    pub rings: Snapshot<Rings>,
+    pub plant: Snapshot<P>,
+}
 
-impl Promise<Rings> for SequencerEnds {
+impl<P: Alarms + Drop> Promise<Rings> for SequencerEnds<P> {
     ghost use Rattle.alm_rings.specs.Batches.{SameSealEnds};
     ghost use Rattle.alm_sequencer.specs.Sequences.{SameInboxes};
+    ghost use Rattle.alm_run.specs.Histories.{Judged};
 
-    ghost kept_by = { λ p r. SameInboxes p.0.value.inboxes.items r.inboxes.items × SameSealEnds p.0.value.ends r.ends };
+    ghost kept_by = { λ p r. SameInboxes p.rings.value.inboxes.items r.inboxes.items × SameSealEnds p.rings.value.ends r.ends × Judged (P.plant p.plant.value) r.inboxes.items r.ends };
 }

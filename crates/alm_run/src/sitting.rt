@@ -2,6 +2,7 @@
 ghost use Rattle.std.specs.Prelude.{◌≡◌};
 ghost use Rattle.alm_rings.specs.Ends.{SameConsole};
 
+use crate::bell::Bell;
 use crate::flags::Flags;
 use crate::go::Go;
 use crate::source::Source;
@@ -11,29 +12,54 @@ use std::sync::Wait;
 use std::sync::atomic::Ordering;
 use std::thread;
 
-/// Takes turns until the source ends or `stop` is set.
-pub fn sit<T: Told + Drop, L: Look<Told = T> + Drop, S: Source<T, L> + Drop, R: Wait>(
+// Waits where others may run first: by the slot's bell, if it has one.
+fn rest<T: Told + Drop, B: Bell + Drop, R: Wait>(
     rt: &R,
-    flags: &Flags,
-    console: Console<T>,
-    look: L,
-    source: S,
-) -> Console<T>
+    flags: &Flags<B>,
+    console: &Console<T>,
+    idle: u32,
+) {
+    match flags.slots.of(console.slot()) {
+        Some(bell) => bell.wait(rt, idle),
+        None => thread::yield_now(),
+    }
+}
+
+/// Takes turns until the source ends or `stop` is set. The sequencer and the flusher are woken after each that may
+/// have something for them.
+pub fn sit<
+    T: Told + Drop,
+    L: Look<Told = T> + Drop,
+    S: Source<T, L> + Drop,
+    B: Bell + Drop,
+    R: Wait,
+>(rt: &R, flags: &Flags<B>, console: Console<T>, look: L, source: S) -> Console<T>
     ensures { SameConsole console result }
 {
     let mut console = console;
     let mut look = look;
     let mut source = source;
+    let mut idle: u32 = 0;
     for _ in rt.forever() {
-        if flags.stop.load(Ordering::SeqCst) {
+        if flags.is_stopped() {
             break;
         }
-        match source.turn(&mut console, &mut look) {
-            Go::Go => {}
-            Go::Rest => thread::yield_now(),
+        let go = source.turn(&mut console, &mut look);
+        // A slot with nothing on its way wakes nobody.
+        if go != Go::Rest || console.unanswered() > 0 {
+            flags.sequencer.ring();
+            flags.flusher.ring();
+        }
+        match go {
+            Go::Go => idle = 0,
+            Go::Rest => {
+                rest(rt, flags, &console, idle);
+                idle = idle.saturating_add(1);
+            }
             Go::End => break,
         }
     }
     flags.ended.fetch_add(1, Ordering::SeqCst);
+    flags.sequencer.ring();
     console
 }

@@ -1,7 +1,8 @@
 //! Starts the sources, and joins them.
-ghost use Rattle.std.specs.Prelude.{◌≡◌, map, IfOk, vec_len};
+ghost use Rattle.std.specs.Prelude.{◌≡◌, ◌≤◌, [], map, IfOk, vec_len, vec_capacity};
 ghost use Rattle.alm_run.specs.Same.{AllSame};
 
+use crate::bell::Bell;
 use crate::chair::Chair;
 use crate::console_back::ConsoleBack;
 use crate::flags::Flags;
@@ -13,7 +14,6 @@ use alm_rings::{Console, Told};
 use std::alloc::Global;
 use std::snapshot::Snapshot;
 use std::sync::Wait;
-use std::sync::atomic::Ordering;
 use std::thread::{PromisedHandle, Scope, Threads};
 
 type Handle<T> = PromisedHandle<Console<T>, ConsoleBack<T>>;
@@ -25,17 +25,19 @@ pub fn start_one<
     T: Told + Drop + Send,
     L: Look<Told = T> + Drop + Send,
     S: Source<T, L> + Drop + Send,
+    B: Bell + Drop + Sync,
     R: Wait + Sync,
 >(
     scope: &Scope<'s, E>,
     rt: &'s R,
-    flags: &'s Flags,
+    flags: &'s Flags<B>,
     chair: Chair<T, L, S>,
 ) -> Result<Handle<T>, StartFault>
 where
     T: 's,
     L: 's,
     S: 's,
+    B: 's,
     ensures { IfOk result (λ handle. handle.promise.0.value ≡ chair.console) }
 {
     let Chair {
@@ -57,18 +59,20 @@ pub fn start_all<
     T: Told + Drop + Send,
     L: Look<Told = T> + Drop + Send,
     S: Source<T, L> + Drop + Send,
+    B: Bell + Drop + Sync,
     R: Wait + Sync,
 >(
     scope: &Scope<'s, E>,
     rt: &'s R,
     alloc: Global,
-    flags: &'s Flags,
+    flags: &'s Flags<B>,
     chairs: Vec<Chair<T, L, S>>,
 ) -> Result<Vec<Handle<T>>, StartFault>
 where
     T: 's,
     L: 's,
     S: 's,
+    B: 's,
     ensures len { IfOk result (λ handles. vec_len handles ≡ vec_len chairs) }
     ensures each { IfOk result (λ handles. map (λ h. h.promise.0.value) handles.items ≡ map (λ chair. chair.console) chairs.items) }
 {
@@ -80,12 +84,12 @@ where
         match start_one(scope, rt, flags, chair) {
             Ok(handle) => {
                 if handles.push(handle).is_err() {
-                    flags.stop.store(true, Ordering::SeqCst);
+                    flags.stop_all();
                     return Err(StartFault::OutOfMemory);
                 }
             }
             Err(fault) => {
-                flags.stop.store(true, Ordering::SeqCst);
+                flags.stop_all();
                 return Err(fault);
             }
         }
@@ -93,25 +97,19 @@ where
     Ok(handles)
 }
 
-/// Joins them in the order of the slots.
+/// Joins them in the order of the slots. Takes no memory: the consoles go into `room`.
 pub fn join_all<T: Told + Drop, R: Threads>(
     rt: &R,
-    alloc: Global,
     handles: Vec<Handle<T>>,
-) -> Result<Vec<Console<T>>, StartFault>
-    ensures len { IfOk result (λ consoles. vec_len consoles ≡ vec_len handles) }
-    ensures each { IfOk result (λ consoles. AllSame (map (λ h. h.promise.0.value) handles.items) consoles.items) }
+    room: Vec<Console<T>>,
+) -> Vec<Console<T>>
+    requires room { (room.items ≡ []) × (vec_len handles ≤ vec_capacity room) }
+    ensures len { vec_len result ≡ vec_len handles }
+    ensures each { AllSame (map (λ h. h.promise.0.value) handles.items) result.items }
 {
-    let mut consoles = match Vec::with_capacity(alloc, handles.len()) {
-        Ok(consoles) => consoles,
-        Err(_) => return Err(StartFault::OutOfMemory),
-    };
+    let mut consoles = room;
     for handle in handles {
-        let console = handle.join(rt);
-        match consoles.push(console) {
-            Ok(()) => {}
-            Err(_) => return Err(StartFault::OutOfMemory),
-        }
+        consoles.push_reserved(handle.join(rt));
     }
-    Ok(consoles)
+    consoles
 }

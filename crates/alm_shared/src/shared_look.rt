@@ -9,7 +9,7 @@ use crate::front::Front;
 use crate::naming::Naming;
 use crate::shown::Shown;
 use crate::sight::Sight;
-use alm_board::Look;
+use alm_board::{FreeLook, Look};
 use alm_model::{Alarms, look};
 use alm_types::{Answer, Query, Refusal};
 
@@ -37,6 +37,10 @@ impl<J: Naming, P: Alarms + Drop> Look for SharedLook<J, P> {
     fn take_in(&mut self, told: Front<J>) {
         self.front = self.front.longer(&told);
     }
+}
+
+impl<J: Naming, P: Alarms + Drop> FreeLook for SharedLook<J, P> {
+    ghost free = { λ look told. tt };
 }
 
 // Looks at what is shown. An older list than was known is not looked at: Stopped, which no run meets.

@@ -1,4 +1,4 @@
-use Rattle.std.proofs.Common.{rules, refl}
+use Rattle.std.proofs.Common.{◌∙◌, ap, rules, refl}
 use Rattle.std.proofs.lemmas.Option.{slice_get_read}
 use Rattle.alm_rings.specs.Placed.{inbox_at}
 use Rattle.alm_rings.proofs.Slots.{same_inbox_at}
@@ -10,6 +10,7 @@ loop-slot-init g c = record {
   serves = c.requires;
   inboxes = λ s. same_inbox_at (inbox_at s c.args.sequencer.now.inboxes.items);
   ends = search rules;
+  base = refl;
 }
 
 pub take-requires : goal.take-requires
@@ -20,3 +21,6 @@ returns-in-BatchFull-clause-serves g c = serves_still c.args.slots.now c.loop-sl
 
 pub returns-in-BatchFull-clause-inboxes : goal.returns-in-BatchFull-clause-inboxes
 returns-in-BatchFull-clause-inboxes g c = λ s. same_at_trans (inbox_at s c.args.sequencer.now.inboxes.items) (inbox_at s c.loop-slot.sequencer.inboxes.items) (inbox_at s c.take.new.self.inboxes.items) (c.loop-slot.invariant.inboxes s) (c.take.ensures.inboxes s)
+
+pub returns-in-BatchFull-clause-base : goal.returns-in-BatchFull-clause-base
+returns-in-BatchFull-clause-base g c = ap (λ p. g.P.Alarms.plant p) c.take.ensures.seals.0 ∙ c.loop-slot.invariant.base

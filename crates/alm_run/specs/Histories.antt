@@ -1,0 +1,36 @@
+-- What a run's threads leave behind, as parts of one history.
+use Rattle.std.specs.Prelude.{◌≡◌, ◌≤◌, ℕ, List, ◌++◌, length, slice_get, Some}
+use Rattle.std.specs.List.{range_with_len}
+use mathlib.Core.List.{IsPrefix}
+use Rattle.alm_types.specs.declared.entry.Entry.{Entry}
+use Rattle.alm_model.specs.Plant.{Condensed}
+use Rattle.alm_model.specs.Judging.{IsLegal, accepted_of, entries_in, of_slot, serials_of, wants_of}
+use Rattle.alm_model.specs.Step.{run}
+use Rattle.alm_rings.specs.declared.inbox.Inbox.{Inbox}
+use Rattle.alm_rings.specs.declared.outbox.Outbox.{Outbox}
+use Rattle.alm_rings.specs.declared.receipt.Receipt.{Receipt}
+use Rattle.alm_rings.specs.declared.told.Told.{Ghosts}
+use Rattle.alm_rings.specs.declared.seal_ends.SealEnds.{SealEnds}
+use Rattle.alm_rings.specs.declared.fetch_ends.FetchEnds.{FetchEnds}
+use Rattle.alm_rings.specs.Batches.{sealed_of, fetched_of}
+use Rattle.alm_rings.specs.Placed.{taken_by, released_by}
+use Rattle.alm_flusher.specs.Replies.{replies_in, replies_to}
+
+-- from this base: the entries of the sealed batches, and those that were not sealed, are one legal history of one thread, and of each slot they answer the requests that were taken, each once, in order
+pub record Judged (base : Condensed) (inboxes : List Inbox) (ends : SealEnds) : Type 0 where
+  pub entries : List Entry
+  pub sealed : IsPrefix (entries_in (sealed_of ends)) entries
+  pub legal : IsLegal base entries
+  pub wants : (s : ℕ) → wants_of (of_slot s entries) ≡ taken_by s inboxes
+  pub serials : (s : ℕ) → serials_of (of_slot s entries) ≡ range_with_len 1 (length (taken_by s inboxes))
+
+module _ {T : Type 0} {g : Ghosts T} where
+  -- from this base: what is stored is a front of the fetched entries, what was released a front of those that are stored; of each slot the receipts have the serials and verdicts of its entries, in order, and no number above what is stored
+  pub record Flushed (base stored : Condensed) (outboxes : List (Outbox T g)) (fetch : FetchEnds) : Type 0 where
+    pub kept : List Entry
+    pub fetched : IsPrefix kept (entries_in (fetched_of fetch))
+    pub stored_is : stored ≡ run base (accepted_of kept)
+    pub told : List Entry
+    pub within : IsPrefix told kept
+    pub released : (s : ℕ) → replies_in (released_by s outboxes) ≡ replies_to (of_slot s told)
+    pub numbers : (s k : ℕ) (r : Receipt T g) → slice_get (released_by s outboxes) k ≡ Some r → r.number ≤ stored.panel.count

@@ -1,0 +1,4 @@
+pub mod Closed
+pub mod Opened
+pub mod Removed
+pub mod Tied

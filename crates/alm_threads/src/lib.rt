@@ -1,0 +1,34 @@
+//! A run of the whole server in threads, from an opened store to its report.
+//!
+//! | call | does |
+//! |---|---|
+//! | [`parts_of`] | rings, board, looks and the sequencer's plant for some slots, over an idle store |
+//! | [`run_threads`] | a thread for each source and one for the sequencer, the flusher in the caller's; joins them and closes the slots |
+//! | [`run_with_bells`] | the same, with a bell of the caller's own for each slot, as one that wakes a poll |
+//!
+//! What is used above is the contract of a run: all that was taken of the slots is one legal history of one thread from the plant that was
+//! stored at first; what the store holds at the end is a front of it, and what was released is a front of that; and each slot's
+//! report, in the order of the slots, counts its entries in them. `Whole` is answered only where the store hasn't stopped.
+//!
+//! Not promised: that a run ever ends, that a request is ever answered, and any time. After a fault the parts are gone, and the device is to be
+//! opened again.
+#![tactic(auto)]
+
+mod closing;
+mod crew;
+mod ends;
+mod middle;
+mod opening;
+mod parts;
+mod report;
+mod running;
+mod slots;
+mod watched_look;
+
+pub use ends::Ends;
+pub use middle::Middle;
+pub use opening::parts_of;
+pub use parts::Parts;
+pub use report::RunReport;
+pub use running::{run_threads, run_with_bells};
+pub use watched_look::WatchedLook;

@@ -1,0 +1,96 @@
+//! The replies to queries, into a buffer.
+
+ghost use Rattle.std.specs.Prelude.{◌≡◌, ◌≤◌, ◌<◌, ◌+◌, ◌++◌, OnOk, OnErr, length, take, vec_capacity, vec_len, decimal, codes};
+ghost use mathlib.Core.List.{IsPrefix};
+ghost use Rattle.alm_types.specs.Reports.{report, alarms};
+ghost use Rattle.alm_lines.specs.Reply.{query_word, told_text, report_text, spaced};
+
+use alm_lines::{letters, shown_word};
+use alm_types::{Answer, Query};
+use std::alloc::AllocError;
+
+/// The word of a reply, between spaces.
+fn query_word(query: Query) -> &'static str
+    ensures { result.now ≡ query_word query }
+{
+    match query {
+        Query::State(_) => " STATE ",
+        Query::Priority(_) | Query::Area(_) | Query::Wheel(_) => " LIST ",
+        Query::Flood(_) => " FLOOD ",
+        Query::Stale => " STALE ",
+        Query::Chatter => " CHATTER ",
+    }
+}
+
+/// Puts a number.
+fn put_number(text: &mut Vec<u8>, number: u64) -> Result<(), AllocError>
+    ensures items { OnOk result (text.new.items ≡ text.old.items ++ decimal number) }
+    ensures full { OnErr result (vec_capacity text.old < vec_len text.old + length (decimal number)) }
+    ensures room { vec_capacity text.old ≤ vec_capacity text.new }
+{
+    text.extend_from_slice(itoa::Buffer::new().format(number).as_bytes())
+}
+
+/// Puts each number after a space.
+fn put_spaced(text: &mut Vec<u8>, numbers: &[u32]) -> Result<(), AllocError>
+    ensures items { OnOk result (text.new.items ≡ text.old.items ++ spaced numbers.now) }
+    ensures full { OnErr result (vec_capacity text.old < vec_len text.old + length (spaced numbers.now)) }
+    ensures room { vec_capacity text.old ≤ vec_capacity text.new }
+{
+    for number in numbers {
+        text.extend_from_slice(b" ")?;
+        put_number(text, u64::from(*number))?;
+    }
+    Ok(())
+}
+
+/// Puts what an answer reports.
+fn put_report(text: &mut Vec<u8>, query: Query, answer: &Answer) -> Result<(), AllocError>
+    ensures items { OnOk result (text.new.items ≡ text.old.items ++ report_text (report query answer.now)) }
+    ensures full { OnErr result (vec_capacity text.old < vec_len text.old + length (report_text (report query answer.now))) }
+    ensures room { vec_capacity text.old ≤ vec_capacity text.new }
+{
+    text.extend_from_slice(b" ")?;
+    match query {
+        Query::State(_) => {
+            text.extend_from_slice(shown_word(answer.shown).as_bytes())?;
+            text.extend_from_slice(b" ")?;
+            put_number(text, u64::from(answer.active))?;
+            text.extend_from_slice(b" ")?;
+            text.extend_from_slice(letters(answer.flags).as_bytes())?;
+            text.extend_from_slice(b" ")?;
+            match answer.until {
+                Some(moment) => put_number(text, moment),
+                None => text.extend_from_slice(b"-"),
+            }
+        }
+        Query::Flood(_) => {
+            put_number(text, answer.window)?;
+            text.extend_from_slice(b" ")?;
+            put_number(text, u64::from(answer.flood))
+        }
+        Query::Priority(_) | Query::Area(_) | Query::Wheel(_) | Query::Stale | Query::Chatter => {
+            put_number(text, answer.list.len() as u64)?;
+            put_spaced(text, &answer.list)
+        }
+    }
+}
+
+/// Puts the reply to a query.
+pub fn put_told(
+    text: &mut Vec<u8>,
+    id: u32,
+    n: u64,
+    query: Query,
+    answer: &Answer,
+) -> Result<(), AllocError>
+    ensures items { OnOk result (text.new.items ≡ text.old.items ++ told_text id n query (report query answer.now)) }
+    ensures full { OnErr result (vec_capacity text.old < vec_len text.old + length (told_text id n query (report query answer.now))) }
+    ensures room { vec_capacity text.old ≤ vec_capacity text.new }
+{
+    put_number(text, u64::from(id))?;
+    text.extend_from_slice(query_word(query).as_bytes())?;
+    put_number(text, n)?;
+    put_report(text, query, answer)?;
+    text.extend_from_slice(b"\n")
+}
