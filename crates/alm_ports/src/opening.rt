@@ -4,7 +4,7 @@ ghost use Rattle.std.specs.Prelude.{◌≡◌, ◌≤◌, IfOk, length, vec_len}
 
 use crate::bound::Bound;
 use crate::door::Door;
-use crate::serve_fault::{ServeFault, net_fault};
+use crate::port_fault::PortFault;
 use crate::slot_bell::SlotBell;
 use crate::visits::Visits;
 use alm_turn::Session;
@@ -23,7 +23,7 @@ fn bind_all<R: Net>(
     alloc: Global,
     slots: &[Slot],
     port: u16,
-) -> Result<Vec<Bound>, ServeFault>
+) -> Result<Vec<Bound>, PortFault>
     requires { port ≤ 65518 }
     ensures { IfOk result (λ bounds. vec_len bounds ≡ length slots.now) }
 {
@@ -31,21 +31,21 @@ fn bind_all<R: Net>(
     for slot in slots {
         match bounds.push(Bound::new(rt, alloc, port, *slot)?) {
             Ok(()) => {}
-            Err(_) => return Err(ServeFault::Memory),
+            Err(_) => return Err(PortFault::OutOfMemory),
         }
     }
     Ok(bounds)
 }
 
 /// The bells of these ports.
-fn bells_of(alloc: Global, bounds: &[Bound]) -> Result<Vec<SlotBell>, ServeFault>
+fn bells_of(alloc: Global, bounds: &[Bound]) -> Result<Vec<SlotBell>, PortFault>
     ensures { IfOk result (λ bells. vec_len bells ≡ length bounds.now) }
 {
     let mut bells = Vec::with_capacity(alloc, bounds.len())?;
     for bound in bounds {
         match bells.push(bound.bell.again()?) {
             Ok(()) => {}
-            Err(_) => return Err(ServeFault::Memory),
+            Err(_) => return Err(PortFault::OutOfMemory),
         }
     }
     Ok(bells)
@@ -65,7 +65,7 @@ pub fn open_doors<R: Net>(
     slots: &[Slot],
     port: u16,
     conns: u32,
-) -> Result<Doors, ServeFault>
+) -> Result<Doors, PortFault>
     requires port { port ≤ 65518 }
     ensures doors { IfOk result (λ d. vec_len d.doors ≡ length slots.now) }
     ensures bells { IfOk result (λ d. vec_len d.bells ≡ length slots.now) }
@@ -73,16 +73,16 @@ pub fn open_doors<R: Net>(
     let bounds = bind_all(rt, alloc, slots, port)?;
     let bells = bells_of(alloc, &bounds)?;
     let Ok(visits) = Arc::new(alloc, Visits::new(conns, bells_of(alloc, &bounds)?)) else {
-        return Err(ServeFault::Memory);
+        return Err(PortFault::OutOfMemory);
     };
     let mut doors = Vec::with_capacity(alloc, bounds.len())?;
     for bound in bounds {
         let session = Session::new(alloc)?;
         let events = Events::with_capacity(alloc, EVENTS)?;
-        let door = Door::new(bound, events, visits.clone()?, session).map_err(net_fault)?;
+        let door = Door::new(bound, events, visits.clone()?, session)?;
         match doors.push(door) {
             Ok(()) => {}
-            Err(_) => return Err(ServeFault::Memory),
+            Err(_) => return Err(PortFault::OutOfMemory),
         }
     }
     Ok(Doors { doors, bells })

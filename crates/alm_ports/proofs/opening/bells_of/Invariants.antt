@@ -1,6 +1,6 @@
 use Rattle.std.proofs.Common.{◌≡◌}
 use Rattle.std.specs.Prelude.{vec_len}
-use Rattle.alm_serve.proofs.opening.bells_of.Given as goal
+use Rattle.alm_ports.proofs.opening.bells_of.Given as goal
 
 -- as many bells as ports
 abbrev pub invariant-loop-bound : goal.invariant-loop-bound

@@ -2,7 +2,7 @@
 
 ghost use Rattle.std.specs.Prelude.{◌≤◌};
 
-use crate::serve_fault::{ServeFault, net_fault};
+use crate::port_fault::PortFault;
 use crate::slot_bell::SlotBell;
 use mio::net::TcpListener;
 use mio::{Poll, Token};
@@ -26,14 +26,14 @@ impl Bound {
     ghost use Rattle.std.specs.Prelude.{◌≤◌};
 
     /// Binds the port of a slot: the first slot's is given, each next slot's is one more.
-    pub fn new<R: Net>(rt: &R, alloc: Global, first: u16, slot: Slot) -> Result<Self, ServeFault>
+    pub fn new<R: Net>(rt: &R, alloc: Global, first: u16, slot: Slot) -> Result<Self, PortFault>
         requires { first ≤ 65518 }
     {
         let port = first + u16::from(slot.number());
         let address = SocketAddr::from((Ipv4Addr::LOCALHOST, port));
-        let listener = TcpListener::bind(rt, address).map_err(net_fault)?;
-        let poll = Poll::new(rt).map_err(net_fault)?;
-        let bell = SlotBell::new(alloc, poll.registry(), BELL).map_err(net_fault)?;
+        let listener = TcpListener::bind(rt, address)?;
+        let poll = Poll::new(rt)?;
+        let bell = SlotBell::new(alloc, poll.registry(), BELL)?;
         Ok(Bound {
             listener,
             poll,
