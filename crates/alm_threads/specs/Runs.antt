@@ -1,0 +1,43 @@
+-- What a run leaves of its slots and its device.
+use Rattle.std.specs.Prelude.{◌≡◌, ◌≤◌, ◌-◌, ◌^◌, ℕ, List, Option, Some, length, map, min, slice_get}
+use mathlib.Core.List.{IsPrefix}
+use Rattle.alm_types.specs.declared.entry.Entry.{Entry}
+use Rattle.alm_model.specs.Plant.{Condensed}
+use Rattle.alm_model.specs.Judging.{IsLegal, accepted_of, of_slot}
+use Rattle.alm_model.specs.Step.{run}
+use Rattle.alm_rings.specs.declared.console.Console.{Console}
+use Rattle.alm_rings.specs.declared.inbox.Inbox.{Inbox}
+use Rattle.alm_rings.specs.declared.outbox.Outbox.{Outbox}
+use Rattle.alm_rings.specs.declared.slot_report.SlotReport.{SlotReport}
+use Rattle.alm_rings.specs.declared.told.Told.{Ghosts}
+use Rattle.alm_rings.specs.Placed.{taken_by, released_by}
+
+-- so many requests of a slot were taken, of those that were sent; so many receipts were released, and of these some received
+pub record IsClosed (taken released : ℕ) (r : SlotReport) : Type 0 where
+  pub taken_is : r.taken ≡ taken
+  pub released_is : r.released ≡ min released (2 ^ 64 - 1)
+  pub sent : r.taken ≤ r.sent
+  pub received : r.received ≤ r.released
+
+-- a report that is there, of so many
+pub record Closes (reports : List (Option SlotReport)) (k taken released : ℕ) : Type 0 where
+  pub report : SlotReport
+  pub at : slice_get reports k ≡ Some (Some report)
+  pub is : IsClosed taken released report
+
+module _ {T : Type 0} {g : Ghosts T} where
+  -- the reports stand in the order of the consoles, each of what went through its slot
+  abbrev pub AreClosed : List (Console T g) → List Inbox → List (Outbox T g) → List (Option SlotReport) → Type 0
+  AreClosed consoles inboxes outboxes reports = (length reports ≡ length consoles) × ((k : ℕ) (c : Console T g) → slice_get consoles k ≡ Some c → Closes reports k (length (taken_by c.slot inboxes)) (length (released_by c.slot outboxes)))
+
+-- from this base: what was taken of all slots is one legal history of one thread; the store holds a front of it, and what was released is a front of that; each slot's report, in the order of the slots, counts its entries in these lists
+pub record IsRun (base : Condensed) (slots : List ℕ) (stored : Condensed) (reports : List (Option SlotReport)) : Type 0 where
+  pub entries : List Entry
+  pub legal : IsLegal base entries
+  pub kept : List Entry
+  pub front : IsPrefix kept entries
+  pub stored_is : stored ≡ run base (accepted_of kept)
+  pub told : List Entry
+  pub within : IsPrefix told kept
+  pub count : length reports ≡ length slots
+  pub each : (k s : ℕ) → slice_get slots k ≡ Some s → Closes reports k (length (of_slot s entries)) (length (of_slot s told))

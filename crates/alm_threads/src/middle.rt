@@ -1,0 +1,30 @@
+//! What stands between the consoles and the device.
+ghost use Rattle.std.specs.Prelude.{◌≡◌, ℕ, ◌<◌, ◌≤◌, ◌^◌, [], length};
+ghost use Rattle.alm_keeper.specs.declared.phase.Phase.TheVariants.{Idle};
+ghost use Rattle.alm_rings.specs.Batches.{AreBatchEnds, sealed_of, fetched_of, empties_in};
+ghost use Rattle.alm_rings.specs.Placed.{AreApart, taken_by, released_by};
+
+use alm_plant::Plant;
+use alm_rings::Told;
+use alm_run::{FlusherParts, Rings};
+use alm_store::Store;
+
+/// What stands between the consoles and the device, before anything went through it.
+#[derive(Drop)]
+pub struct Middle<K: Store, T: Told + Drop> {
+    /// The plant that the sequencer judges on.
+    pub plant: Plant,
+    pub rings: Rings,
+    pub flusher: FlusherParts<K, T>,
+    pub ghost idle: { K.phase flusher.store ≡ Idle },
+    pub ghost limit: { plant.panel.count ≤ 2 ^ 48 },
+    pub ghost live: { plant ≡ K.stored flusher.store },
+    pub ghost inboxes: { AreApart (λ i. i.slot) rings.inboxes.items },
+    pub ghost outboxes: { AreApart (λ o. o.slot) flusher.outboxes.items },
+    pub ghost taken: { (s : ℕ) → taken_by s rings.inboxes.items ≡ [] },
+    pub ghost released: { (s : ℕ) → released_by s flusher.outboxes.items ≡ [] },
+    pub ghost sealed: { sealed_of rings.ends ≡ [] },
+    pub ghost fetched: { fetched_of flusher.fetch ≡ [] },
+    pub ghost empties: { 0 < length (empties_in rings.ends) },
+    pub ghost batches: { AreBatchEnds rings.ends flusher.fetch },
+}

@@ -1,0 +1,88 @@
+//! The parts over an opened store.
+ghost use Rattle.std.specs.Prelude.{◌≡◌, ◌<◌, ◌≤◌, ◌^◌, length, IfOk, IfErr};
+ghost use Rattle.alm_rings.specs.Placed.{AreApart};
+
+use crate::middle::Middle;
+use crate::parts::Parts;
+use crate::slots::open_some;
+use crate::watched_look::{WatchedLook, watched};
+use alm_disk::Hold;
+use alm_keeper::Phase;
+use alm_model::Alarms;
+use alm_plant::Plant;
+use alm_rings::{SlotEnds, batches_beside, open_batches};
+use alm_run::{FlusherParts, Rings};
+use alm_shared::{Front, Naming, NewHistory, SharedBoard, SharedLook, open_board};
+use alm_store::Store;
+use alm_types::Slot;
+use std::alloc::Global;
+use std::sync::Wait;
+
+/// The parts of a run for these slots, over an idle store; the hold is told of each look. The store comes back where memory is short.
+pub fn parts_of<'h, J: Naming, K: Store, H: Hold, R: Wait>(
+    rt: &R,
+    alloc: Global,
+    history: NewHistory,
+    store: K,
+    slots: Vec<Slot>,
+    hold: &'h H,
+) -> Result<
+    Parts<Front<J>, WatchedLook<'h, SharedLook<J, Plant>, H>, SharedBoard<J, Plant>, K>,
+    K,
+>
+    requires book { history.seen.book ≡ J.book }
+    requires base { K.stored store ≡ J.base }
+    requires idle { K.phase store ≡ Phase.Idle }
+    requires limit { (K.stored store).panel.count ≤ 2 ^ 48 }
+    requires some { (0 < length slots.items) × (length slots.items < 2 ^ 32) }
+    requires apart { AreApart (λ s. s) slots.items }
+    ensures store { IfOk result (λ parts. parts.middle.flusher.store ≡ store) }
+    ensures slots { IfOk result (λ parts. parts.slots ≡ slots) }
+    ensures refused { IfErr result (λ back. back ≡ store) }
+{
+    let Ok(
+        SlotEnds {
+            consoles,
+            inboxes,
+            outboxes,
+        },
+    ) = open_some(alloc, slots.as_slice())
+    else {
+        return Err(store);
+    };
+    let Ok((mut ends, mut fetch)) = open_batches(alloc) else {
+        return Err(store);
+    };
+    batches_beside(&mut ends, &mut fetch);
+    let Ok(plant) = store.stored().copy(alloc) else {
+        return Err(store);
+    };
+    let Ok(shown) = store.stored().copy(alloc) else {
+        return Err(store);
+    };
+    let Ok((board, looks)) = open_board::<J, Plant, R>(rt, alloc, history, shown, slots.len())
+    else {
+        return Err(store);
+    };
+    let Ok(looks) = watched(alloc, hold, slots.as_slice(), looks) else {
+        drop(board.take(rt));
+        return Err(store);
+    };
+    let flusher = FlusherParts {
+        store,
+        outboxes,
+        fetch,
+    };
+    let middle = Middle {
+        plant,
+        rings: Rings { inboxes, ends },
+        flusher,
+    };
+    Ok(Parts {
+        slots,
+        consoles,
+        looks,
+        board,
+        middle,
+    })
+}

@@ -1,0 +1,19 @@
+//! What a run leaves.
+ghost use Rattle.std.specs.Prelude.{◌≡◌, ◌≢◌};
+ghost use Rattle.alm_keeper.specs.declared.phase.Phase.TheVariants.{Stopped};
+ghost use Rattle.alm_run.specs.declared.storage.Storage.TheVariants.{Whole};
+
+use alm_rings::SlotReport;
+use alm_run::Storage;
+use alm_store::Store;
+
+/// What a run leaves.
+#[derive(Drop)]
+pub struct RunReport<K: Store> {
+    /// The flusher's store.
+    pub keeper: K,
+    pub storage: Storage,
+    /// What went through each slot, in the order of the slots.
+    pub slots: Vec<Option<SlotReport>>,
+    pub ghost goes_on: { storage ≡ Whole → K.phase keeper ≢ Stopped },
+}

@@ -1,0 +1,259 @@
+//! A run.
+ghost use Rattle.std.specs.Prelude.{◌≡◌, ◌≤◌, ℕ, [], length, map, vec_len, vec_capacity, IfOk};
+ghost use Rattle.alm_rings.specs.Batches.{SameSealEnds, SameFetchEnds};
+ghost use Rattle.alm_rings.specs.Placed.{SameOutboxAt, outbox_at};
+ghost use Rattle.alm_sequencer.specs.Sequences.{SameInboxes};
+ghost use Rattle.alm_run.specs.Histories.{Judged, Flushed};
+ghost use Rattle.alm_run.specs.Same.{AllSame};
+ghost use Rattle.alm_run.specs.Serving.{Serves};
+ghost use Rattle.alm_threads.specs.Runs.{IsRun};
+
+use crate::closing::close_all;
+use crate::crew::seat;
+use crate::ends::Ends;
+use crate::middle::Middle;
+use crate::parts::Parts;
+use crate::report::RunReport;
+use alm_board::{Board, Look, Publish};
+use alm_disk::Hold;
+use alm_rings::{Console, SlotReport, Told, batches_beside};
+use alm_run::{
+    Bell, Bells, Chair, Closes, Doorbell, Flags, Landed, Parcel, Rings, Source, StartFault, join_all,
+    run_flusher, start_all, start_rings,
+};
+use alm_store::Store;
+use alm_types::Slot;
+use std::alloc::Global;
+use std::sync::Wait;
+use std::thread;
+use std::thread::{Scope, Threads};
+
+// Starts the threads of the sequencer and of the sources, is the flusher's thread, and joins the others.
+fn run_all<
+    's,
+    Env,
+    K: Store,
+    T: Told + Drop + Send,
+    L: Look<Told = T> + Drop + Send,
+    S: Source<T, L> + Drop + Send,
+    B: Board<Told = T> + Publish<R> + Closes<R>,
+    E: Bell + Drop + Sync,
+    H: Hold + Sync,
+    R: Threads + Wait + Sync,
+>(
+    scope: &Scope<'s, Env>,
+    rt: &'s R,
+    alloc: Global,
+    flags: &'s Flags<E>,
+    slots: &'s Vec<Slot>,
+    hold: &'s H,
+    chairs: Vec<Chair<T, L, S>>,
+    room: Vec<Console<T>>,
+    board: B,
+    middle: Middle<K, T>,
+) -> Result<Ends<K, T>, StartFault>
+where
+    T: 's,
+    L: 's,
+    S: 's,
+    E: 's,
+    H: 's,
+    requires serves { Serves slots.now.items middle.rings.inboxes.items }
+    requires base { K.stored middle.flusher.store ≡ B.Board.base board }
+    requires published { B.Board.published board ≡ [] }
+    requires pending { B.Board.pending board ≡ [] }
+    requires room { (room.items ≡ []) × (vec_len chairs ≤ vec_capacity room) }
+    ensures consoles { IfOk result (λ e. AllSame (map (λ chair. chair.console) chairs.items) e.consoles.items) }
+    ensures inboxes { IfOk result (λ e. SameInboxes middle.rings.inboxes.items e.rings.inboxes.items) }
+    ensures seals { IfOk result (λ e. SameSealEnds middle.rings.ends e.rings.ends) }
+    ensures outboxes { IfOk result (λ e. (s : ℕ) → SameOutboxAt (outbox_at s middle.flusher.outboxes.items) (outbox_at s e.landed.outboxes.items)) }
+    ensures fetches { IfOk result (λ e. SameFetchEnds middle.flusher.fetch e.landed.fetch) }
+    ensures judged { IfOk result (λ e. Judged (K.stored middle.flusher.store) e.rings.inboxes.items e.rings.ends) }
+    ensures flushed { IfOk result (λ e. Flushed (K.stored middle.flusher.store) (K.stored e.landed.store) e.landed.outboxes.items e.landed.fetch) }
+{
+    let Middle {
+        plant,
+        rings,
+        flusher,
+    } = middle;
+    let sequencer = match start_rings(scope, rt, flags, slots, hold, plant, rings) {
+        Ok(handle) => handle,
+        Err(fault) => {
+            board.close(rt);
+            return Err(fault);
+        }
+    };
+    let sources = match start_all(scope, rt, alloc, flags, chairs) {
+        Ok(handles) => handles,
+        Err(fault) => {
+            board.close(rt);
+            return Err(fault);
+        }
+    };
+    let landed = run_flusher(rt, flags, board, flusher);
+    let consoles = join_all(rt, sources, room);
+    let rings = sequencer.join(rt);
+    Ok(Ends {
+        consoles,
+        rings,
+        landed,
+    })
+}
+
+// Closes all rings, and says what went through them.
+fn report_of<K: Store, T: Told + Drop>(
+    ends: Ends<K, T>,
+    room: Vec<Option<SlotReport>>,
+) -> RunReport<K> {
+    let Ends {
+        consoles,
+        rings,
+        landed,
+    } = ends;
+    let Rings { inboxes, mut ends } = rings;
+    let Landed {
+        store,
+        outboxes,
+        mut fetch,
+        storage,
+    } = landed;
+    batches_beside(&mut ends, &mut fetch);
+    let slots = close_all(consoles, inboxes, outboxes, room);
+    RunReport {
+        keeper: store,
+        storage,
+        slots,
+    }
+}
+
+// The same, in a scope of its own that joins whatever was started.
+fn in_scope<
+    's,
+    K: Store,
+    T: Told + Drop + Send,
+    L: Look<Told = T> + Drop + Send,
+    S: Source<T, L> + Drop + Send,
+    B: Board<Told = T> + Publish<R> + Closes<R>,
+    E: Bell + Drop + Sync,
+    H: Hold + Sync,
+    R: Threads + Wait + Sync,
+>(
+    rt: &'s R,
+    alloc: Global,
+    flags: &'s Flags<E>,
+    slots: &'s Vec<Slot>,
+    hold: &'s H,
+    chairs: Vec<Chair<T, L, S>>,
+    room: Vec<Console<T>>,
+    board: B,
+    middle: Middle<K, T>,
+) -> Result<Ends<K, T>, StartFault>
+    requires serves { Serves slots.now.items middle.rings.inboxes.items }
+    requires base { K.stored middle.flusher.store ≡ B.Board.base board }
+    requires published { B.Board.published board ≡ [] }
+    requires pending { B.Board.pending board ≡ [] }
+    requires room { (room.items ≡ []) × (vec_len chairs ≤ vec_capacity room) }
+    ensures consoles { IfOk result (λ e. AllSame (map (λ chair. chair.console) chairs.items) e.consoles.items) }
+    ensures inboxes { IfOk result (λ e. SameInboxes middle.rings.inboxes.items e.rings.inboxes.items) }
+    ensures seals { IfOk result (λ e. SameSealEnds middle.rings.ends e.rings.ends) }
+    ensures outboxes { IfOk result (λ e. (s : ℕ) → SameOutboxAt (outbox_at s middle.flusher.outboxes.items) (outbox_at s e.landed.outboxes.items)) }
+    ensures fetches { IfOk result (λ e. SameFetchEnds middle.flusher.fetch e.landed.fetch) }
+    ensures judged { IfOk result (λ e. Judged (K.stored middle.flusher.store) e.rings.inboxes.items e.rings.ends) }
+    ensures flushed { IfOk result (λ e. Flushed (K.stored middle.flusher.store) (K.stored e.landed.store) e.landed.outboxes.items e.landed.fetch) }
+{
+    let parcel = Parcel::new(board, rt);
+    thread::scope(
+        thread::scope_env(),
+        rt,
+        |scope| -> Result<Ends<K, T>, StartFault>
+            requires { Serves slots.now.items middle.rings.inboxes.items × (K.stored middle.flusher.store ≡ B.Board.base parcel.board) × (B.Board.published parcel.board ≡ []) × (B.Board.pending parcel.board ≡ []) × (room.items ≡ []) × (vec_len chairs ≤ vec_capacity room) }
+            ensures { IfOk result (λ e. AllSame (map (λ chair. chair.console) chairs.items) e.consoles.items × SameInboxes middle.rings.inboxes.items e.rings.inboxes.items × SameSealEnds middle.rings.ends e.rings.ends × ((s : ℕ) → SameOutboxAt (outbox_at s middle.flusher.outboxes.items) (outbox_at s e.landed.outboxes.items)) × SameFetchEnds middle.flusher.fetch e.landed.fetch × Judged (K.stored middle.flusher.store) e.rings.inboxes.items e.rings.ends × Flushed (K.stored middle.flusher.store) (K.stored e.landed.store) e.landed.outboxes.items e.landed.fetch) }
+        { run_all(scope, rt, alloc, flags, slots, hold, chairs, room, parcel.open(), middle) },
+    )
+}
+
+/// Runs these parts with a source for each slot, in the order of the slots, and a bell for each that wakes it: a thread for each source and
+/// one for the sequencer; the flusher runs in the caller's.
+///
+/// It ends when all sources have ended and nothing is left, or when the storage is stopped: then no source gets another turn. A fault
+/// where memory is short or no thread can be made: the parts are gone, and the device is to be opened again.
+pub fn run_with_bells<
+    K: Store,
+    T: Told + Drop + Send,
+    L: Look<Told = T> + Drop + Send,
+    S: Source<T, L> + Drop + Send,
+    B: Board<Told = T> + Publish<R> + Closes<R>,
+    E: Bell + Drop + Sync,
+    H: Hold + Sync,
+    R: Threads + Wait + Sync,
+>(
+    rt: &R,
+    alloc: Global,
+    parts: Parts<T, L, B, K>,
+    hold: &H,
+    bells: Vec<E>,
+    sources: Vec<S>,
+) -> Result<RunReport<K>, StartFault>
+    requires sources { length sources.items ≡ length parts.slots.items }
+    ensures run { IfOk result (λ report. IsRun (K.stored parts.middle.flusher.store) parts.slots.items (K.stored report.keeper) report.slots.items) }
+{
+    let Parts {
+        slots,
+        consoles,
+        looks,
+        board,
+        middle,
+    } = parts;
+    let parcel = Parcel::new(board, rt);
+    let Ok(room) = Vec::with_capacity(alloc, slots.len()) else {
+        return Err(StartFault::OutOfMemory);
+    };
+    let Ok(reports) = Vec::with_capacity(alloc, slots.len()) else {
+        return Err(StartFault::OutOfMemory);
+    };
+    let Ok(chairs) = seat(alloc, consoles, looks, sources) else {
+        return Err(StartFault::OutOfMemory);
+    };
+    let flags = Flags::new(Bells::new(slots.as_slice(), bells));
+    let ends = in_scope(
+        rt,
+        alloc,
+        &flags,
+        &slots,
+        hold,
+        chairs,
+        room,
+        parcel.open(),
+        middle,
+    )?;
+    Ok(report_of(ends, reports))
+}
+
+/// Runs these parts with a source for each slot, in the order of the slots, each woken when a receipt is released to it.
+pub fn run_threads<
+    K: Store,
+    T: Told + Drop + Send,
+    L: Look<Told = T> + Drop + Send,
+    S: Source<T, L> + Drop + Send,
+    B: Board<Told = T> + Publish<R> + Closes<R>,
+    H: Hold + Sync,
+    R: Threads + Wait + Sync,
+>(
+    rt: &R,
+    alloc: Global,
+    parts: Parts<T, L, B, K>,
+    hold: &H,
+    sources: Vec<S>,
+) -> Result<RunReport<K>, StartFault>
+    requires sources { length sources.items ≡ length parts.slots.items }
+    ensures run { IfOk result (λ report. IsRun (K.stored parts.middle.flusher.store) parts.slots.items (K.stored report.keeper) report.slots.items) }
+{
+    let Ok(mut bells) = Vec::with_capacity(alloc, sources.len()) else {
+        drop(parts.close(rt));
+        return Err(StartFault::OutOfMemory);
+    };
+    for _ in 0..sources.len() {
+        bells.push_reserved(Doorbell::new());
+    }
+    run_with_bells(rt, alloc, parts, hold, bells, sources)
+}

@@ -1,0 +1,62 @@
+//! A look that a hold is told of.
+ghost use Rattle.std.specs.Prelude.{◌≡◌, IfOk, length};
+
+use alm_board::{FreeLook, Look};
+use alm_disk::Hold;
+use alm_rings::Told;
+use alm_types::{Answer, Query, Refusal, Slot};
+use std::alloc::{AllocError, Global};
+
+/// A slot's look; its hold is told of each look that was answered.
+#[derive(Drop)]
+pub struct WatchedLook<'h, L, H> {
+    look: L,
+    slot: Slot,
+    hold: &'h H,
+}
+
+impl<L: Look, H: Hold> Look for WatchedLook<'_, L, H> {
+    type Told = L::Told;
+
+    ghost base = { λ watched. L.base watched.look };
+
+    ghost knows = { λ watched. L.knows watched.look };
+
+    ghost may_take = { λ watched told. L.may_take watched.look told };
+
+    fn look(&mut self, query: Query, answer: &mut Answer) -> Result<u64, Refusal> {
+        let result = self.look.look(query, answer);
+        if result.is_ok() {
+            self.hold.looked(self.slot);
+        }
+        result
+    }
+
+    fn take_in(&mut self, told: L::Told) {
+        self.look.take_in(told);
+    }
+}
+
+impl<L: FreeLook, H: Hold> FreeLook for WatchedLook<'_, L, H> {
+    ghost free = { λ watched told. L.FreeLook.free watched.look told };
+}
+
+/// Has a hold told of the looks of these slots, in their order.
+pub fn watched<'h, L: Look + Drop, H: Hold>(
+    alloc: Global,
+    hold: &'h H,
+    slots: &[Slot],
+    looks: Vec<L>,
+) -> Result<Vec<WatchedLook<'h, L, H>>, AllocError>
+    requires { length looks.items ≡ length slots.now }
+    ensures { IfOk result (λ watched. length watched.items ≡ length slots.now) }
+{
+    let mut watched = Vec::with_capacity(alloc, slots.len())?;
+    let mut place = 0;
+    for look in looks {
+        let slot = slots[place];
+        place += 1;
+        watched.push_reserved(WatchedLook { look, slot, hold });
+    }
+    Ok(watched)
+}
