@@ -1,0 +1,126 @@
+//! Serves the slots of a device.
+
+ghost use Rattle.std.specs.Prelude.{◌≡◌, ◌≤◌, ◌<◌, ◌^◌, length, vec_len, IfOk};
+ghost use Rattle.alm_lines.specs.Written.{Prints};
+ghost use Rattle.alm_rings.specs.Placed.{AreApart};
+ghost use Rattle.alm_serve.specs.Serving.{serving_line, stopped_line, ServeWrites};
+
+use crate::serve_fault::ServeFault;
+use alm_disk::{Disk, Free};
+use alm_keeper::{Keeper, Phase, open_store};
+use alm_lines::{Part, put_parts};
+use alm_ports::{Doors, open_doors};
+use alm_run::Storage;
+use alm_shared::{Naming, NewHistory};
+use alm_store::Store;
+use alm_threads::{parts_of, run_with_bells};
+use alm_types::Slot;
+use std::alloc::{AllocError, Global};
+use std::io;
+use std::marker::Brand;
+use std::net::Net;
+use std::sync::Wait;
+use std::thread::Threads;
+
+/// Writes that the ports are bound.
+fn print_serving<W: io::Write>(port: u16, writer: &mut W) -> io::Result<()>
+    ensures { Prints (W.contents writer.old) (W.contents writer.new) (serving_line port) result }
+{
+    put_parts(
+        &[
+            Part::Word("serving "),
+            Part::Number(u64::from(port)),
+            Part::Word("\n"),
+        ],
+        writer,
+    )
+}
+
+/// Writes that the server has stopped, and how many actions are stored.
+fn print_stopped<W: io::Write>(count: u64, writer: &mut W) -> io::Result<()>
+    ensures { Prints (W.contents writer.old) (W.contents writer.new) (stopped_line count) result }
+{
+    put_parts(
+        &[
+            Part::Word("stopped "),
+            Part::Number(count),
+            Part::Word("\n"),
+        ],
+        writer,
+    )
+}
+
+/// All slots, in their order.
+fn all_slots(alloc: Global) -> Result<Vec<Slot>, AllocError>
+    ensures count { IfOk result (λ slots. length slots.items ≡ 18) }
+    ensures apart { IfOk result (λ slots. AreApart (λ s. s) slots.items) }
+{
+    let mut slots = Vec::with_capacity(alloc, 18)?;
+    for number in 0..18_u8 {
+        match Slot::new(number) {
+            Some(slot) => slots.push_reserved(slot),
+            None => unreachable!(),
+        }
+    }
+    Ok(slots)
+}
+
+/// Runs the parts over a store behind these doors: how many actions are stored when all have ended.
+fn run_behind<J: Naming, K: Store, R: Threads + Wait + Sync>(
+    rt: &R,
+    alloc: Global,
+    history: NewHistory,
+    store: K,
+    slots: Vec<Slot>,
+    doors: Doors,
+) -> Result<u64, ServeFault>
+    requires book { history.seen.book ≡ J.book }
+    requires base { K.stored store ≡ J.base }
+    requires idle { K.phase store ≡ Phase.Idle }
+    requires limit { (K.stored store).panel.count ≤ 2 ^ 48 }
+    requires slots { length slots.items ≡ 18 }
+    requires apart { AreApart (λ s. s) slots.items }
+    requires doors { vec_len doors.doors ≡ 18 }
+{
+    let Ok(parts) = parts_of::<J, K, R>(rt, alloc, history, store, slots) else {
+        return Err(ServeFault::Memory);
+    };
+    let Doors { doors, bells } = doors;
+    let report = run_with_bells(rt, alloc, parts, &Free, bells, doors)?;
+    match report.storage {
+        Storage::Whole => Ok(report.keeper.count()),
+        Storage::Stopped => Err(ServeFault::Storage),
+    }
+}
+
+/// Serves the slots of a device on 18 ports of loopback from this one on, for so many connections in all; 0 is without end.
+///
+/// It opens the device, binds the ports, writes `serving P` and starts the threads, in this order; and at the end writes `stopped
+/// N`: how many actions are stored.
+pub fn serve_run<D: Disk + Drop, W: io::Write, R: Net + Threads + Wait + Sync>(
+    rt: &R,
+    alloc: Global,
+    disk: D,
+    port: u16,
+    conns: u32,
+    writer: &mut W,
+) -> Result<u64, ServeFault>
+    requires { port ≤ 65518 }
+    ensures { ServeWrites port (W.contents writer.old) (W.contents writer.new) result }
+{
+    let keeper = match open_store(alloc, disk) {
+        Ok(keeper) => keeper,
+        Err((fault, _)) => return Err(ServeFault::Open(fault)),
+    };
+    let slots = all_slots(alloc)?;
+    let doors = open_doors(rt, alloc, slots.as_slice(), port, conns)?;
+    if print_serving(port, writer).is_err() {
+        return Err(ServeFault::Write);
+    }
+    let history = NewHistory::new();
+    let count = run_behind::<Brand, Keeper<D>, R>(rt, alloc, history, keeper, slots, doors)?;
+    if print_stopped(count, writer).is_err() {
+        return Err(ServeFault::Write);
+    }
+    Ok(count)
+}
