@@ -66,7 +66,7 @@ fn all_slots(alloc: Global) -> Result<Vec<Slot>, AllocError>
 }
 
 /// Runs the parts over a store behind these doors: how many actions are stored when all have ended.
-fn run_behind<J: Naming, K: Store, R: Threads + Wait + Sync>(
+fn run_behind<J: Naming + Send + Sync, K: Store, R: Threads + Wait + Sync>(
     rt: &R,
     alloc: Global,
     history: NewHistory,
@@ -82,7 +82,7 @@ fn run_behind<J: Naming, K: Store, R: Threads + Wait + Sync>(
     requires apart { AreApart (λ s. s) slots.items }
     requires doors { vec_len doors.doors ≡ 18 }
 {
-    let Ok(parts) = parts_of::<J, K, R>(rt, alloc, history, store, slots) else {
+    let Ok(parts) = parts_of::<J, K, Free, R>(rt, alloc, history, store, slots, &Free) else {
         return Err(ServeFault::Memory);
     };
     let Doors { doors, bells } = doors;

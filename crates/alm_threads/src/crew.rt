@@ -3,11 +3,11 @@ ghost use Rattle.std.specs.Prelude.{◌≡◌, IfOk, length, map};
 
 use alm_board::Look;
 use alm_rings::{Console, Told};
-use alm_run::Chair;
+use alm_run::{Chair, Source};
 use std::alloc::{AllocError, Global};
 
 /// Seats the sources in the order of the slots.
-pub fn seat<T: Told + Drop, L: Look<Told = T> + Drop, S: Drop>(
+pub fn seat<T: Told + Drop, L: Look<Told = T> + Drop, S: Source<T, L> + Drop>(
     alloc: Global,
     consoles: Vec<Console<T>>,
     looks: Vec<L>,
