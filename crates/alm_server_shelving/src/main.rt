@@ -2,7 +2,7 @@
 //! those replies.
 #![tactic(auto)]
 
-use alm_program::run_in_process;
+use alm_host::run_in_process;
 use std::process::ExitCode;
 
 fn main(rt: HostRuntime) -> ExitCode {

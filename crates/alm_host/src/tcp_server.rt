@@ -1,0 +1,39 @@
+//! The server of devices in files, over loopback.
+
+ghost use Rattle.std.specs.Prelude.{◌≡◌};
+ghost use Rattle.alm_host.specs.Serving.{fault_of_serve};
+
+use alm_file::FileDisk;
+use alm_program::{Fault, Server, io_fault};
+use alm_serve::{ServeFault, serve_run};
+use std::io;
+
+/// The server of devices in files, over loopback and standard output.
+#[derive(Drop)]
+pub struct TcpServer<'a> {
+    pub rt: &'a HostRuntime,
+}
+
+/// What a fault of serving is to the program.
+pub fn serve_fault(fault: ServeFault) -> Fault
+    ensures { result ≡ fault_of_serve fault }
+{
+    match fault {
+        ServeFault::Open(fault) => Fault::from(fault),
+        ServeFault::Net => Fault::Net,
+        ServeFault::Write => Fault::Io,
+        ServeFault::Memory => Fault::OutOfMemory,
+        ServeFault::Storage => Fault::Stopped,
+    }
+}
+
+impl Server for TcpServer<'_> {
+    fn serve(&self, device: &str, port: u16, conns: u32) -> Result<(), Fault> {
+        let rt = self.rt;
+        let disk = FileDisk::open(rt, device).map_err(io_fault)?;
+        match serve_run(rt, rt.alloc(), disk, port, conns, &mut io::writer(rt)) {
+            Ok(_) => Ok(()),
+            Err(fault) => Err(serve_fault(fault)),
+        }
+    }
+}
