@@ -25,7 +25,7 @@ const STREAM: Token = Token(1);
 const TURNS: u32 = 64;
 
 /// How long a poll takes at most, in milliseconds.
-const NAP: u64 = 100;
+const NAP: u64 = 1000;
 
 /// One slot's port: one connection after another, each answered by the slot's session.
 #[derive(Drop)]
