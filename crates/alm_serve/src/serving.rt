@@ -10,10 +10,12 @@ use alm_disk::{Disk, Free};
 use alm_keeper::{Keeper, Phase, open_store};
 use alm_lines::{Part, put_parts};
 use alm_ports::{Doors, open_doors};
+use alm_model::Alarms;
+use alm_plant::Plant;
 use alm_run::Storage;
-use alm_shared::{Naming, NewHistory};
+use alm_shared::{Front, Naming, NewHistory, SharedBoard, SharedLook};
 use alm_store::Store;
-use alm_threads::{parts_of, run_with_bells};
+use alm_threads::{Parts, WatchedLook, parts_of, run_with_bells};
 use alm_types::Slot;
 use std::alloc::{AllocError, Global};
 use std::io;
@@ -65,6 +67,29 @@ fn all_slots(alloc: Global) -> Result<Vec<Slot>, AllocError>
     Ok(slots)
 }
 
+/// Runs these parts behind these doors: how many actions are stored when all have ended.
+fn run_parts<
+    'h,
+    J: Naming + Send + Sync,
+    P: Alarms + Drop + Send + Sync,
+    K: Store,
+    R: Threads + Wait + Sync,
+>(
+    rt: &R,
+    alloc: Global,
+    parts: Parts<Front<J>, WatchedLook<'h, SharedLook<J, P>, Free>, SharedBoard<J, P>, K>,
+    doors: Doors,
+) -> Result<u64, ServeFault>
+    requires { vec_len doors.doors ≡ length parts.slots.items }
+{
+    let Doors { doors, bells } = doors;
+    let report = run_with_bells(rt, alloc, parts, &Free, bells, doors)?;
+    match report.storage {
+        Storage::Whole => Ok(report.keeper.count()),
+        Storage::Stopped => Err(ServeFault::Storage),
+    }
+}
+
 /// Runs the parts over a store behind these doors: how many actions are stored when all have ended.
 fn run_behind<J: Naming + Send + Sync, K: Store, R: Threads + Wait + Sync>(
     rt: &R,
@@ -82,14 +107,9 @@ fn run_behind<J: Naming + Send + Sync, K: Store, R: Threads + Wait + Sync>(
     requires apart { AreApart (λ s. s) slots.items }
     requires doors { vec_len doors.doors ≡ 18 }
 {
-    let Ok(parts) = parts_of::<J, K, Free, R>(rt, alloc, history, store, slots, &Free) else {
-        return Err(ServeFault::Memory);
-    };
-    let Doors { doors, bells } = doors;
-    let report = run_with_bells(rt, alloc, parts, &Free, bells, doors)?;
-    match report.storage {
-        Storage::Whole => Ok(report.keeper.count()),
-        Storage::Stopped => Err(ServeFault::Storage),
+    match parts_of::<J, K, Free, R>(rt, alloc, history, store, slots, &Free) {
+        Ok(parts) => run_parts::<J, Plant, K, R>(rt, alloc, parts, doors),
+        Err(_) => Err(ServeFault::Memory),
     }
 }
 

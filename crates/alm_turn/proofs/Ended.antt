@@ -1,5 +1,5 @@
 -- A connection from its beginning to its end.
-use Rattle.std.proofs.Common.{◌≡◌, ℕ, ◌+◌, ◌≤◌, List, [], ◌∷◌, ◌++◌, Option, length, refl, ap, sym, subst, ◌∙◌, arith}
+use Rattle.std.proofs.Common.{◌≡◌, ℕ, ◌+◌, List, [], ◌∷◌, ◌++◌, length, refl, ap, sym, subst, ◌∙◌, arith}
 use Rattle.std.specs.Prelude.{map}
 use Rattle.std.specs.List.{flat_map}
 use Rattle.std.specs.Io.KnownBytes.{Appends}
@@ -7,7 +7,7 @@ use Rattle.std.proofs.lemmas.List.{append-nil}
 use Rattle.alm_model.specs.Plant.{Condensed}
 use Rattle.alm_lines.specs.declared.line.Line.{Line}
 use Rattle.alm_turn.specs.Intakes.{Held, lines_from, lines_in, open_in}
-use Rattle.alm_turn.specs.Turns.{Heard, Slip, action, met_text, slip_of, slips, strays, Side, IsTurn}
+use Rattle.alm_turn.specs.Turns.{action, met_text, slip_of, slips, strays, Side, IsTurn}
 use Rattle.alm_turn.specs.Ended.{IsFresh, IsFinished, IsAnswered}
 use Rattle.alm_turn.proofs.Joins.{joined}
 

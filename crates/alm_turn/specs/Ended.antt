@@ -3,7 +3,7 @@ use Rattle.std.specs.Prelude.{◌≡◌, ℕ, ◌≤◌, List, [], ◌++◌, Non
 use Rattle.std.specs.List.{flat_map}
 use Rattle.std.specs.Io.KnownBytes.{Consumes, Appends}
 use Rattle.alm_model.specs.Plant.{Condensed}
-use Rattle.alm_turn.specs.Intakes.{Held, lines_from, lines_in}
+use Rattle.alm_turn.specs.Intakes.{lines_from, lines_in}
 use Rattle.alm_turn.specs.Turns.{Met, met_text, slip_of, slips, heards, strays, Knows, Side}
 
 -- nothing has come, nothing stands to be written, and no request of the slot is unanswered
