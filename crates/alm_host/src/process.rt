@@ -18,10 +18,7 @@ use std::thread::Threads;
 pub fn run_in_process<
     R: Input + Print + Env + Files<File = File> + Net + Threads + Wait + Sync + AllocGlobal,
     E: io::Write,
->(
-    rt: &R,
-    errors: &mut E,
-) -> ExitCode
+>(rt: &R, errors: &mut E) -> ExitCode
     ensures { IsEnd (E.contents errors.old) (E.contents errors.new) (exit_status result) }
 {
     run_program(rt, &TcpServer { rt }, errors)

@@ -4,9 +4,9 @@ ghost use Rattle.std.specs.Prelude.{◌≤◌};
 
 use crate::port_fault::PortFault;
 use crate::slot_bell::SlotBell;
+use alm_types::Slot;
 use mio::net::TcpListener;
 use mio::{Poll, Token};
-use alm_types::Slot;
 use std::alloc::Global;
 use std::net::{Ipv4Addr, Net, SocketAddr};
 

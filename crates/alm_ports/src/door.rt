@@ -19,6 +19,7 @@ use std::time::Duration;
 
 /// The tokens of what is polled. They are not read: after each poll all is tried.
 const LISTENER: Token = Token(0);
+
 const STREAM: Token = Token(1);
 
 /// How many turns in a row find nothing, and only let others run, before the bell is to wake the thread: some 50 microseconds.

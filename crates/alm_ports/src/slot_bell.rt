@@ -3,11 +3,9 @@
 use alm_run::Bell;
 use mio::{Registry, Token, Waker};
 use std::alloc::{AllocError, Global};
-use std::io;
-use std::sync::Wait;
-use std::sync::Arc;
 use std::sync::atomic::{AtomicBool, Ordering};
-use std::thread;
+use std::sync::{Arc, Wait};
+use std::{io, thread};
 
 /// What wakes the thread of a slot that waits for its sockets. It is rung by a load alone while that thread is awake.
 #[derive(Drop)]

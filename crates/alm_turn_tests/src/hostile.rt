@@ -84,7 +84,10 @@ fn a_line_without_end(rt: HostRuntime) -> Result<(), Fail> {
         answers: 0,
     };
     assert_eq!(rt; course, ended);
-    assert_eq!(rt; output.as_slice(), b"0 NO 14\n1 STATE 0 NORM 0 - -\n".as_slice());
+    assert_eq!(rt;
+        output.as_slice(),
+        b"0 NO 14\n1 STATE 0 NORM 0 - -\n".as_slice()
+    );
     Ok(())
 }
 
