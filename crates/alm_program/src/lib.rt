@@ -29,13 +29,13 @@ mod fault;
 mod fault_line;
 mod file_stack;
 mod formatting;
-mod io_fault;
+mod io_faults;
 mod program;
 mod server;
 mod showing;
 
 pub use fault::Fault;
 pub use fault_line::print_fault;
-pub use io_fault::io_fault;
+pub use io_faults::io_fault;
 pub use program::run_program;
 pub use server::Server;

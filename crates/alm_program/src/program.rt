@@ -48,11 +48,7 @@ pub fn run_program<
     R: Input + Print + Env + Files<File = File> + AllocGlobal,
     S: Server,
     E: io::Write,
->(
-    rt: &R,
-    server: &S,
-    errors: &mut E,
-) -> ExitCode
+>(rt: &R, server: &S, errors: &mut E) -> ExitCode
     ensures { IsEnd (E.contents errors.old) (E.contents errors.new) (exit_status result) }
 {
     match run(rt, server) {

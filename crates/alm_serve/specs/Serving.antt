@@ -2,15 +2,8 @@
 use Rattle.std.specs.Prelude.{◌≡◌, ℕ, List, [], ◌++◌, Option, Result, Ok, Err, codes, decimal}
 use Rattle.std.specs.Io.KnownBytes.{Appends}
 use Rattle.alm_lines.specs.Written.{IsCutShort}
-use Rattle.alm_ports.specs.declared.port_fault.PortFault.{PortFault}
-use Rattle.alm_ports.specs.declared.port_fault.PortFault.TheVariants as port
 use Rattle.alm_serve.specs.declared.serve_fault.ServeFault.{ServeFault}
 use Rattle.alm_serve.specs.declared.serve_fault.ServeFault.TheVariants.{Open, Net, Write, Memory, Storage}
-
--- what a refused port is to the server
-abbrev pub IsOfPort : PortFault → ServeFault → Type 0
-IsOfPort port.Net fault = fault ≡ Net
-IsOfPort port.OutOfMemory fault = fault ≡ Memory
 
 -- the line once the ports are bound
 abbrev pub serving_line : ℕ → List ℕ

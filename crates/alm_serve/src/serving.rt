@@ -11,8 +11,8 @@ use alm_keeper::{Keeper, Phase, open_store};
 use alm_lines::{Part, put_parts};
 use alm_model::Alarms;
 use alm_plant::Plant;
-use alm_ports::{Doors, open_doors};
-use alm_run::Storage;
+use alm_ports::{Doors, PortFault, open_doors};
+use alm_run::{StartFault, Storage};
 use alm_shared::{Front, Naming, NewHistory, SharedBoard, SharedLook};
 use alm_store::Store;
 use alm_threads::{Parts, WatchedLook, parts_of, run_with_bells};
@@ -67,7 +67,7 @@ fn all_slots(alloc: Global) -> Result<Vec<Slot>, AllocError>
     Ok(slots)
 }
 
-/// Runs these parts behind these doors: how many actions are stored when all have ended.
+/// Runs these parts behind these doors: how many actions are stored when all have ended, `None` where the storage has stopped.
 fn run_parts<
     'h,
     J: Naming + Send + Sync,
@@ -79,18 +79,18 @@ fn run_parts<
     alloc: Global,
     parts: Parts<Front<J>, WatchedLook<'h, SharedLook<J, P>, Free>, SharedBoard<J, P>, K>,
     doors: Doors,
-) -> Result<u64, ServeFault>
+) -> Result<Option<u64>, StartFault>
     requires { vec_len doors.doors ≡ length parts.slots.items }
 {
     let Doors { doors, bells } = doors;
     let report = run_with_bells(rt, alloc, parts, &Free, bells, doors)?;
     match report.storage {
-        Storage::Whole => Ok(report.keeper.count()),
-        Storage::Stopped => Err(ServeFault::Storage),
+        Storage::Whole => Ok(Some(report.keeper.count())),
+        Storage::Stopped => Ok(None),
     }
 }
 
-/// Runs the parts over a store behind these doors: how many actions are stored when all have ended.
+/// Runs the parts over a store behind these doors: how many actions are stored when all have ended, `None` where it has stopped.
 fn run_behind<J: Naming + Send + Sync, K: Store, R: Threads + Wait + Sync>(
     rt: &R,
     alloc: Global,
@@ -98,7 +98,7 @@ fn run_behind<J: Naming + Send + Sync, K: Store, R: Threads + Wait + Sync>(
     store: K,
     slots: Vec<Slot>,
     doors: Doors,
-) -> Result<u64, ServeFault>
+) -> Result<Option<u64>, StartFault>
     requires book { history.seen.book ≡ J.book }
     requires base { K.stored store ≡ J.base }
     requires idle { K.phase store ≡ Phase.Idle }
@@ -109,7 +109,48 @@ fn run_behind<J: Naming + Send + Sync, K: Store, R: Threads + Wait + Sync>(
 {
     match parts_of::<J, K, Free, R>(rt, alloc, history, store, slots, &Free) {
         Ok(parts) => run_parts::<J, Plant, K, R>(rt, alloc, parts, doors),
-        Err(_) => Err(ServeFault::Memory),
+        Err(_) => Err(StartFault::OutOfMemory),
+    }
+}
+
+/// Serves the slots of a store on 18 ports of loopback.
+fn serve_over<J: Naming + Send + Sync, K: Store, W: io::Write, R: Net + Threads + Wait + Sync>(
+    rt: &R,
+    alloc: Global,
+    history: NewHistory,
+    store: K,
+    port: u16,
+    conns: u32,
+    writer: &mut W,
+) -> Result<u64, ServeFault>
+    requires book { history.seen.book ≡ J.book }
+    requires base { K.stored store ≡ J.base }
+    requires idle { K.phase store ≡ Phase.Idle }
+    requires limit { (K.stored store).panel.count ≤ 2 ^ 48 }
+    requires port { port ≤ 65518 }
+    ensures { ServeWrites port (W.contents writer.old) (W.contents writer.new) result }
+{
+    let slots = match all_slots(alloc) {
+        Ok(slots) => slots,
+        Err(_) => return Err(ServeFault::Memory),
+    };
+    let doors = match open_doors(rt, alloc, slots.as_slice(), port, conns) {
+        Ok(doors) => doors,
+        Err(PortFault::Net) => return Err(ServeFault::Net),
+        Err(PortFault::OutOfMemory) => return Err(ServeFault::Memory),
+    };
+    match print_serving(port, writer) {
+        Ok(()) => {}
+        Err(_) => return Err(ServeFault::Write),
+    }
+    let count = match run_behind::<J, K, R>(rt, alloc, history, store, slots, doors) {
+        Ok(Some(count)) => count,
+        Ok(None) => return Err(ServeFault::Storage),
+        Err(_) => return Err(ServeFault::Memory),
+    };
+    match print_stopped(count, writer) {
+        Ok(()) => Ok(count),
+        Err(_) => Err(ServeFault::Write),
     }
 }
 
@@ -128,19 +169,11 @@ pub fn serve_run<D: Disk + Drop, W: io::Write, R: Net + Threads + Wait + Sync>(
     requires { port ≤ 65518 }
     ensures { ServeWrites port (W.contents writer.old) (W.contents writer.new) result }
 {
-    let keeper = match open_store(alloc, disk) {
-        Ok(keeper) => keeper,
-        Err((fault, _)) => return Err(ServeFault::Open(fault)),
-    };
-    let slots = all_slots(alloc)?;
-    let doors = open_doors(rt, alloc, slots.as_slice(), port, conns)?;
-    if print_serving(port, writer).is_err() {
-        return Err(ServeFault::Write);
+    match open_store(alloc, disk) {
+        Ok(keeper) => {
+            let history = NewHistory::new();
+            serve_over::<Brand, Keeper<D>, W, R>(rt, alloc, history, keeper, port, conns, writer)
+        }
+        Err((fault, _)) => Err(ServeFault::Open(fault)),
     }
-    let history = NewHistory::new();
-    let count = run_behind::<Brand, Keeper<D>, R>(rt, alloc, history, keeper, slots, doors)?;
-    if print_stopped(count, writer).is_err() {
-        return Err(ServeFault::Write);
-    }
-    Ok(count)
 }
