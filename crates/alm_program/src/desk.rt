@@ -2,7 +2,7 @@
 
 use crate::fault::Fault;
 use crate::file_stack::FileStack;
-use crate::io_fault::io_fault;
+use crate::io_faults::io_fault;
 use alm_file::FileDisk;
 use alm_model::Alarms;
 use alm_plant::Plant;

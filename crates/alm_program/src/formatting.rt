@@ -4,7 +4,7 @@ ghost use Rattle.alm_lines.specs.Written.{Prints};
 ghost use Rattle.alm_program.specs.Formatted.{formatted_text};
 
 use crate::fault::Fault;
-use crate::io_fault::io_fault;
+use crate::io_faults::io_fault;
 use alm_checkpoint::Layout;
 use alm_file::FileDisk;
 use alm_keeper::format;

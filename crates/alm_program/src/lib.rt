@@ -6,6 +6,7 @@
 //! | `desk DEVICE` | the same over a formatted device |
 //! | `format DEVICE TABLE` | makes the file of a device, and formats it for a table file |
 //! | `show DEVICE` | prints the plant that a device stands for |
+//! | `serve DEVICE --port P [--conns N]` | has a [`Server`] serve the slots of a formatted device at 18 ports |
 //!
 //! Every other word, and a request for help, is wrong usage.
 //!
@@ -28,12 +29,13 @@ mod fault;
 mod fault_line;
 mod file_stack;
 mod formatting;
-mod host;
-mod io_fault;
+mod io_faults;
 mod program;
+mod server;
 mod showing;
 
 pub use fault::Fault;
 pub use fault_line::print_fault;
-pub use host::run_in_process;
+pub use io_faults::io_fault;
 pub use program::run_program;
+pub use server::Server;

@@ -1,7 +1,7 @@
 //! What is shown of a device.
 
 use crate::fault::Fault;
-use crate::io_fault::io_fault;
+use crate::io_faults::io_fault;
 use alm_file::FileDisk;
 use alm_keeper::{Keeper, open_store};
 use alm_service::show_plant;

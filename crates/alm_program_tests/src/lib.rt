@@ -12,3 +12,7 @@ mod reading;
 mod running;
 #[cfg(test)]
 mod script;
+#[cfg(test)]
+mod serving;
+#[cfg(test)]
+mod told_server;

@@ -2,6 +2,7 @@
 
 use crate::process::Process;
 use crate::script::{Script, Step};
+use crate::told_server::ToldServer;
 use alm_program::run_program;
 use std::alloc::Global;
 use std::test::Fail;
@@ -17,7 +18,7 @@ struct Outcome {
 /// Runs the program over a process.
 fn run(alloc: Global, process: Process<'_>) -> Result<Outcome, Fail> {
     let mut errors = Vec::new(alloc);
-    let status = run_program(&process, &mut errors);
+    let status = run_program(&process, &ToldServer::new(), &mut errors);
     Ok(Outcome {
         status: format!(in alloc; "{status:?}")?,
         printed: process.into_printed(),

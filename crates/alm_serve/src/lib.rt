@@ -1,19 +1,24 @@
-//! The server: the slots' ports on loopback, and the running parts behind them.
+//! The server: the running parts behind the slots' ports.
+//!
+//! | step of [`serve_run`] | where it fails | what is written by then |
+//! |---|---|---|
+//! | opens the device | `Open` with the fault | nothing |
+//! | binds the 18 ports of loopback from P on | `Net` | nothing |
+//! | writes `serving P` | `Write` | a front of that line |
+//! | starts the threads, and joins them when so many connections have ended or the storage has stopped | `Memory`, `Storage` | that line |
+//! | writes `stopped N` | `Write` | both lines, or a front |
+//!
+//! `Memory`, for want of memory or of a thread, may come at any step behind the first.
+//!
+//! What is used above: what stands written, by how it ends; N is how many actions are stored. Whatever its end, what the device stands
+//! for is what its keeper says at any moment: the actions that were answered, and none that wasn't asked.
+//!
+//! Not promised: anything of what a socket gives or takes, that it ever ends, and any time. There are no accounts: whoever reaches a port
+//! of loopback has the role of its slot.
 #![tactic(auto)]
 
-mod bound;
-mod door;
-mod guest;
-mod opening;
 mod serve_fault;
-mod slot_bell;
-mod stream_wire;
-mod visits;
+mod serving;
 
-pub use bound::Bound;
-pub use door::Door;
-pub use opening::{Doors, open_doors};
 pub use serve_fault::ServeFault;
-pub use slot_bell::SlotBell;
-pub use stream_wire::StreamWire;
-pub use visits::Visits;
+pub use serving::serve_run;

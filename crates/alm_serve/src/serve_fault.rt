@@ -1,8 +1,6 @@
 //! Faults of the server.
 
 use alm_keeper::OpenFault;
-use std::alloc::AllocError;
-use std::io::{self, ErrorKind};
 
 /// Why the server serves no more.
 #[derive(Clone, Copy, Debug, PartialEq, Eq)]
@@ -17,24 +15,4 @@ pub enum ServeFault {
     Memory,
     /// The device failed while it was served, or what was stored could not be published.
     Storage,
-}
-
-impl From<AllocError> for ServeFault {
-    ghost use Rattle.std.specs.Prelude.{◌≡◌};
-    ghost use Rattle.alm_serve.specs.declared.serve_fault.ServeFault.TheVariants.{Memory};
-
-    ghost from_gives = { λ _ fault. fault ≡ Memory };
-
-    fn from(_: AllocError) -> Self {
-        ServeFault::Memory
-    }
-}
-
-/// What a refused call of a socket is to the server.
-pub fn net_fault(error: io::Error) -> ServeFault {
-    if error.kind() == ErrorKind::OutOfMemory {
-        ServeFault::Memory
-    } else {
-        ServeFault::Net
-    }
 }

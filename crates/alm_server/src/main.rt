@@ -4,9 +4,9 @@
 //! one line on standard error: `fault usage` with 1, `fault memory` and `fault io` with 3.
 #![tactic(auto)]
 
-use alm_program::run_in_process;
+use alm_host::run_in_process;
 use std::process::ExitCode;
 
 fn main(rt: HostRuntime) -> ExitCode {
-    run_in_process(rt)
+    run_in_process(&rt, &mut rt.stderr())
 }

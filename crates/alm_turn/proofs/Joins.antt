@@ -17,7 +17,7 @@ use Rattle.alm_turn.proofs.Streams.{fed-append}
 
 with_end : (ends : Bool) (held next xs ys : List ℕ) → ((k : List ℕ) → lines_from k (xs ++ ys) ≡ lines_from k xs ++ lines_from (fed k xs) ys)
     → (if ends then line_of held ∷ lines_from [] (xs ++ ys) else lines_from (if ends then [] else next) (xs ++ ys))
-      ≡ (if ends then line_of held ∷ lines_from [] xs else lines_from (if ends then [] else next) xs) ++ lines_from (fed (if ends then [] else next) xs) ys
+    ≡ (if ends then line_of held ∷ lines_from [] xs else lines_from (if ends then [] else next) xs) ++ lines_from (fed (if ends then [] else next) xs) ys
 with_end true held next xs ys h = ap (λ (l : List Line). line_of held ∷ l) (h [])
 with_end false held next xs ys h = h next
 
@@ -64,6 +64,6 @@ joined {base} {m} {n} {a} {b} {c} p q = record {
 -- something, after what did nothing that counts
 pub behind : {base : Condensed} {n : ℕ} {a b c : Side} → IsTurn base 0 a b → IsTurn base n b c → IsTurn base n a c
 behind {base} {n} {a} {b} {c} p q = subst (λ (k : ℕ). IsTurn base k a c) (none_more n) (joined p q)
- where
-  none_more : (n : ℕ) → 0 + n ≡ n
-  none_more n = omega arith
+  where
+    none_more : (n : ℕ) → 0 + n ≡ n
+    none_more n = omega arith

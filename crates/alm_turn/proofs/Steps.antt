@@ -116,9 +116,9 @@ wrote_some base a b n some within held waiting left known coming written sent he
   balance = omega (arith, ap length sent, ap length heard, ap length waiting);
   moved = omega (arith, some, taken_length n a.left within);
 }
- where
-  taken_length : (n : ℕ) (xs : List ℕ) → n ≤ length xs → length (take n xs) ≡ n
-  taken_length n xs h = length-take-le n xs h
+  where
+    taken_length : (n : ℕ) (xs : List ℕ) → n ≤ length xs → length (take n xs) ≡ n
+    taken_length n xs h = length-take-le n xs h
 
 -- bytes are read, where no line was held
 pub read_some : (base : Condensed) (a b : Side) → a.held.line ≡ None → a.held.rest ≡ [] → b.held ≡ record a.held { rest = b.held.rest } → 1 ≤ length b.held.rest → b.waiting ≡ a.waiting → b.left ≡ a.left
@@ -141,11 +141,12 @@ read_some base a b none empty held some waiting left known coming written sent h
   balance = omega (arith, ap length sent, ap length heard, ap length waiting);
   moved = omega (arith, some);
 }
- where
-  lined : (h : Held) (rest : List ℕ) → h.line ≡ None → lines_in (record h { rest = rest }) ≡ lines_from h.held rest
-  lined h rest none = rw none refl
-  opened : (h : Held) (rest : List ℕ) → h.rest ≡ [] → open_in (record h { rest = rest }) ≡ fed (open_in h) rest
-  opened h rest empty = rw empty refl
+  where
+    lined : (h : Held) (rest : List ℕ) → h.line ≡ None → lines_in (record h { rest = rest }) ≡ lines_from h.held rest
+    lined h rest none = rw none refl
+
+    opened : (h : Held) (rest : List ℕ) → h.rest ≡ [] → open_in (record h { rest = rest }) ≡ fed (open_in h) rest
+    opened h rest empty = rw empty refl
 
 -- a line is taken and answered at once, or sent
 pub took : (base : Condensed) (a b : Side) (line : Line) (met : List Met) → a.held.line ≡ Some line → b.held ≡ record a.held { line = None }
@@ -170,9 +171,9 @@ took base a b line met held later order left coming written sent heard none plai
   balance = omega (arith, count, ap length sent, length-append a.sent (wants line), ap length heard, ap length plain);
   moved = omega arith;
 }
- where
-  passed : (h : Held) (line : Line) → h.line ≡ Some line → lines_in h ≡ line ∷ lines_in (record h { line = None })
-  passed h line held = rw held refl
+  where
+    passed : (h : Held) (line : Line) → h.line ≡ Some line → lines_in h ≡ line ∷ lines_in (record h { line = None })
+    passed h line held = rw held refl
 
 at_end : (xs ys zs : List ℕ) → xs ≡ zs → ys ≡ [] → xs ≡ ys ++ (zs ++ [])
 at_end xs ys zs e f = rw f (e ∙ sym (append-nil zs))
@@ -193,7 +194,7 @@ pub received : (base : Condensed) (a b : Side) (h : Heard) → b.held ≡ a.held
     → ((id : ℕ) (ids : List ℕ) → a.waiting ≡ id ∷ ids → (b.waiting ≡ ids) × (b.left ≡ a.left ++ verdict_reply id h.number h.verdict)) → IsFront a.known b.known → IsFront h.list b.known
     → b.coming ≡ a.coming → b.written ≡ a.written → b.sent ≡ a.sent → b.heard ≡ a.heard ++ h ∷ [] → b.refused ≡ a.refused → IsTurn base 1 a b
 received base a b h held none some known learnt coming written sent heard refused = by_waiting a.waiting refl
- where
-  by_waiting : (w : List ℕ) → a.waiting ≡ w → IsTurn base 1 a b
-  by_waiting [] e = strayed base a b h held e (none e).0 (none e).1 known learnt coming written sent heard refused
-  by_waiting (id ∷ ids) e = answered base a b id h held (e ∙ ap (λ (l : List ℕ). id ∷ l) (sym (some id ids e).0)) (some id ids e).1 known learnt coming written sent heard refused
+  where
+    by_waiting : (w : List ℕ) → a.waiting ≡ w → IsTurn base 1 a b
+    by_waiting [] e = strayed base a b h held e (none e).0 (none e).1 known learnt coming written sent heard refused
+    by_waiting (id ∷ ids) e = answered base a b id h held (e ∙ ap (λ (l : List ℕ). id ∷ l) (sym (some id ids e).0)) (some id ids e).1 known learnt coming written sent heard refused

@@ -255,5 +255,4 @@ impl Session {
             Sent::Failed => Turn::Fault,
         }
     }
-
 }

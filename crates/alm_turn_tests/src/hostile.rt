@@ -1,7 +1,7 @@
 //! Clients that mean no good.
 
 use crate::piece_wire::PieceWire;
-use crate::playing::{play, worked_look};
+use crate::playing::{Course, play, worked_look};
 use alm_rings::open_slot;
 use alm_turn::{MemWire, Session, Turn};
 use alm_types::Slot;
@@ -48,17 +48,17 @@ fn bad_lines(rt: HostRuntime) -> Result<(), Fail> {
     Ok(())
 }
 
-/// A million bytes without a line end are one line that is too long, and the next line is read as if alone.
-#[test]
-fn a_line_without_end(rt: HostRuntime) -> Result<(), Fail> {
-    let alloc = rt.alloc();
-    let slot = Slot::new(0).ok_or("slot")?;
+/// How a connection went that sent this input, and what was written to it, where there is room for so many bytes.
+fn over_memory(
+    alloc: Global,
+    slot: Slot,
+    input: Vec<u8>,
+    room: usize,
+) -> Result<(Course, Vec<u8>), AllocError> {
     let (mut console, mut inbox, mut outbox) = open_slot(alloc, slot)?;
     let mut look = worked_look(alloc)?;
     let mut session = Session::new(alloc)?;
-    let mut input = vec![in alloc; b'A'; 1_000_000]?;
-    input.extend_from_slice(b"\n1 STATE 0\n")?;
-    let mut wire = MemWire::new(alloc, input, 1000)?;
+    let mut wire = MemWire::new(alloc, input, room)?;
     let course = play(
         &mut session,
         &mut wire,
@@ -67,9 +67,27 @@ fn a_line_without_end(rt: HostRuntime) -> Result<(), Fail> {
         &mut inbox,
         &mut outbox,
     );
-    assert_eq!(rt; course.last, Turn::Ended);
-    assert_eq!(rt; course.idle, 0);
-    assert_eq!(rt; wire.output(), b"0 NO 14\n1 STATE 0 NORM 0 - -\n".as_slice());
+    Ok((course, Vec::from_slice(alloc, wire.output())?))
+}
+
+/// A million bytes without a line end are one line that is too long, and the next line is read as if alone.
+#[test]
+fn a_line_without_end(rt: HostRuntime) -> Result<(), Fail> {
+    let alloc = rt.alloc();
+    let slot = Slot::new(0).ok_or("slot")?;
+    let mut input = vec![in alloc; b'A'; 1_000_000]?;
+    input.extend_from_slice(b"\n1 STATE 0\n")?;
+    let (course, output) = over_memory(alloc, slot, input, 1000)?;
+    let ended = Course {
+        last: Turn::Ended,
+        idle: 0,
+        answers: 0,
+    };
+    assert_eq!(rt; course, ended);
+    assert_eq!(rt;
+        output.as_slice(),
+        b"0 NO 14\n1 STATE 0 NORM 0 - -\n".as_slice()
+    );
     Ok(())
 }
 
@@ -108,20 +126,9 @@ fn a_client_that_never_reads(rt: HostRuntime) -> Result<(), Fail> {
 fn no_room(rt: HostRuntime) -> Result<(), Fail> {
     let alloc = rt.alloc();
     let slot = Slot::new(0).ok_or("slot")?;
-    let (mut console, mut inbox, mut outbox) = open_slot(alloc, slot)?;
-    let mut look = worked_look(alloc)?;
-    let mut session = Session::new(alloc)?;
     let input = Vec::from_slice(alloc, b"1 STATE 0\n".as_slice())?;
-    let mut wire = MemWire::new(alloc, input, 5)?;
-    let course = play(
-        &mut session,
-        &mut wire,
-        &mut look,
-        &mut console,
-        &mut inbox,
-        &mut outbox,
-    );
+    let (course, output) = over_memory(alloc, slot, input, 5)?;
     assert_eq!(rt; course.last, Turn::Idle);
-    assert_eq!(rt; wire.output(), b"1 STA".as_slice());
+    assert_eq!(rt; output.as_slice(), b"1 STA".as_slice());
     Ok(())
 }

@@ -9,8 +9,11 @@ use std::alloc::{AllocError, Global};
 use std::test::Fail;
 
 /// Lines of each kind, and what is answered where each action is refused.
-const LINES: &str = "7 ACK 0\n8 ACK 1\n9 STATE 1\nx\n10 FLOOD 9\n11 LIST P 1\n12 ACK 0\n13 FLOOD 0\n";
-const REPLIES: &str = "7 NO 2\n8 NO 2\n9 STATE 0 NORM 0 - -\n0 NO 13\n10 NO 17\n11 LIST 0 0\n12 NO 2\n13 FLOOD 0 0 0\n";
+const LINES: &str =
+    "7 ACK 0\n8 ACK 1\n9 STATE 1\nx\n10 FLOOD 9\n11 LIST P 1\n12 ACK 0\n13 FLOOD 0\n";
+
+const REPLIES: &str =
+    "7 NO 2\n8 NO 2\n9 STATE 0 NORM 0 - -\n0 NO 13\n10 NO 17\n11 LIST 0 0\n12 NO 2\n13 FLOOD 0 0 0\n";
 
 fn bytes(alloc: Global, text: &str) -> Result<Vec<u8>, AllocError> {
     Vec::from_slice(alloc, text.as_bytes())
@@ -118,11 +121,26 @@ fn a_lost_connection(rt: HostRuntime) -> Result<(), Fail> {
     let mut look = worked_look(alloc)?;
     let mut session = Session::new(alloc)?;
     let mut wire = MemWire::new(alloc, bytes(alloc, "7 ACK 0\n8 ACK 1\n9 ACK 1\n1 ST")?, 200)?;
-    assert_eq!(rt; session.turn(&mut wire, &mut console, &mut look), Turn::Went);
-    assert_eq!(rt; session.turn(&mut wire, &mut console, &mut look), Turn::Went);
-    assert_eq!(rt; session.turn(&mut wire, &mut console, &mut look), Turn::Went);
-    assert_eq!(rt; session.turn(&mut wire, &mut console, &mut look), Turn::Went);
-    assert_eq!(rt; session.turn(&mut wire, &mut console, &mut look), Turn::Idle);
+    assert_eq!(rt;
+        session.turn(&mut wire, &mut console, &mut look),
+        Turn::Went
+    );
+    assert_eq!(rt;
+        session.turn(&mut wire, &mut console, &mut look),
+        Turn::Went
+    );
+    assert_eq!(rt;
+        session.turn(&mut wire, &mut console, &mut look),
+        Turn::Went
+    );
+    assert_eq!(rt;
+        session.turn(&mut wire, &mut console, &mut look),
+        Turn::Went
+    );
+    assert_eq!(rt;
+        session.turn(&mut wire, &mut console, &mut look),
+        Turn::Idle
+    );
     answer(&mut console, &mut inbox, &mut outbox, 1);
     answer(&mut console, &mut inbox, &mut outbox, 2);
     assert!(rt; !drain(&mut console, &mut look));
@@ -165,6 +183,15 @@ fn no_line_without_its_end(rt: HostRuntime) -> Result<(), Fail> {
     let slot = Slot::new(0).ok_or("slot")?;
     assert!(rt; is_answered(rt.alloc(), slot, "", "", 1, 1)?);
     assert!(rt; is_answered(rt.alloc(), slot, "5 ACK 0", "", 1, 1)?);
-    assert!(rt; is_answered(rt.alloc(), slot, "5 CHATTER\n5 ACK 0", "5 CHATTER 0 0\n", 1, 1)?);
+    assert!(rt;
+        is_answered(
+            rt.alloc(),
+            slot,
+            "5 CHATTER\n5 ACK 0",
+            "5 CHATTER 0 0\n",
+            1,
+            1
+        )?
+    );
     Ok(())
 }

@@ -1,7 +1,6 @@
 use Rattle.std.proofs.Common.{[], ◌∷◌, length, refl, ap, sym, ◌∙◌, arith, length-append}
 use Rattle.std.specs.Prelude.{map}
 use Rattle.std.proofs.lemmas.List.{append-nil, map-append}
-use Rattle.alm_rings.specs.Ends.{sent_of}
 use Rattle.alm_turn.specs.Turns.{action}
 use Rattle.alm_turn.specs.Sides.{heard_of}
 use Rattle.alm_turn.proofs.Steps.{still, took}

@@ -1,0 +1,44 @@
+//! A port that is bound.
+
+ghost use Rattle.std.specs.Prelude.{◌≤◌};
+
+use crate::port_fault::PortFault;
+use crate::slot_bell::SlotBell;
+use alm_types::Slot;
+use mio::net::TcpListener;
+use mio::{Poll, Token};
+use std::alloc::Global;
+use std::net::{Ipv4Addr, Net, SocketAddr};
+
+/// The token of the bell. Tokens are not read: after each poll all is tried.
+const BELL: Token = Token(2);
+
+/// A port that is bound, with the poll and the bell of its thread.
+#[derive(Drop)]
+pub struct Bound {
+    pub listener: TcpListener,
+    pub poll: Poll,
+    pub bell: SlotBell,
+    pub slot: Slot,
+}
+
+impl Bound {
+    ghost use Rattle.std.specs.Prelude.{◌≤◌};
+
+    /// Binds the port of a slot: the first slot's is given, each next slot's is one more.
+    pub fn new<R: Net>(rt: &R, alloc: Global, first: u16, slot: Slot) -> Result<Self, PortFault>
+        requires { first ≤ 65518 }
+    {
+        let port = first + u16::from(slot.number());
+        let address = SocketAddr::from((Ipv4Addr::LOCALHOST, port));
+        let listener = TcpListener::bind(rt, address)?;
+        let poll = Poll::new(rt)?;
+        let bell = SlotBell::new(alloc, poll.registry(), BELL)?;
+        Ok(Bound {
+            listener,
+            poll,
+            bell,
+            slot,
+        })
+    }
+}

@@ -1,0 +1,39 @@
+//! The slots' ports on loopback: connections as sources of requests.
+//!
+//! Slot k listens on the k-th port behind the first one. A [`Door`] is the source that sits at a slot: it accepts one connection
+//! after another and gives each its turns.
+//!
+//! | a door | does in a turn |
+//! |---|---|
+//! | with nobody connected | accepts the next connection |
+//! | with a connection | a turn of its session; where that has ended or failed, the connection is closed |
+//! | whose connection has ended | drops the receipts of its requests, until all are answered; then the connection counts as ended |
+//! | with nothing to do for 64 turns | has its [`SlotBell`] wake it, looks once more, and waits for its sockets and the bell, at most a second |
+//! | once so many connections have ended as there were to be | says that it has ended |
+//!
+//! A connection takes no memory beyond the buffers of its slot's session and those of the system: no more is read while a reply
+//! stands to be written. So a client that stalls or never reads keeps its own slot busy, and no other.
+//!
+//! What is used above: a [`Door`] is a source whatever its clients do: it keeps the console's end. [`StreamWire`] makes a wire of any
+//! stream that never waits.
+//!
+//! Not promised: anything of what a socket gives or takes, nor that a wake comes. A door keeps no client waiting longer than a poll
+//! takes, also where a wake is lost.
+#![tactic(auto)]
+
+mod bound;
+mod door;
+mod guest;
+mod opening;
+mod port_fault;
+mod slot_bell;
+mod stream_wire;
+mod visits;
+
+pub use bound::Bound;
+pub use door::Door;
+pub use opening::{Doors, open_doors};
+pub use port_fault::PortFault;
+pub use slot_bell::SlotBell;
+pub use stream_wire::StreamWire;
+pub use visits::Visits;

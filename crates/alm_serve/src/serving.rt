@@ -1,0 +1,179 @@
+//! Serves the slots of a device.
+
+ghost use Rattle.std.specs.Prelude.{◌≡◌, ◌≤◌, ◌<◌, ◌^◌, length, vec_len, IfOk};
+ghost use Rattle.alm_lines.specs.Written.{Prints};
+ghost use Rattle.alm_rings.specs.Placed.{AreApart};
+ghost use Rattle.alm_serve.specs.Serving.{serving_line, stopped_line, ServeWrites};
+
+use crate::serve_fault::ServeFault;
+use alm_disk::{Disk, Free};
+use alm_keeper::{Keeper, Phase, open_store};
+use alm_lines::{Part, put_parts};
+use alm_model::Alarms;
+use alm_plant::Plant;
+use alm_ports::{Doors, PortFault, open_doors};
+use alm_run::{StartFault, Storage};
+use alm_shared::{Front, Naming, NewHistory, SharedBoard, SharedLook};
+use alm_store::Store;
+use alm_threads::{Parts, WatchedLook, parts_of, run_with_bells};
+use alm_types::Slot;
+use std::alloc::{AllocError, Global};
+use std::io;
+use std::marker::Brand;
+use std::net::Net;
+use std::sync::Wait;
+use std::thread::Threads;
+
+/// Writes that the ports are bound.
+fn print_serving<W: io::Write>(port: u16, writer: &mut W) -> io::Result<()>
+    ensures { Prints (W.contents writer.old) (W.contents writer.new) (serving_line port) result }
+{
+    put_parts(
+        &[
+            Part::Word("serving "),
+            Part::Number(u64::from(port)),
+            Part::Word("\n"),
+        ],
+        writer,
+    )
+}
+
+/// Writes that the server has stopped, and how many actions are stored.
+fn print_stopped<W: io::Write>(count: u64, writer: &mut W) -> io::Result<()>
+    ensures { Prints (W.contents writer.old) (W.contents writer.new) (stopped_line count) result }
+{
+    put_parts(
+        &[
+            Part::Word("stopped "),
+            Part::Number(count),
+            Part::Word("\n"),
+        ],
+        writer,
+    )
+}
+
+/// All slots, in their order.
+fn all_slots(alloc: Global) -> Result<Vec<Slot>, AllocError>
+    ensures count { IfOk result (λ slots. length slots.items ≡ 18) }
+    ensures apart { IfOk result (λ slots. AreApart (λ s. s) slots.items) }
+{
+    let mut slots = Vec::with_capacity(alloc, 18)?;
+    for number in 0..18_u8 {
+        match Slot::new(number) {
+            Some(slot) => slots.push_reserved(slot),
+            None => unreachable!(),
+        }
+    }
+    Ok(slots)
+}
+
+/// Runs these parts behind these doors: how many actions are stored when all have ended, `None` where the storage has stopped.
+fn run_parts<
+    'h,
+    J: Naming + Send + Sync,
+    P: Alarms + Drop + Send + Sync,
+    K: Store,
+    R: Threads + Wait + Sync,
+>(
+    rt: &R,
+    alloc: Global,
+    parts: Parts<Front<J>, WatchedLook<'h, SharedLook<J, P>, Free>, SharedBoard<J, P>, K>,
+    doors: Doors,
+) -> Result<Option<u64>, StartFault>
+    requires { vec_len doors.doors ≡ length parts.slots.items }
+{
+    let Doors { doors, bells } = doors;
+    let report = run_with_bells(rt, alloc, parts, &Free, bells, doors)?;
+    match report.storage {
+        Storage::Whole => Ok(Some(report.keeper.count())),
+        Storage::Stopped => Ok(None),
+    }
+}
+
+/// Runs the parts over a store behind these doors: how many actions are stored when all have ended, `None` where it has stopped.
+fn run_behind<J: Naming + Send + Sync, K: Store, R: Threads + Wait + Sync>(
+    rt: &R,
+    alloc: Global,
+    history: NewHistory,
+    store: K,
+    slots: Vec<Slot>,
+    doors: Doors,
+) -> Result<Option<u64>, StartFault>
+    requires book { history.seen.book ≡ J.book }
+    requires base { K.stored store ≡ J.base }
+    requires idle { K.phase store ≡ Phase.Idle }
+    requires limit { (K.stored store).panel.count ≤ 2 ^ 48 }
+    requires slots { length slots.items ≡ 18 }
+    requires apart { AreApart (λ s. s) slots.items }
+    requires doors { vec_len doors.doors ≡ 18 }
+{
+    match parts_of::<J, K, Free, R>(rt, alloc, history, store, slots, &Free) {
+        Ok(parts) => run_parts::<J, Plant, K, R>(rt, alloc, parts, doors),
+        Err(_) => Err(StartFault::OutOfMemory),
+    }
+}
+
+/// Serves the slots of a store on 18 ports of loopback.
+fn serve_over<J: Naming + Send + Sync, K: Store, W: io::Write, R: Net + Threads + Wait + Sync>(
+    rt: &R,
+    alloc: Global,
+    history: NewHistory,
+    store: K,
+    port: u16,
+    conns: u32,
+    writer: &mut W,
+) -> Result<u64, ServeFault>
+    requires book { history.seen.book ≡ J.book }
+    requires base { K.stored store ≡ J.base }
+    requires idle { K.phase store ≡ Phase.Idle }
+    requires limit { (K.stored store).panel.count ≤ 2 ^ 48 }
+    requires port { port ≤ 65518 }
+    ensures { ServeWrites port (W.contents writer.old) (W.contents writer.new) result }
+{
+    let slots = match all_slots(alloc) {
+        Ok(slots) => slots,
+        Err(_) => return Err(ServeFault::Memory),
+    };
+    let doors = match open_doors(rt, alloc, slots.as_slice(), port, conns) {
+        Ok(doors) => doors,
+        Err(PortFault::Net) => return Err(ServeFault::Net),
+        Err(PortFault::OutOfMemory) => return Err(ServeFault::Memory),
+    };
+    match print_serving(port, writer) {
+        Ok(()) => {}
+        Err(_) => return Err(ServeFault::Write),
+    }
+    let count = match run_behind::<J, K, R>(rt, alloc, history, store, slots, doors) {
+        Ok(Some(count)) => count,
+        Ok(None) => return Err(ServeFault::Storage),
+        Err(_) => return Err(ServeFault::Memory),
+    };
+    match print_stopped(count, writer) {
+        Ok(()) => Ok(count),
+        Err(_) => Err(ServeFault::Write),
+    }
+}
+
+/// Serves the slots of a device on 18 ports of loopback from this one on, for so many connections in all; 0 is without end.
+///
+/// It opens the device, binds the ports, writes `serving P` and starts the threads, in this order; and at the end writes `stopped
+/// N`: how many actions are stored.
+pub fn serve_run<D: Disk + Drop, W: io::Write, R: Net + Threads + Wait + Sync>(
+    rt: &R,
+    alloc: Global,
+    disk: D,
+    port: u16,
+    conns: u32,
+    writer: &mut W,
+) -> Result<u64, ServeFault>
+    requires { port ≤ 65518 }
+    ensures { ServeWrites port (W.contents writer.old) (W.contents writer.new) result }
+{
+    match open_store(alloc, disk) {
+        Ok(keeper) => {
+            let history = NewHistory::new();
+            serve_over::<Brand, Keeper<D>, W, R>(rt, alloc, history, keeper, port, conns, writer)
+        }
+        Err((fault, _)) => Err(ServeFault::Open(fault)),
+    }
+}

@@ -1,0 +1,115 @@
+//! Rows of the server.
+
+use crate::client::{asks, connect, gives};
+use alm_disk::MemDisk;
+use alm_keeper::{OpenFault, format};
+use alm_serve::{ServeFault, serve_run};
+use alm_service::worked_table;
+use std::alloc::{AllocError, Global};
+use std::io::{self, Read, Write};
+use std::net::{Shutdown, TcpListener};
+use std::test::Fail;
+use std::thread;
+
+/// A device in memory that is formatted for the worked table.
+fn worked_disk(alloc: Global) -> Result<Option<MemDisk>, AllocError> {
+    let table = worked_table(alloc)?;
+    let disk = MemDisk::new(alloc, vec![in alloc; 0_u8; 28_997]?, 100_000)?;
+    match format(alloc, disk, &table) {
+        Ok(disk) => Ok(Some(disk)),
+        Err(_) => Ok(None),
+    }
+}
+
+/// The feed raises an alarm, and a console acknowledges it.
+fn two_clients(rt: &HostRuntime, port: u16) -> io::Result<bool> {
+    let mut feed = connect(rt, port + 16)?;
+    let raised = asks(&mut feed, b"1 VAL 0 800\n", b"1 OK 1\n")?;
+    drop(feed);
+    let mut console = connect(rt, port)?;
+    let seen = asks(
+        &mut console,
+        b"2 ACK 0\n3 STATE 0\n",
+        b"2 OK 2\n3 STATE 2 ACKED 1 - -\n",
+    )?;
+    Ok(raised && seen)
+}
+
+#[test]
+fn two_connections(rt: HostRuntime) -> Result<(), Fail> {
+    let port = 20_100;
+    let disk = worked_disk(rt.alloc())?.ok_or("format")?;
+    let clients = thread::spawn(&rt, move || two_clients(&rt, port))?;
+    let mut output = Vec::new(rt.alloc());
+    let served = serve_run(&rt, rt.alloc(), disk, port, 2, &mut output);
+    assert!(rt; served == Ok(2));
+    assert_eq!(rt; output.as_slice(), b"serving 20100\nstopped 2\n".as_slice());
+    assert!(rt; clients.join(&rt)?);
+    Ok(())
+}
+
+/// A port that can't be had is a fault before anything is written.
+#[test]
+fn a_port_that_is_taken(rt: HostRuntime) -> Result<(), Fail> {
+    let port = 20_200;
+    let disk = worked_disk(rt.alloc())?.ok_or("format")?;
+    let taken = TcpListener::bind(&rt, "127.0.0.1:20205")?;
+    let mut output = Vec::new(rt.alloc());
+    let served = serve_run(&rt, rt.alloc(), disk, port, 1, &mut output);
+    assert!(rt; served == Err(ServeFault::Net));
+    assert!(rt; output.is_empty());
+    drop(taken);
+    Ok(())
+}
+
+/// A device that isn't formatted is a fault before any port is bound.
+#[test]
+fn a_device_that_is_not_formatted(rt: HostRuntime) -> Result<(), Fail> {
+    let disk = MemDisk::new(rt.alloc(), vec![in rt.alloc(); 0_u8; 28_997]?, 100)?;
+    let taken = TcpListener::bind(&rt, "127.0.0.1:20300")?;
+    let mut output = Vec::new(rt.alloc());
+    let served = serve_run(&rt, rt.alloc(), disk, 20_300, 1, &mut output);
+    assert!(rt; served == Err(ServeFault::Open(OpenFault::Unformatted)));
+    assert!(rt; output.is_empty());
+    drop(taken);
+    Ok(())
+}
+
+/// A client that stalls within a line, one that never reads, one that is gone with requests unanswered, and one that sends a byte at a
+/// time and closes half: the last two end, and another slot is served beside them.
+fn hostile_clients(rt: &HostRuntime, port: u16) -> io::Result<bool> {
+    let mut stalled = connect(rt, port + 1)?;
+    stalled.write_all(b"1 STA")?;
+    let mut deaf = connect(rt, port + 2)?;
+    for _line in 0..2000_u32 {
+        deaf.write_all(b"1 LIST P 1\n")?;
+    }
+    let mut gone = connect(rt, port + 3)?;
+    for _line in 0..100_u32 {
+        gone.write_all(b"1 ACK 0\n")?;
+    }
+    drop(gone);
+    let mut half = connect(rt, port + 3)?;
+    for byte in b"7 STATE 0\n8 ACK 0\n9 STA" {
+        half.write_all(&[*byte])?;
+    }
+    half.shutdown(Shutdown::Write)?;
+    let answered = gives(&mut half, b"7 STATE 0 NORM 0 - -\n8 NO 2\n")?;
+    let ended = half.read(&mut [0_u8; 1])? == 0;
+    let mut console = connect(rt, port)?;
+    let served = asks(&mut console, b"3 STATE 0\n", b"3 STATE 0 NORM 0 - -\n")?;
+    Ok(answered && ended && served)
+}
+
+#[test]
+fn clients_that_mean_no_good(rt: HostRuntime) -> Result<(), Fail> {
+    let port = 20_400;
+    let disk = worked_disk(rt.alloc())?.ok_or("format")?;
+    let clients = thread::spawn(&rt, move || hostile_clients(&rt, port))?;
+    let mut output = Vec::new(rt.alloc());
+    let served = serve_run(&rt, rt.alloc(), disk, port, 3, &mut output);
+    assert!(rt; served == Ok(0));
+    assert_eq!(rt; output.as_slice(), b"serving 20400\nstopped 0\n".as_slice());
+    assert!(rt; clients.join(&rt)?);
+    Ok(())
+}

@@ -1,0 +1,13 @@
+//! Laws of turns: each function does nothing, and its contract is the law.
+
+ghost use Rattle.std.specs.Prelude.{ℕ, ◌+◌};
+ghost use Rattle.alm_model.specs.Plant.{Condensed};
+ghost use Rattle.alm_turn.specs.Ended.{IsFresh, IsFinished, IsAnswered};
+ghost use Rattle.alm_turn.specs.Turns.{IsTurn, Side};
+
+/// What single turns do, they do one after the other; and of a connection that was new and has ended, each line was answered, and what
+/// was written is the replies in the order of the lines.
+pub fn turns_answer_all_lines()
+    ensures join { (base : Condensed) (m n : ℕ) (a b c : Side) → IsTurn base m a b → IsTurn base n b c → IsTurn base (m + n) a c }
+    ensures ended { (base : Condensed) (n : ℕ) (a b : Side) → IsTurn base n a b → IsFresh a → IsFinished b → IsAnswered base a b }
+{}
