@@ -3,8 +3,8 @@
 ghost use Rattle.std.specs.Process.{exit_status};
 ghost use Rattle.alm_program.specs.Faults.{IsEnd};
 
-use crate::tcp_server::TcpServer;
-use alm_program::run_program;
+use crate::serving::serve_file;
+use alm_program::{Fault, end_of, run_words};
 use std::env::Env;
 use std::fs::{File, Files};
 use std::io;
@@ -12,6 +12,16 @@ use std::net::Net;
 use std::process::ExitCode;
 use std::sync::Wait;
 use std::thread::Threads;
+
+/// Does what the process's words ask.
+fn run<R: Input + Print + Env + Files<File = File> + Net + Threads + Wait + Sync + AllocGlobal>(
+    rt: &R,
+) -> Result<(), Fault> {
+    match run_words(rt)? {
+        Some(order) => serve_file(rt, order.device.as_str(), order.port, order.conns),
+        None => Ok(()),
+    }
+}
 
 /// Does what the process's words ask, over its standard streams, its files and its ports: status 0, or one line to `errors` and the
 /// status of the fault.
@@ -21,5 +31,5 @@ pub fn run_in_process<
 >(rt: &R, errors: &mut E) -> ExitCode
     ensures { IsEnd (E.contents errors.old) (E.contents errors.new) (exit_status result) }
 {
-    run_program(rt, &TcpServer { rt }, errors)
+    end_of(run(rt), errors)
 }

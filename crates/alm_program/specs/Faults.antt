@@ -1,5 +1,5 @@
 -- What the program says of a fault.
-use Rattle.std.specs.Prelude.{◌≡◌, ℕ, List, [], ◌∷◌, ◌++◌, Option, Some, None, codes, decimal, string_bytes, nat_lt, ◌==◌, ◌||◌, if◌then◌else◌, ◌⊎◌}
+use Rattle.std.specs.Prelude.{◌≡◌, ℕ, List, [], ◌∷◌, ◌++◌, Option, Some, None, Result, Ok, Err, codes, decimal, string_bytes, nat_lt, ◌==◌, ◌||◌, if◌then◌else◌, ◌⊎◌}
 use Rattle.std.specs.List.{flat_map}
 use Rattle.std.specs.Io.KnownBytes.{Appends}
 use Rattle.alm_lines.specs.Written.{IsCutShort}
@@ -89,12 +89,15 @@ status_of Unformatted = 2
 status_of (Damaged half at) = 2
 status_of _ = 3
 
--- the program ends with a fault: its status, and its line or a front of it where that can't be written
-pub record IsFaulty (old new : Option (List ℕ)) (status : ℕ) : Type 0 where
-  pub fault : Fault
-  pub status_is : status ≡ status_of fault
-  pub told : Appends old new (line_of fault) ⊎ IsCutShort old new (line_of fault)
+-- the line, or a front of it where it can't be written
+abbrev pub IsTold : Option (List ℕ) → Option (List ℕ) → Fault → Type 0
+IsTold old new fault = Appends old new (line_of fault) ⊎ IsCutShort old new (line_of fault)
 
--- the program ends: with status 0 and no line, or with a fault
+-- how the program ends by what it came to: with status 0 and no line, or with the status and the line of the fault
+abbrev pub EndsBy : Result Unit Fault → Option (List ℕ) → Option (List ℕ) → ℕ → Type 0
+EndsBy (Ok _) old new status = (status ≡ 0) × (new ≡ old)
+EndsBy (Err fault) old new status = (status ≡ status_of fault) × IsTold old new fault
+
+-- .. whatever it came to
 abbrev pub IsEnd : Option (List ℕ) → Option (List ℕ) → ℕ → Type 0
-IsEnd old new status = ((status ≡ 0) × (new ≡ old)) ⊎ IsFaulty old new status
+IsEnd old new status = ((status ≡ 0) × (new ≡ old)) ⊎ ((fault : Fault) × (status ≡ status_of fault) × IsTold old new fault)

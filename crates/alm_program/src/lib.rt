@@ -6,7 +6,7 @@
 //! | `desk DEVICE` | the same over a formatted device |
 //! | `format DEVICE TABLE` | makes the file of a device, and formats it for a table file |
 //! | `show DEVICE` | prints the plant that a device stands for |
-//! | `serve DEVICE --port P [--conns N]` | has a [`Server`] serve the slots of a formatted device at 18 ports |
+//! | `serve DEVICE --port P [--conns N]` | a [`ServeOrder`], for a server of the slots of a formatted device at 18 ports |
 //!
 //! Every other word, and a request for help, is wrong usage.
 //!
@@ -19,7 +19,7 @@
 //! | of the device later | 3 | `fault stopped` |
 //! | of memory, files, streams, ports | 3 | `fault memory`, `fault io`, `fault net` |
 //!
-//! What is used above: [`run_program`] ends with status 0 and no line, or with the status and the line of one fault.
+//! What is used above: [`end_of`] ends with status 0 and no line, or with the status and the line of the fault.
 //!
 //! Not promised: what a file holds. That which words give which job, and which cause which fault, is tested.
 #![tactic(auto)]
@@ -31,11 +31,11 @@ mod file_stack;
 mod formatting;
 mod io_faults;
 mod program;
-mod server;
+mod serve_order;
 mod showing;
 
 pub use fault::Fault;
 pub use fault_line::print_fault;
 pub use io_faults::io_fault;
-pub use program::run_program;
-pub use server::Server;
+pub use program::{end_of, run_words};
+pub use serve_order::ServeOrder;

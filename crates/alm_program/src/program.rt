@@ -1,13 +1,13 @@
 //! The program, from its words to its status.
 
 ghost use Rattle.std.specs.Process.{exit_status};
-ghost use Rattle.alm_program.specs.Faults.{IsEnd};
+ghost use Rattle.alm_program.specs.Faults.{EndsBy};
 
 use crate::desk::{run_desk, run_device_desk};
 use crate::fault::Fault;
 use crate::fault_line::print_fault;
 use crate::formatting::run_format;
-use crate::server::Server;
+use crate::serve_order::ServeOrder;
 use crate::showing::run_show;
 use alm_words::{Job, job_of};
 use std::env::{self, Env};
@@ -24,34 +24,37 @@ fn words_of<R: Env + AllocGlobal>(rt: &R) -> Result<Vec<String>, Fault> {
     }
 }
 
-/// Does what the words ask.
-fn run<R: Input + Print + Env + Files<File = File> + AllocGlobal, S: Server>(
+/// Does what the words ask of files and standard streams. Where they ask for a server, nothing is done, and the answer is what they ask.
+pub fn run_words<R: Input + Print + Env + Files<File = File> + AllocGlobal>(
     rt: &R,
-    server: &S,
-) -> Result<(), Fault> {
+) -> Result<Option<ServeOrder>, Fault> {
     let words = words_of(rt)?;
     match job_of(rt.alloc(), words.as_slice())? {
-        Job::Desk(None) => run_desk(rt),
-        Job::Desk(Some(device)) => run_device_desk(rt, device),
-        Job::Format { device, table } => run_format(rt, device, table),
-        Job::Show(device) => run_show(rt, device),
+        Job::Desk(None) => run_desk(rt)?,
+        Job::Desk(Some(device)) => run_device_desk(rt, device)?,
+        Job::Format { device, table } => run_format(rt, device, table)?,
+        Job::Show(device) => run_show(rt, device)?,
         Job::Serve {
             device,
             port,
             conns,
-        } => server.serve(device, port, conns),
+        } => {
+            let device = String::from_str(rt.alloc(), device)?;
+            return Ok(Some(ServeOrder {
+                device,
+                port,
+                conns,
+            }));
+        }
     }
+    Ok(None)
 }
 
-/// Does what the program's words ask: status 0, or one line to `errors` and the status of the fault.
-pub fn run_program<
-    R: Input + Print + Env + Files<File = File> + AllocGlobal,
-    S: Server,
-    E: io::Write,
->(rt: &R, server: &S, errors: &mut E) -> ExitCode
-    ensures { IsEnd (E.contents errors.old) (E.contents errors.new) (exit_status result) }
+/// The end of the program: status 0 and no line, or one line to `errors` and the status of the fault.
+pub fn end_of<E: io::Write>(answer: Result<(), Fault>, errors: &mut E) -> ExitCode
+    ensures { EndsBy answer (E.contents errors.old) (E.contents errors.new) (exit_status result) }
 {
-    match run(rt, server) {
+    match answer {
         Ok(()) => ExitCode::SUCCESS,
         Err(fault) => {
             let _ = print_fault(&fault, errors);

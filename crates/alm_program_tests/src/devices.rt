@@ -1,9 +1,8 @@
 //! The program over devices, in files of the tests' own folder.
 
+use crate::local::run_local;
 use crate::process::Process;
 use crate::script::{Script, Step};
-use crate::told_server::ToldServer;
-use alm_program::run_program;
 use std::fs;
 use std::test::Fail;
 
@@ -65,7 +64,7 @@ fn ends(rt: &HostRuntime, words: &[u8], input: &[u8], wanted: (&str, &[u8], &[u8
     let steps = [Step::Gives(input)];
     let process = Process::new(rt, words, Script::new(&steps), 10_000);
     let mut errors = Vec::new(rt.alloc());
-    let status = run_program(&process, &ToldServer::new(), &mut errors);
+    let status = run_local(&process, &mut errors);
     let printed = process.into_printed();
     let Ok(status) = format!(in rt.alloc(); "{status:?}") else {
         return false;

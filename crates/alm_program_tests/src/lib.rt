@@ -5,6 +5,8 @@
 #[cfg(test)]
 mod devices;
 #[cfg(test)]
+mod local;
+#[cfg(test)]
 mod process;
 #[cfg(test)]
 mod reading;
@@ -14,5 +16,3 @@ mod running;
 mod script;
 #[cfg(test)]
 mod serving;
-#[cfg(test)]
-mod told_server;

@@ -1,9 +1,8 @@
 //! The program from its words to its status.
 
+use crate::local::run_local;
 use crate::process::Process;
 use crate::script::{Script, Step};
-use crate::told_server::ToldServer;
-use alm_program::run_program;
 use std::alloc::Global;
 use std::test::Fail;
 
@@ -18,7 +17,7 @@ struct Outcome {
 /// Runs the program over a process.
 fn run(alloc: Global, process: Process<'_>) -> Result<Outcome, Fail> {
     let mut errors = Vec::new(alloc);
-    let status = run_program(&process, &ToldServer::new(), &mut errors);
+    let status = run_local(&process, &mut errors);
     Ok(Outcome {
         status: format!(in alloc; "{status:?}")?,
         printed: process.into_printed(),

@@ -1,14 +1,13 @@
-//! What a server is told.
+//! What a server is asked.
 
 use crate::process::Process;
 use crate::script::Script;
-use crate::told_server::ToldServer;
-use alm_program::run_program;
+use alm_program::{Fault, run_words};
 use std::test::Fail;
 
 #[test]
-fn a_server_is_told_its_port_and_its_connections(rt: HostRuntime) -> Result<(), Fail> {
-    let told = [
+fn a_server_is_asked_for_its_port_and_its_connections(rt: HostRuntime) -> Result<(), Fail> {
+    let asked = [
         (
             b"alm_server\nserve\nd\n--port\n1024\n".as_slice(),
             Some((1024, 0)),
@@ -31,19 +30,18 @@ fn a_server_is_told_its_port_and_its_connections(rt: HostRuntime) -> Result<(), 
         (b"alm_server\nserve\nd\n", None),
         (b"alm_server\nserve\n--port\n5000\n", None),
     ];
-    for (words, wanted) in told {
+    for (words, wanted) in asked {
         let process = Process::new(&rt, words, Script::new(&[]), 100);
-        let server = ToldServer::new();
-        let mut errors = Vec::new(rt.alloc());
-        let status = run_program(&process, &server, &mut errors);
-        let status = format!(in rt.alloc(); "{status:?}")?;
-        assert!(rt; server.told.get() == wanted);
-        if wanted.is_some() {
-            assert_eq!(rt; status.as_str(), "ExitCode(unix_exit_status(3))");
-            assert_eq!(rt; errors.as_slice(), b"fault net\n".as_slice());
-        } else {
-            assert_eq!(rt; status.as_str(), "ExitCode(unix_exit_status(1))");
-            assert_eq!(rt; errors.as_slice(), b"fault usage\n".as_slice());
+        match run_words(&process) {
+            Ok(Some(order)) => {
+                assert_eq!(rt; order.device.as_str(), "d");
+                assert!(rt; wanted == Some((order.port, order.conns)));
+            }
+            Ok(None) => return Err("no server".into()),
+            Err(fault) => {
+                assert!(rt; wanted.is_none());
+                assert!(rt; fault == Fault::Usage);
+            }
         }
     }
     Ok(())
