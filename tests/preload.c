@@ -90,6 +90,12 @@ __attribute__((destructor)) static void end(void) {
     syscall(SYS_close, file);
 }
 
+/* A program with threads ends so. */
+void _exit(int status) {
+    end();
+    for (;;) syscall(SYS_exit_group, status);
+}
+
 /* Whether this call, which is counted, is the one that shall fail. */
 static bool is_wanted(enum call call) {
     begin();

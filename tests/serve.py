@@ -6,7 +6,7 @@
 Clients on several ports ask one request after another, each behind the answer to its last. At a drawn call on the device's file
 the call fails, the process is killed or the power fails. Then the server has ended with the status of its fault line; the device
 holds each action that was answered, at the number that the answer named, and of those without an answer what may have
-come before or behind; and a server over it goes on. Lines of a grammar that breaks itself (lines.py) are sent to a port in pieces that end
+come before or behind; and a server over it goes on. Each request for memory is refused in turn. Lines of a grammar that breaks itself (lines.py) are sent to a port in pieces that end
 anywhere; the replies fit the second reading of the lines.
 """
 import itertools
@@ -24,18 +24,21 @@ import lines as grammar
 from program import PLANT, Fault, Wrong, begin, check, ends, finish, preload, run_words, state
 
 SLOTS = (0, 5, 16, 17)
+FEW = [(b"1 SHELVE 0 60", b"1 OK 1\n"), (b"2 LIST P 1", b"2 LIST 1 0\n"), (b"3 OOS 1 ON", b"3 OK 2\n"), (b"4 LIST A 0", b"4 LIST 2 0\n"),
+       (b"5 CHATTER", b"5 CHATTER 2 0\n")]
 KINDS = ["eio", "enospc", "kill", "old", "new", "zeros", "a5", "ff", "alternating", "mixed"]
 
 
 class Server:
     """A server over a device."""
 
-    def __init__(self, program, device, port, loaded=None):
+    def __init__(self, program, device, port, loaded=None, words=()):
         self.port = port
         self.process = subprocess.Popen(
-            [program, "serve", device, "--port", str(port)], stdout=subprocess.PIPE, stderr=subprocess.PIPE,
+            [program, "serve", device, "--port", str(port), *words], stdout=subprocess.PIPE, stderr=subprocess.PIPE,
             env={**os.environ, **(loaded or {})})
         self.serves = self.process.stdout.readline() == f"serving {port}\n".encode()
+        self.errors = b"" if self.serves else self.process.communicate()[1]
 
     def connect(self, slot):
         one = socket.create_connection(("127.0.0.1", self.port + slot), timeout=20)
@@ -43,9 +46,18 @@ class Server:
         return one
 
     def end(self):
-        """Kills it where it runs."""
-        self.process.kill()
-        return self.process.communicate()
+        """What it said at its end; it is killed where it runs."""
+        if self.serves:
+            self.process.kill()
+            self.errors = self.process.communicate()[1]
+        return self.errors
+
+    def wait(self):
+        """What it printed behind its first line, once it has ended."""
+        if not self.serves:
+            return b""
+        printed, self.errors = self.process.communicate(timeout=20)
+        return printed
 
 
 class Client(threading.Thread):
@@ -107,16 +119,12 @@ class Serving:
         self.fresh = os.path.join(folder, "fresh")
         check(run_words(program, ["format", self.fresh, PLANT]).returncode == 0, "format")
 
-    def start(self, device, loaded=None):
+    def start(self, device, loaded=None, words=()):
         """A server, at ports that are free."""
         for _ in range(20):
             self.port = 20_000 + (self.port - 20_000 + 18) % 40_000
-            server = Server(self.program, device, self.port, loaded)
-            if server.serves:
-                return server
-            said = server.process.communicate()[1]
-            if said != b"fault net\n":
-                server.process.returncode = server.process.wait()
+            server = Server(self.program, device, self.port, loaded, words)
+            if server.serves or server.errors != b"fault net\n":
                 return server
         raise Wrong("no ports")
 
@@ -139,7 +147,7 @@ class Serving:
             client.join()
         if server.process.poll() is None:
             time.sleep(0.05)
-        _, said = server.end()
+        said = server.end()
         if not fault.kills and server.process.returncode != -9:
             check(said in (b"fault stopped\n", b"fault disk\n", b"fault io\n") and server.process.returncode == 3, fault.text, server.process.returncode, said)
         self.judge(device, fault, clients)
@@ -163,6 +171,53 @@ class Serving:
         for seed in range(rounds):
             kind = KINDS[seed % len(KINDS)]
             self.one_fault(Fault(self.library, "device", dice.randrange(3, 260), kind, seed), seed, 40)
+
+    def refusals(self, step):
+        """Each request for memory of a served connection refused in turn. How many there were."""
+        made = self.one_refusal(None)
+        for at in range(1, made + 1, step):
+            self.one_refusal(Fault(self.library, "memory", at, "enospc"))
+        return len(range(1, made + 1, step))
+
+    def one_refusal(self, fault):
+        """A connection, and its end; without a fault, how often memory is asked for."""
+        device, counts = os.path.join(self.folder, "device"), os.path.join(self.folder, "counts")
+        shutil.copyfile(self.fresh, device)
+        loaded = fault.loaded if fault else {"LD_PRELOAD": self.library, "ALM_COUNTS": counts}
+        server = self.start(device, loaded, ["--conns", "1"])
+        said = self.ask_few(server) if server.serves else []
+        out = server.wait()
+        errors, status = server.errors, server.process.returncode
+        if fault is None:
+            check(status == 0 and errors == b"" and len(said) == len(FEW), status, errors, said)
+            with open(counts, encoding="ascii") as file:
+                return int(dict(line.split() for line in file)["memory"])
+        check((status, errors) in ((0, b""), (3, b"fault memory\n"), (3, b"fault stopped\n")), fault.text, status, errors)
+        check(status != 0 or (out == b"stopped 2\n" and len(said) == len(FEW)), fault.text, out, said)
+        for (line, wanted), reply in zip(FEW, said):
+            check(reply == wanted or reply == line.split()[0] + b" NO 16\n", fault.text, line, reply)
+        check(state(self.program, device) in self.after_few(), fault.text, "another state")
+        return 0
+
+    def ask_few(self, server):
+        """The replies to a few lines, as far as they come."""
+        said = []
+        try:
+            with server.connect(0) as one, one.makefile("rb") as replies:
+                for line, _ in FEW:
+                    one.sendall(line + b"\n")
+                    reply = replies.readline()
+                    if not reply.endswith(b"\n"):
+                        break
+                    said.append(reply)
+        except OSError:
+            pass
+        return said
+
+    def after_few(self):
+        """What the device may stand for behind them: each number of their actions."""
+        actions = [f"0 {line.decode()}\n" for line, wanted in FEW if b" OK " in wanted]
+        return [self.replay(actions[:count]) for count in range(len(actions) + 1)]
 
     def cut_lines(self, seed, count):
         """Lines of one slot, in pieces that end anywhere. How many there were."""
@@ -201,10 +256,12 @@ def main():
     try:
         serving = Serving(program, folder)
         serving.faults(rounds)
+        refused = serving.refusals(1 if rounds > 100 else 5)
         lines = sum(serving.cut_lines(seed, 5_000) for seed in range(rounds // 15))
     except Wrong as wrong:
         sys.exit(f"serve: {wrong}; devices are in {folder}")
-    finish("serve", folder, f"{rounds} faults, kills and power cuts, {lines} lines in pieces, none wrong, {time.monotonic() - started:.0f} s")
+    finish("serve", folder, f"{rounds} faults, kills and power cuts, {refused} refused requests for memory, {lines} lines in pieces, none wrong, {time.monotonic() - started:.0f} s")
 
 
-main()
+if __name__ == "__main__":
+    main()
