@@ -23,7 +23,7 @@ fn worked_disk(alloc: Global) -> Result<Option<MemDisk>, AllocError> {
 
 /// The feed raises an alarm, and a console acknowledges it.
 fn two_clients(rt: &HostRuntime, port: u16) -> io::Result<bool> {
-    let mut feed = connect(rt, port + 16)?;
+    let mut feed = connect(rt, port.saturating_add(16))?;
     let raised = asks(&mut feed, b"1 VAL 0 800\n", b"1 OK 1\n")?;
     drop(feed);
     let mut console = connect(rt, port)?;
@@ -78,18 +78,18 @@ fn a_device_that_is_not_formatted(rt: HostRuntime) -> Result<(), Fail> {
 /// A client that stalls within a line, one that never reads, one that is gone with requests unanswered, and one that sends a byte at a
 /// time and closes half: the last two end, and another slot is served beside them.
 fn hostile_clients(rt: &HostRuntime, port: u16) -> io::Result<bool> {
-    let mut stalled = connect(rt, port + 1)?;
+    let mut stalled = connect(rt, port.saturating_add(1))?;
     stalled.write_all(b"1 STA")?;
-    let mut deaf = connect(rt, port + 2)?;
+    let mut deaf = connect(rt, port.saturating_add(2))?;
     for _line in 0..2000_u32 {
         deaf.write_all(b"1 LIST P 1\n")?;
     }
-    let mut gone = connect(rt, port + 3)?;
+    let mut gone = connect(rt, port.saturating_add(3))?;
     for _line in 0..100_u32 {
         gone.write_all(b"1 ACK 0\n")?;
     }
     drop(gone);
-    let mut half = connect(rt, port + 3)?;
+    let mut half = connect(rt, port.saturating_add(3))?;
     for byte in b"7 STATE 0\n8 ACK 0\n9 STA" {
         half.write_all(&[*byte])?;
     }
