@@ -8,17 +8,41 @@ use alm_keeper::Phase;
 use alm_model::Alarms;
 use alm_plant::Plant;
 use alm_rings::SlotReport;
-use alm_run::{Source, Storage};
+use alm_run::Storage;
 use alm_shared::{Front, Naming, NewHistory, SharedBoard, SharedLook};
 use alm_store::Store;
 use alm_threads::{Parts, RunReport, WatchedLook, parts_of, run_threads};
 use alm_types::Slot;
-use std::alloc::{AllocError, Global};
+use std::alloc::Global;
 use std::marker::Brand;
 use std::sync::Wait;
 use std::thread::Threads;
 
-use crate::caller::Caller;
+use crate::player::Player;
+
+/// What is left of a run.
+#[derive(Drop)]
+pub struct Left<D: Drop> {
+    pub storage: Storage,
+    /// How many actions are stored.
+    pub count: u64,
+    pub slots: Vec<Option<SlotReport>>,
+    pub disk: D,
+}
+
+fn left_of<K: Store>(report: RunReport<K>) -> Left<K::Device> {
+    let RunReport {
+        keeper,
+        storage,
+        slots,
+    } = report;
+    Left {
+        storage,
+        count: keeper.count(),
+        slots,
+        disk: keeper.into_device(),
+    }
+}
 
 /// Runs these sources. `None` where memory is short or no thread can be made.
 fn run_parts<
@@ -33,7 +57,7 @@ fn run_parts<
     alloc: Global,
     parts: Parts<Front<J>, WatchedLook<'h, SharedLook<J, P>, H>, SharedBoard<J, P>, K>,
     hold: &'h H,
-    sources: Vec<Caller>,
+    sources: Vec<Player>,
 ) -> Option<RunReport<K>>
     requires { length sources.items ≡ length parts.slots.items }
 {
@@ -48,7 +72,7 @@ fn run_over<J: Naming + Send + Sync, K: Store, H: Hold + Sync, R: Threads + Wait
     store: K,
     slots: Vec<Slot>,
     hold: &H,
-    sources: Vec<Caller>,
+    sources: Vec<Player>,
 ) -> Option<RunReport<K>>
     requires book { history.seen.book ≡ J.book }
     requires base { K.stored store ≡ J.base }
@@ -74,8 +98,8 @@ pub fn run_on<K: Store, H: Hold + Sync, R: Threads + Wait + Sync>(
     disk: K::Device,
     slots: Vec<Slot>,
     hold: &H,
-    sources: Vec<Caller>,
-) -> Option<RunReport<K>>
+    sources: Vec<Player>,
+) -> Option<Left<K::Device>>
     requires some { (0 < length slots.items) × (length slots.items < 2 ^ 32) }
     requires apart { AreApart (λ s. s) slots.items }
     requires sources { length sources.items ≡ length slots.items }
@@ -83,7 +107,8 @@ pub fn run_on<K: Store, H: Hold + Sync, R: Threads + Wait + Sync>(
     match K::open(alloc, disk) {
         Ok(store) => {
             let history = NewHistory::new();
-            run_over::<Brand, K, H, R>(rt, alloc, history, store, slots, hold, sources)
+            let report = run_over::<Brand, K, H, R>(rt, alloc, history, store, slots, hold, sources)?;
+            Some(left_of(report))
         }
         Err(_) => None,
     }

@@ -2,13 +2,25 @@
 //!
 //! | file | has |
 //! |---|---|
-//! | [`drawn`] | the drawn requests |
+//! | [`caller`] | a source that sends drawn requests, of [`drawn`] |
+//! | [`script`] | a source that plays steps, one after another |
+//! | [`player`] | either |
 //! | [`notes`] | what the sources note while they run |
-//! | [`caller`], [`feed`], [`operator`] | sources |
+//! | [`gate`] | a hold that a look and a take of another slot open |
 //! | [`course`] | one run, from a device to what is left of it |
+//! | [`folds`] | the plant of what was accepted |
+//!
+//! They are proved with the crate itself; the rest are tests.
 #![tactic(auto)]
 
 pub mod caller;
 pub mod course;
 pub mod drawn;
+pub mod folds;
+pub mod gate;
 pub mod notes;
+pub mod player;
+pub mod script;
+
+#[cfg(test)]
+mod runs;
