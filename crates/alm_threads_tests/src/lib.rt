@@ -6,6 +6,7 @@
 //! | [`script`] | a source that plays steps, one after another |
 //! | [`player`] | either |
 //! | [`notes`] | what the sources note while they run |
+//! | [`crews`], [`devices`] | slots with their callers, and devices |
 //! | [`gate`] | a hold that a look and a take of another slot open |
 //! | [`course`] | one run, from a device to what is left of it |
 //! | [`folds`] | the plant of what was accepted |
@@ -15,6 +16,8 @@
 
 pub mod caller;
 pub mod course;
+pub mod crews;
+pub mod devices;
 pub mod drawn;
 pub mod folds;
 pub mod gate;
@@ -22,5 +25,9 @@ pub mod notes;
 pub mod player;
 pub mod script;
 
+#[cfg(test)]
+mod faults;
+#[cfg(test)]
+mod rows;
 #[cfg(test)]
 mod runs;
