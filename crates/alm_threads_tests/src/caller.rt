@@ -48,7 +48,8 @@ impl Caller {
             if action != drawn(self.slot, receipt.serial) || receipt.number == self.told {
                 self.notes.is_wrong();
             }
-            self.notes.is_accepted(self.slot, receipt.serial, receipt.number);
+            self.notes
+                .is_accepted(self.slot, receipt.serial, receipt.number);
         }
         self.told = receipt.number;
         self.notes.is_told(receipt.number);

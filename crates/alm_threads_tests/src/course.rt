@@ -3,6 +3,7 @@
 ghost use Rattle.std.specs.Prelude.{◌≡◌, ◌<◌, ◌≤◌, ◌^◌, IfOk, IfSome, length};
 ghost use Rattle.alm_rings.specs.Placed.{AreApart};
 
+use crate::player::Player;
 use alm_disk::Hold;
 use alm_keeper::Phase;
 use alm_model::Alarms;
@@ -17,8 +18,6 @@ use std::alloc::Global;
 use std::marker::Brand;
 use std::sync::Wait;
 use std::thread::Threads;
-
-use crate::player::Player;
 
 /// What is left of a run.
 #[derive(Drop)]
@@ -107,7 +106,9 @@ pub fn run_on<K: Store, H: Hold + Sync, R: Threads + Wait + Sync>(
     match K::open(alloc, disk) {
         Ok(store) => {
             let history = NewHistory::new();
-            let report = run_over::<Brand, K, H, R>(rt, alloc, history, store, slots, hold, sources)?;
+            let report = run_over::<Brand, K, H, R>(
+                rt, alloc, history, store, slots, hold, sources,
+            )?;
             Some(left_of(report))
         }
         Err(_) => None,

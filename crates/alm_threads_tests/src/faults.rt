@@ -1,8 +1,5 @@
 //! Devices that fail.
 
-ghost use Rattle.std.specs.Prelude.{◌<◌, ◌^◌, length};
-ghost use Rattle.alm_rings.specs.Placed.{AreApart};
-
 use crate::course::{Left, run_on};
 use crate::crews::{all_slots, callers};
 use crate::devices::formatted;
@@ -14,9 +11,8 @@ use alm_run::Storage;
 use alm_service::worked_table;
 use alm_types::Slot;
 use std::alloc::Global;
-use std::sync::Arc;
 use std::sync::atomic::Ordering;
-use std::sync::Wait;
+use std::sync::{Arc, Wait};
 use std::test::Fail;
 use std::thread::Threads;
 
@@ -36,24 +32,22 @@ struct Found {
     is_fold: bool,
 }
 
-/// Runs these slots over a device that fails its call of a number.
+/// Runs 18 sources, or one of them, over a device that fails its call of a number. `None` where memory is short, no thread can be made
+/// or the device isn't opened again.
 fn run_failing<R: Threads + Wait + Sync>(
     rt: &R,
     alloc: Global,
-    slots: Vec<Slot>,
+    only: Option<Slot>,
     call: u64,
-    alone: Option<Slot>,
-) -> Option<Found>
-    requires some { (0 < length slots.items) × (length slots.items < 2 ^ 32) }
-    requires apart { AreApart (λ s. s) slots.items }
-{
+) -> Option<Found> {
+    let slots = all_slots(alloc).ok()?;
     let table = worked_table(alloc).ok()?;
     let notes = Arc::new(alloc, Notes::new(alloc, 18_000).ok()?).ok()?;
-    let sources = callers(alloc, &slots, EACH, &notes).ok()?;
+    let sources = callers(alloc, &slots, only, EACH, &notes).ok()?;
     let disk = OnceDisk::new(formatted(alloc, &table)?, call);
     let left = run_on::<Keeper<OnceDisk<MemDisk>>, _, _>(rt, alloc, disk, slots, &Free, sources)?;
     let Left { storage, disk, .. } = left;
-    let accepted = match alone {
+    let accepted = match only {
         Some(slot) => Accepted::Alone(slot),
         None => Accepted::Noted(&notes),
     };
@@ -67,15 +61,18 @@ fn run_failing<R: Threads + Wait + Sync>(
     })
 }
 
-/// The calls that fail: an opening makes fewer, and a run of a thousand requests of a slot more.
-const CALLS: [u64; 8] = [17, 18, 19, 20, 41, 66, 89, 130];
+/// The calls that fail. An opening makes six, and a run more than sixty.
+const CALLS: [u64; 9] = [7, 8, 9, 10, 11, 22, 33, 44, 55];
 
 #[test]
 fn what_was_answered_is_kept_where_a_call_fails(rt: HostRuntime) -> Result<(), Fail> {
     for call in CALLS {
-        let slots = all_slots(rt.alloc())?;
-        let found = run_failing(&rt, rt.alloc(), slots, call, None).ok_or("run")?;
-        assert_eq!(rt; (found.storage, found.wrong), (Storage::Stopped, 0), "call {call}");
+        let found = run_failing(&rt, rt.alloc(), None, call).ok_or("run")?;
+        assert_eq!(rt;
+            (found.storage, found.wrong),
+            (Storage::Stopped, 0),
+            "call {call}"
+        );
         assert!(rt; found.told <= found.count, "call {call}");
     }
     Ok(())
@@ -85,9 +82,12 @@ fn what_was_answered_is_kept_where_a_call_fails(rt: HostRuntime) -> Result<(), F
 fn a_front_of_what_was_accepted_is_kept_where_a_call_fails(rt: HostRuntime) -> Result<(), Fail> {
     let feed = Slot::new(16).ok_or("slot")?;
     for call in CALLS {
-        let slots = [feed].to_vec(rt.alloc())?;
-        let found = run_failing(&rt, rt.alloc(), slots, call, Some(feed)).ok_or("run")?;
-        assert_eq!(rt; (found.storage, found.wrong), (Storage::Stopped, 0), "call {call}");
+        let found = run_failing(&rt, rt.alloc(), Some(feed), call).ok_or("run")?;
+        assert_eq!(rt;
+            (found.storage, found.wrong),
+            (Storage::Stopped, 0),
+            "call {call}"
+        );
         assert!(rt; found.told <= found.count, "call {call}");
         assert!(rt; found.is_fold, "call {call}");
     }

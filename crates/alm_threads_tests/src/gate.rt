@@ -22,11 +22,11 @@ pub struct Gate {
 }
 
 impl Gate {
-    /// One that nothing has passed.
-    pub fn new() -> Self {
+    /// One that nothing has passed, and that holds, where it is to.
+    pub fn new(is_held: bool) -> Self {
         Gate {
+            begun: AtomicBool::new(!is_held),
             first: AtomicU64::new(0),
-            begun: AtomicBool::new(false),
             takes: AtomicU64::new(0),
             looks: AtomicU64::new(0),
             late: AtomicU64::new(0),
@@ -85,7 +85,8 @@ impl Hold for Gate {
 
     fn taken(&self, slot: Slot) {
         if self.first.load(Ordering::SeqCst) == 0 {
-            self.first.store(u64::from(slot.number()) + 1, Ordering::SeqCst);
+            self.first
+                .store(u64::from(slot.number()) + 1, Ordering::SeqCst);
         } else if self.is_other(slot) {
             self.takes.fetch_add(1, Ordering::SeqCst);
         }

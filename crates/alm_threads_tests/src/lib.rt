@@ -19,15 +19,14 @@ pub mod course;
 pub mod crews;
 pub mod devices;
 pub mod drawn;
+#[cfg(test)]
+mod faults;
 pub mod folds;
 pub mod gate;
 pub mod notes;
 pub mod player;
-pub mod script;
-
-#[cfg(test)]
-mod faults;
 #[cfg(test)]
 mod rows;
 #[cfg(test)]
 mod runs;
+pub mod script;

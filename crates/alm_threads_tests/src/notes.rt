@@ -46,7 +46,9 @@ impl Notes {
 
     /// A slot's request of a serial was accepted under a number: wrong where another was.
     pub fn is_accepted(&self, slot: Slot, serial: u64, number: u64) {
-        let request = serial.wrapping_mul(18).wrapping_add(u64::from(slot.number()));
+        let request = serial
+            .wrapping_mul(18)
+            .wrapping_add(u64::from(slot.number()));
         match self.place(number) {
             Some(place) => {
                 if place.swap(request, Ordering::SeqCst) != 0 {

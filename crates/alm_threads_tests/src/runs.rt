@@ -31,7 +31,7 @@ fn eighteen_sources_are_answered_in_order_and_all_is_kept(rt: HostRuntime) -> Re
     let table = worked_table(alloc)?;
     let notes = Arc::new(alloc, Notes::new(alloc, 36_000)?)?;
     let slots = all_slots(alloc)?;
-    let sources = callers(alloc, &slots, EACH, &notes)?;
+    let sources = callers(alloc, &slots, None, EACH, &notes)?;
     let disk = formatted(alloc, &table).ok_or("format")?;
     let left = run_on::<Keeper<MemDisk>, _, _>(&rt, alloc, disk, slots, &Free, sources);
     let Left {

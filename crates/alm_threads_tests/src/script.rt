@@ -127,7 +127,10 @@ ghost use Rattle.alm_rings.specs.Ends.{SameConsole};
 impl<T: Told + Drop, L: FreeLook<Told = T>> Source<T, L> for Script {
     fn turn(&mut self, console: &mut Console<T>, look: &mut L) -> Go {
         for place in self.place..self.steps.len() {
-            let step = self.steps[place];
+            let Some(step) = self.steps.get(place) else {
+                return Go::End;
+            };
+            let step = *step;
             if !self.plays(console, look, step) {
                 if place == self.place {
                     return self.rest();
