@@ -95,8 +95,7 @@ fn a_look_shows_what_the_receipt_told(rt: HostRuntime) -> Result<(), Fail> {
 fn others_go_on_while_a_sync_is_held(rt: HostRuntime) -> Result<(), Fail> {
     let second = Moment::new(1000).ok_or("moment")?;
     let steps = [
-        (17, Step::Send(Action::Clock(second))),
-        (17, Step::Linger),
+        (17, Step::SendAndLinger(Action::Clock(second))),
         (0, Step::AwaitGate),
         (0, Step::Send(Action::Ack(AlarmId(0)))),
         (0, Step::See(AlarmId(0), Shown::Normal)),

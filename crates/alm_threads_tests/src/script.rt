@@ -25,11 +25,11 @@ pub enum Step {
     See(AlarmId, Shown),
     /// Rests until the gate has begun to hold.
     AwaitGate,
-    /// Stays in this turn until another slot has looked.
-    Linger,
+    /// Sends, and stays in that turn until another slot has looked.
+    SendAndLinger(Action),
 }
 
-/// Plays its steps, as many in a turn as can be played, and notes what is wrong: a step that can't be played for long, and a look that is
+/// Plays a step a turn, and notes what is wrong: a step that can't be played for long, and a look that is
 /// refused or shows something else.
 #[derive(Drop)]
 pub struct Script {
@@ -104,9 +104,10 @@ impl Script {
                 true
             }
             Step::AwaitGate => self.gate.has_begun(),
-            Step::Linger => {
+            Step::SendAndLinger(action) => {
+                let is_sent = console.send(action).is_ok();
                 self.gate.linger();
-                true
+                is_sent
             }
         }
     }
@@ -126,20 +127,15 @@ ghost use Rattle.alm_rings.specs.Ends.{SameConsole};
 
 impl<T: Told + Drop, L: FreeLook<Told = T>> Source<T, L> for Script {
     fn turn(&mut self, console: &mut Console<T>, look: &mut L) -> Go {
-        for place in self.place..self.steps.len() {
-            let Some(step) = self.steps.get(place) else {
-                return Go::End;
-            };
-            let step = *step;
-            if !self.plays(console, look, step) {
-                if place == self.place {
-                    return self.rest();
-                }
-                self.place = place;
-                self.rests = 0;
-                return Go::Go;
-            }
+        let Some(step) = self.steps.get(self.place) else {
+            return Go::End;
+        };
+        let step = *step;
+        if !self.plays(console, look, step) {
+            return self.rest();
         }
-        Go::End
+        self.place = self.place.saturating_add(1);
+        self.rests = 0;
+        Go::Go
     }
 }
