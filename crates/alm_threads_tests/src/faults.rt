@@ -40,7 +40,9 @@ fn run_failing<R: Threads + Wait + Sync>(
     only: Option<Slot>,
     call: u64,
 ) -> Option<Found> {
-    let slots = all_slots(alloc).ok()?;
+    let Ok(slots) = all_slots(alloc) else {
+        return None;
+    };
     let table = worked_table(alloc).ok()?;
     let notes = Arc::new(alloc, Notes::new(alloc, 18_000).ok()?).ok()?;
     let sources = callers(alloc, &slots, only, EACH, &notes).ok()?;

@@ -47,7 +47,9 @@ fn play<R: Threads + Wait + Sync>(
     let table = worked_table(alloc).ok()?;
     let notes = Arc::new(alloc, Notes::new(alloc, 0).ok()?).ok()?;
     let gate = Arc::new(alloc, Gate::new(is_held)).ok()?;
-    let slots = all_slots(alloc).ok()?;
+    let Ok(slots) = all_slots(alloc) else {
+        return None;
+    };
     let sources = scripts(alloc, &slots, steps, &gate, &notes).ok()?;
     let disk = HeldDisk::new(formatted(alloc, &table)?, Arc::try_clone(&gate).ok()?);
     let left = run_on::<Keeper<HeldDisk<MemDisk, Arc<Gate, Global>>>, _, _>(
