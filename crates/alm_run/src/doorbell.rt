@@ -13,10 +13,10 @@ const YIELDS: u32 = 64;
 /// How long it sleeps at most, in milliseconds.
 const NAP: u64 = 100;
 
-/// A bell that one thread sleeps by. It is rung by a load alone while that thread is awake.
+/// A bell that one thread sleeps by. It is rung by a load alone while that thread is busy.
 #[derive(Drop)]
 pub struct Doorbell {
-    // The thread is about to sleep, and has still to look once more.
+    // The thread sleeps, or looks a last time before it does.
     listens: AtomicBool,
     parker: Parker,
 }
@@ -39,13 +39,13 @@ impl Bell for Doorbell {
         }
     }
 
-    // What comes once it listens is found by the look before the sleep, or rings.
+    // What comes once it listens is found by the look before the sleep, or rings. A sleep that nobody ended leaves it listening: it
+    // looks once, and sleeps again.
     fn wait<R: Wait>(&self, rt: &R, idle: u32) {
         if idle < YIELDS {
             thread::yield_now();
         } else if self.listens.load(Ordering::SeqCst) {
             self.parker.park_timeout(rt, Duration::from_millis(NAP));
-            self.listens.store(false, Ordering::SeqCst);
         } else {
             self.listens.store(true, Ordering::SeqCst);
         }

@@ -123,8 +123,9 @@ pub fn flush<K: Store, T: Told + Drop, B: Board<Told = T> + Publish<R>, E: Bell 
                 continue;
             }
             Pass::Empty => {
-                flags.out.store(false, Ordering::SeqCst);
-                flags.sequencer.ring();
+                if flags.out.swap(false, Ordering::SeqCst) {
+                    flags.sequencer.ring();
+                }
                 if last {
                     break;
                 }

@@ -7,7 +7,7 @@
 //! | the flusher's | [`run_flusher`]: commits, publishes and releases | where nothing more was to be sealed before a fetch that gave nothing; at a failure of the device; after 1,000 refused publishes in a row |
 //!
 //! [`Flags`] are hints, each read before the step that it bounds. A thread that has nothing to do looks again some 64 times, and then sleeps by
-//! its [`Bell`]: whoever has something for it rings, and it wakes by itself every 100 milliseconds.
+//! its [`Bell`]: whoever has something for it rings, and every 100 milliseconds it looks once by itself.
 //!
 //! What is used above: each thread gives back the ends that it was given, so that whoever joins them all has both ends of each ring
 //! again and may close the slots; a sequencer and a flusher are made in their threads, and what their types say holds throughout. Where the

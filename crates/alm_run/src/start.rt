@@ -78,7 +78,10 @@ where
 {
     let mut handles = match Vec::with_capacity(alloc, chairs.len()) {
         Ok(handles) => handles,
-        Err(_) => return Err(StartFault::OutOfMemory),
+        Err(_) => {
+            flags.stop_all();
+            return Err(StartFault::OutOfMemory);
+        }
     };
     for chair in chairs {
         match start_one(scope, rt, flags, chair) {

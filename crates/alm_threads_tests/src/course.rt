@@ -1,0 +1,116 @@
+//! One run, from a device to what is left of it.
+
+ghost use Rattle.std.specs.Prelude.{◌≡◌, ◌<◌, ◌≤◌, ◌^◌, IfOk, IfSome, length};
+ghost use Rattle.alm_rings.specs.Placed.{AreApart};
+
+use crate::player::Player;
+use alm_disk::Hold;
+use alm_keeper::Phase;
+use alm_model::Alarms;
+use alm_plant::Plant;
+use alm_rings::SlotReport;
+use alm_run::Storage;
+use alm_shared::{Front, Naming, NewHistory, SharedBoard, SharedLook};
+use alm_store::Store;
+use alm_threads::{Parts, RunReport, WatchedLook, parts_of, run_threads};
+use alm_types::Slot;
+use std::alloc::Global;
+use std::marker::Brand;
+use std::sync::Wait;
+use std::thread::Threads;
+
+/// What is left of a run.
+#[derive(Drop)]
+pub struct Left<D: Drop> {
+    pub storage: Storage,
+    /// How many actions are stored.
+    pub count: u64,
+    pub slots: Vec<Option<SlotReport>>,
+    pub disk: D,
+}
+
+fn left_of<K: Store>(report: RunReport<K>) -> Left<K::Device> {
+    let RunReport {
+        keeper,
+        storage,
+        slots,
+    } = report;
+    Left {
+        storage,
+        count: keeper.count(),
+        slots,
+        disk: keeper.into_device(),
+    }
+}
+
+/// Runs these sources. `None` where memory is short or no thread can be made.
+fn run_parts<
+    'h,
+    J: Naming + Send + Sync,
+    P: Alarms + Drop + Send + Sync,
+    K: Store,
+    H: Hold + Sync,
+    R: Threads + Wait + Sync,
+>(
+    rt: &R,
+    alloc: Global,
+    parts: Parts<Front<J>, WatchedLook<'h, SharedLook<J, P>, H>, SharedBoard<J, P>, K>,
+    hold: &'h H,
+    sources: Vec<Player>,
+) -> Option<RunReport<K>>
+    requires { length sources.items ≡ length parts.slots.items }
+{
+    run_threads(rt, alloc, parts, hold, sources).ok()
+}
+
+/// Runs these sources over a store. `None` where memory is short or no thread can be made.
+fn run_over<J: Naming + Send + Sync, K: Store, H: Hold + Sync, R: Threads + Wait + Sync>(
+    rt: &R,
+    alloc: Global,
+    history: NewHistory,
+    store: K,
+    slots: Vec<Slot>,
+    hold: &H,
+    sources: Vec<Player>,
+) -> Option<RunReport<K>>
+    requires book { history.seen.book ≡ J.book }
+    requires base { K.stored store ≡ J.base }
+    requires idle { K.phase store ≡ Phase.Idle }
+    requires limit { (K.stored store).panel.count ≤ 2 ^ 48 }
+    requires some { (0 < length slots.items) × (length slots.items < 2 ^ 32) }
+    requires apart { AreApart (λ s. s) slots.items }
+    requires sources { length sources.items ≡ length slots.items }
+{
+    match parts_of::<J, K, H, R>(rt, alloc, history, store, slots, hold) {
+        Ok(parts) => run_parts::<J, Plant, K, H, R>(rt, alloc, parts, hold, sources),
+        Err(store) => {
+            drop(store);
+            None
+        }
+    }
+}
+
+/// Opens a device and runs these sources over it. `None` where it isn't opened, memory is short or no thread can be made.
+pub fn run_on<K: Store, H: Hold + Sync, R: Threads + Wait + Sync>(
+    rt: &R,
+    alloc: Global,
+    disk: K::Device,
+    slots: Vec<Slot>,
+    hold: &H,
+    sources: Vec<Player>,
+) -> Option<Left<K::Device>>
+    requires some { (0 < length slots.items) × (length slots.items < 2 ^ 32) }
+    requires apart { AreApart (λ s. s) slots.items }
+    requires sources { length sources.items ≡ length slots.items }
+{
+    match K::open(alloc, disk) {
+        Ok(store) => {
+            let history = NewHistory::new();
+            let report = run_over::<Brand, K, H, R>(
+                rt, alloc, history, store, slots, hold, sources,
+            )?;
+            Some(left_of(report))
+        }
+        Err(_) => None,
+    }
+}

@@ -1,0 +1,84 @@
+//! The plant of what was accepted.
+
+use crate::drawn::drawn;
+use crate::notes::Notes;
+use alm_model::{Alarms, PlainPlant};
+use alm_store::Store;
+use alm_types::{AlarmId, Request, Slot, Table};
+use std::alloc::Global;
+
+/// No slot sends more.
+const MOST: u64 = 100_000;
+
+/// The plant of the first so many requests that were accepted, in the order of their numbers, each drawn again. `None` where one isn't noted
+/// or isn't accepted now, or memory is short.
+fn folded<P: Alarms + Drop>(alloc: Global, table: &Table, notes: &Notes, count: u64) -> Option<P> {
+    let mut plant = P::new(alloc, table).ok()?;
+    for number in 0..count {
+        let (slot, serial) = notes.accepted(number + 1)?;
+        let want = drawn(slot, serial);
+        match plant.check(&Request { slot, want }) {
+            Ok(action) => plant.apply(&action),
+            Err(_) => return None,
+        }
+    }
+    Some(plant)
+}
+
+/// Whether two plants have the same alarms, clock and counts.
+fn are_same<P: Alarms, Q: Alarms>(one: &P, other: &Q) -> bool {
+    if one.alarms() != other.alarms() || one.count() != other.count() || one.now() != other.now() {
+        return false;
+    }
+    for id in 0..one.alarms() {
+        let alarm = AlarmId(id as u32);
+        if one.state(alarm) != other.state(alarm) || one.moments(alarm) != other.moments(alarm) {
+            return false;
+        }
+    }
+    one.next_stamp() == other.next_stamp()
+}
+
+/// The plant of the first so many requests of a slot that are accepted, where it alone sends.
+fn foretold<P: Alarms + Drop>(alloc: Global, table: &Table, slot: Slot, count: u64) -> Option<P> {
+    let mut plant = P::new(alloc, table).ok()?;
+    for before in 0..MOST {
+        if plant.count() == count {
+            return Some(plant);
+        }
+        let want = drawn(slot, before + 1);
+        if let Ok(action) = plant.check(&Request { slot, want }) {
+            plant.apply(&action);
+        }
+    }
+    None
+}
+
+/// Which requests were accepted, in the order of their numbers.
+#[derive(Clone, Copy)]
+pub enum Accepted<'n> {
+    /// Those that were noted.
+    Noted(&'n Notes),
+    /// Those of one slot that can be.
+    Alone(Slot),
+}
+
+/// How many actions a device stands for, and whether it is the plant of as many that were accepted. `None` where it isn't opened.
+pub fn reopened<K: Store>(
+    alloc: Global,
+    disk: K::Device,
+    table: &Table,
+    accepted: Accepted<'_>,
+) -> Option<(u64, bool)> {
+    let store = K::open(alloc, disk).ok()?;
+    let count = store.count();
+    let wanted = match accepted {
+        Accepted::Noted(notes) => folded::<PlainPlant>(alloc, table, notes, count),
+        Accepted::Alone(slot) => foretold::<PlainPlant>(alloc, table, slot, count),
+    };
+    let is_fold = match wanted {
+        Some(plant) => are_same(store.stored(), &plant),
+        None => false,
+    };
+    Some((count, is_fold))
+}

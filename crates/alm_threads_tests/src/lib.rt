@@ -1,0 +1,32 @@
+//! Runs of the server's threads over devices in memory: what no clause says of them.
+//!
+//! | file | has |
+//! |---|---|
+//! | [`caller`] | a source that sends drawn requests, of [`drawn`] |
+//! | [`script`] | a source that plays steps, one after another |
+//! | [`player`] | either |
+//! | [`notes`] | what the sources note while they run |
+//! | [`crews`], [`devices`] | slots with their callers, and devices |
+//! | [`gate`] | a hold that a look and a take of another slot open |
+//! | [`course`] | one run, from a device to what is left of it |
+//! | [`folds`] | the plant of what was accepted |
+//!
+//! They are proved with the crate itself; the rest are tests.
+#![tactic(auto)]
+
+pub mod caller;
+pub mod course;
+pub mod crews;
+pub mod devices;
+pub mod drawn;
+#[cfg(test)]
+mod faults;
+pub mod folds;
+pub mod gate;
+pub mod notes;
+pub mod player;
+#[cfg(test)]
+mod rows;
+#[cfg(test)]
+mod runs;
+pub mod script;
