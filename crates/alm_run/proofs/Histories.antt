@@ -1,9 +1,8 @@
 -- Fronts of what a flusher fetched.
-use Rattle.std.proofs.Common.{◌≡◌, ◌∙◌, List, [], ◌∷◌, ◌++◌, refl, sym, ap, take, drop}
-use Rattle.std.proofs.lemmas.List.{append-nil, append_assoc, take-append-drop}
+use Rattle.std.proofs.Common.{◌≡◌, ◌∙◌, List, [], ◌++◌, refl, sym, ap, drop}
+use Rattle.std.proofs.lemmas.List.{append_assoc, take-append-drop}
 use mathlib.Core.List.{IsPrefix}
 use Rattle.alm_types.specs.Batches.{Judged}
-use Rattle.alm_types.specs.declared.entry.Entry.{Entry}
 use Rattle.alm_model.specs.Judging.{entries_in}
 use Rattle.alm_model.proofs.Legal.{entries_append}
 use Rattle.alm_flusher.specs.HeldBatch.{batches_of, stored_of, told_of}

@@ -1,13 +1,12 @@
 -- What came back from the threads is tied as before, and is one run.
-use Rattle.std.proofs.Common.{◌≡◌, ◌∙◌, ◌++◌, ℕ, zero, suc, List, [], ◌∷◌, length, map, Option, Some, None, slice_get, refl, sym, ap, subst, arith, rules, append_assoc}
-use Rattle.std.specs.Prelude.{IsSome, is_some}
-use Rattle.std.proofs.lemmas.Option.{none-some, same_Some, slice_get_within}
+use Rattle.std.proofs.Common.{◌≡◌, ◌∙◌, ◌++◌, ℕ, zero, suc, List, [], ◌∷◌, length, map, Option, Some, None, slice_get, refl, sym, ap, subst, rules, append_assoc}
+use Rattle.std.specs.Prelude.{IsSome}
+use Rattle.std.proofs.lemmas.Option.{none-some, same_Some}
 use mathlib.Core.List.{IsPrefix}
 use Rattle.rtrb.specs.Ring.{IsPair}
 use Rattle.alm_types.specs.Batches.{Judged as Batch}
-use Rattle.alm_types.specs.declared.action.Action.{Action}
 use Rattle.alm_types.specs.declared.entry.Entry.{Entry}
-use Rattle.alm_model.specs.Judging.{entries_in, of_slot, wants_of}
+use Rattle.alm_model.specs.Judging.{entries_in, wants_of}
 use Rattle.alm_model.proofs.Legal.{entries_append}
 use Rattle.alm_rings.specs.declared.console.Console.{Console}
 use Rattle.alm_rings.specs.declared.inbox.Inbox.{Inbox}
@@ -20,7 +19,6 @@ use Rattle.alm_flusher.specs.Replies.{replies_in, replies_to}
 use Rattle.alm_run.specs.Same.{AllSame}
 use Rattle.alm_run.proofs.Serves.{some_still}
 use Rattle.alm_threads.specs.Slots.{AreTied}
-use Rattle.alm_threads.proofs.Opened.{there}
 
 -- where a number stands in a list of numbers, its element stands
 pub stands_at : {A : Type 0} (number : A → ℕ) (xs : List A) (numbers : List ℕ) (k s : ℕ) → map number xs ≡ numbers → slice_get numbers k ≡ Some s → (x : A) × ((slice_get xs k ≡ Some x) × (number x ≡ s))

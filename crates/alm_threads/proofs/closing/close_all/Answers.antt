@@ -1,5 +1,5 @@
-use Rattle.std.proofs.Common.{◌≡◌, ◌≢◌, ◌≤◌, ◌∙◌, ◌^◌, ◌-◌, ◌++◌, ◌∷◌, [], ℕ, length, Option, Some, None, slice_get, inl, inr, refl, sym, ap, subst, rules, arith, length-append, append_assoc}
-use Rattle.std.specs.Prelude.{IsSome, IfSome, min}
+use Rattle.std.proofs.Common.{◌≡◌, ◌∙◌, ◌^◌, ◌-◌, ◌++◌, ◌∷◌, [], length, Option, Some, None, slice_get, inl, inr, sym, ap, subst, rules, arith, length-append, append_assoc}
+use Rattle.std.specs.Prelude.{IfSome, min}
 use Rattle.std.specs.Vec.Iter.{into_iter_items}
 use Rattle.alm_rings.specs.declared.console.Console.{Console}
 use Rattle.alm_rings.specs.declared.inbox.Inbox.{Inbox}
@@ -9,7 +9,7 @@ use Rattle.alm_rings.specs.Ends.{sent_of, received_of, taken_of, released_of}
 use Rattle.alm_rings.specs.Placed.{inbox_at, outbox_at, taken_in, released_in}
 use Rattle.alm_rings.proofs.Ordered.{push_cases}
 use Rattle.alm_rings.proofs.Slots.{place_of}
-use Rattle.alm_threads.proofs.Closed.{here, before, others, prefix_length, is_there, there_is, min_le, later}
+use Rattle.alm_threads.proofs.Closed.{here, before, others, prefix_length, is_there, there_is, later}
 use Rattle.alm_threads.proofs.closing.close_all.Goals as goal
 
 pub close_slot-requires : goal.close_slot-requires

@@ -1,4 +1,4 @@
-use Rattle.std.proofs.Common.{rules, ◌≡◌, ◌<◌, ◌∷◌, ℕ, [], length, slice_get, Some, None, inl, inr, ap, sym, subst, ◌∙◌, arith, length-append, refl}
+use Rattle.std.proofs.Common.{rules, ◌≡◌, ◌∷◌, ℕ, [], length, slice_get, Some, inl, inr, ap, sym, subst, ◌∙◌, arith, length-append, refl}
 use Rattle.std.specs.Prelude.{is_some}
 use Rattle.std.proofs.lemmas.Option.{slice_get_within, slice_get_read, same_Some}
 use Rattle.rtrb.specs.Ring.{IsPair}
