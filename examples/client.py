@@ -1,39 +1,39 @@
 #!/usr/bin/env python3
-"""A client of the desk: starts `./alm_server desk`, asks it through a pipe and reads its replies, after docs/PROTOCOL.md.
+"""A client of the alarm server, after docs/PROTOCOL.md: it asks for some actions and shows what came of them.
 
-    python3 examples/client.py
+    examples/client.py              starts `./alm_server desk`, and asks it through a pipe
+    examples/client.py --port P     asks a server, `./alm_server serve DEVICE --port P`
 """
+import argparse
 import itertools
 import pathlib
+import socket
 import subprocess
+import time
 
 PROGRAM = pathlib.Path(__file__).resolve().parent.parent / "alm_server"
 CONSOLE, FEED, CLOCK = 0, 16, 17
 
 
 class Refused(Exception):
-    """The desk answered NO; the argument is the number of the refusal."""
+    """The answer was NO; the argument is the number of the refusal."""
 
 
-class Desk:
-    """A desk: one request at a time, each answered before the next."""
+class Client:
+    """One request at a time, each answered before the next. How a line goes out and its reply comes is a subclass's `exchange`."""
 
     def __init__(self):
-        pipe = subprocess.PIPE
-        self.process = subprocess.Popen([PROGRAM, "desk"], stdin=pipe, stdout=pipe, encoding="ascii")
         self.ids = itertools.count(1)
 
     def ask(self, slot, request):
-        """Asks at a slot; returns the words of the reply behind its slot and id."""
-        asked = f"{slot} {next(self.ids)}"
-        self.process.stdin.write(f"{asked} {request}\n")
-        self.process.stdin.flush()
-        reply = self.process.stdout.readline().split()
-        if reply[:2] != asked.split():
-            raise ConnectionError(f"no reply to {asked} {request}: {reply}")
-        if reply[2] == "NO":
-            raise Refused(int(reply[3]))
-        return reply[2:]
+        """Asks at a slot; returns the words of the reply behind its id."""
+        number = str(next(self.ids))
+        reply = self.exchange(slot, f"{number} {request}").split()
+        if reply[:1] != [number]:
+            raise ConnectionError(f"no reply to {number} {request}: {reply}")
+        if reply[1] == "NO":
+            raise Refused(int(reply[2]))
+        return reply[1:]
 
     def act(self, slot, request):
         """Asks for an action; returns its number."""
@@ -50,26 +50,76 @@ class Desk:
         _word, _count, _length, *alarms = self.ask(CONSOLE, query)
         return [int(alarm) for alarm in alarms]
 
+
+class Desk(Client):
+    """A desk of this client's own: each line begins with its slot, and so does each reply."""
+
+    def __init__(self):
+        super().__init__()
+        pipe = subprocess.PIPE
+        self.process = subprocess.Popen([PROGRAM, "desk"], stdin=pipe, stdout=pipe, encoding="ascii")
+
+    def exchange(self, slot, line):
+        self.process.stdin.write(f"{slot} {line}\n")
+        self.process.stdin.flush()
+        answered, _, reply = self.process.stdout.readline().partition(" ")
+        return reply if answered == str(slot) else ""
+
     def end(self):
         """Ends the input; returns the program's status."""
         self.process.stdin.close()
         return self.process.wait()
 
 
-def main():
-    desk = Desk()
-    desk.act(CLOCK, "CLOCK 1000")
-    desk.act(FEED, "VAL 0 812")
-    print("alarm 0:", *desk.state(0))
-    print("priority 1:", *desk.alarms("LIST P 1"))
-    print("acknowledged as action", desk.act(CONSOLE, "ACK 0"))
+class Server(Client):
+    """A server: a connection to the port of each slot that is asked at."""
+
+    def __init__(self, port):
+        super().__init__()
+        self.port, self.streams = port, {}
+
+    def exchange(self, slot, line):
+        if slot not in self.streams:
+            connection = socket.create_connection(("127.0.0.1", self.port + slot))
+            connection.setsockopt(socket.IPPROTO_TCP, socket.TCP_NODELAY, 1)
+            self.streams[slot] = connection.makefile("rw", encoding="ascii", newline="\n")
+        stream = self.streams[slot]
+        stream.write(line + "\n")
+        stream.flush()
+        return stream.readline()
+
+    def end(self):
+        """Ends the connections; the server goes on."""
+        for stream in self.streams.values():
+            stream.close()
+        return 0
+
+
+def bring(client, request):
+    """A value that may change nothing: the alarm may stand so already."""
     try:
-        desk.act(CONSOLE, "ACK 0")
+        client.act(FEED, request)
+    except Refused as refusal:
+        print(request, "refused by", refusal)
+
+
+def main():
+    words = argparse.ArgumentParser(description="A client of the alarm server.")
+    words.add_argument("--port", type=int, help="the port of slot 0; without it a desk is started")
+    port = words.parse_args().port
+    client = Desk() if port is None else Server(port)
+    client.act(CLOCK, f"CLOCK {int(time.time())}")
+    bring(client, "VAL 0 812")
+    print("alarm 0:", *client.state(0))
+    print("priority 1:", *client.alarms("LIST P 1"))
+    print("acknowledged as action", client.act(CONSOLE, "ACK 0"))
+    try:
+        client.act(CONSOLE, "ACK 0")
     except Refused as refusal:
         print("acknowledged again: refused by", refusal)
-    desk.act(FEED, "VAL 0 789")
-    print("alarm 0:", *desk.state(0))
-    print("status", desk.end())
+    bring(client, "VAL 0 789")
+    print("alarm 0:", *client.state(0))
+    print("status", client.end())
 
 
 if __name__ == "__main__":
