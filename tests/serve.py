@@ -3,11 +3,12 @@
 
     tests/serve.py PROGRAM [--short]
 
-Clients on several ports ask one request after another, each behind the answer to its last. At a drawn call on the device's file
-the call fails, the process is killed or the power fails. Then the server has ended with the status of its fault line; the device
-holds each action that was answered, at the number that the answer named, and of those without an answer what may have
-come before or behind; and a server over it goes on. Each request for memory is refused in turn. Lines of a grammar that breaks itself (lines.py) are sent to a port in pieces that end
-anywhere; the replies fit the second reading of the lines.
+Clients on all ports ask one request after another, each behind the answer to its last; the device then stands for the accepted
+actions in the order of their numbers. Then some do so while at a drawn call on the device's file the call fails, the process is killed or
+the power fails: the server has ended with the status of its fault line, and the device holds each action that was answered, at the
+number that the answer named, and of those without an answer what may have come before or behind. Each request for memory is refused in
+turn. Lines of a grammar that breaks itself (lines.py) are sent to a port in pieces that end anywhere; the replies fit the second
+reading of the lines.
 """
 import itertools
 import os
@@ -172,6 +173,26 @@ class Serving:
             kind = KINDS[seed % len(KINDS)]
             self.one_fault(Fault(self.library, "device", dice.randrange(3, 260), kind, seed), seed, 40)
 
+    def whole(self, count):
+        """Clients at all slots, and nothing fails: the device stands for what was accepted, in the order of its numbers. Nobody else opens it
+        meanwhile."""
+        device = os.path.join(self.folder, "device")
+        shutil.copyfile(self.fresh, device)
+        server = self.start(device)
+        for words in (["show", device], ["desk", device], ["serve", device, "--port", "1024"]):
+            run = run_words(self.program, words)
+            check(run.returncode == 3 and run.stderr == b"fault io\n", words, "of a served device", run.stderr)
+        clients = [Client(server, slot, slot, count) for slot in range(18)]
+        for client in clients:
+            client.start()
+        for client in clients:
+            client.join()
+        server.end()
+        known, doubts = accepted_of(clients)
+        check(not doubts and sorted(known) == list(range(1, len(known) + 1)), "numbers are missing")
+        check(self.replay([known[number] for number in sorted(known)]) == state(self.program, device), "the device stands for something else")
+        return len(known)
+
     def refusals(self, step):
         """Each request for memory of a served connection refused in turn. How many there were."""
         made = self.one_refusal(None)
@@ -255,12 +276,13 @@ def main():
     started = time.monotonic()
     try:
         serving = Serving(program, folder)
+        accepted = serving.whole(rounds)
         serving.faults(rounds)
         refused = serving.refusals(1 if rounds > 100 else 5)
         lines = sum(serving.cut_lines(seed, 5_000) for seed in range(rounds // 15))
     except Wrong as wrong:
         sys.exit(f"serve: {wrong}; devices are in {folder}")
-    finish("serve", folder, f"{rounds} faults, kills and power cuts, {refused} refused requests for memory, {lines} lines in pieces, none wrong, {time.monotonic() - started:.0f} s")
+    finish("serve", folder, f"{accepted} actions of 18 slots, {rounds} faults, kills and power cuts, {refused} refused requests for memory, {lines} lines in pieces, none wrong, {time.monotonic() - started:.0f} s")
 
 
 if __name__ == "__main__":
