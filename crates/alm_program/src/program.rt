@@ -1,7 +1,7 @@
 //! The program, from its words to its status.
 
 ghost use Rattle.std.specs.Process.{exit_status};
-ghost use Rattle.alm_program.specs.Faults.{EndsBy};
+ghost use Rattle.alm_program.specs.Faults.{EndsBy, IsEnd};
 
 use crate::desk::{run_desk, run_device_desk};
 use crate::fault::Fault;
@@ -61,4 +61,24 @@ pub fn end_of<E: io::Write>(answer: Result<(), Fault>, errors: &mut E) -> ExitCo
             ExitCode::from(fault.status())
         }
     }
+}
+
+/// Does what the words ask; words that ask for a server are wrong usage.
+fn run_alone<R: Input + Print + Env + Files<File = File> + AllocGlobal>(
+    rt: &R,
+) -> Result<(), Fault> {
+    match run_words(rt)? {
+        None => Ok(()),
+        Some(_) => Err(Fault::Usage),
+    }
+}
+
+/// The program without a server, over the process's standard streams and files.
+pub fn run_local<R: Input + Print + Env + Files<File = File> + AllocGlobal, E: io::Write>(
+    rt: &R,
+    errors: &mut E,
+) -> ExitCode
+    ensures { IsEnd (E.contents errors.old) (E.contents errors.new) (exit_status result) }
+{
+    end_of(run_alone(rt), errors)
 }

@@ -1,8 +1,8 @@
 //! The program over devices, in files of the tests' own folder.
 
-use crate::local::run_local;
 use crate::process::Process;
 use crate::script::{Script, Step};
+use alm_program::run_local;
 use std::fs;
 use std::test::Fail;
 

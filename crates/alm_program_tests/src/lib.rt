@@ -5,8 +5,6 @@
 #[cfg(test)]
 mod devices;
 #[cfg(test)]
-mod local;
-#[cfg(test)]
 mod process;
 #[cfg(test)]
 mod reading;

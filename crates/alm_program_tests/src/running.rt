@@ -1,8 +1,8 @@
 //! The program from its words to its status.
 
-use crate::local::run_local;
 use crate::process::Process;
 use crate::script::{Script, Step};
+use alm_program::run_local;
 use std::alloc::Global;
 use std::test::Fail;
 

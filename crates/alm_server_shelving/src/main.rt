@@ -2,9 +2,9 @@
 //! those replies.
 #![tactic(auto)]
 
-use alm_host::run_in_process;
+use alm_program::run_local;
 use std::process::ExitCode;
 
 fn main(rt: HostRuntime) -> ExitCode {
-    run_in_process(&rt, &mut rt.stderr())
+    run_local(&rt, &mut rt.stderr())
 }
