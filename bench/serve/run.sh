@@ -49,15 +49,16 @@ ticks() { awk '{ print $14 + $15 }' "/proc/$server/stat"; }
 
 note() { echo "$who $*" >>"$folder/figures"; }
 
-# 18 clients with so many lines each and so many out: requests a second, actions a batch, commits.
+# 18 clients with so many lines each and so many out: requests a second, the processor's time for each, commits.
 load() {
-    local before after seconds requests accepted
-    before=$(syncs)
+    local before from after to seconds requests accepted
+    before=$(syncs) from=$(ticks)
     read -r seconds requests accepted <<<"$("$folder/client" "$port" load "$2" "$3" "$4")"
-    after=$(syncs)
+    after=$(syncs) to=$(ticks)
     local commits=$(((after - before) / 2))
     note "$1_requests_a_second" "$(echo "$requests / $seconds" | bc)"
     [ "$accepted" = "$requests" ]
+    note "$1_cpu_us_a_request" "$(echo "scale=1; ($to - $from) * 1000000 / $(getconf CLK_TCK) / $requests" | bc)"
     note "$1_commits" "$commits"
     note "$1_actions_a_batch" "$(echo "scale=1; $accepted / $commits" | bc)"
 }
