@@ -22,8 +22,9 @@ const LISTENER: Token = Token(0);
 
 const STREAM: Token = Token(1);
 
-/// How many turns in a row find nothing, and only let others run, before the bell is to wake the thread: some 50 microseconds.
-const TURNS: u32 = 64;
+/// How many turns in a row find nothing, and only let others run, before the bell is to wake the thread: a few microseconds. More of them
+/// cost a processor what they save in waking, as soon as a sync takes its time.
+const TURNS: u32 = 8;
 
 /// How long a poll takes at most, in milliseconds.
 const NAP: u64 = 1000;
