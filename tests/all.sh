@@ -1,6 +1,6 @@
 #!/usr/bin/env bash
 # What proofs leave to tests, at the built program: faults, kills and power cuts at each call, refused memory, damaged devices,
-# drawn lines. A line of summary each; the first that finds something wrong ends it. With --short it takes half a minute.
+# drawn lines. A line of summary each; the first that finds something wrong ends it. With --short it takes a minute.
 set -eu
 top=$(cd "$(dirname "$0")/.." && pwd)
 program=$top/crates/alm_server/out/alm_server

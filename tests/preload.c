@@ -3,10 +3,11 @@
  *     ALM_FAULT=CALL:N:KIND[:SEED]   at the N-th CALL, from 1
  *     ALM_COUNTS=FILE                at the end of the program: how often each call was made, a line each
  *
- * CALL is pwrite, pread, fdatasync, fsync, ftruncate, openat or memory (each request for it), or device: any of pwrite,
- * pread, fdatasync. KIND is
+ * CALL is pwrite, pread, fdatasync, fsync, ftruncate, openat, memory (each request for it), thread (each that is started), or
+ * device: any of pwrite, pread, fdatasync. KIND is
  *
- *     eio, enospc   the call does nothing and fails so (of memory: it is refused)
+ *     eio, enospc   the call does nothing and fails so (of memory or a thread: it is refused)
+ *     from          this request for memory and all behind it are refused
  *     short         a write or read of half the bytes, where it has more than one
  *     kill          the process is killed before the call
  *     old new zeros a5 ff alternating mixed
@@ -19,6 +20,7 @@
 #include <dlfcn.h>
 #include <errno.h>
 #include <fcntl.h>
+#include <pthread.h>
 #include <signal.h>
 #include <stdarg.h>
 #include <stdbool.h>
@@ -30,9 +32,9 @@
 #include <sys/types.h>
 #include <unistd.h>
 
-enum call { PWRITE, PREAD, FDATASYNC, FSYNC, FTRUNCATE, OPENAT, MEMORY, DEVICE, CALLS };
+enum call { PWRITE, PREAD, FDATASYNC, FSYNC, FTRUNCATE, OPENAT, MEMORY, THREAD, DEVICE, CALLS };
 
-static const char *const names[CALLS] = {"pwrite", "pread", "fdatasync", "fsync", "ftruncate", "openat", "memory", "device"};
+static const char *const names[CALLS] = {"pwrite", "pread", "fdatasync", "fsync", "ftruncate", "openat", "memory", "thread", "device"};
 
 struct pending {
     struct pending *next;
@@ -100,7 +102,7 @@ void _exit(int status) {
 static bool is_wanted(enum call call) {
     begin();
     unsigned long nth = __atomic_add_fetch(&made[call], 1, __ATOMIC_SEQ_CST);
-    bool hit = call == wanted && nth == wanted_at;
+    bool hit = call == wanted && (nth == wanted_at || (nth > wanted_at && !strcmp(kind, "from")));
     if (call == PWRITE || call == PREAD || call == FDATASYNC) {
         nth = __atomic_add_fetch(&made[DEVICE], 1, __ATOMIC_SEQ_CST);
         hit = hit || (wanted == DEVICE && nth == wanted_at);
@@ -262,4 +264,11 @@ int posix_memalign(void **into, size_t align, size_t length) {
     if (is_refused()) return ENOMEM;
     *into = __libc_memalign(align, length);
     return *into ? 0 : ENOMEM;
+}
+
+int pthread_create(pthread_t *thread, const pthread_attr_t *attr, void *(*run)(void *), void *word) {
+    static int (*real)(pthread_t *, const pthread_attr_t *, void *(*)(void *), void *);
+    if (is_wanted(THREAD)) return EAGAIN;
+    if (!real) real = dlsym(RTLD_NEXT, "pthread_create");
+    return real(thread, attr, run, word);
 }

@@ -49,7 +49,7 @@ class Fault:
 
     def __init__(self, library, call, at, kind, seed=0):
         self.text, self.kind = f"{call}:{at}:{kind}:{seed}", kind
-        self.kills = kind not in ("eio", "enospc", "short")
+        self.kills = kind not in ("eio", "enospc", "short", "from")
         self.loaded = {"LD_PRELOAD": library, "ALM_FAULT": self.text}
 
 

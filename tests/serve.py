@@ -4,10 +4,10 @@
     tests/serve.py PROGRAM [--short]
 
 Clients on all ports ask one request after another, each behind the answer to its last; the device then stands for the accepted
-actions in the order of their numbers. Then some do so while at a drawn call on the device's file the call fails, the process is killed or
-the power fails: the server has ended with the status of its fault line, and the device holds each action that was answered, at the
-number that the answer named, and of those without an answer what may have come before or behind. Each request for memory is refused in
-turn. Lines of a grammar that breaks itself (lines.py) are sent to a port in pieces that end anywhere; the replies fit the second
+actions in the order of their numbers. Then some do so while at each call on the device's file in turn the call fails, the process is killed
+or the power fails, or while from a request on there is no more memory: the server has ended with the status of its fault line, and
+the device holds each action that was answered, at the number that the answer named, and of those without an answer what may have come
+before or behind. Each request for memory, and each thread, is refused in turn. Lines of a grammar that breaks itself (lines.py) are sent to a port in pieces that end anywhere; the replies fit the second
 reading of the lines.
 """
 import itertools
@@ -27,6 +27,7 @@ from program import PLANT, Fault, Wrong, begin, check, ends, finish, preload, ru
 SLOTS = (0, 5, 16, 17)
 FEW = [(b"1 SHELVE 0 60", b"1 OK 1\n"), (b"2 LIST P 1", b"2 LIST 1 0\n"), (b"3 OOS 1 ON", b"3 OK 2\n"), (b"4 LIST A 0", b"4 LIST 2 0\n"),
        (b"5 CHATTER", b"5 CHATTER 2 0\n")]
+STOPS = (b"fault stopped\n", b"fault disk\n", b"fault io\n")
 KINDS = ["eio", "enospc", "kill", "old", "new", "zeros", "a5", "ff", "alternating", "mixed"]
 
 
@@ -137,7 +138,7 @@ class Serving:
         check(run.returncode == 0, "desk", run.stderr)
         return state(self.program, device)
 
-    def one_fault(self, fault, seed, count):
+    def one_fault(self, fault, seed, count, told=STOPS):
         device = os.path.join(self.folder, "device")
         shutil.copyfile(self.fresh, device)
         server = self.start(device, fault.loaded)
@@ -150,8 +151,9 @@ class Serving:
             time.sleep(0.05)
         said = server.end()
         if not fault.kills and server.process.returncode != -9:
-            check(said in (b"fault stopped\n", b"fault disk\n", b"fault io\n") and server.process.returncode == 3, fault.text, server.process.returncode, said)
+            check(said in told and server.process.returncode == 3, fault.text, server.process.returncode, said)
         self.judge(device, fault, clients)
+        return said
 
     def judge(self, device, fault, clients):
         """Each answered action is there at its number; of those in doubt some may have come in any order."""
@@ -167,11 +169,21 @@ class Serving:
                 return
         raise Wrong(f"{fault.text}: the device stands for something else")
 
-    def faults(self, rounds):
-        dice = random.Random(7)
-        for seed in range(rounds):
-            kind = KINDS[seed % len(KINDS)]
-            self.one_fault(Fault(self.library, "device", dice.randrange(3, 260), kind, seed), seed, 40)
+    def faults(self, step):
+        """A fault, a kill or a power cut at each call on the device's file. How many there were."""
+        cases = [(at, kind) for at in range(3, 261) for kind in KINDS][::step]
+        for seed, (at, kind) in enumerate(cases):
+            self.one_fault(Fault(self.library, "device", at, kind, seed), seed, 40)
+        return len(cases)
+
+    def scarcity(self, step):
+        """From one of the last requests of a served connection on there is no more memory: what is stored can't be shown, and the server
+        stops. How often it did."""
+        made, stopped = self.one_refusal(None)["memory"], 0
+        for at in range(made - 40, made + 1, step):
+            fault = Fault(self.library, "memory", at, "from")
+            stopped += self.one_fault(fault, at, 60, (b"fault memory\n", b"fault stopped\n")) == b"fault stopped\n"
+        return stopped
 
     def whole(self, count):
         """Clients at all slots, and nothing fails: the device stands for what was accepted, in the order of its numbers. Nobody else opens it
@@ -193,15 +205,15 @@ class Serving:
         check(self.replay([known[number] for number in sorted(known)]) == state(self.program, device), "the device stands for something else")
         return len(known)
 
-    def refusals(self, step):
-        """Each request for memory of a served connection refused in turn. How many there were."""
-        made = self.one_refusal(None)
+    def refusals(self, call, step):
+        """Each request of a served connection for memory, or for a thread, refused in turn. How many there were."""
+        made = self.one_refusal(None)[call]
         for at in range(1, made + 1, step):
-            self.one_refusal(Fault(self.library, "memory", at, "enospc"))
+            self.one_refusal(Fault(self.library, call, at, "enospc"))
         return len(range(1, made + 1, step))
 
     def one_refusal(self, fault):
-        """A connection, and its end; without a fault, how often memory is asked for."""
+        """A connection, and its end; without a fault, how often each call is made."""
         device, counts = os.path.join(self.folder, "device"), os.path.join(self.folder, "counts")
         shutil.copyfile(self.fresh, device)
         loaded = fault.loaded if fault else {"LD_PRELOAD": self.library, "ALM_COUNTS": counts}
@@ -212,13 +224,13 @@ class Serving:
         if fault is None:
             check(status == 0 and errors == b"" and len(said) == len(FEW), status, errors, said)
             with open(counts, encoding="ascii") as file:
-                return int(dict(line.split() for line in file)["memory"])
+                return {name: int(number) for name, number in (line.split() for line in file)}
         check((status, errors) in ((0, b""), (3, b"fault memory\n"), (3, b"fault stopped\n")), fault.text, status, errors)
         check(status != 0 or (out == b"stopped 2\n" and len(said) == len(FEW)), fault.text, out, said)
         for (line, wanted), reply in zip(FEW, said):
             check(reply == wanted or reply == line.split()[0] + b" NO 16\n", fault.text, line, reply)
         check(state(self.program, device) in self.after_few(), fault.text, "another state")
-        return 0
+        return {}
 
     def ask_few(self, server):
         """The replies to a few lines, as far as they come."""
@@ -272,17 +284,20 @@ class Serving:
 
 
 def main():
-    program, rounds, folder = begin("serve", sys.argv, 600, 30)
+    program, step, folder = begin("serve", sys.argv, 1, 87)
     started = time.monotonic()
     try:
         serving = Serving(program, folder)
-        accepted = serving.whole(rounds)
-        serving.faults(rounds)
-        refused = serving.refusals(1 if rounds > 100 else 5)
-        lines = sum(serving.cut_lines(seed, 5_000) for seed in range(rounds // 15))
+        accepted = serving.whole(600 // step + 20)
+        faults = serving.faults(step)
+        stopped = serving.scarcity(step // 17 + 1)
+        refused = serving.refusals("memory", step // 17 + 1)
+        threads = serving.refusals("thread", step // 17 + 1)
+        lines = sum(serving.cut_lines(seed, 5_000) for seed in range(40 // step + 2))
     except Wrong as wrong:
         sys.exit(f"serve: {wrong}; devices are in {folder}")
-    finish("serve", folder, f"{accepted} actions of 18 slots, {rounds} faults, kills and power cuts, {refused} refused requests for memory, {lines} lines in pieces, none wrong, {time.monotonic() - started:.0f} s")
+    finish("serve", folder, f"{accepted} actions of 18 slots, {faults} faults, kills and power cuts, {refused} requests for memory and {threads} threads refused,"
+           f" {stopped} stops for want of it, {lines} lines in pieces, none wrong, {time.monotonic() - started:.0f} s")
 
 
 if __name__ == "__main__":

@@ -11,6 +11,9 @@ struct Ring<T> {
     written: AtomicUsize,
 }
 
+// One end writes places that the other doesn't read yet.
+unsafe impl<T: Send> Sync for Ring<T> {}
+
 /// Tells the other end how far this one is.
 fn tell(place: &AtomicUsize, value: usize) {
     if cfg!(exchanges) {

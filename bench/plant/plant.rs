@@ -261,6 +261,9 @@ impl Plant {
             working: Vec::with_capacity(alarms as usize),
         }
     }
+    pub fn row(&self, alarm: u32) -> Option<Row> {
+        self.rows.get(alarm as usize).copied()
+    }
     pub fn count(&self) -> u64 {
         self.count
     }

@@ -1,6 +1,7 @@
 /* The clients of the bench, in one thread: the same lines for either server.
      client PORT load LINES WINDOW MOMENT   18 connections with so many lines each, so many of them unanswered at a time:
-                                            prints seconds, requests, accepted
+                                            prints seconds, requests, accepted; with one at a time also the 99th latency of a
+                                            request and the greatest, in microseconds
      client PORT lone LINES                 the feed alone, one line at a time: prints p50 and p99 in microseconds, accepted
      client PORT idle SECONDS               18 connections that say nothing
    Each line is accepted in whatever order the slots come, so that either server has the same to do: the clock moves, the feed's
@@ -79,12 +80,26 @@ static void take_replies(struct client *client) {
     memmove(client->reply, from, client->held);
 }
 
+static int by_size(const void *one, const void *other) {
+    double a = *(const double *)one, b = *(const double *)other;
+    return (a > b) - (a < b);
+}
+
+/* Room for so many latencies. */
+static double *latencies(long lines) {
+    double *took = malloc(lines * sizeof *took);
+    if (!took) fail("malloc");
+    return took;
+}
+
 static void load(long lines, long window, long moment) {
     struct pollfd polls[SLOTS];
-    long accepted = 0, open = SLOTS;
+    double sent[SLOTS], *took = latencies(SLOTS * lines);
+    long accepted = 0, open = SLOTS, done = 0;
     double begin = now();
     for (int slot = 0; slot < SLOTS; slot++) {
         polls[slot] = (struct pollfd){.fd = clients[slot].socket, .events = POLLIN};
+        sent[slot] = now();
         send_up_to(slot, lines, window, moment);
     }
     while (open) {
@@ -92,25 +107,24 @@ static void load(long lines, long window, long moment) {
         for (int slot = 0; slot < SLOTS; slot++) {
             if (!polls[slot].revents) continue;
             take_replies(&clients[slot]);
+            if (window == 1) took[done++] = (now() - sent[slot]) * 1e6;
+            sent[slot] = now();
             send_up_to(slot, lines, window, moment);
             if (clients[slot].answered < lines) continue;
             polls[slot].fd = -1;
             open--;
         }
     }
-    double took = now() - begin;
+    double seconds = now() - begin;
     for (int slot = 0; slot < SLOTS; slot++) accepted += clients[slot].accepted;
-    printf("%.6f %ld %ld\n", took, SLOTS * lines, accepted);
-}
-
-static int by_size(const void *one, const void *other) {
-    double a = *(const double *)one, b = *(const double *)other;
-    return (a > b) - (a < b);
+    printf("%.6f %ld %ld", seconds, SLOTS * lines, accepted);
+    qsort(took, done, sizeof *took, by_size);
+    if (done) printf(" %.0f %.0f", took[done * 99 / 100], took[done - 1]);
+    printf("\n");
 }
 
 static void lone(long lines) {
-    double *took = malloc(lines * sizeof *took);
-    if (!took) fail("malloc");
+    double *took = latencies(lines);
     for (long i = 0; i < lines; i++) {
         double begin = now();
         send_up_to(FEED, lines, 1, 0);

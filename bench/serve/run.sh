@@ -53,7 +53,7 @@ note() { echo "$who $*" >>"$folder/figures"; }
 load() {
     local before from after to seconds requests accepted
     before=$(syncs) from=$(ticks)
-    read -r seconds requests accepted <<<"$("$folder/client" "$port" load "$2" "$3" "$4")"
+    read -r seconds requests accepted _ <<<"$("$folder/client" "$port" load "$2" "$3" "$4")"
     after=$(syncs) to=$(ticks)
     local commits=$(((after - before) / 2))
     note "$1_requests_a_second" "$(echo "$requests / $seconds" | bc)"

@@ -57,10 +57,10 @@ A 0 1 0 FLOOD 1 0
 A 1 0 FLOOD 0 0
 ";
 
-const DONE: &str = "ExitCode(unix_exit_status(0))";
+pub const DONE: &str = "ExitCode(unix_exit_status(0))";
 
 /// Whether the program, with these words and this input, ends so: its status, and what it printed and told of a fault.
-fn ends(rt: &HostRuntime, words: &[u8], input: &[u8], wanted: (&str, &[u8], &[u8])) -> bool {
+pub fn ends(rt: &HostRuntime, words: &[u8], input: &[u8], wanted: (&str, &[u8], &[u8])) -> bool {
     let steps = [Step::Gives(input)];
     let process = Process::new(rt, words, Script::new(&steps), 10_000);
     let mut errors = Vec::new(rt.alloc());

@@ -14,3 +14,5 @@ mod running;
 mod script;
 #[cfg(test)]
 mod serving;
+#[cfg(test)]
+mod stories;

@@ -13,6 +13,9 @@ const YIELDS: u32 = 64;
 /// How long it sleeps at most, in milliseconds.
 const NAP: u64 = 100;
 
+/// How long it dozes at most, in microseconds.
+const DOZE: u64 = 200;
+
 /// A bell that one thread sleeps by. It is rung by a load alone while that thread is busy.
 #[derive(Drop)]
 pub struct Doorbell {
@@ -28,6 +31,13 @@ impl Doorbell {
             listens: AtomicBool::new(false),
             parker: Parker::new(),
         }
+    }
+
+    /// Sleeps until it is rung, for 200 microseconds at most. What came before it listens is found behind it.
+    pub fn doze<R: Wait>(&self, rt: &R) {
+        self.listens.store(true, Ordering::SeqCst);
+        self.parker.park_timeout(rt, Duration::from_micros(DOZE));
+        self.listens.store(false, Ordering::SeqCst);
     }
 }
 

@@ -5,6 +5,7 @@ ghost use Rattle.alm_sequencer.specs.Sequences.{SameInboxes, base_of};
 ghost use Rattle.alm_run.specs.Serving.{Serves};
 
 use crate::bell::Bell;
+use crate::company::Company;
 use crate::flags::Flags;
 use alm_disk::Hold;
 use alm_model::Alarms;
@@ -26,6 +27,8 @@ enum Found {
 enum Left {
     // Something was taken or sealed.
     Work,
+    // Others are to join the open batch.
+    Awaiting,
     // Nothing, and the open batch has entries.
     Waiting,
     // Nothing, and the open batch is empty.
@@ -37,6 +40,7 @@ fn go_round<P: Alarms + Drop, H: Hold>(
     sequencer: &mut Sequencer<P>,
     slots: &[Slot],
     hold: &H,
+    company: &mut Company,
 ) -> Found
     requires { Serves slots.now sequencer.old.inboxes.items }
     ensures serves { Serves slots.now sequencer.new.inboxes.items }
@@ -49,6 +53,7 @@ fn go_round<P: Alarms + Drop, H: Hold>(
         match sequencer.take(*slot) {
             Take::Taken(_) => {
                 found = Found::Some;
+                company.take();
                 hold.taken(*slot);
             }
             Take::Empty => {}
@@ -58,10 +63,11 @@ fn go_round<P: Alarms + Drop, H: Hold>(
     found
 }
 
-// Seals where no batch is out, or the open one is full.
+// Seals where no batch is out and nobody is awaited, or the open one is full.
 fn seal_some<P: Alarms + Drop, B: Bell + Drop>(
     flags: &Flags<B>,
     sequencer: &mut Sequencer<P>,
+    company: &mut Company,
     found: Found,
 ) -> Left
     ensures inboxes { sequencer.new.inboxes ≡ sequencer.old.inboxes }
@@ -69,9 +75,14 @@ fn seal_some<P: Alarms + Drop, B: Bell + Drop>(
     ensures base { base_of sequencer.new ≡ base_of sequencer.old }
 {
     let mut left = Left::Waiting;
-    if found == Found::Full || !flags.out.load(Ordering::SeqCst) {
+    let out = flags.out.load(Ordering::SeqCst);
+    if company.is_awaited(out) && found != Found::Full {
+        return Left::Awaiting;
+    }
+    if found == Found::Full || !out {
         match sequencer.seal() {
             Seal::Sealed => {
+                company.seal();
                 flags.out.store(true, Ordering::SeqCst);
                 flags.flusher.ring();
                 return Left::Work;
@@ -86,8 +97,8 @@ fn seal_some<P: Alarms + Drop, B: Bell + Drop>(
     left
 }
 
-/// Takes, judges and seals until all sources have ended and nothing is left, or `stop` is set. It seals where no batch is out, or
-/// the open one is full. The hold is told of each request that is taken.
+/// Takes, judges and seals until all sources have ended and nothing is left, or `stop` is set. It seals where no batch is out and those
+/// who were just answered have asked again or nobody did for 200 microseconds, or where the open batch is full. The hold is told of each request that is taken.
 pub fn sequence<P: Alarms + Drop, B: Bell + Drop, H: Hold, R: Wait>(
     rt: &R,
     flags: &Flags<B>,
@@ -101,6 +112,7 @@ pub fn sequence<P: Alarms + Drop, B: Bell + Drop, H: Hold, R: Wait>(
     ensures base { base_of result ≡ base_of sequencer }
 {
     let mut sequencer = sequencer;
+    let mut company = Company::new();
     let mut idle: u32 = 0;
     for _ in rt.forever() {
         if flags.is_stopped() {
@@ -108,17 +120,16 @@ pub fn sequence<P: Alarms + Drop, B: Bell + Drop, H: Hold, R: Wait>(
         }
         // Before the pass: what was sent then is found by it.
         let last = flags.ended.load(Ordering::SeqCst) >= slots.len();
-        let found = go_round(&mut sequencer, slots, hold);
-        let left = seal_some(flags, &mut sequencer, found);
-        if left == Left::Work {
-            idle = 0;
-            continue;
+        let found = go_round(&mut sequencer, slots, hold, &mut company);
+        match seal_some(flags, &mut sequencer, &mut company, found) {
+            Left::Work => idle = 0,
+            Left::Awaiting => flags.sequencer.doze(rt),
+            Left::Empty if last => break,
+            Left::Empty | Left::Waiting => {
+                flags.sequencer.wait(rt, idle);
+                idle = idle.saturating_add(1);
+            }
         }
-        if last && left == Left::Empty {
-            break;
-        }
-        flags.sequencer.wait(rt, idle);
-        idle = idle.saturating_add(1);
     }
     flags.sealed.store(true, Ordering::SeqCst);
     flags.flusher.ring();

@@ -4,4 +4,8 @@
 #[cfg(test)]
 mod client;
 #[cfg(test)]
+mod drawn_client;
+#[cfg(test)]
+mod drawn_lines;
+#[cfg(test)]
 mod rows;

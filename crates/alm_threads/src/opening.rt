@@ -1,6 +1,7 @@
 //! The parts over an opened store.
-ghost use Rattle.std.specs.Prelude.{◌≡◌, ◌<◌, ◌≤◌, ◌^◌, length, IfOk, IfErr};
+ghost use Rattle.std.specs.Prelude.{◌≡◌, ◌<◌, ◌≤◌, ◌^◌, [], length, IfOk, IfErr};
 ghost use Rattle.alm_rings.specs.Placed.{AreApart};
+ghost use Rattle.alm_shared.specs.Desks.{shown_of, pending_of};
 
 use crate::middle::Middle;
 use crate::parts::Parts;
@@ -15,8 +16,34 @@ use alm_run::{FlusherParts, Rings};
 use alm_shared::{Front, Naming, NewHistory, SharedBoard, SharedLook, open_board};
 use alm_store::Store;
 use alm_types::Slot;
-use std::alloc::Global;
+use std::alloc::{AllocError, Global};
 use std::sync::Wait;
+
+// A board that shows this plant, and a look at it for each slot, of which the hold is told.
+fn board_of<'h, J: Naming, P: Alarms + Drop, H: Hold, R: Wait>(
+    rt: &R,
+    alloc: Global,
+    history: NewHistory,
+    plant: P,
+    slots: &[Slot],
+    hold: &'h H,
+) -> Result<(SharedBoard<J, P>, Vec<WatchedLook<'h, SharedLook<J, P>, H>>), AllocError>
+    requires book { history.seen.book ≡ J.book }
+    requires base { P.plant plant ≡ J.base }
+    requires some { (0 < length slots.now) × (length slots.now < 2 ^ 32) }
+    ensures published { IfOk result (λ r. shown_of r.0 ≡ []) }
+    ensures pending { IfOk result (λ r. pending_of r.0 ≡ []) }
+    ensures looks { IfOk result (λ r. length r.1.items ≡ length slots.now) }
+{
+    let (board, looks) = open_board::<J, P, R>(rt, alloc, history, plant, slots.len())?;
+    match watched(alloc, hold, slots, looks) {
+        Ok(looks) => Ok((board, looks)),
+        Err(fault) => {
+            drop(board.take(rt));
+            Err(fault)
+        }
+    }
+}
 
 /// The parts of a run for these slots, over an idle store; the hold is told of each look. The store comes back where memory is short.
 pub fn parts_of<'h, J: Naming, K: Store, H: Hold, R: Wait>(
@@ -37,14 +64,7 @@ pub fn parts_of<'h, J: Naming, K: Store, H: Hold, R: Wait>(
     ensures slots { IfOk result (λ parts. parts.slots ≡ slots) }
     ensures refused { IfErr result (λ back. back ≡ store) }
 {
-    let Ok(
-        SlotEnds {
-            consoles,
-            inboxes,
-            outboxes,
-        },
-    ) = open_some(alloc, slots.as_slice())
-    else {
+    let Ok(slot_ends) = open_some(alloc, slots.as_slice()) else {
         return Err(store);
     };
     let Ok((mut ends, mut fetch)) = open_batches(alloc) else {
@@ -57,29 +77,36 @@ pub fn parts_of<'h, J: Naming, K: Store, H: Hold, R: Wait>(
     let Ok(shown) = store.stored().copy(alloc) else {
         return Err(store);
     };
-    let Ok((board, looks)) = open_board::<J, Plant, R>(rt, alloc, history, shown, slots.len())
-    else {
+    let Ok((board, looks)) = board_of::<J, Plant, H, R>(
+        rt,
+        alloc,
+        history,
+        shown,
+        slots.as_slice(),
+        hold,
+    ) else {
         return Err(store);
     };
-    let Ok(looks) = watched(alloc, hold, slots.as_slice(), looks) else {
-        drop(board.take(rt));
-        return Err(store);
-    };
+    let SlotEnds {
+        consoles,
+        inboxes,
+        outboxes,
+    } = slot_ends;
     let flusher = FlusherParts {
         store,
         outboxes,
         fetch,
     };
-    let middle = Middle {
-        plant,
-        rings: Rings { inboxes, ends },
-        flusher,
-    };
+    let rings = Rings { inboxes, ends };
     Ok(Parts {
         slots,
         consoles,
         looks,
         board,
-        middle,
+        middle: Middle {
+            plant,
+            rings,
+            flusher,
+        },
     })
 }

@@ -3,8 +3,10 @@
 ghost use Rattle.std.specs.Prelude.{◌≡◌, IfOk, length};
 ghost use Rattle.alm_rings.specs.Placed.{AreApart};
 
+use crate::asker::{Asker, Enough};
 use crate::caller::Caller;
 use crate::gate::Gate;
+use crate::looker::Looker;
 use crate::notes::Notes;
 use crate::player::Player;
 use crate::script::{Script, Step};
@@ -48,6 +50,49 @@ pub fn callers(
         callers.push(Player::Caller(caller))?;
     }
     Ok(callers)
+}
+
+/// An asker for each slot, with so many requests out and in all.
+pub fn askers(
+    alloc: Global,
+    slots: &[Slot],
+    out: u64,
+    each: u64,
+    notes: &Arc<Notes, Global>,
+) -> Result<Vec<Player>, AllocError>
+    ensures { IfOk result (λ askers. length askers.items ≡ length slots.now) }
+{
+    let mut askers = Vec::new(alloc);
+    for place in 0..slots.len() {
+        let notes = Arc::try_clone(notes)?;
+        let asker = Asker::new(slots[place], out, Enough::Requests(each), notes);
+        askers.push(Player::Asker(asker))?;
+    }
+    Ok(askers)
+}
+
+/// The first so many consoles look so many hundred times each, beside the feed, which asks until all have looked; nobody else does anything.
+pub fn lookers(
+    alloc: Global,
+    slots: &[Slot],
+    readers: u8,
+    hundreds: u64,
+    notes: &Arc<Notes, Global>,
+) -> Result<Vec<Player>, AllocError>
+    ensures { IfOk result (λ lookers. length lookers.items ≡ length slots.now) }
+{
+    let all = Enough::Looks(u64::from(readers).wrapping_mul(hundreds).wrapping_mul(100));
+    let mut lookers = Vec::new(alloc);
+    for place in 0..slots.len() {
+        let notes = Arc::try_clone(notes)?;
+        let slot = slots[place];
+        lookers.push(match slot.number() {
+            16 => Player::Asker(Asker::new(slot, 64, all, notes)),
+            number if number < readers => Player::Looker(Looker::new(alloc, hundreds, notes)),
+            _ => Player::Looker(Looker::new(alloc, 0, notes)),
+        })?;
+    }
+    Ok(lookers)
 }
 
 /// A script for each slot: these steps for the one that is named beside them, and none for others.

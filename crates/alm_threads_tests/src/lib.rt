@@ -4,7 +4,8 @@
 //! |---|---|
 //! | [`caller`] | a source that sends drawn requests, of [`drawn`] |
 //! | [`script`] | a source that plays steps, one after another |
-//! | [`player`] | either |
+//! | [`asker`], [`looker`] | a source that asks for what is always accepted, and one that only looks: for the benchmark |
+//! | [`player`] | one of these |
 //! | [`notes`] | what the sources note while they run |
 //! | [`crews`], [`devices`] | slots with their callers, and devices |
 //! | [`gate`] | a hold that a look and a take of another slot open |
@@ -14,6 +15,7 @@
 //! They are proved with the crate itself; the rest are tests.
 #![tactic(auto)]
 
+pub mod asker;
 pub mod caller;
 pub mod course;
 pub mod crews;
@@ -23,6 +25,7 @@ pub mod drawn;
 mod faults;
 pub mod folds;
 pub mod gate;
+pub mod looker;
 pub mod notes;
 pub mod player;
 #[cfg(test)]

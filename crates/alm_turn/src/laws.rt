@@ -1,7 +1,11 @@
 //! Laws of turns: each function does nothing, and its contract is the law.
 
-ghost use Rattle.std.specs.Prelude.{ℕ, ◌+◌};
+ghost use Rattle.std.specs.Prelude.{ℕ, ◌+◌, ◌≤◌, ◌<◌, ◌^◌, length};
+ghost use Rattle.alm_types.specs.declared.query.Query.{Query};
 ghost use Rattle.alm_model.specs.Plant.{Condensed};
+ghost use Rattle.alm_model.specs.Rules.{KeepsRules};
+ghost use Rattle.alm_session.specs.Answers.{look_reply};
+ghost use Rattle.alm_session.specs.declared.hindrance.Hindrance.TheVariants.{Nothing};
 ghost use Rattle.alm_turn.specs.Ended.{IsFresh, IsFinished, IsAnswered};
 ghost use Rattle.alm_turn.specs.Turns.{IsTurn, Side};
 
@@ -10,4 +14,10 @@ ghost use Rattle.alm_turn.specs.Turns.{IsTurn, Side};
 pub fn turns_answer_all_lines()
     ensures join { (base : Condensed) (m n : ℕ) (a b c : Side) → IsTurn base m a b → IsTurn base n b c → IsTurn base (m + n) a c }
     ensures ended { (base : Condensed) (n : ℕ) (a b : Side) → IsTurn base n a b → IsFresh a → IsFinished b → IsAnswered base a b }
+{}
+
+/// Of a plant that keeps its rules, and so has 16,384 alarms at most, no reply to a query is longer than the room for replies: such a
+/// query is never refused for its length.
+pub fn replies_have_room()
+    ensures { (q : Condensed) (id : ℕ) (query : Query) → KeepsRules q → q.panel.count ≤ 2 ^ 48 → id < 2 ^ 32 → length (look_reply q id query Nothing) ≤ 131072 }
 {}
