@@ -8,7 +8,7 @@ mod plants;
 
 use alm_model::{Alarms, List, PlainPlant};
 use alm_plant::Plant;
-use alm_types::{Action, AlarmId, Slot};
+use alm_types::{Action, AlarmId, Slot, Table};
 use anyhow::{Result, anyhow};
 use plants::{ALARMS, Senders, send, table, tick};
 use std::alloc::Global;
@@ -160,33 +160,60 @@ fn time_fill<P: Alarms>(
     report(rt, name, sum, took)
 }
 
+/// A course on a new linked plant.
+fn time_linked(
+    rt: &(impl Print + Eprint + Clock),
+    alloc: Global,
+    table: &Table,
+    name: &str,
+    course: Course,
+    seconds: u32,
+) -> Result<()> {
+    let mut plant = Plant::new(alloc, table)?;
+    time_course(rt, &mut plant, name, course, seconds)
+}
+
+/// Lists of a new linked plant.
+fn time_linked_lists(
+    rt: &(impl Print + Eprint + Clock),
+    alloc: Global,
+    table: &Table,
+) -> Result<()> {
+    let mut plant = Plant::new(alloc, table)?;
+    time_fill(rt, alloc, &mut plant, "fill", 2000)
+}
+
+/// Actions at random on a new plain plant.
+fn time_plain(rt: &(impl Print + Eprint + Clock), alloc: Global, table: &Table) -> Result<()> {
+    let mut plant = PlainPlant::new(alloc, table)?;
+    time_course(rt, &mut plant, "plain_random", Course::Random, 2)
+}
+
+/// Lists of a new plain plant.
+fn time_plain_lists(
+    rt: &(impl Print + Eprint + Clock),
+    alloc: Global,
+    table: &Table,
+) -> Result<()> {
+    let mut plant = PlainPlant::new(alloc, table)?;
+    time_fill(rt, alloc, &mut plant, "plain_fill", 2)
+}
+
 fn main(rt: HostRuntime) -> Result<()> {
     let alloc = rt.alloc();
     let table = table(alloc)?;
-    let new = || Plant::new(alloc, &table);
-    time_course(&rt, &mut new()?, "random", Course::Random, 1000)?;
-    time_course(&rt, &mut new()?, "in_turn", Course::InTurn, 100)?;
-    time_course(
+    time_linked(&rt, alloc, &table, "random", Course::Random, 1000)?;
+    time_linked(&rt, alloc, &table, "in_turn", Course::InTurn, 100)?;
+    time_linked(
         &rt,
-        &mut new()?,
+        alloc,
+        &table,
         "shelvings_end",
         Course::ShelvingsEnd,
         1000,
     )?;
-    time_course(&rt, &mut new()?, "seconds", Course::Seconds, 1_000_000)?;
-    time_fill(&rt, alloc, &mut new()?, "fill", 2000)?;
-    time_course(
-        &rt,
-        &mut PlainPlant::new(alloc, &table)?,
-        "plain_random",
-        Course::Random,
-        2,
-    )?;
-    time_fill(
-        &rt,
-        alloc,
-        &mut PlainPlant::new(alloc, &table)?,
-        "plain_fill",
-        2,
-    )
+    time_linked(&rt, alloc, &table, "seconds", Course::Seconds, 1_000_000)?;
+    time_linked_lists(&rt, alloc, &table)?;
+    time_plain(&rt, alloc, &table)?;
+    time_plain_lists(&rt, alloc, &table)
 }

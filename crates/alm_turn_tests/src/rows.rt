@@ -121,12 +121,26 @@ fn a_lost_connection(rt: HostRuntime) -> Result<(), Fail> {
     let mut look = worked_look(alloc)?;
     let mut session = Session::new(alloc)?;
     let mut wire = MemWire::new(alloc, bytes(alloc, "7 ACK 0\n8 ACK 1\n9 ACK 1\n1 ST")?, 200)?;
-    for _turn in 0..4_u32 {
-        let turn = session.turn(&mut wire, &mut console, &mut look);
-        assert_eq!(rt; turn, Turn::Went);
-    }
-    let turn = session.turn(&mut wire, &mut console, &mut look);
-    assert_eq!(rt; turn, Turn::Idle);
+    assert_eq!(rt;
+        session.turn(&mut wire, &mut console, &mut look),
+        Turn::Went
+    );
+    assert_eq!(rt;
+        session.turn(&mut wire, &mut console, &mut look),
+        Turn::Went
+    );
+    assert_eq!(rt;
+        session.turn(&mut wire, &mut console, &mut look),
+        Turn::Went
+    );
+    assert_eq!(rt;
+        session.turn(&mut wire, &mut console, &mut look),
+        Turn::Went
+    );
+    assert_eq!(rt;
+        session.turn(&mut wire, &mut console, &mut look),
+        Turn::Idle
+    );
     answer(&mut console, &mut inbox, &mut outbox, 1);
     answer(&mut console, &mut inbox, &mut outbox, 2);
     assert!(rt; !drain(&mut console, &mut look));
