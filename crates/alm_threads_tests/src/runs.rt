@@ -15,7 +15,7 @@ use std::sync::atomic::Ordering;
 use std::test::Fail;
 
 /// How many requests each source sends.
-const EACH: u64 = 2000;
+const EACH: u64 = 20_000;
 
 /// What went through each slot.
 const ALL: SlotReport = SlotReport {
@@ -29,7 +29,7 @@ const ALL: SlotReport = SlotReport {
 fn eighteen_sources_are_answered_in_order_and_all_is_kept(rt: HostRuntime) -> Result<(), Fail> {
     let alloc = rt.alloc();
     let table = worked_table(alloc)?;
-    let notes = Arc::new(alloc, Notes::new(alloc, 36_000)?)?;
+    let notes = Arc::new(alloc, Notes::new(alloc, 360_000)?)?;
     let slots = all_slots(alloc)?;
     let sources = callers(alloc, &slots, None, EACH, &notes)?;
     let disk = formatted(alloc, &table).ok_or("format")?;
@@ -43,7 +43,7 @@ fn eighteen_sources_are_answered_in_order_and_all_is_kept(rt: HostRuntime) -> Re
     assert_eq!(rt; storage, Storage::Whole);
     assert_eq!(rt; notes.wrong.load(Ordering::SeqCst), 0);
     assert_eq!(rt; notes.unseen.load(Ordering::SeqCst), 0);
-    assert_eq!(rt; notes.shown.load(Ordering::SeqCst), 36_000);
+    assert_eq!(rt; notes.shown.load(Ordering::SeqCst), 360_000);
     assert_eq!(rt; slots.len(), 18);
     for slot in slots.iter() {
         assert_eq!(rt; *slot, Some(ALL));
