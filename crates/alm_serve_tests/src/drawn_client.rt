@@ -57,7 +57,8 @@ fn put_action(action: Action, lines: &mut Vec<u8>) -> io::Result<()> {
 /// The drawn lines of a slot behind so many.
 fn lines_behind(alloc: Global, slot: Slot, sent: u64) -> io::Result<Vec<u8>> {
     let mut lines = Vec::new(alloc);
-    for serial in sent + 1..sent + 1 + OUT {
+    for ahead in 1..=OUT {
+        let serial = sent.wrapping_add(ahead);
         put_parts(&[Part::Number(serial)], &mut lines)?;
         put_action(drawn(slot, serial), &mut lines)?;
         put_parts(&[Part::Word("\n")], &mut lines)?;
