@@ -116,10 +116,11 @@ pub fn converse(
     notes: &Arc<Notes, Global>,
 ) -> io::Result<bool> {
     let mut stream = connect(rt, port)?;
-    for serial in 1..each + 1 {
-        if serial % OUT == 1 {
-            stream.write_all(&lines_behind(rt.alloc(), slot, serial - 1)?)?;
+    for before in 0..each {
+        if before % OUT == 0 {
+            stream.write_all(&lines_behind(rt.alloc(), slot, before)?)?;
         }
+        let serial = before.wrapping_add(1);
         match reply(&mut stream)? {
             Some(told) if told.id == serial => {
                 if told.is_accepted {
