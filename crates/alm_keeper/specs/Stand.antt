@@ -3,12 +3,10 @@ use Rattle.std.specs.Prelude.{◌≡◌, ℕ, ◌+◌, ◌≤◌, Bool, true, fa
 use Rattle.alm_types.specs.declared.action.Action.{Action}
 use Rattle.alm_model.specs.Plant.{Condensed}
 use Rattle.alm_model.specs.Step.{run}
-use Rattle.alm_codec.specs.Image.{image_text}
 use Rattle.alm_segment.specs.Course.{is_open, frame_len}
 use Rattle.alm_checkpoint.specs.declared.layout.Layout.{Layout}
 use Rattle.alm_checkpoint.specs.declared.half.Half.{Half}
-use Rattle.alm_checkpoint.specs.Layouts.{byte_at, half_at, half_len, image_size, head_len, other}
-use Rattle.alm_checkpoint.specs.Headers.{half_head_text}
+use Rattle.alm_checkpoint.specs.Layouts.{byte_at, half_at, half_len, other}
 use Rattle.alm_checkpoint.specs.Cut.{Cut, Stores, Reaches, front, device_of}
 
 -- the device holds this plant in this epoch, in front of a closed gate
@@ -65,9 +63,6 @@ Takes a n = a.gate + frame_len n + 1 ≤ end_of a
 abbrev pub committed : Account → List Action → Account
 committed a actions = record a { gate = a.gate + frame_len (length actions); plant = run a.plant actions }
 
-abbrev pub turned : Account → Account
-turned a = record a { half = other a.half; other_open = true; epoch = a.epoch + 1; gate = other_at a + head_len + image_size a.layout }
-
--- what a checkpoint writes behind the other half's gate: its head, the image, and the first gate of its segment, closed
-abbrev pub checkpoint_text : Account → List ℕ
-checkpoint_text a = half_head_text a.layout (a.epoch + 1) a.plant.panel.count ++ image_text a.plant ++ 0 ∷ []
+-- .. whose run is so long
+abbrev pub turned : Account → (run : ℕ) → Account
+turned a run = record a { half = other a.half; other_open = true; epoch = a.epoch + 1; gate = other_at a + run }
