@@ -1,6 +1,6 @@
 -- What a book keeps as work begins and ends.
-use Rattle.std.proofs.Common.{◌≡◌, ℕ, ◌+◌, ◌^◌, ◌≤◌, Bool, true, false, List, length, refl, sym, ◌∙◌, subst, arith, [], ◌∷◌, ◌++◌, length-append}
-use Rattle.alm_keeper.specs.Stages.{IsWorking, first_stage}
+use Rattle.std.proofs.Common.{◌≡◌, ℕ, ◌+◌, ◌^◌, ◌≤◌, ◌<◌, Bool, true, false, List, length, refl, sym, ◌∙◌, ap, subst, arith, [], ◌∷◌, ◌++◌, length-append, true≢false}
+use Rattle.alm_keeper.specs.Stages.{IsWorking, IsResting, first_stage, phase_of}
 use Rattle.alm_types.specs.declared.action.Action.{Action}
 use Rattle.alm_model.specs.Plant.{Condensed}
 use Rattle.alm_model.specs.Step.{run}
@@ -10,29 +10,57 @@ use Rattle.alm_model.proofs.Runs.{run_sizes, run_within}
 use Rattle.alm_codec.specs.Image.{IsOf, image_text, image_len}
 use Rattle.alm_codec.proofs.Spelled.{image_length}
 use Rattle.alm_checkpoint.specs.Layouts.{image_size}
-use Rattle.alm_checkpoint.specs.Headers.{half_head_text}
 use Rattle.alm_keeper.specs.declared.book.Book.{Book}
 use Rattle.alm_keeper.specs.declared.stage.Stage.{Stage}
 use Rattle.alm_keeper.specs.declared.stage.Stage.TheVariants.{Idle, Close, CloseSync, Body, BodySync, Gate, GateSync, Stopped}
 use Rattle.alm_keeper.specs.declared.stage.Work.{Work}
 use Rattle.alm_keeper.specs.declared.stage.Work.TheVariants.{Commit, Checkpoint}
-use Rattle.alm_keeper.specs.Stand.{Account, checkpoint_text}
-use Rattle.alm_keeper.specs.Keeping.{account, Committing, Copying, DoesWork, Does, InOrder}
+use Rattle.alm_keeper.specs.Keeping.{account, Committing, DoesWork, Does, Opened, Sent, IsCopying, InOrder}
 
--- the stages in which the other half's gate is closed
-abbrev pub IsClosing : Stage → Type 0
-IsClosing Close = Unit {0}
-IsClosing CloseSync = Unit {0}
-IsClosing stage = ⊥
+-- what may be under way: a gate is closed by a checkpoint alone, and a checkpoint is open as long as it is under way
+abbrev pub Possible : Stage → Bool → Work → Type 0
+Possible Idle copying work = ⊥
+Possible Stopped copying work = ⊥
+Possible Close true Checkpoint = Unit {0}
+Possible Close copying work = ⊥
+Possible CloseSync true Checkpoint = Unit {0}
+Possible CloseSync copying work = ⊥
+Possible stage false Checkpoint = ⊥
+Possible stage copying work = Unit {0}
 
-abbrev pub WorkOf : Work → Book → Type 0
-WorkOf work b = DoesWork work (account b) b.actions.items b.frame.items b.image.items b.ahead
+pub possible : (b : Book) → InOrder b → IsWorking b.stage → Possible b.stage b.copying b.work
+possible b i works = by_stage b.stage b.copying b.work refl works i.does
+  where
+    never : (copying : Bool) → b.copying ≡ copying → b.copying ≡ true → copying ≡ true
+    never copying is on = sym is ∙ on
+
+    by_stage : (s : Stage) (o : Bool) (w : Work) → b.copying ≡ o → IsWorking s → Does s w b → Possible s o w
+    by_stage Idle o w is works d = absurd works
+    by_stage Stopped o w is works d = absurd works
+    by_stage Close o Commit is works d = absurd d
+    by_stage Close true Checkpoint is works d = tt
+    by_stage Close false Checkpoint is works d = absurd (true≢false (sym (never false is d.0)))
+    by_stage CloseSync o Commit is works d = absurd d
+    by_stage CloseSync true Checkpoint is works d = tt
+    by_stage CloseSync false Checkpoint is works d = absurd (true≢false (sym (never false is d.0)))
+    by_stage Body true w is works d = tt
+    by_stage Body false Commit is works d = tt
+    by_stage Body false Checkpoint is works d = absurd (true≢false (sym (never false is d.0)))
+    by_stage BodySync true w is works d = tt
+    by_stage BodySync false Commit is works d = tt
+    by_stage BodySync false Checkpoint is works d = absurd (true≢false (sym (never false is d.0)))
+    by_stage Gate true w is works d = tt
+    by_stage Gate false Commit is works d = tt
+    by_stage Gate false Checkpoint is works d = absurd (true≢false (sym (never false is d.0)))
+    by_stage GateSync true w is works d = tt
+    by_stage GateSync false Commit is works d = tt
+    by_stage GateSync false Checkpoint is works d = absurd (true≢false (sym (never false is d.0)))
 
 -- at work a book does its work
-pub working : (b : Book) (stage : Stage) → InOrder b → b.stage ≡ stage → IsWorking stage → WorkOf b.work b
-working b stage i is works = by_stage stage b.work works (subst (λ (s : Stage). Does s b.work (account b) b.actions.items b.frame.items b.image.items b.ahead) is i.does)
+pub working : (b : Book) (stage : Stage) → InOrder b → b.stage ≡ stage → IsWorking stage → DoesWork b.work b
+working b stage i is works = by_stage stage b.work works (subst (λ (s : Stage). Does s b.work b) is i.does)
   where
-    by_stage : (s : Stage) (w : Work) → IsWorking s → Does s w (account b) b.actions.items b.frame.items b.image.items b.ahead → WorkOf w b
+    by_stage : (s : Stage) (w : Work) → IsWorking s → Does s w b → DoesWork w b
     by_stage Idle w never d = absurd never
     by_stage Close Commit works d = absurd d
     by_stage Close Checkpoint works d = d
@@ -44,27 +72,30 @@ working b stage i is works = by_stage stage b.work works (subst (λ (s : Stage).
     by_stage GateSync w works d = d
     by_stage Stopped w never d = absurd never
 
--- a gate is closed by a checkpoint alone
-pub closing : (b : Book) (stage : Stage) → InOrder b → b.stage ≡ stage → IsClosing stage → b.work ≡ Checkpoint
-closing b stage i is closes = by_stage stage b.work closes (subst (λ (s : Stage). Does s b.work (account b) b.actions.items b.frame.items b.image.items b.ahead) is i.does)
-  where
-    by_stage : (s : Stage) (w : Work) → IsClosing s → Does s w (account b) b.actions.items b.frame.items b.image.items b.ahead → w ≡ Checkpoint
-    by_stage Close Commit closes d = absurd d
-    by_stage Close Checkpoint closes d = refl
-    by_stage CloseSync Commit closes d = absurd d
-    by_stage CloseSync Checkpoint closes d = refl
-    by_stage Idle w closes d = absurd closes
-    by_stage Body w closes d = absurd closes
-    by_stage BodySync w closes d = absurd closes
-    by_stage Gate w closes d = absurd closes
-    by_stage GateSync w closes d = absurd closes
-    by_stage Stopped w closes d = absurd closes
-
 pub commits : (b : Book) → InOrder b → IsWorking b.stage → b.work ≡ Commit → Committing (account b) b.actions.items b.frame.items b.ahead
-commits b i works work = subst (λ (w : Work). WorkOf w b) work (working b b.stage i refl works)
+commits b i works work = subst (λ (w : Work). DoesWork w b) work (working b b.stage i refl works)
 
-pub copies : (b : Book) → InOrder b → IsWorking b.stage → b.work ≡ Checkpoint → Copying (account b) b.image.items b.ahead
-copies b i works work = subst (λ (w : Work). WorkOf w b) work (working b b.stage i refl works)
+pub copies : (b : Book) → InOrder b → IsWorking b.stage → b.work ≡ Checkpoint → (b.copying ≡ true) × (b.ahead ≡ b.stored)
+copies b i works work = subst (λ (w : Work). DoesWork w b) work (working b b.stage i refl works)
+
+-- an open checkpoint
+pub opened : (b : Book) → InOrder b → IsWorking b.stage → b.copying ≡ true → Opened b.stage b
+opened b i works on = by_stage b.stage works (subst (λ (o : Bool). IsCopying o b.stage b) on i.copy)
+  where
+    by_stage : (s : Stage) → IsWorking s → IsCopying true s b → Opened s b
+    by_stage Idle works o = absurd works
+    by_stage Stopped works o = absurd works
+    by_stage Close works o = o
+    by_stage CloseSync works o = o
+    by_stage Body works o = o
+    by_stage BodySync works o = o
+    by_stage Gate works o = o
+    by_stage GateSync works o = o
+
+pub sent_at : (b : Book) (stage : Stage) (work : Work) → InOrder b → IsWorking stage → b.stage ≡ stage → b.work ≡ work → b.copying ≡ true → Sent stage work b.out b.run
+sent_at b stage work i works at is on =
+    let here : IsWorking b.stage = subst IsWorking (sym at) works in
+    subst (λ (s : Stage). Sent s work b.out b.run) at (subst (λ (w : Work). Sent b.stage w b.out b.run) is (opened b i here on).sent)
 
 -- the plant after a commit
 pub rules_after : (b : Book) → InOrder b → Committing (account b) b.actions.items b.frame.items b.ahead → KeepsRules (run b.stored b.actions.items)
@@ -78,23 +109,26 @@ sizes_after b i c =
 pub count_after : (b : Book) → InOrder b → Committing (account b) b.actions.items b.frame.items b.ahead → (run b.stored b.actions.items).panel.count ≤ 2 ^ 48
 count_after b i c = run_within b.stored b.actions.items i.count c.admitted
 
-pub copying : (s : Stage) (o : Bool) (a : Account) (actions : List Action) (frame image : List ℕ) (ahead : Condensed) → s ≡ first_stage o → Copying a image ahead → Does s Checkpoint a actions frame image ahead
-copying s o a actions frame image ahead is c = subst (λ (x : Stage). Does x Checkpoint a actions frame image ahead) (sym is) (by_mark o)
+-- nothing is under way: nothing is begun
+pub rests : (b : Book) → IsResting (phase_of b.stage b.work) → InOrder b → b.ahead ≡ b.stored
+rests b idle i = by_stage b.stage b.work idle i.does
   where
-    by_mark : (b : Bool) → Does (first_stage b) Checkpoint a actions frame image ahead
-    by_mark true = c
-    by_mark false = c
+    by_stage : (s : Stage) (w : Work) → IsResting (phase_of s w) → Does s w b → b.ahead ≡ b.stored
+    by_stage Idle w idle d = d.1
+    by_stage Body Checkpoint idle d = d.1
+    by_stage Body Commit idle d = absurd idle
+    by_stage Stopped w idle d = absurd idle
+    by_stage Close Commit idle d = absurd idle
+    by_stage Close Checkpoint idle d = absurd idle
+    by_stage CloseSync Commit idle d = absurd idle
+    by_stage CloseSync Checkpoint idle d = absurd idle
+    by_stage BodySync Commit idle d = absurd idle
+    by_stage BodySync Checkpoint idle d = absurd idle
+    by_stage Gate Commit idle d = absurd idle
+    by_stage Gate Checkpoint idle d = absurd idle
+    by_stage GateSync Commit idle d = absurd idle
+    by_stage GateSync Checkpoint idle d = absurd idle
 
--- nothing is begun
-pub rests : (b : Book) → b.stage ≡ Idle → InOrder b → b.ahead ≡ b.stored
-rests b is i = subst (λ (s : Stage). Does s b.work (account b) b.actions.items b.frame.items b.image.items b.ahead) is i.does
-
--- how long the image is, and the body of a half
+-- how long the image is
 pub image_size_is : (b : Book) → InOrder b → length (image_text b.stored) ≡ image_size b.layout
 image_size_is b i = image_length b.stored i.rules ∙ (λ j. image_len (i.sizes.by_rows j) (i.sizes.by_areas j))
-
-pub half_body_long : (b : Book) → InOrder b → length (checkpoint_text (account b)) ≡ 25 + image_size b.layout
-half_body_long b i =
-    let image = image_size_is b i in
-    let head : length (half_head_text b.layout (b.epoch + 1) b.stored.panel.count) ≡ 24 = refl in
-    omega (arith, image, head, length-append (half_head_text b.layout (b.epoch + 1) b.stored.panel.count ++ image_text b.stored) (0 ∷ []), length-append (half_head_text b.layout (b.epoch + 1) b.stored.panel.count) (image_text b.stored))

@@ -31,13 +31,3 @@ pub fn put_half(layout: &Layout, head: &HalfHead, plant: &Plant, out: &mut [u8])
     layout.write_half_head(head, out);
     put_image(layout, plant, &mut out[24..]);
 }
-
-/// Fills the buffer with the body of a half.
-pub fn write_half(layout: &Layout, head: &HalfHead, plant: &Plant, image: &mut Vec<u8>)
-    requires rules { KeepsRules plant.now }
-    requires sizes { IsOf layout.now.rows layout.now.areas plant.now.panel.count plant.now }
-    requires room { length image.old.items ≡ 25 + image_size layout.now }
-    ensures text { image.new.items ≡ half_head_text layout.now head.now.epoch head.now.count ++ image_text plant.now ++ 0 ∷ [] }
-{
-    put_half(layout, head, plant, image);
-}

@@ -10,11 +10,12 @@ ghost use Rattle.alm_model.specs.Judging.{accepted_of};
 ghost use Rattle.alm_keeper.specs.Keeper.{begin_answer};
 ghost use Rattle.alm_keeper.specs.Phases.{UnderWay, KeptIn, Call, Advances};
 ghost use Rattle.alm_keeper.specs.Stand.{Account, end_of};
-ghost use Rattle.alm_keeper.specs.declared.stage.Stage.{Stage};
+ghost use Rattle.alm_keeper.specs.declared.phase.Phase.{Phase};
+ghost use Rattle.alm_keeper.specs.Stages.{IsResting};
 
-/// A batch that is the next one and admitted is begun by an idle keeper.
+/// A batch that is the next one and admitted is begun by a keeper that rests, also between the pieces of a checkpoint.
 pub fn next_batch_is_begun()
-    ensures { (plant : Condensed) (batch : Judged) → batch.first ≡ plant.panel.count + 1 → AllAdmitted plant (accepted_of batch.entries) → begin_answer Stage.Idle plant batch ≡ Ok tt }
+    ensures { (phase : Phase) (plant : Condensed) (batch : Judged) → IsResting phase → batch.first ≡ plant.panel.count + 1 → AllAdmitted plant (accepted_of batch.entries) → begin_answer phase plant batch ≡ Ok tt }
 {}
 
 /// What each device call leaves at any moment of it, done or failed, and what is kept once it was done: of a commit, of a checkpoint in any
