@@ -38,6 +38,17 @@ turned_is a k n long = ap (λ (gate : ℕ). record (turned a n) { gate = gate })
     place : other_at a + 1 + length (open_text a k) ≡ other_at a + n
     place = omega (arith, long, length-append (open_text a k) (0 ∷ []))
 
+-- a checkpoint that is under way is open
+pub never_alone : (stage : Stage) → Possible stage false Checkpoint → ⊥
+never_alone Idle may = absurd may
+never_alone Close may = absurd may
+never_alone CloseSync may = absurd may
+never_alone Body may = absurd may
+never_alone BodySync may = absurd may
+never_alone Gate may = absurd may
+never_alone GateSync may = absurd may
+never_alone Stopped may = absurd may
+
 -- ---- the call that is next
 
 abbrev pub IsClosing : Stage → Type 0
@@ -132,17 +143,7 @@ module _ (result : Result Unit DiskFault) (old new : DeviceState) (b : Book) (i 
       subst (λ (w : Work). Call (beside b.stage w (at_out k b.out) acts) a (piece_of b) result old new) (sym is) (commit_call result a acts (piece_of b) old new (at_out k b.out) b.stage may here)) kept
 
   never_without : b.work ≡ Checkpoint → b.copying ≡ false → ⊥
-  never_without is off = by_stage b.stage (subst (λ (w : Work). Possible b.stage false w) is (subst (λ (o : Bool). Possible b.stage o b.work) off (possible b i works)))
-    where
-      by_stage : (stage : Stage) → Possible stage false Checkpoint → ⊥
-      by_stage Idle may = absurd may
-      by_stage Close may = absurd may
-      by_stage CloseSync may = absurd may
-      by_stage Body may = absurd may
-      by_stage BodySync may = absurd may
-      by_stage Gate may = absurd may
-      by_stage GateSync may = absurd may
-      by_stage Stopped may = absurd may
+  never_without is off = never_alone b.stage (subst (λ (w : Work). Possible b.stage false w) is (subst (λ (o : Bool). Possible b.stage o b.work) off (possible b i works)))
 
   pub checkpoint_passes : (at : ℕ) → b.work ≡ Checkpoint → (b.stage ≡ Body → ⊥) → at ≡ other_at a → StageCall b.stage at [] result old new → Keeps old b → PassesOn result old new b
   checkpoint_passes at is pieces place call kept =
@@ -165,7 +166,7 @@ module _ (result : Result Unit DiskFault) (old new : DeviceState) (b : Book) (i 
 -- ---- what a crash leaves
 
 -- the work that is begun stays the same as long as it is done
-next_is : (b : Book) (stage : Stage) → b.stage ≡ stage → IsWorking stage → next b ≡ done_by b.work b
+pub next_is : (b : Book) (stage : Stage) → b.stage ≡ stage → IsWorking stage → next b ≡ done_by b.work b
 next_is b stage is works = ap (λ (s : Stage). next_of s b.work b) is ∙ by_stage stage works
   where
     by_stage : (s : Stage) → IsWorking s → next_of s b.work b ≡ done_by b.work b
@@ -251,17 +252,7 @@ module _ (b : Book) (i : InOrder b) (works : IsWorking b.stage) (result : Result
 
   moment_by : (x : List ℕ) (copying : Bool) (work : Work) → b.copying ≡ copying → Possible b.stage copying work → PassesBy copying b.stage work b result old new → IsImage old x ⊎ IsImage new x → During Stored (Then work) b.stage x
   moment_by x false Commit is may p moment = leaves_alone (account b) b.actions.items x b.stage works (p.any_moment x moment)
-  moment_by x false Checkpoint is may p moment = absurd (none b.stage may)
-    where
-      none : (stage : Stage) → Possible stage false Checkpoint → ⊥
-      none Idle m = absurd m
-      none Close m = absurd m
-      none CloseSync m = absurd m
-      none Body m = absurd m
-      none BodySync m = absurd m
-      none Gate m = absurd m
-      none GateSync m = absurd m
-      none Stopped m = absurd m
+  moment_by x false Checkpoint is may p moment = absurd (never_alone b.stage may)
   moment_by x true Commit is may p moment = leaves_commit (account b) b.actions.items x (at_out p.0 b.out) b.stage may (p.3.any_moment x moment)
   moment_by x true Checkpoint is may p moment =
       leaves_checkpoint (account b) b.actions.items x (at_out p.0 b.out) b.run (ap length p.1 ∙ run_size b i works is) b.stage may (p.3.any_moment x moment)
@@ -403,17 +394,7 @@ module _ (step : Progress) (old new : Book) (state : DeviceState) (i : InOrder o
     where
       by_copying : (copying : Bool) (work : Work) → old.copying ≡ copying → old.work ≡ work → Possible old.stage copying work → GoesOn old.stage work step old new → PassesBy copying old.stage work old result was state → Keeps state new
       by_copying false Commit on is may g p = goes_alone old.stage on is may g (p.kept done)
-      by_copying false Checkpoint on is may g p = absurd (none old.stage may)
-        where
-          none : (stage : Stage) → Possible stage false Checkpoint → ⊥
-          none Idle m = absurd m
-          none Close m = absurd m
-          none CloseSync m = absurd m
-          none Body m = absurd m
-          none BodySync m = absurd m
-          none Gate m = absurd m
-          none GateSync m = absurd m
-          none Stopped m = absurd m
+      by_copying false Checkpoint on is may g p = absurd (never_alone old.stage may)
       by_copying true Commit on is may g p = goes_commit p.0 p.1 on was old.stage is may g p.2 (p.3.kept done)
       by_copying true Checkpoint on is may g p = goes_checkpoint p.0 p.1 on old.stage is may g (p.3.kept done)
 

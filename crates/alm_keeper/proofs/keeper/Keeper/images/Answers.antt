@@ -1,8 +1,8 @@
-use Rattle.alm_keeper.proofs.Standings.{images_of, idle_of}
+use Rattle.alm_keeper.proofs.Standings.{images_of, rest_of}
 use Rattle.alm_keeper.proofs.keeper.Keeper.images.Goals as goal
 
 pub returns-clause-either : goal.returns-clause-either
 returns-clause-either g c = images_of g.D.Disk.honest g.D.Disk.state c.self.inside.disk c.self.inside.book c.args.self.now c.self.view_is c.self.invariant.0 c.self.invariant.2
 
-pub returns-clause-idle : goal.returns-clause-idle
-returns-clause-idle g c = idle_of g.D.Disk.honest g.D.Disk.state c.self.inside.disk c.self.inside.book c.args.self.now c.self.view_is c.self.invariant.0 c.self.invariant.2
+pub returns-clause-rests : goal.returns-clause-rests
+returns-clause-rests g c = rest_of g.D.Disk.honest g.D.Disk.state c.self.inside.disk c.self.inside.book c.args.self.now c.self.view_is c.self.invariant.0 c.self.invariant.2
