@@ -357,23 +357,16 @@ module _ (step : Progress) (old new : Book) (state : DeviceState) (i : InOrder o
     goes_commit was Stopped is may goes before kept = absurd may
 
     -- all of the run went out, or another piece is next
+    abbrev Placed : Bool → Type 0
+    Placed last = KeptIn (if last then End here BodySync else Pause (sent here (piece_of old))) (account old) state
+
+    by_place : (last : Bool) → old.work ≡ Checkpoint → (old.out + piece_of old == old.run) ≡ last → Placed last → Keeps state (sent_by (piece_of old) old)
+    by_place true is at x = as_book (sent_by (piece_of old) old) BodySync true Checkpoint (ap (λ (l : Bool). if l then BodySync else Body) at) on is (k, run, x)
+    by_place false is at x = as_book (sent_by (piece_of old) old) Body true Checkpoint (ap (λ (l : Bool). if l then BodySync else Body) at) on is (k, run, x)
+
     sends : old.work ≡ Checkpoint → new ≡ sent_by (piece_of old) old → Next Body Checkpoint → Keeps state new
-    sends is goes kept = moved to goes (by_place (old.out + piece_of old == old.run) refl here_kept)
-      where
-        to : Book
-        to = sent_by (piece_of old) old
-
-        abbrev Placed : Bool → Type 0
-        Placed last = KeptIn (if last then End here BodySync else Pause (sent here (piece_of old))) (account old) state
-
-        here_kept : Placed (old.out + piece_of old == old.run)
-        here_kept = subst (λ (n : ℕ). Placed (old.out + piece_of old == n)) (ap length run ∙ run_size old i works on) kept
-
-        by_place : (last : Bool) → (old.out + piece_of old == old.run) ≡ last → Placed (old.out + piece_of old == old.run) → Keeps state (sent_by (piece_of old) old)
-        by_place true at x =
-            as_book (sent_by (piece_of old) old) BodySync true Checkpoint (ap (λ (l : Bool). if l then BodySync else Body) at) on is (k, run, subst Placed at x)
-        by_place false at x =
-            as_book (sent_by (piece_of old) old) Body true Checkpoint (ap (λ (l : Bool). if l then BodySync else Body) at) on is (k, run, subst Placed at x)
+    sends is goes kept =
+        moved (sent_by (piece_of old) old) goes (by_place (old.out + piece_of old == old.run) is refl (subst (λ (n : ℕ). Placed (old.out + piece_of old == n)) (ap length run ∙ run_size old i works on) kept))
 
     turned_rest : Turns old new → KeptIn Rest (turned_by (account old) here) state → Keeps state new
     turned_rest t kept = rested new (turned_by (account old) here) state t.stage t.copying (t.account ∙ sym (turned_is (account old) here old.run (ap length run ∙ run_size old i works on))) kept

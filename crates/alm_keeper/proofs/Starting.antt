@@ -18,7 +18,7 @@ use Rattle.alm_keeper.specs.Stages.{IsWorking, IsResting, first_stage, phase_of}
 use Rattle.alm_keeper.specs.Stand.{Holds, Account, Ready}
 use Rattle.alm_keeper.specs.Piecewise.{Copy, fresh, run_text}
 use Rattle.alm_keeper.specs.Phases.{Rest, Shut, Pause, Rested, KeptIn, Commits}
-use Rattle.alm_keeper.specs.Keeping.{account, run_in, at_out, Does, InOrder, FitsDevice, Begins, Copies, KeptBy, Keeps}
+use Rattle.alm_keeper.specs.Keeping.{account, run_in, at_out, Does, Opened, IsCopying, InOrder, FitsDevice, Begins, Copies, KeptBy, Keeps}
 use Rattle.alm_keeper.proofs.Commit.{ready_holds}
 use Rattle.alm_keeper.proofs.Order.{commits, opened}
 use Rattle.alm_keeper.proofs.Begun.{idle_commits, paused_commits, idle_copies, first_work}
@@ -139,3 +139,74 @@ copied_keeps (Err why) old new state b before i k = subst (Keeps state) (sym b) 
 pub copied_layout : (result : Result Unit Refused) (old new : Book) → Copies result old new → new.layout ≡ old.layout
 copied_layout (Ok _) old new b = ap (λ (a : Account). a.layout) b.account
 copied_layout (Err why) old new b = ap (λ (x : Book). x.layout) b
+
+-- a mark changes nothing but its count
+pub marked_order : (b : Book) (n : ℕ) → InOrder b → InOrder (record b { written = n })
+marked_order b n i = record {
+  layout = i.layout;
+  small = i.small;
+  rules = i.rules;
+  sizes = i.sizes;
+  count = i.count;
+  first = i.first;
+  gate = i.gate;
+  room = i.room;
+  frame = i.frame;
+  buffer = i.buffer;
+  does = does b.stage b.work i.does;
+  copy = copies b.copying b.stage i.copy;
+}
+  where
+    does : (s : Stage) (w : Work) → Does s w b → Does s w (record b { written = n })
+    does Idle w d = d
+    does Close Commit d = absurd d
+    does Close Checkpoint d = d
+    does CloseSync Commit d = absurd d
+    does CloseSync Checkpoint d = d
+    does Body Commit d = d
+    does Body Checkpoint d = d
+    does BodySync Commit d = d
+    does BodySync Checkpoint d = d
+    does Gate Commit d = d
+    does Gate Checkpoint d = d
+    does GateSync Commit d = d
+    does GateSync Checkpoint d = d
+    does Stopped w d = tt
+
+    same : (s : Stage) → Opened s b → Opened s (record b { written = n })
+    same s o = record { more = o.more; least = o.least; room = o.room; sent = o.sent }
+
+    copies : (o : Bool) (s : Stage) → IsCopying o s b → IsCopying o s (record b { written = n })
+    copies false s o = tt
+    copies true Stopped o = tt
+    copies true Idle o = same Idle o
+    copies true Close o = same Close o
+    copies true CloseSync o = same CloseSync o
+    copies true Body o = same Body o
+    copies true BodySync o = same BodySync o
+    copies true Gate o = same Gate o
+    copies true GateSync o = same GateSync o
+
+pub marked_keeps : (b : Book) (n : ℕ) (state : DeviceState) → Keeps state b → Keeps state (record b { written = n })
+marked_keeps b n state kept = by_stage b.stage b.copying kept
+  where
+    by_stage : (s : Stage) (o : Bool) → KeptBy s o b.work b state → KeptBy s o b.work (record b { written = n }) state
+    by_stage Stopped o k = by_work b.work k
+      where
+        by_work : (w : Work) → KeptBy Stopped o w b state → KeptBy Stopped o w (record b { written = n }) state
+        by_work Commit x = x
+        by_work Checkpoint x = x
+    by_stage Idle false k = k
+    by_stage Idle true k = k
+    by_stage Close false k = k
+    by_stage Close true k = k
+    by_stage CloseSync false k = k
+    by_stage CloseSync true k = k
+    by_stage Body false k = k
+    by_stage Body true k = k
+    by_stage BodySync false k = k
+    by_stage BodySync true k = k
+    by_stage Gate false k = k
+    by_stage Gate true k = k
+    by_stage GateSync false k = k
+    by_stage GateSync true k = k

@@ -164,7 +164,7 @@ pub record Closes (old new : Book) : Type 0 where
 
 pub record Turns (old new : Book) : Type 0 where
   pub stage : new.stage ≡ Idle
-  pub work : new.work ≡ Checkpoint
+  pub work : new.work ≡ old.work
   pub account : account new ≡ turned (account old) old.run
   pub actions : new.actions.items ≡ old.actions.items
   pub copying : new.copying ≡ false

@@ -13,23 +13,20 @@ ghost use Rattle.alm_keeper.specs.Stages.{phase_of};
 ghost use Rattle.alm_keeper.specs.Keeper.{begin_answer, checkpoint_answer};
 ghost use Rattle.alm_keeper.specs.Keeping.{account, run_in, piece_of, InOrder, Begins, Copies, Closes, Turns, Finishes, sent_by, GoesOn};
 
-use crate::frame::write_frame;
-use crate::half_text::put_half;
+use crate::frame::{append_frame, write_frame};
+use crate::half_text::write_half;
 use crate::phase::Phase;
 use crate::progress::Progress;
 use crate::refused::Refused;
 use crate::stage::{Stage, Work, phase_of};
 use crate::trying::try_all;
 use alm_checkpoint::{HEAD_LEN, Half, HalfHead, Layout};
-use alm_codec::write_frame_body;
 use alm_model::{Alarms, apply_all};
 use alm_plant::Plant;
 use alm_types::{Action, Batch};
 
 /// The longest piece of a run.
 const MOST: usize = 65_536;
-
-const OPEN: u8 = 0xA5;
 
 /// What a keeper knows and has begun. Its room was taken when the device was opened.
 #[derive(Drop)]
@@ -166,15 +163,14 @@ impl Book {
         ensures long { length self.new.buffer.items ≡ length self.old.buffer.items }
         ensures same { self.new ≡ record self.old { run = self.new.run; buffer = self.new.buffer } }
     {
-        let at = self.run;
-        self.buffer[at - 1] = OPEN;
-        write_frame_body(
+        append_frame(
             self.epoch + 1,
             self.stored.count() + 1,
             &self.actions,
-            &mut self.buffer[at..],
+            self.run,
+            &mut self.buffer,
         );
-        self.run = at + self.frame_len();
+        self.run += self.frame_len();
     }
 
     /// The frame behind the gate is stored. An open checkpoint waits for its next piece.
@@ -330,10 +326,9 @@ impl Book {
             epoch: self.epoch + 1,
             count: self.stored.count(),
         };
-        let run = HEAD_LEN + self.layout.image_len();
-        put_half(&self.layout, &head, &self.stored, &mut self.buffer[..run]);
+        write_half(&self.layout, &head, &self.stored, &mut self.buffer);
         self.copying = true;
-        self.run = run;
+        self.run = HEAD_LEN + self.layout.image_len();
         self.out = 0;
         self.work = Work::Checkpoint;
         self.stage = first_stage(self.other_open);

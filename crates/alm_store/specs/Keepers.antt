@@ -1,10 +1,13 @@
 -- A keeper as a store.
-use Rattle.std.specs.Prelude.{◌-◌, ◌^◌, ℕ, List}
+use Rattle.std.specs.Prelude.{◌+◌, ◌-◌, ◌/◌, ◌^◌, ℕ, List}
 use Rattle.alm_disk.specs.Device.{DeviceState}
 use Rattle.alm_model.specs.Plant.{Condensed}
 use Rattle.alm_checkpoint.specs.Standing.{Stands}
+use Rattle.alm_keeper.specs.Keeper.{most}
 use Rattle.alm_keeper.specs.declared.stage.Stage.{Stage}
-use Rattle.alm_keeper.specs.declared.stage.Stage.TheVariants.{Idle, Close, CloseSync, Body, BodySync, Gate, GateSync, Stopped}
+use Rattle.alm_keeper.specs.declared.stage.Stage.TheVariants.{Close, CloseSync, Body, BodySync, Gate, GateSync}
+use Rattle.alm_keeper.specs.declared.stage.Work.{Work}
+use Rattle.alm_keeper.specs.declared.stage.Work.TheVariants.{Commit, Checkpoint}
 
 -- the bytes stand for the plant, in some epoch
 abbrev pub StandsFor : List ℕ → Condensed → Type 0
@@ -14,13 +17,17 @@ StandsFor bytes plant = (epoch : ℕ) × Stands bytes epoch plant
 abbrev pub IsSpent : DeviceState → Type 0
 IsSpent state = ∥ ((plant : Condensed) × Stands state.bytes (2 ^ 64 - 1) plant) ∥₁
 
--- how many device calls of the work that is under way are left
-abbrev pub calls_left : Stage → ℕ
-calls_left Idle = 0
-calls_left Close = 6
-calls_left CloseSync = 5
-calls_left Body = 4
-calls_left BodySync = 3
-calls_left Gate = 2
-calls_left GateSync = 1
-calls_left Stopped = 0
+-- in how many pieces so many bytes go out
+abbrev pub pieces : ℕ → ℕ
+pieces left = (left - 1) / most + 1
+
+-- how many device calls are left of the work that is under way, and of a run so many bytes
+abbrev pub calls_left : Stage → Work → (left : ℕ) → ℕ
+calls_left Close work left = 5 + pieces left
+calls_left CloseSync work left = 4 + pieces left
+calls_left Body Commit left = 4
+calls_left Body Checkpoint left = 3 + pieces left
+calls_left BodySync work left = 3
+calls_left Gate work left = 2
+calls_left GateSync work left = 1
+calls_left stage work left = 0

@@ -1,6 +1,6 @@
 -- What a store's laws are of a keeper.
-use Rattle.std.specs.Prelude.{◌≡◌, List, ℕ}
-use Rattle.std.proofs.Common.{refl, ap}
+use Rattle.std.specs.Prelude.{◌≡◌, ◌≢◌, List, ℕ}
+use Rattle.std.proofs.Common.{refl}
 use Rattle.alm_disk.specs.Device.{IsBytes}
 use Rattle.alm_model.specs.Plant.{Condensed}
 use Rattle.alm_model.specs.Rules.{KeepsRules}
@@ -12,28 +12,46 @@ use Rattle.alm_keeper.specs.declared.stage.Stage.{Stage}
 use Rattle.alm_keeper.specs.declared.stage.Stage.TheVariants.{Idle, Close, CloseSync, Body, BodySync, Gate, GateSync, Stopped}
 use Rattle.alm_keeper.specs.declared.stage.Work.{Work}
 use Rattle.alm_keeper.specs.declared.stage.Work.TheVariants.{Commit, Checkpoint}
-use Rattle.alm_keeper.specs.Stages.{phase_at, phase_of}
-use Rattle.alm_keeper.specs.Keeper.{Held, next, next_by}
+use Rattle.alm_keeper.specs.Stages.{phase_of}
+use Rattle.alm_keeper.specs.Keeper.{Held, next, next_by, begun_by}
 use Rattle.alm_store.specs.Keepers.{StandsFor}
 
--- no work is an idle phase
-idle_work : (w : Work) → phase_at w ≡ at.Idle → ⊥
-idle_work Commit e = absurd cc
-idle_work Checkpoint e = absurd cc
-
+-- a keeper whose phase is idle is at no stage of a work
 pub is_idle : (s : Stage) (w : Work) → phase_of s w ≡ at.Idle → s ≡ Idle
 is_idle Idle w e = refl
 is_idle Stopped w e = absurd cc
-is_idle Close w e = absurd (idle_work w e)
-is_idle CloseSync w e = absurd (idle_work w e)
-is_idle Body w e = absurd (idle_work w e)
-is_idle BodySync w e = absurd (idle_work w e)
-is_idle Gate w e = absurd (idle_work w e)
-is_idle GateSync w e = absurd (idle_work w e)
+is_idle Close Commit e = absurd cc
+is_idle Close Checkpoint e = absurd cc
+is_idle CloseSync Commit e = absurd cc
+is_idle CloseSync Checkpoint e = absurd cc
+is_idle Body Commit e = absurd cc
+is_idle Body Checkpoint e = absurd cc
+is_idle BodySync Commit e = absurd cc
+is_idle BodySync Checkpoint e = absurd cc
+is_idle Gate Commit e = absurd cc
+is_idle Gate Checkpoint e = absurd cc
+is_idle GateSync Commit e = absurd cc
+is_idle GateSync Checkpoint e = absurd cc
 
--- where nothing is under way the next plant is the stored one
-pub rests : {D : Type 0} (k : Held D) → phase_of k.stage k.work ≡ at.Idle → (next k).plant ≡ k.stored.plant
-rests k idle = ap (λ (s : Stage). (next_by s k.stored k.begun).plant) (is_idle k.stage k.work idle)
+-- where no commit is under way the next plant is the stored one
+rests_by : {D : Type 0} (s : Stage) (w : Work) (k : Held D) → phase_of s w ≢ at.Committing → phase_of s w ≢ at.Stopped → (next_by s k.stored (begun_by w k)).plant ≡ k.stored.plant
+rests_by Idle w k other going = refl
+rests_by Stopped w k other going = absurd (going refl)
+rests_by Close Commit k other going = absurd (other refl)
+rests_by Close Checkpoint k other going = refl
+rests_by CloseSync Commit k other going = absurd (other refl)
+rests_by CloseSync Checkpoint k other going = refl
+rests_by Body Commit k other going = absurd (other refl)
+rests_by Body Checkpoint k other going = refl
+rests_by BodySync Commit k other going = absurd (other refl)
+rests_by BodySync Checkpoint k other going = refl
+rests_by Gate Commit k other going = absurd (other refl)
+rests_by Gate Checkpoint k other going = refl
+rests_by GateSync Commit k other going = absurd (other refl)
+rests_by GateSync Checkpoint k other going = refl
+
+pub rests : {D : Type 0} (k : Held D) → phase_of k.stage k.work ≢ at.Committing → phase_of k.stage k.work ≢ at.Stopped → (next k).plant ≡ k.stored.plant
+rests k other going = rests_by k.stage k.work k other going
 
 -- no bytes stand for two plants
 pub stands_for_one : (bytes : List ℕ) (p q : Condensed) → StandsFor bytes p → StandsFor bytes q → p ≡ q

@@ -9,8 +9,8 @@ use alm_types::Batch;
 use std::alloc::Global;
 
 impl<D: Disk + Drop> Store for Keeper<D> {
-    ghost use Rattle.std.specs.Prelude.{length};
-    ghost use Rattle.alm_keeper.specs.Keeper.{HasRoom, next};
+    ghost use Rattle.std.specs.Prelude.{◌-◌, length};
+    ghost use Rattle.alm_keeper.specs.Keeper.{HasRoom, next, used};
     ghost use Rattle.alm_keeper.specs.Stages.{phase_of};
     ghost use Rattle.alm_store.specs.Keepers.{StandsFor, IsSpent, calls_left};
     ghost use Rattle.alm_store.specs.Resting.{keeps_rules, rests, stands_for_one};
@@ -35,7 +35,13 @@ impl<D: Disk + Drop> Store for Keeper<D> {
 
     ghost will_take = { λ k actions. HasRoom (next k) (length actions) };
 
-    ghost left = { λ k. calls_left k.stage };
+    ghost left = { λ k. calls_left k.stage k.work (k.run - k.out) };
+
+    ghost written = { λ k. k.written };
+
+    ghost used = { λ k. used k };
+
+    ghost segment = { λ k. k.segment };
 
     ghost spent = { IsSpent };
 
@@ -67,6 +73,18 @@ impl<D: Disk + Drop> Store for Keeper<D> {
         self.fits(accepted_in(batch))
     }
 
+    fn is_half_used(&self) -> bool {
+        Keeper::segment(self) < 2 * Keeper::used(self)
+    }
+
+    fn written_since(&self) -> u64 {
+        Keeper::written_since(self)
+    }
+
+    fn mark(&mut self) {
+        Keeper::mark(self);
+    }
+
     fn begin(&mut self, batch: &Batch) -> Result<(), Refused> {
         Keeper::begin(self, batch)
     }
@@ -78,10 +96,11 @@ impl<D: Disk + Drop> Store for Keeper<D> {
     }
 
     fn advance(&mut self) -> Progress {
+        Keeper::images(self);
         Keeper::advance(self)
     }
 
-    ghost idle = { λ k is. rests k is };
+    ghost idle = { λ k other going. rests k other going };
 
     ghost one = { λ bytes p q x y. stands_for_one bytes p q x y };
 
