@@ -1,3 +1,4 @@
 pub mod Begun
 pub mod CallsLeft
 pub mod Opened
+pub mod Passing

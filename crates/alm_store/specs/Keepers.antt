@@ -21,12 +21,16 @@ IsSpent state = ∥ ((plant : Condensed) × Stands state.bytes (2 ^ 64 - 1) plan
 abbrev pub pieces : ℕ → ℕ
 pieces left = (left - 1) / most + 1
 
--- how many device calls are left of the work that is under way, and of a run so many bytes
+-- how many device calls write and open what a gate guards, of a run so many bytes
+abbrev pub body_calls : Work → (left : ℕ) → ℕ
+body_calls Commit left = 4
+body_calls Checkpoint left = 3 + pieces left
+
+-- how many are left of the work that is under way
 abbrev pub calls_left : Stage → Work → (left : ℕ) → ℕ
-calls_left Close work left = 5 + pieces left
-calls_left CloseSync work left = 4 + pieces left
-calls_left Body Commit left = 4
-calls_left Body Checkpoint left = 3 + pieces left
+calls_left Close work left = 2 + body_calls work left
+calls_left CloseSync work left = 1 + body_calls work left
+calls_left Body work left = body_calls work left
 calls_left BodySync work left = 3
 calls_left Gate work left = 2
 calls_left GateSync work left = 1

@@ -74,7 +74,8 @@ impl<D: Disk + Drop> Store for Keeper<D> {
     }
 
     fn is_half_used(&self) -> bool {
-        Keeper::segment(self) < 2 * Keeper::used(self)
+        let used = Keeper::used(self);
+        Keeper::segment(self) - used < used
     }
 
     fn written_since(&self) -> u64 {

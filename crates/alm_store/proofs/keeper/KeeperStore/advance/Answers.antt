@@ -1,8 +1,29 @@
-use Rattle.alm_store.proofs.CallsLeft.{fewer, done}
+use Rattle.alm_store.proofs.CallsLeft.{works, open_work, fewer, done, takes_kept, written_more, unwritten}
+use Rattle.alm_store.proofs.Passing.{advanced}
 use Rattle.alm_store.proofs.keeper.KeeperStore.advance.Goals as goal
 
+pub advance-requires-working : goal.advance-requires-working
+advance-requires-working g c = works c.args.self.now.stage c.args.self.now.work c.requires
+
+pub returns-clause-advanced : goal.returns-clause-advanced
+returns-clause-advanced g c = advanced c.args.self.now c.advance.new.self (works c.args.self.now.stage c.args.self.now.work c.requires) c.advance.result c.advance.ensures.advances
+
 pub returns-clause-fewer : goal.returns-clause-fewer
-returns-clause-fewer g c = fewer c.advance.result c.args.self.now c.advance.new.self c.advance.ensures.advances
+returns-clause-fewer g c =
+    let k = c.args.self.now in
+    let at = works k.stage k.work c.requires in
+    fewer c.advance.result k c.advance.new.self at (λ is. (c.images.ensures.runs at is).0) c.advance.ensures.advances
 
 pub returns-clause-done : goal.returns-clause-done
 returns-clause-done g c = done c.advance.result c.args.self.now c.advance.new.self c.advance.ensures.advances
+
+pub returns-clause-takes : goal.returns-clause-takes
+returns-clause-takes g c = λ open not actions room.
+    let k = c.args.self.now in
+    takes_kept c.advance.result k c.advance.new.self open (c.images.ensures.runs (works k.stage k.work c.requires) (open_work k.stage k.work open)).1 c.advance.ensures.advances not actions room
+
+pub returns-clause-written : goal.returns-clause-written
+returns-clause-written g c = written_more c.advance.result c.args.self.now c.advance.new.self c.advance.ensures.advances
+
+pub returns-clause-unwritten : goal.returns-clause-unwritten
+returns-clause-unwritten g c = λ not. unwritten c.advance.result c.args.self.now c.advance.new.self c.advance.ensures.advances not
