@@ -74,35 +74,42 @@ first_next false stored begun = refl
 
 module _ {D : Type 0} (k : Held D) where
   fewer_by : (s : Stage) (w : Work) → k.work ≡ w → s ≢ GateSync → IsWorking s → (w ≡ Checkpoint → k.out ≤ k.run) → Left (after_by s w k) < calls_left s w (k.run - k.out)
-  fewer_by Idle w is not works runs = absurd works
-  fewer_by Stopped w is not works runs = absurd works
-  fewer_by Close w is not works runs = omega (arith, ap (λ (v : Work). body_calls v (k.run - k.out)) is)
-  fewer_by CloseSync w is not works runs = omega (arith, ap (λ (v : Work). body_calls v (k.run - k.out)) is)
-  fewer_by Body Commit is not works runs = omega arith
-  fewer_by Body Checkpoint is not works runs =
+  fewer_by Idle w is not at_work runs = absurd at_work
+  fewer_by Stopped w is not at_work runs = absurd at_work
+  fewer_by Close w is not at_work runs = omega (arith, ap (λ (v : Work). body_calls v (k.run - k.out)) is)
+  fewer_by CloseSync w is not at_work runs = omega (arith, ap (λ (v : Work). body_calls v (k.run - k.out)) is)
+  fewer_by Body Commit is not at_work runs = omega arith
+  fewer_by Body Checkpoint is not at_work runs =
       let stage = sent_stage (k.out + piece (k.run - k.out)) k.run in
       let less = piece_less k.out k.run (k.out + piece (k.run - k.out) == k.run) refl (runs refl) in
       omega (arith, less, ap (λ (v : Work). calls_left stage v (k.run - (k.out + piece (k.run - k.out)))) is)
-  fewer_by BodySync w is not works runs = omega arith
-  fewer_by Gate w is not works runs = omega arith
-  fewer_by GateSync w is not works runs = absurd (not refl)
+  fewer_by BodySync w is not at_work runs = omega arith
+  fewer_by Gate w is not at_work runs = omega arith
+  fewer_by GateSync w is not at_work runs = absurd (not refl)
+
+  at_stage : (s : Stage) (w v : Work) → v ≡ w → begun_by v (record k { stage = s }) ≡ begun_by w k
+  at_stage s w v is = by_work v ∙ ap (λ (x : Work). begun_by x k) is
+    where
+      by_work : (x : Work) → begun_by x (record k { stage = s }) ≡ begun_by x k
+      by_work Commit = refl
+      by_work Checkpoint = refl
 
   -- what is next stays until the work is done
   pub next_kept : (s : Stage) (w : Work) → k.work ≡ w → s ≢ GateSync → IsWorking s → next (after_by s w k) ≡ next_by s k.stored (begun_by w k)
-  next_kept Idle w is not works = absurd works
-  next_kept Stopped w is not works = absurd works
-  next_kept Close w is not works = ap (λ (v : Work). begun_by v k) is
-  next_kept CloseSync w is not works = by_work k.work ∙ ap (λ (v : Work). begun_by v k) is
+  next_kept Idle w is not at_work = absurd at_work
+  next_kept Stopped w is not at_work = absurd at_work
+  next_kept Close w is not at_work = at_stage CloseSync w k.work is
+  next_kept CloseSync w is not at_work = by_work k.work ∙ ap (λ (v : Work). begun_by v k) is
     where
       by_work : (v : Work) → begun_by v (record k { stage = Body; other_open = false }) ≡ begun_by v k
       by_work Commit = refl
       by_work Checkpoint = refl
-  next_kept Body Commit is not works = ap (λ (v : Work). begun_by v k) is
-  next_kept Body Checkpoint is not works =
+  next_kept Body Commit is not at_work = at_stage BodySync Commit k.work is
+  next_kept Body Checkpoint is not at_work =
       sent_next (k.out + piece (k.run - k.out) == k.run) k.stored (begun_by k.work (sends (piece (k.run - k.out)) k)) ∙ ap (λ (v : Work). begun_by v (sends (piece (k.run - k.out)) k)) is
-  next_kept BodySync w is not works = ap (λ (v : Work). begun_by v k) is
-  next_kept Gate w is not works = ap (λ (v : Work). begun_by v k) is
-  next_kept GateSync w is not works = absurd (not refl)
+  next_kept BodySync w is not at_work = at_stage Gate w k.work is
+  next_kept Gate w is not at_work = at_stage GateSync w k.work is
+  next_kept GateSync w is not at_work = absurd (not refl)
 
   -- and what is stored
   pub stored_kept : (s : Stage) (w : Work) → s ≢ GateSync → (after_by s w k).stored ≡ k.stored
@@ -139,6 +146,14 @@ module _ {D : Type 0} (k : Held D) where
   unwritten_by Gate w not = omega arith
   unwritten_by GateSync Commit not = omega arith
   unwritten_by GateSync Checkpoint not = omega arith
+
+-- another device changes nothing of it
+pub same_next : {D : Type 0} (k : Held D) (disk : D) → next (record k { disk = disk }) ≡ next k
+same_next k disk = ap (next_by k.stage k.stored) (by_work k.work)
+  where
+    by_work : (w : Work) → begun_by w (record k { disk = disk }) ≡ begun_by w k
+    by_work Commit = refl
+    by_work Checkpoint = refl
 
 -- an open checkpoint's stage is of a checkpoint
 pub open_work : (s : Stage) (w : Work) → IsOpen (phase_of s w) → w ≡ Checkpoint
@@ -178,7 +193,7 @@ module _ {D : Type 0} where
   fewer More old new works runs goes is =
       let left = ap Left goes.1 in
       let less = fewer_by old old.stage old.work refl goes.0 works runs in
-      let same : next new ≡ next old = ap next goes.1 ∙ next_kept old old.stage old.work refl goes.0 works in (
+      let same : next new ≡ next old = ap next goes.1 ∙ same_next (after old) new.disk ∙ next_kept old old.stage old.work refl goes.0 works in (
         omega (arith, left, less),
         λ actions room. subst (λ (s : Standing). HasRoom s (length actions)) (sym same) room,
       )
@@ -187,32 +202,32 @@ module _ {D : Type 0} where
 
   -- a checkpoint is done
   turned : (old new : Held D) → IsOpen (phase_of old.stage old.work) → Advances Done old new → (new.stage ≡ Idle) × (new.stored ≡ begun_by Checkpoint old)
-  turned old new open goes =
-      let work = open_work old.stage old.work open in
+  turned old new goes_on goes =
+      let work = open_work old.stage old.work goes_on in
       let is : after old ≡ after_by GateSync Checkpoint old = λ i. after_by (goes.0 i) (work i) old in
       (ap (λ (k : Held D). k.stage) (goes.1) ∙ ap (λ (k : Held D). k.stage) is, ap (λ (k : Held D). k.stored) (goes.1) ∙ ap (λ (k : Held D). k.stored) is)
 
   pub done : (result : Progress) (old new : Held D) → Advances result old new → result ≡ Done → IsOpen (phase_of old.stage old.work)
       → (phase_of new.stage new.work ≡ at.Idle) × ((actions : List Action) → HasRoom (next old) (length actions) → HasRoom new.stored (length actions))
-  done Done old new goes is open =
-      let t = turned old new open goes in
-      let work = open_work old.stage old.work open in
+  done Done old new goes is goes_on =
+      let t = turned old new goes_on goes in
+      let work = open_work old.stage old.work goes_on in
       let same : next old ≡ new.stored = (λ i. next_by (goes.0 i) old.stored (begun_by (work i) old)) ∙ sym t.1 in (
         ap (λ (s : Stage). phase_of s new.work) t.0,
         λ actions room. subst (λ (s : Standing). HasRoom s (length actions)) same room,
       )
-  done More old new goes is open = absurd cc
-  done Failed old new goes is open = absurd cc
+  done More old new goes is goes_on = absurd cc
+  done Failed old new goes is goes_on = absurd cc
 
   -- what was taken is taken behind a checkpoint's call
   pub takes_kept : (result : Progress) (old new : Held D) → IsOpen (phase_of old.stage old.work) → old.run + old.stored.room ≤ 25 + old.image + old.segment → Advances result old new → result ≢ Failed
       → (actions : List Action) → HasRoom old.stored (length actions) → HasRoom new.stored (length actions)
-  takes_kept More old new open runs goes not actions room =
+  takes_kept More old new goes_on runs goes not actions room =
       subst (λ (s : Standing). HasRoom s (length actions)) (sym (ap (λ (k : Held D). k.stored) goes.1 ∙ stored_kept old old.stage old.work goes.0)) room
-  takes_kept Done old new open runs goes not actions room =
-      let left : new.stored.room ≡ 25 + old.image + old.segment - old.run = ap (λ (s : Standing). s.room) (turned old new open goes).1 in
+  takes_kept Done old new goes_on runs goes not actions room =
+      let left : new.stored.room ≡ 25 + old.image + old.segment - old.run = ap (λ (s : Standing). s.room) (turned old new goes_on goes).1 in
       omega (arith, left, runs, room)
-  takes_kept Failed old new open runs goes not actions room = absurd (not refl)
+  takes_kept Failed old new goes_on runs goes not actions room = absurd (not refl)
 
   pub written_more : (result : Progress) (old new : Held D) → Advances result old new → new.written ≤ old.written + 65536
   written_more More old new goes = let is = ap (λ (k : Held D). k.written) goes.1 in omega (arith, is, written_by old old.stage old.work)

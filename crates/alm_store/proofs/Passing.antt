@@ -18,7 +18,7 @@ use Rattle.alm_keeper.specs.Stages.{IsWorking, IsResting, following, first_stage
 use Rattle.alm_keeper.specs.Keeper.{Held, Standing, next, next_by, begun_by, piece, commits, after, after_by, begin_answer, checkpoint_answer, BeginsCommit, BeginsCheckpoint, Advances}
 use Rattle.alm_store.specs.Advancing.{Advanced, IsOpen}
 use Rattle.alm_store.specs.Resting.{rests}
-use Rattle.alm_store.proofs.CallsLeft.{next_kept, stored_kept, first_next}
+use Rattle.alm_store.proofs.CallsLeft.{next_kept, same_next, stored_kept, first_next}
 
 -- a call that isn't the last leaves a commit a commit, and another work another one
 abbrev Moves : (p p' : Phase) → Type 0
@@ -98,14 +98,6 @@ next_working GateSync stored begun is = refl
 begun_stays : {D : Type 0} (k : Held D) (disk : D) (s : Stage) (w : Work) → begun_by w (record k { disk = disk; stage = s }) ≡ begun_by w k
 begun_stays k disk s Commit = refl
 begun_stays k disk s Checkpoint = refl
-
--- another device changes nothing of it
-same_next : {D : Type 0} (k : Held D) (disk : D) → next (record k { disk = disk }) ≡ next k
-same_next k disk = ap (next_by k.stage k.stored) (by_work k.work)
-  where
-    by_work : (w : Work) → begun_by w (record k { disk = disk }) ≡ begun_by w k
-    by_work Commit = refl
-    by_work Checkpoint = refl
 
 module _ {D : Type 0} (old new : Held D) (works : IsWorking old.stage) where
   pub advanced : (result : Progress) → Advances result old new → Advanced result (phase_of old.stage old.work) (phase_of new.stage new.work) old.stored.plant (next old).plant new.stored.plant (next new).plant

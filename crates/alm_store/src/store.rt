@@ -8,7 +8,7 @@ use std::alloc::Global;
 
 /// A store of actions over a device.
 pub trait Store: Drop {
-    ghost use Rattle.std.specs.Prelude.{◌≡◌, ◌≢◌, ◌⊎◌, ◌↔◌, ◌<◌, ◌≤◌, ◌+◌, ◌^◌, ℕ, true, false, List, length, IsOk, IfOk, IfErr, OnOk, OnErr, IsTrue};
+    ghost use Rattle.std.specs.Prelude.{◌≡◌, ◌≢◌, ◌⊎◌, ◌↔◌, ◌<◌, ◌≤◌, ◌+◌, ◌*◌, ◌^◌, ℕ, true, false, List, length, IsOk, IfOk, IfErr, OnOk, OnErr, IsTrue};
     ghost use Rattle.alm_types.specs.declared.action.Action.{Action};
     ghost use Rattle.alm_disk.specs.Device.{DeviceState, IsBytes, IsImage};
     ghost use Rattle.alm_disk.specs.Failures.{HasFailed};

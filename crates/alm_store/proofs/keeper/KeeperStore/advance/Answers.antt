@@ -18,9 +18,9 @@ pub returns-clause-done : goal.returns-clause-done
 returns-clause-done g c = done c.advance.result c.args.self.now c.advance.new.self c.advance.ensures.advances
 
 pub returns-clause-takes : goal.returns-clause-takes
-returns-clause-takes g c = λ open not actions room.
+returns-clause-takes g c = λ copies not actions room.
     let k = c.args.self.now in
-    takes_kept c.advance.result k c.advance.new.self open (c.images.ensures.runs (works k.stage k.work c.requires) (open_work k.stage k.work open)).1 c.advance.ensures.advances not actions room
+    takes_kept c.advance.result k c.advance.new.self copies (c.images.ensures.runs (works k.stage k.work c.requires) (open_work k.stage k.work copies)).1 c.advance.ensures.advances not actions room
 
 pub returns-clause-written : goal.returns-clause-written
 returns-clause-written g c = written_more c.advance.result c.args.self.now c.advance.new.self c.advance.ensures.advances
