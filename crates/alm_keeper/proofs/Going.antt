@@ -263,9 +263,13 @@ module _ (b : Book) (i : InOrder b) (works : IsWorking b.stage) (result : Result
   pub leaves_of : (x : List ℕ) → PassesOn result old new b → IsImage old x ⊎ IsImage new x → MayLeave b x
   leaves_of x p moment = subst (λ (y : Account). During Stored (Ready y) b.stage x) (sym (next_is b b.stage refl works)) (during x p moment)
 
+  stopped : (x : List ℕ) (w : Work) → Ready (done_by w b) x → Ready (done_by w (record b { stage = Stopped })) x
+  stopped x Commit r = r
+  stopped x Checkpoint r = r
+
   -- a call has failed
   pub stops : PassesOn result old new b → Keeps new (record b { stage = Stopped })
-  stops p = λ image left. either_by Stored (Then b.work) image b.stage (during image p (inr left)) works
+  stops p = λ image left. ⊎_elim inl (λ r. inr (stopped image b.work r)) (either_by Stored (Then b.work) image b.stage (during image p (inr left)) works)
 
 -- ---- a call that was done
 
@@ -290,8 +294,8 @@ grows_run old new k copy run long account_is g =
     front = sym (take_at (open_text (account old) k) (0 ∷ []) (old.run - 1) size) ∙ ap (take (old.run - 1)) run
 
 module _ (step : Progress) (old new : Book) (state : DeviceState) (i : InOrder old) (works : IsWorking old.stage) where
-  abbrev acts : List Action
-  acts = old.actions.items
+  abbrev listed : List Action
+  listed = old.actions.items
 
   as_book : (b : Book) (stage : Stage) (copying : Bool) (work : Work) → b.stage ≡ stage → b.copying ≡ copying → b.work ≡ work → KeptBy stage copying work b state → Keeps state b
   as_book b stage copying work at on is kept =
@@ -302,10 +306,10 @@ module _ (step : Progress) (old new : Book) (state : DeviceState) (i : InOrder o
 
   -- without an open checkpoint
   abbrev NextAlone : Stage → Type 0
-  NextAlone stage = KeptIn (next_work (alone stage acts) (account old) (piece_of old)) (next_account (alone stage acts) (account old)) state
+  NextAlone stage = KeptIn (next_work (alone stage listed) (account old) (piece_of old)) (next_account (alone stage listed) (account old)) state
 
-  commit_closes : Closes old new → old.copying ≡ false → KeptIn Rest (committed (account old) acts) state → Keeps state new
-  commit_closes c off kept = rested new (committed (account old) acts) state (c.stage ∙ ap rest_stage off) (c.copying ∙ off) c.account kept
+  commit_closes : Closes old new → old.copying ≡ false → KeptIn Rest (committed (account old) listed) state → Keeps state new
+  commit_closes c off kept = rested new (committed (account old) listed) state (c.stage ∙ ap rest_stage off) (c.copying ∙ off) c.account kept
 
   goes_alone : (stage : Stage) → old.copying ≡ false → old.work ≡ Commit → Possible stage false Commit → GoesOn stage Commit step old new → NextAlone stage → Keeps state new
   goes_alone Idle off is may goes kept = absurd may
@@ -323,36 +327,36 @@ module _ (step : Progress) (old new : Book) (state : DeviceState) (i : InOrder o
     here = at_out k old.out
 
     abbrev Next : Stage → Work → Type 0
-    Next stage work = KeptIn (next_work (beside stage work here acts) (account old) (piece_of old)) (next_account (beside stage work here acts) (account old)) state
+    Next stage work = KeptIn (next_work (beside stage work here listed) (account old) (piece_of old)) (next_account (beside stage work here listed) (account old)) state
 
-    to_stage : (stage : Stage) (work : Work) → old.work ≡ work → KeptBy stage true work old state → new ≡ record old { stage = stage } → Keeps state new
-    to_stage stage work is kept goes = moved (record old { stage = stage }) goes (as_book (record old { stage = stage }) stage true work refl on is (again stage kept))
+    to_stage : (stage : Stage) (work : Work) → IsWorking stage → old.work ≡ work → KeptBy stage true work old state → new ≡ record old { stage = stage } → Keeps state new
+    to_stage stage work goes_on is kept goes = moved (record old { stage = stage }) goes (as_book (record old { stage = stage }) stage true work refl on is (again stage goes_on kept))
       where
-        again : (s : Stage) → KeptBy s true work old state → KeptBy s true work (record old { stage = stage }) state
-        again Idle x = x
-        again Close x = x
-        again CloseSync x = x
-        again Body x = x
-        again BodySync x = x
-        again Gate x = x
-        again GateSync x = x
-        again Stopped x = x
+        again : (s : Stage) → IsWorking s → KeptBy s true work old state → KeptBy s true work (record old { stage = stage }) state
+        again Idle never x = absurd never
+        again Close on x = x
+        again CloseSync on x = x
+        again Body on x = x
+        again BodySync on x = x
+        again Gate on x = x
+        again GateSync on x = x
+        again Stopped never x = absurd never
 
-    resumes : Closes old new → IsCopy (account old) here → KeptIn (Pause (copied here acts)) (committed (account old) acts) state → Keeps state new
+    resumes : Closes old new → IsCopy (account old) here → KeptIn (Pause (copied here listed)) (committed (account old) listed) state → Keeps state new
     resumes c copy kept =
         as_book new Body true Checkpoint (c.stage ∙ ap rest_stage on) (c.copying ∙ on) (c.work ∙ ap rest_work on) (
-          copied k acts,
+          copied k listed,
           grows_run old new here copy run (run_size old i works on) c.account (subst (λ (o : Bool). GrowsWhere o old new) on c.grows),
-          subst (λ (n : ℕ). KeptIn (Pause (at_out (copied k acts) n)) (account new) state) (sym c.out) (subst (λ (y : Account). KeptIn (Pause (copied here acts)) y state) (sym c.account) kept),
+          subst (λ (n : ℕ). KeptIn (Pause (at_out (copied k listed) n)) (account new) state) (sym c.out) (subst (λ (y : Account). KeptIn (Pause (copied here listed)) y state) (sym c.account) kept),
         )
 
-    goes_commit : (was : DeviceState) (stage : Stage) → old.work ≡ Commit → Possible stage true Commit → GoesOn stage Commit step old new → KeptIn (beside stage Commit here acts) (account old) was → Next stage Commit → Keeps state new
+    goes_commit : (was : DeviceState) (stage : Stage) → old.work ≡ Commit → Possible stage true Commit → GoesOn stage Commit step old new → KeptIn (beside stage Commit here listed) (account old) was → Next stage Commit → Keeps state new
     goes_commit was Idle is may goes before kept = absurd may
     goes_commit was Close is may goes before kept = absurd may
     goes_commit was CloseSync is may goes before kept = absurd may
-    goes_commit was Body is may goes before kept = to_stage BodySync Commit is (k, run, kept) goes.1
-    goes_commit was BodySync is may goes before kept = to_stage Gate Commit is (k, run, kept) goes.1
-    goes_commit was Gate is may goes before kept = to_stage GateSync Commit is (k, run, kept) goes.1
+    goes_commit was Body is may goes before kept = to_stage BodySync Commit tt is (k, run, kept) goes.1
+    goes_commit was BodySync is may goes before kept = to_stage Gate Commit tt is (k, run, kept) goes.1
+    goes_commit was Gate is may goes before kept = to_stage GateSync Commit tt is (k, run, kept) goes.1
     goes_commit was GateSync is may goes before kept = resumes goes.1 before.1.0 kept
     goes_commit was Stopped is may goes before kept = absurd may
 
@@ -373,12 +377,12 @@ module _ (step : Progress) (old new : Book) (state : DeviceState) (i : InOrder o
 
     goes_checkpoint : (stage : Stage) → old.work ≡ Checkpoint → Possible stage true Checkpoint → GoesOn stage Checkpoint step old new → Next stage Checkpoint → Keeps state new
     goes_checkpoint Idle is may goes kept = absurd may
-    goes_checkpoint Close is may goes kept = to_stage CloseSync Checkpoint is (k, run, kept) goes.1
+    goes_checkpoint Close is may goes kept = to_stage CloseSync Checkpoint tt is (k, run, kept) goes.1
     goes_checkpoint CloseSync is may goes kept =
         moved (record old { stage = Body; other_open = false }) goes.1 (as_book (record old { stage = Body; other_open = false }) Body true Checkpoint refl on is (k, run, kept))
     goes_checkpoint Body is may goes kept = sends is goes.1 kept
-    goes_checkpoint BodySync is may goes kept = to_stage Gate Checkpoint is (k, run, kept) goes.1
-    goes_checkpoint Gate is may goes kept = to_stage GateSync Checkpoint is (k, run, kept) goes.1
+    goes_checkpoint BodySync is may goes kept = to_stage Gate Checkpoint tt is (k, run, kept) goes.1
+    goes_checkpoint Gate is may goes kept = to_stage GateSync Checkpoint tt is (k, run, kept) goes.1
     goes_checkpoint GateSync is may goes kept = turned_rest goes.1 kept
     goes_checkpoint Stopped is may goes kept = absurd may
 

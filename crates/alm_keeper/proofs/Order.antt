@@ -1,6 +1,6 @@
 -- What a book keeps as work begins and ends.
-use Rattle.std.proofs.Common.{◌≡◌, ℕ, ◌+◌, ◌^◌, ◌≤◌, ◌<◌, Bool, true, false, List, length, refl, sym, ◌∙◌, ap, subst, arith, [], ◌∷◌, ◌++◌, length-append, true≢false}
-use Rattle.alm_keeper.specs.Stages.{IsWorking, IsResting, first_stage, phase_of}
+use Rattle.std.proofs.Common.{vec_capacity, ◌≡◌, ℕ, ◌+◌, ◌*◌, ◌^◌, ◌≤◌, ◌<◌, Bool, true, false, List, length, refl, sym, ◌∙◌, ap, subst, arith, [], ◌∷◌, ◌++◌, length-append, true≢false}
+use Rattle.alm_keeper.specs.Stages.{IsWorking, IsResting, first_stage, rest_stage, rest_work, phase_of}
 use Rattle.alm_types.specs.declared.action.Action.{Action}
 use Rattle.alm_model.specs.Plant.{Condensed}
 use Rattle.alm_model.specs.Step.{run}
@@ -9,13 +9,17 @@ use Rattle.alm_model.proofs.Kept.{run-keeps}
 use Rattle.alm_model.proofs.Runs.{run_sizes, run_within}
 use Rattle.alm_codec.specs.Image.{IsOf, image_text, image_len}
 use Rattle.alm_codec.proofs.Spelled.{image_length}
-use Rattle.alm_checkpoint.specs.Layouts.{image_size}
+use Rattle.alm_checkpoint.specs.Layouts.{image_size, head_len, device_len, segment_at}
 use Rattle.alm_keeper.specs.declared.book.Book.{Book}
 use Rattle.alm_keeper.specs.declared.stage.Stage.{Stage}
 use Rattle.alm_keeper.specs.declared.stage.Stage.TheVariants.{Idle, Close, CloseSync, Body, BodySync, Gate, GateSync, Stopped}
 use Rattle.alm_keeper.specs.declared.stage.Work.{Work}
 use Rattle.alm_keeper.specs.declared.stage.Work.TheVariants.{Commit, Checkpoint}
-use Rattle.alm_keeper.specs.Keeping.{account, Committing, DoesWork, Does, Opened, Sent, IsCopying, InOrder}
+use Rattle.alm_segment.specs.Course.{frame_len}
+use Rattle.alm_checkpoint.specs.Cut.{IsLayout}
+use Rattle.alm_keeper.specs.declared.phase.Phase.TheVariants as at
+use Rattle.alm_keeper.specs.Stand.{Account, end_of}
+use Rattle.alm_keeper.specs.Keeping.{account, Committing, DoesWork, Does, Opened, Sent, IsCopying, Grows, GrowsWhere, Closes, InOrder}
 
 -- what may be under way: a gate is closed by a checkpoint alone, and a checkpoint is open as long as it is under way
 abbrev pub Possible : Stage → Bool → Work → Type 0
@@ -132,3 +136,102 @@ rests b idle i = by_stage b.stage b.work idle i.does
 -- how long the image is
 pub image_size_is : (b : Book) → InOrder b → length (image_text b.stored) ≡ image_size b.layout
 image_size_is b i = image_length b.stored i.rules ∙ (λ j. image_len (i.sizes.by_rows j) (i.sizes.by_areas j))
+
+-- ---- works begin and end
+
+pub idle_stage : (s : Stage) (w : Work) → phase_of s w ≡ at.Idle → s ≡ Idle
+idle_stage Idle w e = refl
+idle_stage Stopped w e = absurd cc
+idle_stage Body Commit e = absurd cc
+idle_stage Body Checkpoint e = absurd cc
+idle_stage Close Commit e = absurd cc
+idle_stage Close Checkpoint e = absurd cc
+idle_stage CloseSync Commit e = absurd cc
+idle_stage CloseSync Checkpoint e = absurd cc
+idle_stage BodySync Commit e = absurd cc
+idle_stage BodySync Checkpoint e = absurd cc
+idle_stage Gate Commit e = absurd cc
+idle_stage Gate Checkpoint e = absurd cc
+idle_stage GateSync Commit e = absurd cc
+idle_stage GateSync Checkpoint e = absurd cc
+
+-- a checkpoint that is opened
+pub opens_does : (new : Book) (o : Bool) → new.copying ≡ true → new.ahead ≡ new.stored → Does (first_stage o) Checkpoint new
+opens_does new true on same = (on, same)
+opens_does new false on same = (on, same)
+
+pub opens_copy : (new : Book) (o : Bool) → new.work ≡ Checkpoint → new.epoch + 1 < 2 ^ 64 → new.run ≡ head_len + image_size new.layout → segment_at new.layout new.half ≤ new.gate → new.out ≡ 0 → IsCopying true (first_stage o) new
+opens_copy new true is more run first out = record { more = more; least = omega (arith, run); room = omega (arith, run, first); sent = out }
+opens_copy new false is more run first out = record {
+  more = more;
+  least = omega (arith, run);
+  room = omega (arith, run, first);
+  sent = subst (λ (w : Work). Sent Body w new.out new.run) (sym is) (let lt : new.out < new.run = omega (arith, run, out) in lt);
+}
+
+-- a commit that is done
+abbrev Ordered : Account → Type 0
+Ordered a = IsLayout a.layout × (device_len a.layout < 2 ^ 64) × KeepsRules a.plant × IsOf a.layout.rows a.layout.areas a.plant.panel.count a.plant × (a.plant.panel.count ≤ 2 ^ 48) × (segment_at a.layout a.half ≤ a.gate) × (a.gate + 1 ≤ end_of a)
+
+module _ (old new : Book) (i : InOrder old) (last : old.stage ≡ GateSync) (is : old.work ≡ Commit) (c : Closes old new) (ahead : new.ahead ≡ old.ahead) (frame : length new.frame.items ≡ 4115) (room : 256 ≤ vec_capacity new.actions)
+    (buffer : length new.buffer.items ≡ length old.buffer.items) where
+  works : IsWorking old.stage
+  works = subst IsWorking (sym last) tt
+
+  w : Committing (account old) old.actions.items old.frame.items old.ahead
+  w = commits old i works is
+
+  here : Ordered (account new)
+  here = subst Ordered (sym c.account) (i.layout, i.small, rules_after old i w, sizes_after old i w, count_after old i w, omega (arith, i.first), omega (arith, w.takes))
+
+  stored : new.ahead ≡ new.stored
+  stored = ahead ∙ w.tried ∙ ap (λ (a : Account). a.plant) (sym c.account)
+
+  does : (o : Bool) → old.copying ≡ o → Does (rest_stage o) (rest_work o) new
+  does true on = (c.copying ∙ on, stored)
+  does false off = (c.copying ∙ off, stored)
+
+  opened_by : old.copying ≡ true → Opened Body new
+  opened_by on =
+      let o = opened old i works on in
+      let g : Grows old new = subst (λ (b : Bool). GrowsWhere b old new) on c.grows in
+      let sent : old.out < old.run = sent_at old GateSync Commit i tt last is on in
+      let layout : new.layout ≡ old.layout = ap (λ (a : Account). a.layout) c.account in
+      let half : new.half ≡ old.half = ap (λ (a : Account). a.half) c.account in
+      let gate : new.gate ≡ old.gate + frame_len (length old.actions.items) = ap (λ (a : Account). a.gate) c.account in
+      let size : image_size new.layout ≡ image_size old.layout = ap image_size layout in
+      let at : segment_at new.layout new.half ≡ segment_at old.layout old.half = λ j. segment_at (layout j) (half j) in
+      record {
+        more = subst (λ (e : ℕ). e + 1 < 2 ^ 64) (sym (ap (λ (a : Account). a.epoch) c.account)) o.more;
+        least = omega (arith, o.least, g.run, size);
+        room = omega (arith, o.room, g.run, size, at, gate);
+        sent = subst (λ (x : Work). Sent Body x new.out new.run) (sym (c.work ∙ ap rest_work on)) (let lt : new.out < new.run = omega (arith, sent, c.out, g.run) in lt);
+      }
+
+  copy : (o : Bool) → old.copying ≡ o → IsCopying o (rest_stage o) new
+  copy true on = opened_by on
+  copy false off = tt
+
+  pub closes_order : InOrder new
+  closes_order = record {
+    layout = here.0;
+    small = here.1;
+    rules = here.2;
+    sizes = here.3;
+    count = here.4;
+    first = here.5;
+    gate = here.6;
+    room = room;
+    frame = frame;
+    buffer = buffer ∙ i.buffer ∙ ap (λ (a : Account). head_len + image_size a.layout + a.layout.segment) (sym c.account);
+    does = subst (λ (s : Stage). Does s new.work new) (sym c.stage) (subst (λ (x : Work). Does (rest_stage old.copying) x new) (sym c.work) (does old.copying refl));
+    copy = subst (λ (s : Stage). IsCopying new.copying s new) (sym c.stage) (subst (λ (o : Bool). IsCopying o (rest_stage old.copying) new) (sym c.copying) (copy old.copying refl));
+  }
+
+-- the run has room for the frame of the commit
+pub grows_within : (b : Book) → InOrder b → b.stage ≡ GateSync → b.work ≡ Commit → b.copying ≡ true → (1 ≤ b.run) × (b.run + (19 + 16 * length b.actions.items) ≤ length b.buffer.items)
+grows_within b i last is on =
+    let works : IsWorking b.stage = subst IsWorking (sym last) tt in
+    let o = opened b i works on in
+    let w = commits b i works is in
+    (omega (arith, o.least), omega (arith, o.room, w.takes, i.buffer))

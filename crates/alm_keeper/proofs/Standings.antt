@@ -22,12 +22,14 @@ use Rattle.alm_keeper.specs.Piecewise.{Copy, run_text, turned_by}
 use Rattle.alm_keeper.specs.Phases.{KeptIn}
 use Rattle.alm_keeper.specs.Keeper.{Standing, Held, StandsFor, StandsWithRoom, MayStand}
 use Rattle.alm_keeper.specs.Keeper.{next as next_seen_of}
-use Rattle.alm_keeper.specs.Keeping.{account, done_by, next_of, next, alone, beside, at_out, standing, held, InOrder, KeptBy, Keeps, MayLeave}
+use Rattle.alm_keeper.specs.Keeper.{Advances as AdvancesSeen}
+use Rattle.alm_keeper.specs.declared.progress.Progress.{Progress}
+use Rattle.alm_keeper.specs.Keeping.{account, done_by, next_of, next, alone, beside, at_out, standing, held, InOrder, KeptBy, Keeps, MayLeave, Ends}
 use Rattle.alm_keeper.proofs.Commit.{ready_holds}
 use Rattle.alm_keeper.proofs.Order.{Possible, possible}
 use Rattle.alm_keeper.proofs.Going.{turned_is, kept_alone, kept_beside, never_alone, next_is, run_size, rested}
 use Rattle.alm_keeper.proofs.Starting.{AtRest, Idles, Pauses, at_rest, rest_ready}
-use Rattle.alm_keeper.proofs.Seen.{next_seen}
+use Rattle.alm_keeper.proofs.Seen.{next_seen, ends_seen}
 
 -- ---- what a device stands for, by what it holds
 
@@ -179,6 +181,10 @@ module _ {D : Type 0} (honest : D → Type 0) (state : D → DeviceState) (disk 
       → honest k.disk → (b : List ℕ) → IsImage (state k.disk) b ⊎ IsImage new b → ∥ MayStand k b ∥₁
   moments_of new leaves = subst (λ (h : Held D). honest h.disk → (b : List ℕ) → IsImage (state h.disk) b ⊎ IsImage new b → ∥ MayStand h b ∥₁) same
       (λ is b moment. ∥∥₁_map (leaves is b moment) (λ m. leaves_stands disk book b m))
+
+-- a call, as callers see it
+pub advances_of : (D : Type 0) (disk to : D) (old new : Book) (k : Held D) (result : Progress) → held disk old ≡ k → Ends result old new → AdvancesSeen result k (held to new)
+advances_of D disk to old new k result same e = subst (λ (h : Held D). AdvancesSeen result h (held to new)) same (ends_seen disk to old new result e)
 
 -- a device that was opened is kept
 pub opened_keeps : (book : Book) (state : DeviceState) → book.stage ≡ Idle → book.copying ≡ false → IsSettled state state.bytes → Ready (account book) state.bytes → Keeps state book

@@ -1,12 +1,12 @@
 //! What a keeper knows of its device, and what it has begun.
 
-ghost use Rattle.std.specs.Prelude.{◌≡◌, ◌≤◌, ◌<◌, ◌+◌, ◌*◌, ◌^◌, ◌-◌, ◌∷◌, ◌++◌, ℕ, ◌↔◌, IsTrue, length, OnOk, OnErr, IfErr, take, drop, true};
+ghost use Rattle.std.specs.Prelude.{◌≡◌, ◌≤◌, ◌<◌, ◌+◌, ◌*◌, ◌^◌, ◌-◌, ◌∷◌, ◌++◌, ℕ, ◌↔◌, IsTrue, length, OnOk, OnErr, IfErr, take, drop, true, false};
 ghost use Rattle.alm_keeper.specs.Stages.{IsWorking, following, first_stage, rest_stage, rest_work};
 ghost use Rattle.alm_checkpoint.specs.Layouts.{half_at, half_len};
 ghost use Rattle.alm_codec.specs.Frames.{frame_body};
 ghost use Rattle.alm_segment.specs.Course.{frame_len};
 ghost use Rattle.alm_model.specs.Judging.{accepted_of};
-ghost use Rattle.alm_keeper.specs.Stand.{other_at, end_of, Takes};
+ghost use Rattle.alm_keeper.specs.Stand.{other_at, end_of, Takes, committed};
 ghost use Rattle.alm_keeper.specs.declared.stage.Stage.{Stage};
 ghost use Rattle.alm_keeper.specs.declared.stage.Work.{Work};
 ghost use Rattle.alm_keeper.specs.Stages.{phase_of};
@@ -152,46 +152,53 @@ impl Book {
         Ok(())
     }
 
-    /// The frame of the commit goes out with the open checkpoint as well, in its epoch and with its gate open.
-    fn copy_frame(&mut self)
+    /// The actions of the commit are stored.
+    fn store(&mut self)
         requires working { IsWorking self.old.stage }
         requires commit { self.old.work ≡ Work.Commit }
+        requires in_order { InOrder self.old }
+        ensures account { account self.new ≡ committed (account self.old) self.old.actions.items }
+        ensures same { self.new ≡ record self.old { gate = self.new.gate; stored = self.new.stored; written = 0 } }
+    {
+        self.gate += self.frame_len() as u64;
+        apply_all(&mut self.stored, &self.actions);
+        self.written = 0;
+    }
+
+    /// The frame behind the gate is stored.
+    fn close(&mut self)
+        requires commit { self.old.work ≡ Work.Commit }
+        requires last { self.old.stage ≡ Stage.GateSync }
+        requires copying { self.old.copying ≡ false }
+        requires in_order { InOrder self.old }
+        ensures closes { Closes self.old self.new }
+        ensures in_order { InOrder self.new }
+    {
+        self.store();
+        self.stage = Stage::Idle;
+    }
+
+    /// The same beside an open checkpoint, which waits for its next piece.
+    fn resume(&mut self)
+        requires commit { self.old.work ≡ Work.Commit }
+        requires last { self.old.stage ≡ Stage.GateSync }
         requires copying { self.old.copying ≡ true }
         requires in_order { InOrder self.old }
-        ensures run { self.new.run ≡ self.old.run + frame_len (length self.old.actions.items) }
-        ensures text { run_in self.new ≡ take (self.old.run - 1) (run_in self.old) ++ (165 ∷ frame_body (self.old.epoch + 1) (self.old.stored.panel.count + 1) self.old.actions.items) }
-        ensures long { length self.new.buffer.items ≡ length self.old.buffer.items }
-        ensures same { self.new ≡ record self.old { run = self.new.run; buffer = self.new.buffer } }
+        ensures closes { Closes self.old self.new }
+        ensures in_order { InOrder self.new }
     {
+        let first = self.stored.count() + 1;
+        self.store();
         append_frame(
             self.epoch + 1,
-            self.stored.count() + 1,
+            first,
             &self.actions,
             self.run,
             &mut self.buffer,
         );
         self.run += self.frame_len();
-    }
-
-    /// The frame behind the gate is stored. An open checkpoint waits for its next piece.
-    fn close(&mut self)
-        requires working { IsWorking self.old.stage }
-        requires commit { self.old.work ≡ Work.Commit }
-        requires last { self.old.stage ≡ Stage.GateSync }
-        requires in_order { InOrder self.old }
-        ensures closes { Closes self.old self.new }
-        ensures in_order { InOrder self.new }
-    {
-        self.written = 0;
-        if self.copying {
-            self.copy_frame();
-            self.work = Work::Checkpoint;
-            self.stage = Stage::Body;
-        } else {
-            self.stage = Stage::Idle;
-        }
-        self.gate += self.frame_len() as u64;
-        apply_all(&mut self.stored, &self.actions);
+        self.stage = Stage::Body;
+        self.work = Work::Checkpoint;
     }
 
     /// The other half stands.
@@ -292,6 +299,7 @@ impl Book {
         ensures in_order { InOrder self.new }
     {
         match self.work {
+            Work::Commit if self.copying => self.resume(),
             Work::Commit => self.close(),
             Work::Checkpoint => self.turn(),
         }

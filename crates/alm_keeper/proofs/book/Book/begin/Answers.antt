@@ -12,5 +12,5 @@ use Rattle.alm_keeper.proofs.book.Book.begin.Goals as goal
 
 pub write_frame-requires-clause-few : goal.write_frame-requires-clause-few
 write_frame-requires-clause-few c =
-    let t = c.in_default-try_all.ensures.tries in
+    let t = c.in_default.ensures.tries in
     omega (arith, accepted_few c.entries.result.now, ap length t.actions, ap length c.deref.ensures.value, c.entries.ensures.limit)

@@ -1,10 +1,12 @@
-use Rattle.std.proofs.Common.{◌≡◌, ◌+◌, ◌^◌, ◌<◌, ◌++◌, ◌∷◌, [], ℕ, List, length, take, arith, refl, sym, ap, subst, ◌∙◌}
+use Rattle.std.proofs.Common.{true, ◌≡◌, ◌+◌, ◌^◌, ◌<◌, ◌++◌, ◌∷◌, [], ℕ, List, length, take, arith, refl, sym, ap, subst, ◌∙◌}
 use Rattle.alm_codec.specs.Image.{image_text}
 use Rattle.alm_checkpoint.specs.Headers.{half_head_text}
 use Rattle.alm_checkpoint.specs.Layouts.{image_size}
 use Rattle.alm_keeper.specs.Stages.{IsResting, phase_of}
-use Rattle.alm_keeper.proofs.Starting.{opens_order, idle_phase}
-use Rattle.alm_keeper.proofs.Order.{rests}
+use Rattle.alm_keeper.specs.Keeping.{Does, IsCopying}
+use Rattle.alm_keeper.proofs.Order.{rests, idle_stage, opens_does, opens_copy}
+use Rattle.alm_keeper.specs.declared.stage.Stage.{Stage}
+use Rattle.alm_keeper.specs.declared.stage.Work.TheVariants.{Checkpoint}
 use Rattle.alm_keeper.proofs.book.Book.begin_checkpoint.Goals as goal
 
 pub returns-clause-copies : goal.returns-clause-copies
@@ -13,7 +15,7 @@ returns-clause-copies c =
     let items = c.write_half.new.buffer.items in
     let run : 25 + c.image_len.result ≡ 25 + image_size b.layout = ap (λ (n : ℕ). 25 + n) c.image_len.ensures in
     record {
-      idle = idle_phase b.stage b.work (sym c.phase_of.ensures ∙ c.in-Idle.is);
+      idle = idle_stage b.stage b.work (sym c.phase_of.ensures ∙ c.in-Idle.is);
       stage = c.first_stage-self.ensures;
       work = refl;
       account = refl;
@@ -28,7 +30,23 @@ returns-clause-copies c =
 pub returns-clause-in_order : goal.returns-clause-in_order
 returns-clause-in_order c =
     let b = c.args.self.now in
-    let idle = idle_phase b.stage b.work (sym c.phase_of.ensures ∙ c.in-Idle.is) in
+    let i = c.requires.in_order in
+    let idle = idle_stage b.stage b.work (sym c.phase_of.ensures ∙ c.in-Idle.is) in
     let run : 25 + c.image_len.result ≡ 25 + image_size b.layout = ap (λ (n : ℕ). 25 + n) c.image_len.ensures in
-    opens_order b c.requires.in_order idle (record b { stage = c.first_stage-self.result; work = _; copying = _; buffer = c.write_half.new.buffer; run = 25 + c.image_len.result; out = 0 })
-    ?
+    let resting : IsResting (phase_of b.stage b.work) = subst (λ (s : Stage). IsResting (phase_of s b.work)) (sym idle) tt in
+    let first = c.first_stage-self.ensures in
+    let more : b.epoch + 1 < 2 ^ 64 = omega (arith, c.if-self.false) in
+    record {
+      layout = i.layout;
+      small = i.small;
+      rules = i.rules;
+      sizes = i.sizes;
+      count = i.count;
+      first = i.first;
+      gate = i.gate;
+      room = i.room;
+      frame = i.frame;
+      buffer = c.write_half.ensures.long ∙ i.buffer;
+      does = subst (λ (s : Stage). Does s Checkpoint _) (sym first) (opens_does _ b.other_open refl (rests b resting i));
+      copy = subst (λ (s : Stage). IsCopying true s _) (sym first) (opens_copy _ b.other_open refl more run i.first refl);
+    }
