@@ -18,7 +18,7 @@ use Rattle.alm_keeper.specs.declared.stage.Work.TheVariants.{Commit, Checkpoint}
 use Rattle.alm_segment.specs.Course.{frame_len}
 use Rattle.alm_checkpoint.specs.Cut.{IsLayout}
 use Rattle.alm_keeper.specs.declared.phase.Phase.TheVariants as at
-use Rattle.alm_keeper.specs.Stand.{Account, end_of}
+use Rattle.alm_keeper.specs.Stand.{Account, end_of, committed}
 use Rattle.alm_keeper.specs.Keeping.{account, Committing, DoesWork, Does, Opened, Sent, IsCopying, Grows, GrowsWhere, Closes, InOrder}
 
 -- what may be under way: a gate is closed by a checkpoint alone, and a checkpoint is open as long as it is under way
@@ -235,3 +235,37 @@ grows_within b i last is on =
     let o = opened b i works on in
     let w = commits b i works is in
     (omega (arith, o.least), omega (arith, o.room, w.takes, i.buffer))
+
+-- what storing a commit leaves
+abbrev pub Stores : (old mid : Book) → Type 0
+Stores old mid = (account mid ≡ committed (account old) old.actions.items) × (mid ≡ record old { gate = mid.gate; stored = mid.stored; written = 0 })
+
+pub closed_by : (old mid : Book) → old.work ≡ Commit → old.copying ≡ false → Stores old mid → Closes old (record mid { stage = Idle })
+closed_by old mid is off s = record {
+  stage = sym (ap rest_stage off);
+  work = ap (λ (b : Book). b.work) s.1 ∙ is ∙ sym (ap rest_work off);
+  account = s.0;
+  actions = ap (λ (b : Book). b.actions.items) s.1;
+  copying = ap (λ (b : Book). b.copying) s.1;
+  grows = subst (λ (o : Bool). GrowsWhere o old (record mid { stage = Idle })) (sym off) (ap (λ (b : Book). b.run) s.1);
+  out = ap (λ (b : Book). b.out) s.1;
+  written = ap (λ (b : Book). b.written) s.1;
+}
+
+pub resumed_by : (old mid new : Book) → old.copying ≡ true → Stores old mid → new.stage ≡ Body → new.work ≡ Checkpoint → new ≡ record mid { stage = new.stage; work = new.work; buffer = new.buffer; run = new.run } → Grows old new → Closes old new
+resumed_by old mid new on s stage work same g = record {
+  stage = stage ∙ sym (ap rest_stage on);
+  work = work ∙ sym (ap rest_work on);
+  account = ap account same ∙ s.0;
+  actions = ap (λ (b : Book). b.actions.items) same ∙ ap (λ (b : Book). b.actions.items) s.1;
+  copying = ap (λ (b : Book). b.copying) same ∙ ap (λ (b : Book). b.copying) s.1;
+  grows = subst (λ (o : Bool). GrowsWhere o old new) (sym on) g;
+  out = ap (λ (b : Book). b.out) same ∙ ap (λ (b : Book). b.out) s.1;
+  written = ap (λ (b : Book). b.written) same ∙ ap (λ (b : Book). b.written) s.1;
+}
+
+-- what stays of a book where a commit is stored
+pub ordered_by : (old mid new : Book) → InOrder old → old.stage ≡ GateSync → old.work ≡ Commit → Stores old mid → Closes old new → new.ahead ≡ mid.ahead → new.frame ≡ mid.frame → new.actions ≡ mid.actions → length new.buffer.items ≡ length mid.buffer.items → InOrder new
+ordered_by old mid new i last is s c ahead frame actions buffer =
+    closes_order old new i last is c (ahead ∙ ap (λ (b : Book). b.ahead) s.1) (ap (λ f. length f.items) frame ∙ ap (λ (b : Book). length b.frame.items) s.1 ∙ i.frame)
+    (subst (λ v. 256 ≤ vec_capacity v) (sym (actions ∙ ap (λ (b : Book). b.actions) s.1)) i.room) (buffer ∙ ap (λ (b : Book). length b.buffer.items) s.1)

@@ -1,11 +1,9 @@
-use Rattle.std.proofs.Common.{◌≡◌, ◌≤◌, ◌<◌, ◌+◌, ℕ, [], length, take, sym, ◌∙◌, ap, subst, arith}
+use Rattle.std.proofs.Common.{◌≡◌, ◌≤◌, ◌<◌, ◌+◌, ℕ, length, take, ◌∙◌, ap, arith}
 use Rattle.std.proofs.Math.Logic.{∥∥₁_map}
 use Rattle.alm_keeper.proofs.Order.{commits, copies, sent_at}
 use Rattle.alm_keeper.proofs.Going.{commit_passes, checkpoint_passes, piece_passes, run_size}
-use Rattle.alm_keeper.specs.declared.stage.Stage.{Stage}
 use Rattle.alm_keeper.specs.declared.stage.Stage.TheVariants.{Body}
 use Rattle.alm_keeper.specs.declared.stage.Work.TheVariants.{Checkpoint}
-use Rattle.alm_keeper.specs.Phases.{StageCall}
 use Rattle.alm_keeper.specs.Keeping.{piece_of, run_in}
 use Rattle.alm_keeper.proofs.advancing.call_next.Goals as goal
 
@@ -37,6 +35,6 @@ returns-in_default g c = record {
   passes = λ honest keeps.
       let old = g.D.Disk.state c.args.disk.now in
       let new = g.D.Disk.state c.call-in_default.new.disk in
-      let call = subst (λ (s : Stage). StageCall s c.other_at-in_default.result [] c.call-in_default.result old new) (sym c.in_default.stage-is) (c.call-in_default.ensures.stage_call honest) in
+      let call = c.call-in_default.ensures.stage_call honest in
       ∥∥₁_map keeps (λ k. checkpoint_passes c.call-in_default.result old new c.args.book.now c.requires.in_order c.requires.working c.other_at-in_default.result c.in-Checkpoint.is c.in_default.not-Body c.other_at-in_default.ensures call k);
 }

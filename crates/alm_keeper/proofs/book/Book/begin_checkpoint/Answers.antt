@@ -5,6 +5,7 @@ use Rattle.alm_checkpoint.specs.Layouts.{image_size}
 use Rattle.alm_keeper.specs.Stages.{IsResting, phase_of}
 use Rattle.alm_keeper.specs.Keeping.{Does, IsCopying}
 use Rattle.alm_keeper.proofs.Order.{rests, idle_stage, opens_does, opens_copy}
+use Rattle.alm_keeper.specs.declared.book.Book.{Book}
 use Rattle.alm_keeper.specs.declared.stage.Stage.{Stage}
 use Rattle.alm_keeper.specs.declared.stage.Work.TheVariants.{Checkpoint}
 use Rattle.alm_keeper.proofs.book.Book.begin_checkpoint.Goals as goal
@@ -36,6 +37,7 @@ returns-clause-in_order c =
     let resting : IsResting (phase_of b.stage b.work) = subst (λ (s : Stage). IsResting (phase_of s b.work)) (sym idle) tt in
     let first = c.first_stage-self.ensures in
     let more : b.epoch + 1 < 2 ^ 64 = omega (arith, c.if-self.false) in
+    let new : Book = record b { stage = c.first_stage-self.result; work = Checkpoint; copying = true; buffer = c.write_half.new.buffer; run = 25 + c.image_len.result; out = 0 } in
     record {
       layout = i.layout;
       small = i.small;
@@ -47,6 +49,6 @@ returns-clause-in_order c =
       room = i.room;
       frame = i.frame;
       buffer = c.write_half.ensures.long ∙ i.buffer;
-      does = subst (λ (s : Stage). Does s Checkpoint _) (sym first) (opens_does _ b.other_open refl (rests b resting i));
-      copy = subst (λ (s : Stage). IsCopying true s _) (sym first) (opens_copy _ b.other_open refl more run i.first refl);
+      does = subst (λ (s : Stage). Does s Checkpoint new) (sym first) (opens_does new b.other_open refl (rests b resting i));
+      copy = subst (λ (s : Stage). IsCopying true s new) (sym first) (opens_copy new b.other_open refl more run i.first refl);
     }
