@@ -141,6 +141,7 @@ pub trait Store: Drop {
         ensures calls { OnOk result (left self.new ≤ 320) }
         ensures written { written self.new ≡ written self.old }
         ensures takes { (actions : List Action) → takes self.old actions → takes self.new actions }
+        ensures half { (used self.new ≡ used self.old) × (segment self.new ≡ segment self.old) }
         /// A checkpoint makes room for a whole batch.
         ensures room { OnOk result ((actions : List Action) → length actions ≤ 256 → will_take self.new actions) }
         ensures cause { honest self.old → phase self.old ≡ Idle → ¬ (spent (device self.old)) → IsOk result };
