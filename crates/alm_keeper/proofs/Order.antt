@@ -1,5 +1,6 @@
 -- What a book keeps as work begins and ends.
-use Rattle.std.proofs.Common.{vec_capacity, ◌≡◌, ℕ, ◌+◌, ◌*◌, ◌^◌, ◌≤◌, ◌<◌, Bool, true, false, List, length, refl, sym, ◌∙◌, ap, subst, arith, [], ◌∷◌, ◌++◌, length-append, true≢false}
+use Rattle.std.proofs.Common.{vec_capacity, take, ◌-◌, ◌≡◌, ℕ, ◌+◌, ◌*◌, ◌^◌, ◌≤◌, ◌<◌, Bool, true, false, List, length, refl, sym, ◌∙◌, ap, subst, arith, [], ◌∷◌, ◌++◌, length-append, true≢false}
+use Rattle.std.proofs.lemmas.List.{take-take}
 use Rattle.alm_keeper.specs.Stages.{IsWorking, IsResting, first_stage, rest_stage, rest_work, phase_of}
 use Rattle.alm_types.specs.declared.action.Action.{Action}
 use Rattle.alm_model.specs.Plant.{Condensed}
@@ -7,6 +8,7 @@ use Rattle.alm_model.specs.Step.{run}
 use Rattle.alm_model.specs.Rules.{KeepsRules}
 use Rattle.alm_model.proofs.Kept.{run-keeps}
 use Rattle.alm_model.proofs.Runs.{run_sizes, run_within}
+use Rattle.alm_codec.specs.Frames.{frame_body}
 use Rattle.alm_codec.specs.Image.{IsOf, image_text, image_len}
 use Rattle.alm_codec.proofs.Spelled.{image_length}
 use Rattle.alm_checkpoint.specs.Layouts.{image_size, head_len, device_len, segment_at}
@@ -19,7 +21,7 @@ use Rattle.alm_segment.specs.Course.{frame_len}
 use Rattle.alm_checkpoint.specs.Cut.{IsLayout}
 use Rattle.alm_keeper.specs.declared.phase.Phase.TheVariants as at
 use Rattle.alm_keeper.specs.Stand.{Account, end_of, committed}
-use Rattle.alm_keeper.specs.Keeping.{account, Committing, DoesWork, Does, Opened, Sent, IsCopying, Grows, GrowsWhere, Closes, InOrder}
+use Rattle.alm_keeper.specs.Keeping.{account, run_in, Committing, DoesWork, Does, Opened, Sent, IsCopying, Grows, GrowsWhere, Closes, InOrder}
 
 -- what may be under way: a gate is closed by a checkpoint alone, and a checkpoint is open as long as it is under way
 abbrev pub Possible : Stage → Bool → Work → Type 0
@@ -269,3 +271,26 @@ pub ordered_by : (old mid new : Book) → InOrder old → old.stage ≡ GateSync
 ordered_by old mid new i last is s c ahead frame actions buffer =
     closes_order old new i last is c (ahead ∙ ap (λ (b : Book). b.ahead) s.1) (ap (λ f. length f.items) frame ∙ ap (λ (b : Book). length b.frame.items) s.1 ∙ i.frame)
     (subst (λ v. 256 ≤ vec_capacity v) (sym (actions ∙ ap (λ (b : Book). b.actions) s.1)) i.room) (buffer ∙ ap (λ (b : Book). length b.buffer.items) s.1)
+
+-- a frame at the end of the run
+pub grown_by : (old mid new : Book) → Stores old mid → (actions : List Action) (first : ℕ) → actions ≡ mid.actions.items → first ≡ old.stored.panel.count + 1
+    → take (mid.run + (19 + 16 * length actions)) new.buffer.items ≡ take (mid.run - 1) mid.buffer.items ++ (165 ∷ frame_body (mid.epoch + 1) first actions) → new.run ≡ mid.run + (19 + 16 * length mid.actions.items) → Grows old new
+grown_by old mid new s actions first same is text run = record { run = grows; text = all }
+  where
+    acts : actions ≡ old.actions.items
+    acts = same ∙ ap (λ (b : Book). b.actions.items) s.1
+
+    runs : mid.run ≡ old.run
+    runs = ap (λ (b : Book). b.run) s.1
+
+    grows : new.run ≡ old.run + frame_len (length old.actions.items)
+    grows = run ∙ (λ i. runs i + (19 + 16 * length (s.1 i).actions.items))
+
+    size : new.run ≡ mid.run + (19 + 16 * length actions)
+    size = run ∙ ap (λ (l : List Action). mid.run + (19 + 16 * length l)) (sym same)
+
+    front : take (mid.run - 1) mid.buffer.items ≡ take (old.run - 1) (run_in old)
+    front = (λ i. take (runs i - 1) (s.1 i).buffer.items) ∙ sym (take-take (old.run - 1) old.run old.buffer.items (omega arith))
+
+    all : run_in new ≡ take (old.run - 1) (run_in old) ++ (165 ∷ frame_body (old.epoch + 1) (old.stored.panel.count + 1) old.actions.items)
+    all = ap (λ (n : ℕ). take n new.buffer.items) size ∙ text ∙ (λ i. front i ++ (165 ∷ frame_body ((s.1 i).epoch + 1) (is i) (acts i)))
