@@ -13,4 +13,3 @@ apply_all-requires c =
     let b = c.args.self.now in
     subst (λ (l : List Action). AllAdmitted b.stored l) (sym c.deref.ensures.value)
     (all_admitted b.stored b.actions.items (commits b c.requires.in_order c.requires.working c.requires.commit).admitted)
-
