@@ -1,6 +1,7 @@
 -- What a book keeps as work begins and ends.
-use Rattle.std.proofs.Common.{vec_capacity, take, ◌-◌, ◌≡◌, ℕ, ◌+◌, ◌*◌, ◌^◌, ◌≤◌, ◌<◌, Bool, true, false, List, length, refl, sym, ◌∙◌, ap, subst, arith, [], ◌∷◌, ◌++◌, length-append, true≢false}
+use Rattle.std.proofs.Common.{vec_capacity, nat_le, take, ◌-◌, ◌≡◌, ℕ, ◌+◌, ◌*◌, ◌^◌, ◌≤◌, ◌<◌, Bool, true, false, List, length, refl, sym, ◌∙◌, ap, subst, arith, [], ◌∷◌, ◌++◌, length-append, true≢false}
 use Rattle.std.proofs.lemmas.List.{take-take}
+use Rattle.std.proofs.lemmas.Bool.{and_parts, leb-true}
 use Rattle.alm_keeper.specs.Stages.{IsWorking, IsResting, first_stage, rest_stage, rest_work, phase_of}
 use Rattle.alm_types.specs.declared.action.Action.{Action}
 use Rattle.alm_model.specs.Plant.{Condensed}
@@ -18,6 +19,7 @@ use Rattle.alm_keeper.specs.declared.stage.Stage.TheVariants.{Idle, Close, Close
 use Rattle.alm_keeper.specs.declared.stage.Work.{Work}
 use Rattle.alm_keeper.specs.declared.stage.Work.TheVariants.{Commit, Checkpoint}
 use Rattle.alm_segment.specs.Course.{frame_len}
+use Rattle.alm_checkpoint.specs.declared.layout.Layout.{Layout}
 use Rattle.alm_checkpoint.specs.Cut.{IsLayout}
 use Rattle.alm_keeper.specs.declared.phase.Phase.TheVariants as at
 use Rattle.alm_keeper.specs.Stand.{Account, end_of, committed}
@@ -294,3 +296,37 @@ grown_by old mid new s actions first same is text run = record { run = grows; te
 
     all : run_in new ≡ take (old.run - 1) (run_in old) ++ (165 ∷ frame_body (old.epoch + 1) (old.stored.panel.count + 1) old.actions.items)
     all = ap (λ (n : ℕ). take n new.buffer.items) size ∙ text ∙ (λ i. front i ++ (165 ∷ frame_body ((s.1 i).epoch + 1) (is i) (acts i)))
+
+-- ---- how long everything is
+
+pub layout_limits : (l : Layout) → IsLayout l → (image_size l ≤ 3289168) × (l.segment ≤ 16777216)
+layout_limits l i =
+    let rows = and_parts (nat_le 1 l.rows) (nat_le l.rows 16384) i.rows in
+    let areas = and_parts (nat_le 1 l.areas) (nat_le l.areas 64) i.areas in
+    let segment = and_parts (nat_le 4116 l.segment) (nat_le l.segment 16777216) i.segment in
+    let few_rows : l.rows ≤ 16384 = leb-true l.rows 16384 rows.1 in
+    let few_areas : l.areas ≤ 64 = leb-true l.areas 64 areas.1 in
+    (omega (arith, few_rows, few_areas), leb-true l.segment 16777216 segment.1)
+
+-- a run that is under way
+pub runs_by : (b : Book) → InOrder b → IsWorking b.stage → b.work ≡ Checkpoint → (b.out ≤ b.run) × (b.run + (end_of (account b) - b.gate) ≤ head_len + image_size b.layout + b.layout.segment)
+runs_by b i works is = (by_stage b.stage refl, omega (arith, o.room, i.first, i.gate))
+  where
+    on : b.copying ≡ true
+    on = (copies b i works is).0
+
+    o : Opened b.stage b
+    o = opened b i works on
+
+    sent : (s : Stage) → b.stage ≡ s → IsWorking s → Sent s Checkpoint b.out b.run
+    sent s at here = sent_at b s Checkpoint i here at is on
+
+    by_stage : (s : Stage) → b.stage ≡ s → b.out ≤ b.run
+    by_stage Idle at = absurd (subst IsWorking at works)
+    by_stage Stopped at = absurd (subst IsWorking at works)
+    by_stage Close at = omega (arith, sent Close at tt)
+    by_stage CloseSync at = omega (arith, sent CloseSync at tt)
+    by_stage Body at = omega (arith, sent Body at tt)
+    by_stage BodySync at = omega (arith, sent BodySync at tt)
+    by_stage Gate at = omega (arith, sent Gate at tt)
+    by_stage GateSync at = omega (arith, sent GateSync at tt)

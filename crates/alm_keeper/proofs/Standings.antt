@@ -1,5 +1,5 @@
 -- What a device stands for, by what it holds.
-use Rattle.std.proofs.Common.{◌≡◌, ◌⊎◌, inl, inr, ⊎_elim, ℕ, suc, Bool, true, false, List, ◌∷◌, length, Ok, refl, sym, ◌∙◌, ap, subst, arith}
+use Rattle.std.proofs.Common.{◌≡◌, ◌⊎◌, inl, inr, ⊎_elim, ℕ, ◌+◌, ◌≤◌, suc, Bool, true, false, List, ◌∷◌, length, Ok, refl, sym, ◌∙◌, ap, subst, arith}
 use Rattle.std.proofs.Math.Logic.{∥∥₁_map}
 use Rattle.alm_model.specs.Plant.{Condensed}
 use Rattle.alm_disk.specs.Device.{DeviceState, IsImage}
@@ -7,6 +7,7 @@ use Rattle.alm_disk.specs.Settled.{IsSettled}
 use Rattle.alm_disk.proofs.Images.{settled_image}
 use Rattle.alm_segment.proofs.Segments.{folds}
 use Rattle.alm_checkpoint.specs.Standing.{Stands}
+use Rattle.alm_checkpoint.specs.Layouts.{head_len}
 use Rattle.alm_checkpoint.specs.Cut.{device_of}
 use Rattle.alm_checkpoint.proofs.Shown.{shown, shown_opens, stands}
 use Rattle.alm_checkpoint.proofs.Grown.{gate_at}
@@ -26,7 +27,7 @@ use Rattle.alm_keeper.specs.Keeper.{Advances as AdvancesSeen}
 use Rattle.alm_keeper.specs.declared.progress.Progress.{Progress}
 use Rattle.alm_keeper.specs.Keeping.{account, done_by, next_of, next, alone, beside, at_out, standing, held, InOrder, KeptBy, Keeps, MayLeave, Ends}
 use Rattle.alm_keeper.proofs.Commit.{ready_holds}
-use Rattle.alm_keeper.proofs.Order.{Possible, possible}
+use Rattle.alm_keeper.proofs.Order.{Possible, possible, layout_limits, runs_by}
 use Rattle.alm_keeper.proofs.Going.{turned_is, kept_alone, kept_beside, never_alone, next_is, run_size, rested}
 use Rattle.alm_keeper.proofs.Starting.{AtRest, Idles, Pauses, at_rest, rest_ready}
 use Rattle.alm_keeper.proofs.Seen.{next_seen, ends_seen}
@@ -176,6 +177,12 @@ module _ {D : Type 0} (honest : D → Type 0) (state : D → DeviceState) (disk 
   pub rest_of : honest k.disk → IsResting (phase_of k.stage k.work) → ∥ StandsWithRoom k.stored (state k.disk).bytes ∥₁
   rest_of = subst (λ (h : Held D). honest h.disk → IsResting (phase_of h.stage h.work) → ∥ StandsWithRoom h.stored (state h.disk).bytes ∥₁) same
       (λ is rests. ∥∥₁_map (kept is) (λ x. rest_stands book (state disk) order rests x))
+
+  pub lengths_of : (k.image ≤ 3289168) × (k.segment ≤ 16777216)
+  lengths_of = subst (λ (h : Held D). (h.image ≤ 3289168) × (h.segment ≤ 16777216)) same (layout_limits book.layout order.layout)
+
+  pub runs_of : IsWorking k.stage → k.work ≡ Checkpoint → (k.out ≤ k.run) × (k.run + k.stored.room ≤ head_len + k.image + k.segment)
+  runs_of = subst (λ (h : Held D). IsWorking h.stage → h.work ≡ Checkpoint → (h.out ≤ h.run) × (h.run + h.stored.room ≤ head_len + h.image + h.segment)) same (λ works is. runs_by book order works is)
 
   pub moments_of : (new : DeviceState) → (honest disk → (b : List ℕ) → IsImage (state disk) b ⊎ IsImage new b → ∥ MayLeave book b ∥₁)
       → honest k.disk → (b : List ℕ) → IsImage (state k.disk) b ⊎ IsImage new b → ∥ MayStand k b ∥₁

@@ -1,6 +1,7 @@
 //! Keepers.
 
 ghost use Rattle.std.specs.Prelude.{◌≡◌, ◌≤◌, ◌⊎◌, ◌↔◌, ◌+◌, ◌*◌, ◌^◌, List, ℕ, length, IsTrue, IfOk, IfErr, Err, false};
+ghost use Rattle.alm_checkpoint.specs.Layouts.{head_len};
 ghost use Rattle.alm_disk.specs.Device.{IsImage};
 ghost use Rattle.alm_disk.specs.Failures.{HasFailed};
 ghost use Rattle.alm_disk.specs.Settled.{IsSettled};
@@ -18,7 +19,7 @@ use crate::opening::open_book;
 use crate::phase::Phase;
 use crate::progress::Progress;
 use crate::refused::Refused;
-use crate::stage::{Stage, is_working, phase_of};
+use crate::stage::{Stage, Work, is_working, phase_of};
 use alm_disk::Disk;
 use alm_model::Alarms;
 use alm_plant::Plant;
@@ -94,6 +95,10 @@ impl<D: Disk + Drop> Keeper<D> {
     pub fn images(&self)
         ensures either { D.honest self.now.disk → (b : List ℕ) → IsImage (D.state self.now.disk) b → ∥ StandsFor self.now.stored b ⊎ StandsFor (next self.now) b ∥₁ }
         ensures rests { D.honest self.now.disk → IsResting (phase_of self.now.stage self.now.work) → ∥ StandsWithRoom self.now.stored (D.state self.now.disk).bytes ∥₁ }
+        // The largest image, and the longest segment.
+        ensures lengths { (self.now.image ≤ 3289168) × (self.now.segment ≤ 16777216) }
+        // The frames in the run of a checkpoint stand among those of the segment.
+        ensures runs { IsWorking self.now.stage → self.now.work ≡ Work.Checkpoint → (self.now.out ≤ self.now.run) × (self.now.run + self.now.stored.room ≤ head_len + self.now.image + self.now.segment) }
     {
         let _book = &self.book;
     }
