@@ -177,6 +177,7 @@ fn commit<K: Store>(store: &mut K, batch: &Batch) -> Advance
     ensures either { result ≢ Advance.Committed → ∥ (K.next store.new ≡ K.stored store.new) ⊎ (K.next store.new ≡ run (K.stored store.new) (accepted_of batch.now.entries)) ∥₁ }
     ensures sure { result ≡ Advance.Failed → IsSure (K.phase store.old) (K.takes store.old (accepted_of batch.now.entries)) → batch.now.first ≡ (K.stored store.old).panel.count + 1 → AllAdmitted (K.stored store.old) (accepted_of batch.now.entries) → HasFailed (K.failures store.old) (K.failures store.new) }
     ensures cause { result ≡ Advance.Failed → K.honest store.old → ¬ (K.spent (K.device store.old)) → batch.now.first ≡ (K.stored store.old).panel.count + 1 → AllAdmitted (K.stored store.old) (accepted_of batch.now.entries) → HasFailed (K.failures store.old) (K.failures store.new) }
+    ensures late { result ≡ Advance.Failed → K.honest store.old → ¬ (K.spent (K.device store.new)) → batch.now.first ≡ (K.stored store.old).panel.count + 1 → AllAdmitted (K.stored store.old) (accepted_of batch.now.entries) → HasFailed (K.failures store.old) (K.failures store.new) }
 {
     if !prepare(store, batch) {
         return Advance::Failed;
@@ -213,6 +214,7 @@ pub(crate) fn advance_by<K: Store>(store: &mut K, batch: &Batch) -> Advance
     ensures idle { accepted_of batch.now.entries ≡ [] → K.phase store.new ≢ Phase.Committing }
     ensures sure { result ≡ Advance.Failed → IsSure (K.phase store.old) (K.takes store.old (accepted_of batch.now.entries)) → batch.now.first ≡ (K.stored store.old).panel.count + 1 → AllAdmitted (K.stored store.old) (accepted_of batch.now.entries) → HasFailed (K.failures store.old) (K.failures store.new) }
     ensures cause { result ≡ Advance.Failed → K.honest store.old → K.phase store.old ≢ Phase.Stopped → ¬ (K.spent (K.device store.old)) → batch.now.first ≡ (K.stored store.old).panel.count + 1 → AllAdmitted (K.stored store.old) (accepted_of batch.now.entries) → HasFailed (K.failures store.old) (K.failures store.new) }
+    ensures late { result ≡ Advance.Failed → K.honest store.old → K.phase store.old ≢ Phase.Stopped → ¬ (K.spent (K.device store.new)) → batch.now.first ≡ (K.stored store.old).panel.count + 1 → AllAdmitted (K.stored store.old) (accepted_of batch.now.entries) → HasFailed (K.failures store.old) (K.failures store.new) }
 {
     if store.phase() == Phase::Stopped {
         return Advance::Failed;

@@ -199,6 +199,7 @@ impl<K: Store, T: Told + Drop, B: Board<Told = T>> Flusher<K, T, B> {
         ensures sure { result ≡ Advance.Failed → IsSure (K.phase self.old.store) (K.takes self.old.store (to_commit self.old.held)) → IsNext self.old.held (K.stored self.old.store) → HasFailed (K.failures self.old.store) (K.failures self.new.store) }
         // The first failure has a cause.
         ensures cause { result ≡ Advance.Failed → K.honest self.old.store → K.phase self.old.store ≢ Phase.Stopped → ¬ (K.spent (K.device self.old.store)) → IsNext self.old.held (K.stored self.old.store) → HasFailed (K.failures self.old.store) (K.failures self.new.store) }
+        ensures late { result ≡ Advance.Failed → K.honest self.old.store → K.phase self.old.store ≢ Phase.Stopped → ¬ (K.spent (K.device self.new.store)) → IsNext self.old.held (K.stored self.old.store) → HasFailed (K.failures self.old.store) (K.failures self.new.store) }
         ensures broken { result ≡ Advance.Failed → K.phase self.old.store ≢ Phase.Stopped → IsFree self.old.held → HasFailed (K.failures self.old.store) (K.failures self.new.store) }
     {
         match replace(&mut self.held, Held::Nothing) {
