@@ -10,6 +10,8 @@ mod course;
 pub mod opened;
 pub mod parts;
 #[cfg(test)]
+mod pieces;
+#[cfg(test)]
 mod rows;
 #[cfg(test)]
 mod slots;
