@@ -52,8 +52,12 @@ fn a_checkpoint_is_opened_where_more_than_half_is_used(rt: HostRuntime) -> Resul
     let mut course = Vec::new(rt.alloc());
     for second in 1..=120 {
         let moment = Moment::new(second).ok_or("moment")?;
-        // The 59th commit opens a checkpoint, and so does the 59th behind that one: each is four device calls more for the next.
-        let steps = if second == 60 || second == 119 { 8 } else { 4 };
+        // The 59th commit opens a checkpoint of four calls, and the 59th behind that one another, which closes a gate first.
+        let steps = match second {
+            60 => 8,
+            119 => 10,
+            _ => 4,
+        };
         course.extend_from_slice(&sealed(slot, &moment))?;
         course.extend_from_slice(&stored(slot, &moment, steps))?;
     }
