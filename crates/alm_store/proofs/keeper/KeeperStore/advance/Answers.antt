@@ -2,8 +2,8 @@ use Rattle.alm_store.proofs.CallsLeft.{works, open_work, fewer, done, takes_kept
 use Rattle.alm_store.proofs.Passing.{advanced}
 use Rattle.alm_store.proofs.keeper.KeeperStore.advance.Goals as goal
 
-pub advance-requires-working : goal.advance-requires-working
-advance-requires-working g c = works c.args.self.now.stage c.args.self.now.work c.requires
+pub advance-requires : goal.advance-requires
+advance-requires g c = record { working = works c.args.self.now.stage c.args.self.now.work c.requires }
 
 pub returns-clause-advanced : goal.returns-clause-advanced
 returns-clause-advanced g c = advanced c.args.self.now c.advance.new.self (works c.args.self.now.stage c.args.self.now.work c.requires) c.advance.result c.advance.ensures.advances
