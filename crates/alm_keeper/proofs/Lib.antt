@@ -25,3 +25,4 @@ pub mod Calls
 pub mod Formed
 pub mod Fresh
 pub mod Moments
+pub mod Pace
