@@ -4,4 +4,3 @@ pub mod Resting
 pub mod Rings
 pub mod Stored
 pub mod Verdicts
-pub mod Steps

@@ -62,7 +62,7 @@ module _ {T : Type 0} {t : ToldGhosts T} {K D : Type 0} {g : Ghosts K D} {d : Di
     free = ap (λ f. length (given_of f)) same.4 ∙ (m.free ∙ ap (λ s. length (emptied_of s.ends) + 6) (sym same.0));
     replies = ap (λ v. notes_of (released_by slot v.items)) same.2 ∙ m.replies;
     unanswered = m.unanswered;
-    ready = (done.1, done.2);
+    ready = done.1;
   }
 
 -- the accepted action of a batch of one request
