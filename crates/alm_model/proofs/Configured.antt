@@ -2,6 +2,7 @@
 use Rattle.std.proofs.Common.{◌≡◌, ◌≢◌, ℕ, ◌<◌, ◌≤◌, Bool, true, false, List, Option, Some, None, length, refl, sym, ap, ◌∙◌, arith, inl, inr, subst}
 use Rattle.std.specs.Prelude.{slice_get, slice_set, ℤ, T, ◌&&◌, nat_le}
 use Rattle.std.proofs.lemmas.Bool.{cases_eq}
+use Rattle.std.proofs.lemmas.Option.{none-some}
 use Rattle.std.proofs.lemmas.List.{length-set}
 use Rattle.alm_types.specs.declared.attr.Attr.{Attr}
 use Rattle.alm_types.specs.declared.action.Action.{Action}
@@ -11,6 +12,7 @@ use Rattle.alm_types.specs.Limits.{priority_in, reading_in}
 use Rattle.alm_types.specs.Changes.{where_passed, with_priority, with_setpoint}
 use Rattle.alm_state.specs.Rows.{State}
 use Rattle.alm_state.specs.Outcome.{attr_after}
+use Rattle.alm_model.specs.Accept.{alarm_refusal}
 use Rattle.alm_model.specs.Plant.{Condensed}
 use Rattle.alm_model.specs.Keeping.{area_in, change, changed}
 use Rattle.alm_model.specs.Sound.{IsSound}
@@ -106,3 +108,12 @@ sound-configured q i f same h = record {
   actions = h.actions;
   annunciations = h.annunciations;
 }
+
+-- an alarm that admits an action is there
+pub admitted-there : (action : Action) (oa : Option Attr) (os : Option State) → alarm_refusal action oa os ≡ None → (a : Attr) × (oa ≡ Some a)
+admitted-there action None os h = absurd (none-some _ (sym h))
+admitted-there action (Some a) None h = (a, refl)
+admitted-there action (Some a) (Some s) h = (a, refl)
+
+pub set-changed : (attrs : List Attr) (i : ℕ) (f : Attr → Attr) (a b : Attr) → slice_get attrs i ≡ Some a → b ≡ f a → slice_set attrs i b ≡ change attrs i f
+set-changed attrs i f a b here is = ap (slice_set attrs i) is ∙ sym (ap (changed attrs i f) here)
