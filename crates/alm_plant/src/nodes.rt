@@ -127,7 +127,14 @@ fn insert(chains: &mut Chains, family: u32, node: u32, to: Option<u32>, keys: &[
 }
 
 /// An alarm's place in the list of its priority, by its stamp, unless that stays.
-fn reprioritize(chains: &mut Chains, stays: bool, index: u32, attr: &Attr, row: &Row, stamps: &[u64])
+fn reprioritize(
+    chains: &mut Chains,
+    stays: bool,
+    index: u32,
+    attr: &Attr,
+    row: &Row,
+    stamps: &[u64],
+)
     requires two { length chains.old.families ≡ 2 }
     requires node { index < chains.old.nodes }
     requires priorities { length (family_at chains.old.families 0) ≡ 4 }
