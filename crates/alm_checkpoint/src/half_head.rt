@@ -10,8 +10,8 @@ ghost use Rattle.alm_checkpoint.specs.Opening.{half_head_from};
 use crate::fault::Fault;
 use crate::half::Half;
 use crate::layout::Layout;
-use alm_codec::{Left, Version};
 use alm_codec::fields::u64_at;
+use alm_codec::{Left, Version};
 
 /// What the head of a half says.
 #[derive(Clone, Copy, Debug, PartialEq, Eq)]

@@ -11,8 +11,8 @@ ghost use Rattle.alm_checkpoint.specs.Opening.{layout_from};
 
 use crate::fault::Fault;
 use crate::layout::{HEADER_LEN, LONGEST_SEGMENT, Layout, SHORTEST_SEGMENT, device_name};
-use alm_codec::{Left, Version};
 use alm_codec::fields::{u16_at, u32_at, u64_at};
+use alm_codec::{Left, Version};
 use alm_segment::OPEN_GATE;
 
 /// The version that the name tells.

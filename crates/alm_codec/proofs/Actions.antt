@@ -128,6 +128,20 @@ small_takes kind alarm argument f a m e =
       | inr (t, s) ↦ absurd (none-some a s)
     ]
 
+-- the kinds behind 8
+later_takes : (kind alarm argument : ℕ) (a : Action) → alarm < 2 ^ 32 → argument < 2 ^ 64
+    → cond (eqb kind 9) (cond (ltb argument (2 ^ 32)) (Some (SetPriority (record { 0 = alarm }) argument)) None) (cond (eqb kind 10) (option_map (SetSetpoint (record { 0 = alarm })) (reading_at argument)) None) ≡ Some a → Means kind alarm argument a
+later_takes kind alarm argument a small fits e =
+    let i : AlarmId = record { 0 = alarm } in
+    let at : (k : ℕ) → eqb kind k ≡ true → Means k alarm argument a → Means kind alarm argument a = λ k t m. subst (λ (n : ℕ). Means n alarm argument a) (sym (eqb-true kind k t)) m in
+    elim (chosen (eqb kind 9) _ _ (Some a) e) [
+      | inl (t, s) ↦ at 9 t (small_takes 9 alarm argument (SetPriority i) a (λ n h. record { limits = record { alarm = small; argument = h }; kind_is = refl; alarm_is = refl; argument_is = refl }) s)
+      | inr (t, e) ↦ elim (chosen (eqb kind 10) _ _ (Some a) e) [
+        | inl (t, s) ↦ at 10 t (reading_takes 10 alarm argument (SetSetpoint i) a fits (λ v h. record { limits = record { alarm = small; argument = h }; kind_is = refl; alarm_is = refl; argument_is = refl }) (reading_at argument) refl s)
+        | inr (t, e) ↦ absurd (none-some a e)
+      ]
+    ]
+
 meaning_takes : (kind alarm argument : ℕ) (a : Action) → alarm < 2 ^ 32 → argument < 2 ^ 64 → meaning kind alarm argument ≡ Some a → Means kind alarm argument a
 meaning_takes kind alarm argument a small fits e =
     let i : AlarmId = record { 0 = alarm } in
@@ -148,13 +162,7 @@ meaning_takes kind alarm argument a small fits e =
                   | inl (t, s) ↦ at 7 t (either_takes 7 alarm argument (Oos i) a (λ on. record { limits = record { alarm = small; argument = tt }; kind_is = refl; alarm_is = refl; argument_is = refl }) s)
                   | inr (t, e) ↦ elim (chosen (eqb kind 8) _ _ (Some a) e) [
                     | inl (t, s) ↦ at 8 t (either_takes 8 alarm argument (Design i) a (λ on. record { limits = record { alarm = small; argument = tt }; kind_is = refl; alarm_is = refl; argument_is = refl }) s)
-                    | inr (t, e) ↦ elim (chosen (eqb kind 9) _ _ (Some a) e) [
-                      | inl (t, s) ↦ at 9 t (small_takes 9 alarm argument (SetPriority i) a (λ n h. record { limits = record { alarm = small; argument = h }; kind_is = refl; alarm_is = refl; argument_is = refl }) s)
-                      | inr (t, e) ↦ elim (chosen (eqb kind 10) _ _ (Some a) e) [
-                        | inl (t, s) ↦ at 10 t (reading_takes 10 alarm argument (SetSetpoint i) a fits (λ v h. record { limits = record { alarm = small; argument = h }; kind_is = refl; alarm_is = refl; argument_is = refl }) (reading_at argument) refl s)
-                        | inr (t, e) ↦ absurd (none-some a e)
-                      ]
-                    ]
+                    | inr (t, e) ↦ later_takes kind alarm argument a small fits e
                   ]
                 ]
               ]

@@ -2,6 +2,7 @@
 use Rattle.std.proofs.Common.{◌≡◌, ◌⊎◌, inl, inr, ⊎_elim, ℕ, ◌+◌, ◌≤◌, Bool, false, List, [], ◌∷◌, ◌++◌, length, take, drop, Result, refl, sym, ◌∙◌, ap, subst, arith, length-append, if◌then◌else◌}
 use Rattle.std.proofs.lemmas.List.{append-nil, take_at}
 use Rattle.std.proofs.lemmas.Bool.{eq-eqb}
+use Rattle.alm_codec.specs.declared.version.Version.TheVariants.{V02}
 use Rattle.alm_types.specs.declared.action.Action.{Action}
 use Rattle.alm_codec.specs.Frames.{frame_body}
 use Rattle.alm_codec.specs.Image.{image_text}
@@ -41,12 +42,12 @@ half_within l Second size fits = omega (arith, fits)
 
 -- its run is the body of the other half
 pub run_is : (a : Account) → run_text a (fresh a) ≡ checkpoint_text a
-run_is a = ap (λ (l : List ℕ). l ++ 0 ∷ []) (append-nil (half_head_text a.layout (a.epoch + 1) a.plant.panel.count ++ image_text a.plant))
+run_is a = ap (λ (l : List ℕ). l ++ 0 ∷ []) (append-nil (half_head_text a.layout V02 (a.epoch + 1) a.plant.panel.count ++ image_text a.plant))
 
 pub turned_is : (a : Account) → length (image_text a.plant) ≡ image_size a.layout → turned_by a (fresh a) ≡ turned a
 turned_is a image = ap (λ (gate : ℕ). record (turned a) { gate = gate }) place
   where
-    head : length (half_head_text a.layout (a.epoch + 1) a.plant.panel.count) ≡ 24
+    head : length (half_head_text a.layout V02 (a.epoch + 1) a.plant.panel.count) ≡ 24
     head = refl
 
     place : other_at a + 1 + length (open_text a (fresh a)) ≡ other_at a + head_len + image_size a.layout
@@ -54,8 +55,8 @@ turned_is a image = ap (λ (gate : ℕ). record (turned a) { gate = gate }) plac
       arith,
       image,
       head,
-      length-append (half_head_text a.layout (a.epoch + 1) a.plant.panel.count ++ image_text a.plant) [],
-      length-append (half_head_text a.layout (a.epoch + 1) a.plant.panel.count) (image_text a.plant),
+      length-append (half_head_text a.layout V02 (a.epoch + 1) a.plant.panel.count ++ image_text a.plant) [],
+      length-append (half_head_text a.layout V02 (a.epoch + 1) a.plant.panel.count) (image_text a.plant),
     )
 
 -- all of it goes out at once

@@ -1,5 +1,6 @@
 -- What a book keeps as work begins and ends.
 use Rattle.std.proofs.Common.{◌≡◌, ℕ, ◌+◌, ◌^◌, ◌≤◌, Bool, true, false, List, length, refl, sym, ◌∙◌, subst, arith, [], ◌∷◌, ◌++◌, length-append}
+use Rattle.alm_codec.specs.declared.version.Version.TheVariants.{V02}
 use Rattle.alm_keeper.specs.Stages.{IsWorking, first_stage}
 use Rattle.alm_types.specs.declared.action.Action.{Action}
 use Rattle.alm_model.specs.Plant.{Condensed}
@@ -96,5 +97,5 @@ image_size_is b i = image_length b.stored i.rules ∙ (λ j. image_len (i.sizes.
 pub half_body_long : (b : Book) → InOrder b → length (checkpoint_text (account b)) ≡ 25 + image_size b.layout
 half_body_long b i =
     let image = image_size_is b i in
-    let head : length (half_head_text b.layout (b.epoch + 1) b.stored.panel.count) ≡ 24 = refl in
-    omega (arith, image, head, length-append (half_head_text b.layout (b.epoch + 1) b.stored.panel.count ++ image_text b.stored) (0 ∷ []), length-append (half_head_text b.layout (b.epoch + 1) b.stored.panel.count) (image_text b.stored))
+    let head : length (half_head_text b.layout V02 (b.epoch + 1) b.stored.panel.count) ≡ 24 = refl in
+    omega (arith, image, head, length-append (half_head_text b.layout V02 (b.epoch + 1) b.stored.panel.count ++ image_text b.stored) (0 ∷ []), length-append (half_head_text b.layout V02 (b.epoch + 1) b.stored.panel.count) (image_text b.stored))

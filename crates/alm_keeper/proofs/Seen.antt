@@ -1,5 +1,6 @@
 -- What callers see of a book's calls.
 use Rattle.std.proofs.Common.{◌≡◌, ℕ, ◌+◌, ◌-◌, List, [], length, Result, Ok, Err, refl, sym, ◌∙◌, ap, arith}
+use Rattle.alm_codec.specs.declared.version.Version.TheVariants.{V02}
 use Rattle.alm_types.specs.declared.action.Action.{Action}
 use Rattle.alm_model.specs.Step.{run}
 use Rattle.alm_segment.specs.Course.{frame_len}
@@ -12,20 +13,20 @@ use Rattle.alm_keeper.specs.declared.stage.Stage.{Stage}
 use Rattle.alm_keeper.specs.declared.stage.Stage.TheVariants.{Idle, Close, CloseSync, Body, BodySync, Gate, GateSync, Stopped}
 use Rattle.alm_keeper.specs.declared.stage.Work.{Work}
 use Rattle.alm_keeper.specs.declared.stage.Work.TheVariants.{Commit, Checkpoint}
-use Rattle.alm_keeper.specs.Stand.{Account, Takes, committed, turned, end_of}
+use Rattle.alm_keeper.specs.Stand.{Account, Fits, Takes, committed, turned, end_of}
 use Rattle.alm_keeper.specs.Stages.{open_after}
-use Rattle.alm_keeper.specs.Keeper.{HasRoom, with_actions, with_checkpoint, next_by, BeginsCommit, BeginsCheckpoint, Advances}
+use Rattle.alm_keeper.specs.Keeper.{HasRoom, Takes as StandingTakes, with_actions, with_checkpoint, next_by, BeginsCommit, BeginsCheckpoint, Advances}
 use Rattle.alm_keeper.specs.Keeping.{account, done_with, begun, next_of, standing, held, Begins, Copies, Ends}
 
 -- a commit, a checkpoint
 after_commit : (a : Account) (actions : List Action) → standing (committed a actions) ≡ with_actions (standing a) actions
-after_commit a actions = λ i. record { epoch = a.epoch; plant = run a.plant actions; room = left i }
+after_commit a actions = λ i. record { version = a.version; epoch = a.epoch; plant = run a.plant actions; room = left i }
   where
     left : end_of a - (a.gate + frame_len (length actions)) ≡ end_of a - a.gate - frame_len (length actions)
     left = omega arith
 
 after_checkpoint : (a : Account) → standing (turned a) ≡ with_checkpoint a.layout.segment (standing a)
-after_checkpoint a = λ i. record { epoch = a.epoch + 1; plant = a.plant; room = left i }
+after_checkpoint a = λ i. record { version = V02; epoch = a.epoch + 1; plant = a.plant; room = left i }
   where
     left : end_of (turned a) - (turned a).gate ≡ a.layout.segment
     left = omega arith
@@ -82,8 +83,14 @@ next_seen b GateSync = refl
 next_seen b Stopped = refl
 
 -- the room for frames
-pub room_seen : (a : Account) (n : ℕ) → Takes a n → HasRoom (standing a) n
-room_seen a n takes = omega (arith, takes)
+pub room_seen : (a : Account) (n : ℕ) → Fits a n → HasRoom (standing a) n
+room_seen a n fits = omega (arith, fits)
 
-pub room_of : (a : Account) (n : ℕ) → HasRoom (standing a) n → Takes a n
+pub room_of : (a : Account) (n : ℕ) → HasRoom (standing a) n → Fits a n
 room_of a n room = omega (arith, room)
+
+pub takes_seen : (a : Account) (actions : List Action) → Takes a actions → StandingTakes (standing a) actions
+takes_seen a actions takes = (room_seen a (length actions) takes.0, takes.1)
+
+pub takes_of : (a : Account) (actions : List Action) → StandingTakes (standing a) actions → Takes a actions
+takes_of a actions takes = (room_of a (length actions) takes.0, takes.1)

@@ -43,7 +43,7 @@ ready_stands a b r = holds_stands a.epoch a.plant b (ready_holds a b r)
 pub ready_room : (a : Account) (b : List ℕ) → Ready a b → StandsWithRoom (standing a) b
 ready_room a b r =
     subst (λ (y : Account). StandsWithRoom (standing y) b) (sym r.is)
-    (subst (StandsWithRoom (standing (account_of r.cut a.plant))) (sym r.text) (here, left))
+    (subst (StandsWithRoom (standing (account_of r.cut a.plant))) (sym r.text) (here, left, refl))
   where
     here : Stands (device_of r.cut (r.gate ∷ r.tail)) r.cut.epoch a.plant
     here = record {
@@ -53,7 +53,7 @@ ready_room a b r =
       base = r.cut.base;
       spells = record { sizes = r.stores.sizes; image = r.stores.image };
       left = suc (length r.tail);
-      folds = folds r.cut.base r.cut.epoch r.cut.base.panel.count r.cut.frames r.gate r.tail r.stores.frames r.stores.admitted r.closed
+      folds = folds r.cut.version r.cut.base r.cut.epoch r.cut.base.panel.count r.cut.frames r.gate r.tail r.stores.frames r.stores.borne r.stores.admitted r.closed
           ∙ ap (λ (q : Condensed). Ok (q, suc (length r.tail))) r.stores.runs;
     }
 

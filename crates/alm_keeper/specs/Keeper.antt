@@ -7,6 +7,9 @@ use Rattle.alm_model.specs.Step.{run}
 use Rattle.alm_disk.specs.Calls.{IsOneCall}
 use Rattle.alm_disk.specs.declared.call.Call.{Call}
 use Rattle.alm_disk.specs.declared.disk_fault.DiskFault.{DiskFault}
+use Rattle.alm_codec.specs.declared.version.Version.{Version}
+use Rattle.alm_codec.specs.declared.version.Version.TheVariants.{V02}
+use Rattle.alm_codec.specs.Versions.{AreBorne}
 use Rattle.alm_segment.specs.Course.{frame_len}
 use Rattle.alm_checkpoint.specs.Standing.{Stands}
 use Rattle.alm_keeper.specs.declared.stage.Stage.{Stage}
@@ -20,8 +23,10 @@ use Rattle.alm_keeper.specs.declared.progress.Progress.TheVariants.{More, Done, 
 use Rattle.alm_keeper.specs.Batch.{tried}
 use Rattle.alm_keeper.specs.Stages.{first_stage, following, open_after, IsWorking, During}
 
--- what a device stands for: a plant in an epoch, and how many bytes of the segment are left from its first closed gate on
+-- what a device stands for: a plant in an epoch, the version of its half, and how many bytes of the segment are left from its first
+-- closed gate on
 pub record Standing : Type 0 where
+  pub version : Version
   pub epoch : ℕ
   pub plant : Condensed
   pub room : ℕ
@@ -52,12 +57,16 @@ next k = next_by k.stage k.stored k.begun
 abbrev pub HasRoom : Standing → ℕ → Type 0
 HasRoom s actions = frame_len actions + 1 ≤ s.room
 
+-- .. and the half may hold these actions
+abbrev pub Takes : Standing → List Action → Type 0
+Takes s actions = HasRoom s (length actions) × AreBorne s.version actions
+
 -- after a commit, and after a checkpoint
 abbrev pub with_actions : Standing → List Action → Standing
-with_actions s actions = record { epoch = s.epoch; plant = run s.plant actions; room = s.room - frame_len (length actions) }
+with_actions s actions = record { version = s.version; epoch = s.epoch; plant = run s.plant actions; room = s.room - frame_len (length actions) }
 
 abbrev pub with_checkpoint : (segment : ℕ) → Standing → Standing
-with_checkpoint segment s = record { epoch = s.epoch + 1; plant = s.plant; room = segment }
+with_checkpoint segment s = record { version = V02; epoch = s.epoch + 1; plant = s.plant; room = segment }
 
 -- ---- bytes
 
@@ -65,9 +74,9 @@ with_checkpoint segment s = record { epoch = s.epoch + 1; plant = s.plant; room 
 abbrev pub StandsFor : Standing → List ℕ → Type 0
 StandsFor s bytes = Stands bytes s.epoch s.plant
 
--- .. with just that room
+-- .. in a half of that version, with just that room
 abbrev pub StandsWithRoom : Standing → List ℕ → Type 0
-StandsWithRoom s bytes = (stands : Stands bytes s.epoch s.plant) × (stands.left ≡ s.room)
+StandsWithRoom s bytes = (stands : Stands bytes s.epoch s.plant) × (stands.left ≡ s.room) × (stands.opened.head.version ≡ s.version)
 
 -- at any moment of the call that is next: until the gate's write begins they stand for what is stored, from then on for that or for
 -- what is begun

@@ -27,7 +27,7 @@ use Rattle.alm_keeper.specs.Stand.{Holds, Ready, Account, end_of, Takes, committ
 
 -- what the book tells of the device
 abbrev pub account : Book → Account
-account b = record { layout = b.layout; half = b.half; other_open = b.other_open; epoch = b.epoch; gate = b.gate; plant = b.stored }
+account b = record { layout = b.layout; half = b.half; other_open = b.other_open; version = b.version; epoch = b.epoch; gate = b.gate; plant = b.stored }
 
 -- what the device will be when the work is done
 abbrev pub done_with : Work → Account → List Action → Account
@@ -49,7 +49,7 @@ begun b = done_with b.work (account b) b.actions.items
 pub record Committing (a : Account) (actions : List Action) (frame : List ℕ) (ahead : Condensed) : Type 0 where
   pub spells : IsFrame a.epoch (a.plant.panel.count + 1) actions
   pub admitted : AreAdmitted a.plant actions
-  pub takes : Takes a (length actions)
+  pub takes : Takes a actions
   pub text : take (19 + 16 * length actions) frame ≡ frame_body a.epoch (a.plant.panel.count + 1) actions
   pub tried : ahead ≡ (committed a actions).plant
 
@@ -134,7 +134,7 @@ MayLeave b bytes = During (Holds b.epoch b.stored) (Ready (next b)) b.stage byte
 
 -- what a device stands for, by what is known of it
 abbrev pub standing : Account → Standing
-standing a = record { epoch = a.epoch; plant = a.plant; room = end_of a - a.gate }
+standing a = record { version = a.version; epoch = a.epoch; plant = a.plant; room = end_of a - a.gate }
 
 -- how a step ends
 abbrev pub Ends : Progress → (old new : Book) → Type 0

@@ -5,12 +5,13 @@ ghost use Rattle.alm_keeper.specs.Stages.{IsWorking, following, first_stage};
 ghost use Rattle.alm_checkpoint.specs.Layouts.{half_at, half_len};
 ghost use Rattle.alm_codec.specs.Frames.{frame_body};
 ghost use Rattle.alm_model.specs.Judging.{accepted_of};
-ghost use Rattle.alm_keeper.specs.Stand.{other_at, end_of, Takes};
+ghost use Rattle.alm_keeper.specs.Stand.{other_at, end_of, Fits, Takes};
 ghost use Rattle.alm_keeper.specs.declared.stage.Stage.{Stage};
 ghost use Rattle.alm_keeper.specs.declared.stage.Work.{Work};
 ghost use Rattle.alm_keeper.specs.Keeper.{begin_answer, checkpoint_answer};
 ghost use Rattle.alm_keeper.specs.Keeping.{account, done_with, next, InOrder, Begins, Copies, GoesOn};
 
+use crate::bearing::bears_all;
 use crate::frame::write_frame;
 use crate::half_text::write_half;
 use crate::progress::Progress;
@@ -18,7 +19,8 @@ use crate::refused::Refused;
 use crate::stage::{Stage, Work};
 use crate::trying::try_all;
 use alm_checkpoint::{Half, HalfHead, Layout};
-use alm_model::{Alarms, apply_all};
+use alm_codec::Version;
+use alm_model::{Alarms, accepted_in, apply_all};
 use alm_plant::Plant;
 use alm_types::{Action, Batch};
 
@@ -32,6 +34,8 @@ pub struct Book {
     pub half: Half,
     /// The other half's gate reads open.
     pub other_open: bool,
+    /// The version of the half that stands, and its epoch.
+    pub version: Version,
     pub epoch: u64,
     /// Where the first closed gate of the half that stands is.
     pub gate: u64,
@@ -65,6 +69,7 @@ impl Book {
             rows: _rows,
             areas: _areas,
             segment: _segment,
+            version: _version,
         } = self.layout;
         match self.half {
             Half::First => 23 + self.layout.half_len() as u64,
@@ -80,6 +85,7 @@ impl Book {
             rows: _rows,
             areas: _areas,
             segment: _segment,
+            version: _version,
         } = self.layout;
         match self.half {
             Half::First => 23 + self.layout.half_len() as u64,
@@ -98,7 +104,7 @@ impl Book {
     /// Begins a commit, without a device call.
     pub fn begin(&mut self, batch: &Batch) -> Result<(), Refused>
         requires some { 1 ≤ length (accepted_of batch.now.entries) }
-        requires fits { Takes (account self.old) (length (accepted_of batch.now.entries)) }
+        requires takes { Takes (account self.old) (accepted_of batch.now.entries) }
         requires in_order { InOrder self.old }
         ensures answer { result ≡ begin_answer self.old.stage self.old.stored batch.now }
         ensures begins { Begins result (accepted_of batch.now.entries) self.old self.new }
@@ -156,6 +162,7 @@ impl Book {
         self.gate = self.other_at() + self.image.len() as u64;
         self.half = self.half.other();
         self.other_open = true;
+        self.version = Version::V02;
         self.epoch += 1;
         self.stage = Stage::Idle;
     }
@@ -214,10 +221,18 @@ impl Book {
     /// Whether a frame of so many actions fits behind what is stored.
     pub fn fits(&self, actions: usize) -> bool
         requires { InOrder self.now }
-        ensures { IsTrue result ↔ Takes (account self.now) actions }
+        ensures { IsTrue result ↔ Fits (account self.now) actions }
     {
         let room = self.end() - self.gate;
         room > 19 && actions as u64 <= (room - 20) / 16
+    }
+
+    /// Whether a frame of a batch's accepted actions fits behind what is stored, and the half may hold them.
+    pub fn takes(&self, batch: &Batch) -> bool
+        requires { InOrder self.now }
+        ensures { IsTrue result ↔ Takes (account self.now) (accepted_of batch.now.entries) }
+    {
+        self.fits(accepted_in(batch)) && bears_all(self.version, batch.entries())
     }
 
     /// Begins a checkpoint, without a device call. The other half's gate is closed first only where it reads open.
@@ -237,6 +252,7 @@ impl Book {
         }
         let head = HalfHead {
             epoch: self.epoch + 1,
+            version: Version::V02,
             count: self.stored.count(),
         };
         write_half(&self.layout, &head, &self.stored, &mut self.image);

@@ -9,7 +9,7 @@ ghost use Rattle.alm_model.specs.Judging.{accepted_of};
 ghost use Rattle.alm_keeper.specs.Calls.{IsCall};
 ghost use Rattle.alm_keeper.specs.Stages.{IsWorking, phase_of};
 ghost use Rattle.alm_keeper.specs.Opening.{Opens, CountsAs};
-ghost use Rattle.alm_keeper.specs.Keeper.{Held, next, HasRoom, StandsFor, StandsWithRoom, MayStand, begin_answer, checkpoint_answer, BeginsCommit, BeginsCheckpoint, Advances, CallsOnce};
+ghost use Rattle.alm_keeper.specs.Keeper.{Held, next, HasRoom, Takes, StandsFor, StandsWithRoom, MayStand, begin_answer, checkpoint_answer, BeginsCommit, BeginsCheckpoint, Advances, CallsOnce};
 
 use crate::advancing::advance;
 use crate::book::Book;
@@ -68,7 +68,7 @@ impl<D: Disk + Drop> Keeper<D> {
     /// next one; else at the first action that isn't admitted where it comes, and that stops the keeper.
     pub fn begin(&mut self, batch: &Batch) -> Result<(), Refused>
         requires some { 1 ≤ length (accepted_of batch.now.entries) }
-        requires fits { HasRoom self.old.stored (length (accepted_of batch.now.entries)) }
+        requires takes { Takes self.old.stored (accepted_of batch.now.entries) }
         ensures disk { self.new.disk ≡ self.old.disk }
         ensures answer { result ≡ begin_answer self.old.stage self.old.stored.plant batch.now }
         ensures begins { BeginsCommit result (accepted_of batch.now.entries) self.old self.new }
@@ -144,6 +144,14 @@ impl<D: Disk + Drop> Keeper<D> {
         ensures { IsTrue result ↔ HasRoom self.now.stored actions }
     {
         self.book.fits(actions)
+    }
+
+    /// Whether a frame of a batch's accepted actions fits behind what is stored, and the half that stands may hold them: one of
+    /// version 01 holds no PRIO and no SETP, so a checkpoint comes first.
+    pub fn takes(&self, batch: &Batch) -> bool
+        ensures { IsTrue result ↔ Takes self.now.stored (accepted_of batch.now.entries) }
+    {
+        self.book.takes(batch)
     }
 
     /// The device.

@@ -42,6 +42,7 @@
 #![tactic(auto)]
 
 mod advancing;
+mod bearing;
 mod book;
 mod format_fault;
 mod formatting;
@@ -66,4 +67,4 @@ pub use phase::Phase;
 pub use progress::Progress;
 pub use refused::Refused;
 pub use stage::Stage;
-pub use store_format::format;
+pub use store_format::{format, format_as};

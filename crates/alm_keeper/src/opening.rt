@@ -263,6 +263,7 @@ fn book_of(
         layout,
         half: marks.half,
         other_open: marks.other_open,
+        version: marks.head.version,
         epoch: marks.head.epoch,
         gate,
         stored,

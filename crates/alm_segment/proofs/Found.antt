@@ -4,7 +4,7 @@ use Rattle.std.specs.List.{flat_map, AllByRecursion}
 use Rattle.std.specs.Int.{w16, w64, to_be_bytes}
 use Rattle.std.proofs.lemmas.Bool.{eqb-true}
 use Rattle.std.proofs.lemmas.List.{take-append-drop}
-use Rattle.std.proofs.lemmas.List.Elements.{All-from_recursion, All-append}
+use Rattle.std.proofs.lemmas.List.Elements.{All-from_recursion, All-append, All-nil}
 use Rattle.alm_types.specs.declared.action.Action.{Action}
 use Rattle.alm_types.specs.declared.refusal.Refusal.{Refusal}
 use Rattle.alm_types.specs.Actions.{IsAction}
@@ -105,7 +105,7 @@ on_closed version q epoch count gate bytes end shut e =
       shut = shut;
       left = let l : suc (length bytes) ≡ end.1 = ap (λ (x : End). x.1) same in omega (arith, l);
       are_frames = tt;
-      borne = λ k a h. absurd cc;
+      borne = All-nil (IsBorne version);
       admitted = tt;
       runs = ap (λ (x : End). x.0) same;
     }
@@ -153,21 +153,21 @@ on_head version most again q epoch count gate bytes end (Ok x) read open_gate fe
       ap length s.taken.parts ∙ length-append (flat_map action_text s.list) s.after,
     ) in
     let f = again (run q s.list) epoch (count + x.0) s.after end shorter s.taken.rest_fits s.more in
-    subst (λ (g : ℕ). Found version q epoch count (g ∷ bytes) end) (sym (eqb-true gate 165 open_gate)) (with_frame q epoch count x.0 bytes x.1 end h s f)
+    subst (λ (g : ℕ). Found version q epoch count (g ∷ bytes) end) (sym (eqb-true gate 165 open_gate)) (with_frame version q epoch count x.0 bytes x.1 end h s f)
 
 on_gate : (version : Version) (most : ℕ) → Founds version most → (q : Condensed) (epoch count gate : ℕ) (bytes : List ℕ) (end : End) (b : Bool) → is_open gate ≡ b → length bytes < most → IsBytes bytes → folded q (course version epoch count 0 0 (gate ∷ bytes)) ≡ Ok end → Found version q epoch count (gate ∷ bytes) end
-on_gate version most again q epoch count gate bytes end false shut few fits e = on_closed q epoch count gate bytes end shut e
-on_gate version most again q epoch count gate bytes end true open_gate few fits e = on_head most again q epoch count gate bytes end (head_at epoch count bytes) refl open_gate few fits e
+on_gate version most again q epoch count gate bytes end false shut few fits e = on_closed version q epoch count gate bytes end shut e
+on_gate version most again q epoch count gate bytes end true open_gate few fits e = on_head version most again q epoch count gate bytes end (head_at epoch count bytes) refl open_gate few fits e
 
 found_in : (version : Version) (most : ℕ) → Founds version most
 found_in version zero q epoch count bytes end few fits e = absurd (omega (arith, few))
 found_in version (suc most) q epoch count [] end few fits e = absurd (fails_not 0 end q _ (no_gate version epoch count 0 [] (omega arith)) e)
-found_in version (suc most) q epoch count (gate ∷ bytes) end few fits e = on_gate most (found_in version most) q epoch count gate bytes end (is_open gate) refl (omega (arith, few)) (IsBytes-drop 1 (gate ∷ bytes) fits) e
+found_in version (suc most) q epoch count (gate ∷ bytes) end few fits e = on_gate version most (found_in version most) q epoch count gate bytes end (is_open gate) refl (omega (arith, few)) (IsBytes-drop 1 (gate ∷ bytes) fits) e
 
 pub found : (version : Version) (q : Condensed) (epoch count : ℕ) (bytes : List ℕ) (end : Condensed × ℕ) → IsBytes bytes → folded q (course version epoch count 0 0 bytes) ≡ Ok end → Found version q epoch count bytes end
-found version q epoch count bytes end fits e = found_in (suc (length bytes)) q epoch count bytes end (omega arith) fits e
+found version q epoch count bytes end fits e = found_in version (suc (length bytes)) q epoch count bytes end (omega arith) fits e
 
 pub comes_written : (version : Version) (epoch : ℕ) (base plant : Condensed) (bytes : List ℕ) (left : ℕ) → IsBytes bytes → stored_in version epoch base bytes ≡ Ok (plant, left) → IsJournal version epoch base bytes plant left
 comes_written version epoch base plant bytes left fits e =
-    let f = found base epoch base.panel.count bytes (plant, left) fits e in
+    let f = found version base epoch base.panel.count bytes (plant, left) fits e in
     record { frames = f.frames; gate = f.gate; tail = f.tail; parts = f.parts; shut = f.shut; rest = f.left; spelled = f.are_frames; borne = f.borne; admitted = f.admitted; runs = f.runs }

@@ -1,4 +1,5 @@
 use Rattle.std.proofs.Common.{◌≡◌, ◌+◌, ◌++◌, ◌∷◌, [], ℕ, length, arith, ap, ◌∙◌}
+use Rattle.alm_codec.specs.declared.version.Version.TheVariants.{V02}
 use Rattle.alm_codec.specs.Image.{image_text}
 use Rattle.alm_checkpoint.specs.Headers.{half_head_text}
 use Rattle.alm_keeper.specs.Keeping.{account}
@@ -10,7 +11,7 @@ pub returns-clause-in_order : goal.returns-clause-in_order
 returns-clause-in_order c =
     let i = c.requires.in_order in
     let b = c.args.self.now in
-    let text : c.write_half.new.image.items ≡ checkpoint_text (account b) = c.write_half.ensures.text ∙ ap (λ (n : ℕ). half_head_text b.layout (b.epoch + 1) n ++ image_text b.stored ++ 0 ∷ []) c.count.ensures in
+    let text : c.write_half.new.image.items ≡ checkpoint_text (account b) = c.write_half.ensures.text ∙ ap (λ (n : ℕ). half_head_text b.layout V02 (b.epoch + 1) n ++ image_text b.stored ++ 0 ∷ []) c.count.ensures in
     record {
       layout = i.layout;
       small = i.small;
