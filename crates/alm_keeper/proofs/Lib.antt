@@ -1,3 +1,4 @@
+pub mod Bearing
 pub mod Devices
 pub mod Commit
 pub mod Sides

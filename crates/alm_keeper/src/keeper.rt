@@ -148,6 +148,7 @@ impl<D: Disk + Drop> Keeper<D> {
 
     /// Whether a frame of a batch's accepted actions fits behind what is stored, and the half that stands may hold them: one of
     /// version 01 holds no PRIO and no SETP, so a checkpoint comes first.
+    #[tactic(auto, using(crate::proofs::Seen::takes_seen, crate::proofs::Seen::takes_of))]
     pub fn takes(&self, batch: &Batch) -> bool
         ensures { IsTrue result ↔ Takes self.now.stored (accepted_of batch.now.entries) }
     {

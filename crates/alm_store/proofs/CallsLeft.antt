@@ -9,7 +9,11 @@ use Rattle.alm_keeper.specs.declared.stage.Stage.{Stage}
 use Rattle.alm_keeper.specs.declared.stage.Stage.TheVariants.{Idle, Close, CloseSync, Body, BodySync, Gate, GateSync, Stopped}
 use Rattle.alm_keeper.specs.declared.stage.Work.{Work}
 use Rattle.alm_keeper.specs.Stages.{IsWorking, following, first_stage, phase_of}
-use Rattle.alm_keeper.specs.Keeper.{Held, Standing, HasRoom, next, next_by, with_checkpoint, BeginsCommit, BeginsCheckpoint, Advances}
+use Rattle.alm_codec.specs.declared.version.Version.{Version}
+use Rattle.alm_codec.specs.declared.version.Version.TheVariants.{V02}
+use Rattle.alm_codec.specs.Versions.{AreBorne}
+use Rattle.alm_codec.proofs.Frames.{all_borne}
+use Rattle.alm_keeper.specs.Keeper.{Held, Standing, Takes, next, next_by, with_checkpoint, BeginsCommit, BeginsCheckpoint, Advances}
 use Rattle.alm_store.specs.Keepers.{calls_left}
 
 few_calls : (b : Bool) → calls_left (first_stage b) ≤ 6
@@ -72,33 +76,34 @@ module _ {D : Type 0} where
 
   -- a checkpoint makes room for a whole batch
   pub checkpoint_room : (result : Result Unit Refused) (old new : Held D) → 4116 ≤ old.segment → BeginsCheckpoint result old new
-      → OnOk result ((actions : List Action) → length actions ≤ 256 → HasRoom (next new) (length actions))
+      → OnOk result ((actions : List Action) → length actions ≤ 256 → Takes (next new) actions)
   checkpoint_room (Ok u) old new least begins = λ actions few.
       let is : next new ≡ with_checkpoint old.segment old.stored =
       ap (λ (s : Stage). next_by s new.stored new.begun) begins.0 ∙ (first_next old.other_open new.stored new.begun ∙ begins.3) in
       let room : (next new).room ≡ old.segment = ap (λ (s : Standing). s.room) is in
-      omega (arith, room, least, few)
+      let version : V02 ≡ (next new).version = ap (λ (s : Standing). s.version) (sym is) in
+      (omega (arith, room, least, few), subst (λ (v : Version). AreBorne v actions) version (all_borne actions))
   checkpoint_room (Err why) old new least begins = tt
 
   pub fewer : (result : Progress) (old new : Held D) → Advances result old new → result ≡ More
-      → (phase_of new.stage new.work ≡ phase_of old.stage old.work) × (calls_left new.stage < calls_left old.stage) × ((actions : List Action) → HasRoom (next old) (length actions) → HasRoom (next new) (length actions))
+      → (phase_of new.stage new.work ≡ phase_of old.stage old.work) × (calls_left new.stage < calls_left old.stage) × ((actions : List Action) → Takes (next old) actions → Takes (next new) actions)
   fewer More old new goes is =
       let working : IsWorking (following old.stage) = subst IsWorking goes.0 goes.1 in
       let same : next new ≡ next old =
       working_next new.stage new.stored new.begun goes.1 ∙ (goes.4 ∙ sym (begun_next old.stage old.stored old.begun working)) in (
         (λ i. phase_of (goes.0 i) (goes.2 i)) ∙ same_phase old.stage old.work working,
         (let less = fewer_calls old.stage working in let stage = ap calls_left goes.0 in omega (arith, less, stage)),
-        λ actions room. subst (λ (s : Standing). HasRoom s (length actions)) (sym same) room,
+        λ actions room. subst (λ (s : Standing). Takes s actions) (sym same) room,
       )
   fewer Done old new goes is = absurd cc
   fewer Failed old new goes is = absurd cc
 
   pub done : (result : Progress) (old new : Held D) → Advances result old new → result ≡ Done
-      → (phase_of new.stage new.work ≡ at.Idle) × ((actions : List Action) → HasRoom (next old) (length actions) → HasRoom new.stored (length actions))
+      → (phase_of new.stage new.work ≡ at.Idle) × ((actions : List Action) → Takes (next old) actions → Takes new.stored actions)
   done Done old new goes is =
       let same : next old ≡ new.stored = ap (λ (s : Stage). next_by s old.stored old.begun) goes.0 ∙ sym goes.2 in (
         ap (λ (s : Stage). phase_of s new.work) goes.1,
-        λ actions room. subst (λ (s : Standing). HasRoom s (length actions)) same room,
+        λ actions room. subst (λ (s : Standing). Takes s actions) same room,
       )
   done More old new goes is = absurd cc
   done Failed old new goes is = absurd cc

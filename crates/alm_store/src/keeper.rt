@@ -3,14 +3,12 @@
 use crate::store::Store;
 use alm_disk::Disk;
 use alm_keeper::{Keeper, OpenFault, Phase, Progress, Refused, open_store};
-use alm_model::accepted_in;
 use alm_plant::Plant;
 use alm_types::Batch;
 use std::alloc::Global;
 
 impl<D: Disk + Drop> Store for Keeper<D> {
-    ghost use Rattle.std.specs.Prelude.{length};
-    ghost use Rattle.alm_keeper.specs.Keeper.{HasRoom, next};
+    ghost use Rattle.alm_keeper.specs.Keeper.{Takes, next};
     ghost use Rattle.alm_keeper.specs.Stages.{phase_of};
     ghost use Rattle.alm_store.specs.Keepers.{StandsFor, IsSpent, calls_left};
     ghost use Rattle.alm_store.specs.Resting.{keeps_rules, rests, stands_for_one};
@@ -31,9 +29,9 @@ impl<D: Disk + Drop> Store for Keeper<D> {
 
     ghost next = { λ k. (next k).plant };
 
-    ghost takes = { λ k actions. HasRoom k.stored (length actions) };
+    ghost takes = { λ k actions. Takes k.stored actions };
 
-    ghost will_take = { λ k actions. HasRoom (next k) (length actions) };
+    ghost will_take = { λ k actions. Takes (next k) actions };
 
     ghost left = { λ k. calls_left k.stage };
 
@@ -64,7 +62,7 @@ impl<D: Disk + Drop> Store for Keeper<D> {
     }
 
     fn takes(&self, batch: &Batch) -> bool {
-        self.fits(accepted_in(batch))
+        self.takes(batch)
     }
 
     fn begin(&mut self, batch: &Batch) -> Result<(), Refused> {
