@@ -8,10 +8,14 @@ use Rattle.alm_checkpoint.specs.declared.layout.Layout.{Layout}
 use Rattle.alm_checkpoint.specs.declared.half_head.HalfHead.{HalfHead}
 use Rattle.alm_checkpoint.specs.Layouts.{image_size, device_len, is_rows, is_areas, is_segment}
 
+-- the last digit of a name: 1 or 2
+abbrev pub digit : Version → ℕ
+digit V01 = 49
+digit V02 = 50
+
 -- ALMSRV01 and ALMSRV02
 abbrev pub device_name : Version → List ℕ
-device_name V01 = 65 ∷ 76 ∷ 77 ∷ 83 ∷ 82 ∷ 86 ∷ 48 ∷ 49 ∷ []
-device_name V02 = 65 ∷ 76 ∷ 77 ∷ 83 ∷ 82 ∷ 86 ∷ 48 ∷ 50 ∷ []
+device_name version = 65 ∷ 76 ∷ 77 ∷ 83 ∷ 82 ∷ 86 ∷ 48 ∷ digit version ∷ []
 
 -- the version that a name tells
 abbrev pub version_named : List ℕ → Option Version
