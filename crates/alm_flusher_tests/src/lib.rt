@@ -7,6 +7,8 @@
 
 #[cfg(test)]
 mod course;
+#[cfg(test)]
+mod migration;
 pub mod opened;
 pub mod parts;
 #[cfg(test)]
