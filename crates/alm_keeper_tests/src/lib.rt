@@ -21,4 +21,6 @@ mod rows;
 #[cfg(test)]
 mod steps;
 #[cfg(test)]
+mod versions;
+#[cfg(test)]
 mod worked;
