@@ -1,4 +1,4 @@
-pub mod Bearing
+pub mod Borne
 pub mod Devices
 pub mod Commit
 pub mod Sides

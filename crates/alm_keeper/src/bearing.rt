@@ -19,7 +19,7 @@ fn bears_entry(version: Version, entry: &Entry) -> bool
 }
 
 /// Whether a version has all accepted actions of these entries.
-#[tactic(auto, using(crate::proofs::Bearing::all_borne, crate::proofs::Bearing::borne_all))]
+#[tactic(auto, using(crate::proofs::Borne::all_borne, crate::proofs::Borne::borne_all))]
 pub fn bears_all(version: Version, entries: &[Entry]) -> bool
     ensures { IsTrue result ↔ AreBorne version (accepted_of entries.now) }
 {
