@@ -30,7 +30,7 @@ open_long a k c =
     omega (
       arith,
       image,
-      head_long a.layout (a.epoch + 1) k.base.panel.count,
+      head_long a.layout V02 (a.epoch + 1) k.base.panel.count,
       length-append (half_head_text a.layout V02 (a.epoch + 1) k.base.panel.count ++ image_text k.base) (since_text a k),
       length-append (half_head_text a.layout V02 (a.epoch + 1) k.base.panel.count) (image_text k.base),
     )

@@ -37,7 +37,7 @@ returns-clause-in_order c =
       does = record {
         spells = subst (λ (n : ℕ). IsFrame b.epoch (n + 1) actions) c.count-2.ensures (subst (IsFrame b.epoch (c.count-2.result + 1)) same c.write_frame.ensures.limits);
         admitted = subst (λ (q : Condensed). AreAdmitted q actions) ahead t.admitted;
-        takes = subst (λ (l : List Action). Takes (account b) l) (sym (t.actions ∙ ap accepted_of c.entries.ensures.entries)) c.requires.fits;
+        takes = subst (λ (l : List Action). Takes (account b) l) (sym (t.actions ∙ ap accepted_of c.entries.ensures.entries)) c.requires.takes;
         text = subst (λ (n : ℕ). take (19 + 16 * length actions) c.write_frame.new.frame.items ≡ frame_body b.epoch (n + 1) actions) c.count-2.ensures
             (subst (λ (l : List Action). take (19 + 16 * length l) c.write_frame.new.frame.items ≡ frame_body b.epoch (c.count-2.result + 1) l) same c.write_frame.ensures.text);
         tried = stored ∙ ap (λ (q : Condensed). run q actions) ahead;
