@@ -20,7 +20,7 @@ pub record Restored (o : Opened) (plant : Condensed) (gate : ℕ) : Type 0 where
 
 pub restored : (o : Opened) (plant : Condensed) (gate : ℕ) → Holds o plant gate → IsBytes o.segment → length o.segment ≡ o.layout.segment → o.head.count ≤ 2 ^ 48 → Restored o plant gate
 restored o plant gate h bytes long few =
-    let f = found h.base o.head.epoch h.base.panel.count o.segment (plant, h.left) bytes h.folds in
+    let f = found o.head.version h.base o.head.epoch h.base.panel.count o.segment (plant, h.left) bytes h.folds in
     let s = run_sizes h.base (actions_in f.frames) h.spells.image.rules.measured in
     let text = frames_text o.head.epoch h.base.panel.count f.frames in
     record {
