@@ -131,7 +131,7 @@ impl<K: Store> Parts<K> {
     pub fn fetch(&mut self) -> Event
         ensures answer { (w : World) → IsOpen w self.old → Answers w S.Fetch result }
         ensures fits { (w : World) → IsOpen w self.old → IsOpen (after w S.Fetch result) self.new }
-        ensures store { self.new.flusher.store ≡ self.old.flusher.store }
+        ensures store { (K.device self.new.flusher.store ≡ K.device self.old.flusher.store) × (K.failures self.new.flusher.store ≡ K.failures self.old.flusher.store) }
     {
         self.tell_batches();
         if !self.flusher.waits() {
@@ -248,7 +248,7 @@ impl<K: Store> Parts<K> {
         requires { IsInner step.now }
         ensures answer { (w : World) → IsOpen w self.old → Answers w step.now result }
         ensures fits { (w : World) → IsOpen w self.old → IsOpen (after w step.now result) self.new }
-        ensures store { self.new.flusher.store ≡ self.old.flusher.store }
+        ensures store { (K.device self.new.flusher.store ≡ K.device self.old.flusher.store) × (K.failures self.new.flusher.store ≡ K.failures self.old.flusher.store) }
     {
         match step {
             Step::Send(slot, action) => self.send(*slot, *action),

@@ -21,7 +21,7 @@ use Rattle.alm_checkpoint.specs.declared.no_choice.NoChoice.TheVariants.{EqualEp
 use Rattle.alm_checkpoint.specs.declared.half.Half.{Half}
 use Rattle.alm_checkpoint.specs.declared.half.Half.TheVariants.{First, Second}
 use Rattle.alm_checkpoint.specs.Layouts.{byte_at, part, other, header_len, head_len, half_len, half_at, image_at, segment_at, image_size, device_len, is_segment, number_of}
-use Rattle.alm_checkpoint.specs.Headers.{header, half_head, header_text, half_head_text}
+use Rattle.alm_checkpoint.specs.Headers.{header, half_head, header_text, half_head_text, allows}
 use Rattle.alm_checkpoint.specs.Opening.{Opened, opened_half, ◌>>=◌, rule, read_to, gate_in, epoch_in, choice, or_fault, layout_from, layout_in, head_of, chosen_in, half_head_from, opened_in}
 use Rattle.alm_checkpoint.specs.Standing.{Stands, Spells, gate_place, end_of}
 use Rattle.alm_checkpoint.specs.Cut.{Cut, IsCut, IsLayout, Stores, IsBelow, Reaches, before, behind, front, back, device_of}
@@ -126,21 +126,22 @@ half_fits l First device size = omega (arith, size)
 half_fits l Second device size = omega (arith, size)
 
 record IsTold (device : List ℕ) (l : Layout) (h : Half) (t : HalfHead) : Type 0 where
-  mark : head_of l h device ≡ 165 ∷ half_head_text l t.epoch t.count
+  mark : head_of l h device ≡ 165 ∷ half_head_text l t.version t.epoch t.count
   epoch : t.epoch < 2 ^ 64
+  allowed : allows l.version t.version ≡ true
   count : t.count ≤ 2 ^ 48
 
 told_is : (device : List ℕ) (l : Layout) (h : Half) (t : HalfHead) → IsBytes device → device_len l ≤ length device → gate_in (head_of l h device) ≡ true → half_head_from l h (head_of l h device) ≡ Ok t → IsTold device l h t
 unfolding half_head_from
 told_is device l h t fits size gate e =
     let bytes : List ℕ = head_of l h device in
-    let d = bind_ok (read_to (number_of h) (image_at l h) ((half_head (image_size l)).read (drop 1 bytes))) (λ x. Ok x.0) t e in
-    let k = head_is l (drop 1 bytes) d.0 (IsBytes-drop 1 bytes (IsBytes-take head_len (drop (half_at l h) device) (IsBytes-drop (half_at l h) device fits))) (read_ok (number_of h) (image_at l h) ((half_head (image_size l)).read (drop 1 bytes)) d.0 d.1) in
+    let d = bind_ok (read_to (number_of h) (image_at l h) ((half_head l.version (image_size l)).read (drop 1 bytes))) (λ x. Ok x.0) t e in
+    let k = head_is l (drop 1 bytes) d.0 (IsBytes-drop 1 bytes (IsBytes-take head_len (drop (half_at l h) device) (IsBytes-drop (half_at l h) device fits))) (read_ok (number_of h) (image_at l h) ((half_head l.version (image_size l)).read (drop 1 bytes)) d.0 d.1) in
     let same : d.0.0 ≡ t = fine_is d.0.0 t d.2 in
     let long : length bytes ≡ 25 = length-take-le head_len (drop (half_at l h) device) (omega (arith, length-drop (half_at l h) device, half_fits l h device size)) in
-    let rest : d.0.1 ≡ [] = nothing d.0.1 (omega (arith, ap length k.0, length-append (half_head_text l d.0.0.epoch d.0.0.count) d.0.1, length-drop 1 bytes, long)) in
-    let text : drop 1 bytes ≡ half_head_text l d.0.0.epoch d.0.0.count = k.0 ∙ ap (λ (r : List ℕ). half_head_text l d.0.0.epoch d.0.0.count ++ r) rest ∙ append-nil (half_head_text l d.0.0.epoch d.0.0.count) in
-    subst (IsTold device l h) same (record { mark = first_is bytes (half_head_text l d.0.0.epoch d.0.0.count) (omega (arith, long)) gate text; epoch = k.1; count = k.2 })
+    let rest : d.0.1 ≡ [] = nothing d.0.1 (omega (arith, ap length k.parts, length-append (half_head_text l d.0.0.version d.0.0.epoch d.0.0.count) d.0.1, length-drop 1 bytes, long)) in
+    let text : drop 1 bytes ≡ half_head_text l d.0.0.version d.0.0.epoch d.0.0.count = k.parts ∙ ap (λ (r : List ℕ). half_head_text l d.0.0.version d.0.0.epoch d.0.0.count ++ r) rest ∙ append-nil (half_head_text l d.0.0.version d.0.0.epoch d.0.0.count) in
+    subst (IsTold device l h) same (record { mark = first_is bytes (half_head_text l d.0.0.version d.0.0.epoch d.0.0.count) (omega (arith, long)) gate text; epoch = k.epoch; allowed = k.allowed; count = k.count })
 
 -- ---- the device's bytes by their places
 
@@ -187,6 +188,7 @@ pub record CutOf (device : List ℕ) (epoch : ℕ) (plant : Condensed) (o : Open
   pub gate_there : length (front cut) + left ≡ end_of o
   pub of_layout : cut.layout ≡ o.layout
   pub of_half : cut.half ≡ o.half
+  pub of_version : cut.version ≡ o.head.version
   pub of_epoch : cut.epoch ≡ epoch
   pub of_base : cut.base ≡ base
   -- the other half's gate
@@ -204,44 +206,46 @@ below_is device l h t c m =
     ⊎_elim (λ shut. inl (sym gate ∙ shut)) (λ lt. inr (omega (arith, lt, epoch, mine))) c.below
 
 abbrev cut_here : (device : List ℕ) (l : Layout) (h : Half) (t : HalfHead) (base : Condensed) (frames : List (List Action)) → Cut
-cut_here device l h t base frames = record { layout = l; half = h; epoch = t.epoch; base = base; frames = frames; other = half_bytes l (other h) device; rest = rest_bytes l device }
+cut_here device l h t base frames = record { layout = l; half = h; version = t.version; epoch = t.epoch; base = base; frames = frames; other = half_bytes l (other h) device; rest = rest_bytes l device }
 
 regroup_half : (s m i f g e : List ℕ) → s ++ (m ++ i ++ (f ++ g)) ++ e ≡ s ++ (m ++ i ++ f) ++ g ++ e
 regroup_half s m i f g e = simp append_assoc
 
 pub cut_at : (device : List ℕ) (l : Layout) (h : Half) (t : HalfHead) (base plant : Condensed) (left : ℕ) → IsBytes device → layout_in device ≡ Ok l → chosen_in l device ≡ Ok h → half_head_from l h (head_of l h device) ≡ Ok t
-    → Spells (opened_half l h t device) base → stored_in t.epoch base (part (segment_at l h) l.segment device) ≡ Ok (plant, left) → CutOf device t.epoch plant (opened_half l h t device) base left
+    → Spells (opened_half l h t device) base → stored_in t.version t.epoch base (part (segment_at l h) l.segment device) ≡ Ok (plant, left) → CutOf device t.epoch plant (opened_half l h t device) base left
 cut_at device l h t base plant left fits e_layout e_half e_told spells folds =
     let hd = layout_is device l fits e_layout in
     let ch = chosen_is device l h e_half in
     let tl = told_is device l h t fits hd.size ch.gate e_told in
     let segment : List ℕ = part (segment_at l h) l.segment device in
-    let f = found base t.epoch base.panel.count segment (plant, left) (IsBytes-take l.segment (drop (segment_at l h) device) (IsBytes-drop (segment_at l h) device fits)) folds in
+    let f = found t.version base t.epoch base.panel.count segment (plant, left) (IsBytes-take l.segment (drop (segment_at l h) device) (IsBytes-drop (segment_at l h) device fits)) folds in
     let c = cut_here device l h t base f.frames in
     let counted : t.count ≡ base.panel.count = sym spells.sizes.by_count in
     let start : List ℕ = 165 ∷ header_text l ++ before h c.other in
     let text : List ℕ = frames_text t.epoch base.panel.count f.frames in
-    let half : half_bytes l h device ≡ (165 ∷ half_head_text l t.epoch base.panel.count) ++ image_text base ++ (text ++ f.gate ∷ f.tail) =
+    let half : half_bytes l h device ≡ (165 ∷ half_head_text l t.version t.epoch base.panel.count) ++ image_text base ++ (text ++ f.gate ∷ f.tail) =
     half_parts l h device
     ∙ ap (λ (m : List ℕ). m ++ part (image_at l h) (image_size l) device ++ segment) tl.mark
-    ∙ ap (λ (n : ℕ). (165 ∷ half_head_text l t.epoch n) ++ part (image_at l h) (image_size l) device ++ segment) counted
-    ∙ ap (λ (i : List ℕ). (165 ∷ half_head_text l t.epoch base.panel.count) ++ i ++ segment) spells.image.text
-    ∙ ap (λ (s : List ℕ). (165 ∷ half_head_text l t.epoch base.panel.count) ++ image_text base ++ s) f.parts in
+    ∙ ap (λ (n : ℕ). (165 ∷ half_head_text l t.version t.epoch n) ++ part (image_at l h) (image_size l) device ++ segment) counted
+    ∙ ap (λ (i : List ℕ). (165 ∷ half_head_text l t.version t.epoch base.panel.count) ++ i ++ segment) spells.image.text
+    ∙ ap (λ (s : List ℕ). (165 ∷ half_head_text l t.version t.epoch base.panel.count) ++ image_text base ++ s) f.parts in
     let shown : device ≡ device_of c (f.gate ∷ f.tail) =
     in_order l h device
     ∙ ap (λ (s : List ℕ). (s ++ before h c.other) ++ half_bytes l h device ++ back c) hd.start
     ∙ ap (λ (b : List ℕ). start ++ b ++ back c) half
-    ∙ regroup_half start (165 ∷ half_head_text l t.epoch base.panel.count) (image_text base) text (f.gate ∷ f.tail) (back c) in
+    ∙ regroup_half start (165 ∷ half_head_text l t.version t.epoch base.panel.count) (image_text base) text (f.gate ∷ f.tail) (back c) in
     let long : length segment ≡ l.segment = length-take-le l.segment (drop (segment_at l h) device) (omega (arith, length-drop (segment_at l h) device, half_fits l h device hd.size)) in
     let reaches : Reaches c (f.gate ∷ f.tail) = sym (ap length f.parts ∙ length-append text (f.gate ∷ f.tail)) ∙ long in
     let beside : length c.other ≡ half_len l = length-take-le (half_len l) (drop (half_at l (other h)) device) (omega (arith, length-drop (half_at l (other h)) device, half_fits l (other h) device hd.size)) in
     let stores : Stores c plant = record {
       layout = hd.limits;
+      version = tl.allowed;
       epoch = tl.epoch;
       image = record { rules = spells.image.rules; fits = spells.image.fits; text = refl };
       sizes = record { by_rows = spells.sizes.by_rows; by_areas = spells.sizes.by_areas; by_count = refl };
       count = omega (arith, tl.count, counted);
       frames = f.are_frames;
+      borne = f.borne;
       admitted = f.admitted;
       runs = f.runs;
       size = beside;
@@ -259,6 +263,7 @@ cut_at device l h t base plant left fits e_layout e_half e_told spells folds =
       gate_there = omega (arith, f.left, gate_at c plant (f.gate ∷ f.tail) stores reaches);
       of_layout = refl;
       of_half = refl;
+      of_version = refl;
       of_epoch = refl;
       of_base = refl;
       of_other = ap gate_in (head_short l (other h) device) ∙ gate_short (half_bytes l (other h) device);
@@ -274,7 +279,7 @@ cut_of device epoch plant s fits =
     let same : opened_half a.0 b.0 d.0 device ≡ s.opened = fine_is (opened_half a.0 b.0 d.0 device) s.opened d.2 in
     let epochs : epoch ≡ d.0.epoch = sym s.in_epoch ∙ ap (λ (o : Opened). o.head.epoch) (sym same) in
     let spells : Spells (opened_half a.0 b.0 d.0 device) s.base = subst (λ (o : Opened). Spells o s.base) (sym same) s.spells in
-    let one : stored_in d.0.epoch s.base (part (segment_at a.0 b.0) a.0.segment device) ≡ stored_in epoch s.base s.opened.segment = (λ i. stored_in (sym epochs i) s.base (same i).segment) in
+    let one : stored_in d.0.version d.0.epoch s.base (part (segment_at a.0 b.0) a.0.segment device) ≡ stored_in s.opened.head.version epoch s.base s.opened.segment = (λ i. stored_in (same i).head.version (sym epochs i) s.base (same i).segment) in
     let cut = cut_at device a.0 b.0 d.0 s.base plant s.left fits a.1 b.1 d.1 spells (one ∙ s.folds) in
     subst (λ (e : ℕ). CutOf device e plant s.opened s.base s.left) (sym epochs) (subst (λ (o : Opened). CutOf device d.0.epoch plant o s.base s.left) same cut)
 

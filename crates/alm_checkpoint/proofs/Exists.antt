@@ -19,7 +19,7 @@ use Rattle.alm_checkpoint.specs.Cut.{IsLayout}
 use Rattle.alm_checkpoint.proofs.CutOf.{layout_is}
 use Rattle.alm_checkpoint.proofs.Opens.{opens, no_layout, no_half_stands, not_told}
 
-by_fold : (device : List ℕ) (o : Opened) (base : Condensed) (r : Result (Condensed × ℕ) ℕ) → opened_in device ≡ Ok o → Spells o base → stored_in o.head.epoch base o.segment ≡ r → Meaning device
+by_fold : (device : List ℕ) (o : Opened) (base : Condensed) (r : Result (Condensed × ℕ) ℕ) → opened_in device ≡ Ok o → Spells o base → stored_in o.head.version o.head.epoch base o.segment ≡ r → Meaning device
 by_fold device o base (Ok x) e s f = inl (o.head.epoch, x.0, record { opened = o; opens = e; in_epoch = refl; base = base; spells = s; left = x.1; folds = f })
 by_fold device o base (Err left) e s f = inr (Damaged (number_of o.half) (end_of o - left), inr (inr (record { opened = o; opens = e; base = base; spells = s; left = left; folds = f; is = refl })))
 
@@ -29,7 +29,7 @@ by_image device o None e limits fits f =
     let rows = and_parts (leb 1 o.layout.rows) (leb o.layout.rows 16384) limits.rows in
     let areas = and_parts (leb 1 o.layout.areas) (leb o.layout.areas 64) limits.areas in
     let q = image_there o.layout.rows o.layout.areas o.head.count o.image (leb-true 1 o.layout.rows rows.0, leb-true o.layout.rows 16384 rows.1) (leb-true 1 o.layout.areas areas.0, leb-true o.layout.areas 64 areas.1) fits f in
-    by_fold device o q.0 (stored_in o.head.epoch q.0 o.segment) e (record { sizes = q.1; image = q.2 }) refl
+    by_fold device o q.0 (stored_in o.head.version o.head.epoch q.0 o.segment) e (record { sizes = q.1; image = q.2 }) refl
 
 by_told : (device : List ℕ) (l : Layout) (h : Half) (r : Result HalfHead Fault) → IsBytes device → layout_in device ≡ Ok l → chosen_in l device ≡ Ok h → half_head_from l h (head_of l h device) ≡ r → Meaning device
 by_told device l h (Err fault) fits e f g = inr (fault, not_told device l h fault e f g)

@@ -5,6 +5,8 @@ use Rattle.alm_model.specs.Plant.{Condensed}
 use Rattle.alm_model.specs.Step.{run}
 use Rattle.alm_model.specs.Rules.{AreAdmitted}
 use Rattle.alm_codec.specs.Image.{image_text}
+use Rattle.alm_codec.specs.Versions.{IsBorne, AreBorne}
+use Rattle.std.proofs.lemmas.List.Elements.{All-append}
 use Rattle.alm_codec.specs.Frames.{IsFrame, frame_text}
 use Rattle.alm_segment.specs.Texts.{frames_text, actions_in}
 use Rattle.alm_model.proofs.Runs.{run_count, run_append, admitted_join}
@@ -33,7 +35,7 @@ regroup s m i f x t e = simp append_assoc
 pub pushes : (c : Cut) (plant : Condensed) (list : List Action) (tail : List ℕ) → Stores c plant → device_of c (165 ∷ frame_text c.epoch (plant.panel.count + 1) list ++ tail) ≡ device_of (with_frame c list) tail
 pushes c plant list tail s =
     let start : List ℕ = 165 ∷ header_text c.layout ++ before c.half c.other in
-    let mark : List ℕ = 165 ∷ half_head_text c.layout c.epoch c.base.panel.count in
+    let mark : List ℕ = 165 ∷ half_head_text c.layout c.version c.epoch c.base.panel.count in
     regroup start mark (image_text c.base) (frames_text c.epoch c.base.panel.count c.frames) (165 ∷ frame_text c.epoch (plant.panel.count + 1) list) tail (back c)
     ∙ ap (λ (f : List ℕ). start ++ (mark ++ image_text c.base ++ f) ++ tail ++ back c) (pushed_text c plant list s)
 
@@ -47,14 +49,16 @@ reaches_pushed c plant list tail s reaches =
       length-append (frames_text c.epoch c.base.panel.count c.frames) (165 ∷ frame_text c.epoch (plant.panel.count + 1) list),
     )
 
-pub stores_pushed : (c : Cut) (plant : Condensed) (list : List Action) → Stores c plant → IsFrame c.epoch (plant.panel.count + 1) list → AreAdmitted plant list → Stores (with_frame c list) (run plant list)
-stores_pushed c plant list s one admitted = record {
+pub stores_pushed : (c : Cut) (plant : Condensed) (list : List Action) → Stores c plant → IsFrame c.epoch (plant.panel.count + 1) list → AreBorne c.version list → AreAdmitted plant list → Stores (with_frame c list) (run plant list)
+stores_pushed c plant list s one borne admitted = record {
   layout = s.layout;
+  version = s.version;
   epoch = s.epoch;
   image = s.image;
   sizes = s.sizes;
   count = s.count;
   frames = frames_pushed c.epoch c.base.panel.count c.frames list s.frames (subst (λ (n : ℕ). IsFrame c.epoch (n + 1) list) (count_is c plant s) one);
+  borne = subst (AreBorne c.version) (sym (actions_pushed c.frames list)) (All-append (IsBorne c.version) (actions_in c.frames) list s.borne borne);
   admitted = subst (AreAdmitted c.base) (sym (actions_pushed c.frames list)) (admitted_join c.base (actions_in c.frames) list s.admitted (subst (λ (q : Condensed). AreAdmitted q list) (sym s.runs) admitted));
   runs = ap (run c.base) (actions_pushed c.frames list) ∙ run_append c.base (actions_in c.frames) list ∙ ap (λ (q : Condensed). run q list) s.runs;
   size = s.size;
@@ -75,5 +79,5 @@ gate_at c plant tail s reaches =
     omega (
       arith,
       reaches,
-      front_length c.layout c.half (165 ∷ half_head_text c.layout c.epoch c.base.panel.count) (image_text c.base) (frames_text c.epoch c.base.panel.count c.frames) c.other refl (image_is_long c.layout c.base s.sizes s.image) s.size,
+      front_length c.layout c.half (165 ∷ half_head_text c.layout c.version c.epoch c.base.panel.count) (image_text c.base) (frames_text c.epoch c.base.panel.count c.frames) c.other refl (image_is_long c.layout c.base s.sizes s.image) s.size,
     )

@@ -1,11 +1,14 @@
 -- The texts of headers and heads are read as what was written, and what is read is spelled so.
-use Rattle.std.proofs.Common.{◌≡◌, ℕ, ◌^◌, ◌<◌, ◌≤◌, Bool, true, false, cond, eqb, leb, List, [], ◌++◌, Some, None, Ok, refl, sym, ap, ◌∙◌, arith}
+use Rattle.std.proofs.Common.{◌≡◌, ℕ, ◌-◌, ◌^◌, ◌<◌, ◌≤◌, Bool, true, false, ◌&&◌, cond, eqb, leb, List, [], ◌++◌, Some, None, Ok, inl, inr, refl, sym, ap, subst, ◌∙◌, arith}
 use Rattle.std.specs.Prelude.{bytes_eq}
 use Rattle.std.specs.Int.{w16, w32, w64}
 use Rattle.std.proofs.lemmas.Bool.{eqb-true, leb-true, le-leb, eq-eqb, and_parts}
 use Rattle.std.proofs.lemmas.Slice.Eq.{bytes_eq-Decides}
-use Rattle.std.proofs.lemmas.Option.{same_Some}
+use Rattle.std.proofs.lemmas.Option.{same_Some, none-some}
 use Rattle.std.proofs.lemmas.List.{append-nil}
+use Rattle.alm_codec.specs.declared.version.Version.{Version}
+use Rattle.alm_codec.specs.declared.version.Version.TheVariants.{V01, V02}
+use Rattle.alm_codec.proofs.Bytes.{chosen}
 use Rattle.alm_codec.specs.Format.{Format, number, raw, tested, both}
 use Rattle.alm_codec.specs.Reading.{IsBytes}
 use Rattle.alm_codec.proofs.Numbers.{wide16, wide32, wide64}
@@ -13,7 +16,7 @@ use Rattle.alm_codec.proofs.Formats.{Lawful, number_lawful, raw_lawful, coded_la
 use Rattle.alm_checkpoint.specs.declared.layout.Layout.{Layout}
 use Rattle.alm_checkpoint.specs.declared.half_head.HalfHead.{HalfHead}
 use Rattle.alm_checkpoint.specs.Layouts.{device_len, image_size, is_rows, is_areas, is_segment}
-use Rattle.alm_checkpoint.specs.Headers.{device_name, name, of_rows, suits, header, header_text, half_head, half_head_text}
+use Rattle.alm_checkpoint.specs.Headers.{device_name, version_named, name, of_rows, suits, header, header_text, mark_weight, marked, is_first, allows, is_count, unmarked, mark, half_head, half_head_text}
 
 -- ---- a field that passes a test
 
@@ -38,27 +41,41 @@ areas_in size rows = both (tested (number w16 (2 ^ 16)) is_areas) (λ areas. seg
 abbrev rows_in : ℕ → Format (ℕ × (ℕ × ℕ))
 rows_in size = both (tested (number w32 (2 ^ 32)) is_rows) (λ rows. areas_in size rows)
 
-abbrev fields_in : ℕ → Format (List ℕ × (ℕ × (ℕ × ℕ)))
+abbrev fields_in : ℕ → Format (Version × (ℕ × (ℕ × ℕ)))
 fields_in size = both name (λ _. rows_in size)
+
+text_is : (text : List ℕ) (v : Version) → bytes_eq text (device_name v) ≡ true → text ≡ device_name v
+text_is text v e = (bytes_eq-Decides text (device_name v)).0 e
+
+named_is : (text : List ℕ) (v : Version) → (raw 8).Keeps text → version_named text ≡ Some v → text ≡ device_name v
+named_is text v h e =
+    elim (chosen (bytes_eq text (device_name V01)) (Some V01) (cond (bytes_eq text (device_name V02)) (Some V02) None) (Some v) e) [
+      | inl (t, s) ↦ text_is text V01 t ∙ ap device_name (same_Some V01 v s)
+      | inr (t, s) ↦ elim (chosen (bytes_eq text (device_name V02)) (Some V02) None (Some v) s) [
+        | inl (u, r) ↦ text_is text V02 u ∙ ap device_name (same_Some V02 v r)
+        | inr (u, r) ↦ absurd (none-some v r)
+      ]
+    ]
+
+name_lawful : Lawful name
+name_lawful = coded_lawful (raw 8) version_named device_name (raw_lawful 8) named_is
+
+name_keeps : (v : Version) → name.Keeps v
+name_keeps V01 = (refl, refl)
+name_keeps V02 = (refl, refl)
 
 fields_lawful : (size : ℕ) → Lawful (fields_in size)
 fields_lawful size =
-    both_lawful name (λ _. rows_in size) (tested_lawful (raw 8) (λ text. bytes_eq text device_name) (raw_lawful 8))
+    both_lawful name (λ _. rows_in size) name_lawful
     (λ _. both_lawful (tested (number w32 (2 ^ 32)) is_rows) (λ rows. areas_in size rows) (tested_lawful (number w32 (2 ^ 32)) is_rows (number_lawful w32 (2 ^ 32) wide32))
     (λ rows. both_lawful (tested (number w16 (2 ^ 16)) is_areas) (λ areas. segment_in size rows areas) (tested_lawful (number w16 (2 ^ 16)) is_areas (number_lawful w16 (2 ^ 16) wide16))
     (λ areas. tested_lawful (number w64 (2 ^ 64)) (suits size rows areas) (number_lawful w64 (2 ^ 64) wide64))))
 
-name_is : (text : List ℕ) → bytes_eq text device_name ≡ true → text ≡ device_name
-name_is text e = (bytes_eq-Decides text device_name).0 e
-
-fields_are : (size : ℕ) (p : List ℕ × (ℕ × (ℕ × ℕ))) (l : Layout) → (fields_in size).Keeps p → Some (of_rows p.1.0 p.1.1.0 p.1.1.1) ≡ Some l → p ≡ (device_name, (l.rows, (l.areas, l.segment)))
-fields_are size p l h e =
-    let named : p.0 ≡ device_name = name_is p.0 (passes (raw 8) (λ text. bytes_eq text device_name) p.0 h.0) in
-    let same = same_Some (of_rows p.1.0 p.1.1.0 p.1.1.1) l e in
-    ap (λ (t : List ℕ). (t, p.1)) named ∙ ap (λ (k : Layout). (device_name, (k.rows, (k.areas, k.segment)))) same
+fields_are : (size : ℕ) (p : Version × (ℕ × (ℕ × ℕ))) (l : Layout) → (fields_in size).Keeps p → Some (of_rows p.1.0 p.1.1.0 p.1.1.1 p.0) ≡ Some l → p ≡ (l.version, (l.rows, (l.areas, l.segment)))
+fields_are size p l h e = ap (λ (k : Layout). (k.version, (k.rows, (k.areas, k.segment)))) (same_Some (of_rows p.1.0 p.1.1.0 p.1.1.1 p.0) l e)
 
 pub header_lawful : (size : ℕ) → Lawful (header size)
-header_lawful size = coded_lawful (fields_in size) (λ p. Some (of_rows p.1.0 p.1.1.0 p.1.1.1)) (λ l. (device_name, (l.rows, (l.areas, l.segment)))) (fields_lawful size) (fields_are size)
+header_lawful size = coded_lawful (fields_in size) (λ p. Some (of_rows p.1.0 p.1.1.0 p.1.1.1 p.0)) (λ l. (l.version, (l.rows, (l.areas, l.segment)))) (fields_lawful size) (fields_are size)
 
 -- a layout that suits a device of a size
 pub record SuitsDevice (size : ℕ) (l : Layout) : Type 0 where
@@ -74,13 +91,13 @@ areas_small n e = omega (arith, leb-true n 64 (and_parts (leb 1 n) (leb n 64) e)
 
 segment_small : (size rows areas n : ℕ) → suits size rows areas n ≡ true → n < 2 ^ 64
 segment_small size rows areas n e =
-    let in_limits : is_segment n ≡ true = (and_parts (is_segment n) (leb (device_len (of_rows rows areas n)) size) e).0 in
+    let in_limits : is_segment n ≡ true = (and_parts (is_segment n) (leb (device_len (of_rows rows areas n V02)) size) e).0 in
     omega (arith, leb-true n 16777216 (and_parts (leb 4116 n) (leb n 16777216) in_limits).1)
 
 header_keeps : (size : ℕ) (l : Layout) → SuitsDevice size l → (header size).Keeps l
 header_keeps size l s = (
   (
-    passing (raw 8) (λ text. bytes_eq text device_name) device_name refl refl,
+    name_keeps l.version,
     (
       passing (number w32 (2 ^ 32)) is_rows l.rows (rows_small l.rows s.rows) s.rows,
       (
@@ -111,8 +128,49 @@ header_is size bytes x fits e =
 
 -- ---- the head of a half
 
-abbrev is_count : ℕ → Bool
-is_count n = leb n (2 ^ 48)
+-- what a field of mark and count stands for
+pub record IsMark (header : Version) (n : ℕ) (m : Version × ℕ) : Type 0 where
+  pub is : n ≡ marked m.0 m.1
+  pub allowed : allows header m.0 ≡ true
+  pub count : m.1 ≤ 2 ^ 48
+
+abbrev pair : Version → ℕ → Version × ℕ
+pair v n = (v, n)
+
+pub unmarked_is : (header : Version) (n : ℕ) (m : Version × ℕ) → unmarked header n ≡ Some m → IsMark header n m
+unmarked_is header n m e =
+    elim (chosen (is_count n && is_first header) (Some (pair V01 n)) (cond (leb (mark_weight V02) n && is_count (n - mark_weight V02)) (Some (pair V02 (n - mark_weight V02))) None) (Some m) e) [
+      | inl (t, s) ↦
+          (let k = and_parts (is_count n) (is_first header) t in
+          subst (IsMark header n) (same_Some (pair V01 n) m s) (record { is = omega arith; allowed = k.1; count = leb-true n (2 ^ 48) k.0 }))
+      | inr (t, s) ↦ elim (chosen (leb (mark_weight V02) n && is_count (n - mark_weight V02)) (Some (pair V02 (n - mark_weight V02))) None (Some m) s) [
+        | inl (u, r) ↦
+            (let k = and_parts (leb (mark_weight V02) n) (is_count (n - mark_weight V02)) u in
+            let large : mark_weight V02 ≤ n = leb-true (mark_weight V02) n k.0 in
+            subst (IsMark header n) (same_Some (pair V02 (n - mark_weight V02)) m r) (record { is = omega (arith, large); allowed = refl; count = leb-true (n - mark_weight V02) (2 ^ 48) k.1 }))
+        | inr (u, r) ↦ absurd (none-some m r)
+      ]
+    ]
+
+unmarked_at : (header v : Version) (n count : ℕ) → n ≡ marked v count → allows header v ≡ true → count ≤ 2 ^ 48 → unmarked header n ≡ Some (pair v count)
+unmarked_at header V01 n count e allowed c =
+    let same : n ≡ count = omega (arith, e) in
+    rw (same, le-leb count (2 ^ 48) c, allowed) refl
+unmarked_at header V02 n count e allowed c =
+    let above : is_count n ≡ false = grind (arith, e) in
+    let large : leb (mark_weight V02) n ≡ true = le-leb (mark_weight V02) n (omega (arith, e)) in
+    let rest : n - mark_weight V02 ≡ count = omega (arith, e) in
+    rw (above, large, rest, le-leb count (2 ^ 48) c) refl
+
+marked_small : (v : Version) (count : ℕ) → count ≤ 2 ^ 48 → marked v count < 2 ^ 64
+marked_small V01 count c = omega (arith, c)
+marked_small V02 count c = omega (arith, c)
+
+mark_keeps : (header v : Version) (count : ℕ) → allows header v ≡ true → count ≤ 2 ^ 48 → (mark header).Keeps (pair v count)
+mark_keeps header v count allowed c = (marked_small v count c, unmarked_at header v (marked v count) count refl allowed c)
+
+mark_lawful : (header : Version) → Lawful (mark header)
+mark_lawful header = coded_lawful (number w64 (2 ^ 64)) (unmarked header) (λ m. marked m.0 m.1) (number_lawful w64 (2 ^ 64) wide64) (λ n m h e. (unmarked_is header n m e).is)
 
 abbrev is_size : ℕ → ℕ → Bool
 is_size image n = eqb n image
@@ -120,39 +178,39 @@ is_size image n = eqb n image
 abbrev image_in : ℕ → Format ℕ
 image_in image = tested (number w64 (2 ^ 64)) (is_size image)
 
-abbrev count_in : ℕ → Format (ℕ × ℕ)
-count_in image = both (tested (number w64 (2 ^ 64)) is_count) (λ count. image_in image)
+abbrev mark_in : Version → ℕ → Format ((Version × ℕ) × ℕ)
+mark_in header image = both (mark header) (λ m. image_in image)
 
-abbrev head_in : ℕ → Format (ℕ × (ℕ × ℕ))
-head_in image = both (number w64 (2 ^ 64)) (λ epoch. count_in image)
+abbrev head_in : Version → ℕ → Format (ℕ × ((Version × ℕ) × ℕ))
+head_in header image = both (number w64 (2 ^ 64)) (λ epoch. mark_in header image)
 
-head_in_lawful : (image : ℕ) → Lawful (head_in image)
-head_in_lawful image =
-    both_lawful (number w64 (2 ^ 64)) (λ _. count_in image) (number_lawful w64 (2 ^ 64) wide64)
-    (λ _. both_lawful (tested (number w64 (2 ^ 64)) is_count) (λ _. image_in image) (tested_lawful (number w64 (2 ^ 64)) is_count (number_lawful w64 (2 ^ 64) wide64))
+head_in_lawful : (header : Version) (image : ℕ) → Lawful (head_in header image)
+head_in_lawful header image =
+    both_lawful (number w64 (2 ^ 64)) (λ _. mark_in header image) (number_lawful w64 (2 ^ 64) wide64)
+    (λ _. both_lawful (mark header) (λ _. image_in image) (mark_lawful header)
     (λ _. tested_lawful (number w64 (2 ^ 64)) (is_size image) (number_lawful w64 (2 ^ 64) wide64)))
 
-abbrev told_of : ℕ → ℕ → HalfHead
-told_of epoch count = record { epoch = epoch; count = count }
+abbrev told_of : ℕ → Version × ℕ → HalfHead
+told_of epoch m = record { epoch = epoch; version = m.0; count = m.1 }
 
-head_is_of : (image : ℕ) (p : ℕ × (ℕ × ℕ)) (t : HalfHead) → (head_in image).Keeps p → Some (told_of p.0 p.1.0) ≡ Some t → p ≡ (t.epoch, (t.count, image))
-head_is_of image p t h e =
+head_is_of : (header : Version) (image : ℕ) (p : ℕ × ((Version × ℕ) × ℕ)) (t : HalfHead) → (head_in header image).Keeps p → Some (told_of p.0 p.1.0) ≡ Some t → p ≡ (t.epoch, ((t.version, t.count), image))
+head_is_of header image p t h e =
     let sized : p.1.1 ≡ image = eqb-true p.1.1 image (passes (number w64 (2 ^ 64)) (is_size image) p.1.1 h.1.1) in
     let same = same_Some (told_of p.0 p.1.0) t e in
-    ap (λ (n : ℕ). (p.0, (p.1.0, n))) sized ∙ ap (λ (k : HalfHead). (k.epoch, (k.count, image))) same
+    ap (λ (n : ℕ). (p.0, (p.1.0, n))) sized ∙ ap (λ (k : HalfHead). (k.epoch, ((k.version, k.count), image))) same
 
-pub half_head_lawful : (image : ℕ) → Lawful (half_head image)
-half_head_lawful image = coded_lawful (head_in image) (λ p. Some (told_of p.0 p.1.0)) (λ t. (t.epoch, (t.count, image))) (head_in_lawful image) (head_is_of image)
+pub half_head_lawful : (header : Version) (image : ℕ) → Lawful (half_head header image)
+half_head_lawful header image = coded_lawful (head_in header image) (λ p. Some (told_of p.0 p.1.0)) (λ t. (t.epoch, ((t.version, t.count), image))) (head_in_lawful header image) (head_is_of header image)
 
 -- the text of a head is read
-pub head_reads : (l : Layout) (t : HalfHead) → t.epoch < 2 ^ 64 → t.count ≤ 2 ^ 48 → image_size l < 2 ^ 64 → (half_head (image_size l)).read (half_head_text l t.epoch t.count) ≡ Ok (t, [])
-head_reads l t e c i =
-    ap (half_head (image_size l)).read (sym (append-nil (half_head_text l t.epoch t.count)))
-    ∙ (half_head_lawful (image_size l)).again t [] (
+pub head_reads : (l : Layout) (t : HalfHead) → t.epoch < 2 ^ 64 → allows l.version t.version ≡ true → t.count ≤ 2 ^ 48 → image_size l < 2 ^ 64 → (half_head l.version (image_size l)).read (half_head_text l t.version t.epoch t.count) ≡ Ok (t, [])
+head_reads l t e a c i =
+    ap (half_head l.version (image_size l)).read (sym (append-nil (half_head_text l t.version t.epoch t.count)))
+    ∙ (half_head_lawful l.version (image_size l)).again t [] (
       (
         e,
         (
-          passing (number w64 (2 ^ 64)) is_count t.count (omega (arith, c)) (le-leb t.count (2 ^ 48) c),
+          mark_keeps l.version t.version t.count a c,
           passing (number w64 (2 ^ 64)) (is_size (image_size l)) (image_size l) i (eq-eqb (image_size l) (image_size l) refl),
         ),
       ),
@@ -160,8 +218,15 @@ head_reads l t e c i =
     )
 
 -- what is read is the text of a head
-pub head_is : (l : Layout) (bytes : List ℕ) (x : HalfHead × List ℕ) → IsBytes bytes → (half_head (image_size l)).read bytes ≡ Ok x → (bytes ≡ half_head_text l x.0.epoch x.0.count ++ x.1) × (x.0.epoch < 2 ^ 64) × (x.0.count ≤ 2 ^ 48)
+pub record IsHead (l : Layout) (bytes : List ℕ) (x : HalfHead × List ℕ) : Type 0 where
+  pub parts : bytes ≡ half_head_text l x.0.version x.0.epoch x.0.count ++ x.1
+  pub epoch : x.0.epoch < 2 ^ 64
+  pub allowed : allows l.version x.0.version ≡ true
+  pub count : x.0.count ≤ 2 ^ 48
+
+pub head_is : (l : Layout) (bytes : List ℕ) (x : HalfHead × List ℕ) → IsBytes bytes → (half_head l.version (image_size l)).read bytes ≡ Ok x → IsHead l bytes x
 head_is l bytes x fits e =
-    let t = (half_head_lawful (image_size l)).takes bytes x fits e in
+    let t = (half_head_lawful l.version (image_size l)).takes bytes x fits e in
     let k = t.1.0 in
-    (t.0.parts, k.0, leb-true x.0.count (2 ^ 48) (passes (number w64 (2 ^ 64)) is_count x.0.count k.1.0))
+    let m = unmarked_is l.version (marked x.0.version x.0.count) (pair x.0.version x.0.count) k.1.0.1 in
+    record { parts = t.0.parts; epoch = k.0; allowed = m.allowed; count = m.count }

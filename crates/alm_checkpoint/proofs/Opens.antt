@@ -76,10 +76,10 @@ held_by device image segment l h t i s n m e ie ne f se me =
     (λ j. opened_with l h t (e j) (f j)) ∙ (λ j. opened_with l h t (part (ie j) (ne j) device) (part (se j) (me j) device))
 
 pub stands_in_by : (device : List ℕ) (l : Layout) (h : Half) (t : HalfHead) (o : Opened) (plant : Condensed) (gate : ℕ) → layout_in device ≡ Ok l → chosen_in l device ≡ Ok h → half_head_from l h (head_of l h device) ≡ Ok t → o ≡ opened_half l h t device → Holds o plant gate
-    → StandsIn device l h t.epoch plant gate
+    → StandsIn device l h t.version t.epoch plant gate
 stands_in_by device l h t o plant gate e f g same held =
     let k : Holds (opened_half l h t device) plant gate = subst (λ (x : Opened). Holds x plant gate) same held in
-    record { stands = stands_by device (opened_half l h t device) plant gate (opens device l h t e f g) k; of_layout = refl; of_half = refl; gate_is = k.gate_is }
+    record { stands = stands_by device (opened_half l h t device) plant gate (opens device l h t e f g) k; of_layout = refl; of_half = refl; of_version = refl; gate_is = k.gate_is }
 
 pub refused_by : (device : List ℕ) (l : Layout) (h : Half) (t : HalfHead) (o : Opened) (fault : RestoreFault) → layout_in device ≡ Ok l → chosen_in l device ≡ Ok h → half_head_from l h (head_of l h device) ≡ Ok t → o ≡ opened_half l h t device → IsUnrestored o fault
     → IsRefused device fault

@@ -7,7 +7,10 @@ use Rattle.alm_model.specs.Plant.{Condensed}
 use Rattle.alm_model.specs.Step.{run}
 use Rattle.alm_model.specs.Rules.{KeepsRules, AreAdmitted}
 use Rattle.alm_model.proofs.Kept.{run-keeps}
+use Rattle.alm_codec.specs.declared.version.Version.{Version}
+use Rattle.alm_codec.specs.declared.version.Version.TheVariants.{V02}
 use Rattle.alm_codec.specs.Image.{IsImage, IsOf, image_text}
+use Rattle.alm_codec.proofs.Frames.{all_borne}
 use Rattle.alm_segment.specs.Texts.{frames_text, AreFrames, actions_in}
 use Rattle.alm_model.proofs.Runs.{run_sizes, run_within}
 use Rattle.alm_checkpoint.specs.declared.layout.Layout.{Layout}
@@ -44,11 +47,13 @@ image_stored c plant s =
 pub stores_other : (c : Cut) (plant : Condensed) (bytes : List ℕ) → Stores c plant → length bytes ≡ half_len c.layout → IsBelow c.epoch bytes → Stores (with_other c bytes) plant
 stores_other c plant bytes s size below = record {
   layout = s.layout;
+  version = s.version;
   epoch = s.epoch;
   image = s.image;
   sizes = s.sizes;
   count = s.count;
   frames = s.frames;
+  borne = s.borne;
   admitted = s.admitted;
   runs = s.runs;
   size = size;
@@ -63,35 +68,37 @@ turn First s m n t u r = ap (λ (l : List ℕ). l ++ m ++ t ++ ((n ++ u) ++ r)) 
 turn Second s m n t u r = turn_back s m n t u r ∙ ap (λ (l : List ℕ). l ++ n ++ u ++ ((m ++ t) ++ r)) (sym (append-nil s))
 
 -- the other half with an image of this plant in the next epoch is the one that stands
-pub turns : (c : Cut) (plant : Condensed) (tail new_tail : List ℕ) → device_of (with_other c (half_text c.layout (c.epoch + 1) plant [] ++ new_tail)) tail ≡ device_of (turned c plant tail) new_tail
-turns c plant tail new_tail = turn c.half (165 ∷ header_text c.layout) (half_text c.layout c.epoch c.base c.frames) (half_text c.layout (c.epoch + 1) plant []) tail new_tail c.rest
+pub turns : (c : Cut) (plant : Condensed) (tail new_tail : List ℕ) → device_of (with_other c (half_text c.layout V02 (c.epoch + 1) plant [] ++ new_tail)) tail ≡ device_of (turned c plant tail) new_tail
+turns c plant tail new_tail = turn c.half (165 ∷ header_text c.layout) (half_text c.layout c.version c.epoch c.base c.frames) (half_text c.layout V02 (c.epoch + 1) plant []) tail new_tail c.rest
 
-half_length : (c : Cut) (tail : List ℕ) → length (image_text c.base) ≡ image_size c.layout → Reaches c tail → length (half_text c.layout c.epoch c.base c.frames ++ tail) ≡ half_len c.layout
+half_length : (c : Cut) (tail : List ℕ) → length (image_text c.base) ≡ image_size c.layout → Reaches c tail → length (half_text c.layout c.version c.epoch c.base c.frames ++ tail) ≡ half_len c.layout
 half_length c tail by_image reaches =
     omega (
       arith,
       reaches,
       by_image,
-      length-append (half_text c.layout c.epoch c.base c.frames) tail,
-      length-append ((165 ∷ half_head_text c.layout c.epoch c.base.panel.count) ++ image_text c.base) (frames_text c.epoch c.base.panel.count c.frames),
-      length-append (165 ∷ half_head_text c.layout c.epoch c.base.panel.count) (image_text c.base),
+      length-append (half_text c.layout c.version c.epoch c.base c.frames) tail,
+      length-append ((165 ∷ half_head_text c.layout c.version c.epoch c.base.panel.count) ++ image_text c.base) (frames_text c.epoch c.base.panel.count c.frames),
+      length-append (165 ∷ half_head_text c.layout c.version c.epoch c.base.panel.count) (image_text c.base),
     )
 
-epoch_there : (l : Layout) (epoch : ℕ) (q : Condensed) (frames : List (List Action)) (tail : List ℕ) → epoch < 2 ^ 64 → epoch_in (half_text l epoch q frames ++ tail) ≡ epoch
-epoch_there l epoch q frames tail lt = from_be_bytes-to_be_bytes_8 epoch lt
+epoch_there : (l : Layout) (version : Version) (epoch : ℕ) (q : Condensed) (frames : List (List Action)) (tail : List ℕ) → epoch < 2 ^ 64 → epoch_in (half_text l version epoch q frames ++ tail) ≡ epoch
+epoch_there l version epoch q frames tail lt = from_be_bytes-to_be_bytes_8 epoch lt
 
 pub stores_turned : (c : Cut) (plant : Condensed) (tail : List ℕ) → Stores c plant → Reaches c tail → c.epoch + 1 < 2 ^ 64 → Stores (turned c plant tail) plant
 stores_turned c plant tail s reaches more = record {
   layout = s.layout;
+  version = refl;
   epoch = more;
   image = image_stored c plant s;
   sizes = sizes_stored c plant s;
   count = within_stored c plant s;
   frames = tt;
+  borne = all_borne [];
   admitted = tt;
   runs = refl;
   size = half_length c tail (image_is_long c.layout c.base s.sizes s.image) reaches;
-  below = inr (omega (arith, epoch_there c.layout c.epoch c.base c.frames tail s.epoch));
+  below = inr (omega (arith, epoch_there c.layout c.version c.epoch c.base c.frames tail s.epoch));
 }
 
 -- the other half's place among the bytes
@@ -102,30 +109,32 @@ side_second s m o t r = simp append_assoc
 side_first : (s m o t r : List ℕ) → (s ++ []) ++ m ++ t ++ (o ++ r) ≡ ((s ++ []) ++ m) ++ t ++ o ++ r
 side_first s m o t r = simp append_assoc
 
-pub beside : (l : Layout) (h : Half) (e : ℕ) (q : Condensed) (frames : List (List Action)) (old bytes rest tail : List ℕ)
-    → device_of (record { layout = l; half = h; epoch = e; base = q; frames = frames; other = bytes; rest = rest }) tail
-    ≡ side_front (record { layout = l; half = h; epoch = e; base = q; frames = frames; other = old; rest = rest }) h tail ++ bytes ++ side_back (record { layout = l; half = h; epoch = e; base = q; frames = frames; other = old; rest = rest }) h tail
-beside l First e q frames old bytes rest tail = side_first (165 ∷ header_text l) (half_text l e q frames) bytes tail rest
-beside l Second e q frames old bytes rest tail = side_second (165 ∷ header_text l) (half_text l e q frames) bytes tail rest
+pub beside : (l : Layout) (h : Half) (v : Version) (e : ℕ) (q : Condensed) (frames : List (List Action)) (old bytes rest tail : List ℕ)
+    → device_of (record { layout = l; half = h; version = v; epoch = e; base = q; frames = frames; other = bytes; rest = rest }) tail
+    ≡ side_front (record { layout = l; half = h; version = v; epoch = e; base = q; frames = frames; other = old; rest = rest }) h tail ++ bytes ++ side_back (record { layout = l; half = h; version = v; epoch = e; base = q; frames = frames; other = old; rest = rest }) h tail
+beside l First v e q frames old bytes rest tail = side_first (165 ∷ header_text l) (half_text l v e q frames) bytes tail rest
+beside l Second v e q frames old bytes rest tail = side_second (165 ∷ header_text l) (half_text l v e q frames) bytes tail rest
 
 -- ---- a turn with frames that were copied
 
 pub turns_with : (c : Cut) (base : Condensed) (frames : List (List Action)) (tail new_tail : List ℕ)
-    → device_of (with_other c (half_text c.layout (c.epoch + 1) base frames ++ new_tail)) tail ≡ device_of (turned_with c base frames tail) new_tail
-turns_with c base frames tail new_tail = turn c.half (165 ∷ header_text c.layout) (half_text c.layout c.epoch c.base c.frames) (half_text c.layout (c.epoch + 1) base frames) tail new_tail c.rest
+    → device_of (with_other c (half_text c.layout V02 (c.epoch + 1) base frames ++ new_tail)) tail ≡ device_of (turned_with c base frames tail) new_tail
+turns_with c base frames tail new_tail = turn c.half (165 ∷ header_text c.layout) (half_text c.layout c.version c.epoch c.base c.frames) (half_text c.layout V02 (c.epoch + 1) base frames) tail new_tail c.rest
 
 pub stores_turned_with : (c : Cut) (plant base : Condensed) (frames : List (List Action)) (tail : List ℕ) → Stores c plant → Reaches c tail → c.epoch + 1 < 2 ^ 64 → IsImage base (image_text base)
     → IsOf c.layout.rows c.layout.areas base.panel.count base → base.panel.count ≤ 2 ^ 48 → AreFrames (c.epoch + 1) base.panel.count frames → AreAdmitted base (actions_in frames) → run base (actions_in frames) ≡ plant
     → Stores (turned_with c base frames tail) plant
 stores_turned_with c plant base frames tail s reaches more image sizes count spelled admitted runs = record {
   layout = s.layout;
+  version = refl;
   epoch = more;
   image = image;
   sizes = sizes;
   count = count;
   frames = spelled;
+  borne = all_borne (actions_in frames);
   admitted = admitted;
   runs = runs;
   size = half_length c tail (image_is_long c.layout c.base s.sizes s.image) reaches;
-  below = inr (omega (arith, epoch_there c.layout c.epoch c.base c.frames tail s.epoch));
+  below = inr (omega (arith, epoch_there c.layout c.version c.epoch c.base c.frames tail s.epoch));
 }

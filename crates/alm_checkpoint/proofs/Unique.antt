@@ -55,7 +55,7 @@ stands_once device e f q r s t =
     let same = same_opened device s.opened t.opened s.opens t.opens in
     let epochs : e ≡ f = sym s.in_epoch ∙ ap (λ (o : Opened). o.head.epoch) same ∙ t.in_epoch in
     let bases : s.base ≡ t.base = same_base t.opened s.base t.base (subst (λ (o : Opened). Spells o s.base) same s.spells) t.spells in
-    let one : stored_in e s.base s.opened.segment ≡ stored_in f t.base t.opened.segment = (λ i. stored_in (epochs i) (bases i) (same i).segment) in
+    let one : stored_in s.opened.head.version e s.base s.opened.segment ≡ stored_in t.opened.head.version f t.base t.opened.segment = (λ i. stored_in (same i).head.version (epochs i) (bases i) (same i).segment) in
     let ends = well_is {A = Condensed × ℕ} {B = ℕ} (pair q s.left) (pair r t.left) (sym s.folds ∙ one ∙ t.folds) in
     (epochs, ap (λ (x : Condensed × ℕ). x.0) ends)
 
@@ -68,8 +68,8 @@ stands_or_fault device e q fault s (inr (inr f)) =
     let same = same_opened device s.opened f.opened s.opens f.opens in
     let epochs : e ≡ f.opened.head.epoch = sym s.in_epoch ∙ ap (λ (o : Opened). o.head.epoch) same in
     let bases : s.base ≡ f.base = same_base f.opened s.base f.base (subst (λ (o : Opened). Spells o s.base) same s.spells) f.spells in
-    let one : stored_in e s.base s.opened.segment ≡ stored_in f.opened.head.epoch f.base f.opened.segment = (λ i. stored_in (epochs i) (bases i) (same i).segment) in
-    well_not (stored_in f.opened.head.epoch f.base f.opened.segment) (pair q s.left) f.left (sym one ∙ s.folds) f.folds
+    let one : stored_in s.opened.head.version e s.base s.opened.segment ≡ stored_in f.opened.head.version f.opened.head.epoch f.base f.opened.segment = (λ i. stored_in (same i).head.version (epochs i) (bases i) (same i).segment) in
+    well_not (stored_in f.opened.head.version f.opened.head.epoch f.base f.opened.segment) (pair q s.left) f.left (sym one ∙ s.folds) f.folds
 
 same_places : (a b : ℕ) → Some a ≡ Some b → a ≡ b
 same_places a b e = cc
@@ -93,6 +93,6 @@ fault_once device x y (inr (inr f)) (inr (inl g)) =
 fault_once device x y (inr (inr f)) (inr (inr g)) =
     let same = same_opened device f.opened g.opened f.opens g.opens in
     let bases : f.base ≡ g.base = same_base g.opened f.base g.base (subst (λ (o : Opened). Spells o f.base) same f.spells) g.spells in
-    let one : stored_in f.opened.head.epoch f.base f.opened.segment ≡ stored_in g.opened.head.epoch g.base g.opened.segment = (λ i. stored_in (same i).head.epoch (bases i) (same i).segment) in
+    let one : stored_in f.opened.head.version f.opened.head.epoch f.base f.opened.segment ≡ stored_in g.opened.head.version g.opened.head.epoch g.base g.opened.segment = (λ i. stored_in (same i).head.version (same i).head.epoch (bases i) (same i).segment) in
     let lefts = ill_is {A = Condensed × ℕ} f.left g.left (sym f.folds ∙ one ∙ g.folds) in
     f.is ∙ (λ i. Damaged (number_of (same i).half) (end_of (same i) - lefts i)) ∙ sym g.is

@@ -5,13 +5,16 @@ use Rattle.alm_model.specs.Plant.{Condensed}
 use Rattle.alm_model.specs.Step.{run}
 use Rattle.alm_model.specs.Rules.{AreAdmitted}
 use Rattle.alm_codec.specs.Image.{IsImage, IsOf, image_text}
+use Rattle.alm_codec.specs.declared.version.Version.{Version}
+use Rattle.alm_codec.specs.declared.version.Version.TheVariants.{V02}
+use Rattle.alm_codec.specs.Versions.{AreBorne}
 use Rattle.alm_segment.specs.Course.{is_open}
 use Rattle.alm_segment.specs.Texts.{frames_text, AreFrames, actions_in}
 use Rattle.alm_checkpoint.specs.declared.layout.Layout.{Layout}
 use Rattle.alm_checkpoint.specs.declared.half.Half.{Half}
 use Rattle.alm_checkpoint.specs.declared.half.Half.TheVariants.{First, Second}
 use Rattle.alm_checkpoint.specs.Layouts.{other, half_len, is_rows, is_areas, is_segment}
-use Rattle.alm_checkpoint.specs.Headers.{header_text, half_head_text}
+use Rattle.alm_checkpoint.specs.Headers.{header_text, half_head_text, allows}
 use Rattle.alm_checkpoint.specs.Opening.{gate_in, epoch_in}
 
 -- the limits of a layout
@@ -23,8 +26,9 @@ pub record IsLayout (l : Layout) : Type 0 where
 -- A device whose half stands, but for the bytes of its segment from the first closed gate on.
 pub record Cut : Type 0 where
   pub layout : Layout
-  -- the half that stands, its epoch, the plant of its image and the actions of its frames
+  -- the half that stands, its version, its epoch, the plant of its image and the actions of its frames
   pub half : Half
+  pub version : Version
   pub epoch : ℕ
   pub base : Condensed
   pub frames : List (List Action)
@@ -33,9 +37,9 @@ pub record Cut : Type 0 where
   pub rest : List ℕ
 
 -- a half from its gate on, up to a place in its segment
-abbrev pub half_text : Layout → (epoch : ℕ) → Condensed → List (List Action) → List ℕ
-half_text l epoch base frames =
-    165 ∷ half_head_text l epoch base.panel.count ++ image_text base ++ frames_text epoch base.panel.count frames
+abbrev pub half_text : Layout → Version → (epoch : ℕ) → Condensed → List (List Action) → List ℕ
+half_text l version epoch base frames =
+    165 ∷ half_head_text l version epoch base.panel.count ++ image_text base ++ frames_text epoch base.panel.count frames
 
 -- what stands before the half that stands, and behind it
 abbrev pub before : Half → List ℕ → List ℕ
@@ -47,7 +51,7 @@ behind First other rest = other ++ rest
 behind Second other rest = rest
 
 abbrev pub front : Cut → List ℕ
-front c = (165 ∷ header_text c.layout ++ before c.half c.other) ++ half_text c.layout c.epoch c.base c.frames
+front c = (165 ∷ header_text c.layout ++ before c.half c.other) ++ half_text c.layout c.version c.epoch c.base c.frames
 
 abbrev pub back : Cut → List ℕ
 back c = behind c.half c.other c.rest
@@ -67,11 +71,13 @@ IsBelow epoch other = (gate_in other ≡ false) ⊎ (epoch_in other < epoch)
 -- it stores this plant
 pub record Stores (c : Cut) (plant : Condensed) : Type 0 where
   pub layout : IsLayout c.layout
+  pub version : allows c.layout.version c.version ≡ true
   pub epoch : c.epoch < 2 ^ 64
   pub image : IsImage c.base (image_text c.base)
   pub sizes : IsOf c.layout.rows c.layout.areas c.base.panel.count c.base
   pub count : c.base.panel.count ≤ 2 ^ 48
   pub frames : AreFrames c.epoch c.base.panel.count c.frames
+  pub borne : AreBorne c.version (actions_in c.frames)
   pub admitted : AreAdmitted c.base (actions_in c.frames)
   pub runs : run c.base (actions_in c.frames) ≡ plant
   pub size : length c.other ≡ half_len c.layout
@@ -87,15 +93,16 @@ with_frame c actions = record c { frames = c.frames ++ actions ∷ [] }
 abbrev pub with_other : Cut → List ℕ → Cut
 with_other c bytes = record c { other = bytes }
 
--- the other half stands, in the next epoch: with the image of this plant and no frames; these bytes end the half that stood before
+-- the other half stands, in version 02 and the next epoch: with the image of this plant and no frames; these bytes end the half that stood before
 abbrev pub turned : Cut → Condensed → List ℕ → Cut
 turned c plant tail = record {
   layout = c.layout;
   half = other c.half;
+  version = V02;
   epoch = c.epoch + 1;
   base = plant;
   frames = [];
-  other = half_text c.layout c.epoch c.base c.frames ++ tail;
+  other = half_text c.layout c.version c.epoch c.base c.frames ++ tail;
   rest = c.rest;
 }
 
@@ -118,7 +125,7 @@ side_front c Second tail = 165 ∷ header_text c.layout
 
 abbrev pub side_back : Cut → Half → List ℕ → List ℕ
 side_back c First tail = c.rest
-side_back c Second tail = half_text c.layout c.epoch c.base c.frames ++ tail ++ c.rest
+side_back c Second tail = half_text c.layout c.version c.epoch c.base c.frames ++ tail ++ c.rest
 
 -- the same, where the other half also has frames behind its image
 abbrev pub turned_with : Cut → Condensed → List (List Action) → List ℕ → Cut

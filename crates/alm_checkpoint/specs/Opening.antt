@@ -66,7 +66,7 @@ chosen_from l first second = or_fault l (choice (gate_in first) (gate_in second)
 -- what the head of a half says, by its bytes
 unfoldable pub half_head_from : Layout → Half → List ℕ → Result HalfHead Fault
 half_head_from l h bytes = do
-  x ← read_to (number_of h) (image_at l h) ((half_head (image_size l)).read (drop 1 bytes))
+  x ← read_to (number_of h) (image_at l h) ((half_head l.version (image_size l)).read (drop 1 bytes))
   Ok x.0
 
 -- ---- on a device

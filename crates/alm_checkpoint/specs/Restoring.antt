@@ -2,6 +2,7 @@
 use Rattle.std.specs.Prelude.{◌≡◌, ◌⊎◌, ℕ, ◌+◌, ◌-◌, List, Some, Ok, Err}
 use Rattle.alm_model.specs.Plant.{Condensed}
 use Rattle.alm_codec.specs.ImageFields.{damage_in}
+use Rattle.alm_codec.specs.declared.version.Version.{Version}
 use Rattle.alm_segment.specs.Folding.{stored_in}
 use Rattle.alm_checkpoint.specs.declared.layout.Layout.{Layout}
 use Rattle.alm_checkpoint.specs.declared.half.Half.{Half}
@@ -18,7 +19,7 @@ pub record Holds (o : Opened) (plant : Condensed) (gate : ℕ) : Type 0 where
   pub base : Condensed
   pub spells : Spells o base
   pub left : ℕ
-  pub folds : stored_in o.head.epoch base o.segment ≡ Ok (plant, left)
+  pub folds : stored_in o.head.version o.head.epoch base o.segment ≡ Ok (plant, left)
   pub gate_is : gate ≡ end_of o - left
 
 -- its image is damaged
@@ -32,7 +33,7 @@ pub record HasFrameDamage (o : Opened) (fault : Fault) : Type 0 where
   pub base : Condensed
   pub spells : Spells o base
   pub left : ℕ
-  pub folds : stored_in o.head.epoch base o.segment ≡ Err left
+  pub folds : stored_in o.head.version o.head.epoch base o.segment ≡ Err left
   pub is : fault ≡ Damaged (number_of o.half) (end_of o - left)
 
 -- why it could not be restored; want of memory says nothing
@@ -45,9 +46,10 @@ abbrev pub IsRefused : List ℕ → RestoreFault → Type 0
 IsRefused device restore.OutOfMemory = Unit {0}
 IsRefused device (restore.Damaged fault) = HasFault device fault
 
--- a device stands for a plant in an epoch, in a half whose first closed gate stands at a place
-pub record StandsIn (device : List ℕ) (l : Layout) (h : Half) (epoch : ℕ) (plant : Condensed) (gate : ℕ) : Type 0 where
+-- a device stands for a plant in an epoch, in a half of a version whose first closed gate stands at a place
+pub record StandsIn (device : List ℕ) (l : Layout) (h : Half) (version : Version) (epoch : ℕ) (plant : Condensed) (gate : ℕ) : Type 0 where
   pub stands : Stands device epoch plant
   pub of_layout : stands.opened.layout ≡ l
   pub of_half : stands.opened.half ≡ h
+  pub of_version : stands.opened.head.version ≡ version
   pub gate_is : gate ≡ gate_place stands

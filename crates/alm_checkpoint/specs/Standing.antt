@@ -28,7 +28,7 @@ pub record Stands (device : List ℕ) (epoch : ℕ) (plant : Condensed) : Type 0
   pub spells : Spells opened base
   -- how many bytes of the segment are left at its first closed gate
   pub left : ℕ
-  pub folds : stored_in epoch base opened.segment ≡ Ok (plant, left)
+  pub folds : stored_in opened.head.version epoch base opened.segment ≡ Ok (plant, left)
 
 -- the place of the first closed gate
 abbrev pub gate_place : {device : List ℕ} {epoch : ℕ} {plant : Condensed} → Stands device epoch plant → ℕ
@@ -49,7 +49,7 @@ pub record FrameFault (device : List ℕ) (fault : Fault) : Type 0 where
   pub base : Condensed
   pub spells : Spells opened base
   pub left : ℕ
-  pub folds : stored_in opened.head.epoch base opened.segment ≡ Err left
+  pub folds : stored_in opened.head.version opened.head.epoch base opened.segment ≡ Err left
   pub is : fault ≡ Damaged (number_of opened.half) (end_of opened - left)
 
 -- the first fault of the bytes

@@ -1,38 +1,59 @@
 //! Reading the head of a half.
 
-ghost use Rattle.std.specs.Prelude.{◌≡◌, ◌≤◌, ◌^◌, ◌==◌, length, nat_le, IfOk};
+ghost use Rattle.std.specs.Prelude.{◌≡◌, ◌≤◌, ◌^◌, ◌==◌, length, true, IfOk};
 ghost use Rattle.std.specs.Int.{w64};
 ghost use Rattle.alm_codec.specs.Reading.{Gives};
 ghost use Rattle.alm_codec.specs.Format.{tested, number};
-ghost use Rattle.alm_checkpoint.specs.Headers.{half_head};
+ghost use Rattle.alm_checkpoint.specs.Headers.{half_head, mark, mark_weight, allows, is_first};
 ghost use Rattle.alm_checkpoint.specs.Opening.{half_head_from};
 
 use crate::fault::Fault;
 use crate::half::Half;
 use crate::layout::Layout;
-use alm_codec::Left;
 use alm_codec::fields::u64_at;
+use alm_codec::{Left, Version};
 
 /// What the head of a half says.
 #[derive(Clone, Copy, Debug, PartialEq, Eq)]
 pub struct HalfHead {
     /// A checkpoint writes the epoch of the half that stood before plus 1.
     pub epoch: u64,
+    /// Its mark tells it; a checkpoint writes version 02.
+    pub version: Version,
     /// How many actions made the plant of its image, at most 2^48.
     pub count: u64,
 }
 
-/// The count of actions.
-fn count_of(bytes: &[u8]) -> Result<(u64, &[u8]), Left>
-    ensures limit { IfOk result (λ x. x.0 ≤ 2 ^ 48) }
-    ensures count { Gives (λ x. (x.0, x.1.now)) result ((tested (number w64 (2 ^ 64)) (λ n. nat_le n (2 ^ 48))).read bytes.now) }
+/// The greatest count of actions.
+const MOST_ACTIONS: u64 = 1 << 48;
+
+/// What the mark of version 02 adds to the count: 2 in the first of the eight bytes that they share.
+const SECOND_MARK: u64 = 2 << 56;
+
+/// What the mark of a version adds to the count of actions with which it is one field.
+pub(crate) fn mark_weight(version: Version) -> u64
+    ensures { result ≡ mark_weight version }
 {
-    let (count, rest) = u64_at(bytes)?;
-    if count <= 1 << 48 {
-        Ok((count, rest))
-    } else {
-        Err(Left(bytes.len()))
+    match version {
+        Version::V01 => 0,
+        Version::V02 => SECOND_MARK,
     }
+}
+
+/// The version of a half under a header of a version, and its count of actions.
+fn mark_of(bytes: &[u8], header: Version) -> Result<((Version, u64), &[u8]), Left>
+    ensures limit { IfOk result (λ x. x.0.1 ≤ 2 ^ 48) }
+    ensures allowed { IfOk result (λ x. allows header x.0.0 ≡ true) }
+    ensures mark { Gives (λ x. (x.0, x.1.now)) result ((mark header).read bytes.now) }
+{
+    let (field, rest) = u64_at(bytes)?;
+    if field <= MOST_ACTIONS && matches!(header, Version::V01) {
+        return Ok(((Version::V01, field), rest));
+    }
+    if field >= SECOND_MARK && field - SECOND_MARK <= MOST_ACTIONS {
+        return Ok(((Version::V02, field - SECOND_MARK), rest));
+    }
+    Err(Left(bytes.len()))
 }
 
 /// The length of the image, which is known beforehand.
@@ -48,26 +69,36 @@ fn image_of(bytes: &[u8], image: usize) -> Result<(u64, &[u8]), Left>
 }
 
 /// All fields behind the gate.
-fn fields_of(bytes: &[u8], image: usize) -> Result<(HalfHead, &[u8]), Left>
+fn fields_of(bytes: &[u8], header: Version, image: usize) -> Result<(HalfHead, &[u8]), Left>
     ensures count { IfOk result (λ x. x.0.count ≤ 2 ^ 48) }
-    ensures fields { Gives (λ x. (x.0, x.1.now)) result ((half_head image).read bytes.now) }
+    ensures allowed { IfOk result (λ x. allows header x.0.version ≡ true) }
+    ensures fields { Gives (λ x. (x.0, x.1.now)) result ((half_head header image).read bytes.now) }
 {
     let (epoch, rest) = u64_at(bytes)?;
-    let (count, rest) = count_of(rest)?;
+    let ((version, count), rest) = mark_of(rest, header)?;
     let (_, rest) = image_of(rest, image)?;
-    Ok((HalfHead { epoch, count }, rest))
+    Ok((
+        HalfHead {
+            epoch,
+            version,
+            count,
+        },
+        rest,
+    ))
 }
 
 impl Layout {
-    /// What the head of a half says, by its 25 bytes. Damage is at the count where it is above 2^48, else at an image
-    /// length that isn't this layout's. Any epoch is one.
+    /// What the head of a half says, by its 25 bytes. Damage is at mark and count, which are one field, where the
+    /// count is above 2^48 or the mark is none, or that of version 01 under a header of version 02; else at an image length
+    /// that isn't this layout's. Any epoch is one.
     #[tactic(auto, unfolding(crate::specs::Opening::half_head_from))]
     pub fn read_half_head(&self, half: Half, bytes: &[u8]) -> Result<HalfHead, Fault>
         requires { length bytes.now ≡ 25 }
         ensures head { result ≡ half_head_from self.now half bytes.now }
         ensures count { IfOk result (λ h. h.count ≤ 2 ^ 48) }
+        ensures allowed { IfOk result (λ h. allows self.now.version h.version ≡ true) }
     {
-        match fields_of(&bytes[1..], self.image_len()) {
+        match fields_of(&bytes[1..], self.version, self.image_len()) {
             Ok((head, _)) => Ok(head),
             Err(left) => Err(Fault::Damaged {
                 half: half.number(),

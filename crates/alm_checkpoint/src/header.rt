@@ -10,21 +10,23 @@ ghost use Rattle.alm_checkpoint.specs.Headers.{name, header, suits};
 ghost use Rattle.alm_checkpoint.specs.Opening.{layout_from};
 
 use crate::fault::Fault;
-use crate::layout::{DEVICE_NAME, HEADER_LEN, LONGEST_SEGMENT, Layout, SHORTEST_SEGMENT};
-use alm_codec::Left;
+use crate::layout::{HEADER_LEN, LONGEST_SEGMENT, Layout, SHORTEST_SEGMENT, device_name};
 use alm_codec::fields::{u16_at, u32_at, u64_at};
+use alm_codec::{Left, Version};
 use alm_segment::OPEN_GATE;
 
-/// The name of the layout.
-fn name_of(bytes: &[u8]) -> Result<((), &[u8]), Left>
-    ensures { Gives (λ x. (Rattle.alm_checkpoint.specs.Headers.device_name, x.1.now)) result (name.read bytes.now) }
+/// The version that the name tells.
+fn name_of(bytes: &[u8]) -> Result<(Version, &[u8]), Left>
+    ensures { Gives (λ x. (x.0, x.1.now)) result (name.read bytes.now) }
 {
     if bytes.len() < 8 {
         return Err(Left(bytes.len()));
     }
     let (text, rest) = bytes.split_at(8);
-    if text == DEVICE_NAME.as_slice() {
-        Ok(((), rest))
+    if text == device_name(Version::V01).as_slice() {
+        Ok((Version::V01, rest))
+    } else if text == device_name(Version::V02).as_slice() {
+        Ok((Version::V02, rest))
     } else {
         Err(Left(bytes.len()))
     }
@@ -57,9 +59,15 @@ fn areas_of(bytes: &[u8]) -> Result<(u8, &[u8]), Left>
 }
 
 /// A segment in its limits, where two halves fit the device.
-fn segment_of(bytes: &[u8], size: u64, rows: u32, areas: u8) -> Result<(Layout, &[u8]), Left>
+fn segment_of(
+    bytes: &[u8],
+    size: u64,
+    rows: u32,
+    areas: u8,
+    version: Version,
+) -> Result<(Layout, &[u8]), Left>
     ensures segment { Gives (λ x. (x.0.segment, x.1.now)) result ((tested (number w64 (2 ^ 64)) (suits size rows areas)).read bytes.now) }
-    ensures layout { IfOk result (λ x. (x.0.rows ≡ rows) × (x.0.areas ≡ areas)) }
+    ensures layout { IfOk result (λ x. (x.0.rows ≡ rows) × (x.0.areas ≡ areas) × (x.0.version ≡ version)) }
     ensures limits { IfOk result (λ x. is_segment x.0.segment ≡ true) }
     ensures fits { IfOk result (λ x. device_len x.0 ≤ size) }
 {
@@ -67,7 +75,7 @@ fn segment_of(bytes: &[u8], size: u64, rows: u32, areas: u8) -> Result<(Layout, 
     if segment < SHORTEST_SEGMENT || segment > LONGEST_SEGMENT {
         return Err(Left(bytes.len()));
     }
-    let layout = Layout::of(rows, areas, segment as u32);
+    let layout = Layout::of(rows, areas, segment as u32, version);
     if layout.device_len() <= size {
         Ok((layout, rest))
     } else {
@@ -81,10 +89,10 @@ fn fields_of(bytes: &[u8], size: u64) -> Result<(Layout, &[u8]), Left>
     ensures fits { IfOk result (λ x. device_len x.0 ≤ size) }
     ensures fields { Gives (λ x. (x.0, x.1.now)) result ((header size).read bytes.now) }
 {
-    let (_, rest) = name_of(bytes)?;
+    let (version, rest) = name_of(bytes)?;
     let (rows, rest) = rows_of(rest)?;
     let (areas, rest) = areas_of(rest)?;
-    segment_of(rest, size, rows, areas)
+    segment_of(rest, size, rows, areas, version)
 }
 
 /// The layout of a device of so many bytes, by its first 23, or by all where it has fewer.

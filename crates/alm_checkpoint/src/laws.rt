@@ -7,6 +7,8 @@ ghost use Rattle.alm_model.specs.Step.{run};
 ghost use Rattle.alm_model.specs.Rules.{AreAdmitted};
 ghost use Rattle.alm_codec.specs.Frames.{IsFrame, frame_text};
 ghost use Rattle.alm_codec.specs.Reading.{IsBytes};
+ghost use Rattle.alm_codec.specs.declared.version.Version.TheVariants.{V02};
+ghost use Rattle.alm_codec.specs.Versions.{AreBorne};
 ghost use Rattle.alm_segment.specs.Course.{is_open};
 ghost use Rattle.alm_checkpoint.specs.declared.fault.Fault.{Fault};
 ghost use Rattle.alm_checkpoint.specs.Layouts.{half_len};
@@ -25,11 +27,11 @@ pub fn what_stands_is_cut()
         IsBytes device → IsCut device epoch plant (gate_place s) }
 {}
 
-/// Where the gate behind the frames is open and a frame follows, they are the fields with that frame, and store the plant after
+/// Where the gate behind the frames is open and a frame follows whose actions the half's version has, they are the fields with that frame, and store the plant after
 /// its actions.
 pub fn a_frame_more()
     ensures { (c : Cut) (plant : Condensed) (actions : List Action) (tail : List ℕ) →
-        Stores c plant → IsFrame c.epoch (plant.panel.count + 1) actions → AreAdmitted plant actions →
+        Stores c plant → IsFrame c.epoch (plant.panel.count + 1) actions → AreBorne c.version actions → AreAdmitted plant actions →
         Stores (with_frame c actions) (run plant actions) ×
         (device_of c (165 ∷ frame_text c.epoch (plant.panel.count + 1) actions ++ tail) ≡ device_of (with_frame c actions) tail) }
 {}
@@ -40,13 +42,13 @@ pub fn another_half()
         Stores c plant → length bytes ≡ half_len c.layout → IsBelow c.epoch bytes → Stores (with_other c bytes) plant }
 {}
 
-/// Where the other half has an open gate, the next epoch and an image of the stored plant, that half stands, and the same plant
+/// Where the other half has an open gate, version 02, the next epoch and an image of the stored plant, that half stands, and the same plant
 /// is stored.
 pub fn a_turn()
     ensures { (c : Cut) (plant : Condensed) (tail new_tail : List ℕ) →
         Stores c plant → Reaches c tail → c.epoch + 1 < 2 ^ 64 →
         Stores (turned c plant tail) plant ×
-        (device_of (with_other c (half_text c.layout (c.epoch + 1) plant [] ++ new_tail)) tail ≡ device_of (turned c plant tail) new_tail) }
+        (device_of (with_other c (half_text c.layout V02 (c.epoch + 1) plant [] ++ new_tail)) tail ≡ device_of (turned c plant tail) new_tail) }
 {}
 
 /// Bytes stand for at most one plant, in one epoch.

@@ -2,9 +2,10 @@
 
 ghost use Rattle.std.specs.Prelude.{◌≡◌};
 ghost use Rattle.alm_checkpoint.specs.Layouts.{image_size, half_len, half_at, image_at, segment_at, device_len};
+ghost use Rattle.alm_checkpoint.specs.Headers.{device_name};
 
 use crate::half::Half;
-use alm_codec::image_len;
+use alm_codec::{Version, image_len};
 
 /// How many bytes the header has, with its gate.
 pub const HEADER_LEN: usize = 23;
@@ -18,8 +19,15 @@ pub const SHORTEST_SEGMENT: u64 = 4116;
 /// The longest segment: 16 MiB.
 pub const LONGEST_SEGMENT: u64 = 16_777_216;
 
-/// The name that a header begins with.
-pub const DEVICE_NAME: [u8; 8] = *b"ALMSRV01";
+/// The name that a header of a version begins with.
+pub fn device_name(version: Version) -> [u8; 8]
+    ensures { result ≡ device_name version }
+{
+    match version {
+        Version::V01 => *b"ALMSRV01",
+        Version::V02 => *b"ALMSRV02",
+    }
+}
 
 /// Where everything lies on a device: the header, then two halves, each a head, an image and a segment.
 #[derive(Clone, Copy, Debug, PartialEq, Eq)]
@@ -30,17 +38,20 @@ pub struct Layout {
     pub areas: u8,
     /// How many bytes a segment has, 4,116 to 16,777,216.
     pub segment: u32,
+    /// The version of the header. A half has its own, which is version 02 where this one is.
+    pub version: Version,
 }
 
 impl Layout {
-    /// The layout of so many rows and areas with segments of a length.
-    pub fn of(rows: u32, areas: u8, segment: u32) -> Layout
-        ensures { result ≡ record { rows = rows; areas = areas; segment = segment } }
+    /// The layout of so many rows and areas with segments of a length, under a header of a version.
+    pub fn of(rows: u32, areas: u8, segment: u32, version: Version) -> Layout
+        ensures { result ≡ record { rows = rows; areas = areas; segment = segment; version = version } }
     {
         Layout {
             rows,
             areas,
             segment,
+            version,
         }
     }
 

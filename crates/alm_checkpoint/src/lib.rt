@@ -3,7 +3,7 @@
 //! | offset | bytes | field of the header |
 //! |---|---|---|
 //! | 0 | 1 | gate |
-//! | 1 | 8 | `ALMSRV01` |
+//! | 1 | 8 | `ALMSRV01` or `ALMSRV02`, by the version |
 //! | 9 | 4 | rows, 1 to 16,384 |
 //! | 13 | 2 | areas, 1 to 64 |
 //! | 15 | 8 | length of a segment, L: 4,116 to 16,777,216 |
@@ -12,10 +12,13 @@
 //! |---|---|---|
 //! | 0 | 1 | gate |
 //! | 1 | 8 | epoch |
-//! | 9 | 8 | how many actions made the plant of the image, at most 2^48 |
+//! | 9 | 8 | mark and count: the mark of the half's version in the first byte, 0 or 2, and behind it how many actions made the plant of the image, at most 2^48 |
 //! | 17 | 8 | length of the image, I |
 //! | 25 | I | image |
 //! | 25 + I | L | segment |
+//!
+//! A half of version 01 holds actions of kinds 1 to 8 alone. Under a header of version 01 a half may be of either version, under
+//! one of version 02 it is of version 02.
 //!
 //! The first half begins at 23, the second behind it. Of the halves with open gates the one of greater epoch stands: its image
 //! is that of a plant, and the frames of its segment up to the first closed gate make of it the plant that the device
@@ -59,7 +62,7 @@ pub use half::Half;
 pub use half_gate::{HalfGate, choose, read_half_gate};
 pub use half_head::HalfHead;
 pub use header::read_header;
-pub use layout::{DEVICE_NAME, HEAD_LEN, HEADER_LEN, LONGEST_SEGMENT, Layout, SHORTEST_SEGMENT};
+pub use layout::{HEAD_LEN, HEADER_LEN, LONGEST_SEGMENT, Layout, SHORTEST_SEGMENT, device_name};
 pub use no_choice::NoChoice;
 pub use recovering::{Recovered, recover};
 pub use restore_fault::RestoreFault;

@@ -5,22 +5,23 @@ ghost use Rattle.alm_checkpoint.specs.Layouts.{is_segment};
 ghost use Rattle.alm_checkpoint.specs.Headers.{suits};
 
 use crate::layout::{HEADER_LEN, LONGEST_SEGMENT, Layout, SHORTEST_SEGMENT};
+use alm_codec::Version;
 
 impl Layout {
-    /// The layout of a device of so many bytes with the longest segment that fits twice, at most 16,777,216 bytes; `None`
+    /// The layout of a version for a device of so many bytes, with the longest segment that fits twice, at most 16,777,216 bytes; `None`
     /// where none of 4,116 bytes or more fits.
-    pub fn longest(rows: u32, areas: u8, size: u64) -> Option<Layout>
-        ensures of { IfSome result (λ l. (l.rows ≡ rows) × (l.areas ≡ areas)) }
+    pub fn longest(rows: u32, areas: u8, size: u64, version: Version) -> Option<Layout>
+        ensures of { IfSome result (λ l. (l.rows ≡ rows) × (l.areas ≡ areas) × (l.version ≡ version)) }
         ensures suits { IfSome result (λ l. suits size rows areas l.segment ≡ true) }
         ensures most { IfSome result (λ l. (n : ℕ) → suits size rows areas n ≡ true → n ≤ l.segment) }
         ensures none { result ≡ None → (n : ℕ) → suits size rows areas n ≡ false }
     {
         let halves = size.checked_sub(HEADER_LEN as u64)? / 2;
-        let fixed = Layout::of(rows, areas, 0).half_len() as u64;
+        let fixed = Layout::of(rows, areas, 0, version).half_len() as u64;
         let segment = halves.checked_sub(fixed)?.min(LONGEST_SEGMENT);
         if segment < SHORTEST_SEGMENT {
             return None;
         }
-        Some(Layout::of(rows, areas, segment as u32))
+        Some(Layout::of(rows, areas, segment as u32, version))
     }
 }

@@ -9,6 +9,7 @@ use crate::half_gate::{choose, read_half_gate};
 use crate::header::read_header;
 use crate::layout::{HEAD_LEN, HEADER_LEN, Layout};
 use crate::restore_fault::RestoreFault;
+use alm_codec::Version;
 use alm_model::Alarms;
 use std::alloc::Global;
 
@@ -16,8 +17,9 @@ use std::alloc::Global;
 #[derive(Drop)]
 pub struct Recovered<P: Drop> {
     pub layout: Layout,
-    /// The half that stands, and its epoch.
+    /// The half that stands, its version and its epoch.
     pub half: Half,
+    pub version: Version,
     pub epoch: u64,
     /// Where on the device the first closed gate of its segment is: the next frame goes behind it.
     pub gate: u64,
@@ -39,7 +41,7 @@ fn part(bytes: &[u8], at: u64, n: usize) -> &[u8]
 /// What the bytes of a whole device stand for, or their first fault: of the header, of the choice between the halves, of the
 /// head, the image and the frames of the half that stands, in this order.
 pub fn recover<P: Alarms + Drop>(alloc: Global, device: &[u8]) -> Result<Recovered<P>, RestoreFault>
-    ensures stands { IfOk result (λ r. StandsIn device.now r.layout r.half r.epoch (P.plant r.plant) r.gate) }
+    ensures stands { IfOk result (λ r. StandsIn device.now r.layout r.half r.version r.epoch (P.plant r.plant) r.gate) }
     ensures fault { IfErr result (λ fault. IsRefused device.now fault) }
 {
     let start = part(device, 0, HEADER_LEN.min(device.len()));
@@ -63,6 +65,7 @@ pub fn recover<P: Alarms + Drop>(alloc: Global, device: &[u8]) -> Result<Recover
         Ok((plant, gate)) => Ok(Recovered {
             layout,
             half,
+            version: head.version,
             epoch: head.epoch,
             gate,
             plant,

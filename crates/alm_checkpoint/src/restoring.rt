@@ -49,7 +49,7 @@ impl Layout {
         let Ok(mut plant) = P::build(alloc, parts) else {
             return Err(RestoreFault::OutOfMemory);
         };
-        match replay(&mut plant, segment, head.epoch) {
+        match replay(&mut plant, segment, head.epoch, head.version) {
             Ok(at) => Ok((plant, self.segment_at(half) + at as u64)),
             Err(damage) => Err(RestoreFault::Damaged(Fault::Damaged {
                 half: half.number(),

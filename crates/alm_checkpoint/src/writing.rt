@@ -1,10 +1,10 @@
 //! Writing the header and the heads of the halves, from behind their gates.
 
-ghost use Rattle.std.specs.Prelude.{◌≡◌, ◌≤◌, ◌++◌, length, drop};
+ghost use Rattle.std.specs.Prelude.{◌≡◌, ◌≤◌, ◌^◌, ◌++◌, length, drop};
 ghost use Rattle.alm_checkpoint.specs.Headers.{header_text, half_head_text};
 
-use crate::half_head::HalfHead;
-use crate::layout::{DEVICE_NAME, Layout};
+use crate::half_head::{HalfHead, mark_weight};
+use crate::layout::{Layout, device_name};
 use alm_codec::fields::{put, put_word};
 
 impl Layout {
@@ -13,7 +13,7 @@ impl Layout {
         requires { 22 ≤ length out.old }
         ensures { out.new ≡ header_text self.now ++ drop 22 out.old }
     {
-        let rows_at = put(out, 0, &DEVICE_NAME);
+        let rows_at = put(out, 0, &device_name(self.version));
         let areas_at = put(out, rows_at, &self.rows.to_be_bytes());
         let segment_at = put(out, areas_at, &(self.areas as u16).to_be_bytes());
         put_word(out, segment_at, self.segment as u64);
@@ -21,11 +21,12 @@ impl Layout {
 
     /// Writes the head of a half from behind its gate, 24 bytes; what follows stays.
     pub fn write_half_head(&self, head: &HalfHead, out: &mut [u8])
-        requires { 24 ≤ length out.old }
-        ensures { out.new ≡ half_head_text self.now head.now.epoch head.now.count ++ drop 24 out.old }
+        requires room { 24 ≤ length out.old }
+        requires count { head.now.count ≤ 2 ^ 48 }
+        ensures { out.new ≡ half_head_text self.now head.now.version head.now.epoch head.now.count ++ drop 24 out.old }
     {
         let count_at = put_word(out, 0, head.epoch);
-        let image_at = put_word(out, count_at, head.count);
+        let image_at = put_word(out, count_at, mark_weight(head.version) + head.count);
         put_word(out, image_at, self.image_len() as u64);
     }
 }

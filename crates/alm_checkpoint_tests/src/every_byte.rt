@@ -1,17 +1,22 @@
-//! Every byte of the worked device set in turn to 00, 01, A5 and FF: opening tells what the second judge tells.
+//! Every byte of the worked device set in turn to 00, 01, 02, A5 and FF: opening tells what the second judge tells.
 
 use crate::judge::judged;
-use crate::worked::{device, open, set};
+use crate::worked::{device_of, open, set};
+use alm_codec::Version;
 use std::alloc::Global;
 use std::ops::Range;
 use std::test::Fail;
 
-/// The first place in a range where opening and the judge don't agree on a changed byte.
-fn first_dispute(alloc: Global, places: Range<usize>) -> Result<Option<usize>, Fail> {
-    let mut bytes = device(alloc, 2, 800)?;
+/// The first place in a range where opening and the judge don't agree on a changed byte of the device of a version.
+fn dispute_in(
+    alloc: Global,
+    version: Version,
+    places: Range<usize>,
+) -> Result<Option<usize>, Fail> {
+    let mut bytes = device_of(alloc, version, 2, 800)?;
     for at in places {
         let old = *bytes.get(at).ok_or("place")?;
-        for byte in [0, 1, 0xA5, 0xFF] {
+        for byte in [0, 1, 2, 0xA5, 0xFF] {
             set(&mut bytes, at, byte)?;
             if open(alloc, &bytes) != judged(&bytes) {
                 return Ok(Some(at));
@@ -22,9 +27,14 @@ fn first_dispute(alloc: Global, places: Range<usize>) -> Result<Option<usize>, F
     Ok(None)
 }
 
+fn first_dispute(alloc: Global, places: Range<usize>) -> Result<Option<usize>, Fail> {
+    dispute_in(alloc, Version::V01, places)
+}
+
 #[test]
 fn header_and_head(rt: HostRuntime) -> Result<(), Fail> {
     assert_eq!(rt; first_dispute(rt.alloc(), 0..64)?, None);
+    assert_eq!(rt; dispute_in(rt.alloc(), Version::V02, 0..64)?, None);
     Ok(())
 }
 

@@ -16,6 +16,8 @@ pub struct Sizes {
     pub rows: u16,
     pub areas: u16,
     pub segment: u32,
+    /// Whether the header is of version 02.
+    pub second: bool,
 }
 
 impl Sizes {
@@ -39,7 +41,8 @@ fn sizes_of(device: &[u8]) -> Result<Sizes, Fault> {
     if device.len() < 23 || byte(device, 0) != 0xA5 {
         return Err(Fault::Unformatted);
     }
-    if part(device, 1, 8) != b"ALMSRV01".as_slice() {
+    let second = part(device, 1, 8) == b"ALMSRV02".as_slice();
+    if !second && part(device, 1, 8) != b"ALMSRV01".as_slice() {
         return Err(damaged(2, 1));
     }
     let rows = number(device, 9, 4);
@@ -58,6 +61,7 @@ fn sizes_of(device: &[u8]) -> Result<Sizes, Fault> {
         rows: rows as u16,
         areas: areas as u16,
         segment: segment as u32,
+        second,
     };
     if sizes.half() > (device.len() - 23) / 2 {
         return Err(damaged(2, 15));
@@ -87,8 +91,9 @@ fn standing(device: &[u8], sizes: Sizes) -> Result<(Half, usize), Fault> {
 
 /// The count after the journal of a half, and where its first closed gate is in the half; or where its first fault is.
 fn counted(bytes: &[u8], sizes: Sizes) -> Result<(u64, usize), usize> {
-    let count = number(bytes, 9, 8);
-    if count > 1 << 48 {
+    let count = number(bytes, 10, 7);
+    let mark = byte(bytes, 9);
+    if count > 1 << 48 || (mark != 2 && (mark != 0 || sizes.second)) {
         return Err(9);
     }
     if number(bytes, 17, 8) != sizes.image() as u64 {

@@ -1,7 +1,7 @@
 //! The worked device.
 
 use alm_checkpoint::{Fault, Half, HalfHead, Layout, RestoreFault, recover};
-use alm_codec::{image_len, write_frame_body, write_image};
+use alm_codec::{Version, image_len, write_frame_body, write_image};
 use alm_model::{Alarms, PlainPlant};
 use alm_segment::OPEN_GATE;
 use alm_types::{Action, AlarmId, Attr, Kind, Moment, Reading, Settings, Table};
@@ -63,13 +63,28 @@ fn commit(device: &mut Vec<u8>, epoch: u64, first: u64, action: Action) -> Resul
     Ok(())
 }
 
-/// The worked device after so many of the commits of CLOCK 1000 and of VAL 0 to a value.
+/// The worked device of version 01 after so many of the commits of CLOCK 1000 and of VAL 0 to a value.
 pub fn device(alloc: Global, commits: u32, reading: i64) -> Result<Vec<u8>, Fail> {
-    let layout = Layout::of(4, 2, 4116);
+    device_of(alloc, Version::V01, commits, reading)
+}
+
+/// The same of a version.
+pub fn device_of(
+    alloc: Global,
+    version: Version,
+    commits: u32,
+    reading: i64,
+) -> Result<Vec<u8>, Fail> {
+    let layout = Layout::of(4, 2, 4116, version);
     let mut header = [0; 22];
     layout.write_header(&mut header);
     let mut head = [0; 24];
-    layout.write_half_head(&HalfHead { epoch: 1, count: 0 }, &mut head);
+    let first = HalfHead {
+        epoch: 1,
+        version,
+        count: 0,
+    };
+    layout.write_half_head(&first, &mut head);
     let mut device = Vec::new(alloc);
     device.push(OPEN_GATE)?;
     device.extend_from_slice(&header)?;

@@ -9,11 +9,13 @@ use Rattle.std.proofs.lemmas.Bool.{eqb-true, ltb-true, lt-ltb, and_parts}
 use Rattle.std.proofs.lemmas.Option.{same_Some, none-some}
 use Rattle.std.proofs.lemmas.Nat.{be_bytes_4, be_bytes_8, from_be_bytes-to_be_bytes_4, from_be_bytes-to_be_bytes_8}
 use Rattle.alm_types.specs.declared.action.Action.{Action}
-use Rattle.alm_types.specs.declared.action.Action.TheVariants.{Clock, Value, Ack, Reset, Shelve, Unshelve, Oos, Design}
+use Rattle.alm_types.specs.declared.action.Action.TheVariants.{Clock, Value, Ack, Reset, Shelve, Unshelve, Oos, Design, SetPriority, SetSetpoint}
 use Rattle.alm_types.specs.declared.alarm_id.AlarmId.{AlarmId}
 use Rattle.alm_types.specs.Actions.{alarm_of, HasArgument, IsAction}
 use Rattle.alm_types.specs.Readings.{IsReading}
-use Rattle.alm_codec.specs.Actions.{kind_of, argument_of, switch, text_of, action_text, limited, reading_at, without, either_way, meaning, action_at}
+use Rattle.alm_codec.specs.Actions.{kind_of, argument_of, switch, text_of, action_text, limited, reading_at, without, either_way, meaning, action_at, action_in}
+use Rattle.alm_codec.specs.declared.version.Version.{Version}
+use Rattle.alm_codec.specs.Versions.{bears, IsBorne, borne}
 use Rattle.alm_codec.specs.Reading.{IsBytes}
 use Rattle.alm_codec.proofs.Bytes.{IsBytes-drop, IsBytes-take, chosen}
 
@@ -43,6 +45,8 @@ meaning_again (Oos i true) h = refl
 meaning_again (Oos i false) h = refl
 meaning_again (Design i true) h = refl
 meaning_again (Design i false) h = refl
+meaning_again (SetPriority i priority) h = rw (lt-ltb priority (2 ^ 32) h) refl
+meaning_again (SetSetpoint i v) h = ap (option_map (SetSetpoint i)) (reading_again v h)
 
 pub word_fits : (v : ℤ) → IsReading v → of_z w64 v < 2 ^ 64
 word_fits (pos n) h = omega (arith, ints)
@@ -61,6 +65,8 @@ argument_fits (Shelve i seconds) h = omega arith
 argument_fits (Unshelve i) h = omega arith
 argument_fits (Oos i on) h = switch_fits on
 argument_fits (Design i on) h = switch_fits on
+argument_fits (SetPriority i priority) h = omega arith
+argument_fits (SetSetpoint i v) h = word_fits v h
 
 pub action_again : (a : Action) → IsAction a → action_at (action_text a) ≡ Some a
 action_again a h = text_again (kind_of a) (alarm_of a) (argument_of a) h.alarm (argument_fits a h.argument) ∙ meaning_again a h.argument
@@ -99,12 +105,12 @@ either_takes kind alarm argument f a m e =
 pub limited_takes : (z v : ℤ) → limited z ≡ Some v → (z ≡ v) × IsReading v
 limited_takes z v e = grind (arith, ints)
 
-reading_takes : (alarm word : ℕ) (a : Action) → alarm < 2 ^ 32 → word < 2 ^ 64 → (o : Option ℤ) → reading_at word ≡ o → option_map (Value (record { 0 = alarm })) o ≡ Some a → Means 2 alarm word a
-reading_takes alarm word a small fits None is e = absurd (none-some a e)
-reading_takes alarm word a small fits (Some v) is e =
+reading_takes : (kind alarm word : ℕ) (f : ℤ → Action) (a : Action) → word < 2 ^ 64 → ((v : ℤ) → IsReading v → Means kind alarm (of_z w64 v) (f v)) → (o : Option ℤ) → reading_at word ≡ o → option_map f o ≡ Some a → Means kind alarm word a
+reading_takes kind alarm word f a fits m None is e = absurd (none-some a e)
+reading_takes kind alarm word f a fits m (Some v) is e =
     let t = limited_takes (to_z w64 word) v is in
-    subst (Means 2 alarm word) (same_Some (Value (record { 0 = alarm }) v) a e)
-    (record { limits = record { alarm = small; argument = t.1 }; kind_is = refl; alarm_is = refl; argument_is = sym (of_z-to_z w64 word fits) ∙ ap (of_z w64) t.0 })
+    let word_is : of_z w64 v ≡ word = sym (ap (of_z w64) t.0) ∙ of_z-to_z w64 word fits in
+    subst (Means kind alarm word) (same_Some (f v) a e) (subst (λ (n : ℕ). Means kind alarm n (f v)) word_is (m v t.1))
 
 clock_takes : (alarm argument : ℕ) (a : Action) → cond (eqb alarm 0 && ltb argument (2 ^ 40)) (Some (Clock argument)) None ≡ Some a → Means 1 alarm argument a
 clock_takes alarm argument a e =
@@ -115,11 +121,25 @@ clock_takes alarm argument a e =
       | inr (t, s) ↦ absurd (none-some a s)
     ]
 
-shelve_takes : (alarm argument : ℕ) (a : Action) → alarm < 2 ^ 32 → cond (ltb argument (2 ^ 32)) (Some (Shelve (record { 0 = alarm }) argument)) None ≡ Some a → Means 5 alarm argument a
-shelve_takes alarm argument a small e =
-    elim (chosen (ltb argument (2 ^ 32)) (Some (Shelve (record { 0 = alarm }) argument)) None (Some a) e) [
-      | inl (t, s) ↦ subst (Means 5 alarm argument) (same_Some (Shelve (record { 0 = alarm }) argument) a s) (record { limits = record { alarm = small; argument = ltb-true argument (2 ^ 32) t }; kind_is = refl; alarm_is = refl; argument_is = refl })
+small_takes : (kind alarm argument : ℕ) (f : ℕ → Action) (a : Action) → ((n : ℕ) → n < 2 ^ 32 → Means kind alarm n (f n)) → cond (ltb argument (2 ^ 32)) (Some (f argument)) None ≡ Some a → Means kind alarm argument a
+small_takes kind alarm argument f a m e =
+    elim (chosen (ltb argument (2 ^ 32)) (Some (f argument)) None (Some a) e) [
+      | inl (t, s) ↦ subst (Means kind alarm argument) (same_Some (f argument) a s) (m argument (ltb-true argument (2 ^ 32) t))
       | inr (t, s) ↦ absurd (none-some a s)
+    ]
+
+-- the kinds behind 8
+later_takes : (kind alarm argument : ℕ) (a : Action) → alarm < 2 ^ 32 → argument < 2 ^ 64
+    → cond (eqb kind 9) (cond (ltb argument (2 ^ 32)) (Some (SetPriority (record { 0 = alarm }) argument)) None) (cond (eqb kind 10) (option_map (SetSetpoint (record { 0 = alarm })) (reading_at argument)) None) ≡ Some a → Means kind alarm argument a
+later_takes kind alarm argument a small fits e =
+    let i : AlarmId = record { 0 = alarm } in
+    let at : (k : ℕ) → eqb kind k ≡ true → Means k alarm argument a → Means kind alarm argument a = λ k t m. subst (λ (n : ℕ). Means n alarm argument a) (sym (eqb-true kind k t)) m in
+    elim (chosen (eqb kind 9) _ _ (Some a) e) [
+      | inl (t, s) ↦ at 9 t (small_takes 9 alarm argument (SetPriority i) a (λ n h. record { limits = record { alarm = small; argument = h }; kind_is = refl; alarm_is = refl; argument_is = refl }) s)
+      | inr (t, e) ↦ elim (chosen (eqb kind 10) _ _ (Some a) e) [
+        | inl (t, s) ↦ at 10 t (reading_takes 10 alarm argument (SetSetpoint i) a fits (λ v h. record { limits = record { alarm = small; argument = h }; kind_is = refl; alarm_is = refl; argument_is = refl }) (reading_at argument) refl s)
+        | inr (t, e) ↦ absurd (none-some a e)
+      ]
     ]
 
 meaning_takes : (kind alarm argument : ℕ) (a : Action) → alarm < 2 ^ 32 → argument < 2 ^ 64 → meaning kind alarm argument ≡ Some a → Means kind alarm argument a
@@ -129,20 +149,20 @@ meaning_takes kind alarm argument a small fits e =
     elim (chosen (eqb kind 1) _ _ (Some a) e) [
       | inl (t, s) ↦ at 1 t (clock_takes alarm argument a s)
       | inr (t, e) ↦ elim (chosen (eqb kind 2) _ _ (Some a) e) [
-        | inl (t, s) ↦ at 2 t (reading_takes alarm argument a small fits (reading_at argument) refl s)
+        | inl (t, s) ↦ at 2 t (reading_takes 2 alarm argument (Value i) a fits (λ v h. record { limits = record { alarm = small; argument = h }; kind_is = refl; alarm_is = refl; argument_is = refl }) (reading_at argument) refl s)
         | inr (t, e) ↦ elim (chosen (eqb kind 3) _ _ (Some a) e) [
           | inl (t, s) ↦ at 3 t (without_takes 3 alarm argument (Ack i) a (record { limits = record { alarm = small; argument = tt }; kind_is = refl; alarm_is = refl; argument_is = refl }) s)
           | inr (t, e) ↦ elim (chosen (eqb kind 4) _ _ (Some a) e) [
             | inl (t, s) ↦ at 4 t (without_takes 4 alarm argument (Reset i) a (record { limits = record { alarm = small; argument = tt }; kind_is = refl; alarm_is = refl; argument_is = refl }) s)
             | inr (t, e) ↦ elim (chosen (eqb kind 5) _ _ (Some a) e) [
-              | inl (t, s) ↦ at 5 t (shelve_takes alarm argument a small s)
+              | inl (t, s) ↦ at 5 t (small_takes 5 alarm argument (Shelve i) a (λ n h. record { limits = record { alarm = small; argument = h }; kind_is = refl; alarm_is = refl; argument_is = refl }) s)
               | inr (t, e) ↦ elim (chosen (eqb kind 6) _ _ (Some a) e) [
                 | inl (t, s) ↦ at 6 t (without_takes 6 alarm argument (Unshelve i) a (record { limits = record { alarm = small; argument = tt }; kind_is = refl; alarm_is = refl; argument_is = refl }) s)
                 | inr (t, e) ↦ elim (chosen (eqb kind 7) _ _ (Some a) e) [
                   | inl (t, s) ↦ at 7 t (either_takes 7 alarm argument (Oos i) a (λ on. record { limits = record { alarm = small; argument = tt }; kind_is = refl; alarm_is = refl; argument_is = refl }) s)
                   | inr (t, e) ↦ elim (chosen (eqb kind 8) _ _ (Some a) e) [
                     | inl (t, s) ↦ at 8 t (either_takes 8 alarm argument (Design i) a (λ on. record { limits = record { alarm = small; argument = tt }; kind_is = refl; alarm_is = refl; argument_is = refl }) s)
-                    | inr (t, e) ↦ absurd (none-some a e)
+                    | inr (t, e) ↦ later_takes kind alarm argument a small fits e
                   ]
                 ]
               ]
@@ -179,9 +199,29 @@ pub action_takes : (bytes : List ℕ) (a : Action) → IsBytes bytes → action_
 action_takes (kind ∷ zero ∷ zero ∷ zero ∷ p ∷ q ∷ r ∷ s ∷ rest) a fits e = text_takes kind p q r s rest a (IsBytes-drop 4 (kind ∷ 0 ∷ 0 ∷ 0 ∷ p ∷ q ∷ r ∷ s ∷ rest) fits) e
 action_takes _ a fits e = absurd (none-some a e)
 
-pub found_if_ok : (bytes : List ℕ) (o : Option Action) (d : Damage) → IsBytes bytes → o ≡ action_at bytes → IfOk (ok_or o d) (λ a. IsAction a × (bytes ≡ action_text a))
-found_if_ok bytes None d fits e = tt
-found_if_ok bytes (Some a) d fits e = action_takes bytes a fits (sym e)
+-- ---- in a version
+
+borne_takes : (version : Version) (o : Option Action) (a : Action) → borne version o ≡ Some a → (o ≡ Some a) × IsBorne version a
+borne_takes version None a e = absurd (none-some a e)
+borne_takes version (Some b) a e =
+    elim (chosen (bears version b) (Some b) None (Some a) e) [
+      | inl (t, s) ↦ (s, subst (IsBorne version) (same_Some b a s) t)
+      | inr (t, s) ↦ absurd (none-some a s)
+    ]
+
+-- what is read in a version is spelled so, and the version has it
+pub borne_action_takes : (version : Version) (bytes : List ℕ) (a : Action) → IsBytes bytes → action_in version bytes ≡ Some a → IsAction a × (bytes ≡ action_text a) × IsBorne version a
+borne_action_takes version bytes a fits e =
+    let b = borne_takes version (action_at bytes) a e in
+    let t = action_takes bytes a fits b.0 in
+    (t.0, t.1, b.1)
+
+pub borne_action_again : (version : Version) (a : Action) → IsAction a → IsBorne version a → action_in version (action_text a) ≡ Some a
+borne_action_again version a h b = ap (borne version) (action_again a h) ∙ ap (λ (t : Bool). cond t (Some a) None) b
+
+pub found_if_ok : (version : Version) (bytes : List ℕ) (o : Option Action) (d : Damage) → IsBytes bytes → o ≡ action_in version bytes → IfOk (ok_or o d) (λ a. IsAction a × (bytes ≡ action_text a) × IsBorne version a)
+found_if_ok version bytes None d fits e = tt
+found_if_ok version bytes (Some a) d fits e = borne_action_takes version bytes a fits (sym e)
 
 -- the parts of a text, written one behind the other
 pub text_parts : (kind : ℕ) (p q : List ℕ) (k n m alarm argument : ℕ) → kind ≡ k → p ≡ to_be_bytes w32 n → n ≡ alarm → q ≡ to_be_bytes w64 m → m ≡ argument → kind ∷ 0 ∷ 0 ∷ 0 ∷ (p ++ q) ≡ text_of k alarm argument

@@ -2,10 +2,12 @@
 use Rattle.std.specs.Prelude.{ℕ, zero, ◌^◌, List, [], ◌∷◌, ◌++◌, length, Bool, true, false, ◌&&◌, Option, Some, None, option_map, ℤ, nat_lt, ◌==◌, if◌then◌else◌}
 use Rattle.std.specs.Int.{w32, w64, to_be_bytes, from_be_bytes, cast_unsigned, cast_signed}
 use Rattle.alm_types.specs.declared.action.Action.{Action}
-use Rattle.alm_types.specs.declared.action.Action.TheVariants.{Clock, Value, Ack, Reset, Shelve, Unshelve, Oos, Design}
+use Rattle.alm_types.specs.declared.action.Action.TheVariants.{Clock, Value, Ack, Reset, Shelve, Unshelve, Oos, Design, SetPriority, SetSetpoint}
 use Rattle.alm_types.specs.declared.alarm_id.AlarmId.{AlarmId}
 use Rattle.alm_types.specs.Actions.{alarm_of}
 use Rattle.alm_types.specs.Readings.{is_reading}
+use Rattle.alm_codec.specs.declared.version.Version.{Version}
+use Rattle.alm_codec.specs.Versions.{borne}
 
 -- ---- the spelling
 
@@ -18,6 +20,8 @@ kind_of (Shelve i seconds) = 5
 kind_of (Unshelve i) = 6
 kind_of (Oos i on) = 7
 kind_of (Design i on) = 8
+kind_of (SetPriority i priority) = 9
+kind_of (SetSetpoint i v) = 10
 
 -- 1 on, 0 off
 abbrev pub switch : Bool → ℕ
@@ -33,6 +37,8 @@ argument_of (Shelve i seconds) = seconds
 argument_of (Unshelve i) = 0
 argument_of (Oos i on) = switch on
 argument_of (Design i on) = switch on
+argument_of (SetPriority i priority) = priority
+argument_of (SetSetpoint i v) = cast_unsigned w64 v
 
 -- a text of a kind, an alarm and an argument
 abbrev pub text_of : ℕ → ℕ → ℕ → List ℕ
@@ -68,12 +74,18 @@ meaning_for kind i argument =
     else if kind == 6 then without argument (Unshelve i)
     else if kind == 7 then either_way argument (Oos i)
     else if kind == 8 then either_way argument (Design i)
+    else if kind == 9 then (if nat_lt argument (2 ^ 32) then Some (SetPriority i argument) else None)
+    else if kind == 10 then option_map (SetSetpoint i) (reading_at argument)
     else None
 
 abbrev pub meaning : ℕ → ℕ → ℕ → Option Action
 meaning kind alarm argument = meaning_for kind (record { 0 = alarm }) argument
 
--- the action that bytes are the text of, all of the bytes
+-- the action of any version that bytes are the text of, all of the bytes
 abbrev pub action_at : List ℕ → Option Action
 action_at (kind ∷ zero ∷ zero ∷ zero ∷ a ∷ b ∷ c ∷ d ∷ rest) = if length rest == 8 then meaning kind (from_be_bytes w32 (a ∷ b ∷ c ∷ d ∷ [])) (from_be_bytes w64 rest) else None
 action_at _ = None
+
+-- the action of a version
+abbrev pub action_in : Version → List ℕ → Option Action
+action_in version bytes = borne version (action_at bytes)

@@ -8,3 +8,4 @@ pub mod ImageFields
 pub mod Parts
 pub mod Reading
 pub mod Writing
+pub mod Versions

@@ -3,11 +3,13 @@
 ghost use Rattle.std.specs.Prelude.{◌≡◌, ◌+◌, ◌≤◌, ◌++◌, ℕ, List, length, drop, IfOk, IfErr, Ok};
 ghost use Rattle.alm_types.specs.declared.action.Action.{Action as AnAction};
 ghost use Rattle.alm_types.specs.Actions.{IsAction, alarm_of};
-ghost use Rattle.alm_codec.specs.Actions.{action_text, argument_of, kind_of, action_at, meaning, reading_at};
+ghost use Rattle.alm_codec.specs.Actions.{action_text, argument_of, kind_of, action_at, action_in, meaning, reading_at};
+ghost use Rattle.alm_codec.specs.Versions.{IsBorne};
 ghost use Rattle.alm_codec.specs.Writing.{Wrote};
 
 use crate::damage::Damage;
 use crate::fields::put;
+use crate::version::Version;
 use alm_types::{Action, AlarmId, Moment, Reading};
 
 /// How many bytes the text of an action has.
@@ -36,12 +38,16 @@ fn meaning(kind: u8, alarm: u32, argument: u64) -> Option<Action>
         (6, 0) => Some(Action::Unshelve(id)),
         (7, 0 | 1) => Some(Action::Oos(id, argument == 1)),
         (8, 0 | 1) => Some(Action::Design(id, argument == 1)),
+        (9, priority) => u32::try_from(priority)
+            .ok()
+            .map(|priority| Action::SetPriority(id, priority)),
+        (10, value) => reading(value).map(|value| Action::SetSetpoint(id, value)),
         _ => None,
     }
 }
 
-/// The action that the bytes are the text of, all of the bytes.
-pub fn action_of(text: &[u8]) -> Option<Action>
+/// The action of any version that the bytes are the text of, all of the bytes.
+fn any_action_of(text: &[u8]) -> Option<Action>
     ensures { result ≡ action_at text.now }
 {
     match text {
@@ -55,16 +61,28 @@ pub fn action_of(text: &[u8]) -> Option<Action>
     }
 }
 
-/// The action that the bytes are the text of, all of the bytes.
-pub fn read_action(text: &[u8]) -> Result<Action, Damage>
+/// The action of a version that the bytes are the text of, all of the bytes.
+pub fn action_of(text: &[u8], version: Version) -> Option<Action>
+    ensures { result ≡ action_in version text.now }
+{
+    let action = any_action_of(text)?;
+    if version.bears(&action) {
+        Some(action)
+    } else {
+        None
+    }
+}
+
+/// The action of a version that the bytes are the text of, all of the bytes.
+pub fn read_action(text: &[u8], version: Version) -> Result<Action, Damage>
     // What is read is spelled so.
-    ensures found { IfOk result (λ a. IsAction a × (text.now ≡ action_text a)) }
+    ensures found { IfOk result (λ a. IsAction a × (text.now ≡ action_text a) × IsBorne version a) }
     // What is spelled so is read.
-    ensures only { (a : AnAction) → IsAction a → text.now ≡ action_text a → result ≡ Ok a }
-    // Where no action has that text, it is damaged at its first byte.
+    ensures only { (a : AnAction) → IsAction a → IsBorne version a → text.now ≡ action_text a → result ≡ Ok a }
+    // Where no action of the version has that text, it is damaged at its first byte.
     ensures damaged { IfErr result (λ damage. damage.at ≡ 0) }
 {
-    action_of(text).ok_or(Damage { at: 0 })
+    action_of(text, version).ok_or(Damage { at: 0 })
 }
 
 /// The numbers of an action are within their types.
@@ -76,11 +94,11 @@ fn know_limits(action: &Action)
         Action::Clock(moment) => {
             moment.seconds();
         }
-        Action::Value(_, reading) => {
+        Action::Value(_, reading) | Action::SetSetpoint(_, reading) => {
             reading.value();
         }
-        Action::Shelve(_, seconds) => {
-            let _seconds = *seconds;
+        Action::Shelve(_, number) | Action::SetPriority(_, number) => {
+            let _number = *number;
         }
         Action::Ack(_)
         | Action::Reset(_)
@@ -102,6 +120,8 @@ fn kind_of(action: &Action) -> u8
         Action::Unshelve(_) => 6,
         Action::Oos(..) => 7,
         Action::Design(..) => 8,
+        Action::SetPriority(..) => 9,
+        Action::SetSetpoint(..) => 10,
     }
 }
 
@@ -116,7 +136,9 @@ fn alarm_of(action: &Action) -> u32
         | Action::Shelve(id, _)
         | Action::Unshelve(id)
         | Action::Oos(id, _)
-        | Action::Design(id, _) => id.0,
+        | Action::Design(id, _)
+        | Action::SetPriority(id, _)
+        | Action::SetSetpoint(id, _) => id.0,
     }
 }
 
@@ -125,8 +147,10 @@ fn argument_of(action: &Action) -> u64
 {
     match action {
         Action::Clock(moment) => moment.seconds(),
-        Action::Value(_, reading) => reading.value().cast_unsigned(),
-        Action::Shelve(_, seconds) => *seconds as u64,
+        Action::Value(_, reading) | Action::SetSetpoint(_, reading) => {
+            reading.value().cast_unsigned()
+        }
+        Action::Shelve(_, number) | Action::SetPriority(_, number) => *number as u64,
         Action::Oos(_, on) | Action::Design(_, on) => *on as u64,
         Action::Ack(_) | Action::Reset(_) | Action::Unshelve(_) => 0,
     }

@@ -6,11 +6,13 @@ ghost use Rattle.alm_types.specs.Actions.{IsAction};
 ghost use Rattle.alm_codec.specs.Actions.{action_text};
 ghost use Rattle.alm_codec.specs.Reading.{Gives, FindsOrDamage};
 ghost use Rattle.alm_codec.specs.Frames.{IsFrame, frame_text, frame_body, head_at, with_front, actions_at, frame_at, IsBefore};
+ghost use Rattle.alm_codec.specs.Versions.{AreBorne};
 
 use crate::action::{ACTION_LEN, action_of, put_action};
 use crate::damage::Damage;
 use crate::fields::{put, u16_at, u64_at};
 use crate::left::Left;
+use crate::version::Version;
 use alm_types::Action;
 
 /// How many bytes of a frame stand between its gate and its first action.
@@ -45,17 +47,22 @@ fn head_of(bytes: &[u8], epoch: u64, count: u64) -> Result<(u16, &[u8]), Left>
 }
 
 /// Reads so many actions behind the others, and gives the bytes after them.
-fn actions_of<'a>(count: u16, bytes: &'a [u8], actions: &mut Vec<Action>) -> Result<&'a [u8], Left>
+fn actions_of<'a>(
+    count: u16,
+    bytes: &'a [u8],
+    actions: &mut Vec<Action>,
+    version: Version,
+) -> Result<&'a [u8], Left>
     requires inside { 16 * count ≤ length bytes.now }
     requires room { vec_len actions.old + count ≤ vec_capacity actions.old }
-    ensures actions { Gives (λ rest. (actions.new.items, rest.now)) result (with_front actions.old.items (actions_at count bytes.now)) }
+    ensures actions { Gives (λ rest. (actions.new.items, rest.now)) result (with_front actions.old.items (actions_at version count bytes.now)) }
     ensures left { IfOk result (λ rest. length rest.now + 16 * count ≡ length bytes.now) }
     ensures room { vec_capacity actions.new ≡ vec_capacity actions.old }
 {
     let mut rest = bytes;
     for _ in 0..count {
         let (text, after) = rest.split_at(ACTION_LEN);
-        let Some(action) = action_of(text) else {
+        let Some(action) = action_of(text, version) else {
             return Err(Left(rest.len()));
         };
         actions.push_reserved(action);
@@ -71,37 +78,39 @@ fn frame_of<'a>(
     epoch: u64,
     count: u64,
     actions: &mut Vec<Action>,
+    version: Version,
 ) -> Result<&'a [u8], Left>
     requires { 256 ≤ vec_capacity actions.old }
-    ensures actions { Gives (λ rest. (actions.new.items, rest.now)) result (frame_at epoch count bytes.now) }
+    ensures actions { Gives (λ rest. (actions.new.items, rest.now)) result (frame_at version epoch count bytes.now) }
     ensures left { IfOk result (λ rest. length rest.now ≤ length bytes.now) }
     ensures room { vec_capacity actions.new ≡ vec_capacity actions.old }
 {
     actions.clear();
     let (number, rest) = head_of(bytes, epoch, count)?;
-    actions_of(number, rest, actions)
+    actions_of(number, rest, actions, version)
 }
 
-/// Reads the frame of an epoch behind `count` actions, from behind its gate on. The vector then
+/// Reads the frame of an epoch behind `count` actions, from behind its gate on, in a half of a version. The vector then
 /// holds its actions, or none where the frame is damaged. Gives the place of the next gate.
 pub fn read_frame(
     bytes: &[u8],
     epoch: u64,
     count: u64,
     actions: &mut Vec<Action>,
+    version: Version,
 ) -> Result<usize, Damage>
     requires { 256 ≤ vec_capacity actions.old }
     // What is read is spelled so, and the next gate lies behind it.
-    ensures found { IfOk result (λ end. IsFrame epoch (count + 1) actions.new.items × IsBefore (frame_text epoch (count + 1) actions.new.items) end bytes.now) }
+    ensures found { IfOk result (λ end. IsFrame epoch (count + 1) actions.new.items × AreBorne version actions.new.items × IsBefore (frame_text epoch (count + 1) actions.new.items) end bytes.now) }
     // What is spelled so is read.
-    ensures only { (list : List AnAction) (gate : ℕ) (rest : List ℕ) → IsFrame epoch (count + 1) list → bytes.now ≡ frame_text epoch (count + 1) list ++ gate ∷ rest → (result ≡ Ok (18 + 16 * length list)) × (actions.new.items ≡ list) }
+    ensures only { (list : List AnAction) (gate : ℕ) (rest : List ℕ) → IsFrame epoch (count + 1) list → AreBorne version list → bytes.now ≡ frame_text epoch (count + 1) list ++ gate ∷ rest → (result ≡ Ok (18 + 16 * length list)) × (actions.new.items ≡ list) }
     // Which field is damaged.
-    ensures exact { FindsOrDamage bytes.now (λ end. (actions.new.items, drop end bytes.now)) result (frame_at epoch count bytes.now) }
+    ensures exact { FindsOrDamage bytes.now (λ end. (actions.new.items, drop end bytes.now)) result (frame_at version epoch count bytes.now) }
     // Nothing of a damaged frame is left.
     ensures none { OnErr result (actions.new.items ≡ []) }
     ensures room { vec_capacity actions.new ≡ vec_capacity actions.old }
 {
-    match frame_of(bytes, epoch, count, actions) {
+    match frame_of(bytes, epoch, count, actions, version) {
         Ok(rest) => Ok(bytes.len() - rest.len()),
         Err(left) => {
             actions.clear();

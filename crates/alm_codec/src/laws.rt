@@ -8,6 +8,8 @@ ghost use Rattle.alm_types.specs.Actions.{IsAction};
 ghost use Rattle.alm_codec.specs.Actions.{action_text};
 ghost use Rattle.alm_codec.specs.Frames.{IsFrame, frame_text, frame_at};
 ghost use Rattle.alm_codec.specs.Reading.{IsBytes};
+ghost use Rattle.alm_codec.specs.declared.version.Version.{Version};
+ghost use Rattle.alm_codec.specs.Versions.{AreBorne};
 ghost use Rattle.alm_codec.specs.ImageFields.{damage_in};
 ghost use Rattle.alm_codec.specs.Image.{IsImage, IsOf, image_text, image_len};
 
@@ -17,10 +19,10 @@ pub fn undamaged_is_an_image()
     ensures none { (rows areas count : ℕ) (bytes : List ℕ) (q : Condensed) → IsOf rows areas count q → IsImage q bytes → damage_in rows areas count bytes ≡ None }
 {}
 
-/// Bytes are undamaged exactly where they begin with a frame and its next gate.
+/// Bytes are undamaged exactly where they begin with a frame of the version and its next gate.
 pub fn undamaged_is_a_frame()
-    ensures some { (epoch count : ℕ) (bytes : List ℕ) (list : List Action) (rest : List ℕ) → IsBytes bytes → frame_at epoch count bytes ≡ Ok (list, rest) → IsFrame epoch (count + 1) list × (bytes ≡ frame_text epoch (count + 1) list ++ rest) × (1 ≤ length rest) }
-    ensures none { (epoch count : ℕ) (list : List Action) (gate : ℕ) (rest : List ℕ) → IsFrame epoch (count + 1) list → frame_at epoch count (frame_text epoch (count + 1) list ++ gate ∷ rest) ≡ Ok (list, gate ∷ rest) }
+    ensures some { (version : Version) (epoch count : ℕ) (bytes : List ℕ) (list : List Action) (rest : List ℕ) → IsBytes bytes → frame_at version epoch count bytes ≡ Ok (list, rest) → IsFrame epoch (count + 1) list × AreBorne version list × (bytes ≡ frame_text epoch (count + 1) list ++ rest) × (1 ≤ length rest) }
+    ensures none { (version : Version) (epoch count : ℕ) (list : List Action) (gate : ℕ) (rest : List ℕ) → IsFrame epoch (count + 1) list → AreBorne version list → frame_at version epoch count (frame_text epoch (count + 1) list ++ gate ∷ rest) ≡ Ok (list, gate ∷ rest) }
 {}
 
 /// How long the text of a frame is.

@@ -1,18 +1,32 @@
 //! The texts of actions.
 
-use alm_codec::{Damage, read_action, write_action};
+use alm_codec::{Damage, Version, read_action, write_action};
 use alm_types::{Action, AlarmId, Moment, Reading};
 use std::test::Fail;
 
-/// Whether an action and a text are each other's.
-fn is_text(action: Action, text: &[u8; 16]) -> bool {
+/// Whether an action and a text are each other's in version 02.
+fn is_new_text(action: &Action, text: &[u8; 16]) -> bool {
     let mut out = [9; 17];
-    write_action(&action, &mut out);
-    read_action(text) == Ok(action) && out[..16] == text[..] && out[16] == 9
+    write_action(action, &mut out);
+    read_action(text, Version::V02) == Ok(*action) && out[..16] == text[..] && out[16] == 9
+}
+
+/// Whether a text is read as an action in version 01 too.
+fn is_old_text(action: &Action, text: &[u8; 16]) -> bool {
+    read_action(text, Version::V01) == Ok(*action)
+}
+
+/// Whether they are so in both versions.
+fn is_text(action: Action, text: &[u8; 16]) -> bool {
+    is_new_text(&action, text) && is_old_text(&action, text)
+}
+
+fn is_none_in(text: &[u8], version: Version) -> bool {
+    read_action(text, version) == Err(Damage { at: 0 })
 }
 
 fn is_none(text: &[u8]) -> bool {
-    read_action(text) == Err(Damage { at: 0 })
+    is_none_in(text, Version::V01) && is_none_in(text, Version::V02)
 }
 
 #[test]
@@ -92,12 +106,26 @@ fn texts_of_switches(rt: HostRuntime) {
 }
 
 #[test]
+fn texts_of_version_02_alone(rt: HostRuntime) -> Result<(), Fail> {
+    let priority = [9, 0, 0, 0, 0, 0, 0, 2, 0, 0, 0, 0, 0, 0, 0, 2];
+    assert!(rt; is_new_text(&Action::SetPriority(AlarmId(2), 2), &priority));
+    assert!(rt; is_none_in(&priority, Version::V01));
+    let setpoint = [10, 0, 0, 0, 0, 0, 0, 0, 0, 0, 0, 0, 0, 0, 3, 0x84];
+    let reading = Reading::new(900).ok_or("reading")?;
+    assert!(rt; is_new_text(&Action::SetSetpoint(AlarmId(0), reading), &setpoint));
+    assert!(rt; is_none_in(&setpoint, Version::V01));
+    Ok(())
+}
+
+#[test]
 fn bytes_that_are_no_action(rt: HostRuntime) {
     assert!(rt; is_none(&[]));
     assert!(rt; is_none(&[3, 0, 0, 0, 0, 0, 0, 0, 0, 0, 0, 0, 0, 0, 0]));
     assert!(rt; is_none(&[3, 0, 0, 0, 0, 0, 0, 0, 0, 0, 0, 0, 0, 0, 0, 0, 0]));
     assert!(rt; is_none(&[0, 0, 0, 0, 0, 0, 0, 0, 0, 0, 0, 0, 0, 0, 0, 0]));
-    assert!(rt; is_none(&[9, 0, 0, 0, 0, 0, 0, 0, 0, 0, 0, 0, 0, 0, 0, 0]));
+    assert!(rt; is_none(&[9, 0, 0, 0, 0, 0, 0, 0, 0, 0, 0, 1, 0, 0, 0, 0]));
+    assert!(rt; is_none(&[10, 0, 0, 0, 0, 0, 0, 0, 0, 0, 0, 0xe8, 0xd4, 0xa5, 0x10, 1]));
+    assert!(rt; is_none(&[11, 0, 0, 0, 0, 0, 0, 0, 0, 0, 0, 0, 0, 0, 0, 0]));
     assert!(rt; is_none(&[3, 0, 0, 1, 0, 0, 0, 0, 0, 0, 0, 0, 0, 0, 0, 0]));
     assert!(rt; is_none(&[3, 0, 0, 0, 0, 0, 0, 0, 0, 0, 0, 0, 0, 0, 0, 1]));
     assert!(rt; is_none(&[1, 0, 0, 0, 0, 0, 0, 1, 0, 0, 0, 0, 0, 0, 3, 0xe8]));

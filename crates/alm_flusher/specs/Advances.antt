@@ -4,7 +4,8 @@ use Rattle.alm_types.specs.declared.action.Action.{Action}
 use Rattle.alm_model.specs.Plant.{Condensed}
 use Rattle.alm_model.specs.Step.{run}
 use Rattle.alm_keeper.specs.declared.phase.Phase.{Phase}
-use Rattle.alm_keeper.specs.declared.phase.Phase.TheVariants.{Idle, Committing, Copying, Stopped}
+use Rattle.alm_keeper.specs.declared.phase.Phase.TheVariants.{Idle, Committing, Copying, Paused, Stopped}
+use Rattle.alm_store.specs.Advancing.{IsOpen}
 use Rattle.alm_flusher.specs.declared.advance.Advance.{Advance}
 use Rattle.alm_flusher.specs.declared.advance.Advance.TheVariants.{More, Committed, Failed, Nothing}
 
@@ -16,22 +17,31 @@ Advances Failed p p' s s' actions = (p ≢ Stopped → 0 < length actions) × (s
 Advances Nothing p p' s s' actions = ⊥
 
 -- the commit of so many actions is done in at most m steps: by where the store stands, how many calls are left of its work, and whether its
--- next frame takes them, now or when that work is done. A commit is 4 calls, a checkpoint before it 6 at most.
+-- next frame takes them, now or when that work is done. A commit is 4 calls, a checkpoint 320 at most; where one is open, a second one may
+-- have to make the room
 abbrev pub Within : (m : ℕ) → Phase → (left : ℕ) → (takes will_take : Type 0) → (actions : ℕ) → Type 0
-Within m Idle left takes will_take actions = (takes × (5 ≤ m)) ⊎ ((actions ≤ 256) × (12 ≤ m))
+Within m Idle left takes will_take actions = (takes × (5 ≤ m)) ⊎ ((actions ≤ 256) × (326 ≤ m))
 Within m Committing left takes will_take actions = left < m
-Within m Copying left takes will_take actions = will_take × (left + 6 ≤ m)
+Within m Copying left takes will_take actions = (will_take × (left + 6 ≤ m)) ⊎ ((actions ≤ 256) × (left + 327 ≤ m))
+Within m Paused left takes will_take actions = (will_take × (left + 6 ≤ m)) ⊎ ((actions ≤ 256) × (left + 327 ≤ m))
 Within m Stopped left takes will_take actions = ⊥
 
--- the work that was begun for so many actions
-abbrev pub Begins : Phase → (left : ℕ) → (will_take : Type 0) → (actions : ℕ) → Type 0
-Begins Committing left will_take actions = left ≤ 4
-Begins Copying left will_take actions = (left ≤ 6) × (actions ≤ 256 → will_take)
-Begins phase left will_take actions = ⊥
+-- .. in at most m steps behind the device call that is next
+abbrev pub Behind : (m : ℕ) → Phase → (left : ℕ) → (will_take : Type 0) → (actions : ℕ) → Type 0
+Behind m Committing left will_take actions = left ≤ m
+Behind m Copying left will_take actions = (will_take × (left + 5 ≤ m)) ⊎ ((actions ≤ 256) × (left + 326 ≤ m))
+Behind m Paused left will_take actions = (will_take × (left + 5 ≤ m)) ⊎ ((actions ≤ 256) × (left + 326 ≤ m))
+Behind m phase left will_take actions = ⊥
 
 -- no checkpoint is to be begun: work is under way, or the next frame takes the actions
 abbrev pub IsSure : Phase → (takes : Type 0) → Type 0
 IsSure Idle takes = takes
-IsSure Committing takes = Unit {0}
-IsSure Copying takes = Unit {0}
 IsSure Stopped takes = ⊥
+IsSure phase takes = Unit {0}
+
+-- without a batch to commit: the phase before and then
+abbrev pub GoesOn : Advance → (p p' : Phase) → Type 0
+GoesOn More p p' = IsOpen p × (p' ≢ Stopped)
+GoesOn Failed p p' = (p ≢ Idle) × (p' ≡ Stopped)
+GoesOn Nothing p p' = (p ≡ Idle) × (p' ≡ p)
+GoesOn Committed p p' = ⊥

@@ -14,7 +14,8 @@ use Rattle.alm_rings.specs.Placed.{outbox_at, released_by, room_by}
 use Rattle.alm_rings.specs.declared.fetch_ends.FetchEnds.{FetchEnds}
 use Rattle.alm_rings.specs.Batches.{fetched_of, coming_in}
 use Rattle.alm_keeper.specs.declared.phase.Phase.{Phase}
-use Rattle.alm_keeper.specs.declared.phase.Phase.TheVariants.{Stopped}
+use Rattle.alm_keeper.specs.declared.phase.Phase.TheVariants.{Idle, Stopped}
+use Rattle.alm_store.specs.Advancing.{IsOpen}
 use Rattle.alm_flusher.specs.HeldBatch.{next_of, passed, left_of}
 use Rattle.alm_flusher.specs.declared.advance.Advance.{Advance}
 use Rattle.alm_flusher.specs.declared.advance.Advance.TheVariants as A
@@ -38,16 +39,19 @@ FetchAnswers Got old new from to = (old ≡ Nothing) × Gets new from to
 FetchAnswers Empty old new from to = (old ≡ Nothing) × (new ≡ Nothing) × (fetched_of to ≡ fetched_of from) × (coming_in to ≡ coming_in from) × ¬ (0 < length (coming_in from))
 FetchAnswers F.TheVariants.Held old new from to = (old ≢ Nothing) × (new ≡ old) × (to ≡ from)
 
--- where the store was in this phase: once a commit has failed, it fails for good, and it fails at first only with actions or where the store has stopped
+-- where the store was in this phase: once a commit has failed, it fails for good, and it fails at first only with actions or where the store
+-- has stopped. Without a batch to commit an open checkpoint goes on
 abbrev pub AdvanceAnswers : Advance → Phase → Held → Held → Type 0
 AdvanceAnswers A.Committed p (Fetched b) new = (new ≡ Committed b) × (p ≢ Stopped)
 AdvanceAnswers A.More p (Fetched b) new = (new ≡ Fetched b) × (p ≢ Stopped) × (0 < length (accepted_of b.entries))
 AdvanceAnswers A.Failed p (Fetched b) new = (new ≡ Failed b) × (p ≢ Stopped → 0 < length (accepted_of b.entries))
-AdvanceAnswers A.Failed p (Failed b) new = new ≡ Failed b
 AdvanceAnswers A.Nothing p (Fetched b) new = ⊥
-AdvanceAnswers A.Nothing p (Failed b) new = ⊥
-AdvanceAnswers A.Nothing p old new = new ≡ old
-AdvanceAnswers answer p old new = ⊥
+AdvanceAnswers A.Failed p (Failed b) new = new ≡ Failed b
+AdvanceAnswers answer p (Failed b) new = ⊥
+AdvanceAnswers A.More p old new = (new ≡ old) × IsOpen p
+AdvanceAnswers A.Failed p old new = (new ≡ old) × (p ≢ Idle)
+AdvanceAnswers A.Nothing p old new = (new ≡ old) × (p ≡ Idle)
+AdvanceAnswers A.Committed p old new = ⊥
 
 abbrev pub PublishAnswers : Publishes → Held → Held → Type 0
 PublishAnswers P.Published (Committed b) new = new ≡ Published b 0
@@ -60,6 +64,12 @@ PublishAnswers answer old new = ⊥
 abbrev pub IsNext : Held → Condensed → Type 0
 IsNext (Fetched b) plant = (b.first ≡ plant.panel.count + 1) × AllAdmitted plant (accepted_of b.entries)
 IsNext held plant = ⊥
+
+-- no batch waits for its commit
+abbrev pub IsFree : Held → Type 0
+IsFree (Fetched b) = ⊥
+IsFree (Failed b) = ⊥
+IsFree held = Unit {0}
 
 -- all verdicts of the published batch are released
 abbrev pub IsDone : Held → Type 0

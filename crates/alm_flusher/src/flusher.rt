@@ -9,12 +9,12 @@ ghost use Rattle.alm_rings.specs.declared.receipt.Receipt.{Receipt};
 ghost use Rattle.alm_rings.specs.Batches.{fetched_of};
 ghost use Rattle.alm_rings.specs.Placed.{released_by};
 ghost use Rattle.alm_board.specs.Fronts.{IsFront};
-ghost use Rattle.alm_keeper.specs.declared.phase.Phase.TheVariants.{Committing, Copying};
+ghost use Rattle.alm_keeper.specs.declared.phase.Phase.TheVariants.{Committing};
 ghost use Rattle.alm_flusher.specs.HeldBatch.{batches_of, waiting_of, ready_of, stored_of, shown_of, told_of};
 ghost use Rattle.alm_flusher.specs.Replies.{replies_in, replies_to};
 
 use crate::advance::Advance;
-use crate::commit::advance_by;
+use crate::commit::{advance_by, few, go_on};
 use crate::fetch::Fetch;
 use crate::held::Held;
 use crate::publishes::Publishes;
@@ -61,7 +61,6 @@ pub struct Flusher<K: Store, T: Told + Drop, B: Board<Told = T>> {
     pub ghost numbers: { (s k : ℕ) (r : Receipt _ _) → slice_get (released_by s outboxes.items) k ≡ Some r → r.number ≤ number },
     pub ghost idle: { accepted_of (waiting_of held) ≡ [] → K.phase store ≢ Committing },
     pub ghost next: { K.phase store ≡ Committing → K.next store ≡ run (K.stored store) (accepted_of (waiting_of held)) },
-    pub ghost copy: { K.phase store ≡ Copying → K.next store ≡ K.stored store },
     /// What is being committed is admitted, and what is to be published.
     pub ghost admitted: { K.phase store ≡ Committing → admits_all (K.stored store) (accepted_of (waiting_of held)) ≡ true },
     pub ghost ready: { admits_all (run (B.base board) (B.published board)) (accepted_of (ready_of held)) ≡ true },
@@ -84,10 +83,11 @@ fn number_of(verdict: Verdict, before: u64, count: u64) -> u64
 }
 
 impl<K: Store, T: Told + Drop, B: Board<Told = T>> Flusher<K, T, B> {
-    ghost use Rattle.std.specs.Prelude.{◌≡◌, ◌≢◌, ◌↔◌, ◌⊎◌, ◌+◌, ◌<◌, ◌≤◌, ◌++◌, [], ℕ, List, length, MatchBool, false, slice_get, Some, None, IsSome, IsTrue};
+    ghost use Rattle.std.specs.Prelude.{◌≡◌, ◌≢◌, ◌↔◌, ◌⊎◌, ◌+◌, ◌*◌, ◌<◌, ◌≤◌, ◌++◌, [], ℕ, List, length, MatchBool, false, slice_get, Some, None, IsSome, IsTrue};
     ghost use Rattle.alm_disk.specs.Failures.{HasFailed};
     ghost use Rattle.alm_keeper.specs.Calls.{IsCall};
-    ghost use Rattle.alm_store.specs.Advancing.{IsCalls};
+    ghost use Rattle.alm_keeper.specs.Pace.{KeepsPace};
+    ghost use Rattle.alm_store.specs.Advancing.{IsCalls, IsOpen, Same, SameWords};
     ghost use Rattle.alm_types.specs.declared.action.Action.{Action};
     ghost use Rattle.alm_rings.specs.Batches.{AreBatchEnds, SameSealEnds, SameFetchEnds, sealed_of, fetched_of, given_of, emptied_of, empties_in, coming_in, places_of, places_in};
     ghost use Rattle.alm_rings.specs.Placed.{AreApart, outbox_at, released_by, room_by, SameOutboxAt};
@@ -95,7 +95,7 @@ impl<K: Store, T: Told + Drop, B: Board<Told = T>> Flusher<K, T, B> {
     ghost use Rattle.rtrb.specs.Ring.{IsPair};
     ghost use Rattle.alm_rings.specs.declared.outbox.Outbox.{Outbox};
     ghost use Rattle.alm_flusher.specs.Advances.{IsSure, Within};
-    ghost use Rattle.alm_flusher.specs.Flushes.{FetchAnswers, AdvanceAnswers, PublishAnswers, ReleaseAnswers, GivesBack, IsDone, IsNext};
+    ghost use Rattle.alm_flusher.specs.Flushes.{FetchAnswers, AdvanceAnswers, PublishAnswers, ReleaseAnswers, GivesBack, IsDone, IsFree, IsNext};
     ghost use Rattle.alm_flusher.specs.HeldBatch.{next_of, to_commit};
     ghost use Rattle.alm_rings.specs.declared.receipt.Receipt.{Receipt};
 
@@ -144,12 +144,25 @@ impl<K: Store, T: Told + Drop, B: Board<Told = T>> Flusher<K, T, B> {
     /// Fetches the next sealed batch.
     pub fn fetch(&mut self) -> Fetch
         ensures ends { SameFetchEnds self.old.fetch self.new.fetch × (given_of self.new.fetch ≡ given_of self.old.fetch) × (places_in self.new.fetch ≡ places_in self.old.fetch) }
-        ensures same { (self.new.store ≡ self.old.store) × (self.new.board ≡ self.old.board) × (self.new.outboxes ≡ self.old.outboxes) × (self.new.before.value ≡ self.old.before.value) }
+        ensures same { (self.new.board ≡ self.old.board) × (self.new.outboxes ≡ self.old.outboxes) × (self.new.before.value ≡ self.old.before.value) }
+        ensures kept { result ≢ Fetch.Got → self.new.store ≡ self.old.store }
+        // The store counts what a checkpoint writes from here on; else it is as before.
+        ensures marked { result ≡ Fetch.Got → K.written self.new.store ≡ 0 }
+        ensures honest { K.honest self.old.store ↔ K.honest self.new.store }
+        ensures store { Same (K.device self.old.store) (K.device self.new.store) (K.stored self.old.store) (K.stored self.new.store) (K.failures self.old.store) (K.failures self.new.store) }
+        ensures words { SameWords (K.phase self.old.store) (K.phase self.new.store) (K.next self.old.store) (K.next self.new.store) (K.left self.old.store) (K.left self.new.store) (K.used self.old.store) (K.used self.new.store) (K.segment self.old.store) (K.segment self.new.store) }
+        ensures takes { (actions : List Action) → (K.takes self.old.store actions ↔ K.takes self.new.store actions) × (K.will_take self.old.store actions ↔ K.will_take self.new.store actions) }
+        // A store that keeps its pace does so, and takes the batch where the half that stands is of the newest version.
+        ensures newest { K.newest self.old.store → K.newest self.new.store }
+        ensures pace { KeepsPace (K.segment self.old.store) (K.phase self.old.store) (K.used self.old.store) (K.written self.old.store) (K.going self.old.store) → KeepsPace (K.segment self.new.store) (K.phase self.new.store) (K.used self.new.store) (K.written self.new.store) (K.going self.new.store) }
+        ensures taken { result ≡ Fetch.Got → K.newest self.new.store → 452651 ≤ K.segment self.new.store → KeepsPace (K.segment self.new.store) (K.phase self.new.store) (K.used self.new.store) (K.written self.new.store) (K.going self.new.store) → K.takes self.new.store (to_commit self.new.held) }
         ensures answer { FetchAnswers result self.old.held self.new.held self.old.fetch self.new.fetch }
     {
         match self.held {
             Held::Nothing => match self.fetch.fetch() {
                 Some(batch) => {
+                    self.store.mark();
+                    few(&batch);
                     self.held = Held::Fetched(batch);
                     Fetch::Got
                 }
@@ -161,18 +174,34 @@ impl<K: Store, T: Told + Drop, B: Board<Told = T>> Flusher<K, T, B> {
 
     /// One step of the held batch's commit: at most one device call, and none for a batch without actions. A checkpoint comes
     /// first where the store doesn't take the batch. Once a commit has failed it fails for good.
+    ///
+    /// Where more than half of the segment is used behind a commit, a checkpoint is opened. It goes out in pieces: one before
+    /// each commit of a batch that is taken, and as long as no batch is to be committed one after the other.
     pub fn advance(&mut self) -> Advance
         ensures honest { K.honest self.old.store ↔ K.honest self.new.store }
         ensures same { (self.new.board ≡ self.old.board) × (self.new.outboxes ≡ self.old.outboxes) × (self.new.before.value ≡ self.old.before.value) × (self.new.fetch ≡ self.old.fetch) }
         ensures call { K.honest self.old.store → IsCalls (K.device self.old.store) (K.device self.new.store) }
         ensures one { K.honest self.old.store → 0 < length (to_commit self.old.held) → result ≢ Advance.Failed → IsCall (K.device self.old.store) (K.device self.new.store) }
-        ensures none { to_commit self.old.held ≡ [] → self.new.store ≡ self.old.store }
+        ensures more { K.honest self.old.store → result ≡ Advance.More → IsCall (K.device self.old.store) (K.device self.new.store) }
+        ensures none { to_commit self.old.held ≡ [] → result ≡ Advance.Committed → (K.device self.new.store ≡ K.device self.old.store) × (K.failures self.new.store ≡ K.failures self.old.store) }
+        ensures nothing { result ≡ Advance.Nothing → self.new.store ≡ self.old.store }
         // A checkpoint only where the store doesn't take the batch.
         ensures taken { K.phase self.old.store ≡ Phase.Idle → K.takes self.old.store (to_commit self.old.held) → result ≡ Advance.More → K.phase self.new.store ≡ Phase.Committing }
-        // A batch is committed in a bounded number of steps: 12 where the store is idle.
-        ensures ends { (m : ℕ) → result ≡ Advance.More → Within (m + 1) (K.phase self.old.store) (K.left self.old.store) (K.takes self.old.store (to_commit self.old.held)) (K.will_take self.old.store (to_commit self.old.held)) (length (to_commit self.old.held))
+        // Behind a commit a checkpoint is open where more than half of the segment is used, but for the last epoch.
+        ensures opens { result ≡ Advance.Committed → K.honest self.old.store → ¬ (K.spent (K.device self.new.store)) → K.segment self.new.store < 2 * K.used self.new.store → IsOpen (K.phase self.new.store) }
+        // A piece goes out before each commit within a checkpoint,
+        ensures between { K.phase self.old.store ≡ Phase.Paused → K.phase self.new.store ≡ Phase.Committing → 0 < K.written self.old.store }
+        // and no more than one while a batch waits that was taken as it was fetched.
+        ensures waits { result ≡ Advance.More → K.takes self.old.store (to_commit self.old.held) → 0 < length (to_commit self.old.held) → K.written self.old.store ≤ 65536 → K.written self.new.store ≤ 65536 }
+        ensures still { result ≡ Advance.More → K.takes self.old.store (to_commit self.old.held) → 0 < length (to_commit self.old.held) → K.phase self.new.store ≢ Phase.Committing → K.takes self.new.store (to_commit self.old.held) }
+        // So the store keeps its pace, and takes every batch, as long as epochs are left.
+        ensures newest { K.newest self.old.store → K.newest self.new.store }
+        ensures pace { result ≢ Advance.Failed → K.honest self.old.store → ¬ (K.spent (K.device self.new.store)) → K.newest self.old.store → 452651 ≤ K.segment self.old.store → KeepsPace (K.segment self.old.store) (K.phase self.old.store) (K.used self.old.store) (K.written self.old.store) (K.going self.old.store) → KeepsPace (K.segment self.new.store) (K.phase self.new.store) (K.used self.new.store) (K.written self.new.store) (K.going self.new.store) }
+        ensures segment { K.segment self.new.store ≡ K.segment self.old.store }
+        // A batch is committed in a bounded number of steps: 326 where the store is idle.
+        ensures ends { (m : ℕ) → result ≡ Advance.More → 0 < length (to_commit self.old.held) → Within (m + 1) (K.phase self.old.store) (K.left self.old.store) (K.takes self.old.store (to_commit self.old.held)) (K.will_take self.old.store (to_commit self.old.held)) (length (to_commit self.old.held))
             → Within m (K.phase self.new.store) (K.left self.new.store) (K.takes self.new.store (to_commit self.new.held)) (K.will_take self.new.store (to_commit self.new.held)) (length (to_commit self.new.held)) }
-        ensures at_rest { result ≡ Advance.Committed → ((to_commit self.old.held ≡ []) × (self.new.store ≡ self.old.store)) ⊎ (K.phase self.new.store ≡ Phase.Idle) }
+        ensures at_rest { result ≡ Advance.Committed → K.phase self.new.store ≢ Phase.Committing }
         ensures count { K.failures self.old.store ≤ K.failures self.new.store }
         ensures going { K.phase self.old.store ≢ Phase.Stopped → result ≢ Advance.Failed → K.phase self.new.store ≢ Phase.Stopped }
         ensures held { AdvanceAnswers result (K.phase self.old.store) self.old.held self.new.held }
@@ -180,6 +209,8 @@ impl<K: Store, T: Told + Drop, B: Board<Told = T>> Flusher<K, T, B> {
         ensures sure { result ≡ Advance.Failed → IsSure (K.phase self.old.store) (K.takes self.old.store (to_commit self.old.held)) → IsNext self.old.held (K.stored self.old.store) → HasFailed (K.failures self.old.store) (K.failures self.new.store) }
         // The first failure has a cause.
         ensures cause { result ≡ Advance.Failed → K.honest self.old.store → K.phase self.old.store ≢ Phase.Stopped → ¬ (K.spent (K.device self.old.store)) → IsNext self.old.held (K.stored self.old.store) → HasFailed (K.failures self.old.store) (K.failures self.new.store) }
+        ensures late { result ≡ Advance.Failed → K.honest self.old.store → K.phase self.old.store ≢ Phase.Stopped → ¬ (K.spent (K.device self.new.store)) → IsNext self.old.held (K.stored self.old.store) → HasFailed (K.failures self.old.store) (K.failures self.new.store) }
+        ensures broken { result ≡ Advance.Failed → K.phase self.old.store ≢ Phase.Stopped → IsFree self.old.held → HasFailed (K.failures self.old.store) (K.failures self.new.store) }
     {
         match replace(&mut self.held, Held::Nothing) {
             Held::Fetched(batch) => {
@@ -198,7 +229,7 @@ impl<K: Store, T: Told + Drop, B: Board<Told = T>> Flusher<K, T, B> {
             }
             held => {
                 self.held = held;
-                Advance::Nothing
+                go_on(&mut self.store)
             }
         }
     }

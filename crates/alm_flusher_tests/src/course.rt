@@ -120,8 +120,20 @@ pub fn play(
     calls: usize,
     course: &[(Call, Outcome)],
 ) -> Result<Played, AllocError> {
-    let mut answer = Answer::new(alloc);
     let store = open_worked(alloc, size, calls)?;
+    play_over(alloc, store, course)
+}
+
+/// Makes these calls on new parts over a store at rest.
+pub fn play_over(
+    alloc: Global,
+    store: Keeper<MemDisk>,
+    course: &[(Call, Outcome)],
+) -> Result<Played, AllocError>
+    requires idle { store.stage ≡ Stage.Idle }
+    requires limit { store.stored.plant.panel.count ≤ 2 ^ 48 }
+{
+    let mut answer = Answer::new(alloc);
     let mut parts = Parts::new(alloc, open_slots(alloc)?, store)?;
     let differs_at = parts.differs_at(course, &mut answer);
     let keeper = parts.flusher.into_keeper();

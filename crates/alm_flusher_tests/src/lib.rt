@@ -2,13 +2,18 @@
 //! ends of all 18 slots, over a keeper of a formatted device.
 //!
 //! [`parts`] has them all, and is proved with the crate itself. Expected answers are those of the worked rows, or counted by
-//! hand: a frame of one action has 35 bytes, a commit is four device calls, and so is a checkpoint.
+//! hand: a frame of one action has 35 bytes, a commit is four device calls, and so is a checkpoint of one piece where the other
+//! half's gate reads closed.
 #![tactic(auto)]
 
 #[cfg(test)]
 mod course;
+#[cfg(test)]
+mod migration;
 pub mod opened;
 pub mod parts;
+#[cfg(test)]
+mod pieces;
 #[cfg(test)]
 mod rows;
 #[cfg(test)]

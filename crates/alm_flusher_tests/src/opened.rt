@@ -2,8 +2,9 @@
 
 ghost use Rattle.std.specs.Prelude.{◌≡◌, ◌≤◌, ◌^◌, IfOk};
 
+use alm_codec::Version;
 use alm_disk::Disk;
-use alm_keeper::{Keeper, Stage, format, open_store};
+use alm_keeper::{Keeper, Stage, format_as, open_store};
 use alm_types::Table;
 use std::alloc::{AllocError, Global};
 
@@ -16,7 +17,20 @@ pub fn open_formatted<D: Disk + Drop>(
     ensures idle { IfOk result (λ keeper. keeper.stage ≡ Stage.Idle) }
     ensures limit { IfOk result (λ keeper. keeper.stored.plant.panel.count ≤ 2 ^ 48) }
 {
-    match format(alloc, disk, table) {
+    open_formatted_as(alloc, table, disk, Version::V02)
+}
+
+/// The same of a device that is formatted in a version.
+pub fn open_formatted_as<D: Disk + Drop>(
+    alloc: Global,
+    table: &Table,
+    disk: D,
+    version: Version,
+) -> Result<Keeper<D>, AllocError>
+    ensures idle { IfOk result (λ keeper. keeper.stage ≡ Stage.Idle) }
+    ensures limit { IfOk result (λ keeper. keeper.stored.plant.panel.count ≤ 2 ^ 48) }
+{
+    match format_as(alloc, disk, table, version) {
         Ok(disk) => reopen(alloc, disk),
         Err(_) => Err(AllocError),
     }
@@ -31,4 +45,25 @@ pub fn reopen<D: Disk + Drop>(alloc: Global, disk: D) -> Result<Keeper<D>, Alloc
         Ok(keeper) => Ok(keeper),
         Err(_) => Err(AllocError),
     }
+}
+
+/// What a device opens as.
+#[derive(Clone, Copy, Debug, PartialEq, Eq)]
+pub struct Standing {
+    pub epoch: u64,
+    pub count: u64,
+    /// How many bytes of the segment its frames take.
+    pub used: u64,
+}
+
+/// The same of a device, which is let go.
+pub fn stands_as<D: Disk + Drop>(alloc: Global, disk: D) -> Result<Standing, AllocError> {
+    let keeper = reopen(alloc, disk)?;
+    let found = Standing {
+        epoch: keeper.epoch(),
+        count: keeper.count(),
+        used: keeper.used(),
+    };
+    drop(keeper);
+    Ok(found)
 }

@@ -267,7 +267,7 @@ fn keeps_the_reply(alloc: Global, courses: &Courses) -> Result<bool, AllocError>
     let store = open_worked(alloc, DEVICE, 64)?;
     let mut parts = Parts::new(alloc, ends, store)?;
     let fills = fills_the_ring(&mut parts, &mut answers, &mut deaf, courses, &mut shown);
-    drop(parts.flusher.into_keeper().into_disk());
+    drop(parts);
     Ok(fills)
 }
 

@@ -47,13 +47,17 @@ fn stored(slot: Slot, moment: &Moment, steps: u64) -> [(Call, Outcome); 4] {
 }
 
 #[test]
-fn a_checkpoint_comes_first_where_there_is_no_room(rt: HostRuntime) -> Result<(), Fail> {
+fn a_checkpoint_is_opened_where_more_than_half_is_used(rt: HostRuntime) -> Result<(), Fail> {
     let slot = Slot::new(17).ok_or("slot")?;
     let mut course = Vec::new(rt.alloc());
     for second in 1..=120 {
         let moment = Moment::new(second).ok_or("moment")?;
-        // Before the 118th comes a checkpoint, of four device calls more.
-        let steps = if second == 118 { 8 } else { 4 };
+        // The 59th commit opens a checkpoint of four calls, and the 59th behind that one another, which closes a gate first.
+        let steps = match second {
+            60 => 8,
+            119 => 10,
+            _ => 4,
+        };
         course.extend_from_slice(&sealed(slot, &moment))?;
         course.extend_from_slice(&stored(slot, &moment, steps))?;
     }
@@ -64,7 +68,7 @@ fn a_checkpoint_comes_first_where_there_is_no_room(rt: HostRuntime) -> Result<()
         ..
     } = played;
     let found = reopened(rt.alloc(), disk)?;
-    assert_eq!(rt; (differs_at, found), (None, (120, 2)));
+    assert_eq!(rt; (differs_at, found), (None, (120, 3)));
     Ok(())
 }
 

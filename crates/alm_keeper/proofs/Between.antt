@@ -36,7 +36,7 @@ loose_blind a n (inl zero) b c is beside = subst (Ready a) (sym (ext_get_or 0 c 
 loose_blind a n (inr x) b c is beside = ready_blind a n x.0 x.1 b c is beside
 
 module _ (c : Cut) (plant : Condensed) (actions : List Action) (gate : ℕ) (tail : List ℕ) (stores : Stores c plant) (frame : IsFrame c.epoch (plant.panel.count + 1) actions) (admitted : AreAdmitted plant actions)
-    (closed : is_open gate ≡ false) (reaches : Reaches c (gate ∷ tail)) (takes : Takes (account_of c plant) (length actions)) where
+    (closed : is_open gate ≡ false) (reaches : Reaches c (gate ∷ tail)) (takes : Takes (account_of c plant) actions) where
   abbrev size : ℕ
   size = 19 + 16 * length actions
 
@@ -82,16 +82,16 @@ module _ (c : Cut) (plant : Condensed) (actions : List Action) (gate : ℕ) (tai
       record { images = images; stands = (guarded loose is, gate, eqb-false gate 165 closed, subst (Rests (went (account_of c plant) loose) state) here rests) }
 
 -- a commit is begun, with or without an open checkpoint
-pub begins : (a : Account) (actions : List Action) (loose : ℕ) (state : DeviceState) (b : List ℕ) → Loosely a loose → IsFrame a.epoch (a.plant.panel.count + 1) actions → AreAdmitted a.plant actions → Takes a (length actions)
+pub begins : (a : Account) (actions : List Action) (loose : ℕ) (state : DeviceState) (b : List ℕ) → Loosely a loose → IsFrame a.epoch (a.plant.panel.count + 1) actions → AreAdmitted a.plant actions → Takes a actions
     → ((x : List ℕ) → IsLeft state x → Ready a x) → Ready a b → Rests (went a loose) state b
     → Kept (went a loose) (Ready a) (Ready (committed a actions)) Body state a.gate (frame_body a.epoch (a.plant.panel.count + 1) actions)
 begins a actions loose state b is frame admitted takes images r rests =
     subst (λ (y : Account). Kept (went y loose) (Ready y) (Ready (committed y actions)) Body state y.gate (frame_body y.epoch (y.plant.panel.count + 1) actions)) (sym r.is)
-    (begun r.cut a.plant actions r.gate r.tail r.stores (subst (λ (y : Account). IsFrame y.epoch (y.plant.panel.count + 1) actions) r.is frame) admitted r.closed r.reaches (subst (λ (y : Account). Takes y (length actions)) r.is takes)
+    (begun r.cut a.plant actions r.gate r.tail r.stores (subst (λ (y : Account). IsFrame y.epoch (y.plant.panel.count + 1) actions) r.is frame) admitted r.closed r.reaches (subst (λ (y : Account). Takes y actions) r.is takes)
     loose (subst (λ (y : Account). Loosely y loose) r.is is) state b r.text (subst (λ (y : Account). (x : List ℕ) → IsLeft state x → Ready y x) r.is images) (subst (λ (y : Account). Rests (went y loose) state b) r.is rests))
 
 -- in a pause
-pub between : (a : Account) (k : Copy) (actions : List Action) (state : DeviceState) → IsCopy a k → a.gate + 1 ≤ end_of a → Paused a k state → IsFrame a.epoch (a.plant.panel.count + 1) actions → AreAdmitted a.plant actions → Takes a (length actions)
+pub between : (a : Account) (k : Copy) (actions : List Action) (state : DeviceState) → IsCopy a k → a.gate + 1 ≤ end_of a → Paused a k state → IsFrame a.epoch (a.plant.panel.count + 1) actions → AreAdmitted a.plant actions → Takes a actions
     → Kept (went a k.out) (Ready a) (Ready (committed a actions)) Body state a.gate (frame_body a.epoch (a.plant.panel.count + 1) actions)
 between a k actions state copy gate p frame admitted takes =
     begins a actions k.out state p.bytes (inr (copy.shut, omega (arith, copy.left, run_fits a k copy gate, length-append (open_text a k) (0 ∷ [])))) frame admitted takes p.images p.ready p.rests

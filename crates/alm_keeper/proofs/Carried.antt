@@ -1,6 +1,7 @@
 -- What a commit between pieces carries over: what went out, and the copy.
 use Rattle.std.proofs.Common.{◌≡◌, ℕ, ◌+◌, ◌*◌, ◌^◌, ◌≤◌, ◌<◌, Bool, false, List, [], ◌∷◌, ◌++◌, length, take, drop, Result, Ok, sym, ◌∙◌, ap, subst, arith, append_assoc, length-append, length-drop}
 use Rattle.std.proofs.lemmas.List.{ext_get_or, get_or-take, get_or-drop, length-take-le, take-append-le}
+use Rattle.alm_codec.specs.declared.version.Version.TheVariants.{V02}
 use Rattle.alm_types.specs.declared.action.Action.{Action}
 use Rattle.alm_model.specs.Plant.{Condensed}
 use Rattle.alm_model.specs.Step.{run}
@@ -54,8 +55,13 @@ module _ (a : Account) (k : Copy) (actions : List Action) (copy : IsCopy a k) wh
   counted : a.plant.panel.count ≡ k.base.panel.count + length (actions_in k.since)
   counted = sym (ap (λ (q : Condensed). q.panel.count) copy.runs) ∙ run_count k.base (actions_in k.since)
 
-  frame : List ℕ
+  pub frame : List ℕ
   frame = 165 ∷ frame_text (a.epoch + 1) (k.base.panel.count + length (actions_in k.since) + 1) actions
+
+  -- its first number is the next one
+  pub frame_is : frame ≡ 165 ∷ frame_text (a.epoch + 1) (a.plant.panel.count + 1) actions
+  unfolding frame
+  frame_is = ap (λ (n : ℕ). 165 ∷ frame_text (a.epoch + 1) (n + 1) actions) (sym counted)
 
   since_grows : since_text (committed a actions) (copied k actions) ≡ since_text a k ++ frame
   unfolding frame
@@ -66,9 +72,9 @@ module _ (a : Account) (k : Copy) (actions : List Action) (copy : IsCopy a k) wh
   since_long = omega (arith, ap length since_grows, length-append (since_text a k) frame, frame_long (a.epoch + 1) (k.base.panel.count + length (actions_in k.since) + 1) actions)
 
   abbrev start : List ℕ
-  start = half_head_text a.layout (a.epoch + 1) k.base.panel.count ++ image_text k.base
+  start = half_head_text a.layout V02 (a.epoch + 1) k.base.panel.count ++ image_text k.base
 
-  open_grows : open_text (committed a actions) (copied k actions) ≡ open_text a k ++ frame
+  pub open_grows : open_text (committed a actions) (copied k actions) ≡ open_text a k ++ frame
   open_grows = ap (λ (t : List ℕ). start ++ t) since_grows ∙ sym (append_assoc start (since_text a k) frame)
 
   -- what went out is the front of the longer run as well

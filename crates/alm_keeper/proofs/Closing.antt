@@ -58,7 +58,7 @@ module _ (c : Cut) (plant : Condensed) (gate : ℕ) (tail : List ℕ) (stores : 
       let place : length (front c) ≡ length (front (with_other c (0 ∷ body))) = omega (arith, gate_at c plant (gate ∷ tail) stores reaches, gate_at (with_other c (0 ∷ body)) plant (gate ∷ tail) (with_gate 0) reaches) in
       record {
         cut = with_other c (0 ∷ body);
-        is = λ i. record { layout = c.layout; half = c.half; other_open = false; epoch = c.epoch; gate = place i; plant = plant };
+        is = λ i. record { layout = c.layout; half = c.half; other_open = false; version = c.version; epoch = c.epoch; gate = place i; plant = plant };
         stores = with_gate 0;
         gate = gate;
         closed = closed;

@@ -26,7 +26,7 @@ pub body_long : (e n : ℕ) (actions : List Action) → length (frame_body e n a
 body_long e n actions = omega (arith, frame_long e n actions, length-append (frame_text e n actions) (0 ∷ []))
 
 module _ (c : Cut) (plant : Condensed) (actions : List Action) (gate : ℕ) (tail : List ℕ) (stores : Stores c plant) (frame : IsFrame c.epoch (plant.panel.count + 1) actions) (admitted : AreAdmitted plant actions)
-    (closed : is_open gate ≡ false) (reaches : Reaches c (gate ∷ tail)) (takes : Takes (account_of c plant) (length actions)) where
+    (closed : is_open gate ≡ false) (reaches : Reaches c (gate ∷ tail)) (takes : Takes (account_of c plant) actions) where
   abbrev pub n : ℕ
   n = 19 + 16 * length actions
 
@@ -34,7 +34,7 @@ module _ (c : Cut) (plant : Condensed) (actions : List Action) (gate : ℕ) (tai
   text = frame_body c.epoch (plant.panel.count + 1) actions
 
   pub fits : n ≤ length tail
-  fits = omega (arith, takes, gate_at c plant (gate ∷ tail) stores reaches)
+  fits = omega (arith, takes.0, gate_at c plant (gate ∷ tail) stores reaches)
 
   pub room_long : length (take n tail) ≡ n
   room_long = length-take-le n tail fits
@@ -49,7 +49,7 @@ module _ (c : Cut) (plant : Condensed) (actions : List Action) (gate : ℕ) (tai
   t = frame_text c.epoch (plant.panel.count + 1) actions
 
   grown : Stores (with_frame c actions) (run plant actions)
-  grown = stores_pushed c plant actions stores frame admitted
+  grown = stores_pushed c plant actions stores frame takes.1 admitted
 
   grown_reaches : Reaches (with_frame c actions) (0 ∷ drop n tail)
   grown_reaches = reaches_pushed c plant actions (0 ∷ drop n tail) stores (omega (arith, reaches, left_long, length-append (165 ∷ t) (0 ∷ drop n tail), frame_long c.epoch (plant.panel.count + 1) actions))

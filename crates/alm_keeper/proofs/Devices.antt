@@ -5,6 +5,7 @@ use Rattle.std.specs.Int.{w16, w64, to_be_bytes}
 use Rattle.alm_types.specs.declared.action.Action.{Action}
 use Rattle.alm_model.specs.Plant.{Condensed}
 use Rattle.alm_codec.specs.Frames.{frame_text}
+use Rattle.alm_codec.specs.declared.version.Version.{Version}
 use Rattle.alm_codec.specs.Image.{image_text}
 use Rattle.alm_codec.specs.Actions.{action_text}
 use Rattle.alm_codec.proofs.Frames.{flat_len}
@@ -16,18 +17,18 @@ use Rattle.alm_checkpoint.specs.Headers.{half_head_text}
 use Rattle.alm_checkpoint.specs.Cut.{Cut, Stores, half_text}
 use Rattle.alm_checkpoint.proofs.Shown.{image_is_long}
 
-pub head_long : (l : Layout) (epoch count : ℕ) → length (half_head_text l epoch count) ≡ 24
-head_long l epoch count = refl
+pub head_long : (l : Layout) (version : Version) (epoch count : ℕ) → length (half_head_text l version epoch count) ≡ 24
+head_long l version epoch count = refl
 
 pub frame_long : (epoch first : ℕ) (actions : List Action) → length (frame_text epoch first actions) ≡ 18 + 16 * length actions
 frame_long epoch first actions =
     omega (arith, flat_len actions, length-append (to_be_bytes w64 epoch ++ to_be_bytes w64 first ++ to_be_bytes w16 (length actions)) (flat_map action_text actions), wide64.len epoch, wide64.len first, wide16.len (length actions))
 
-pub half_long : (c : Cut) (plant : Condensed) → Stores c plant → length (half_text c.layout c.epoch c.base c.frames) ≡ 25 + image_size c.layout + length (frames_text c.epoch c.base.panel.count c.frames)
+pub half_long : (c : Cut) (plant : Condensed) → Stores c plant → length (half_text c.layout c.version c.epoch c.base c.frames) ≡ 25 + image_size c.layout + length (frames_text c.epoch c.base.panel.count c.frames)
 half_long c plant stores = omega (
   arith,
   image_is_long c.layout c.base stores.sizes stores.image,
-  head_long c.layout c.epoch c.base.panel.count,
-  length-append ((165 ∷ half_head_text c.layout c.epoch c.base.panel.count) ++ image_text c.base) (frames_text c.epoch c.base.panel.count c.frames),
-  length-append (165 ∷ half_head_text c.layout c.epoch c.base.panel.count) (image_text c.base),
+  head_long c.layout c.version c.epoch c.base.panel.count,
+  length-append ((165 ∷ half_head_text c.layout c.version c.epoch c.base.panel.count) ++ image_text c.base) (frames_text c.epoch c.base.panel.count c.frames),
+  length-append (165 ∷ half_head_text c.layout c.version c.epoch c.base.panel.count) (image_text c.base),
 )

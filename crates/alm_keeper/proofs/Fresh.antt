@@ -2,6 +2,10 @@
 use Rattle.std.proofs.Common.{◌≡◌, inl, inr, ⊎_elim, ℕ, suc, ◌+◌, ◌-◌, ◌≤◌, true, false, leb, List, [], ◌∷◌, ◌++◌, length, take, drop, refl, sym, ◌∙◌, ap, subst, arith, append_assoc, length-append, length-drop, take-append-drop}
 use Rattle.std.proofs.lemmas.Bool.{leb-true, le-leb, and_parts, and_from}
 use Rattle.std.proofs.lemmas.List.{append-nil, length-take-le, take_at, drop_at, length-replicate}
+use Rattle.std.proofs.lemmas.List.Elements.{All-nil}
+use Rattle.alm_codec.specs.Versions.{IsBorne}
+use Rattle.alm_codec.specs.declared.version.Version.{Version}
+use Rattle.alm_codec.specs.declared.version.Version.TheVariants.{V01, V02}
 use Rattle.alm_types.specs.Tables.{Listing, IsTable}
 use Rattle.alm_model.specs.Plant.{Condensed}
 use Rattle.alm_model.specs.New.{new_plant, at_rest}
@@ -12,11 +16,11 @@ use Rattle.alm_disk.specs.Device.{DeviceState}
 use Rattle.alm_checkpoint.specs.declared.layout.Layout.{Layout}
 use Rattle.alm_checkpoint.specs.declared.half.Half.TheVariants.{First, Second}
 use Rattle.alm_checkpoint.specs.Layouts.{half_at, half_len, image_size, device_len, is_rows, is_areas, is_segment}
-use Rattle.alm_checkpoint.specs.Headers.{header_text, half_head_text, of_rows}
+use Rattle.alm_checkpoint.specs.Headers.{header_text, half_head_text, of_rows, allows}
 use Rattle.alm_checkpoint.specs.Cut.{Cut, IsLayout, Stores, device_of}
 use Rattle.alm_checkpoint.proofs.Shown.{shown, shown_opens}
 use Rattle.alm_segment.proofs.Segments.{folds}
-use Rattle.alm_keeper.specs.Formatting.{IsLongest, IsNew, IsWritten, Leaves, LeavesOf, put, filled, opened, first_half}
+use Rattle.alm_keeper.specs.Formatting.{IsLongest, IsNew, IsWritten, Leaves, LeavesOf, put, filled, opened, first_half, IsOfVersion}
 
 -- ---- the bytes
 
@@ -148,9 +152,14 @@ regroup header head image s o r = simp append_assoc
 nils : (p q t b : List ℕ) → (p ++ q) ++ t ++ b ≡ ((p ++ []) ++ (q ++ [])) ++ t ++ b
 nils p q t b = λ i. (sym (append-nil p) i ++ sym (append-nil q) i) ++ t ++ b
 
+-- a half of the header's version stands under it
+own_version : (v : Version) → allows v v ≡ true
+own_version V01 = refl
+own_version V02 = refl
+
 -- the new device
 fresh : Layout → Condensed → List ℕ → List ℕ → Cut
-fresh l q other rest = record { layout = l; half = First; epoch = 1; base = q; frames = []; other = other; rest = rest }
+fresh l q other rest = record { layout = l; half = First; version = l.version; epoch = 1; base = q; frames = []; other = other; rest = rest }
 
 module _ (size : ℕ) (t : Listing) (l : Layout) (h : IsTable t) (k : IsLongest size t l) where
   rows_in : is_rows (length t.alarms) ≡ true
@@ -159,14 +168,14 @@ module _ (size : ℕ) (t : Listing) (l : Layout) (h : IsTable t) (k : IsLongest 
   areas_in : is_areas t.areas ≡ true
   areas_in = and_from (leb 1 t.areas) (leb t.areas 64) (le-leb 1 t.areas h.areas.0) (le-leb t.areas 64 h.areas.1)
 
-  by_limits : (is_segment l.segment ≡ true) × (leb (device_len (of_rows (length t.alarms) t.areas l.segment)) size ≡ true)
-  by_limits = and_parts (is_segment l.segment) (leb (device_len (of_rows (length t.alarms) t.areas l.segment)) size) k.fits
+  by_limits : (is_segment l.segment ≡ true) × (leb (device_len (of_rows (length t.alarms) t.areas l.segment V02)) size ≡ true)
+  by_limits = and_parts (is_segment l.segment) (leb (device_len (of_rows (length t.alarms) t.areas l.segment V02)) size) k.fits
 
   pub layout_in : IsLayout l
   layout_in = record { rows = subst (λ (n : ℕ). is_rows n ≡ true) (sym k.of_rows) rows_in; areas = subst (λ (n : ℕ). is_areas n ≡ true) (sym k.of_areas) areas_in; segment = by_limits.0 }
 
   pub fits_device : device_len l ≤ size
-  fits_device = omega (arith, k.of_rows, k.of_areas, leb-true (device_len (of_rows (length t.alarms) t.areas l.segment)) size by_limits.1)
+  fits_device = omega (arith, k.of_rows, k.of_areas, leb-true (device_len (of_rows (length t.alarms) t.areas l.segment V02)) size by_limits.1)
 
   pub some_segment : 1 ≤ l.segment
   some_segment = omega (arith, leb-true 4116 l.segment (and_parts (leb 4116 l.segment) (leb l.segment 16777216) by_limits.0).0)
@@ -178,13 +187,13 @@ module _ (size : ℕ) (t : Listing) (l : Layout) (h : IsTable t) (k : IsLongest 
   new_image = image_length (new_plant t) (new-keeps t h) ∙ (λ i. image_len (new_sizes.by_rows i) (new_sizes.by_areas i))
 
   abbrev body : List ℕ
-  body = half_head_text l 1 0 ++ image_text (new_plant t) ++ 0 ∷ []
+  body = half_head_text l l.version 1 0 ++ image_text (new_plant t) ++ 0 ∷ []
 
-  head_long : length (half_head_text l 1 0) ≡ 24
+  head_long : length (half_head_text l l.version 1 0) ≡ 24
   head_long = refl
 
   body_long : length body ≡ 25 + image_size l
-  body_long = omega (arith, new_image, head_long, length-append (half_head_text l 1 0 ++ image_text (new_plant t)) (0 ∷ []), length-append (half_head_text l 1 0) (image_text (new_plant t)))
+  body_long = omega (arith, new_image, head_long, length-append (half_head_text l l.version 1 0 ++ image_text (new_plant t)) (0 ∷ []), length-append (half_head_text l l.version 1 0) (image_text (new_plant t)))
 
   pub half_long : length (first_half l (new_plant t)) ≡ 26 + image_size l
   half_long = omega (arith, body_long)
@@ -194,11 +203,13 @@ module _ (size : ℕ) (t : Listing) (l : Layout) (h : IsTable t) (k : IsLongest 
   unfolding fresh
   fresh_stores o rest long = record {
     layout = layout_in;
+    version = own_version l.version;
     epoch = omega arith;
     image = record { rules = new-keeps t h; fits = omega arith; text = refl };
     sizes = new_sizes;
     count = omega arith;
     frames = tt;
+    borne = All-nil (IsBorne l.version);
     admitted = tt;
     runs = refl;
     size = omega (arith, long);
@@ -218,7 +229,7 @@ module _ (size : ℕ) (t : Listing) (l : Layout) (h : IsTable t) (k : IsLongest 
           base = new_plant t;
           spells = record { sizes = stores.sizes; image = stores.image };
           left = suc (length s);
-          folds = folds (new_plant t) 1 0 [] 0 s tt tt refl;
+          folds = folds l.version (new_plant t) 1 0 [] 0 s tt (All-nil (IsBorne l.version)) tt refl;
         };
         longest = k;
       }
@@ -226,8 +237,14 @@ module _ (size : ℕ) (t : Listing) (l : Layout) (h : IsTable t) (k : IsLongest 
   fresh_is : (s o rest : List ℕ) → (165 ∷ []) ++ (header_text l ++ (165 ∷ []) ++ (body ++ (s ++ ((0 ∷ []) ++ (o ++ rest))))) ≡ device_of (fresh l (new_plant t) (0 ∷ o) rest) (0 ∷ s)
   unfolding fresh
   fresh_is s o rest =
-      regroup (header_text l) (half_head_text l 1 0) (image_text (new_plant t)) s (0 ∷ o) rest
-      ∙ nils (165 ∷ header_text l) (165 ∷ half_head_text l 1 0 ++ image_text (new_plant t)) (0 ∷ s) ((0 ∷ o) ++ rest)
+      regroup (header_text l) (half_head_text l l.version 1 0) (image_text (new_plant t)) s (0 ∷ o) rest
+      ∙ nils (165 ∷ header_text l) (165 ∷ half_head_text l l.version 1 0 ++ image_text (new_plant t)) (0 ∷ s) ((0 ∷ o) ++ rest)
+
+  fresh_version : (s o rest : List ℕ) → length s + 1 ≡ l.segment → length o + 1 ≡ half_len l → IsOfVersion l.version (device_of (fresh l (new_plant t) (0 ∷ o) rest) (0 ∷ s))
+  unfolding fresh
+  fresh_version s o rest by_s by_o =
+      let c = fresh l (new_plant t) (0 ∷ o) rest in
+      record { opened = shown c (0 ∷ s); opens = shown_opens c (new_plant t) (0 ∷ s) (fresh_stores o rest by_o) (omega (arith, by_s)); of_header = refl; of_half = refl }
 
   new_cut : (x : List ℕ) (p : Pieces l x) → opened (filled l (header_text l) (0 ∷ body) x) ≡ (165 ∷ []) ++ (header_text l ++ (165 ∷ []) ++ (body ++ (p.s ++ ((0 ∷ []) ++ (p.o ++ p.r)))))
   new_cut x p =
@@ -236,6 +253,12 @@ module _ (size : ℕ) (t : Listing) (l : Layout) (h : IsTable t) (k : IsLongest 
 
   new_is : (x b : List ℕ) → b ≡ opened (filled l (header_text l) (0 ∷ body) x) → Pieces l x → IsNew size t b
   new_is x b is p = subst (IsNew size t) (sym (is ∙ new_cut x p ∙ fresh_is p.s p.o p.r)) (fresh_stands p.s p.o p.r p.by_s p.by_o)
+
+  version_is : (x b : List ℕ) → b ≡ opened (filled l (header_text l) (0 ∷ body) x) → Pieces l x → IsOfVersion l.version b
+  version_is x b is p = subst (IsOfVersion l.version) (sym (is ∙ new_cut x p ∙ fresh_is p.s p.o p.r)) (fresh_version p.s p.o p.r p.by_s p.by_o)
+
+  pub version_here : (b : List ℕ) → IsWritten size l (header_text l) (first_half l (new_plant t)) b → IsOfVersion l.version b
+  version_here b w = version_is w.before b w.is (pieces l w.before some_segment (omega (arith, fits_device, w.long)))
 
   pub new_here : (b : List ℕ) → IsWritten size l (header_text l) (first_half l (new_plant t)) b → IsNew size t b
   new_here b w = new_is w.before b w.is (pieces l w.before some_segment (omega (arith, fits_device, w.long)))

@@ -1,17 +1,15 @@
 -- What is kept of a device from one call to the next.
-use Rattle.std.proofs.Common.{◌≡◌, ◌⊎◌, inl, inr, ⊎_elim, ℕ, ◌+◌, ◌≤◌, Bool, false, List, [], ◌∷◌, ◌++◌, length, take, drop, Result, refl, sym, ◌∙◌, ap, subst, arith, length-append, if◌then◌else◌}
-use Rattle.std.proofs.lemmas.List.{append-nil, take_at}
-use Rattle.std.proofs.lemmas.Bool.{eq-eqb}
+use Rattle.std.proofs.Common.{◌≡◌, ◌⊎◌, inl, inr, ⊎_elim, ℕ, ◌+◌, ◌-◌, ◌≤◌, Bool, true, false, List, [], ◌∷◌, ◌++◌, length, take, drop, None, Some, Result, Ok, refl, sym, ◌∙◌, ap, subst, arith, append_assoc, length-append, ◌==◌, if◌then◌else◌}
+use Rattle.std.proofs.lemmas.List.{take_at, length-take-le}
+use Rattle.alm_codec.specs.declared.version.Version.TheVariants.{V02}
 use Rattle.alm_types.specs.declared.action.Action.{Action}
-use Rattle.alm_codec.specs.Frames.{frame_body}
-use Rattle.alm_codec.specs.Image.{image_text}
-use Rattle.alm_disk.specs.Device.{DeviceState, Writes}
+use Rattle.alm_codec.specs.Frames.{frame_body, frame_text}
+use Rattle.alm_disk.specs.Device.{DeviceState, IsImage, Writes}
 use Rattle.alm_disk.specs.declared.disk_fault.DiskFault.{DiskFault}
 use Rattle.alm_checkpoint.specs.declared.half.Half.{Half}
 use Rattle.alm_checkpoint.specs.declared.half.Half.TheVariants.{First, Second}
 use Rattle.alm_checkpoint.specs.declared.layout.Layout.{Layout}
-use Rattle.alm_checkpoint.specs.Layouts.{half_at, half_len, head_len, image_size, device_len}
-use Rattle.alm_checkpoint.specs.Headers.{half_head_text}
+use Rattle.alm_checkpoint.specs.Layouts.{half_at, half_len, device_len}
 use Rattle.alm_keeper.specs.declared.book.Book.{Book}
 use Rattle.alm_keeper.specs.declared.stage.Stage.{Stage}
 use Rattle.alm_keeper.specs.declared.stage.Stage.TheVariants.{Idle, Close, CloseSync, Body, BodySync, Gate, GateSync, Stopped}
@@ -19,124 +17,160 @@ use Rattle.alm_keeper.specs.declared.progress.Progress.{Progress}
 use Rattle.alm_keeper.specs.declared.progress.Progress.TheVariants.{More, Done, Failed}
 use Rattle.alm_keeper.specs.declared.stage.Work.{Work}
 use Rattle.alm_keeper.specs.declared.stage.Work.TheVariants.{Commit, Checkpoint}
-use Rattle.alm_keeper.specs.Stages.{IsWorking, following, open_after, During}
-use Rattle.alm_keeper.specs.Stand.{Holds, Ready, Account, other_at, committed, turned, checkpoint_text}
-use Rattle.alm_keeper.specs.Piecewise.{fresh, open_text, run_text, turned_by, sent}
-use Rattle.alm_keeper.specs.Phases.{UnderWay, Rest, Pause, End, KeptIn, StageCall, Call, DuringIn, next_work, next_account, shut}
-use Rattle.alm_keeper.specs.Keeping.{account, done_with, next_of, next, begun, InOrder, GoesOn, under_way, KeptBy, Keeps, PassesOn, MayLeave, Ends}
+use Rattle.alm_keeper.specs.Stages.{IsWorking, following, sent_stage, rest_stage, rest_work, During}
+use Rattle.alm_keeper.specs.Stand.{Holds, Ready, Account, other_at, committed, turned}
+use Rattle.alm_keeper.specs.Piecewise.{Copy, IsCopy, open_text, run_text, turned_by, copied, sent}
+use Rattle.alm_keeper.specs.Phases.{UnderWay, Rest, Shut, ShutSync, Pause, Frame, End, KeptIn, StageCall, Call, DuringIn, next_work, next_account, shut}
+use Rattle.alm_keeper.specs.Keeping.{account, run_in, piece_of, done_by, next_of, next, InOrder, Closes, Turns, Grows, GrowsWhere, GoesOn, sent_by, alone, beside, at_out, KeptBy, Keeps, PassesBy, PassesOn, MayLeave, Ends}
+use Rattle.alm_keeper.proofs.Carried.{open_grows, frame_is}
 use Rattle.alm_keeper.proofs.Commit.{ready_holds}
-use Rattle.alm_keeper.proofs.Order.{IsClosing, closing, copies, image_size_is}
+use Rattle.alm_keeper.proofs.Order.{Possible, possible, opened}
 use Rattle.alm_keeper.proofs.Phases.{advances}
-
-abbrev IsCheckpoint : Work → Type 0
-IsCheckpoint Checkpoint = Unit {0}
-IsCheckpoint Commit = ⊥
 
 -- both halves lie on the device
 pub half_within : (l : Layout) (h : Half) (size : ℕ) → device_len l ≤ size → half_at l h + half_len l ≤ size
 half_within l First size fits = omega (arith, fits)
 half_within l Second size fits = omega (arith, fits)
 
--- ---- a checkpoint in one piece
-
--- its run is the body of the other half
-pub run_is : (a : Account) → run_text a (fresh a) ≡ checkpoint_text a
-run_is a = ap (λ (l : List ℕ). l ++ 0 ∷ []) (append-nil (half_head_text a.layout (a.epoch + 1) a.plant.panel.count ++ image_text a.plant))
-
-pub turned_is : (a : Account) → length (image_text a.plant) ≡ image_size a.layout → turned_by a (fresh a) ≡ turned a
-turned_is a image = ap (λ (gate : ℕ). record (turned a) { gate = gate }) place
+-- a run by its length
+pub turned_is : (a : Account) (k : Copy) (n : ℕ) → length (run_text a k) ≡ n → turned_by a k ≡ turned a n
+turned_is a k n long = ap (λ (gate : ℕ). record (turned a n) { gate = gate }) place
   where
-    head : length (half_head_text a.layout (a.epoch + 1) a.plant.panel.count) ≡ 24
-    head = refl
+    place : other_at a + 1 + length (open_text a k) ≡ other_at a + n
+    place = omega (arith, long, length-append (open_text a k) (0 ∷ []))
 
-    place : other_at a + 1 + length (open_text a (fresh a)) ≡ other_at a + head_len + image_size a.layout
-    place = omega (
-      arith,
-      image,
-      head,
-      length-append (half_head_text a.layout (a.epoch + 1) a.plant.panel.count ++ image_text a.plant) [],
-      length-append (half_head_text a.layout (a.epoch + 1) a.plant.panel.count) (image_text a.plant),
-    )
-
--- all of it goes out at once
-all_of : (text : List ℕ) → take (length text) (drop 0 text) ≡ text
-all_of text = ap (take (length text)) (sym (append-nil text)) ∙ take_at text [] (length text) refl
-
-pub last_piece : (a : Account) (n : ℕ) → n ≡ length (run_text a (fresh a)) → next_work (Pause (fresh a)) a n ≡ End (fresh a) BodySync
-last_piece a n is = ap (λ (b : Bool). if b then End (fresh a) BodySync else Pause (sent (fresh a) n)) (eq-eqb (0 + n) (length (run_text a (fresh a))) (omega (arith, is)))
+-- a checkpoint that is under way is open
+pub never_alone : (stage : Stage) → Possible stage false Checkpoint → ⊥
+never_alone Idle may = absurd may
+never_alone Close may = absurd may
+never_alone CloseSync may = absurd may
+never_alone Body may = absurd may
+never_alone BodySync may = absurd may
+never_alone Gate may = absurd may
+never_alone GateSync may = absurd may
+never_alone Stopped may = absurd may
 
 -- ---- the call that is next
 
--- of a commit, of a checkpoint
-pub commit_call : (stage : Stage) (result : Result Unit DiskFault) (a : Account) (actions : List Action) (n : ℕ) (old new : DeviceState) → IsWorking stage → (stage ≡ Close → ⊥) → (stage ≡ CloseSync → ⊥)
-    → StageCall stage a.gate (frame_body a.epoch (a.plant.panel.count + 1) actions) result old new → Call (under_way stage Commit a actions) a n result old new
-commit_call Idle result a actions n old new works opened shuts call = absurd works
-commit_call Close result a actions n old new works opened shuts call = absurd (opened refl)
-commit_call CloseSync result a actions n old new works opened shuts call = absurd (shuts refl)
-commit_call Body result a actions n old new works opened shuts call = call
-commit_call BodySync result a actions n old new works opened shuts call = call
-commit_call Gate result a actions n old new works opened shuts call = call
-commit_call GateSync result a actions n old new works opened shuts call = call
-commit_call Stopped result a actions n old new works opened shuts call = absurd works
+abbrev pub IsClosing : Stage → Type 0
+IsClosing Close = Unit {0}
+IsClosing CloseSync = Unit {0}
+IsClosing stage = ⊥
 
-pub checkpoint_call : (stage : Stage) (result : Result Unit DiskFault) (a : Account) (actions : List Action) (old new : DeviceState) → IsWorking stage
-    → StageCall stage (other_at a) (run_text a (fresh a)) result old new → Call (under_way stage Checkpoint a actions) a (length (run_text a (fresh a))) result old new
-checkpoint_call Idle result a actions old new works call = absurd works
-checkpoint_call Close result a actions old new works call = call
-checkpoint_call CloseSync result a actions old new works call = call
-checkpoint_call Body result a actions old new works call =
-    let text = run_text a (fresh a) in
-    let at : other_at a + 1 ≡ other_at a + 1 + 0 = omega arith in
-    (omega arith, subst (λ (m : ℕ). Writes m (take (length text) (drop 0 text)) result old new) at (subst (λ (t : List ℕ). Writes (other_at a + 1) t result old new) (sym (all_of text)) call))
-checkpoint_call BodySync result a actions old new works call = call
-checkpoint_call Gate result a actions old new works call = call
-checkpoint_call GateSync result a actions old new works call = call
-checkpoint_call Stopped result a actions old new works call = absurd works
+module _ (result : Result Unit DiskFault) (a : Account) (actions : List Action) (n : ℕ) (old new : DeviceState) where
+  abbrev body : List ℕ
+  body = frame_body a.epoch (a.plant.panel.count + 1) actions
+
+  pub alone_call : (stage : Stage) → StageCall stage a.gate body result old new → Call (alone stage actions) a n result old new
+  alone_call Idle call = absurd call
+  alone_call Close call = call
+  alone_call CloseSync call = call
+  alone_call Body call = call
+  alone_call BodySync call = call
+  alone_call Gate call = call
+  alone_call GateSync call = call
+  alone_call Stopped call = absurd call
+
+  pub commit_call : (k : Copy) (stage : Stage) → Possible stage true Commit → StageCall stage a.gate body result old new → Call (beside stage Commit k actions) a n result old new
+  commit_call k Idle may call = absurd may
+  commit_call k Close may call = absurd may
+  commit_call k CloseSync may call = absurd may
+  commit_call k Body may call = call
+  commit_call k BodySync may call = call
+  commit_call k Gate may call = call
+  commit_call k GateSync may call = call
+  commit_call k Stopped may call = absurd may
+
+  -- of a checkpoint, but for its pieces
+  pub checkpoint_call : (k : Copy) (stage : Stage) → (stage ≡ Body → ⊥) → StageCall stage (other_at a) [] result old new → Call (beside stage Checkpoint k actions) a n result old new
+  checkpoint_call k Idle pieces call = absurd call
+  checkpoint_call k Close pieces call = call
+  checkpoint_call k CloseSync pieces call = call
+  checkpoint_call k Body pieces call = absurd (pieces refl)
+  checkpoint_call k BodySync pieces call = call
+  checkpoint_call k Gate pieces call = call
+  checkpoint_call k GateSync pieces call = call
+  checkpoint_call k Stopped pieces call = absurd call
+
+  pub piece_call : (k : Copy) → k.out + n ≤ length (run_text a k) → Writes (other_at a + k.out + 1) (take n (drop k.out (run_text a k))) result old new → Call (Pause k) a n result old new
+  piece_call k within call =
+      let at : other_at a + k.out + 1 ≡ other_at a + 1 + k.out = omega arith in
+      (within, subst (λ (m : ℕ). Writes m (take n (drop k.out (run_text a k))) result old new) at call)
 
 -- at work a book's device is kept by what is under way
-pub kept_works : (stage : Stage) (work : Work) (a : Account) (actions : List Action) (state : DeviceState) → IsWorking stage → KeptBy stage work a actions state → KeptIn (under_way stage work a actions) a state
-kept_works Idle work a actions state works kept = absurd works
-kept_works Close work a actions state works kept = kept
-kept_works CloseSync work a actions state works kept = kept
-kept_works Body work a actions state works kept = kept
-kept_works BodySync work a actions state works kept = kept
-kept_works Gate work a actions state works kept = kept
-kept_works GateSync work a actions state works kept = kept
-kept_works Stopped work a actions state works kept = absurd works
+module _ (b : Book) (state : DeviceState) where
+  pub kept_alone : (stage : Stage) (work : Work) → IsWorking stage → KeptBy stage false work b state → KeptIn (alone stage b.actions.items) (account b) state
+  kept_alone Idle work works kept = absurd works
+  kept_alone Close work works kept = kept
+  kept_alone CloseSync work works kept = kept
+  kept_alone Body work works kept = kept
+  kept_alone BodySync work works kept = kept
+  kept_alone Gate work works kept = kept
+  kept_alone GateSync work works kept = kept
+  kept_alone Stopped work works kept = absurd works
+
+  pub kept_beside : (stage : Stage) (work : Work) → IsWorking stage → KeptBy stage true work b state → (k : Copy) × (run_text (account b) k ≡ run_in b) × KeptIn (beside stage work (at_out k b.out) b.actions.items) (account b) state
+  kept_beside Idle work works kept = absurd works
+  kept_beside Close work works kept = kept
+  kept_beside CloseSync work works kept = kept
+  kept_beside Body work works kept = kept
+  kept_beside BodySync work works kept = kept
+  kept_beside Gate work works kept = kept
+  kept_beside GateSync work works kept = kept
+  kept_beside Stopped work works kept = absurd works
 
 -- what the call makes of the device
-module _ (result : Result Unit DiskFault) (old new : DeviceState) (b : Book) where
-  by_work : (work : Work) → InOrder b → IsWorking b.stage → b.work ≡ work → Call (under_way b.stage work (account b) b.actions.items) (account b) (length b.image.items) result old new → Keeps old b → PassesOn result old new b
-  by_work work i works is call kept =
-      advances result (under_way b.stage b.work (account b) b.actions.items) (account b) (length b.image.items) old new i.gate (kept_works b.stage b.work (account b) b.actions.items old works kept)
-      (subst (λ (w : Work). Call (under_way b.stage w (account b) b.actions.items) (account b) (length b.image.items) result old new) (sym is) call)
+module _ (result : Result Unit DiskFault) (old new : DeviceState) (b : Book) (i : InOrder b) (works : IsWorking b.stage) where
+  abbrev a : Account
+  a = account b
 
-  pub commit_passes : (text : List ℕ) → InOrder b → IsWorking b.stage → b.work ≡ Commit → text ≡ frame_body b.epoch (b.stored.panel.count + 1) b.actions.items → StageCall b.stage b.gate text result old new → Keeps old b → PassesOn result old new b
-  commit_passes text i works is same call kept =
-      let never : (stage : Stage) → IsClosing stage → b.stage ≡ stage → ⊥ = λ stage closes at. not_both (closing b stage i at closes) is in
-      by_work Commit i works is
-      (commit_call b.stage result (account b) b.actions.items (length b.image.items) old new works (never Close tt) (never CloseSync tt) (subst (λ (t : List ℕ). StageCall b.stage b.gate t result old new) same call)) kept
-    where
-      not_both : b.work ≡ Checkpoint → b.work ≡ Commit → ⊥
-      not_both one two = absurd (subst IsCheckpoint (sym one ∙ two) tt)
+  abbrev acts : List Action
+  acts = b.actions.items
 
-  pub checkpoint_passes : (at : ℕ) (text : List ℕ) → InOrder b → IsWorking b.stage → b.work ≡ Checkpoint → at ≡ other_at (account b) → text ≡ checkpoint_text (account b) → b.image.items ≡ checkpoint_text (account b)
-      → StageCall b.stage at text result old new → Keeps old b → PassesOn result old new b
-  checkpoint_passes at text i works is place same image call kept =
-      let run = run_text (account b) (fresh (account b)) in
-      let whole : text ≡ run = same ∙ sym (run_is (account b)) in
-      let long : length run ≡ length b.image.items = ap length (run_is (account b) ∙ sym image) in
-      let here : StageCall b.stage (other_at (account b)) run result old new =
-      subst (λ (n : ℕ). StageCall b.stage n run result old new) place (subst (λ (t : List ℕ). StageCall b.stage at t result old new) whole call) in
-      by_work Checkpoint i works is (subst (λ (n : ℕ). Call (under_way b.stage Checkpoint (account b) b.actions.items) (account b) n result old new) long (checkpoint_call b.stage result (account b) b.actions.items old new works here)) kept
+  by_copying : (copying : Bool) → (copying ≡ false → Call (alone b.stage acts) a (piece_of b) result old new)
+      → (copying ≡ true → (k : Copy) → run_text a k ≡ run_in b → Call (beside b.stage b.work (at_out k b.out) acts) a (piece_of b) result old new)
+      → KeptBy b.stage copying b.work b old → PassesBy copying b.stage b.work b result old new
+  by_copying false without with_copy kept = advances result (alone b.stage acts) a (piece_of b) old new i.gate (kept_alone b old b.stage b.work works kept) (without refl)
+  by_copying true without with_copy kept =
+      let here = kept_beside b old b.stage b.work works kept in
+      (here.0, here.1, here.2, advances result (beside b.stage b.work (at_out here.0 b.out) acts) a (piece_of b) old new i.gate here.2 (with_copy refl here.0 here.1))
+
+  pub commit_passes : (text : List ℕ) → b.work ≡ Commit → text ≡ frame_body b.epoch (b.stored.panel.count + 1) acts → StageCall b.stage b.gate text result old new → Keeps old b → PassesOn result old new b
+  commit_passes text is same call kept =
+      let here : StageCall b.stage b.gate (frame_body b.epoch (b.stored.panel.count + 1) acts) result old new = subst (λ (t : List ℕ). StageCall b.stage b.gate t result old new) same call in
+      by_copying b.copying (λ off. alone_call result a acts (piece_of b) old new b.stage here)
+      (λ on k run.
+      let may : Possible b.stage true Commit = subst (λ (w : Work). Possible b.stage true w) is (subst (λ (o : Bool). Possible b.stage o b.work) on (possible b i works)) in
+      subst (λ (w : Work). Call (beside b.stage w (at_out k b.out) acts) a (piece_of b) result old new) (sym is) (commit_call result a acts (piece_of b) old new (at_out k b.out) b.stage may here)) kept
+
+  never_without : b.work ≡ Checkpoint → b.copying ≡ false → ⊥
+  never_without is off = never_alone b.stage (subst (λ (w : Work). Possible b.stage false w) is (subst (λ (o : Bool). Possible b.stage o b.work) off (possible b i works)))
+
+  pub checkpoint_passes : (at : ℕ) → b.work ≡ Checkpoint → (b.stage ≡ Body → ⊥) → at ≡ other_at a → StageCall b.stage at [] result old new → Keeps old b → PassesOn result old new b
+  checkpoint_passes at is pieces place call kept =
+      let here : StageCall b.stage (other_at a) [] result old new = subst (λ (n : ℕ). StageCall b.stage n [] result old new) place call in
+      by_copying b.copying (λ off. absurd (never_without is off))
+      (λ on k run. subst (λ (w : Work). Call (beside b.stage w (at_out k b.out) acts) a (piece_of b) result old new) (sym is) (checkpoint_call result a acts (piece_of b) old new (at_out k b.out) b.stage pieces here)) kept
+
+  pub piece_passes : (at : ℕ) (text : List ℕ) → b.work ≡ Checkpoint → b.stage ≡ Body → at ≡ other_at a + b.out → text ≡ take (piece_of b) (drop b.out (run_in b)) → b.out + piece_of b ≤ length (run_in b)
+      → Writes (at + 1) text result old new → Keeps old b → PassesOn result old new b
+  piece_passes at text is body place same within call kept =
+      let here : Writes (other_at a + b.out + 1) (take (piece_of b) (drop b.out (run_in b))) result old new =
+      subst (λ (n : ℕ). Writes (n + 1) (take (piece_of b) (drop b.out (run_in b))) result old new) place (subst (λ (t : List ℕ). Writes (at + 1) t result old new) same call) in
+      by_copying b.copying (λ off. absurd (never_without is off))
+      (λ on k run.
+      let there : Writes (other_at a + b.out + 1) (take (piece_of b) (drop b.out (run_text a k))) result old new = subst (λ (t : List ℕ). Writes (other_at a + b.out + 1) (take (piece_of b) (drop b.out t)) result old new) (sym run) here in
+      let inside : b.out + piece_of b ≤ length (run_text a k) = subst (λ (t : List ℕ). b.out + piece_of b ≤ length t) (sym run) within in
+      subst (λ (w : Work). Call (beside b.stage w (at_out k b.out) acts) a (piece_of b) result old new) (sym is)
+      (subst (λ (s : Stage). Call (beside s Checkpoint (at_out k b.out) acts) a (piece_of b) result old new) (sym body) (piece_call result a acts (piece_of b) old new (at_out k b.out) inside there))) kept
 
 -- ---- what a crash leaves
 
 -- the work that is begun stays the same as long as it is done
-next_is : (b : Book) (stage : Stage) → b.stage ≡ stage → IsWorking stage → next b ≡ done_with b.work (account b) b.actions.items
-next_is b stage is works = ap (λ (s : Stage). next_of s b.work (account b) b.actions.items) is ∙ by_stage stage works
+pub next_is : (b : Book) (stage : Stage) → b.stage ≡ stage → IsWorking stage → next b ≡ done_by b.work b
+next_is b stage is works = ap (λ (s : Stage). next_of s b.work b) is ∙ by_stage stage works
   where
-    by_stage : (s : Stage) → IsWorking s → next_of s b.work (account b) b.actions.items ≡ done_with b.work (account b) b.actions.items
+    by_stage : (s : Stage) → IsWorking s → next_of s b.work b ≡ done_by b.work b
     by_stage Idle never = absurd never
     by_stage Close works = refl
     by_stage CloseSync works = refl
@@ -147,136 +181,220 @@ next_is b stage is works = ap (λ (s : Stage). next_of s b.work (account b) b.ac
     by_stage Stopped never = absurd never
 
 -- at any moment of a call, by what is under way
-module _ (a : Account) (actions : List Action) (b : List ℕ) (image : length (image_text a.plant) ≡ image_size a.layout) where
+module _ (a : Account) (actions : List Action) (x : List ℕ) where
   abbrev Before : List ℕ → Type 0
-  Before x = Holds a.epoch a.plant x
+  Before b = Holds a.epoch a.plant b
 
-  abbrev After : Work → List ℕ → Type 0
-  After work x = Ready (done_with work a actions) x
+  abbrev Committed : List ℕ → Type 0
+  Committed b = Ready (committed a actions) b
 
-  turns : Ready (turned_by a (fresh a)) b → Ready (turned a) b
-  turns r = subst (λ (x : Account). Ready x b) (turned_is a image) r
+  pub leaves_alone : (stage : Stage) → IsWorking stage → DuringIn (alone stage actions) a x → During Before Committed stage x
+  leaves_alone Idle works d = absurd works
+  leaves_alone Close works d = ready_holds a x d
+  leaves_alone CloseSync works d = ready_holds a x d
+  leaves_alone Body works d = ready_holds a x d
+  leaves_alone BodySync works d = ready_holds a x d
+  leaves_alone Gate works d = ⊎_elim (λ r. inl (ready_holds a x r)) inr d
+  leaves_alone GateSync works d = ⊎_elim (λ r. inl (ready_holds a x r)) inr d
+  leaves_alone Stopped works d = absurd works
 
-  pub leaves_by : (stage : Stage) (work : Work) → IsWorking stage → DuringIn (under_way stage work a actions) a b → During Before (After work) stage b
-  leaves_by Idle work works d = absurd works
-  leaves_by Close work works d = d
-  leaves_by CloseSync work works d = d
-  leaves_by Body Commit works d = ready_holds a b d
-  leaves_by Body Checkpoint works d = ready_holds a b d
-  leaves_by BodySync Commit works d = ready_holds a b d
-  leaves_by BodySync Checkpoint works d = ready_holds a b d
-  leaves_by Gate Commit works d = ⊎_elim (λ x. inl (ready_holds a b x)) inr d
-  leaves_by Gate Checkpoint works d = ⊎_elim (λ x. inl (ready_holds a b x)) (λ x. inr (turns x)) d
-  leaves_by GateSync Commit works d = ⊎_elim (λ x. inl (ready_holds a b x)) inr d
-  leaves_by GateSync Checkpoint works d = ⊎_elim (λ x. inl (ready_holds a b x)) (λ x. inr (turns x)) d
-  leaves_by Stopped work works d = absurd works
+  pub leaves_commit : (k : Copy) (stage : Stage) → Possible stage true Commit → DuringIn (beside stage Commit k actions) a x → During Before Committed stage x
+  leaves_commit k Idle may d = absurd may
+  leaves_commit k Close may d = absurd may
+  leaves_commit k CloseSync may d = absurd may
+  leaves_commit k Body may d = ready_holds a x d
+  leaves_commit k BodySync may d = ready_holds a x d
+  leaves_commit k Gate may d = ⊎_elim (λ r. inl (ready_holds a x r)) inr d
+  leaves_commit k GateSync may d = ⊎_elim (λ r. inl (ready_holds a x r)) inr d
+  leaves_commit k Stopped may d = absurd may
 
-  pub either_by : (stage : Stage) (work : Work) → During Before (After work) stage b → IsWorking stage → Before b ⊎ After work b
-  either_by Idle work d works = absurd works
-  either_by Close work d works = inl d
-  either_by CloseSync work d works = inl d
-  either_by Body work d works = inl d
-  either_by BodySync work d works = inl d
-  either_by Gate work d works = d
-  either_by GateSync work d works = d
-  either_by Stopped work d works = absurd works
+  module _ (k : Copy) (n : ℕ) (long : length (run_text a k) ≡ n) where
+    turns : Ready (turned_by a k) x → Ready (turned a n) x
+    turns r = subst (λ (y : Account). Ready y x) (turned_is a k n long) r
 
--- .. and of a book's
-pub leaves_of : (b : Book) (bytes : List ℕ) → InOrder b → IsWorking b.stage → DuringIn (under_way b.stage b.work (account b) b.actions.items) (account b) bytes → MayLeave b bytes
-leaves_of b bytes i works d =
-    subst (λ (x : Account). During (Holds b.epoch b.stored) (Ready x) b.stage bytes) (sym (next_is b b.stage refl works))
-    (leaves_by (account b) b.actions.items bytes (image_size_is b i) b.stage b.work works d)
+    abbrev Turned : List ℕ → Type 0
+    Turned b = Ready (turned a n) b
 
--- a call has failed
-pub stops : (b : Book) (old new : DeviceState) (result : Result Unit DiskFault) → InOrder b → IsWorking b.stage → PassesOn result old new b → Keeps new (record b { stage = Stopped })
-stops b old new result i works p = λ image left.
-    let d = leaves_by (account b) b.actions.items image (image_size_is b i) b.stage b.work works (p.any_moment image (inr left)) in
-    either_by (account b) b.actions.items image (image_size_is b i) b.stage b.work d works
+    pub leaves_checkpoint : (stage : Stage) → Possible stage true Checkpoint → DuringIn (beside stage Checkpoint k actions) a x → During Before Turned stage x
+    leaves_checkpoint Idle may d = absurd may
+    leaves_checkpoint Close may d = d
+    leaves_checkpoint CloseSync may d = d
+    leaves_checkpoint Body may d = ready_holds a x d
+    leaves_checkpoint BodySync may d = ready_holds a x d
+    leaves_checkpoint Gate may d = ⊎_elim (λ r. inl (ready_holds a x r)) (λ r. inr (turns r)) d
+    leaves_checkpoint GateSync may d = ⊎_elim (λ r. inl (ready_holds a x r)) (λ r. inr (turns r)) d
+    leaves_checkpoint Stopped may d = absurd may
+
+pub either_by : (B A : List ℕ → Type 0) (x : List ℕ) (stage : Stage) → During B A stage x → IsWorking stage → B x ⊎ A x
+either_by B A x Idle d works = absurd works
+either_by B A x Close d works = inl d
+either_by B A x CloseSync d works = inl d
+either_by B A x Body d works = inl d
+either_by B A x BodySync d works = inl d
+either_by B A x Gate d works = d
+either_by B A x GateSync d works = d
+either_by B A x Stopped d works = absurd works
+
+-- .. of a book's
+pub run_within : (b : Book) → InOrder b → IsWorking b.stage → b.copying ≡ true → b.run ≤ length b.buffer.items
+run_within b i works on =
+    let o = opened b i works on in
+    omega (arith, i.buffer, i.gate, o.room)
+
+pub run_size : (b : Book) → InOrder b → IsWorking b.stage → b.copying ≡ true → length (run_in b) ≡ b.run
+run_size b i works on = length-take-le b.run b.buffer.items (run_within b i works on)
+
+module _ (b : Book) (i : InOrder b) (works : IsWorking b.stage) (result : Result Unit DiskFault) (old new : DeviceState) where
+  abbrev Stored : List ℕ → Type 0
+  Stored x = Holds b.epoch b.stored x
+
+  abbrev Then : Work → List ℕ → Type 0
+  Then work x = Ready (done_by work b) x
+
+  moment_by : (x : List ℕ) (copying : Bool) (work : Work) → b.copying ≡ copying → Possible b.stage copying work → PassesBy copying b.stage work b result old new → IsImage old x ⊎ IsImage new x → During Stored (Then work) b.stage x
+  moment_by x false Commit is may p moment = leaves_alone (account b) b.actions.items x b.stage works (p.any_moment x moment)
+  moment_by x false Checkpoint is may p moment = absurd (never_alone b.stage may)
+  moment_by x true Commit is may p moment = leaves_commit (account b) b.actions.items x (at_out p.0 b.out) b.stage may (p.3.any_moment x moment)
+  moment_by x true Checkpoint is may p moment =
+      leaves_checkpoint (account b) b.actions.items x (at_out p.0 b.out) b.run (ap length p.1 ∙ run_size b i works is) b.stage may (p.3.any_moment x moment)
+
+  during : (x : List ℕ) → PassesOn result old new b → IsImage old x ⊎ IsImage new x → During Stored (Then b.work) b.stage x
+  during x p moment = moment_by x b.copying b.work refl (possible b i works) p moment
+
+  pub leaves_of : (x : List ℕ) → PassesOn result old new b → IsImage old x ⊎ IsImage new x → MayLeave b x
+  leaves_of x p moment = subst (λ (y : Account). During Stored (Ready y) b.stage x) (sym (next_is b b.stage refl works)) (during x p moment)
+
+  stopped : (x : List ℕ) (w : Work) → Ready (done_by w b) x → Ready (done_by w (record b { stage = Stopped })) x
+  stopped x Commit r = r
+  stopped x Checkpoint r = r
+
+  -- a call has failed
+  pub stops : PassesOn result old new b → Keeps new (record b { stage = Stopped })
+  stops p = λ image left. ⊎_elim inl (λ r. inr (stopped image b.work r)) (either_by Stored (Then b.work) image b.stage (during image p (inr left)) works)
 
 -- ---- a call that was done
 
--- another stage of the same work
-moved : (b : Book) (to : Book) (state : DeviceState) → to ≡ b → Keeps state b → Keeps state to
-moved b to state same kept = subst (Keeps state) (sym same) kept
+pub rested : (b : Book) (a : Account) (state : DeviceState) → b.stage ≡ Idle → b.copying ≡ false → account b ≡ a → KeptIn Rest a state → Keeps state b
+rested b a state idle off is kept =
+    subst (λ (s : Stage). KeptBy s b.copying b.work b state) (sym idle) (subst (λ (o : Bool). KeptBy Idle o b.work b state) (sym off) (subst (λ (x : Account). KeptIn Rest x state) (sym is) kept))
 
-pub rested : (b : Book) (a : Account) (state : DeviceState) → b.stage ≡ Idle → account b ≡ a → KeptIn Rest a state → Keeps state b
-rested b a state idle is kept =
-    subst (λ (s : Stage). KeptBy s b.work (account b) b.actions.items state) (sym idle) (subst (λ (x : Account). KeptIn Rest x state) (sym is) kept)
-
-module _ (step : Progress) (old new : Book) (state : DeviceState) (i : InOrder old) where
-  abbrev Next : Stage → Work → Type 0
-  Next stage work = KeptIn (next_work (under_way stage work (account old) old.actions.items) (account old) (length old.image.items)) (next_account (under_way stage work (account old) old.actions.items) (account old)) state
-
-  -- with this work and this account
-  abbrev At : Stage → Work → Account → Type 0
-  At stage work a = KeptBy stage work a old.actions.items state
-
-  as_book : (stage : Stage) (work : Work) → old.work ≡ work → At stage work (account old) → Keeps state (record old { stage = stage })
-  as_book stage work is kept = subst (λ (w : Work). At stage w (account old)) (sym is) kept
-
-  by_work_of : (stage : Stage) (work : Work) → old.stage ≡ stage → old.work ≡ work → IsWorking stage → GoesOn stage step old new → (work ≡ Checkpoint → length old.image.items ≡ length (run_text (account old) (fresh (account old))))
-      → (work ≡ Commit → (stage ≡ CloseSync → ⊥)) → Next stage work → Keeps state new
-  by_work_of Idle work at is works goes long opened kept = absurd works
-  by_work_of Close work at is works goes long opened kept = moved (record old { stage = CloseSync }) new state goes.1 (as_book CloseSync work is kept)
-  by_work_of CloseSync Commit at is works goes long opened kept = absurd (opened refl refl)
-  by_work_of CloseSync Checkpoint at is works goes long opened kept =
-      moved (record old { stage = Body; other_open = false }) new state goes.1 (subst (λ (w : Work). At Body w (shut (account old))) (sym is) kept)
-  by_work_of Body Commit at is works goes long opened kept = moved (record old { stage = BodySync }) new state goes.1 (as_book BodySync Commit is kept)
-  by_work_of Body Checkpoint at is works goes long opened kept =
-      moved (record old { stage = BodySync }) new state goes.1
-      (as_book BodySync Checkpoint is (subst (λ (w : UnderWay). KeptIn w (account old) state) (last_piece (account old) (length old.image.items) (long refl)) kept))
-  by_work_of BodySync Commit at is works goes long opened kept = moved (record old { stage = Gate }) new state goes.1 (as_book Gate Commit is kept)
-  by_work_of BodySync Checkpoint at is works goes long opened kept = moved (record old { stage = Gate }) new state goes.1 (as_book Gate Checkpoint is kept)
-  by_work_of Gate Commit at is works goes long opened kept = moved (record old { stage = GateSync }) new state goes.1 (as_book GateSync Commit is kept)
-  by_work_of Gate Checkpoint at is works goes long opened kept = moved (record old { stage = GateSync }) new state goes.1 (as_book GateSync Checkpoint is kept)
-  by_work_of GateSync Commit at is works goes long opened kept = rested new (committed (account old) old.actions.items) state goes.1 (goes.2 ∙ ap (λ (w : Work). done_with w (account old) old.actions.items) is) kept
-  by_work_of GateSync Checkpoint at is works goes long opened kept =
-      rested new (turned_by (account old) (fresh (account old))) state goes.1 (goes.2 ∙ ap (λ (w : Work). done_with w (account old) old.actions.items) is ∙ sym (turned_is (account old) (image_size_is old i))) kept
-  by_work_of Stopped work at is works goes long opened kept = absurd works
-
-pub goes_on : (step : Progress) (old new : Book) (state : DeviceState) → InOrder old → IsWorking old.stage → GoesOn old.stage step old new
-    → KeptIn (next_work (under_way old.stage old.work (account old) old.actions.items) (account old) (length old.image.items)) (next_account (under_way old.stage old.work (account old) old.actions.items) (account old)) state → Keeps state new
-goes_on step old new state i works goes kept = by_work_of step old new state i old.stage old.work refl refl works goes long opened kept
+-- a commit's frame in the run of an open checkpoint
+grows_run : (old new : Book) (k : Copy) → IsCopy (account old) k → run_text (account old) k ≡ run_in old → length (run_in old) ≡ old.run → account new ≡ committed (account old) old.actions.items → Grows old new
+    → run_text (account new) (copied k old.actions.items) ≡ run_in new
+grows_run old new k copy run long account_is g =
+    (λ j. run_text (account_is j) (copied k old.actions.items))
+    ∙ ap (λ (t : List ℕ). t ++ 0 ∷ []) (open_grows (account old) k old.actions.items copy ∙ ap (λ (t : List ℕ). open_text (account old) k ++ t) (frame_is (account old) k old.actions.items copy))
+    ∙ append_assoc (open_text (account old) k) (165 ∷ frame_text (old.epoch + 1) (old.stored.panel.count + 1) old.actions.items) (0 ∷ [])
+    ∙ ap (λ (t : List ℕ). t ++ (165 ∷ frame_body (old.epoch + 1) (old.stored.panel.count + 1) old.actions.items)) front
+    ∙ sym g.text
   where
-    long : old.work ≡ Checkpoint → length old.image.items ≡ length (run_text (account old) (fresh (account old)))
-    long is = ap length ((copies old i works is).text ∙ sym (run_is (account old)))
+    size : length (open_text (account old) k) ≡ old.run - 1
+    size = omega (arith, ap length run, long, length-append (open_text (account old) k) (0 ∷ []))
 
-    opened : old.work ≡ Commit → old.stage ≡ CloseSync → ⊥
-    opened is at = absurd (subst IsCheckpoint (sym (closing old CloseSync i at tt) ∙ is) tt)
+    front : open_text (account old) k ≡ take (old.run - 1) (run_in old)
+    front = sym (take_at (open_text (account old) k) (0 ∷ []) (old.run - 1) size) ∙ ap (take (old.run - 1)) run
 
--- what a step comes to
-abbrev Moves : Stage → Book → Book → Type 0
-Moves to old new = new ≡ record old { stage = to }
+module _ (step : Progress) (old new : Book) (state : DeviceState) (i : InOrder old) (works : IsWorking old.stage) where
+  abbrev listed : List Action
+  listed = old.actions.items
 
--- the account, with the mark of the stage
-marked : (stage : Stage) (old : Book) → old.stage ≡ stage → (mark : Bool) → open_after stage old.work old.other_open ≡ mark → record (account old) { other_open = mark } ≡ record (account old) { other_open = open_after old.stage old.work old.other_open }
-marked stage old is mark same = ap (λ (m : Bool). record (account old) { other_open = m }) (sym (ap (λ (s : Stage). open_after s old.work old.other_open) is ∙ same))
+  as_book : (b : Book) (stage : Stage) (copying : Bool) (work : Work) → b.stage ≡ stage → b.copying ≡ copying → b.work ≡ work → KeptBy stage copying work b state → Keeps state b
+  as_book b stage copying work at on is kept =
+      subst (λ (s : Stage). KeptBy s b.copying b.work b state) (sym at) (subst (λ (o : Bool). KeptBy stage o b.work b state) (sym on) (subst (λ (w : Work). KeptBy stage copying w b state) (sym is) kept))
 
-ends_more : (stage to : Stage) (old new : Book) → old.stage ≡ stage → following stage ≡ to → open_after stage old.work old.other_open ≡ old.other_open → IsWorking to → Moves to old new → Ends More old new
-ends_more stage to old new is after mark works goes =
-    (ap (λ (b : Book). b.stage) goes ∙ sym after ∙ sym (ap following is), ap (λ (b : Book). b.work) goes, ap account goes ∙ marked stage old is old.other_open mark, ap begun goes, subst IsWorking (sym (ap (λ (b : Book). b.stage) goes)) works)
+  moved : (to : Book) → new ≡ to → Keeps state to → Keeps state new
+  moved to same kept = subst (Keeps state) (sym same) kept
 
--- closed, the account tells the same of what is stored, and of what the work makes of it
-closed_begun : (work : Work) (old : Book) (actions : List Action) → work ≡ Checkpoint → done_with work (shut (account old)) actions ≡ done_with work (account old) actions
-closed_begun Commit old actions is = absurd cc
-closed_begun Checkpoint old actions is = refl
+  -- without an open checkpoint
+  abbrev NextAlone : Stage → Type 0
+  NextAlone stage = KeptIn (next_work (alone stage listed) (account old) (piece_of old)) (next_account (alone stage listed) (account old)) state
 
-pub ends_by : (stage : Stage) (step : Progress) (old new : Book) → old.stage ≡ stage → IsWorking stage → (stage ≡ CloseSync → old.work ≡ Checkpoint) → GoesOn stage step old new → Ends step old new
-ends_by Idle step old new is never work goes = absurd never
-ends_by Close step old new is works work goes = subst (λ (s : Progress). Ends s old new) (sym goes.0) (ends_more Close CloseSync old new is refl refl tt goes.1)
-ends_by CloseSync step old new is works work goes =
-    subst (λ (s : Progress). Ends s old new) (sym goes.0) (
-      ap (λ (b : Book). b.stage) goes.1 ∙ sym (ap following is),
-      ap (λ (b : Book). b.work) goes.1,
-      ap account goes.1 ∙ marked CloseSync old is false refl,
-      ap begun goes.1 ∙ closed_begun old.work old old.actions.items (work refl),
-      subst IsWorking (sym (ap (λ (b : Book). b.stage) goes.1)) tt,
-    )
-ends_by Body step old new is works work goes = subst (λ (s : Progress). Ends s old new) (sym goes.0) (ends_more Body BodySync old new is refl refl tt goes.1)
-ends_by BodySync step old new is works work goes = subst (λ (s : Progress). Ends s old new) (sym goes.0) (ends_more BodySync Gate old new is refl refl tt goes.1)
-ends_by Gate step old new is works work goes = subst (λ (s : Progress). Ends s old new) (sym goes.0) (ends_more Gate GateSync old new is refl refl tt goes.1)
-ends_by GateSync step old new is works work goes = subst (λ (s : Progress). Ends s old new) (sym goes.0) (is, goes.1, goes.2)
-ends_by Stopped step old new is never work goes = absurd never
+  commit_closes : Closes old new → old.copying ≡ false → KeptIn Rest (committed (account old) listed) state → Keeps state new
+  commit_closes c off kept = rested new (committed (account old) listed) state (c.stage ∙ ap rest_stage off) (c.copying ∙ off) c.account kept
+
+  goes_alone : (stage : Stage) → old.copying ≡ false → old.work ≡ Commit → Possible stage false Commit → GoesOn stage Commit step old new → NextAlone stage → Keeps state new
+  goes_alone Idle off is may goes kept = absurd may
+  goes_alone Close off is may goes kept = absurd may
+  goes_alone CloseSync off is may goes kept = absurd may
+  goes_alone Body off is may goes kept = moved (record old { stage = BodySync }) goes.1 (as_book (record old { stage = BodySync }) BodySync false Commit refl off is kept)
+  goes_alone BodySync off is may goes kept = moved (record old { stage = Gate }) goes.1 (as_book (record old { stage = Gate }) Gate false Commit refl off is kept)
+  goes_alone Gate off is may goes kept = moved (record old { stage = GateSync }) goes.1 (as_book (record old { stage = GateSync }) GateSync false Commit refl off is kept)
+  goes_alone GateSync off is may goes kept = commit_closes goes.1 off kept
+  goes_alone Stopped off is may goes kept = absurd may
+
+  -- beside one
+  module _ (k : Copy) (run : run_text (account old) k ≡ run_in old) (on : old.copying ≡ true) where
+    abbrev here : Copy
+    here = at_out k old.out
+
+    abbrev Next : Stage → Work → Type 0
+    Next stage work = KeptIn (next_work (beside stage work here listed) (account old) (piece_of old)) (next_account (beside stage work here listed) (account old)) state
+
+    to_stage : (stage : Stage) (work : Work) → IsWorking stage → old.work ≡ work → KeptBy stage true work old state → new ≡ record old { stage = stage } → Keeps state new
+    to_stage stage work goes_on is kept goes = moved (record old { stage = stage }) goes (as_book (record old { stage = stage }) stage true work refl on is (again stage goes_on kept))
+      where
+        again : (s : Stage) → IsWorking s → KeptBy s true work old state → KeptBy s true work (record old { stage = stage }) state
+        again Idle never x = absurd never
+        again Close on x = x
+        again CloseSync on x = x
+        again Body on x = x
+        again BodySync on x = x
+        again Gate on x = x
+        again GateSync on x = x
+        again Stopped never x = absurd never
+
+    resumes : Closes old new → IsCopy (account old) here → KeptIn (Pause (copied here listed)) (committed (account old) listed) state → Keeps state new
+    resumes c copy kept =
+        as_book new Body true Checkpoint (c.stage ∙ ap rest_stage on) (c.copying ∙ on) (c.work ∙ ap rest_work on) (
+          copied k listed,
+          grows_run old new here copy run (run_size old i works on) c.account (subst (λ (o : Bool). GrowsWhere o old new) on c.grows),
+          subst (λ (n : ℕ). KeptIn (Pause (at_out (copied k listed) n)) (account new) state) (sym c.out) (subst (λ (y : Account). KeptIn (Pause (copied here listed)) y state) (sym c.account) kept),
+        )
+
+    goes_commit : (was : DeviceState) (stage : Stage) → old.work ≡ Commit → Possible stage true Commit → GoesOn stage Commit step old new → KeptIn (beside stage Commit here listed) (account old) was → Next stage Commit → Keeps state new
+    goes_commit was Idle is may goes before kept = absurd may
+    goes_commit was Close is may goes before kept = absurd may
+    goes_commit was CloseSync is may goes before kept = absurd may
+    goes_commit was Body is may goes before kept = to_stage BodySync Commit tt is (k, run, kept) goes.1
+    goes_commit was BodySync is may goes before kept = to_stage Gate Commit tt is (k, run, kept) goes.1
+    goes_commit was Gate is may goes before kept = to_stage GateSync Commit tt is (k, run, kept) goes.1
+    goes_commit was GateSync is may goes before kept = resumes goes.1 before.1.0 kept
+    goes_commit was Stopped is may goes before kept = absurd may
+
+    -- all of the run went out, or another piece is next
+    abbrev Placed : Bool → Type 0
+    Placed last = KeptIn (if last then End here BodySync else Pause (sent here (piece_of old))) (account old) state
+
+    by_place : (last : Bool) → old.work ≡ Checkpoint → (old.out + piece_of old == old.run) ≡ last → Placed last → Keeps state (sent_by (piece_of old) old)
+    by_place true is at x = as_book (sent_by (piece_of old) old) BodySync true Checkpoint (ap (λ (l : Bool). if l then BodySync else Body) at) on is (k, run, x)
+    by_place false is at x = as_book (sent_by (piece_of old) old) Body true Checkpoint (ap (λ (l : Bool). if l then BodySync else Body) at) on is (k, run, x)
+
+    sends : old.work ≡ Checkpoint → new ≡ sent_by (piece_of old) old → Next Body Checkpoint → Keeps state new
+    sends is goes kept =
+        moved (sent_by (piece_of old) old) goes (by_place (old.out + piece_of old == old.run) is refl (subst (λ (n : ℕ). Placed (old.out + piece_of old == n)) (ap length run ∙ run_size old i works on) kept))
+
+    turned_rest : Turns old new → KeptIn Rest (turned_by (account old) here) state → Keeps state new
+    turned_rest t kept = rested new (turned_by (account old) here) state t.stage t.copying (t.account ∙ sym (turned_is (account old) here old.run (ap length run ∙ run_size old i works on))) kept
+
+    goes_checkpoint : (stage : Stage) → old.work ≡ Checkpoint → Possible stage true Checkpoint → GoesOn stage Checkpoint step old new → Next stage Checkpoint → Keeps state new
+    goes_checkpoint Idle is may goes kept = absurd may
+    goes_checkpoint Close is may goes kept = to_stage CloseSync Checkpoint tt is (k, run, kept) goes.1
+    goes_checkpoint CloseSync is may goes kept =
+        moved (record old { stage = Body; other_open = false }) goes.1 (as_book (record old { stage = Body; other_open = false }) Body true Checkpoint refl on is (k, run, kept))
+    goes_checkpoint Body is may goes kept = sends is goes.1 kept
+    goes_checkpoint BodySync is may goes kept = to_stage Gate Checkpoint tt is (k, run, kept) goes.1
+    goes_checkpoint Gate is may goes kept = to_stage GateSync Checkpoint tt is (k, run, kept) goes.1
+    goes_checkpoint GateSync is may goes kept = turned_rest goes.1 kept
+    goes_checkpoint Stopped is may goes kept = absurd may
+
+  pub goes_on : (was : DeviceState) (result : Result Unit DiskFault) → result ≡ Ok tt → GoesOn old.stage old.work step old new → PassesOn result was state old → Keeps state new
+  goes_on was result done goes p = by_copying old.copying old.work refl refl (possible old i works) goes p
+    where
+      by_copying : (copying : Bool) (work : Work) → old.copying ≡ copying → old.work ≡ work → Possible old.stage copying work → GoesOn old.stage work step old new → PassesBy copying old.stage work old result was state → Keeps state new
+      by_copying false Commit on is may g p = goes_alone old.stage on is may g (p.kept done)
+      by_copying false Checkpoint on is may g p = absurd (never_alone old.stage may)
+      by_copying true Commit on is may g p = goes_commit p.0 p.1 on was old.stage is may g p.2 (p.3.kept done)
+      by_copying true Checkpoint on is may g p = goes_checkpoint p.0 p.1 on old.stage is may g (p.3.kept done)
 
 -- a call that was done isn't told as failed
 abbrev IsFailed : Progress → Type 0
@@ -286,12 +404,18 @@ IsFailed step = ⊥
 told : (step is : Progress) → step ≡ is → (IsFailed is → ⊥) → step ≡ Failed → ⊥
 told step is same not failed = not (subst IsFailed (sym failed ∙ same) tt)
 
-pub not_failed : (stage : Stage) (step : Progress) (old new : Book) → GoesOn stage step old new → step ≡ Failed → ⊥
-not_failed Idle step old new goes = told step More goes.0 (λ f. f)
-not_failed Close step old new goes = told step More goes.0 (λ f. f)
-not_failed CloseSync step old new goes = told step More goes.0 (λ f. f)
-not_failed Body step old new goes = told step More goes.0 (λ f. f)
-not_failed BodySync step old new goes = told step More goes.0 (λ f. f)
-not_failed Gate step old new goes = told step More goes.0 (λ f. f)
-not_failed GateSync step old new goes = told step Done goes.0 (λ f. f)
-not_failed Stopped step old new goes = told step More goes.0 (λ f. f)
+pub not_failed : (stage : Stage) (work : Work) (step : Progress) (old new : Book) → GoesOn stage work step old new → step ≡ Failed → ⊥
+not_failed Idle work step old new goes = told step More goes.0 (λ f. f)
+not_failed Close work step old new goes = told step More goes.0 (λ f. f)
+not_failed CloseSync work step old new goes = told step More goes.0 (λ f. f)
+not_failed Body Commit step old new goes = told step More goes.0 (λ f. f)
+not_failed Body Checkpoint step old new goes = told step More goes.0 (λ f. f)
+not_failed BodySync work step old new goes = told step More goes.0 (λ f. f)
+not_failed Gate work step old new goes = told step More goes.0 (λ f. f)
+not_failed GateSync work step old new goes = told step Done goes.0 (λ f. f)
+not_failed Stopped work step old new goes = told step More goes.0 (λ f. f)
+
+pub ends_by : (step : Progress) (old new : Book) → GoesOn old.stage old.work step old new → Ends step old new
+ends_by More old new goes = goes
+ends_by Done old new goes = goes
+ends_by Failed old new goes = absurd (not_failed old.stage old.work Failed old new goes refl)

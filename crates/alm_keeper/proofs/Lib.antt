@@ -1,3 +1,4 @@
+pub mod Borne
 pub mod Devices
 pub mod Commit
 pub mod Sides
@@ -25,3 +26,4 @@ pub mod Calls
 pub mod Formed
 pub mod Fresh
 pub mod Moments
+pub mod Pace

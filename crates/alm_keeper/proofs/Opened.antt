@@ -77,14 +77,14 @@ module _ (b : List ℕ) (l : Layout) (m : Marks) (bytes : IsBytes b) (header : l
       ∙ ap (λ (r : Result HalfHead Fault). r >>= λ t. Ok (opened_half l m.half t b)) told
 
   ready : (book : Book) → RestoredAs (opened_half l m.half m.head b) book.stored book.gate
-      → account book ≡ record { layout = l; half = m.half; other_open = m.other_open; epoch = m.head.epoch; gate = book.gate; plant = book.stored } → Ready (account book) b
+      → account book ≡ record { layout = l; half = m.half; other_open = m.other_open; version = m.head.version; epoch = m.head.epoch; gate = book.gate; plant = book.stored } → Ready (account book) b
   ready book h is =
       let c = cut_at b l m.half m.head h.base book.stored h.left bytes header marks.0 told h.spells h.folds in
       let gate : book.gate ≡ length (front c.cut) = omega (arith, h.gate_is, c.gate_there) in
       let beside : m.other_open ≡ is_open (byte_at c.cut.other 0) = marks.2 ∙ ap gate_in (head_is l b (other m.half)) ∙ c.of_other in
       record {
         cut = c.cut;
-        is = is ∙ (λ i. record { layout = sym c.of_layout i; half = sym c.of_half i; other_open = beside i; epoch = sym c.of_epoch i; gate = gate i; plant = book.stored });
+        is = is ∙ (λ i. record { layout = sym c.of_layout i; half = sym c.of_half i; other_open = beside i; version = sym c.of_version i; epoch = sym c.of_epoch i; gate = gate i; plant = book.stored });
         stores = c.stores;
         gate = c.gate;
         closed = c.shut;

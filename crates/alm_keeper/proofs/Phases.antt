@@ -64,7 +64,7 @@ module _ (E : Type 0) (loose : ℕ → Bool) (Before After : List ℕ → Type 0
   goes Stopped call kept = absurd call
 
 -- what went out stays in a commit's calls
-module _ (E : Type 0) (a : Account) (k : Copy) (actions : List Action) (old new : DeviceState) (c : IsCopy a k) (takes : Takes a (length actions)) (gate : a.gate + 1 ≤ end_of a) where
+module _ (E : Type 0) (a : Account) (k : Copy) (actions : List Action) (old new : DeviceState) (c : IsCopy a k) (takes : Takes a actions) (gate : a.gate + 1 ≤ end_of a) where
   abbrev gone : List ℕ
   gone = take k.out (run_text a k)
 
@@ -80,7 +80,7 @@ module _ (E : Type 0) (a : Account) (k : Copy) (actions : List Action) (old new 
   stays Body call kept wrote =
       let g = kept.stands.0 in
       let long : other_at a + half_len a.layout ≤ length old.bytes = omega (arith, ap length kept.stands.3.reads, ready_long a (shows g kept.stands.1 g.room) (g.closed kept.stands.1 kept.stands.2 g.room refl)) in
-      wrote_write {E = E} (Ok tt) a gone old new (a.gate + 1) body short long (omega (arith, c.room)) (omega (arith, takes, body_long a.epoch (a.plant.panel.count + 1) actions)) call wrote
+      wrote_write {E = E} (Ok tt) a gone old new (a.gate + 1) body short long (omega (arith, c.room)) (omega (arith, takes.0, body_long a.epoch (a.plant.panel.count + 1) actions)) call wrote
   stays BodySync call kept wrote =
       wrote_sync {E = E} (also (a.gate + 1) (length body) (went a k.out)) a gone old new (shows kept.stands.0 kept.stands.1 body) kept.stands.3 call wrote
   stays Gate call kept wrote =
@@ -106,7 +106,7 @@ module _ (E : Type 0) (a : Account) (actions : List Action) (old new : DeviceSta
   abbrev text : List ℕ
   text = frame_body a.epoch (a.plant.panel.count + 1) actions
 
-  besides : (other : Option Copy) (step : Stage) → Takes a (length actions) → StageCall {E = E} step a.gate text (Ok tt) old new → Kept (went a (out_of other)) (Ready a) (Ready (committed a actions)) step old a.gate text
+  besides : (other : Option Copy) (step : Stage) → Takes a actions → StageCall {E = E} step a.gate text (Ok tt) old new → Kept (went a (out_of other)) (Ready a) (Ready (committed a actions)) step old a.gate text
       → Beside other a old → Beside other a new
   besides None step takes call kept beside = tt
   besides (Some k) step takes call kept beside = (beside.0, stays E a k actions old new beside.0 takes gate step call kept beside.1)

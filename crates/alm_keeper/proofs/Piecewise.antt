@@ -26,7 +26,7 @@ module _ (c : Cut) (plant : Condensed) (gate : ℕ) (tail : List ℕ) (stores : 
   rear = side_back c c.half (gate ∷ tail)
 
   pub there : (o : List ℕ) → device_of (with_other c o) (gate ∷ tail) ≡ ahead ++ o ++ rear
-  there o = beside c.layout c.half c.epoch c.base c.frames c.other o c.rest (gate ∷ tail)
+  there o = beside c.layout c.half c.version c.epoch c.base c.frames c.other o c.rest (gate ∷ tail)
 
   pub ahead_long : length ahead ≡ half_at c.layout (other c.half)
   ahead_long = side_long c plant (gate ∷ tail) stores reaches c.half refl
@@ -38,7 +38,7 @@ module _ (c : Cut) (plant : Condensed) (gate : ℕ) (tail : List ℕ) (stores : 
       let place : length (front c) ≡ length (front (with_other c o)) = omega (arith, gate_at c plant (gate ∷ tail) stores reaches, gate_at (with_other c o) plant (gate ∷ tail) kept reaches) in
       record {
         cut = with_other c o;
-        is = λ i. record { layout = c.layout; half = c.half; other_open = (old ∙ sym shut) i; epoch = c.epoch; gate = place i; plant = plant };
+        is = λ i. record { layout = c.layout; half = c.half; other_open = (old ∙ sym shut) i; version = c.version; epoch = c.epoch; gate = place i; plant = plant };
         stores = kept;
         gate = gate;
         closed = closed;

@@ -1,8 +1,10 @@
 -- What callers see of a book's calls.
-use Rattle.std.proofs.Common.{◌≡◌, ℕ, ◌+◌, ◌-◌, List, [], length, Result, Ok, Err, refl, sym, ◌∙◌, ap, arith}
+use Rattle.std.proofs.Common.{◌≡◌, ◌≢◌, ℕ, ◌+◌, ◌-◌, Bool, true, false, List, [], length, Result, Ok, Err, refl, sym, ◌∙◌, ap, subst, arith}
+use Rattle.alm_codec.specs.declared.version.Version.TheVariants.{V02}
 use Rattle.alm_types.specs.declared.action.Action.{Action}
 use Rattle.alm_model.specs.Step.{run}
 use Rattle.alm_segment.specs.Course.{frame_len}
+use Rattle.alm_checkpoint.specs.Layouts.{head_len, image_size}
 use Rattle.alm_keeper.specs.declared.book.Book.{Book}
 use Rattle.alm_keeper.specs.declared.refused.Refused.{Refused}
 use Rattle.alm_keeper.specs.declared.refused.Refused.TheVariants as no
@@ -12,78 +14,177 @@ use Rattle.alm_keeper.specs.declared.stage.Stage.{Stage}
 use Rattle.alm_keeper.specs.declared.stage.Stage.TheVariants.{Idle, Close, CloseSync, Body, BodySync, Gate, GateSync, Stopped}
 use Rattle.alm_keeper.specs.declared.stage.Work.{Work}
 use Rattle.alm_keeper.specs.declared.stage.Work.TheVariants.{Commit, Checkpoint}
-use Rattle.alm_keeper.specs.Stand.{Account, Takes, committed, turned, end_of}
-use Rattle.alm_keeper.specs.Stages.{open_after}
-use Rattle.alm_keeper.specs.Keeper.{HasRoom, with_actions, with_checkpoint, next_by, BeginsCommit, BeginsCheckpoint, Advances}
-use Rattle.alm_keeper.specs.Keeping.{account, done_with, begun, next_of, standing, held, Begins, Copies, Ends}
+use Rattle.alm_keeper.specs.Stand.{Account, Fits, Takes, committed, turned, end_of}
+use Rattle.alm_keeper.specs.Stages.{first_stage, rest_stage, rest_work}
+use Rattle.alm_keeper.specs.Keeper.{Held, Standing, HasRoom, Takes as StandingTakes, with_actions, with_checkpoint, begun, begun_by, next_by, grown, after, after_by, BeginsCommit, BeginsCheckpoint, Advances}
+use Rattle.alm_keeper.specs.Keeping.{account, done_by, next_of, standing, held, Begins, Copies, Closes, Turns, GrowsWhere, GoesOn, Ends}
 
 -- a commit, a checkpoint
-after_commit : (a : Account) (actions : List Action) → standing (committed a actions) ≡ with_actions (standing a) actions
-after_commit a actions = λ i. record { epoch = a.epoch; plant = run a.plant actions; room = left i }
+pub after_commit : (a : Account) (actions : List Action) → standing (committed a actions) ≡ with_actions (standing a) actions
+after_commit a actions = λ i. record { version = a.version; epoch = a.epoch; plant = run a.plant actions; room = left i }
   where
     left : end_of a - (a.gate + frame_len (length actions)) ≡ end_of a - a.gate - frame_len (length actions)
     left = omega arith
 
-after_checkpoint : (a : Account) → standing (turned a) ≡ with_checkpoint a.layout.segment (standing a)
-after_checkpoint a = λ i. record { epoch = a.epoch + 1; plant = a.plant; room = left i }
+pub after_checkpoint : (a : Account) (n : ℕ) → standing (turned a n) ≡ with_checkpoint (head_len + image_size a.layout + a.layout.segment) n (standing a)
+after_checkpoint a n = λ i. record { version = V02; epoch = a.epoch + 1; plant = a.plant; room = left i }
   where
-    left : end_of (turned a) - (turned a).gate ≡ a.layout.segment
+    left : end_of (turned a n) - (turned a n).gate ≡ head_len + image_size a.layout + a.layout.segment - n
     left = omega arith
-
--- the work that is begun, where it is known
-begun_is : (b : Book) (work : Work) (a : Account) (actions : List Action) → b.work ≡ work → account b ≡ a → b.actions.items ≡ actions → begun b ≡ done_with work a actions
-begun_is b work a actions is same list = λ i. done_with (is i) (same i) (list i)
-
-checkpoint_is : (b : Book) (a : Account) → b.work ≡ Checkpoint → account b ≡ a → begun b ≡ turned a
-checkpoint_is b a is same = λ i. done_with (is i) (same i) b.actions.items
-
--- segment and mark, by the account
-stays : (old new : Book) → account new ≡ account old → (new.layout.segment ≡ old.layout.segment) × (new.other_open ≡ old.other_open)
-stays old new same = (ap (λ (a : Account). a.layout.segment) same, ap (λ (a : Account). a.other_open) same)
-
--- .. once the work is done
-done_marks : (work : Work) (a : Account) (actions : List Action) → (a.layout.segment ≡ (done_with work a actions).layout.segment) × ((done_with work a actions).other_open ≡ open_after GateSync work a.other_open)
-done_marks Commit a actions = (refl, refl)
-done_marks Checkpoint a actions = (refl, refl)
 
 module _ {D : Type 0} (disk : D) where
   pub begins_seen : (result : Result Unit Refused) (actions : List Action) (old new : Book) → Begins result actions old new → BeginsCommit result actions (held disk old) (held disk new)
-  begins_seen (Ok _) actions old new b = (b.1, b.2, ap standing b.3, ap standing (begun_is new Commit (account old) actions b.2 b.3 b.4) ∙ after_commit (account old) actions, stays old new b.3)
-  begins_seen (Err (no.NotAccepted place)) actions old new b = (b.1, ap standing b.3, ap standing (begun_is new Commit (account old) [] b.2 b.3 b.4) ∙ after_commit (account old) [], stays old new b.3)
+  begins_seen (Ok _) actions old new b = λ i. record {
+    disk = disk;
+    stage = b.1 i;
+    work = b.2 i;
+    other_open = (b.4.account i).other_open;
+    image = image_size (b.4.account i).layout;
+    segment = (b.4.account i).layout.segment;
+    stored = standing (b.4.account i);
+    actions = b.3 i;
+    copying = b.4.copying i;
+    run = b.4.run i;
+    out = b.4.out i;
+    written = b.4.written i;
+  }
+  begins_seen (Err (no.NotAccepted place)) actions old new b = λ i. record {
+    disk = disk;
+    stage = b.1 i;
+    work = b.2 i;
+    other_open = (b.4.account i).other_open;
+    image = image_size (b.4.account i).layout;
+    segment = (b.4.account i).layout.segment;
+    stored = standing (b.4.account i);
+    actions = b.3 i;
+    copying = b.4.copying i;
+    run = b.4.run i;
+    out = b.4.out i;
+    written = b.4.written i;
+  }
   begins_seen (Err no.Stopped) actions old new b = ap (held disk) b
   begins_seen (Err no.Working) actions old new b = ap (held disk) b
   begins_seen (Err no.Gap) actions old new b = ap (held disk) b
   begins_seen (Err no.Exhausted) actions old new b = ap (held disk) b
 
   pub copies_seen : (result : Result Unit Refused) (old new : Book) → Copies result old new → BeginsCheckpoint result (held disk old) (held disk new)
-  copies_seen (Ok _) old new b = (b.1, b.2, ap standing b.3, ap standing (checkpoint_is new (account old) b.2 b.3) ∙ after_checkpoint (account old), stays old new b.3)
+  copies_seen (Ok _) old new b = λ i. record {
+    disk = disk;
+    stage = b.stage i;
+    work = b.work i;
+    other_open = (b.account i).other_open;
+    image = image_size (b.account i).layout;
+    segment = (b.account i).layout.segment;
+    stored = standing (b.account i);
+    actions = b.actions i;
+    copying = b.copying i;
+    run = b.run i;
+    out = b.out i;
+    written = b.written i;
+  }
   copies_seen (Err why) old new b = ap (held disk) b
 
-  pub ends_seen : (after : D) (result : Progress) (old new : Book) → Ends result old new → Advances result (held disk old) (held after new)
-  ends_seen after More old new e = (e.0, e.4, e.1, ap standing e.2, ap standing e.3, (ap (λ (a : Account). a.layout.segment) e.2, ap (λ (a : Account). a.other_open) e.2))
-  ends_seen after Done old new e =
-      let marks = done_marks old.work (account old) old.actions.items in (
-        e.0,
-        e.1,
-        ap standing e.2,
-        (ap (λ (a : Account). a.layout.segment) e.2 ∙ sym marks.0, ap (λ (a : Account). a.other_open) e.2 ∙ marks.1 ∙ ap (λ (s : Stage). open_after s old.work old.other_open) (sym e.0)),
-      )
-  ends_seen after Failed old new e = (e.0, e.1, ap standing e.2, ap standing e.3, stays old new e.2)
+-- a call that was done
+module _ {D : Type 0} (disk to : D) (old new : Book) where
+  closes_seen : Closes old new → held to new ≡ record (after_by GateSync Commit (held disk old)) { disk = to }
+  closes_seen c = λ i. record {
+    disk = to;
+    stage = c.stage i;
+    work = c.work i;
+    other_open = (c.account i).other_open;
+    image = image_size (c.account i).layout;
+    segment = (c.account i).layout.segment;
+    stored = (ap standing c.account ∙ after_commit (account old) old.actions.items) i;
+    actions = c.actions i;
+    copying = c.copying i;
+    run = by_copying old.copying c.grows i;
+    out = c.out i;
+    written = c.written i;
+  }
+    where
+      by_copying : (copying : Bool) → GrowsWhere copying old new → new.run ≡ grown copying old.run (length old.actions.items)
+      by_copying true g = g.run
+      by_copying false g = g
+
+  turns_seen : Turns old new → held to new ≡ record (after_by GateSync Checkpoint (held disk old)) { disk = to }
+  turns_seen t = λ i. record {
+    disk = to;
+    stage = t.stage i;
+    work = t.work i;
+    other_open = (t.account i).other_open;
+    image = image_size (t.account i).layout;
+    segment = (t.account i).layout.segment;
+    stored = (ap standing t.account ∙ after_checkpoint (account old) old.run) i;
+    actions = t.actions i;
+    copying = t.copying i;
+    run = t.run i;
+    out = t.out i;
+    written = t.written i;
+  }
+
+  by_stage : (stage : Stage) (work : Work) (step : Progress) → old.stage ≡ stage → old.work ≡ work → GoesOn stage work step old new → held to new ≡ record (after_by stage work (held disk old)) { disk = to }
+  by_stage Idle work step at is g = ap (held to) g.1
+  by_stage Close work step at is g = ap (held to) g.1
+  by_stage CloseSync work step at is g = ap (held to) g.1
+  by_stage Body Commit step at is g = ap (held to) g.1
+  by_stage Body Checkpoint step at is g = ap (held to) g.1
+  by_stage BodySync work step at is g = ap (held to) g.1
+  by_stage Gate work step at is g = ap (held to) g.1
+  by_stage GateSync Commit step at is g = closes_seen g.1
+  by_stage GateSync Checkpoint step at is g = turns_seen g.1
+  by_stage Stopped work step at is g = ap (held to) g.1
+
+  goes_seen : (step : Progress) → GoesOn old.stage old.work step old new → held to new ≡ record (after (held disk old)) { disk = to }
+  goes_seen step g = by_stage old.stage old.work step refl refl g
+
+  -- Done is told at the end alone
+  abbrev IsMore : Progress → Type 0
+  IsMore More = Unit {0}
+  IsMore step = ⊥
+
+  is_done : (stage : Stage) (work : Work) → GoesOn stage work Done old new → stage ≡ GateSync
+  is_done Idle work g = absurd (subst IsMore (sym g.0) tt)
+  is_done Close work g = absurd (subst IsMore (sym g.0) tt)
+  is_done CloseSync work g = absurd (subst IsMore (sym g.0) tt)
+  is_done Body Commit g = absurd (subst IsMore (sym g.0) tt)
+  is_done Body Checkpoint g = absurd (subst IsMore (sym g.0) tt)
+  is_done BodySync work g = absurd (subst IsMore (sym g.0) tt)
+  is_done Gate work g = absurd (subst IsMore (sym g.0) tt)
+  is_done GateSync work g = refl
+  is_done Stopped work g = absurd (subst IsMore (sym g.0) tt)
+
+  not_more : (work : Work) → GoesOn GateSync work More old new → ⊥
+  not_more work g = absurd (subst IsMore g.0 tt)
+
+  pub ends_seen : (result : Progress) → Ends result old new → Advances result (held disk old) (held to new)
+  ends_seen More e = (λ at. not_more old.work (subst (λ (s : Stage). GoesOn s old.work More old new) at e), goes_seen More e)
+  ends_seen Done e = (is_done old.stage old.work e, goes_seen Done e)
+  ends_seen Failed e = ap (held to) e
 
 -- what is next
-pub next_seen : (b : Book) (stage : Stage) → standing (next_of stage b.work (account b) b.actions.items) ≡ next_by stage (standing (account b)) (standing (begun b))
-next_seen b Idle = refl
-next_seen b Close = refl
-next_seen b CloseSync = refl
-next_seen b Body = refl
-next_seen b BodySync = refl
-next_seen b Gate = refl
-next_seen b GateSync = refl
-next_seen b Stopped = refl
+pub begun_seen : {D : Type 0} (disk : D) (b : Book) (work : Work) → standing (done_by work b) ≡ begun_by work (held disk b)
+begun_seen disk b Commit = after_commit (account b) b.actions.items
+begun_seen disk b Checkpoint = after_checkpoint (account b) b.run
+
+pub next_seen : {D : Type 0} (disk : D) (b : Book) (stage : Stage) → standing (next_of stage b.work b) ≡ next_by stage (standing (account b)) (begun (held disk b))
+next_seen disk b Idle = refl
+next_seen disk b Close = begun_seen disk b b.work
+next_seen disk b CloseSync = begun_seen disk b b.work
+next_seen disk b Body = begun_seen disk b b.work
+next_seen disk b BodySync = begun_seen disk b b.work
+next_seen disk b Gate = begun_seen disk b b.work
+next_seen disk b GateSync = begun_seen disk b b.work
+next_seen disk b Stopped = begun_seen disk b b.work
 
 -- the room for frames
-pub room_seen : (a : Account) (n : ℕ) → Takes a n → HasRoom (standing a) n
-room_seen a n takes = omega (arith, takes)
+pub room_seen : (a : Account) (n : ℕ) → Fits a n → HasRoom (standing a) n
+room_seen a n fits = omega (arith, fits)
 
-pub room_of : (a : Account) (n : ℕ) → HasRoom (standing a) n → Takes a n
+pub room_of : (a : Account) (n : ℕ) → HasRoom (standing a) n → Fits a n
 room_of a n room = omega (arith, room)
+
+pub takes_seen : (a : Account) (actions : List Action) → Takes a actions → StandingTakes (standing a) actions
+takes_seen a actions takes = (room_seen a (length actions) takes.0, takes.1)
+
+pub takes_of : (a : Account) (actions : List Action) → StandingTakes (standing a) actions → Takes a actions
+takes_of a actions takes = (room_of a (length actions) takes.0, takes.1)

@@ -1,6 +1,7 @@
 -- The last byte is set.
-use Rattle.std.proofs.Common.{◌≡◌, ◌≤◌, ℕ, ◌+◌, ◌-◌, List, [], ◌∷◌, ◌++◌, length, set, slice_set, drop, refl, ◌∙◌, ap, arith, length-drop}
-use Rattle.std.proofs.lemmas.List.{append-nil}
+use Rattle.std.proofs.Common.{◌≡◌, ◌≤◌, ℕ, ◌+◌, ◌-◌, List, [], ◌∷◌, ◌++◌, length, set, slice_set, take, drop, refl, sym, append_assoc, ◌∙◌, ap, arith, length-drop}
+use Rattle.std.proofs.lemmas.List.{append-nil, take_more_set, drop-drop}
+use Rattle.std.proofs.Math.Seq.{take-set-lt}
 use borrow.Rule.Slice.PartMut.{put_mid}
 
 last_set : (xs ys : List ℕ) (y : ℕ) → length ys ≡ 1 → set (xs ++ ys) (length xs) y ≡ xs ++ y ∷ []
@@ -23,3 +24,23 @@ set_before (x ∷ out) new y long = ap (λ (k : ℕ). put_mid 1 k (y ∷ out) ne
   where
     less : length (x ∷ out) - 1 ≡ length out
     less = omega arith
+
+regroup : (f b d : List ℕ) (g : ℕ) → (f ++ g ∷ []) ++ (b ++ d) ≡ f ++ (g ∷ b) ++ d
+regroup f b d g = simp append_assoc
+
+-- the last byte of a front is set, and what stands behind it
+pub set_between : (out front back new body : List ℕ) (run m y : ℕ) → front ≡ take run out → back ≡ drop run out → new ≡ body ++ drop m back → 1 ≤ run → run ≤ length out
+    → slice_set front (run - 1) y ++ new ≡ take (run - 1) out ++ (y ∷ body) ++ drop (run + m) out
+set_between out front back new body run m y front_is back_is new_is some within =
+    (λ i. slice_set (front_is i) (run - 1) y ++ new_is i)
+    ∙ (λ i. set_front i ++ (body ++ behind i))
+    ∙ regroup (take (run - 1) out) body (drop (run + m) out) y
+  where
+    last : run - 1 + 1 ≡ run
+    last = omega (arith, some)
+
+    set_front : slice_set (take run out) (run - 1) y ≡ take (run - 1) out ++ y ∷ []
+    set_front = sym (take-set-lt run out (run - 1) y (omega (arith, some))) ∙ ap (λ (n : ℕ). take n (set out (run - 1) y)) (sym last) ∙ take_more_set out (run - 1) y (omega (arith, some, within))
+
+    behind : drop m back ≡ drop (run + m) out
+    behind = ap (drop m) back_is ∙ drop-drop m run out

@@ -1,5 +1,5 @@
 -- What a device stands for, by what it holds.
-use Rattle.std.proofs.Common.{◌≡◌, ◌⊎◌, inl, inr, ⊎_elim, ℕ, suc, List, ◌∷◌, length, Ok, refl, sym, ◌∙◌, ap, subst, arith}
+use Rattle.std.proofs.Common.{◌≡◌, ◌⊎◌, inl, inr, ⊎_elim, ℕ, ◌+◌, ◌≤◌, suc, Bool, true, false, List, ◌∷◌, length, Ok, refl, sym, ◌∙◌, ap, subst, arith}
 use Rattle.std.proofs.Math.Logic.{∥∥₁_map}
 use Rattle.alm_model.specs.Plant.{Condensed}
 use Rattle.alm_disk.specs.Device.{DeviceState, IsImage}
@@ -7,28 +7,30 @@ use Rattle.alm_disk.specs.Settled.{IsSettled}
 use Rattle.alm_disk.proofs.Images.{settled_image}
 use Rattle.alm_segment.proofs.Segments.{folds}
 use Rattle.alm_checkpoint.specs.Standing.{Stands}
+use Rattle.alm_checkpoint.specs.Layouts.{head_len}
 use Rattle.alm_checkpoint.specs.Cut.{device_of}
 use Rattle.alm_checkpoint.proofs.Shown.{shown, shown_opens, stands}
 use Rattle.alm_checkpoint.proofs.Grown.{gate_at}
 use Rattle.alm_keeper.specs.declared.book.Book.{Book}
 use Rattle.alm_keeper.specs.declared.stage.Stage.{Stage}
 use Rattle.alm_keeper.specs.declared.stage.Stage.TheVariants.{Idle, Close, CloseSync, Body, BodySync, Gate, GateSync, Stopped}
-use Rattle.alm_keeper.specs.Stages.{IsWorking, During}
-use Rattle.alm_keeper.specs.Stand.{Holds, Ready, Account, account_of, turned}
-use Rattle.alm_keeper.specs.Piecewise.{fresh, turned_by}
-use Rattle.alm_keeper.specs.Phases.{Rested}
-use Rattle.alm_keeper.specs.Keeper.{Standing, Held, next_by, StandsFor, StandsWithRoom, MayStand}
-use Rattle.alm_keeper.specs.Keeper.{next as next_seen_of}
-use Rattle.alm_keeper.specs.Keeping.{account, begun, done_with, next_of, next, standing, held, InOrder, KeptBy, Keeps, MayLeave}
-use Rattle.alm_keeper.proofs.Commit.{ready_holds}
-use Rattle.alm_keeper.proofs.Going.{rested, turned_is}
-use Rattle.alm_keeper.proofs.Order.{image_size_is}
 use Rattle.alm_keeper.specs.declared.stage.Work.{Work}
 use Rattle.alm_keeper.specs.declared.stage.Work.TheVariants.{Commit, Checkpoint}
 use Rattle.alm_types.specs.declared.action.Action.{Action}
-use Rattle.alm_codec.specs.Image.{image_text}
-use Rattle.alm_checkpoint.specs.Layouts.{image_size}
-use Rattle.alm_keeper.proofs.Seen.{next_seen}
+use Rattle.alm_keeper.specs.Stages.{IsWorking, IsResting, During, phase_of}
+use Rattle.alm_keeper.specs.Stand.{Holds, Ready, Account, account_of, committed, turned}
+use Rattle.alm_keeper.specs.Piecewise.{Copy, run_text, turned_by}
+use Rattle.alm_keeper.specs.Phases.{KeptIn}
+use Rattle.alm_keeper.specs.Keeper.{Standing, Held, StandsFor, StandsWithRoom, MayStand}
+use Rattle.alm_keeper.specs.Keeper.{next as next_seen_of}
+use Rattle.alm_keeper.specs.Keeper.{Advances as AdvancesSeen}
+use Rattle.alm_keeper.specs.declared.progress.Progress.{Progress}
+use Rattle.alm_keeper.specs.Keeping.{account, done_by, next_of, next, alone, beside, at_out, standing, held, InOrder, KeptBy, Keeps, MayLeave, Ends}
+use Rattle.alm_keeper.proofs.Commit.{ready_holds}
+use Rattle.alm_keeper.proofs.Order.{Possible, possible, layout_limits, runs_by, frames_by, piece_by, copies_by}
+use Rattle.alm_keeper.proofs.Going.{turned_is, kept_alone, kept_beside, never_alone, next_is, run_size, rested}
+use Rattle.alm_keeper.proofs.Starting.{AtRest, Idles, Pauses, at_rest, rest_ready}
+use Rattle.alm_keeper.proofs.Seen.{next_seen, ends_seen}
 
 -- ---- what a device stands for, by what it holds
 
@@ -43,7 +45,7 @@ ready_stands a b r = holds_stands a.epoch a.plant b (ready_holds a b r)
 pub ready_room : (a : Account) (b : List ℕ) → Ready a b → StandsWithRoom (standing a) b
 ready_room a b r =
     subst (λ (y : Account). StandsWithRoom (standing y) b) (sym r.is)
-    (subst (StandsWithRoom (standing (account_of r.cut a.plant))) (sym r.text) (here, left))
+    (subst (StandsWithRoom (standing (account_of r.cut a.plant))) (sym r.text) (here, left, refl))
   where
     here : Stands (device_of r.cut (r.gate ∷ r.tail)) r.cut.epoch a.plant
     here = record {
@@ -53,7 +55,7 @@ ready_room a b r =
       base = r.cut.base;
       spells = record { sizes = r.stores.sizes; image = r.stores.image };
       left = suc (length r.tail);
-      folds = folds r.cut.base r.cut.epoch r.cut.base.panel.count r.cut.frames r.gate r.tail r.stores.frames r.stores.admitted r.closed
+      folds = folds r.cut.version r.cut.base r.cut.epoch r.cut.base.panel.count r.cut.frames r.gate r.tail r.stores.frames r.stores.borne r.stores.admitted r.closed
           ∙ ap (λ (q : Condensed). Ok (q, suc (length r.tail))) r.stores.runs;
     }
 
@@ -74,76 +76,136 @@ during_map B A B' A' Stopped b f g d = ⊎_elim (λ x. inl (f x)) (λ x. inr (g 
 abbrev After : Book → List ℕ → Type 0
 After book b = Stands b (next book).epoch (next book).plant
 
-pub after_seen : (book : Book) (b : List ℕ) → After book b → StandsFor (next_by book.stage (standing (account book)) (standing (begun book))) b
-after_seen book b s = subst (λ (x : Standing). StandsFor x b) (next_seen book book.stage) s
+pub after_seen : {D : Type 0} (disk : D) (book : Book) (b : List ℕ) → After book b → StandsFor (next_seen_of (held disk book)) b
+after_seen disk book b s = subst (λ (x : Standing). StandsFor x b) (next_seen disk book book.stage) s
 
 -- by what is under way
-module _ (a : Account) (actions : List Action) (state : DeviceState) (b : List ℕ) (image : length (image_text a.plant) ≡ image_size a.layout) (left : IsImage state b) where
-  abbrev Either : Work → Type 0
-  Either work = Holds a.epoch a.plant b ⊎ Ready (done_with work a actions) b
+module _ (a : Account) (actions : List Action) (state : DeviceState) (b : List ℕ) (left : IsImage state b) where
+  abbrev Stored : Type 0
+  Stored = Holds a.epoch a.plant b
 
-  turns : Ready (turned_by a (fresh a)) b → Ready (turned a) b
-  turns r = subst (λ (x : Account). Ready x b) (turned_is a image) r
+  pub alone_leaves : (stage : Stage) → KeptIn (alone stage actions) a state → Stored ⊎ Ready (committed a actions) b
+  alone_leaves Idle k = inl (ready_holds a b (k.images b left))
+  alone_leaves Close k = absurd k.2.stands
+  alone_leaves CloseSync k = absurd k.2.stands
+  alone_leaves Body k = inl (ready_holds a b (k.2.images b left))
+  alone_leaves BodySync k = inl (ready_holds a b (k.2.images b left))
+  alone_leaves Gate k = inl (ready_holds a b (k.2.images b left))
+  alone_leaves GateSync k = ⊎_elim (λ x. inl (ready_holds a b x)) inr (k.2.images b left)
+  alone_leaves Stopped k = ⊎_elim (λ x. inl (ready_holds a b x)) inr (k.2.images b left)
 
-  held_by : (stage : Stage) (work : Work) → IsWorking stage → KeptBy stage work a actions state → Either work
-  held_by Idle work at k = absurd at
-  held_by Close work at k = inl (ready_holds a b (k.3.images b left))
-  held_by CloseSync work at k = inl (k.2.images b left)
-  held_by Body Commit at k = inl (ready_holds a b (k.2.images b left))
-  held_by Body Checkpoint at k = inl (ready_holds a b (k.1.images b left))
-  held_by BodySync Commit at k = inl (ready_holds a b (k.2.images b left))
-  held_by BodySync Checkpoint at k = inl (ready_holds a b (k.images b left))
-  held_by Gate Commit at k = inl (ready_holds a b (k.2.images b left))
-  held_by Gate Checkpoint at k = inl (ready_holds a b (k.images b left))
-  held_by GateSync Commit at k = ⊎_elim (λ x. inl (ready_holds a b x)) inr (k.2.images b left)
-  held_by GateSync Checkpoint at k = ⊎_elim (λ x. inl (ready_holds a b x)) (λ x. inr (turns x)) (k.images b left)
-  held_by Stopped work at k = absurd at
+  pub commit_leaves : (k : Copy) (stage : Stage) → Possible stage true Commit → KeptIn (beside stage Commit k actions) a state → Stored ⊎ Ready (committed a actions) b
+  commit_leaves c Idle may k = absurd may
+  commit_leaves c Close may k = absurd may
+  commit_leaves c CloseSync may k = absurd may
+  commit_leaves c Body may k = inl (ready_holds a b (k.2.images b left))
+  commit_leaves c BodySync may k = inl (ready_holds a b (k.2.images b left))
+  commit_leaves c Gate may k = inl (ready_holds a b (k.2.images b left))
+  commit_leaves c GateSync may k = ⊎_elim (λ x. inl (ready_holds a b x)) inr (k.2.images b left)
+  commit_leaves c Stopped may k = absurd may
 
-  pub either_is : (stage : Stage) (work : Work) → KeptBy stage work a actions state → Holds a.epoch a.plant b ⊎ Ready (next_of stage work a actions) b
-  either_is Idle work k = inr (k.images b left)
-  either_is Close work k = held_by Close work tt k
-  either_is CloseSync work k = held_by CloseSync work tt k
-  either_is Body work k = held_by Body work tt k
-  either_is BodySync work k = held_by BodySync work tt k
-  either_is Gate work k = held_by Gate work tt k
-  either_is GateSync work k = held_by GateSync work tt k
-  either_is Stopped work k = k b left
+  module _ (c : Copy) (n : ℕ) (long : length (run_text a c) ≡ n) where
+    turns : Ready (turned_by a c) b → Ready (turned a n) b
+    turns r = subst (λ (x : Account). Ready x b) (turned_is a c n long) r
 
-pub image_stands : (book : Book) (state : DeviceState) (b : List ℕ) → InOrder book → Keeps state book → IsImage state b
-    → StandsFor (standing (account book)) b ⊎ StandsFor (next_by book.stage (standing (account book)) (standing (begun book))) b
-image_stands book state b i k image =
-    ⊎_elim (λ h. inl (holds_stands book.epoch book.stored b h)) (λ r. inr (after_seen book b (ready_stands (next book) b r)))
-    (either_is (account book) book.actions.items state b (image_size_is book i) image book.stage book.work k)
+    pub checkpoint_leaves : (stage : Stage) → Possible stage true Checkpoint → KeptIn (beside stage Checkpoint c actions) a state → Stored ⊎ Ready (turned a n) b
+    checkpoint_leaves Idle may k = absurd may
+    checkpoint_leaves Close may k = inl (ready_holds a b (k.3.images b left))
+    checkpoint_leaves CloseSync may k = inl (k.2.images b left)
+    checkpoint_leaves Body may k = inl (ready_holds a b (k.1.images b left))
+    checkpoint_leaves BodySync may k = inl (ready_holds a b (k.images b left))
+    checkpoint_leaves Gate may k = inl (ready_holds a b (k.images b left))
+    checkpoint_leaves GateSync may k = ⊎_elim (λ x. inl (ready_holds a b x)) (λ x. inr (turns x)) (k.images b left)
+    checkpoint_leaves Stopped may k = absurd may
+
+-- of a book's device
+module _ (book : Book) (i : InOrder book) (state : DeviceState) (b : List ℕ) (left : IsImage state b) where
+  abbrev Either : Account → Type 0
+  Either a = Holds book.epoch book.stored b ⊎ Ready a b
+
+  at_work : IsWorking book.stage → (copying : Bool) (work : Work) → book.copying ≡ copying → Possible book.stage copying work → KeptBy book.stage copying work book state → Either (done_by work book)
+  at_work works false Commit is may k = alone_leaves (account book) book.actions.items state b left book.stage (kept_alone book state book.stage Commit works k)
+  at_work works false Checkpoint is may k = absurd (never_alone book.stage may)
+  at_work works true Commit is may k = let here = kept_beside book state book.stage Commit works k in commit_leaves (account book) book.actions.items state b left (at_out here.0 book.out) book.stage may here.2
+  at_work works true Checkpoint is may k =
+      let here = kept_beside book state book.stage Checkpoint works k in
+      checkpoint_leaves (account book) book.actions.items state b left (at_out here.0 book.out) book.run (ap length here.1 ∙ run_size book i works is) book.stage may here.2
+
+  works_next : (works : IsWorking book.stage) → Keeps state book → Either (next book)
+  works_next works k = subst Either (sym (next_is book book.stage refl works)) (at_work works book.copying book.work refl (possible book i works) k)
+
+  next_at : (stage : Stage) → book.stage ≡ stage → IsWorking stage → Keeps state book → Either (next_of stage book.work book)
+  next_at stage is works kept = subst (λ (s : Stage). Either (next_of s book.work book)) is (works_next (subst IsWorking (sym is) works) kept)
+
+  by_stage : (stage : Stage) → book.stage ≡ stage → Keeps state book → Either (next_of stage book.work book)
+  by_stage Idle is kept = inr (rest_ready book state (at_rest book state i (subst (λ (s : Stage). IsResting (phase_of s book.work)) (sym is) tt) kept) b left)
+  by_stage Close is kept = next_at Close is tt kept
+  by_stage CloseSync is kept = next_at CloseSync is tt kept
+  by_stage Body is kept = next_at Body is tt kept
+  by_stage BodySync is kept = next_at BodySync is tt kept
+  by_stage Gate is kept = next_at Gate is tt kept
+  by_stage GateSync is kept = next_at GateSync is tt kept
+  by_stage Stopped is kept = subst (λ (s : Stage). KeptBy s book.copying book.work book state) is kept b left
+
+  pub either_is : Keeps state book → Either (next book)
+  either_is kept = by_stage book.stage refl kept
+
+pub image_stands : {D : Type 0} (disk : D) (book : Book) (state : DeviceState) (b : List ℕ) → InOrder book → Keeps state book → IsImage state b
+    → StandsFor (standing (account book)) b ⊎ StandsFor (next_seen_of (held disk book)) b
+image_stands disk book state b i k image =
+    ⊎_elim (λ h. inl (holds_stands book.epoch book.stored b h)) (λ r. inr (after_seen disk book b (ready_stands (next book) b r)))
+    (either_is book i state b image k)
 
 pub leaves_stands : {D : Type 0} (disk : D) (book : Book) (b : List ℕ) → MayLeave book b → MayStand (held disk book) b
 leaves_stands disk book b m =
-    during_map (Holds book.epoch book.stored) (Ready (next book)) (StandsFor (standing (account book))) (StandsFor (next_by book.stage (standing (account book)) (standing (begun book)))) book.stage b
-    (holds_stands book.epoch book.stored b) (λ r. after_seen book b (ready_stands (next book) b r)) m
+    during_map (Holds book.epoch book.stored) (Ready (next book)) (StandsFor (standing (account book))) (StandsFor (next_seen_of (held disk book))) book.stage b
+    (holds_stands book.epoch book.stored b) (λ r. after_seen disk book b (ready_stands (next book) b r)) m
 
-pub idle_stands : (book : Book) (state : DeviceState) → book.stage ≡ Idle → Keeps state book → StandsWithRoom (standing (account book)) state.bytes
-idle_stands book state idle k =
-    let here : Rested (account book) state = subst (λ (s : Stage). KeptBy s book.work (account book) book.actions.items state) idle k in
-    subst (StandsWithRoom (standing (account book))) (sym here.rests.reads) (ready_room (account book) here.bytes here.ready)
+pub rest_stands : (book : Book) (state : DeviceState) → InOrder book → IsResting (phase_of book.stage book.work) → Keeps state book → StandsWithRoom (standing (account book)) state.bytes
+rest_stands book state i rests k = by_rest (at_rest book state i rests k)
+  where
+    by_rest : AtRest book state → StandsWithRoom (standing (account book)) state.bytes
+    by_rest (Idles off kept) = subst (StandsWithRoom (standing (account book))) (sym kept.rests.reads) (ready_room (account book) kept.bytes kept.ready)
+    by_rest (Pauses c on run kept) = subst (StandsWithRoom (standing (account book))) (sym kept.1.rests.reads) (ready_room (account book) kept.1.bytes kept.1.ready)
 
 -- the same of a keeper as its callers see it
 module _ {D : Type 0} (honest : D → Type 0) (state : D → DeviceState) (disk : D) (book : Book) (k : Held D) (same : held disk book ≡ k) (order : InOrder book) (kept : honest disk → ∥ Keeps (state disk) book ∥₁) where
   pub images_of : honest k.disk → (b : List ℕ) → IsImage (state k.disk) b → ∥ StandsFor k.stored b ⊎ StandsFor (next_seen_of k) b ∥₁
   images_of = subst (λ (h : Held D). honest h.disk → (b : List ℕ) → IsImage (state h.disk) b → ∥ StandsFor h.stored b ⊎ StandsFor (next_seen_of h) b ∥₁) same
-      (λ is b image. ∥∥₁_map (kept is) (λ x. image_stands book (state disk) b order x image))
+      (λ is b image. ∥∥₁_map (kept is) (λ x. image_stands disk book (state disk) b order x image))
 
-  pub idle_of : honest k.disk → k.stage ≡ Idle → ∥ StandsWithRoom k.stored (state k.disk).bytes ∥₁
-  idle_of = subst (λ (h : Held D). honest h.disk → h.stage ≡ Idle → ∥ StandsWithRoom h.stored (state h.disk).bytes ∥₁) same
-      (λ is idle. ∥∥₁_map (kept is) (λ x. idle_stands book (state disk) idle x))
+  pub rest_of : honest k.disk → IsResting (phase_of k.stage k.work) → ∥ StandsWithRoom k.stored (state k.disk).bytes ∥₁
+  rest_of = subst (λ (h : Held D). honest h.disk → IsResting (phase_of h.stage h.work) → ∥ StandsWithRoom h.stored (state h.disk).bytes ∥₁) same
+      (λ is rests. ∥∥₁_map (kept is) (λ x. rest_stands book (state disk) order rests x))
+
+  pub lengths_of : (k.image ≤ 3289168) × (k.segment ≤ 16777216)
+  lengths_of = subst (λ (h : Held D). (h.image ≤ 3289168) × (h.segment ≤ 16777216)) same (layout_limits book.layout order.layout)
+
+  pub runs_of : IsWorking k.stage → k.work ≡ Checkpoint → (k.out ≤ k.run) × (k.run + k.stored.room ≤ head_len + k.image + k.segment)
+  runs_of = subst (λ (h : Held D). IsWorking h.stage → h.work ≡ Checkpoint → (h.out ≤ h.run) × (h.run + h.stored.room ≤ head_len + h.image + h.segment)) same (λ works is. runs_by book order works is)
+
+  pub frames_of : IsWorking k.stage → k.work ≡ Commit → (length k.actions ≤ 256) × (k.copying ≡ true → k.out + 1 ≤ k.run)
+  frames_of = subst (λ (h : Held D). IsWorking h.stage → h.work ≡ Commit → (length h.actions ≤ 256) × (h.copying ≡ true → h.out + 1 ≤ h.run)) same (λ works is. frames_by book order works is)
+
+  pub pieces_of : k.stage ≡ Body → k.work ≡ Checkpoint → k.out + 1 ≤ k.run
+  pieces_of = subst (λ (h : Held D). h.stage ≡ Body → h.work ≡ Checkpoint → h.out + 1 ≤ h.run) same (λ at is. piece_by book order at is)
+
+  pub copies_of : (k.stage ≡ Idle → k.copying ≡ false) × (IsWorking k.stage → k.work ≡ Checkpoint → k.copying ≡ true)
+  copies_of = subst (λ (h : Held D). (h.stage ≡ Idle → h.copying ≡ false) × (IsWorking h.stage → h.work ≡ Checkpoint → h.copying ≡ true)) same (copies_by book order)
 
   pub moments_of : (new : DeviceState) → (honest disk → (b : List ℕ) → IsImage (state disk) b ⊎ IsImage new b → ∥ MayLeave book b ∥₁)
       → honest k.disk → (b : List ℕ) → IsImage (state k.disk) b ⊎ IsImage new b → ∥ MayStand k b ∥₁
   moments_of new leaves = subst (λ (h : Held D). honest h.disk → (b : List ℕ) → IsImage (state h.disk) b ⊎ IsImage new b → ∥ MayStand h b ∥₁) same
       (λ is b moment. ∥∥₁_map (leaves is b moment) (λ m. leaves_stands disk book b m))
 
+-- a call, as callers see it
+pub advances_of : (D : Type 0) (disk to : D) (old new : Book) (k : Held D) (result : Progress) → held disk old ≡ k → Ends result old new → AdvancesSeen result k (held to new)
+advances_of D disk to old new k result same e = subst (λ (h : Held D). AdvancesSeen result h (held to new)) same (ends_seen disk to old new result e)
+
 -- a device that was opened is kept
-pub opened_keeps : (book : Book) (state : DeviceState) → book.stage ≡ Idle → IsSettled state state.bytes → Ready (account book) state.bytes → Keeps state book
-opened_keeps book state idle settled ready =
-    rested book (account book) state idle refl
+pub opened_keeps : (book : Book) (state : DeviceState) → book.stage ≡ Idle → book.copying ≡ false → IsSettled state state.bytes → Ready (account book) state.bytes → Keeps state book
+opened_keeps book state idle off settled ready =
+    rested book (account book) state idle off refl
     (record {
       images = λ c image. subst (Ready (account book)) (sym (settled_image state state.bytes c settled image)) ready;
       bytes = state.bytes;

@@ -1,5 +1,5 @@
 -- The actions of a batch.
-use Rattle.std.specs.Prelude.{◌≡◌, ℕ, ◌+◌, List, [], ◌∷◌, ◌++◌, Option, Some, None, Result, Ok, Err}
+use Rattle.std.specs.Prelude.{◌≡◌, Bool, true, ℕ, ◌+◌, List, [], ◌∷◌, ◌++◌, Option, Some, None, Result, Ok, Err}
 use Rattle.alm_types.specs.declared.action.Action.{Action}
 use Rattle.alm_types.specs.declared.entry.Entry.{Entry}
 use Rattle.alm_types.specs.declared.verdict.Verdict.{Verdict}
@@ -11,6 +11,8 @@ use Rattle.alm_model.specs.Step.{step, run}
 use Rattle.alm_model.specs.Judging.{accepted_of, when_accepted}
 use Rattle.alm_model.specs.Rules.{AreAdmitted}
 use Rattle.alm_codec.specs.Reading.{◌>>=◌}
+use Rattle.alm_codec.specs.declared.version.Version.{Version}
+use Rattle.alm_codec.specs.Versions.{bears}
 
 -- the plant, unless there is a reason against it
 abbrev pub unless_refused : Option Refusal → ℕ → Condensed → Result Condensed ℕ
@@ -39,3 +41,11 @@ pub record TriesAll (old new : Condensed) (entries : List Entry) (found : List A
   pub actions : found ≡ accepted_of entries
   pub admitted : AreAdmitted old found
   pub plant : new ≡ run old found
+
+-- whether an entry isn't accepted, or a version has its action
+abbrev pub bears_verdict : Version → Verdict → Bool
+bears_verdict version (Accepted a) = bears version a
+bears_verdict version (Refused why count) = true
+
+abbrev pub bears_entry : Version → Entry → Bool
+bears_entry version e = bears_verdict version e.verdict

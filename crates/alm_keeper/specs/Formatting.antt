@@ -1,8 +1,9 @@
 -- Formatting a device.
-use Rattle.std.specs.Prelude.{◌≡◌, ◌⊎◌, ℕ, ◌+◌, ◌≤◌, ◌||◌, true, false, List, [], ◌∷◌, ◌++◌, length, take, drop}
+use Rattle.std.specs.Prelude.{◌≡◌, ◌⊎◌, ℕ, ◌+◌, ◌≤◌, ◌||◌, true, false, List, [], ◌∷◌, ◌++◌, length, take, drop, Ok}
 use Rattle.alm_types.specs.Tables.{Listing}
 use Rattle.alm_model.specs.Plant.{Condensed}
 use Rattle.alm_model.specs.New.{new_plant}
+use Rattle.alm_codec.specs.declared.version.Version.{Version}
 use Rattle.alm_codec.specs.Image.{image_text}
 use Rattle.alm_disk.specs.Device.{DeviceState, IsImage, is_within}
 use Rattle.alm_disk.specs.Settled.{IsSettled}
@@ -13,6 +14,7 @@ use Rattle.alm_checkpoint.specs.Layouts.{byte_at, half_at}
 use Rattle.alm_checkpoint.specs.Headers.{half_head_text, suits}
 use Rattle.alm_checkpoint.specs.declared.fault.Fault.TheVariants.{Unformatted}
 use Rattle.alm_checkpoint.specs.Standing.{HasFault, Stands}
+use Rattle.alm_checkpoint.specs.Opening.{Opened, opened_in}
 
 -- the bytes are not those of a formatted device
 abbrev pub IsUnformatted : List ℕ → Type 0
@@ -29,6 +31,13 @@ pub record IsLongest (size : ℕ) (t : Listing) (l : Layout) : Type 0 where
 pub record IsNew (size : ℕ) (t : Listing) (bytes : List ℕ) : Type 0 where
   pub stands : Stands bytes 1 (new_plant t)
   pub longest : IsLongest size t stands.opened.layout
+
+-- the header of the bytes and the half that stands are of a version
+pub record IsOfVersion (version : Version) (bytes : List ℕ) : Type 0 where
+  pub opened : Opened
+  pub opens : opened_in bytes ≡ Ok opened
+  pub of_header : opened.layout.version ≡ version
+  pub of_half : opened.head.version ≡ version
 
 -- the header's gate reads closed, and no crash opens it
 pub record IsShut (state : DeviceState) : Type 0 where
@@ -70,7 +79,7 @@ IsOpened state b = b ≡ opened state.bytes
 
 -- half 0 from its closed gate on, up to its segment's first gate, also closed
 abbrev pub first_half : Layout → Condensed → List ℕ
-first_half l plant = 0 ∷ (half_head_text l 1 plant.panel.count ++ image_text plant ++ 0 ∷ [])
+first_half l plant = 0 ∷ (half_head_text l l.version 1 plant.panel.count ++ image_text plant ++ 0 ∷ [])
 
 -- all of it is written on some device of a size
 pub record IsWritten (size : ℕ) (l : Layout) (header half bytes : List ℕ) : Type 0 where

@@ -1,5 +1,5 @@
 -- A keeper as its callers see it, and what each call makes of it.
-use Rattle.std.specs.Prelude.{◌≡◌, ◌↔◌, ℕ, ◌+◌, ◌-◌, ◌≤◌, ◌^◌, ◌==◌, Bool, List, [], length, Result, Ok, Err, IsErr, if◌then◌else◌}
+use Rattle.std.specs.Prelude.{◌≡◌, ◌≢◌, ◌↔◌, ℕ, ◌+◌, ◌-◌, ◌≤◌, ◌^◌, ◌==◌, min, Bool, true, false, List, [], length, Result, Ok, Err, IsErr, if◌then◌else◌}
 use Rattle.alm_types.specs.declared.action.Action.{Action}
 use Rattle.alm_types.specs.Batches.{Judged}
 use Rattle.alm_model.specs.Plant.{Condensed}
@@ -7,10 +7,16 @@ use Rattle.alm_model.specs.Step.{run}
 use Rattle.alm_disk.specs.Calls.{IsOneCall}
 use Rattle.alm_disk.specs.declared.call.Call.{Call}
 use Rattle.alm_disk.specs.declared.disk_fault.DiskFault.{DiskFault}
+use Rattle.alm_codec.specs.declared.version.Version.{Version}
+use Rattle.alm_codec.specs.declared.version.Version.TheVariants.{V02}
+use Rattle.alm_codec.specs.Versions.{AreBorne}
 use Rattle.alm_segment.specs.Course.{frame_len}
+use Rattle.alm_checkpoint.specs.Layouts.{head_len}
 use Rattle.alm_checkpoint.specs.Standing.{Stands}
+use Rattle.alm_keeper.specs.declared.phase.Phase.{Phase}
+use Rattle.alm_keeper.specs.declared.phase.Phase.TheVariants as at
 use Rattle.alm_keeper.specs.declared.stage.Stage.{Stage}
-use Rattle.alm_keeper.specs.declared.stage.Stage.TheVariants.{Idle, Body, GateSync, Stopped}
+use Rattle.alm_keeper.specs.declared.stage.Stage.TheVariants.{Idle, CloseSync, Body, GateSync, Stopped}
 use Rattle.alm_keeper.specs.declared.stage.Work.{Work}
 use Rattle.alm_keeper.specs.declared.stage.Work.TheVariants.{Commit, Checkpoint}
 use Rattle.alm_keeper.specs.declared.refused.Refused.{Refused}
@@ -18,10 +24,12 @@ use Rattle.alm_keeper.specs.declared.refused.Refused.TheVariants as no
 use Rattle.alm_keeper.specs.declared.progress.Progress.{Progress}
 use Rattle.alm_keeper.specs.declared.progress.Progress.TheVariants.{More, Done, Failed}
 use Rattle.alm_keeper.specs.Batch.{tried}
-use Rattle.alm_keeper.specs.Stages.{first_stage, following, open_after, IsWorking, During}
+use Rattle.alm_keeper.specs.Stages.{first_stage, following, sent_stage, rest_stage, rest_work, During}
 
--- what a device stands for: a plant in an epoch, and how many bytes of the segment are left from its first closed gate on
+-- what a device stands for: a plant in an epoch, the version of its half, and how many bytes of the segment are left from its first
+-- closed gate on
 pub record Standing : Type 0 where
+  pub version : Version
   pub epoch : ℕ
   pub plant : Condensed
   pub room : ℕ
@@ -34,11 +42,49 @@ pub record Held (D : Type 0) : Type 0 where
   pub work : Work
   -- the gate of the half that doesn't stand reads open
   pub other_open : Bool
-  -- how long a segment is
+  -- how long an image and a segment are
+  pub image : ℕ
   pub segment : ℕ
-  -- what is stored, and what the work that is begun makes of it
   pub stored : Standing
-  pub begun : Standing
+  -- the actions of the commit that is begun
+  pub actions : List Action
+  -- a checkpoint is open; how long its run is, and how many bytes of it went out
+  pub copying : Bool
+  pub run : ℕ
+  pub out : ℕ
+  -- how many bytes of runs went out since the last commit's end or mark, up to the largest number
+  pub written : ℕ
+
+-- a frame of so many actions and the gate behind it fit
+abbrev pub HasRoom : Standing → ℕ → Type 0
+HasRoom s actions = frame_len actions + 1 ≤ s.room
+
+-- how long the run of a checkpoint is at first: the head from its offset 1, the image, and a closed gate
+abbrev pub first_run : {D : Type 0} → Held D → ℕ
+first_run k = head_len + k.image
+
+-- where the first closed gate stands in the segment
+abbrev pub used : {D : Type 0} → Held D → ℕ
+used k = k.segment - k.stored.room
+
+-- a frame of these actions fits, and the half may hold them
+abbrev pub Takes : Standing → List Action → Type 0
+Takes s actions = HasRoom s (length actions) × AreBorne s.version actions
+
+-- after a commit, and after a checkpoint with a run that is so long
+abbrev pub with_actions : Standing → List Action → Standing
+with_actions s actions = record { version = s.version; epoch = s.epoch; plant = run s.plant actions; room = s.room - frame_len (length actions) }
+
+abbrev pub with_checkpoint : (half run : ℕ) → Standing → Standing
+with_checkpoint half run s = record { version = V02; epoch = s.epoch + 1; plant = s.plant; room = half - run }
+
+-- what the work that is begun makes of what is stored
+abbrev pub begun_by : {D : Type 0} → Work → Held D → Standing
+begun_by Commit k = with_actions k.stored k.actions
+begun_by Checkpoint k = with_checkpoint (head_len + k.image + k.segment) k.run k.stored
+
+abbrev pub begun : {D : Type 0} → Held D → Standing
+begun k = begun_by k.work k
 
 -- what is stored when the work that is begun is done
 abbrev pub next_by : Stage → (stored begun : Standing) → Standing
@@ -46,18 +92,13 @@ next_by Idle stored begun = stored
 next_by stage stored begun = begun
 
 abbrev pub next : {D : Type 0} → Held D → Standing
-next k = next_by k.stage k.stored k.begun
+next k = next_by k.stage k.stored (begun k)
 
--- a frame of so many actions and the gate behind it fit
-abbrev pub HasRoom : Standing → ℕ → Type 0
-HasRoom s actions = frame_len actions + 1 ≤ s.room
-
--- after a commit, and after a checkpoint
-abbrev pub with_actions : Standing → List Action → Standing
-with_actions s actions = record { epoch = s.epoch; plant = run s.plant actions; room = s.room - frame_len (length actions) }
-
-abbrev pub with_checkpoint : (segment : ℕ) → Standing → Standing
-with_checkpoint segment s = record { epoch = s.epoch + 1; plant = s.plant; room = segment }
+-- an open checkpoint waits between two pieces, or while a commit is under way
+abbrev pub IsPaused : {D : Type 0} → Phase → Held D → Type 0
+IsPaused at.Paused k = k.copying ≡ true
+IsPaused at.Committing k = k.copying ≡ true
+IsPaused phase k = ⊥
 
 -- ---- bytes
 
@@ -65,9 +106,9 @@ with_checkpoint segment s = record { epoch = s.epoch + 1; plant = s.plant; room 
 abbrev pub StandsFor : Standing → List ℕ → Type 0
 StandsFor s bytes = Stands bytes s.epoch s.plant
 
--- .. with just that room
+-- .. in a half of that version, with just that room
 abbrev pub StandsWithRoom : Standing → List ℕ → Type 0
-StandsWithRoom s bytes = (stands : Stands bytes s.epoch s.plant) × (stands.left ≡ s.room)
+StandsWithRoom s bytes = (stands : Stands bytes s.epoch s.plant) × (stands.left ≡ s.room) × (stands.opened.head.version ≡ s.version)
 
 -- at any moment of the call that is next: until the gate's write begins they stand for what is stored, from then on for that or for
 -- what is begun
@@ -80,44 +121,75 @@ abbrev pub trial : Result Condensed ℕ → Result Unit Refused
 trial (Ok q) = Ok tt
 trial (Err place) = Err (no.NotAccepted place)
 
--- to a batch: where the keeper is idle and the batch's first number comes next, its actions are tried on the stored plant
-abbrev pub begin_answer : Stage → Condensed → Judged → Result Unit Refused
-begin_answer Idle plant batch = if batch.first == plant.panel.count + 1 then trial (tried plant 0 batch.entries) else Err no.Gap
-begin_answer Stopped plant batch = Err no.Stopped
-begin_answer stage plant batch = Err no.Working
+-- to a batch: where nothing is under way and the batch's first number comes next, its actions are tried on the stored plant
+abbrev pub begin_answer : Phase → Condensed → Judged → Result Unit Refused
+begin_answer at.Stopped plant batch = Err no.Stopped
+begin_answer at.Committing plant batch = Err no.Working
+begin_answer at.Copying plant batch = Err no.Working
+begin_answer phase plant batch = if batch.first == plant.panel.count + 1 then trial (tried plant 0 batch.entries) else Err no.Gap
 
 -- to a checkpoint, in an epoch
-abbrev pub checkpoint_answer : Stage → ℕ → Result Unit Refused
-checkpoint_answer Idle epoch = if epoch + 1 == 2 ^ 64 then Err no.Exhausted else Ok tt
-checkpoint_answer Stopped epoch = Err no.Stopped
-checkpoint_answer stage epoch = Err no.Working
+abbrev pub checkpoint_answer : Phase → ℕ → Result Unit Refused
+checkpoint_answer at.Idle epoch = if epoch + 1 == 2 ^ 64 then Err no.Exhausted else Ok tt
+checkpoint_answer at.Stopped epoch = Err no.Stopped
+checkpoint_answer phase epoch = Err no.Working
 
 -- ---- what a call makes of a keeper
 
--- what stays as long as nothing is begun or done: how long a segment is, and how the other half's gate reads
-abbrev pub Stays : {D : Type 0} → (old new : Held D) → Type 0
-Stays old new = (new.segment ≡ old.segment) × (new.other_open ≡ old.other_open)
-
 -- a batch with these actions: the commit is begun; a batch that isn't accepted stops the keeper, and nothing of it is begun
 abbrev pub BeginsCommit : {D : Type 0} → Result Unit Refused → List Action → (old new : Held D) → Type 0
-BeginsCommit (Ok _) actions old new = (new.stage ≡ Body) × (new.work ≡ Commit) × (new.stored ≡ old.stored) × (new.begun ≡ with_actions old.stored actions) × Stays old new
-BeginsCommit (Err (no.NotAccepted place)) actions old new = (new.stage ≡ Stopped) × (new.stored ≡ old.stored) × (new.begun ≡ with_actions old.stored []) × Stays old new
+BeginsCommit (Ok _) actions old new = new ≡ record old { stage = Body; work = Commit; actions = actions }
+BeginsCommit (Err (no.NotAccepted place)) actions old new = new ≡ record old { stage = Stopped; work = Commit; actions = [] }
 BeginsCommit (Err why) actions old new = new ≡ old
 
+-- the stored plant is copied, and the checkpoint is open
 abbrev pub BeginsCheckpoint : {D : Type 0} → Result Unit Refused → (old new : Held D) → Type 0
-BeginsCheckpoint (Ok _) old new =
-    (new.stage ≡ first_stage old.other_open) × (new.work ≡ Checkpoint) × (new.stored ≡ old.stored) × (new.begun ≡ with_checkpoint old.segment old.stored) × Stays old new
+BeginsCheckpoint (Ok _) old new = new ≡ record old { stage = first_stage old.other_open; work = Checkpoint; copying = true; run = first_run old; out = 0 }
 BeginsCheckpoint (Err why) old new = new ≡ old
 
--- how the other half's gate reads after a call that was done
-abbrev pub Marks : {D : Type 0} → (old new : Held D) → Type 0
-Marks old new = (new.segment ≡ old.segment) × (new.other_open ≡ open_after old.stage old.work old.other_open)
+-- the longest piece, and the next one of so many bytes that are left
+abbrev pub most : ℕ
+most = 65536
 
--- one device call of the work
+abbrev pub piece : (left : ℕ) → ℕ
+piece left = min left most
+
+-- so many bytes went out
+abbrev pub counted : (written n : ℕ) → ℕ
+counted written n = min (written + n) (2 ^ 64 - 1)
+
+abbrev pub sends : {D : Type 0} → (n : ℕ) → Held D → Held D
+sends n k = record k { stage = sent_stage (k.out + n) k.run; out = k.out + n; written = counted k.written n }
+
+-- a frame of so many actions is copied behind the image
+abbrev pub grown : (copying : Bool) → (run actions : ℕ) → ℕ
+grown true run actions = run + frame_len actions
+grown false run actions = run
+
+-- a commit is done
+abbrev pub commits : {D : Type 0} → Held D → Held D
+commits k = record k { stage = rest_stage k.copying; work = rest_work k.copying; stored = with_actions k.stored k.actions; run = grown k.copying k.run (length k.actions); written = 0 }
+
+-- a checkpoint is done
+abbrev pub turns : {D : Type 0} → Held D → Held D
+turns k = record k { stage = Idle; other_open = true; stored = begun_by Checkpoint k; copying = false }
+
+-- the keeper after the call that is next was done
+abbrev pub after_by : {D : Type 0} → Stage → Work → Held D → Held D
+after_by CloseSync work k = record k { stage = Body; other_open = false }
+after_by Body Checkpoint k = sends (piece (k.run - k.out)) k
+after_by GateSync Commit k = commits k
+after_by GateSync Checkpoint k = turns k
+after_by stage work k = record k { stage = following stage }
+
+abbrev pub after : {D : Type 0} → Held D → Held D
+after k = after_by k.stage k.work k
+
+-- one device call of the work: Done is told at its end
 abbrev pub Advances : {D : Type 0} → Progress → (old new : Held D) → Type 0
-Advances More old new = (new.stage ≡ following old.stage) × IsWorking new.stage × (new.work ≡ old.work) × (new.stored ≡ old.stored) × (new.begun ≡ old.begun) × Marks old new
-Advances Done old new = (old.stage ≡ GateSync) × (new.stage ≡ Idle) × (new.stored ≡ old.begun) × Marks old new
-Advances Failed old new = (new.stage ≡ Stopped) × (new.work ≡ old.work) × (new.stored ≡ old.stored) × (new.begun ≡ old.begun) × Stays old new
+Advances More old new = (old.stage ≢ GateSync) × (new ≡ record (after old) { disk = new.disk })
+Advances Done old new = (old.stage ≡ GateSync) × (new ≡ record (after old) { disk = new.disk })
+Advances Failed old new = new ≡ record old { disk = new.disk; stage = Stopped }
 
 -- exactly one call was made of the device, and it failed where that is told
 pub record CallsOnce {D : Type 0} (serves : D → Call → Result Unit DiskFault → D → Type 0) (told : Progress) (old new : D) : Type 0 where

@@ -1,13 +1,16 @@
 -- What a keeper knows and has begun.
-use Rattle.std.specs.Prelude.{◌≡◌, ◌⊎◌, ℕ, ◌+◌, ◌-◌, ◌*◌, ◌^◌, ◌<◌, ◌≤◌, false, None, List, [], length, take, vec_capacity, Result, Ok, Err}
-use Rattle.alm_keeper.specs.Keeper.{Standing, Held}
-use Rattle.alm_keeper.specs.Stages.{During, IsWorking, following, open_after, first_stage}
+use Rattle.std.specs.Prelude.{◌≡◌, ◌⊎◌, ℕ, ◌+◌, ◌-◌, ◌*◌, ◌^◌, ◌<◌, ◌≤◌, Bool, true, false, None, Some, List, [], ◌∷◌, ◌++◌, length, take, vec_capacity, Result, Ok, Err}
+use Rattle.alm_keeper.specs.Keeper.{Standing, Held, piece, counted}
+use Rattle.alm_keeper.specs.Stages.{During, following, first_stage, sent_stage, rest_stage, rest_work, IsResting, phase_of}
 use Rattle.alm_types.specs.declared.action.Action.{Action}
 use Rattle.alm_model.specs.Plant.{Condensed}
 use Rattle.alm_model.specs.Rules.{KeepsRules, AreAdmitted}
 use Rattle.alm_codec.specs.Frames.{IsFrame, frame_body}
-use Rattle.alm_codec.specs.Image.{IsOf}
-use Rattle.alm_checkpoint.specs.Layouts.{image_size, device_len}
+use Rattle.alm_codec.specs.declared.version.Version.TheVariants.{V02}
+use Rattle.alm_codec.specs.Image.{IsOf, image_text}
+use Rattle.alm_segment.specs.Course.{frame_len}
+use Rattle.alm_checkpoint.specs.Headers.{half_head_text}
+use Rattle.alm_checkpoint.specs.Layouts.{image_size, device_len, head_len, segment_at}
 use Rattle.alm_checkpoint.specs.Cut.{IsLayout}
 use Rattle.alm_keeper.specs.declared.stage.Stage.{Stage}
 use Rattle.alm_keeper.specs.declared.stage.Stage.TheVariants.{Idle, Close, CloseSync, Body, GateSync, Stopped}
@@ -20,55 +23,73 @@ use Rattle.alm_disk.specs.Device.{DeviceState, IsImage}
 use Rattle.alm_disk.specs.declared.disk_fault.DiskFault.{DiskFault}
 use Rattle.alm_keeper.specs.declared.progress.Progress.{Progress}
 use Rattle.alm_keeper.specs.declared.progress.Progress.TheVariants.{More, Done, Failed}
-use Rattle.alm_keeper.specs.Piecewise.{fresh}
+use Rattle.alm_keeper.specs.Piecewise.{Copy, run_text}
 use Rattle.alm_keeper.specs.Phases.{UnderWay, Rest, Shut, ShutSync, Pause, Frame, End, KeptIn}
 use Rattle.alm_keeper.specs.Phases.{Advances as AdvancesOn}
-use Rattle.alm_keeper.specs.Stand.{Holds, Ready, Account, end_of, Takes, committed, turned, checkpoint_text}
+use Rattle.alm_keeper.specs.Stand.{Holds, Ready, Account, end_of, Takes, committed, turned}
 
 -- what the book tells of the device
 abbrev pub account : Book → Account
-account b = record { layout = b.layout; half = b.half; other_open = b.other_open; epoch = b.epoch; gate = b.gate; plant = b.stored }
+account b = record { layout = b.layout; half = b.half; other_open = b.other_open; version = b.version; epoch = b.epoch; gate = b.gate; plant = b.stored }
+
+-- the run of the open checkpoint
+abbrev pub run_in : Book → List ℕ
+run_in b = take b.run b.buffer.items
+
+-- how long its next piece is
+abbrev pub piece_of : Book → ℕ
+piece_of b = piece (b.run - b.out)
 
 -- what the device will be when the work is done
-abbrev pub done_with : Work → Account → List Action → Account
-done_with Commit a actions = committed a actions
-done_with Checkpoint a actions = turned a
+abbrev pub done_by : Work → Book → Account
+done_by Commit b = committed (account b) b.actions.items
+done_by Checkpoint b = turned (account b) b.run
 
-abbrev pub next_of : Stage → Work → Account → List Action → Account
-next_of Idle work a actions = a
-next_of stage work a actions = done_with work a actions
+abbrev pub next_of : Stage → Work → Book → Account
+next_of Idle work b = account b
+next_of stage work b = done_by work b
 
 abbrev pub next : Book → Account
-next b = next_of b.stage b.work (account b) b.actions.items
-
--- the same, by the book
-abbrev pub begun : Book → Account
-begun b = done_with b.work (account b) b.actions.items
+next b = next_of b.stage b.work b
 
 -- a commit is begun
 pub record Committing (a : Account) (actions : List Action) (frame : List ℕ) (ahead : Condensed) : Type 0 where
   pub spells : IsFrame a.epoch (a.plant.panel.count + 1) actions
   pub admitted : AreAdmitted a.plant actions
-  pub takes : Takes a (length actions)
+  pub takes : Takes a actions
   pub text : take (19 + 16 * length actions) frame ≡ frame_body a.epoch (a.plant.panel.count + 1) actions
   pub tried : ahead ≡ (committed a actions).plant
 
--- a checkpoint is begun
-pub record Copying (a : Account) (image : List ℕ) (ahead : Condensed) : Type 0 where
-  pub more : a.epoch + 1 < 2 ^ 64
-  pub text : image ≡ checkpoint_text a
-  pub same : ahead ≡ a.plant
+abbrev pub DoesWork : Work → Book → Type 0
+DoesWork Commit b = Committing (account b) b.actions.items b.frame.items b.ahead
+DoesWork Checkpoint b = (b.copying ≡ true) × (b.ahead ≡ b.stored)
 
-abbrev pub DoesWork : Work → (a : Account) → List Action → (frame image : List ℕ) → (ahead : Condensed) → Type 0
-DoesWork Commit a actions frame image ahead = Committing a actions frame ahead
-DoesWork Checkpoint a actions frame image ahead = Copying a image ahead
+abbrev pub Does : Stage → Work → Book → Type 0
+Does Idle work b = (b.copying ≡ false) × (b.ahead ≡ b.stored)
+Does Stopped work b = Unit {0}
+Does Close Commit b = ⊥
+Does CloseSync Commit b = ⊥
+Does stage work b = DoesWork work b
 
-abbrev pub Does : Stage → Work → (a : Account) → List Action → (frame image : List ℕ) → (ahead : Condensed) → Type 0
-Does Idle work a actions frame image ahead = ahead ≡ a.plant
-Does Stopped work a actions frame image ahead = Unit {0}
-Does Close Commit a actions frame image ahead = ⊥
-Does CloseSync Commit a actions frame image ahead = ⊥
-Does stage work a actions frame image ahead = DoesWork work a actions frame image ahead
+-- how much of a run went out: none before the other half's gate is closed, all of it at the end
+abbrev pub Sent : Stage → Work → (out run : ℕ) → Type 0
+Sent Close work out run = out ≡ 0
+Sent CloseSync work out run = out ≡ 0
+Sent stage Commit out run = out < run
+Sent Body Checkpoint out run = out < run
+Sent stage Checkpoint out run = out ≡ run
+
+-- a checkpoint is open: the frames in its run stand among the frames of the half that stands, so they fit the other half
+pub record Opened (stage : Stage) (b : Book) : Type 0 where
+  pub more : b.epoch + 1 < 2 ^ 64
+  pub least : head_len + image_size b.layout ≤ b.run
+  pub room : segment_at b.layout b.half + b.run ≤ b.gate + (head_len + image_size b.layout)
+  pub sent : Sent stage b.work b.out b.run
+
+abbrev pub IsCopying : Bool → Stage → Book → Type 0
+IsCopying false stage b = Unit {0}
+IsCopying true Stopped b = Unit {0}
+IsCopying true stage b = Opened stage b
 
 -- what holds of a book, whatever the device does
 pub record InOrder (b : Book) : Type 0 where
@@ -77,56 +98,131 @@ pub record InOrder (b : Book) : Type 0 where
   pub rules : KeepsRules b.stored
   pub sizes : IsOf b.layout.rows b.layout.areas b.stored.panel.count b.stored
   pub count : b.stored.panel.count ≤ 2 ^ 48
+  pub first : segment_at b.layout b.half ≤ b.gate
   pub gate : b.gate + 1 ≤ end_of (account b)
   pub room : 256 ≤ vec_capacity b.actions
   pub frame : length b.frame.items ≡ 4115
-  pub image : length b.image.items ≡ 25 + image_size b.layout
-  pub does : Does b.stage b.work (account b) b.actions.items b.frame.items b.image.items b.ahead
+  pub buffer : length b.buffer.items ≡ head_len + image_size b.layout + b.layout.segment
+  pub does : Does b.stage b.work b
+  pub copy : IsCopying b.copying b.stage b
 
 -- its layout fits a device of so many bytes
 pub record FitsDevice (b : Book) (size : ℕ) : Type 0 where
   pub fits : device_len b.layout ≤ size
   pub in_memory : size < 2 ^ 64
 
+-- nothing of what is stored or of an open checkpoint changes
+pub record SameBeside (old new : Book) : Type 0 where
+  pub account : account new ≡ account old
+  pub copying : new.copying ≡ old.copying
+  pub run : new.run ≡ old.run
+  pub text : run_in new ≡ run_in old
+  pub out : new.out ≡ old.out
+  pub written : new.written ≡ old.written
+
 -- what is left by what was answered
 abbrev pub Begins : Result Unit Refused → List Action → (old new : Book) → Type 0
-Begins (Ok _) actions old new = (old.stage ≡ Idle) × (new.stage ≡ Body) × (new.work ≡ Commit) × (account new ≡ account old) × (new.actions.items ≡ actions)
-Begins (Err (no.NotAccepted place)) actions old new = (old.stage ≡ Idle) × (new.stage ≡ Stopped) × (new.work ≡ Commit) × (account new ≡ account old) × (new.actions.items ≡ [])
+Begins (Ok _) actions old new = IsResting (phase_of old.stage old.work) × (new.stage ≡ Body) × (new.work ≡ Commit) × (new.actions.items ≡ actions) × SameBeside old new
+Begins (Err (no.NotAccepted place)) actions old new = IsResting (phase_of old.stage old.work) × (new.stage ≡ Stopped) × (new.work ≡ Commit) × (new.actions.items ≡ []) × SameBeside old new
 Begins (Err why) actions old new = new ≡ old
 
+-- a checkpoint is open: the stored plant is copied
+pub record Opens (old new : Book) : Type 0 where
+  pub idle : old.stage ≡ Idle
+  pub stage : new.stage ≡ first_stage old.other_open
+  pub work : new.work ≡ Checkpoint
+  pub account : account new ≡ account old
+  pub actions : new.actions.items ≡ old.actions.items
+  pub copying : new.copying ≡ true
+  pub run : new.run ≡ head_len + image_size old.layout
+  pub text : run_in new ≡ half_head_text old.layout V02 (old.epoch + 1) old.stored.panel.count ++ image_text old.stored ++ 0 ∷ []
+  pub out : new.out ≡ 0
+  pub written : new.written ≡ old.written
+
 abbrev pub Copies : Result Unit Refused → (old new : Book) → Type 0
-Copies (Ok _) old new = (old.stage ≡ Idle) × (new.stage ≡ first_stage old.other_open) × (new.work ≡ Checkpoint) × (account new ≡ account old)
+Copies (Ok _) old new = Opens old new
 Copies (Err why) old new = new ≡ old
 
+-- the frame of the commit that is done goes out with an open checkpoint
+pub record Grows (old new : Book) : Type 0 where
+  pub run : new.run ≡ old.run + frame_len (length old.actions.items)
+  pub text : run_in new ≡ take (old.run - 1) (run_in old) ++ (165 ∷ frame_body (old.epoch + 1) (old.stored.panel.count + 1) old.actions.items)
+
+abbrev pub GrowsWhere : Bool → (old new : Book) → Type 0
+GrowsWhere true old new = Grows old new
+GrowsWhere false old new = new.run ≡ old.run
+
+-- a commit is done, a checkpoint is done
+pub record Closes (old new : Book) : Type 0 where
+  pub stage : new.stage ≡ rest_stage old.copying
+  pub work : new.work ≡ rest_work old.copying
+  pub account : account new ≡ committed (account old) old.actions.items
+  pub actions : new.actions.items ≡ old.actions.items
+  pub copying : new.copying ≡ old.copying
+  pub grows : GrowsWhere old.copying old new
+  pub out : new.out ≡ old.out
+  pub written : new.written ≡ 0
+
+pub record Turns (old new : Book) : Type 0 where
+  pub stage : new.stage ≡ Idle
+  pub work : new.work ≡ old.work
+  pub account : account new ≡ turned (account old) old.run
+  pub actions : new.actions.items ≡ old.actions.items
+  pub copying : new.copying ≡ false
+  pub run : new.run ≡ old.run
+  pub out : new.out ≡ old.out
+  pub written : new.written ≡ old.written
+
+abbrev pub Finishes : Work → (old new : Book) → Type 0
+Finishes Commit old new = Closes old new
+Finishes Checkpoint old new = Turns old new
+
+-- so many bytes of the run went out
+abbrev pub sent_by : ℕ → Book → Book
+sent_by n b = record b { stage = sent_stage (b.out + n) b.run; out = b.out + n; written = counted b.written n }
+
 -- the book after a call that was done. Once the other half's gate was synced closed, it reads closed
-abbrev pub GoesOn : Stage → Progress → (old new : Book) → Type 0
-GoesOn GateSync step old new = (step ≡ Done) × (new.stage ≡ Idle) × (account new ≡ begun old)
-GoesOn CloseSync step old new = (step ≡ More) × (new ≡ record old { stage = Body; other_open = false })
-GoesOn stage step old new = (step ≡ More) × (new ≡ record old { stage = following stage })
+abbrev pub GoesOn : Stage → Work → Progress → (old new : Book) → Type 0
+GoesOn GateSync work step old new = (step ≡ Done) × Finishes work old new
+GoesOn CloseSync work step old new = (step ≡ More) × (new ≡ record old { stage = Body; other_open = false })
+GoesOn Body Checkpoint step old new = (step ≡ More) × (new ≡ sent_by (piece_of old) old)
+GoesOn stage work step old new = (step ≡ More) × (new ≡ record old { stage = following stage })
 
--- what is under way on the device: a checkpoint goes out in one piece
-abbrev pub writes_by : Work → Stage → Account → List Action → UnderWay
-writes_by Commit stage a actions = Frame None stage actions
-writes_by Checkpoint Body a actions = Pause (fresh a)
-writes_by Checkpoint stage a actions = End (fresh a) stage
+-- what is under way on the device, without an open checkpoint
+abbrev pub alone : Stage → List Action → UnderWay
+alone Idle actions = Rest
+alone stage actions = Frame None stage actions
 
-abbrev pub under_way : Stage → Work → Account → List Action → UnderWay
-under_way Idle work a actions = Rest
-under_way Close work a actions = Shut (fresh a)
-under_way CloseSync work a actions = ShutSync (fresh a)
-under_way stage work a actions = writes_by work stage a actions
+-- .. and with one
+abbrev pub beside : Stage → Work → Copy → List Action → UnderWay
+beside Close work k actions = Shut k
+beside CloseSync work k actions = ShutSync k
+beside stage Commit k actions = Frame (Some k) stage actions
+beside Body Checkpoint k actions = Pause k
+beside stage Checkpoint k actions = End k stage
 
--- what is kept of the device, where the device keeps to its model
-abbrev pub KeptBy : Stage → Work → Account → List Action → DeviceState → Type 0
-KeptBy Stopped work a actions state = (b : List ℕ) → IsImage state b → Holds a.epoch a.plant b ⊎ Ready (done_with work a actions) b
-KeptBy stage work a actions state = KeptIn (under_way stage work a actions) a state
+-- the copy, of which so many bytes went out
+abbrev pub at_out : Copy → ℕ → Copy
+at_out k out = record k { out = out }
+
+-- what is kept of the device, where the device keeps to its model. The copied plant and the frames since stand in no field: some copy
+-- has this run
+abbrev pub KeptBy : Stage → Bool → Work → Book → DeviceState → Type 0
+KeptBy Stopped copying work b state = (x : List ℕ) → IsImage state x → Holds b.epoch b.stored x ⊎ Ready (done_by work b) x
+KeptBy stage false work b state = KeptIn (alone stage b.actions.items) (account b) state
+KeptBy stage true work b state = (k : Copy) × (run_text (account b) k ≡ run_in b) × KeptIn (beside stage work (at_out k b.out) b.actions.items) (account b) state
 
 abbrev pub Keeps : DeviceState → Book → Type 0
-Keeps state b = KeptBy b.stage b.work (account b) b.actions.items state
+Keeps state b = KeptBy b.stage b.copying b.work b state
 
 -- what a call makes of it
+abbrev pub PassesBy : Bool → Stage → Work → Book → Result Unit DiskFault → (old new : DeviceState) → Type 0
+PassesBy false stage work b result old new = AdvancesOn (alone stage b.actions.items) (account b) (piece_of b) result old new
+PassesBy true stage work b result old new = (k : Copy) × (run_text (account b) k ≡ run_in b) × KeptIn (beside stage work (at_out k b.out) b.actions.items) (account b) old
+    × AdvancesOn (beside stage work (at_out k b.out) b.actions.items) (account b) (piece_of b) result old new
+
 abbrev pub PassesOn : Result Unit DiskFault → (old new : DeviceState) → Book → Type 0
-PassesOn result old new b = AdvancesOn (under_way b.stage b.work (account b) b.actions.items) (account b) (length b.image.items) result old new
+PassesOn result old new b = PassesBy b.copying b.stage b.work b result old new
 
 -- what a crash leaves at any moment of the call that is next
 abbrev pub MayLeave : Book → List ℕ → Type 0
@@ -134,13 +230,12 @@ MayLeave b bytes = During (Holds b.epoch b.stored) (Ready (next b)) b.stage byte
 
 -- what a device stands for, by what is known of it
 abbrev pub standing : Account → Standing
-standing a = record { epoch = a.epoch; plant = a.plant; room = end_of a - a.gate }
+standing a = record { version = a.version; epoch = a.epoch; plant = a.plant; room = end_of a - a.gate }
 
 -- how a step ends
 abbrev pub Ends : Progress → (old new : Book) → Type 0
-Ends More old new = (new.stage ≡ following old.stage) × (new.work ≡ old.work) × (account new ≡ record (account old) { other_open = open_after old.stage old.work old.other_open }) × (begun new ≡ begun old) × IsWorking new.stage
-Ends Done old new = (old.stage ≡ GateSync) × (new.stage ≡ Idle) × (account new ≡ begun old)
-Ends Failed old new = (new.stage ≡ Stopped) × (new.work ≡ old.work) × (account new ≡ account old) × (begun new ≡ begun old)
+Ends Failed old new = new ≡ record old { stage = Stopped }
+Ends step old new = GoesOn old.stage old.work step old new
 
 -- ---- for callers
 
@@ -150,7 +245,12 @@ held disk b = record {
   stage = b.stage;
   work = b.work;
   other_open = b.other_open;
+  image = image_size b.layout;
   segment = b.layout.segment;
   stored = standing (account b);
-  begun = standing (begun b);
+  actions = b.actions.items;
+  copying = b.copying;
+  run = b.run;
+  out = b.out;
+  written = b.written;
 }

@@ -10,3 +10,4 @@ pub mod Stages
 pub mod Opening
 pub mod Formatting
 pub mod Moments
+pub mod Pace

@@ -78,7 +78,7 @@ opened_by l m image segment = record { layout = l; half = m.half; head = m.head;
 
 -- the book of what the half holds, or why it holds nothing
 abbrev pub Restores : Layout → Marks → (image segment : List ℕ) → Result Book OpenFault → Type 0
-Restores l m image segment (Ok book) = RestoredAs (opened_by l m image segment) book.stored book.gate × (account book ≡ record { layout = l; half = m.half; other_open = m.other_open; epoch = m.head.epoch; gate = book.gate; plant = book.stored })
+Restores l m image segment (Ok book) = RestoredAs (opened_by l m image segment) book.stored book.gate × (account book ≡ record { layout = l; half = m.half; other_open = m.other_open; version = m.head.version; epoch = m.head.epoch; gate = book.gate; plant = book.stored })
 Restores l m image segment (Err Disk) = ⊥
 Restores l m image segment (Err OutOfMemory) = Unit {0}
 Restores l m image segment (Err Unformatted) = IsUnrestored (opened_by l m image segment) (unrestored.Damaged found.Unformatted)

@@ -44,7 +44,7 @@ pub data UnderWay : Type 0 where
   End : Copy → Stage → UnderWay
 
 abbrev pub Commits : Account → List Action → Type 0
-Commits a actions = IsFrame a.epoch (a.plant.panel.count + 1) actions × AreAdmitted a.plant actions × Takes a (length actions)
+Commits a actions = IsFrame a.epoch (a.plant.panel.count + 1) actions × AreAdmitted a.plant actions × Takes a actions
 
 abbrev pub out_of : Option Copy → ℕ
 out_of None = 0

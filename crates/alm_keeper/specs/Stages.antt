@@ -1,5 +1,5 @@
 -- The stages of a keeper's work: which device call is next.
-use Rattle.std.specs.Prelude.{◌⊎◌, ℕ, Bool, true, false, List, Result, Ok, Err}
+use Rattle.std.specs.Prelude.{◌⊎◌, ◌==◌, ℕ, Bool, true, false, List, Result, Ok, Err, if◌then◌else◌}
 use Rattle.alm_keeper.specs.declared.phase.Phase.{Phase}
 use Rattle.alm_keeper.specs.declared.phase.Phase.TheVariants as at
 use Rattle.alm_keeper.specs.declared.stage.Work.{Work}
@@ -31,11 +31,18 @@ abbrev pub first_stage : Bool → Stage
 first_stage true = Close
 first_stage false = Body
 
--- whether the other half's gate reads open after the call that is next was done
-abbrev pub open_after : Stage → Work → Bool → Bool
-open_after CloseSync work opened = false
-open_after GateSync Checkpoint opened = true
-open_after stage work opened = opened
+-- once all of a checkpoint's run went out its sync is next, else another piece
+abbrev pub sent_stage : (out run : ℕ) → Stage
+sent_stage out run = if out == run then BodySync else Body
+
+-- after a commit: an open checkpoint waits for its next piece
+abbrev pub rest_stage : (copying : Bool) → Stage
+rest_stage true = Body
+rest_stage false = Idle
+
+abbrev pub rest_work : (copying : Bool) → Work
+rest_work true = Checkpoint
+rest_work false = Commit
 
 -- what an image is at a stage
 abbrev pub May : (Before After : List ℕ → Type 0) → Stage → List ℕ → Type 0
@@ -53,12 +60,16 @@ abbrev pub During : (Before After : List ℕ → Type 0) → Stage → List ℕ 
 During Before After Gate b = Before b ⊎ After b
 During Before After stage b = May Before After stage b
 
-abbrev pub phase_at : Work → Phase
-phase_at Commit = at.Committing
-phase_at Checkpoint = at.Copying
-
--- where a store stands whose work is at a stage
+-- where a store stands whose work is at a stage: between the pieces of a checkpoint it is paused
 abbrev pub phase_of : Stage → Work → Phase
 phase_of Idle work = at.Idle
 phase_of Stopped work = at.Stopped
-phase_of stage work = phase_at work
+phase_of stage Commit = at.Committing
+phase_of Body Checkpoint = at.Paused
+phase_of stage Checkpoint = at.Copying
+
+-- nothing is under way, so that a commit may be begun
+abbrev pub IsResting : Phase → Type 0
+IsResting at.Idle = Unit {0}
+IsResting at.Paused = Unit {0}
+IsResting phase = ⊥

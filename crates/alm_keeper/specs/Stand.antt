@@ -3,12 +3,13 @@ use Rattle.std.specs.Prelude.{◌≡◌, ℕ, ◌+◌, ◌≤◌, Bool, true, fa
 use Rattle.alm_types.specs.declared.action.Action.{Action}
 use Rattle.alm_model.specs.Plant.{Condensed}
 use Rattle.alm_model.specs.Step.{run}
-use Rattle.alm_codec.specs.Image.{image_text}
+use Rattle.alm_codec.specs.declared.version.Version.{Version}
+use Rattle.alm_codec.specs.declared.version.Version.TheVariants.{V02}
+use Rattle.alm_codec.specs.Versions.{AreBorne}
 use Rattle.alm_segment.specs.Course.{is_open, frame_len}
 use Rattle.alm_checkpoint.specs.declared.layout.Layout.{Layout}
 use Rattle.alm_checkpoint.specs.declared.half.Half.{Half}
-use Rattle.alm_checkpoint.specs.Layouts.{byte_at, half_at, half_len, image_size, head_len, other}
-use Rattle.alm_checkpoint.specs.Headers.{half_head_text}
+use Rattle.alm_checkpoint.specs.Layouts.{byte_at, half_at, half_len, other}
 use Rattle.alm_checkpoint.specs.Cut.{Cut, Stores, Reaches, front, device_of}
 
 -- the device holds this plant in this epoch, in front of a closed gate
@@ -29,6 +30,8 @@ pub record Account : Type 0 where
   pub half : Half
   -- the other half's gate reads open
   pub other_open : Bool
+  -- the version of the half that stands
+  pub version : Version
   pub epoch : ℕ
   -- the place of the first closed gate of the half that stands
   pub gate : ℕ
@@ -36,7 +39,7 @@ pub record Account : Type 0 where
 
 -- what a keeper knows of a device that is cut so
 abbrev pub account_of : Cut → Condensed → Account
-account_of c plant = record { layout = c.layout; half = c.half; other_open = is_open (byte_at c.other 0); epoch = c.epoch; gate = length (front c); plant = plant }
+account_of c plant = record { layout = c.layout; half = c.half; other_open = is_open (byte_at c.other 0); version = c.version; epoch = c.epoch; gate = length (front c); plant = plant }
 
 -- the device is as the account tells
 pub record Ready (a : Account) (bytes : List ℕ) : Type 0 where
@@ -58,16 +61,17 @@ abbrev pub end_of : Account → ℕ
 end_of a = half_at a.layout a.half + half_len a.layout
 
 -- a frame of so many actions and the next gate fit
-abbrev pub Takes : Account → ℕ → Type 0
-Takes a n = a.gate + frame_len n + 1 ≤ end_of a
+abbrev pub Fits : Account → ℕ → Type 0
+Fits a n = a.gate + frame_len n + 1 ≤ end_of a
+
+-- a frame of these actions fits, and the half may hold them
+abbrev pub Takes : Account → List Action → Type 0
+Takes a actions = Fits a (length actions) × AreBorne a.version actions
 
 -- after a commit, after a checkpoint
 abbrev pub committed : Account → List Action → Account
 committed a actions = record a { gate = a.gate + frame_len (length actions); plant = run a.plant actions }
 
-abbrev pub turned : Account → Account
-turned a = record a { half = other a.half; other_open = true; epoch = a.epoch + 1; gate = other_at a + head_len + image_size a.layout }
-
--- what a checkpoint writes behind the other half's gate: its head, the image, and the first gate of its segment, closed
-abbrev pub checkpoint_text : Account → List ℕ
-checkpoint_text a = half_head_text a.layout (a.epoch + 1) a.plant.panel.count ++ image_text a.plant ++ 0 ∷ []
+-- .. whose run is so long
+abbrev pub turned : Account → (run : ℕ) → Account
+turned a run = record a { half = other a.half; other_open = true; version = V02; epoch = a.epoch + 1; gate = other_at a + run }

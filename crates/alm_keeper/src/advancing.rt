@@ -29,7 +29,15 @@ fn call_next<D: Disk>(disk: &mut D, book: &Book) -> Result<(), DiskFault>
 {
     match book.work {
         Work::Commit => call(disk, book.stage, book.gate, &book.frame[..book.frame_len()]),
-        Work::Checkpoint => call(disk, book.stage, book.other_at(), &book.image),
+        Work::Checkpoint => match book.stage {
+            Stage::Body => call(
+                disk,
+                Stage::Body,
+                book.other_at() + book.out as u64,
+                book.piece(),
+            ),
+            stage => call(disk, stage, book.other_at(), &[]),
+        },
     }
 }
 

@@ -1,26 +1,34 @@
 //! What a keeper knows of its device, and what it has begun.
 
-ghost use Rattle.std.specs.Prelude.{◌≡◌, ◌≤◌, ◌<◌, ◌+◌, ◌*◌, ◌^◌, ℕ, ◌↔◌, IsTrue, length, OnOk, OnErr, IfErr, take};
-ghost use Rattle.alm_keeper.specs.Stages.{IsWorking, following, first_stage};
+ghost use Rattle.std.specs.Prelude.{◌≡◌, ◌≤◌, ◌<◌, ◌+◌, ◌*◌, ◌^◌, ◌-◌, ◌∷◌, ◌++◌, ℕ, ◌↔◌, IsTrue, length, OnOk, OnErr, IfErr, take, drop, true, false};
+ghost use Rattle.alm_keeper.specs.Stages.{IsWorking, following, first_stage, rest_stage, rest_work};
 ghost use Rattle.alm_checkpoint.specs.Layouts.{half_at, half_len};
 ghost use Rattle.alm_codec.specs.Frames.{frame_body};
+ghost use Rattle.alm_segment.specs.Course.{frame_len};
 ghost use Rattle.alm_model.specs.Judging.{accepted_of};
-ghost use Rattle.alm_keeper.specs.Stand.{other_at, end_of, Takes};
+ghost use Rattle.alm_keeper.specs.Stand.{other_at, end_of, Fits, Takes, committed};
 ghost use Rattle.alm_keeper.specs.declared.stage.Stage.{Stage};
 ghost use Rattle.alm_keeper.specs.declared.stage.Work.{Work};
+ghost use Rattle.alm_keeper.specs.Stages.{phase_of};
 ghost use Rattle.alm_keeper.specs.Keeper.{begin_answer, checkpoint_answer};
-ghost use Rattle.alm_keeper.specs.Keeping.{account, done_with, next, InOrder, Begins, Copies, GoesOn};
+ghost use Rattle.alm_keeper.specs.Keeping.{account, run_in, piece_of, InOrder, Begins, Copies, Closes, Turns, Finishes, sent_by, GoesOn};
 
-use crate::frame::write_frame;
+use crate::bearing::bears_all;
+use crate::frame::{append_frame, write_frame};
 use crate::half_text::write_half;
+use crate::phase::Phase;
 use crate::progress::Progress;
 use crate::refused::Refused;
-use crate::stage::{Stage, Work};
+use crate::stage::{Stage, Work, phase_of};
 use crate::trying::try_all;
-use alm_checkpoint::{Half, HalfHead, Layout};
-use alm_model::{Alarms, apply_all};
+use alm_checkpoint::{HEAD_LEN, Half, HalfHead, Layout};
+use alm_codec::Version;
+use alm_model::{Alarms, accepted_in, apply_all};
 use alm_plant::Plant;
 use alm_types::{Action, Batch};
+
+/// The longest piece of a run.
+const MOST: usize = 65_536;
 
 /// What a keeper knows and has begun. Its room was taken when the device was opened.
 #[derive(Drop)]
@@ -32,6 +40,8 @@ pub struct Book {
     pub half: Half,
     /// The other half's gate reads open.
     pub other_open: bool,
+    /// The version of the half that stands, and its epoch.
+    pub version: Version,
     pub epoch: u64,
     /// Where the first closed gate of the half that stands is.
     pub gate: u64,
@@ -41,8 +51,16 @@ pub struct Book {
     pub actions: Vec<Action>,
     /// The body of a frame.
     pub frame: Vec<u8>,
-    /// The head, the image and the first gate of a half.
-    pub image: Vec<u8>,
+    /// A checkpoint is open.
+    pub copying: bool,
+    /// Its run: the head of a half from behind the gate, the image, the frames committed since, and a closed gate.
+    pub buffer: Vec<u8>,
+    /// How long the run is.
+    pub run: usize,
+    /// How many bytes of it went out.
+    pub out: usize,
+    /// How many bytes of runs went out since the last commit's end or mark.
+    pub written: u64,
 }
 
 /// The first call of a checkpoint closes the other half's gate, where it reads open.
@@ -65,6 +83,7 @@ impl Book {
             rows: _rows,
             areas: _areas,
             segment: _segment,
+            version: _version,
         } = self.layout;
         match self.half {
             Half::First => 23 + self.layout.half_len() as u64,
@@ -80,11 +99,20 @@ impl Book {
             rows: _rows,
             areas: _areas,
             segment: _segment,
+            version: _version,
         } = self.layout;
         match self.half {
             Half::First => 23 + self.layout.half_len() as u64,
             Half::Second => 23 + self.layout.half_len() as u64 + self.layout.half_len() as u64,
         }
+    }
+
+    /// Where the first closed gate stands in the segment.
+    pub fn used(&self) -> u64
+        requires { InOrder self.now }
+        ensures { result + (end_of (account self.now) - self.now.gate) ≡ self.now.layout.segment }
+    {
+        self.gate - self.layout.segment_at(self.half)
     }
 
     /// How long the body of the frame is.
@@ -98,16 +126,16 @@ impl Book {
     /// Begins a commit, without a device call.
     pub fn begin(&mut self, batch: &Batch) -> Result<(), Refused>
         requires some { 1 ≤ length (accepted_of batch.now.entries) }
-        requires fits { Takes (account self.old) (length (accepted_of batch.now.entries)) }
+        requires takes { Takes (account self.old) (accepted_of batch.now.entries) }
         requires in_order { InOrder self.old }
-        ensures answer { result ≡ begin_answer self.old.stage self.old.stored batch.now }
+        ensures answer { result ≡ begin_answer (phase_of self.old.stage self.old.work) self.old.stored batch.now }
         ensures begins { Begins result (accepted_of batch.now.entries) self.old self.new }
         ensures in_order { InOrder self.new }
     {
-        match self.stage {
-            Stage::Idle => {}
-            Stage::Stopped => return Err(Refused::Stopped),
-            _ => return Err(Refused::Working),
+        match phase_of(self.stage, self.work) {
+            Phase::Idle | Phase::Paused => {}
+            Phase::Stopped => return Err(Refused::Stopped),
+            Phase::Committing | Phase::Copying => return Err(Refused::Working),
         }
         if batch.first() != self.stored.count() + 1 {
             return Err(Refused::Gap);
@@ -130,41 +158,111 @@ impl Book {
         Ok(())
     }
 
-    /// The frame behind the gate is stored.
-    fn close(&mut self)
+    /// The actions of the commit are stored.
+    fn store(&mut self)
         requires working { IsWorking self.old.stage }
         requires commit { self.old.work ≡ Work.Commit }
         requires in_order { InOrder self.old }
-        ensures account { account self.new ≡ done_with Work.Commit (account self.old) self.old.actions.items }
-        ensures stage { self.new.stage ≡ Stage.Idle }
-        ensures in_order { InOrder self.new }
+        ensures account { account self.new ≡ committed (account self.old) self.old.actions.items }
+        ensures same { self.new ≡ record self.old { gate = self.new.gate; stored = self.new.stored; written = 0 } }
     {
         self.gate += self.frame_len() as u64;
         apply_all(&mut self.stored, &self.actions);
+        self.written = 0;
+    }
+
+    /// The frame behind the gate is stored.
+    fn close(&mut self)
+        requires commit { self.old.work ≡ Work.Commit }
+        requires last { self.old.stage ≡ Stage.GateSync }
+        requires copying { self.old.copying ≡ false }
+        requires in_order { InOrder self.old }
+        ensures closes { Closes self.old self.new }
+        ensures in_order { InOrder self.new }
+    {
+        self.store();
         self.stage = Stage::Idle;
+    }
+
+    /// The same beside an open checkpoint, which waits for its next piece.
+    fn resume(&mut self)
+        requires commit { self.old.work ≡ Work.Commit }
+        requires last { self.old.stage ≡ Stage.GateSync }
+        requires copying { self.old.copying ≡ true }
+        requires in_order { InOrder self.old }
+        ensures closes { Closes self.old self.new }
+        ensures in_order { InOrder self.new }
+    {
+        let first = self.stored.count() + 1;
+        self.store();
+        append_frame(
+            self.epoch + 1,
+            first,
+            &self.actions,
+            self.run,
+            &mut self.buffer,
+        );
+        self.run += self.frame_len();
+        self.stage = Stage::Body;
+        self.work = Work::Checkpoint;
     }
 
     /// The other half stands.
     fn turn(&mut self)
-        requires working { IsWorking self.old.stage }
+        requires last { self.old.stage ≡ Stage.GateSync }
         requires checkpoint { self.old.work ≡ Work.Checkpoint }
         requires in_order { InOrder self.old }
-        ensures account { account self.new ≡ done_with Work.Checkpoint (account self.old) self.old.actions.items }
-        ensures stage { self.new.stage ≡ Stage.Idle }
+        ensures turns { Turns self.old self.new }
         ensures in_order { InOrder self.new }
     {
-        self.gate = self.other_at() + self.image.len() as u64;
+        self.gate = self.other_at() + self.run as u64;
         self.half = self.half.other();
         self.other_open = true;
+        self.version = Version::V02;
         self.epoch += 1;
+        self.copying = false;
         self.stage = Stage::Idle;
+    }
+
+    /// How long the next piece of the run is.
+    fn piece_len(&self) -> usize
+        requires { self.now.out ≤ self.now.run }
+        ensures { result ≡ piece_of self.now }
+    {
+        (self.run - self.out).min(MOST)
+    }
+
+    /// The next piece of the run.
+    pub fn piece(&self) -> &[u8]
+        requires sent { self.now.out ≤ self.now.run }
+        requires within { self.now.run ≤ length self.now.buffer.items }
+        ensures { result.now ≡ take (piece_of self.now) (drop self.now.out (run_in self.now)) }
+    {
+        let end = self.out + self.piece_len();
+        &self.buffer[self.out..end]
+    }
+
+    /// A piece of the run went out.
+    fn pass(&mut self)
+        requires body { self.old.stage ≡ Stage.Body }
+        requires checkpoint { self.old.work ≡ Work.Checkpoint }
+        requires in_order { InOrder self.old }
+        ensures goes { self.new ≡ sent_by (piece_of self.old) self.old }
+        ensures in_order { InOrder self.new }
+    {
+        let len = self.piece_len();
+        self.out += len;
+        self.written = self.written.saturating_add(len as u64);
+        if self.out == self.run {
+            self.stage = Stage::BodySync;
+        }
     }
 
     /// The work's next call was done.
     pub fn go_on(&mut self) -> Progress
         requires working { IsWorking self.old.stage }
         requires in_order { InOrder self.old }
-        ensures goes { GoesOn self.old.stage result self.old self.new }
+        ensures goes { GoesOn self.old.stage self.old.work result self.old self.new }
         ensures in_order { InOrder self.new }
     {
         match self.stage {
@@ -178,7 +276,10 @@ impl Book {
                 Progress::More
             }
             Stage::Body => {
-                self.stage = Stage::BodySync;
+                match self.work {
+                    Work::Commit => self.stage = Stage::BodySync,
+                    Work::Checkpoint => self.pass(),
+                }
                 Progress::More
             }
             Stage::BodySync => {
@@ -199,13 +300,13 @@ impl Book {
 
     /// The work is done.
     fn finish(&mut self)
-        requires working { IsWorking self.old.stage }
+        requires last { self.old.stage ≡ Stage.GateSync }
         requires in_order { InOrder self.old }
-        ensures account { account self.new ≡ done_with self.old.work (account self.old) self.old.actions.items }
-        ensures stage { self.new.stage ≡ Stage.Idle }
+        ensures finishes { Finishes self.old.work self.old self.new }
         ensures in_order { InOrder self.new }
     {
         match self.work {
+            Work::Commit if self.copying => self.resume(),
             Work::Commit => self.close(),
             Work::Checkpoint => self.turn(),
         }
@@ -214,32 +315,45 @@ impl Book {
     /// Whether a frame of so many actions fits behind what is stored.
     pub fn fits(&self, actions: usize) -> bool
         requires { InOrder self.now }
-        ensures { IsTrue result ↔ Takes (account self.now) actions }
+        ensures { IsTrue result ↔ Fits (account self.now) actions }
     {
         let room = self.end() - self.gate;
         room > 19 && actions as u64 <= (room - 20) / 16
     }
 
-    /// Begins a checkpoint, without a device call. The other half's gate is closed first only where it reads open.
+    /// Whether a frame of a batch's accepted actions fits behind what is stored, and the half may hold them.
+    pub fn takes(&self, batch: &Batch) -> bool
+        requires { InOrder self.now }
+        ensures { IsTrue result ↔ Takes (account self.now) (accepted_of batch.now.entries) }
+    {
+        self.fits(accepted_in(batch)) && bears_all(self.version, batch.entries())
+    }
+
+    /// Begins a checkpoint, without a device call: the stored plant is copied. The other half's gate is closed first only where
+    /// it reads open.
     pub fn begin_checkpoint(&mut self) -> Result<(), Refused>
         requires in_order { InOrder self.old }
-        ensures answer { result ≡ checkpoint_answer self.old.stage self.old.epoch }
+        ensures answer { result ≡ checkpoint_answer (phase_of self.old.stage self.old.work) self.old.epoch }
         ensures copies { Copies result self.old self.new }
         ensures in_order { InOrder self.new }
     {
-        match self.stage {
-            Stage::Idle => {}
-            Stage::Stopped => return Err(Refused::Stopped),
-            _ => return Err(Refused::Working),
+        match phase_of(self.stage, self.work) {
+            Phase::Idle => {}
+            Phase::Stopped => return Err(Refused::Stopped),
+            Phase::Committing | Phase::Copying | Phase::Paused => return Err(Refused::Working),
         }
         if self.epoch == u64::MAX {
             return Err(Refused::Exhausted);
         }
         let head = HalfHead {
             epoch: self.epoch + 1,
+            version: Version::V02,
             count: self.stored.count(),
         };
-        write_half(&self.layout, &head, &self.stored, &mut self.image);
+        write_half(&self.layout, &head, &self.stored, &mut self.buffer);
+        self.copying = true;
+        self.run = HEAD_LEN + self.layout.image_len();
+        self.out = 0;
         self.work = Work::Checkpoint;
         self.stage = first_stage(self.other_open);
         Ok(())

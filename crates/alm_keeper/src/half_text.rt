@@ -1,12 +1,12 @@
 //! The body of a half in its buffer.
 
-ghost use Rattle.std.specs.Prelude.{◌≡◌, ◌+◌, ◌++◌, ◌∷◌, [], length, drop};
+ghost use Rattle.std.specs.Prelude.{◌≡◌, ◌≤◌, ◌+◌, ◌^◌, ◌++◌, ◌∷◌, [], length, take, drop};
 ghost use Rattle.alm_model.specs.Rules.{KeepsRules};
 ghost use Rattle.alm_codec.specs.Image.{image_text, IsOf};
 ghost use Rattle.alm_checkpoint.specs.Layouts.{image_size};
 ghost use Rattle.alm_checkpoint.specs.Headers.{half_head_text};
 
-use alm_checkpoint::{HalfHead, Layout};
+use alm_checkpoint::{HEAD_LEN, HalfHead, Layout};
 use alm_codec::write_image;
 use alm_plant::Plant;
 
@@ -25,19 +25,34 @@ fn put_image(layout: &Layout, plant: &Plant, out: &mut [u8])
 pub fn put_half(layout: &Layout, head: &HalfHead, plant: &Plant, out: &mut [u8])
     requires rules { KeepsRules plant.now }
     requires sizes { IsOf layout.now.rows layout.now.areas plant.now.panel.count plant.now }
+    requires count { head.now.count ≤ 2 ^ 48 }
     requires room { length out.old ≡ 25 + image_size layout.now }
-    ensures text { out.new ≡ half_head_text layout.now head.now.epoch head.now.count ++ image_text plant.now ++ 0 ∷ [] }
+    ensures text { out.new ≡ half_head_text layout.now head.now.version head.now.epoch head.now.count ++ image_text plant.now ++ 0 ∷ [] }
 {
     layout.write_half_head(head, out);
     put_image(layout, plant, &mut out[24..]);
 }
 
-/// Fills the buffer with the body of a half.
-pub fn write_half(layout: &Layout, head: &HalfHead, plant: &Plant, image: &mut Vec<u8>)
+/// Writes the body of a half into the front of a longer slice.
+fn put_front(layout: &Layout, head: &HalfHead, plant: &Plant, out: &mut [u8])
     requires rules { KeepsRules plant.now }
     requires sizes { IsOf layout.now.rows layout.now.areas plant.now.panel.count plant.now }
-    requires room { length image.old.items ≡ 25 + image_size layout.now }
-    ensures text { image.new.items ≡ half_head_text layout.now head.now.epoch head.now.count ++ image_text plant.now ++ 0 ∷ [] }
+    requires count { head.now.count ≤ 2 ^ 48 }
+    requires room { 25 + image_size layout.now ≤ length out.old }
+    ensures text { out.new ≡ (half_head_text layout.now head.now.version head.now.epoch head.now.count ++ image_text plant.now ++ 0 ∷ []) ++ drop (25 + image_size layout.now) out.old }
 {
-    put_half(layout, head, plant, image);
+    let run = HEAD_LEN + layout.image_len();
+    put_half(layout, head, plant, &mut out[..run]);
+}
+
+/// Writes the body of a half into the front of the buffer of a run.
+pub fn write_half(layout: &Layout, head: &HalfHead, plant: &Plant, buffer: &mut Vec<u8>)
+    requires rules { KeepsRules plant.now }
+    requires sizes { IsOf layout.now.rows layout.now.areas plant.now.panel.count plant.now }
+    requires count { head.now.count ≤ 2 ^ 48 }
+    requires room { 25 + image_size layout.now ≤ length buffer.old.items }
+    ensures text { take (25 + image_size layout.now) buffer.new.items ≡ half_head_text layout.now head.now.version head.now.epoch head.now.count ++ image_text plant.now ++ 0 ∷ [] }
+    ensures long { length buffer.new.items ≡ length buffer.old.items }
+{
+    put_front(layout, head, plant, buffer);
 }

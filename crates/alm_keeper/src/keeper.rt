@@ -1,15 +1,16 @@
 //! Keepers.
 
-ghost use Rattle.std.specs.Prelude.{◌≡◌, ◌≤◌, ◌⊎◌, ◌↔◌, ◌+◌, ◌*◌, ◌^◌, List, ℕ, length, IsTrue, IfOk, IfErr, Err};
+ghost use Rattle.std.specs.Prelude.{◌≡◌, ◌≤◌, ◌⊎◌, ◌↔◌, ◌+◌, ◌*◌, ◌^◌, List, ℕ, length, IsTrue, IfOk, IfErr, Err, true, false};
+ghost use Rattle.alm_checkpoint.specs.Layouts.{head_len};
 ghost use Rattle.alm_disk.specs.Device.{IsImage};
 ghost use Rattle.alm_disk.specs.Failures.{HasFailed};
 ghost use Rattle.alm_disk.specs.Settled.{IsSettled};
 ghost use Rattle.alm_model.specs.Plant.{Condensed};
 ghost use Rattle.alm_model.specs.Judging.{accepted_of};
 ghost use Rattle.alm_keeper.specs.Calls.{IsCall};
-ghost use Rattle.alm_keeper.specs.Stages.{IsWorking, phase_of};
+ghost use Rattle.alm_keeper.specs.Stages.{IsWorking, IsResting, phase_of};
 ghost use Rattle.alm_keeper.specs.Opening.{Opens, CountsAs};
-ghost use Rattle.alm_keeper.specs.Keeper.{Held, next, HasRoom, StandsFor, StandsWithRoom, MayStand, begin_answer, checkpoint_answer, BeginsCommit, BeginsCheckpoint, Advances, CallsOnce};
+ghost use Rattle.alm_keeper.specs.Keeper.{Held, next, HasRoom, Takes, IsPaused, StandsFor, StandsWithRoom, MayStand, begin_answer, checkpoint_answer, BeginsCommit, BeginsCheckpoint, Advances, CallsOnce};
 
 use crate::advancing::advance;
 use crate::book::Book;
@@ -18,7 +19,7 @@ use crate::opening::open_book;
 use crate::phase::Phase;
 use crate::progress::Progress;
 use crate::refused::Refused;
-use crate::stage::{Stage, is_working, phase_of};
+use crate::stage::{Stage, Work, is_working, phase_of};
 use alm_disk::Disk;
 use alm_model::Alarms;
 use alm_plant::Plant;
@@ -62,41 +63,53 @@ impl<D: Disk + Drop> Keeper<D> {
         advance(&mut self.disk, &mut self.book)
     }
 
-    /// Begins a commit of the accepted actions of a batch. Makes no device call, and takes no memory.
+    /// Begins a commit of the accepted actions of a batch, also between the pieces of an open checkpoint. Makes no device call, and
+    /// takes no memory.
     ///
-    /// Refused, first of all, where the keeper is stopped; where other work is begun; where the batch's first number isn't the
-    /// next one; else at the first action that isn't admitted where it comes, and that stops the keeper.
+    /// Refused, first of all, where the keeper is stopped; where a commit is under way, or a checkpoint that isn't paused; where
+    /// the batch's first number isn't the next one; else at the first action that isn't admitted where it comes, and that stops the keeper.
     pub fn begin(&mut self, batch: &Batch) -> Result<(), Refused>
         requires some { 1 ≤ length (accepted_of batch.now.entries) }
-        requires fits { HasRoom self.old.stored (length (accepted_of batch.now.entries)) }
+        requires takes { Takes self.old.stored (accepted_of batch.now.entries) }
         ensures disk { self.new.disk ≡ self.old.disk }
-        ensures answer { result ≡ begin_answer self.old.stage self.old.stored.plant batch.now }
+        ensures answer { result ≡ begin_answer (phase_of self.old.stage self.old.work) self.old.stored.plant batch.now }
         ensures begins { BeginsCommit result (accepted_of batch.now.entries) self.old self.new }
     {
         self.book.begin(batch)
     }
 
-    /// Begins a checkpoint. Makes no device call, and takes no memory.
+    /// Opens a checkpoint: copies the plant that is stored. Makes no device call, and takes no memory.
     ///
-    /// Refused, first of all, where the keeper is stopped; where other work is begun; where the epoch is the last.
+    /// Refused, first of all, where the keeper is stopped; where a commit or a checkpoint is under way; where the epoch is the
+    /// last.
     pub fn begin_checkpoint(&mut self) -> Result<(), Refused>
         ensures disk { self.new.disk ≡ self.old.disk }
-        ensures answer { result ≡ checkpoint_answer self.old.stage self.old.stored.epoch }
+        ensures answer { result ≡ checkpoint_answer (phase_of self.old.stage self.old.work) self.old.stored.epoch }
         ensures begins { BeginsCheckpoint result self.old self.new }
     {
         self.book.begin_checkpoint()
     }
 
-    /// Does nothing: it says what a crash leaves of the device. Each image stands for what is stored or for what is begun; an idle
-    /// keeper's device stands for what is stored, with its room.
+    /// Does nothing: it says what a crash leaves of the device. Each image stands for what is stored or for what is begun; where
+    /// nothing is under way the device stands for what is stored, with its room.
     pub fn images(&self)
         ensures either { D.honest self.now.disk → (b : List ℕ) → IsImage (D.state self.now.disk) b → ∥ StandsFor self.now.stored b ⊎ StandsFor (next self.now) b ∥₁ }
-        ensures idle { D.honest self.now.disk → self.now.stage ≡ Stage.Idle → ∥ StandsWithRoom self.now.stored (D.state self.now.disk).bytes ∥₁ }
+        ensures rests { D.honest self.now.disk → IsResting (phase_of self.now.stage self.now.work) → ∥ StandsWithRoom self.now.stored (D.state self.now.disk).bytes ∥₁ }
+        // The largest image, and the longest segment.
+        ensures lengths { (self.now.image ≤ 3289168) × (self.now.segment ≤ 16777216) }
+        // The frames in the run of a checkpoint stand among those of the segment.
+        ensures runs { IsWorking self.now.stage → self.now.work ≡ Work.Checkpoint → (self.now.out ≤ self.now.run) × (self.now.run + self.now.stored.room ≤ head_len + self.now.image + self.now.segment) }
+        // A frame has at most 256 actions, and its commit comes before a piece of an open checkpoint,
+        ensures frames { IsWorking self.now.stage → self.now.work ≡ Work.Commit → (length self.now.actions ≤ 256) × (self.now.copying ≡ true → self.now.out + 1 ≤ self.now.run) }
+        // which has a byte or more.
+        ensures pieces { self.now.stage ≡ Stage.Body → self.now.work ≡ Work.Checkpoint → self.now.out + 1 ≤ self.now.run }
+        // Where it is idle none is open, and one is where it is under way.
+        ensures copies { (self.now.stage ≡ Stage.Idle → self.now.copying ≡ false) × (IsWorking self.now.stage → self.now.work ≡ Work.Checkpoint → self.now.copying ≡ true) }
     {
         let _book = &self.book;
     }
 
-    /// Whether it is idle, stopped, or which work is begun.
+    /// Whether it is idle, paused, stopped, or which work is under way.
     pub fn phase(&self) -> Phase
         ensures { result ≡ phase_of self.now.stage self.now.work }
     {
@@ -108,6 +121,38 @@ impl<D: Disk + Drop> Keeper<D> {
         ensures { IsTrue result ↔ IsWorking self.now.stage }
     {
         is_working(self.book.stage)
+    }
+
+    /// Whether an open checkpoint waits for its next piece: its last one isn't written, and the other half's gate is closed. It
+    /// waits also while a commit is under way.
+    pub fn paused(&self) -> bool
+        ensures { IsTrue result ↔ IsPaused (phase_of self.now.stage self.now.work) self.now }
+    {
+        match phase_of(self.book.stage, self.book.work) {
+            Phase::Paused | Phase::Committing => self.book.copying,
+            Phase::Idle | Phase::Copying | Phase::Stopped => false,
+        }
+    }
+
+    /// How many bytes of pieces went out since the last commit's end or mark.
+    pub fn written_since(&self) -> u64
+        ensures { result ≡ self.now.written }
+    {
+        self.book.written
+    }
+
+    /// Counts the bytes of pieces from here on.
+    pub fn mark(&mut self)
+        ensures { self.new ≡ record self.old { written = 0 } }
+    {
+        self.book.written = 0;
+    }
+
+    /// Where the first closed gate stands in the segment.
+    pub fn used(&self) -> u64
+        ensures { result + self.now.stored.room ≡ self.now.segment }
+    {
+        self.book.used()
     }
 
     /// The plant that is stored.
@@ -146,6 +191,15 @@ impl<D: Disk + Drop> Keeper<D> {
         self.book.fits(actions)
     }
 
+    /// Whether a frame of a batch's accepted actions fits behind what is stored, and the half that stands may hold them: one of
+    /// version 01 holds no PRIO and no SETP, so a checkpoint comes first.
+    #[tactic(auto, using(crate::proofs::Seen::takes_seen, crate::proofs::Seen::takes_of))]
+    pub fn takes(&self, batch: &Batch) -> bool
+        ensures { IsTrue result ↔ Takes self.now.stored (accepted_of batch.now.entries) }
+    {
+        self.book.takes(batch)
+    }
+
     /// The device.
     pub fn into_disk(self) -> D
         ensures { result ≡ self.disk }
@@ -161,7 +215,7 @@ impl<D: Disk + Drop> Keeper<D> {
 /// Where that fails the device is handed back: Unformatted or Damaged by its bytes, Disk only where it failed in one of these
 /// calls, OutOfMemory, which says nothing of the bytes.
 pub fn open_store<D: Disk + Drop>(alloc: Global, disk: D) -> Result<Keeper<D>, (OpenFault, D)>
-    ensures idle { IfOk result (λ k. k.stage ≡ Stage.Idle) }
+    ensures idle { IfOk result (λ k. (k.stage ≡ Stage.Idle) × (k.copying ≡ false) × (k.written ≡ 0)) }
     // The plant and the epoch for which the read stands, and the room that is left.
     ensures stands { D.honest disk → IfOk result (λ k. StandsWithRoom k.stored (D.state k.disk).bytes) }
     ensures limit { IfOk result (λ k. k.stored.plant.panel.count ≤ 2 ^ 48) }

@@ -1,6 +1,6 @@
 //! Laws: each function does nothing, and its contract is the law.
 
-ghost use Rattle.std.specs.Prelude.{◌≡◌, ◌≤◌, ◌+◌, ℕ, Result, Ok};
+ghost use Rattle.std.specs.Prelude.{◌≡◌, ◌≤◌, ◌+◌, ℕ, Option, Result, Ok};
 ghost use Rattle.alm_disk.specs.Device.{DeviceState};
 ghost use Rattle.alm_disk.specs.declared.disk_fault.DiskFault.{DiskFault};
 ghost use Rattle.alm_types.specs.Batches.{Judged};
@@ -8,17 +8,26 @@ ghost use Rattle.alm_model.specs.Plant.{Condensed};
 ghost use Rattle.alm_model.specs.Rules.{AllAdmitted};
 ghost use Rattle.alm_model.specs.Judging.{accepted_of};
 ghost use Rattle.alm_keeper.specs.Keeper.{begin_answer};
+ghost use Rattle.alm_keeper.specs.Pace.{Going, Paced, IsAhead, KeepsPace, TakesAny};
 ghost use Rattle.alm_keeper.specs.Phases.{UnderWay, KeptIn, Call, Advances};
 ghost use Rattle.alm_keeper.specs.Stand.{Account, end_of};
-ghost use Rattle.alm_keeper.specs.declared.stage.Stage.{Stage};
+ghost use Rattle.alm_keeper.specs.declared.phase.Phase.{Phase};
+ghost use Rattle.alm_keeper.specs.Stages.{IsResting};
 
-/// A batch that is the next one and admitted is begun by an idle keeper.
+/// A batch that is the next one and admitted is begun by a keeper that rests, also between the pieces of a checkpoint.
 pub fn next_batch_is_begun()
-    ensures { (plant : Condensed) (batch : Judged) → batch.first ≡ plant.panel.count + 1 → AllAdmitted plant (accepted_of batch.entries) → begin_answer Stage.Idle plant batch ≡ Ok tt }
+    ensures { (phase : Phase) (plant : Condensed) (batch : Judged) → IsResting phase → batch.first ≡ plant.panel.count + 1 → AllAdmitted plant (accepted_of batch.entries) → begin_answer phase plant batch ≡ Ok tt }
 {}
 
 /// What each device call leaves at any moment of it, done or failed, and what is kept once it was done: of a commit, of a checkpoint in any
 /// pieces, and of a commit between its pieces.
 pub fn each_call_keeps_what_is_under_way()
     ensures { (work : UnderWay) (a : Account) (n : ℕ) (result : Result Unit DiskFault) (old new : DeviceState) → a.gate + 1 ≤ end_of a → KeptIn work a old → Call work a n result old new → Advances work a n result old new }
+{}
+
+/// A store that keeps its pace takes any batch, where the segment has 452,651 bytes or more.
+pub fn a_store_that_keeps_its_pace_takes_any_batch()
+    ensures takes { (segment : ℕ) (phase : Phase) (used written : ℕ) (going : Option Going) → 452651 ≤ segment → KeepsPace segment phase used written going → TakesAny segment used }
+    // At most 53 commits come into one checkpoint.
+    ensures few { (segment : ℕ) (phase : Phase) (used written : ℕ) (g : Going) (p : Paced segment used (IsAhead phase written) g) → p.commits ≤ 53 }
 {}

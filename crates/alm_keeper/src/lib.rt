@@ -9,15 +9,25 @@
 //! |---|---|---|
 //! | `Close` (a checkpoint alone, and only where the other half's gate reads open) | writes that gate closed | what is stored |
 //! | `CloseSync` | sync | what is stored |
-//! | `Body` | writes what the gate guards, the next gate closed | what is stored |
+//! | `Body` | writes what the gate guards, the next gate closed: a frame, or one piece of a checkpoint's run | what is stored |
 //! | `BodySync` | sync | what is stored |
 //! | `Gate` | writes the gate open, one byte | what is stored, or what is begun |
 //! | `GateSync` | sync | what is stored, or what is begun |
-//! | then `Idle` | | what was begun: now it is stored |
+//! | then `Idle`, or beside an open checkpoint `Body` of that | | what was begun: now it is stored |
 //! | `Stopped`, where a call failed | none until the device is opened again | what is stored, or what was begun |
 //!
+//! A checkpoint is open from its begin to its end. What goes out is its *run*: the other half from behind its gate, which are the
+//! head in the next epoch, the image as it was copied, the frames committed since, and a closed gate. It goes out in pieces of at
+//! most 65,536 bytes, and between two of them a commit may be begun ([`Keeper::paused`]); the frame of that commit is copied into
+//! the run as well, with its gate open. The piece that reaches the closed gate is the last one, and no commit comes between it and
+//! the checkpoint's end.
+//!
+//! A half is of version 01 or 02, and a device has a header of one of them ([`format_as`]). One of version 01 holds neither PRIO nor
+//! SETP; each checkpoint makes a half of version 02, so where [`Keeper::takes`] is false for an action's sake a checkpoint comes
+//! first.
+//!
 //! A gate is one byte, open where it is 0xA5. A commit writes the body of a frame behind the first closed gate of the half that
-//! stands; a checkpoint writes head, image and first gate of the other half behind that half's gate, in the next epoch.
+//! stands; a checkpoint writes its run behind the gate of the other half.
 //!
 //! The definitions stand in specs/:
 //!
@@ -25,11 +35,12 @@
 //! |---|---|
 //! | Keeper | a keeper as its callers see it: stage, work, what is stored and what is begun; and what each call makes of it |
 //! | Stages | the stages, and which bytes may be left at each |
+//! | Pace | how fast an open checkpoint has to go out, so that the half that stands takes every batch |
 //! | Batch | the accepted actions of a batch, and how they are tried one after the other |
 //! | Formatting, Moments | what formatting makes: ten device calls in their order, and what a crash leaves at any moment of each |
 //! | Opening | what opening answers to the bytes |
 //! | Calls | one write or one sync |
-//! | Stand, Gated, Keeping | what a keeper knows of its device: for the proofs |
+//! | Stand, Resting, Piecewise, Phases, Keeping | what a keeper knows of its device: for the proofs |
 //!
 //! What is used above: `any_moment` of [`Keeper::advance`], where "stands for" is the relation `Stands` between bytes, an epoch and
 //! a plant that alm_checkpoint defines for every reader of a device. [`Keeper::images`] says the same between calls. After
@@ -42,6 +53,7 @@
 #![tactic(auto)]
 
 mod advancing;
+mod bearing;
 mod book;
 mod format_fault;
 mod formatting;
@@ -66,4 +78,4 @@ pub use phase::Phase;
 pub use progress::Progress;
 pub use refused::Refused;
 pub use stage::Stage;
-pub use store_format::format;
+pub use store_format::{format, format_as};

@@ -1,6 +1,6 @@
 //! Opening a device.
 
-ghost use Rattle.std.specs.Prelude.{◌≡◌, ◌≤◌, ◌<◌, ◌+◌, ◌^◌, ◌↔◌, ◌⊎◌, List, ℕ, length, take, OnOk, OnErr, IfOk, IfErr, ◌≢◌};
+ghost use Rattle.std.specs.Prelude.{◌≡◌, ◌≤◌, ◌<◌, ◌+◌, ◌^◌, ◌↔◌, ◌⊎◌, List, ℕ, length, take, OnOk, OnErr, IfOk, IfErr, ◌≢◌, false};
 ghost use Rattle.alm_disk.specs.Device.{IsImage, IsBytes};
 ghost use Rattle.alm_disk.specs.Failures.{HasFailed};
 ghost use Rattle.alm_disk.specs.Settled.{IsSettled};
@@ -139,7 +139,7 @@ pub fn open_book<D: Disk>(alloc: Global, disk: &mut D) -> Result<Book, OpenFault
     ensures settled { D.honest disk.old → OnOk result (IsSettled (D.state disk.new) (D.state disk.new).bytes) }
     ensures opens { D.honest disk.old → Opens (D.state disk.new).bytes result }
     ensures in_order { IfOk result InOrder }
-    ensures idle { IfOk result (λ book. book.stage ≡ Stage.Idle) }
+    ensures idle { IfOk result (λ book. (book.stage ≡ Stage.Idle) × (book.copying ≡ false) × (book.written ≡ 0)) }
     ensures fits { IfOk result (λ book. FitsDevice book (D.size disk.new)) }
 {
     match disk.sync() {
@@ -156,7 +156,7 @@ fn read_book<D: Disk>(alloc: Global, disk: &mut D) -> Result<Book, OpenFault>
     ensures keeps { (b : List ℕ) → D.honest disk.old → IsSettled (D.state disk.old) b → IsSettled (D.state disk.new) b }
     ensures opens { (b : List ℕ) → D.honest disk.old → IsSettled (D.state disk.old) b → IsBytes b → length b ≡ D.size disk.old → Opens b result }
     ensures in_order { IfOk result InOrder }
-    ensures idle { IfOk result (λ book. book.stage ≡ Stage.Idle) }
+    ensures idle { IfOk result (λ book. (book.stage ≡ Stage.Idle) × (book.copying ≡ false) × (book.written ≡ 0)) }
     ensures fits { IfOk result (λ book. FitsDevice book (D.size disk.new)) }
 {
     let layout = match read_layout(disk) {
@@ -231,7 +231,7 @@ fn book_of(
     requires image { length text.now ≡ image_size layout }
     requires segment { length segment.now ≡ layout.segment }
     ensures in_order { IfOk result InOrder }
-    ensures idle { IfOk result (λ book. book.stage ≡ Stage.Idle) }
+    ensures idle { IfOk result (λ book. (book.stage ≡ Stage.Idle) × (book.copying ≡ false) × (book.written ≡ 0)) }
     ensures restores { Restores layout marks text.now segment.now result }
 {
     let (stored, gate) = match layout.restore::<Plant>(
@@ -251,7 +251,7 @@ fn book_of(
     let Ok(actions) = Vec::with_capacity(alloc, MOST_ACTIONS) else {
         return Err(OpenFault::OutOfMemory);
     };
-    let Ok(image) = vec![in alloc; 0u8; HEAD_LEN + layout.image_len()] else {
+    let Ok(buffer) = vec![in alloc; 0u8; HEAD_LEN + layout.image_len() + layout.segment()] else {
         return Err(OpenFault::OutOfMemory);
     };
     let Ok(frame) = vec![in alloc; 0u8; FRAME_ROOM] else {
@@ -263,12 +263,17 @@ fn book_of(
         layout,
         half: marks.half,
         other_open: marks.other_open,
+        version: marks.head.version,
         epoch: marks.head.epoch,
         gate,
         stored,
         ahead,
         actions,
         frame,
-        image,
+        copying: false,
+        buffer,
+        run: 0,
+        out: 0,
+        written: 0,
     })
 }

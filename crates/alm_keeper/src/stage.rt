@@ -14,7 +14,7 @@ pub enum Stage {
     Close,
     /// .. and syncs.
     CloseSync,
-    /// What the gate guards is written.
+    /// What the gate guards is written: the body of a frame, or a piece of a checkpoint's run.
     Body,
     /// .. and synced.
     BodySync,
@@ -38,7 +38,7 @@ pub fn is_working(stage: Stage) -> bool
 pub enum Work {
     /// A frame is stored behind the others.
     Commit,
-    /// The other half is written, with the image of the stored plant, in the next epoch.
+    /// The other half is written, with the image of the stored plant and the frames committed since, in the next epoch.
     Checkpoint,
 }
 
@@ -50,6 +50,7 @@ pub fn phase_of(stage: Stage, work: Work) -> Phase
         (Stage::Idle, _) => Phase::Idle,
         (Stage::Stopped, _) => Phase::Stopped,
         (_, Work::Commit) => Phase::Committing,
+        (Stage::Body, Work::Checkpoint) => Phase::Paused,
         (_, Work::Checkpoint) => Phase::Copying,
     }
 }

@@ -12,13 +12,15 @@ ghost use Rattle.alm_disk.specs.Settled.{IsSettled};
 ghost use Rattle.alm_checkpoint.specs.Headers.{header_text, suits};
 ghost use Rattle.alm_checkpoint.specs.declared.layout.Layout.{Layout};
 ghost use Rattle.alm_checkpoint.specs.Layouts.{device_len, image_size};
+ghost use Rattle.alm_codec.specs.declared.version.Version.TheVariants.{V02};
 ghost use Rattle.alm_keeper.specs.Moments.{Formats, Goes, FailsIn};
-ghost use Rattle.alm_keeper.specs.Formatting.{IsLongest, IsNew, LeavesOf, first_half};
+ghost use Rattle.alm_keeper.specs.Formatting.{IsLongest, IsNew, IsOfVersion, LeavesOf, first_half};
 
 use crate::format_fault::FormatFault;
 use crate::formatting::write_all;
 use crate::half_text::put_half;
 use alm_checkpoint::{HEAD_LEN, HalfHead, Layout};
+use alm_codec::Version;
 use alm_disk::Disk;
 use alm_model::Alarms;
 use alm_plant::Plant;
@@ -26,23 +28,26 @@ use alm_types::Table;
 use std::alloc::{AllocError, Global};
 
 /// The layout of a device of a size for a table, with the longest segment that fits twice.
-fn layout_for(table: &Table, size: u64) -> Option<Layout>
+fn layout_for(table: &Table, size: u64, version: Version) -> Option<Layout>
     ensures table { IsTable table.now }
     ensures longest { IfSome result (IsLongest size table.now) }
+    ensures version { IfSome result (λ l. l.version ≡ version) }
     ensures none { result ≡ None → (n : ℕ) → suits size (length table.now.alarms) table.now.areas n ≡ false }
 {
-    Layout::longest(table.alarms().len() as u32, table.areas(), size)
+    Layout::longest(table.alarms().len() as u32, table.areas(), size, version)
 }
 
 /// Fills half 0 from its closed gate on, up to its segment's first gate, also closed.
 fn put_first_half(layout: &Layout, plant: &Plant, out: &mut [u8])
     requires rules { KeepsRules plant.now }
     requires sizes { IsOf layout.now.rows layout.now.areas plant.now.panel.count plant.now }
+    requires count { plant.now.panel.count ≤ 2 ^ 48 }
     requires room { length out.old ≡ 26 + image_size layout.now }
     ensures text { out.new ≡ first_half layout.now plant.now }
 {
     let head = HalfHead {
         epoch: 1,
+        version: layout.version,
         count: plant.count(),
     };
     out[0] = 0;
@@ -62,8 +67,13 @@ fn new_half(alloc: Global, layout: &Layout, table: &Table) -> Result<Vec<u8>, Al
     Ok(half)
 }
 
-/// Formats a device for a table: whatever stood there is overwritten. The device is handed back where that fails.
-pub fn format<D: Disk + Drop>(alloc: Global, disk: D, table: &Table) -> Result<D, (FormatFault, D)>
+/// Formats a device for a table in a version: whatever stood there is overwritten. The device is handed back where that fails.
+pub fn format_as<D: Disk + Drop>(
+    alloc: Global,
+    disk: D,
+    table: &Table,
+    version: Version,
+) -> Result<D, (FormatFault, D)>
     ensures honest { IfOk result (λ d. D.honest disk ↔ D.honest d) }
     ensures honest_back { IfErr result (λ x. D.honest disk ↔ D.honest x.1) }
     ensures size { IfOk result (λ d. D.size d ≡ D.size disk) }
@@ -71,6 +81,8 @@ pub fn format<D: Disk + Drop>(alloc: Global, disk: D, table: &Table) -> Result<D
     // It reads as one that stands for the new plant in epoch 1, and a crash leaves just that.
     ensures settled { D.honest disk → IfOk result (λ d. IsSettled (D.state d) (D.state d).bytes) }
     ensures stands { D.honest disk → IfOk result (λ d. IsNew (D.size disk) table.now (D.state d).bytes) }
+    // Its header and the half that stands are of the version.
+    ensures version { D.honest disk → IfOk result (λ d. IsOfVersion version (D.state d).bytes) }
     ensures too_small { IfErr result (λ x. x.0 ≡ FormatFault.TooSmall → (n : ℕ) → suits (D.size disk) (length table.now.alarms) table.now.areas n ≡ false) }
     ensures fits { IfErr result (λ x. x.0 ≢ FormatFault.TooSmall → (l : Layout) × IsLongest (D.size disk) table.now l) }
     ensures unchanged { IfErr result (λ x. x.0 ≢ FormatFault.Disk → x.1 ≡ disk) }
@@ -81,7 +93,7 @@ pub fn format<D: Disk + Drop>(alloc: Global, disk: D, table: &Table) -> Result<D
     // What a crash leaves where a call failed.
     ensures leaves { D.honest disk → (D.state disk).faulted ≡ false → IfErr result (λ x. LeavesOf (D.size disk) table.now (D.state disk) (D.state x.1)) }
 {
-    let Some(layout) = layout_for(table, disk.size()) else {
+    let Some(layout) = layout_for(table, disk.size(), version) else {
         return Err((FormatFault::TooSmall, disk));
     };
     let Ok(half) = new_half(alloc, &layout, table) else {
@@ -94,4 +106,28 @@ pub fn format<D: Disk + Drop>(alloc: Global, disk: D, table: &Table) -> Result<D
         Ok(()) => Ok(disk),
         Err(_) => Err((FormatFault::Disk, disk)),
     }
+}
+
+/// Formats a device for a table in version 02, as [`format_as`] does.
+pub fn format<D: Disk + Drop>(alloc: Global, disk: D, table: &Table) -> Result<D, (FormatFault, D)>
+    ensures honest { IfOk result (λ d. D.honest disk ↔ D.honest d) }
+    ensures honest_back { IfErr result (λ x. D.honest disk ↔ D.honest x.1) }
+    ensures size { IfOk result (λ d. D.size d ≡ D.size disk) }
+    ensures size_back { IfErr result (λ x. D.size x.1 ≡ D.size disk) }
+    // It reads as one that stands for the new plant in epoch 1, and a crash leaves just that.
+    ensures settled { D.honest disk → IfOk result (λ d. IsSettled (D.state d) (D.state d).bytes) }
+    ensures stands { D.honest disk → IfOk result (λ d. IsNew (D.size disk) table.now (D.state d).bytes) }
+    // Its header and the half that stands are of the version.
+    ensures version { D.honest disk → IfOk result (λ d. IsOfVersion V02 (D.state d).bytes) }
+    ensures too_small { IfErr result (λ x. x.0 ≡ FormatFault.TooSmall → (n : ℕ) → suits (D.size disk) (length table.now.alarms) table.now.areas n ≡ false) }
+    ensures fits { IfErr result (λ x. x.0 ≢ FormatFault.TooSmall → (l : Layout) × IsLongest (D.size disk) table.now l) }
+    ensures unchanged { IfErr result (λ x. x.0 ≢ FormatFault.Disk → x.1 ≡ disk) }
+    ensures failed { IfErr result (λ x. x.0 ≡ FormatFault.Disk → HasFailed (D.failures disk) (D.failures x.1)) }
+    // The device calls that were made, and, where nothing had failed before, what a crash leaves at any moment of each.
+    ensures moments { IfOk result (λ d. Formats Goes D.serves D.state (D.honest disk × ((D.state disk).faulted ≡ false)) (D.size disk) table.now disk d) }
+    ensures moments_back { IfErr result (λ x. x.0 ≡ FormatFault.Disk → Formats FailsIn D.serves D.state (D.honest disk × ((D.state disk).faulted ≡ false)) (D.size disk) table.now disk x.1) }
+    // What a crash leaves where a call failed.
+    ensures leaves { D.honest disk → (D.state disk).faulted ≡ false → IfErr result (λ x. LeavesOf (D.size disk) table.now (D.state disk) (D.state x.1)) }
+{
+    format_as(alloc, disk, table, Version::V02)
 }

@@ -28,7 +28,7 @@ fn stored(alloc: Global) -> Result<Vec<u8>, Fail> {
 }
 
 /// Puts a byte on a device, and syncs.
-fn put(disk: &mut MemDisk, at: u64, byte: u8) {
+pub fn put(disk: &mut MemDisk, at: u64, byte: u8) {
     if at < disk.size() {
         let _put = disk.write_at(at, &[byte]);
         let _synced = disk.sync();
@@ -36,7 +36,7 @@ fn put(disk: &mut MemDisk, at: u64, byte: u8) {
 }
 
 /// The count and the epoch of a device, or why it isn't opened; and the device.
-fn opened(alloc: Global, disk: MemDisk) -> (Result<(u64, u64), OpenFault>, MemDisk) {
+pub fn opened(alloc: Global, disk: MemDisk) -> (Result<(u64, u64), OpenFault>, MemDisk) {
     match open_store(alloc, disk) {
         Ok(keeper) => {
             let found = (keeper.count(), keeper.epoch());
@@ -47,7 +47,7 @@ fn opened(alloc: Global, disk: MemDisk) -> (Result<(u64, u64), OpenFault>, MemDi
 }
 
 /// A field that is damaged.
-fn damaged(half: u8, at: u64) -> Result<(u64, u64), OpenFault> {
+pub fn damaged(half: u8, at: u64) -> Result<(u64, u64), OpenFault> {
     Err(OpenFault::Damaged { half, at })
 }
 

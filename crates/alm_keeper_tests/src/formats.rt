@@ -2,8 +2,9 @@
 
 use crate::choosers::Left;
 use crate::worked::{SIZE, device, table};
+use alm_codec::Version;
 use alm_disk::{Call, Chooser, Crashable, Disk, FuseDisk, MemDisk, OnceDisk};
-use alm_keeper::{FormatFault, OpenFault, format, open_store};
+use alm_keeper::{FormatFault, OpenFault, format, format_as, open_store};
 use std::alloc::Global;
 use std::test::Fail;
 
@@ -136,8 +137,8 @@ fn the_calls_and_the_bytes(rt: HostRuntime) -> Result<(), Fail> {
     ];
     assert_eq!(rt; disk.calls(), calls.as_slice());
     let start = [
-        0xa5, 0x41, 0x4c, 0x4d, 0x53, 0x52, 0x56, 0x30, 0x31, 0, 0, 0, 4, 0, 2, 0, 0, 0, 0, 0, 0,
-        0x10, 0x14, 0xa5, 0, 0, 0, 0, 0, 0, 0, 1, 0, 0, 0, 0, 0, 0, 0, 0, 0, 0, 0, 0, 0, 0, 0x28,
+        0xa5, 0x41, 0x4c, 0x4d, 0x53, 0x52, 0x56, 0x30, 0x32, 0, 0, 0, 4, 0, 2, 0, 0, 0, 0, 0, 0,
+        0x10, 0x14, 0xa5, 0, 0, 0, 0, 0, 0, 0, 1, 2, 0, 0, 0, 0, 0, 0, 0, 0, 0, 0, 0, 0, 0, 0x28,
         0x6a,
     ];
     assert_eq!(rt; disk.bytes().get(..48), Some(start.as_slice()));
@@ -150,6 +151,22 @@ fn the_calls_and_the_bytes(rt: HostRuntime) -> Result<(), Fail> {
         disk.bytes().get(14_509..14_512),
         Some([0xa5, 0, 0xa5].as_slice())
     );
+    assert_eq!(rt; epoch(alloc, disk), Ok(1));
+    Ok(())
+}
+
+#[test]
+fn the_bytes_of_version_01(rt: HostRuntime) -> Result<(), Fail> {
+    let alloc = rt.alloc();
+    let Ok(disk) = format_as(alloc, device(alloc, SIZE)?, &table(alloc)?, Version::V01) else {
+        return Err(Fail::new("not formatted"));
+    };
+    let start = [
+        0xa5, 0x41, 0x4c, 0x4d, 0x53, 0x52, 0x56, 0x30, 0x31, 0, 0, 0, 4, 0, 2, 0, 0, 0, 0, 0, 0,
+        0x10, 0x14, 0xa5, 0, 0, 0, 0, 0, 0, 0, 1, 0, 0, 0, 0, 0, 0, 0, 0, 0, 0, 0, 0, 0, 0, 0x28,
+        0x6a,
+    ];
+    assert_eq!(rt; disk.bytes().get(..48), Some(start.as_slice()));
     assert_eq!(rt; epoch(alloc, disk), Ok(1));
     Ok(())
 }

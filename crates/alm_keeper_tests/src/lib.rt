@@ -15,10 +15,14 @@ mod every_call;
 #[cfg(test)]
 mod formats;
 #[cfg(test)]
+mod pieces;
+#[cfg(test)]
 mod refused;
 #[cfg(test)]
 mod rows;
 #[cfg(test)]
 mod steps;
+#[cfg(test)]
+mod versions;
 #[cfg(test)]
 mod worked;

@@ -37,10 +37,9 @@ pub fn batch(alloc: Global, first: u64, actions: &[Action]) -> Result<Batch, Fai
     batch_of(alloc, first, &verdicts)
 }
 
-/// Begins the commit of a batch; `None` where it has no action, or doesn't fit.
+/// Begins the commit of a batch; `None` where it has no action, or isn't taken.
 pub fn begin<D: Disk + Drop>(keeper: &mut Keeper<D>, batch: &Batch) -> Option<Result<(), Refused>> {
-    let actions = accepted_in(batch);
-    if actions >= 1 && keeper.fits(actions) {
+    if accepted_in(batch) >= 1 && keeper.takes(batch) {
         Some(keeper.begin(batch))
     } else {
         None

@@ -73,6 +73,8 @@ fn refusals_have_their_numbers(rt: HostRuntime) {
         (Refusal::OutOfMemory, 16),
         (Refusal::NoSuchList, 17),
         (Refusal::Exhausted, 18),
+        (Refusal::PriorityRange, 19),
+        (Refusal::SameValue, 20),
     ] {
         assert_eq!(rt; refusal.number(), number);
     }

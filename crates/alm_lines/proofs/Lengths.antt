@@ -4,7 +4,7 @@ use Rattle.std.specs.Prelude.{decimal, codes, ℤ, pos, negsuc}
 use Rattle.std.proofs.Math.Facts.{leb_yes}
 use Rattle.std.proofs.lemmas.Fmt.{length-decimal-le}
 use Rattle.alm_types.specs.declared.action.Action.{Action}
-use Rattle.alm_types.specs.declared.action.Action.TheVariants.{Clock, Value, Ack, Reset, Shelve, Unshelve, Oos, Design}
+use Rattle.alm_types.specs.declared.action.Action.TheVariants.{Clock, Value, Ack, Reset, Shelve, Unshelve, Oos, Design, SetPriority, SetSetpoint}
 use Rattle.alm_types.specs.declared.query.Query.{Query}
 use Rattle.alm_types.specs.declared.query.Query.TheVariants.{State, Priority, Area, Wheel, Flood, Stale, Chatter}
 use Rattle.alm_types.specs.Actions.{IsAction}
@@ -48,6 +48,8 @@ action-length (Shelve i s) h = two-length (codes "SHELVE") (decimal i.0) (decima
 action-length (Unshelve i) h = one-length (codes "UNSHELVE") (decimal i.0) (omega arith) (omega (arith, alarm-length i.0 h.alarm))
 action-length (Oos i on) h = two-length (codes "OOS") (decimal i.0) (switch_text on) (omega arith) (alarm-length i.0 h.alarm) (omega (arith, switch-length on))
 action-length (Design i on) h = two-length (codes "DESIGN") (decimal i.0) (switch_text on) (omega arith) (alarm-length i.0 h.alarm) (omega (arith, switch-length on))
+action-length (SetPriority i n) h = two-length (codes "PRIO") (decimal i.0) (decimal n) (omega arith) (alarm-length i.0 h.alarm) (omega (arith, alarm-length n h.argument))
+action-length (SetSetpoint i v) h = two-length (codes "SETP") (decimal i.0) (value_text v) (omega arith) (alarm-length i.0 h.alarm) (value-length v h.argument)
 
 query-length : (query : Query) → IsQueryInRange query → length (query_text query) ≤ 60
 query-length (State i) h = one-length (codes "STATE") (decimal i.0) (omega arith) (omega (arith, alarm-length i.0 h))

@@ -9,7 +9,7 @@ use Rattle.std.specs.Str.Parse.{AllDigits}
 use Rattle.std.proofs.Math.Facts.{leb_yes}
 use Rattle.alm_types.specs.declared.alarm_id.AlarmId.{AlarmId}
 use Rattle.alm_types.specs.declared.action.Action.{Action}
-use Rattle.alm_types.specs.declared.action.Action.TheVariants.{Clock, Value, Ack, Reset, Shelve, Unshelve, Oos, Design}
+use Rattle.alm_types.specs.declared.action.Action.TheVariants.{Clock, Value, Ack, Reset, Shelve, Unshelve, Oos, Design, SetPriority, SetSetpoint}
 use Rattle.alm_types.specs.declared.refusal.Refusal.TheVariants.{BadLine}
 use Rattle.alm_types.specs.declared.query.Query.{Query}
 use Rattle.alm_types.specs.declared.query.Query.TheVariants.{State, Priority, Area, Wheel, Flood, Stale, Chatter}
@@ -145,8 +145,10 @@ taken-two name first second =
     (λ _. pick (same name (codes "SHELVE")) _ _ text (two-alarm (λ i s. Act (Shelve i s)) (codes "SHELVE") name first second decimal (word first) (word second) refl (word-text second) (λ i s. refl))
     (λ _. pick (same name (codes "OOS")) _ _ text (two-alarm (λ i on. Act (Oos i on)) (codes "OOS") name first second switch_text (word first) (switch second) refl (switch-text second) (λ i on. refl))
     (λ _. pick (same name (codes "DESIGN")) _ _ text (two-alarm (λ i on. Act (Design i on)) (codes "DESIGN") name first second switch_text (word first) (switch second) refl (switch-text second) (λ i on. refl))
+    (λ _. pick (same name (codes "PRIO")) _ _ text (two-alarm (λ i n. Act (SetPriority i n)) (codes "PRIO") name first second decimal (word first) (word second) refl (word-text second) (λ i n. refl))
+    (λ _. pick (same name (codes "SETP")) _ _ text (two-alarm (λ i v. Act (SetSetpoint i v)) (codes "SETP") name first second value_text (word first) (reading second) refl (reading-text second) (λ i v. refl))
     (λ _. pick (same name (codes "LIST")) _ _ text (list-text name first second (word second) refl)
-    (λ _. nothing text)))))
+    (λ _. nothing text)))))))
 
 taken-none : (name : List ℕ) → Taken name (of_none name)
 taken-none name =
@@ -227,6 +229,10 @@ action-read (Oos i on) h =
     rw (cut-spaced (codes "OOS") (decimal i.0 ++ 32 ∷ switch_text on) refl, cut-spaced (decimal i.0) (switch_text on) (spaceless-decimal i.0 (omega (arith, h.alarm))), alarm-read i h.alarm, switch-read on) refl
 action-read (Design i on) h =
     rw (cut-spaced (codes "DESIGN") (decimal i.0 ++ 32 ∷ switch_text on) refl, cut-spaced (decimal i.0) (switch_text on) (spaceless-decimal i.0 (omega (arith, h.alarm))), alarm-read i h.alarm, switch-read on) refl
+action-read (SetPriority i n) h =
+    rw (cut-spaced (codes "PRIO") (decimal i.0 ++ 32 ∷ decimal n) refl, cut-spaced (decimal i.0) (decimal n) (spaceless-decimal i.0 (omega (arith, h.alarm))), alarm-read i h.alarm, word-read n h.argument) refl
+action-read (SetSetpoint i v) h =
+    rw (cut-spaced (codes "SETP") (decimal i.0 ++ 32 ∷ value_text v) refl, cut-spaced (decimal i.0) (value_text v) (spaceless-decimal i.0 (omega (arith, h.alarm))), alarm-read i h.alarm, reading-read v h.argument) refl
 
 list-read : (letter : List ℕ) (n : ℕ) → is_spaceless letter ≡ true → n < 2 ^ 32 → of_rest (cut (with_two (codes "LIST") letter (decimal n))) ≡ of_letter letter n
 list-read letter n e below =

@@ -2,7 +2,7 @@
 use Rattle.std.specs.Prelude.{ℕ, ◌+◌, ◌-◌, ◌*◌, ◌^◌, List, [], ◌∷◌, Bool, true, false, ◌&&◌, Option, Some, None, length, take, drop, position, option_map, option_and_then, unwrap_or, ℤ, pos, neg_ℤ, nat_eq, codes, nat_lt, nat_le, ◌==◌, if◌then◌else◌}
 use Rattle.std.specs.Cmp.Lexicographic.{pointwise}
 use Rattle.alm_types.specs.declared.alarm_id.AlarmId.{AlarmId}
-use Rattle.alm_types.specs.declared.action.Action.TheVariants.{Clock, Value, Ack, Reset, Shelve, Unshelve, Oos, Design}
+use Rattle.alm_types.specs.declared.action.Action.TheVariants.{Clock, Value, Ack, Reset, Shelve, Unshelve, Oos, Design, SetPriority, SetSetpoint}
 use Rattle.alm_types.specs.declared.refusal.Refusal.TheVariants.{BadLine, LineTooLong}
 use Rattle.alm_types.specs.declared.query.Query.TheVariants.{State, Priority, Area, Wheel, Flood, Stale, Chatter}
 use Rattle.alm_lines.specs.declared.line.Line.{Line}
@@ -94,6 +94,8 @@ of_two name first second =
     else if same name (codes "SHELVE") then option_and_then (λ i. option_map (λ s. Act (Shelve i s)) (word second)) (alarm first)
     else if same name (codes "OOS") then option_and_then (λ i. option_map (λ on. Act (Oos i on)) (switch second)) (alarm first)
     else if same name (codes "DESIGN") then option_and_then (λ i. option_map (λ on. Act (Design i on)) (switch second)) (alarm first)
+    else if same name (codes "PRIO") then option_and_then (λ i. option_map (λ n. Act (SetPriority i n)) (word second)) (alarm first)
+    else if same name (codes "SETP") then option_and_then (λ i. option_map (λ v. Act (SetSetpoint i v)) (reading second)) (alarm first)
     else if same name (codes "LIST") then option_and_then (of_letter first) (word second)
     else None
 

@@ -2,7 +2,7 @@
 use Rattle.std.specs.Prelude.{ℕ, ◌<◌, ◌^◌, List, [], ◌∷◌, ◌++◌, Bool, true, false, codes, decimal, ℤ, pos, negsuc, ◌+◌}
 use Rattle.alm_types.specs.Actions.{IsAction}
 use Rattle.alm_types.specs.declared.action.Action.{Action}
-use Rattle.alm_types.specs.declared.action.Action.TheVariants.{Clock, Value, Ack, Reset, Shelve, Unshelve, Oos, Design}
+use Rattle.alm_types.specs.declared.action.Action.TheVariants.{Clock, Value, Ack, Reset, Shelve, Unshelve, Oos, Design, SetPriority, SetSetpoint}
 use Rattle.alm_types.specs.declared.query.Query.{Query}
 use Rattle.alm_types.specs.declared.query.Query.TheVariants.{State, Priority, Area, Wheel, Flood, Stale, Chatter}
 use Rattle.alm_lines.specs.declared.ask.Ask.{Ask}
@@ -34,6 +34,8 @@ action_text (Shelve i seconds) = with_two (codes "SHELVE") (decimal i.0) (decima
 action_text (Unshelve i) = with_one (codes "UNSHELVE") (decimal i.0)
 action_text (Oos i on) = with_two (codes "OOS") (decimal i.0) (switch_text on)
 action_text (Design i on) = with_two (codes "DESIGN") (decimal i.0) (switch_text on)
+action_text (SetPriority i n) = with_two (codes "PRIO") (decimal i.0) (decimal n)
+action_text (SetSetpoint i v) = with_two (codes "SETP") (decimal i.0) (value_text v)
 
 abbrev pub query_text : Query → List ℕ
 query_text (State i) = with_one (codes "STATE") (decimal i.0)

@@ -119,6 +119,12 @@ fn of_two(name: &[u8], first: &[u8], second: &[u8]) -> Option<Ask>
     if name == b"DESIGN".as_slice() {
         return Some(Ask::Act(Action::Design(alarm(first)?, switch(second)?)));
     }
+    if name == b"PRIO".as_slice() {
+        return Some(Ask::Act(Action::SetPriority(alarm(first)?, word(second)?)));
+    }
+    if name == b"SETP".as_slice() {
+        return Some(Ask::Act(Action::SetSetpoint(alarm(first)?, reading(second)?)));
+    }
     if name == b"LIST".as_slice() {
         return of_letter(first, word(second)?);
     }

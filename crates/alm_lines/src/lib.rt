@@ -6,13 +6,14 @@
 //! <id> ACK <alarm>            <id> RESET <alarm>
 //! <id> SHELVE <alarm> <secs>  <id> UNSHELVE <alarm>
 //! <id> OOS <alarm> ON|OFF     <id> DESIGN <alarm> ON|OFF
+//! <id> PRIO <alarm> <num>     <id> SETP <alarm> <value>
 //! <id> VAL <alarm> <value>    <id> CLOCK <moment>
 //! <id> STATE <alarm>          <id> LIST P|A|S <number>
 //! <id> FLOOD <area>           <id> STALE
 //! <id> CHATTER
 //! ```
 //!
-//! `id`, `alarm`, `secs`, `number` and `area` are decimal digits up to 4294967295 without a leading zero; `moment` is below
+//! `id`, `alarm`, `secs`, `num`, `number` and `area` are decimal digits up to 4294967295 without a leading zero; `moment` is below
 //! 2^40; `value` is from -10^12 to 10^12, never `-0`. Any other line is a `BadLine`, with the line's id where it begins with
 //! an id and a space or its end, else with id 0. A line of more than 128 bytes with its LF is a `LineTooLong` with id 0,
 //! answered at its LF.

@@ -9,8 +9,9 @@ use Rattle.std.proofs.lemmas.List.Sums.{sum_by-cons}
 use borrow.Author.Tests.{ltb-true, le-leb}
 use Rattle.std.proofs.lemmas.Bool.{cases_Bool, cases_lt}
 use Rattle.alm_types.specs.declared.attr.Attr.{Attr}
+use Rattle.alm_types.specs.Changes.{with_priority, with_setpoint}
 use Rattle.alm_types.specs.declared.action.Action.{Action}
-use Rattle.alm_types.specs.declared.action.Action.TheVariants.{Clock, Value, Ack, Reset, Shelve, Unshelve, Oos, Design}
+use Rattle.alm_types.specs.declared.action.Action.TheVariants.{Clock, Value, Ack, Reset, Shelve, Unshelve, Oos, Design, SetPriority, SetSetpoint}
 use Rattle.alm_types.specs.declared.refusal.Refusal.{Refusal}
 use Rattle.alm_types.specs.declared.refusal.Refusal.TheVariants.{ClockBack}
 use Rattle.alm_types.specs.Tables.{Listing, IsTable}
@@ -28,8 +29,10 @@ use Rattle.alm_model.specs.Lists.{due, is_due, deadline, stamp, key_of}
 use Rattle.alm_model.specs.New.{at_rest, new_plant}
 use Rattle.alm_model.specs.Rules.{KeepsRules, IsAlarm, IsAges, IsTimely, AreAdmitted}
 use Rattle.alm_model.specs.Sound.{IsSound}
-use Rattle.alm_model.specs.Step.{acted, counted, later, settle, settled, is_flood, step, run, touch, unshelve}
+use Rattle.alm_model.specs.Step.{acted, configured, counted, later, settle, settled, is_flood, step, run, touch, unshelve}
 use Rattle.alm_model.proofs.Between.{Between, IsBetween, between-touch, between-fold, state-there}
+use Rattle.alm_model.proofs.Configured.{KeepsPlace, priority_keeps, setpoint_keeps, between-configured}
+use Rattle.alm_model.proofs.Measured.{change-length, change-all}
 use Rattle.alm_model.proofs.Listed.{listed, listed-few}
 use Rattle.alm_model.proofs.Measured.{falling-later, ages-aged}
 use Rattle.alm_model.proofs.Soundness.{sum_by-aged}
@@ -150,6 +153,26 @@ clock-kept q t h early free =
     between-fold (due t q.panel) (later condensed t (counted q))
     (begun q t (due t q.panel) h (omega arith) early (let n = listed-few deadline (is_due t) q.panel.attrs q.panel.rows in let m = h.few in omega arith) (λ i a s e f d k m. due-there q t i a s e f d k m))
 
+-- other attributes end no shelving, and suit the alarm as those before did
+configured-kept : (q : Condensed) (i : ℕ) (f : Attr → Attr) → KeepsPlace f → KeepsRules q → Between [] (configured (counted q) i f)
+configured-kept q i f same h = record {
+  some = h.some;
+  few = h.few;
+  attrs = change-length q.panel.attrs i f ∙ h.attrs;
+  recent = h.recent;
+  areas = h.areas;
+  measured = h.measured;
+  now = h.now;
+  stamps = (let b = h.stamps in omega arith);
+  ages = h.ages;
+  annunciations = h.annunciations;
+  in_areas = change-all (λ a. a.area < length q.floods) q.panel.attrs i f (λ a l. (let e = same.area a in omega arith)) h.in_areas;
+  alarms = between-configured [] q.panel.now q.panel.attrs q.panel.rows q.kept.moments i f same
+      (λ j a s ms e g m. between-later [] j q.panel.now q.panel.next_stamp q.panel.now a s ms (omega arith)
+      (λ d k l. (let r = (ahead-of q.panel.now a.max_shelve s.shelved_until d (h.alarms j a s ms e g m).deadline k).0 in absurd (omega arith))) (h.alarms j a s ms e g m));
+  stamped = stamped-kept q h;
+}
+
 acted-kept : (q : Condensed) (action : Action) → KeepsRules q → IsTimely action → own_refusal q.panel action ≡ None → Between [] (acted condensed (counted q) action)
 acted-kept q (Clock t) h early free = clock-kept q t h early free
 acted-kept q (Value i v) h early free = touch-kept q (Value i v) h free
@@ -159,6 +182,8 @@ acted-kept q (Shelve i s) h early free = touch-kept q (Shelve i s) h free
 acted-kept q (Unshelve i) h early free = touch-kept q (Unshelve i) h free
 acted-kept q (Oos i on) h early free = touch-kept q (Oos i on) h free
 acted-kept q (Design i on) h early free = touch-kept q (Design i on) h free
+acted-kept q (SetPriority i priority) h early free = configured-kept q i.0 (with_priority priority) (priority_keeps priority) h
+acted-kept q (SetSetpoint i setpoint) h early free = configured-kept q i.0 (with_setpoint setpoint) (setpoint_keeps setpoint) h
 
 -- floods that were settled stay so
 flood-again : (w : ℕ) (b : Bool) → is_flood w (is_flood w b) ≡ is_flood w b

@@ -6,7 +6,7 @@ use Rattle.std.proofs.lemmas.List.{length-set, length-map}
 use Rattle.std.proofs.lemmas.Bool.{ltb-true}
 use Rattle.alm_types.specs.declared.attr.Attr.{Attr}
 use Rattle.alm_types.specs.declared.action.Action.{Action}
-use Rattle.alm_types.specs.declared.action.Action.TheVariants.{Clock, Value, Ack, Reset, Shelve, Unshelve, Oos, Design}
+use Rattle.alm_types.specs.declared.action.Action.TheVariants.{Clock, Value, Ack, Reset, Shelve, Unshelve, Oos, Design, SetPriority, SetSetpoint}
 use Rattle.alm_types.specs.declared.refusal.Refusal.{Refusal}
 use Rattle.alm_types.specs.declared.refusal.Refusal.TheVariants.{Exhausted}
 use Rattle.alm_state.specs.Rows.{State}
@@ -49,6 +49,8 @@ acted_count q (Shelve i s) = touch_count q i.0 (outcome q.panel.now q.panel.next
 acted_count q (Unshelve i) = touch_count q i.0 (outcome q.panel.now q.panel.next_stamp (Unshelve i))
 acted_count q (Oos i on) = touch_count q i.0 (outcome q.panel.now q.panel.next_stamp (Oos i on))
 acted_count q (Design i on) = touch_count q i.0 (outcome q.panel.now q.panel.next_stamp (Design i on))
+acted_count q (SetPriority i priority) = refl
+acted_count q (SetSetpoint i setpoint) = refl
 
 pub step_count : (q : Condensed) (a : Action) → (step q a).panel.count ≡ q.panel.count + 1
 step_count q a = acted_count (counted q) a
@@ -100,6 +102,8 @@ acted_sizes q (Shelve i s) = touch_sizes q i.0 (outcome q.panel.now q.panel.next
 acted_sizes q (Unshelve i) = touch_sizes q i.0 (outcome q.panel.now q.panel.next_stamp (Unshelve i))
 acted_sizes q (Oos i on) = touch_sizes q i.0 (outcome q.panel.now q.panel.next_stamp (Oos i on))
 acted_sizes q (Design i on) = touch_sizes q i.0 (outcome q.panel.now q.panel.next_stamp (Design i on))
+acted_sizes q (SetPriority i priority) = record { rows = refl; floods = refl; ages = refl }
+acted_sizes q (SetSetpoint i setpoint) = record { rows = refl; floods = refl; ages = refl }
 
 settled_length : (windows : List ℕ) (floods : List Bool) → length windows ≡ length floods → length (settled windows floods) ≡ length floods
 settled_length [] [] e = refl

@@ -1,10 +1,11 @@
 -- The condensed plant goes along with the whole one.
 use Rattle.std.proofs.Common.{◌≡◌, ℕ, ◌+◌, ◌-◌, ◌<◌, ◌≤◌, Bool, false, List, [], ◌∷◌, Option, Some, None, length, map, take, refl, ap, sym, ◌∙◌, arith}
-use Rattle.std.specs.Prelude.{slice_get, sum, fold}
+use Rattle.std.specs.Prelude.{slice_get, sum, fold, count_by, ◌==◌, ◌&&◌}
 use Rattle.std.specs.List.{range_with_len}
 use Rattle.alm_types.specs.declared.attr.Attr.{Attr}
+use Rattle.alm_types.specs.Changes.{with_priority, with_setpoint}
 use Rattle.alm_types.specs.declared.action.Action.{Action}
-use Rattle.alm_types.specs.declared.action.Action.TheVariants.{Clock, Value, Ack, Reset, Shelve, Unshelve, Oos, Design}
+use Rattle.alm_types.specs.declared.action.Action.TheVariants.{Clock, Value, Ack, Reset, Shelve, Unshelve, Oos, Design, SetPriority, SetSetpoint}
 use Rattle.alm_state.specs.Rows.{State}
 use Rattle.std.proofs.Common.{inl, inr}
 use Rattle.std.specs.Prelude.{nat_lt}
@@ -19,9 +20,11 @@ use Rattle.std.proofs.lemmas.List.FromFn.{length-map-range_with_len}
 use Rattle.alm_model.specs.Lists.{due}
 use Rattle.alm_model.specs.Accept.{refusal}
 use Rattle.alm_model.specs.Plant.{Panel, Plant, History}
-use Rattle.alm_model.specs.Keeping.{in_full, condensed, aged, window_of}
+use Rattle.alm_model.specs.Keeping.{in_full, condensed, aged, window_of, change}
 use Rattle.alm_model.specs.Condense.{condense, IsPast, IsRecorded, of_age, moments_of}
-use Rattle.alm_model.specs.Step.{put, touch, touched, unshelve, later, acted, settle, settled, counted, with_stamped, after, step}
+use Rattle.alm_model.specs.Step.{put, configured, touch, touched, unshelve, later, acted, settle, settled, counted, with_stamped, after, step}
+use Rattle.alm_model.proofs.Configured.{KeepsPlace, priority_keeps, setpoint_keeps, area_kept}
+use Rattle.alm_model.proofs.Measured.{change-length}
 use Rattle.alm_model.proofs.Condensing.{ages-note, moments-note, map-same}
 use Rattle.alm_model.proofs.Passing.{ages-pass}
 use Rattle.alm_model.proofs.Windows.{window-sum}
@@ -41,6 +44,19 @@ cond-touched q i f None s = refl
 
 cond-touch : (q : Plant) (i : ℕ) (f : Attr → State → Outcome) → condense (touch in_full q i f) ≡ touch condensed (condense q) i f
 cond-touch q i f = cond-touched q i f (slice_get q.panel.attrs i) (slice_get q.panel.rows i)
+
+-- other attributes of an alarm leave it in its area, so all is counted as before
+pub cond-configured : (q : Plant) (i : ℕ) (f : Attr → Attr) → KeepsPlace f → condense (configured q i f) ≡ configured (condense q) i f
+cond-configured q i f same =
+    let size : length (change q.panel.attrs i f) ≡ length q.panel.attrs = change-length q.panel.attrs i f in
+    λ j. record {
+      panel = (configured q i f).panel;
+      kept = record {
+        ages = map (λ area. map (λ age. count_by (λ a. (area_kept q.panel.attrs i a.alarm f same j == area) && (a.moment + age == q.panel.now)) q.kept) (range_with_len 0 600)) (range_with_len 0 (length q.floods));
+        moments = map (λ k. take 3 (moments_of q.kept k)) (range_with_len 0 (size j));
+      };
+      floods = q.floods;
+    }
 
 cond-fold : (q : Plant) (is : List ℕ) → condense (fold (unshelve in_full) q is) ≡ fold (unshelve condensed) (condense q) is
 cond-fold q [] = refl
@@ -131,6 +147,8 @@ forward p (Shelve i s) h = tt
 forward p (Unshelve i) h = tt
 forward p (Oos i on) h = tt
 forward p (Design i on) h = tt
+forward p (SetPriority i priority) h = tt
+forward p (SetSetpoint i setpoint) h = tt
 
 cond-acted : (q : Plant) (action : Action) → IsPastPlant q → Forward q.panel.now action → condense (acted in_full q action) ≡ acted condensed (condense q) action
 cond-acted q (Clock t) past h =
@@ -142,6 +160,8 @@ cond-acted q (Shelve i s) past h = cond-touch q i.0 (outcome q.panel.now q.panel
 cond-acted q (Unshelve i) past h = cond-touch q i.0 (outcome q.panel.now q.panel.next_stamp (Unshelve i))
 cond-acted q (Oos i on) past h = cond-touch q i.0 (outcome q.panel.now q.panel.next_stamp (Oos i on))
 cond-acted q (Design i on) past h = cond-touch q i.0 (outcome q.panel.now q.panel.next_stamp (Design i on))
+cond-acted q (SetPriority i priority) past h = cond-configured q i.0 (with_priority priority) (priority_keeps priority)
+cond-acted q (SetSetpoint i setpoint) past h = cond-configured q i.0 (with_setpoint setpoint) (setpoint_keeps setpoint)
 
 past-acted : (q : Plant) (action : Action) → IsPastPlant q → Forward q.panel.now action → IsPastPlant (acted in_full q action)
 past-acted q (Clock t) past h = past-fold (later in_full t q) (due t q.panel) (IsPast-later q.panel.now t q.kept h past)
@@ -152,6 +172,8 @@ past-acted q (Shelve i s) past h = past-touch q i.0 (outcome q.panel.now q.panel
 past-acted q (Unshelve i) past h = past-touch q i.0 (outcome q.panel.now q.panel.next_stamp (Unshelve i)) past
 past-acted q (Oos i on) past h = past-touch q i.0 (outcome q.panel.now q.panel.next_stamp (Oos i on)) past
 past-acted q (Design i on) past h = past-touch q i.0 (outcome q.panel.now q.panel.next_stamp (Design i on)) past
+past-acted q (SetPriority i priority) past h = past
+past-acted q (SetSetpoint i setpoint) past h = past
 
 pub cond-after : (q : Plant) (action : Action) → IsPast q.panel.now q.kept → refusal q.panel action ≡ None → condense (after q action) ≡ step (condense q) action
 cond-after q action past h =
@@ -195,6 +217,8 @@ recorded-acted q (Shelve i s) r h = recorded-touch q i.0 (outcome q.panel.now q.
 recorded-acted q (Unshelve i) r h = recorded-touch q i.0 (outcome q.panel.now q.panel.next_stamp (Unshelve i)) r
 recorded-acted q (Oos i on) r h = recorded-touch q i.0 (outcome q.panel.now q.panel.next_stamp (Oos i on)) r
 recorded-acted q (Design i on) r h = recorded-touch q i.0 (outcome q.panel.now q.panel.next_stamp (Design i on)) r
+recorded-acted q (SetPriority i priority) r h = r
+recorded-acted q (SetSetpoint i setpoint) r h = r
 
 pub falling-after : (q : Plant) (action : Action) → Recorded q → refusal q.panel action ≡ None → Recorded (after q action)
 falling-after q action r h = recorded-acted (counted q) action r (forward q.panel action h)

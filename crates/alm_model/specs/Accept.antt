@@ -4,7 +4,7 @@ use Rattle.alm_types.specs.declared.attr.Attr.{Attr}
 use Rattle.alm_types.specs.declared.role.Role.{Role}
 use Rattle.alm_types.specs.declared.role.Role.TheVariants as role
 use Rattle.alm_types.specs.declared.action.Action.{Action}
-use Rattle.alm_types.specs.declared.action.Action.TheVariants.{Clock, Value, Ack, Reset, Shelve, Unshelve, Oos, Design}
+use Rattle.alm_types.specs.declared.action.Action.TheVariants.{Clock, Value, Ack, Reset, Shelve, Unshelve, Oos, Design, SetPriority, SetSetpoint}
 use Rattle.alm_types.specs.declared.request.Request.{Request}
 use Rattle.alm_types.specs.declared.refusal.Refusal.{Refusal}
 use Rattle.alm_types.specs.declared.refusal.Refusal.TheVariants.{NoSuchAlarm, ClockBack, WrongRole, Exhausted}
@@ -24,6 +24,8 @@ may_ask role.Console (Reset i) = true
 may_ask role.Console (Shelve i s) = true
 may_ask role.Console (Unshelve i) = true
 may_ask role.Console (Oos i on) = true
+may_ask role.Console (SetPriority i priority) = true
+may_ask role.Console (SetSetpoint i setpoint) = true
 may_ask _ _ = false
 
 -- why an alarm refuses an action, or that there is no such alarm

@@ -2,7 +2,8 @@
 use Rattle.std.specs.Prelude.{ℕ, ◌+◌, ◌-◌, List, [], ◌∷◌, Bool, true, false, Option, Some, slice_get, slice_set, fold, length, nat_lt, if◌then◌else◌}
 use Rattle.alm_types.specs.declared.attr.Attr.{Attr}
 use Rattle.alm_types.specs.declared.action.Action.{Action}
-use Rattle.alm_types.specs.declared.action.Action.TheVariants.{Clock}
+use Rattle.alm_types.specs.Changes.{with_priority, with_setpoint}
+use Rattle.alm_types.specs.declared.action.Action.TheVariants.{Clock, SetPriority, SetSetpoint}
 use Rattle.alm_state.specs.Rows.{State}
 use Rattle.alm_state.specs.Outcome.{outcome, unshelved}
 use Rattle.alm_state.specs.declared.outcome.Outcome.{Outcome}
@@ -10,7 +11,7 @@ use Rattle.alm_state.specs.declared.outcome.Outcome.TheVariants.{Changed, Annunc
 use Rattle.alm_model.specs.Plant.{Panel, PlantOf, Plant, Condensed}
 use Rattle.alm_types.specs.Actions.{alarm_of}
 use Rattle.alm_model.specs.Lists.{due}
-use Rattle.alm_model.specs.Keeping.{Keeping, in_full, condensed}
+use Rattle.alm_model.specs.Keeping.{Keeping, in_full, condensed, change}
 
 -- an alarm's row becomes another; an annunciation and a shelving take the next stamp
 abbrev pub with_row : Panel → ℕ → State → Panel
@@ -41,9 +42,16 @@ unshelve k q i = touch k q i (λ a s. unshelved q.panel.next_stamp s)
 abbrev pub later : {M : Type 0} → Keeping M → ℕ → PlantOf M → PlantOf M
 later k t q = record q { panel = record q.panel { now = t }; kept = k.pass (t - q.panel.now) q.kept }
 
--- what an action does: the clock moves and then the shelvings end that are due, one after the other; or the alarm that is named changes
+-- the plant with other attributes of an alarm, whose row and stamp stay
+abbrev pub configured : {M : Type 0} → PlantOf M → ℕ → (Attr → Attr) → PlantOf M
+configured q i f = record q { panel = record q.panel { attrs = change q.panel.attrs i f } }
+
+-- what an action does: the clock moves and then the shelvings end that are due, one after the other; or the alarm that is named gets
+-- another priority or setpoint; or it changes
 abbrev pub acted : {M : Type 0} → Keeping M → PlantOf M → Action → PlantOf M
 acted k q (Clock t) = fold (unshelve k) (later k t q) (due t q.panel)
+acted k q (SetPriority i priority) = configured q i.0 (with_priority priority)
+acted k q (SetSetpoint i setpoint) = configured q i.0 (with_setpoint setpoint)
 acted k q action = touch k q (alarm_of action) (outcome q.panel.now q.panel.next_stamp action)
 
 -- a flood begins where the window is above 10 and ends where it is below 5

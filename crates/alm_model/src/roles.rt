@@ -19,7 +19,9 @@ pub fn may_ask(slot: Slot, action: &Action) -> bool
             | Action::Reset(_)
             | Action::Shelve(..)
             | Action::Unshelve(_)
-            | Action::Oos(..),
+            | Action::Oos(..)
+            | Action::SetPriority(..)
+            | Action::SetSetpoint(..),
         ) => true,
         _ => false,
     }

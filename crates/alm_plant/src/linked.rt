@@ -3,8 +3,8 @@
 ghost use Rattle.std.specs.Prelude.{◌≡◌, ◌<◌, ◌≤◌, ◌+◌, ◌*◌, ◌^◌, ℕ, true, IsTrue, None, Some, IfOk, OnOk, length, slice_get, slice_index, map, sum, All, fold, vec_capacity};
 ghost use Rattle.alm_model.specs.Accept.{alarm_refusal, own_refusal, refusal, answer, accept};
 ghost use Rattle.alm_model.specs.Keeping.{condensed};
-ghost use Rattle.alm_model.specs.Step.{put, touch, settle, unshelve, later, counted, acted, step};
-ghost use Rattle.alm_state.specs.Outcome.{outcome};
+ghost use Rattle.alm_model.specs.Step.{put, touch, settle, unshelve, later, counted, configured, acted, step};
+ghost use Rattle.alm_state.specs.Outcome.{outcome, attr_after};
 ghost use Rattle.alm_model.specs.Lists.{due, exists, list_of, moments_in};
 ghost use Rattle.alm_model.specs.declared.list.List.TheVariants.{Priority, Area, Wheel, Stale, Chatter};
 ghost use Rattle.alm_model.specs.Measured.{measured_by};
@@ -12,14 +12,14 @@ ghost use Rattle.alm_model.specs.Parts.{plant_of, age_of};
 ghost use Rattle.alm_lists.specs.Orders.{IsSortedFilter};
 ghost use Rattle.alm_model.specs.New.{new_plant};
 ghost use Rattle.alm_model.specs.Rules.{KeepsRules, IsTimely};
-ghost use Rattle.alm_plant.specs.Filing.{AreAhead, stamp_in};
+ghost use Rattle.alm_plant.specs.Filing.{AreAhead, AreDistinct, stamp_in};
 ghost use Rattle.alm_plant.specs.Linking.{IsMovedAt, AreSuited, AreSettled, is_annunciation};
 
 use crate::nodes::Nodes;
 use alm_links::ListNodes;
 use alm_measure::Measure;
 use alm_model::{AlarmsByNumber, List, PlantParts, fill_by_number, may_ask};
-use alm_state::{Outcome, Row, outcome_of, row_refusal};
+use alm_state::{Outcome, Row, attr_after, outcome_of, row_refusal};
 use alm_types::{Action, AlarmId, Attr, Moment, Refusal, Request, Table};
 use std::alloc::{AllocError, Global};
 use std::marker::Model;
@@ -273,7 +273,9 @@ impl Linked {
             | Action::Shelve(id, _)
             | Action::Unshelve(id)
             | Action::Oos(id, _)
-            | Action::Design(id, _) => self.alarm_refusal(id, action),
+            | Action::Design(id, _)
+            | Action::SetPriority(id, _)
+            | Action::SetSetpoint(id, _) => self.alarm_refusal(id, action),
         }
     }
 
@@ -352,6 +354,19 @@ impl Linked {
         if self.put(id.0, next) {
             self.measure.settle_area(u32::from(area));
         }
+    }
+
+    /// The alarm has the attributes that an action gives it; its row and its stamp stay.
+    fn configure(&mut self, id: AlarmId, action: &Action)
+        requires here { alarm_refusal action.now (slice_get self.old.panel.attrs id.0) (slice_get self.old.panel.rows id.0) ≡ None }
+        requires distinct { AreDistinct self.old.panel.rows }
+        requires settled { AreSettled self.old }
+        ensures rows { length self.new.panel.rows ≡ length self.old.panel.rows }
+        ensures plant { self.new ≡ settle condensed (configured self.old id.0 (attr_after action.now)) }
+    {
+        let index = id.0 as usize;
+        let attr = attr_after(action, self.nodes.attr(index), self.nodes.row(index));
+        self.nodes.set_attr(id.0, attr);
     }
 
     /// The flood flags after an action.
@@ -442,6 +457,7 @@ impl Linked {
             | Action::Unshelve(id)
             | Action::Oos(id, _)
             | Action::Design(id, _) => self.touch(id, action),
+            Action::SetPriority(id, _) | Action::SetSetpoint(id, _) => self.configure(id, action),
         }
     }
 }

@@ -4,12 +4,13 @@ ghost use Rattle.std.specs.Prelude.{◌≡◌, ◌<◌, ◌≤◌, ◌+◌, ◌-
 ghost use Rattle.alm_model.specs.New.{at_rest};
 ghost use Rattle.alm_model.specs.Lists.{alarms_by, stands_in, stamp, deadline, is_due};
 ghost use Rattle.alm_model.specs.declared.list.List.TheVariants.{Priority, Area, Wheel as Slot};
+ghost use Rattle.alm_model.specs.Keeping.{area_in};
 ghost use Rattle.alm_lists.specs.Lists.{without};
 ghost use Rattle.alm_lists.specs.Orders.{IsSortedFilter};
-ghost use Rattle.alm_links.specs.Lists.{list_of, nodes_of, family_at};
+ghost use Rattle.alm_links.specs.Lists.{list_of, nodes_of, family_at, key_in};
 ghost use Rattle.alm_wheel.specs.Deadlines.{deadline_of, slot_of};
 ghost use Rattle.alm_state.specs.Rows.{is_annunciated, IsState};
-ghost use Rattle.alm_plant.specs.Filing.{stamp_in, refiled, rechained, IsPlaced, AreAhead, by_priority, by_area, by_slot};
+ghost use Rattle.alm_plant.specs.Filing.{stamp_in, refiled, rechained, inserted, IsPlaced, AreAhead, AreDistinct, by_priority, by_area, by_slot};
 
 use alm_links::{Chains, ListNodes};
 use alm_state::Row;
@@ -27,6 +28,8 @@ const AREAS: u32 = 1;
 pub struct Nodes {
     attrs: Vec<Attr>,
     rows: Vec<Row>,
+    /// The stamp of each row.
+    stamps: Vec<u64>,
     chains: Chains,
     wheel: Wheel,
 }
@@ -107,6 +110,43 @@ fn refile(chains: &mut Chains, family: u32, node: u32, to: Option<u32>)
     }
 }
 
+/// Takes a node out of its list of a family, where it stands in one, and puts it by its key into a list, where it is to stand in
+/// one.
+fn insert(chains: &mut Chains, family: u32, node: u32, to: Option<u32>, keys: &[u64])
+    requires family { family < length chains.old.families }
+    requires node { node < chains.old.nodes }
+    requires to { IfSome to (λ l. l < length (family_at chains.old.families family)) }
+    requires keys { chains.old.nodes ≤ length keys.now }
+    ensures nodes { chains.new.nodes ≡ chains.old.nodes }
+    ensures lists { chains.new.families ≡ slice_set chains.old.families family (inserted (key_in keys.now) (family_at chains.old.families family) node to) }
+{
+    take_out(chains, family, node);
+    if let Some(list) = to {
+        chains.insert_by(family, list, node, keys);
+    }
+}
+
+/// An alarm's place in the list of its priority, by its stamp, unless that stays.
+fn reprioritize(
+    chains: &mut Chains,
+    stays: bool,
+    index: u32,
+    attr: &Attr,
+    row: &Row,
+    stamps: &[u64],
+)
+    requires two { length chains.old.families ≡ 2 }
+    requires node { index < chains.old.nodes }
+    requires priorities { length (family_at chains.old.families 0) ≡ 4 }
+    requires stamps { chains.old.nodes ≤ length stamps.now }
+    ensures nodes { chains.new.nodes ≡ chains.old.nodes }
+    ensures lists { chains.new.families ≡ if stays then chains.old.families else slice_set chains.old.families 0 (inserted (key_in stamps.now) (family_at chains.old.families 0) index (by_priority attr.now row.now)) }
+{
+    if !stays {
+        insert(chains, PRIORITIES, index, priority_of(attr, row), stamps);
+    }
+}
+
 /// A node has no deadline any more, if it had one.
 fn free(wheel: &mut Wheel, node: u32)
     requires node { node < length wheel.old.deadlines }
@@ -181,6 +221,7 @@ impl Nodes {
         let count = attrs.len();
         Ok(Nodes {
             rows: vec![in alloc; Row::new(); count]?,
+            stamps: vec![in alloc; 0; count]?,
             chains: Chains::new(alloc, count as u32, &[4, areas])?,
             wheel: Wheel::new(alloc, count as u32)?,
             attrs,
@@ -221,6 +262,7 @@ impl Nodes {
         Ok(Nodes {
             attrs: self.attrs.to_vec(alloc)?,
             rows: self.rows.to_vec(alloc)?,
+            stamps: self.stamps.to_vec(alloc)?,
             chains: self.chains.copy(alloc)?,
             wheel: self.wheel.copy(alloc)?,
         })
@@ -238,7 +280,7 @@ impl Nodes {
         requires same { length attrs.items ≡ length rows.now }
         requires areas { All (λ a. a.area < areas) attrs.items }
         requires order { IsSortedFilter (stamp_in rows.now) (λ i. true) (length rows.now) order.now }
-        requires distinct { (i j : ℕ) → 0 < stamp_in rows.now i → stamp_in rows.now i ≡ stamp_in rows.now j → i ≡ j }
+        requires distinct { AreDistinct rows.now }
         ensures { IfOk result (λ n. n ≡ record { attrs = attrs.items; rows = rows.now; areas = areas }) }
     {
         let mut nodes = Nodes::new(alloc, attrs, areas)?;
@@ -264,10 +306,25 @@ impl Nodes {
         let before = self.rows[index as usize];
         let attr = &self.attrs[index as usize];
         self.rows[index as usize] = row;
+        self.stamps[index as usize] = row.stamp;
         let lists_stay = keeps_lists(&before, &row);
         let slot_stays = keeps_slot(&before, &row);
         rechain(&mut self.chains, lists_stay, index, attr, &row);
         reschedule(&mut self.wheel, slot_stays, index, &row);
+    }
+
+    /// An alarm has other attributes, in the same area. In another list of priorities it stands by its stamp.
+    pub fn set_attr(&mut self, index: u32, attr: Attr)
+        requires here { index < length self.old.rows }
+        requires area { area_in (slice_get self.old.attrs index) ≡ attr.area }
+        requires distinct { AreDistinct self.old.rows }
+        ensures { self.new ≡ record self.old { attrs = slice_set self.old.attrs index attr } }
+    {
+        let before = self.attrs[index as usize];
+        let row = row_at(&self.rows, index as usize);
+        let stays = before.priority == attr.priority;
+        self.attrs[index as usize] = attr;
+        reprioritize(&mut self.chains, stays, index, &attr, row, &self.stamps);
     }
 
     /// The shelvings that end up to a moment, where none ends by another before it: by deadline, then number.

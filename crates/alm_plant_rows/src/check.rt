@@ -74,6 +74,13 @@ fn take<P: Alarms, R: Abort + AllocGlobal>(
         Step::State(alarm, shown, active, flags, until) => {
             shows(rt, plant, *alarm, (*shown, *active, *flags, *until))?;
         }
+        Step::Attributes(alarm, priority, setpoint) => {
+            let attr = plant.attr(AlarmId(*alarm)).ok_or("alarm")?;
+            assert_eq!(rt;
+                (attr.priority, attr.setpoint.value()),
+                (*priority, *setpoint)
+            );
+        }
         Step::NoAlarm(alarm) => assert!(rt; plant.state(AlarmId(*alarm)).is_none()),
         Step::Listed(list, wanted) => lists(rt, plant, *list, wanted)?,
         Step::NoList(list) => assert!(rt; !plant.has_list(*list)),

@@ -7,6 +7,8 @@
 #[cfg(test)]
 mod actions;
 #[cfg(test)]
+mod changes;
+#[cfg(test)]
 mod check;
 #[cfg(test)]
 mod exhausted;

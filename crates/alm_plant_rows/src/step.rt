@@ -12,6 +12,8 @@ pub enum Step<'a> {
     Refused(u8, Action, Refusal),
     /// What is shown of an alarm, whether it is active, its flags and the end of its shelving.
     State(u32, Shown, bool, u8, Option<u64>),
+    /// The priority and the setpoint of an alarm.
+    Attributes(u32, u8, i64),
     /// There is no such alarm.
     NoAlarm(u32),
     /// The alarms of a list.

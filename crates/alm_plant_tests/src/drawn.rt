@@ -49,6 +49,11 @@ fn action(drawn: u64, now: Moment) -> Result<Action, Fail> {
         7 => Action::Unshelve(id),
         8 => Action::Oos(id, on),
         9 => Action::Design(id, on),
+        10 => Action::SetPriority(id, below(drawn, 44, 6)),
+        11 => Action::SetSetpoint(
+            id,
+            Reading::new(below(drawn, 44, 3) as i64 - 1).ok_or("reading")?,
+        ),
         _ => Action::Value(
             id,
             Reading::new(below(drawn, 50, 3) as i64 - 1).ok_or("reading")?,

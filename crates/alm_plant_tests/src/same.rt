@@ -1,7 +1,7 @@
 //! Whether two plants show the same.
 
 use alm_model::{Alarms, List};
-use alm_types::AlarmId;
+use alm_types::{AlarmId, Attr};
 use std::alloc::{AllocError, Global};
 
 /// Whether a list is the same; also where neither plant has it.
@@ -50,10 +50,13 @@ fn is_area_same<P: Alarms, Q: Alarms>(one: &P, other: &Q, area: u32) -> bool {
     same
 }
 
-/// Whether an alarm's row and moments are the same.
+/// Whether an alarm's row, moments, priority and setpoint are the same.
 fn is_alarm_same<P: Alarms, Q: Alarms>(one: &P, other: &Q, number: u32) -> bool {
     let id = AlarmId(number);
-    one.state(id) == other.state(id) && one.moments(id) == other.moments(id)
+    let attributes = |attr: Attr| (attr.priority, attr.setpoint);
+    one.state(id) == other.state(id)
+        && one.moments(id) == other.moments(id)
+        && one.attr(id).map(attributes) == other.attr(id).map(attributes)
 }
 
 /// Whether two plants show the same of everything.

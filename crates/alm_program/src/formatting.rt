@@ -6,6 +6,7 @@ ghost use Rattle.alm_program.specs.Formatted.{formatted_text};
 use crate::fault::Fault;
 use crate::io_faults::io_fault;
 use alm_checkpoint::Layout;
+use alm_codec::Version;
 use alm_file::FileDisk;
 use alm_keeper::format;
 use alm_lines::{Part, put_parts};
@@ -31,7 +32,8 @@ fn format_file<R: Files<File = File> + AllocGlobal>(
     size: u64,
     table: &Table,
 ) -> Result<u32, Fault> {
-    let layout = Layout::longest(table.alarms().len() as u32, table.areas(), size);
+    let rows = table.alarms().len() as u32;
+    let layout = Layout::longest(rows, table.areas(), size, Version::V02);
     let used = match layout {
         Some(layout) => layout.device_len(),
         None => 0,

@@ -122,6 +122,65 @@ fn a_device_keeps_what_was_answered(rt: HostRuntime) -> Result<(), Fail> {
     Ok(())
 }
 
+/// What is shown after PRIO 0 3 behind them, in the half of the checkpoint.
+const SHOWN_UPGRADED: &[u8] = b"NOW 1000 COUNT 3 EPOCH 2
+ALARM 0 TI-101 UNACK 1 - -
+ALARM 1 PI-102 NORM 0 - -
+ALARM 2 XS-201 NORM 0 - -
+ALARM 3 LI-202 NORM 0 - -
+P 1 0
+P 2 0
+P 3 1 0
+P 4 0
+A 0 1 0 FLOOD 1 0
+A 1 0 FLOOD 0 0
+";
+
+/// Makes a new device one of version 01: the name in its header and the mark of its half.
+fn make_old(rt: &HostRuntime, path: &str) -> Result<(), Fail> {
+    let mut bytes = fs::read(rt, path)?;
+    *bytes.get_mut(8).ok_or("name")? = b'1';
+    *bytes.get_mut(32).ok_or("mark")? = 0;
+    fs::write(rt, path, bytes.as_slice())?;
+    Ok(())
+}
+
+#[test]
+fn a_device_of_version_01_goes_on_and_opens_again(rt: HostRuntime) -> Result<(), Fail> {
+    write_file(&rt, "old.toml", &[SIZES, ALARMS])?;
+    let words: [&[u8]; 3] = [
+        b"alm_server\nformat\nold.device\nold.toml\n",
+        b"alm_server\ndesk\nold.device\n",
+        b"alm_server\nshow\nold.device\n",
+    ];
+    assert!(rt; ends(&rt, words[0], b"", (DONE, b"formatted 4 2 4116\n", b"")));
+    make_old(&rt, "old.device")?;
+    let early: &[u8] = b"17 1 CLOCK 1000\n16 2 VAL 0 800\n";
+    assert!(rt; ends(&rt, words[1], early, (DONE, b"17 1 OK 1\n16 2 OK 2\n", b"")));
+    assert!(rt; ends(&rt, words[2], b"", (DONE, SHOWN, b"")));
+    let new: &[u8] = b"0 1 PRIO 0 3\n0 2 LIST P 3\n";
+    assert!(rt;
+        ends(
+            &rt,
+            words[1],
+            new,
+            (DONE, b"0 1 OK 3\n0 2 LIST 3 1 0\n", b"")
+        )
+    );
+    assert!(rt; ends(&rt, words[2], b"", (DONE, SHOWN_UPGRADED, b"")));
+    let bytes = fs::read(&rt, "old.device")?;
+    let name = *b"ALMSRV01";
+    assert_eq!(rt; bytes.get(1..9), Some(name.as_slice()));
+    let head = [
+        0xa5, 0, 0, 0, 0, 0, 0, 0, 2, 2, 0, 0, 0, 0, 0, 0, 2, 0, 0, 0, 0, 0, 0, 0x28, 0x6a,
+    ];
+    assert_eq!(rt; bytes.get(14_510..14_535), Some(head.as_slice()));
+    let later: &[u8] = b"0 1 ACK 0\n0 2 SETP 0 900\n0 3 STATE 0\n";
+    let replies: &[u8] = b"0 1 OK 4\n0 2 OK 5\n0 3 STATE 5 ACKED 1 - -\n";
+    assert!(rt; ends(&rt, words[1], later, (DONE, replies, b"")));
+    Ok(())
+}
+
 const TABLE_FAULT: &str = "ExitCode(unix_exit_status(2))";
 
 #[test]

@@ -424,3 +424,58 @@ fn a_second_flag_leaves_the_place_of_a_shelving_in_its_wheel_slot(
     ];
     check(&rt, &row)
 }
+
+/// An alarm of another priority stands by its stamp in the new list, and a new setpoint judges from the next value on.
+#[test]
+fn consoles_change_priorities_and_setpoints(rt: HostRuntime) -> Result<(), Fail> {
+    let row = [
+        (17, "1 CLOCK 1000", "1 OK 1"),
+        (16, "1 VAL 0 800", "1 OK 2"),
+        (16, "2 VAL 2 1", "2 OK 3"),
+        (16, "3 VAL 1 100", "3 OK 4"),
+        (0, "1 PRIO 1 1", "1 OK 5"),
+        (0, "2 LIST P 1", "2 LIST 5 3 0 2 1"),
+        (0, "3 PRIO 0 2", "3 OK 6"),
+        (0, "4 PRIO 1 2", "4 OK 7"),
+        (0, "5 PRIO 2 2", "5 OK 8"),
+        (0, "6 LIST P 2", "6 LIST 8 3 0 2 1"),
+        (0, "7 LIST P 1", "7 LIST 8 0"),
+        (0, "8 PRIO 2 2", "8 NO 20"),
+        (0, "9 PRIO 2 5", "9 NO 19"),
+        (16, "10 PRIO 0 1", "10 NO 11"),
+        (0, "11 SETP 0 900", "11 OK 9"),
+        (0, "12 STATE 0", "12 STATE 9 UNACK 1 - -"),
+        (16, "13 VAL 0 895", "13 NO 9"),
+        (16, "14 VAL 0 889", "14 OK 10"),
+        (0, "15 SETP 0 1000000000001", "15 NO 13"),
+    ];
+    check(&rt, &row)
+}
+
+/// The lines of priorities and setpoints, and what each is answered.
+#[test]
+fn lines_of_priorities_and_setpoints(rt: HostRuntime) -> Result<(), Fail> {
+    let row = [
+        (0, "1 PRIO 0 4294967295", "1 NO 19"),
+        (0, "2 PRIO 0 4294967296", "2 NO 13"),
+        (0, "3 PRIO 0 0", "3 NO 19"),
+        (0, "4 PRIO 0 -1", "4 NO 13"),
+        (0, "5 PRIO 0 02", "5 NO 13"),
+        (0, "6 PRIO 0", "6 NO 13"),
+        (0, "7 PRIO 0 2 2", "7 NO 13"),
+        (0, "8 PRIO 4 5", "8 NO 1"),
+        (17, "9 PRIO 4 5", "9 NO 11"),
+        (0, "10 PRIO 0 1", "10 NO 20"),
+        (0, "11 SETP 0 800", "11 NO 20"),
+        (0, "12 SETP 4 800", "12 NO 1"),
+        (16, "13 SETP 4 800", "13 NO 11"),
+        (0, "14 SETP 0 -0", "14 NO 13"),
+        (0, "15 SETP 0 -1000000000001", "15 NO 13"),
+        (0, "16 SETP 0 -1000000000000", "16 OK 1"),
+        (0, "17 SETP 0 1000000000000", "17 OK 2"),
+        (0, "18 setp 0 5", "18 NO 13"),
+        (0, "19 SETP 0", "19 NO 13"),
+        (0, "20 PRIO 0 4", "20 OK 3"),
+    ];
+    check(&rt, &row)
+}

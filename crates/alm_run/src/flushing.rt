@@ -23,6 +23,8 @@ enum Pass {
     Work,
     // No sealed batch was there.
     Empty,
+    // No sealed batch was there, and an open checkpoint went on.
+    Copied,
     // The console of the next receipt has no room for it.
     Full,
     Stopped,
@@ -89,9 +91,14 @@ fn step<K: Store, T: Told + Drop, B: Board<Told = T> + Publish<R>, E: Bell + Dro
     ensures base { B.Board.base flusher.new.board ≡ B.Board.base flusher.old.board }
 {
     if flusher.fetch() == Fetch::Empty {
-        return Pass::Empty;
+        return match flusher.advance() {
+            Advance::More => Pass::Copied,
+            Advance::Failed => Pass::Stopped,
+            Advance::Committed | Advance::Nothing => Pass::Empty,
+        };
     }
-    if commit(rt, flusher, refused) == Pass::Stopped {
+    // Replies that wait come before the pieces of a checkpoint.
+    if flusher.next().is_none() && commit(rt, flusher, refused) == Pass::Stopped {
         return Pass::Stopped;
     }
     answer(flags, flusher)
@@ -120,6 +127,16 @@ pub fn flush<K: Store, T: Told + Drop, B: Board<Told = T> + Publish<R>, E: Bell 
         match step(rt, flags, flusher, &mut refused) {
             Pass::Work => {
                 idle = 0;
+                continue;
+            }
+            Pass::Copied => {
+                if flags.out.swap(false, Ordering::SeqCst) {
+                    flags.sequencer.ring();
+                }
+                idle = 0;
+                if last {
+                    break;
+                }
                 continue;
             }
             Pass::Empty => {

@@ -4,7 +4,7 @@ use Rattle.std.specs.List.{flat_map, AllByRecursion}
 use Rattle.std.specs.Int.{w16, w64, to_be_bytes}
 use Rattle.std.proofs.lemmas.Bool.{eqb-true}
 use Rattle.std.proofs.lemmas.List.{take-append-drop}
-use Rattle.std.proofs.lemmas.List.Elements.{All-from_recursion}
+use Rattle.std.proofs.lemmas.List.Elements.{All-from_recursion, All-append, All-nil}
 use Rattle.alm_types.specs.declared.action.Action.{Action}
 use Rattle.alm_types.specs.declared.refusal.Refusal.{Refusal}
 use Rattle.alm_types.specs.Actions.{IsAction}
@@ -12,11 +12,13 @@ use Rattle.alm_model.specs.Plant.{Condensed}
 use Rattle.alm_model.specs.Accept.{refusal}
 use Rattle.alm_model.specs.Step.{step, run}
 use Rattle.alm_model.specs.Rules.{AreAdmitted}
-use Rattle.alm_codec.specs.Actions.{action_text, action_at}
+use Rattle.alm_codec.specs.declared.version.Version.{Version}
+use Rattle.alm_codec.specs.Versions.{IsBorne, AreBorne}
+use Rattle.alm_codec.specs.Actions.{action_text, action_in}
 use Rattle.alm_codec.specs.Frames.{frame_text, head_at}
 use Rattle.alm_codec.specs.Reading.{IsBytes}
 use Rattle.alm_codec.proofs.Bytes.{IsBytes-drop, IsBytes-take}
-use Rattle.alm_codec.proofs.Actions.{action_takes}
+use Rattle.alm_codec.proofs.Actions.{borne_action_takes}
 use Rattle.alm_codec.proofs.Numbers.{ok_is, Takes, Takes-then}
 use Rattle.alm_codec.proofs.Frames.{Heads, head_takes}
 use Rattle.alm_segment.specs.Course.{Course, Fails, course, is_open}
@@ -31,14 +33,15 @@ abbrev End : Type 0
 End = Condensed × ℕ
 
 -- the actions of a frame that came
-record Several (q : Condensed) (epoch count n : ℕ) (bytes : List ℕ) (end : End) : Type 0 where
+record Several (version : Version) (q : Condensed) (epoch count n : ℕ) (bytes : List ℕ) (end : End) : Type 0 where
   list : List Action
   after : List ℕ
   number : length list ≡ n
   taken : Takes bytes (flat_map action_text list) after
   limits : AllByRecursion IsAction list
+  borne : AllByRecursion (IsBorne version) list
   admitted : AreAdmitted q list
-  more : folded (run q list) (course epoch count 0 0 after) ≡ Ok end
+  more : folded (run q list) (course version epoch count 0 0 after) ≡ Ok end
 
 not_refused : (o : Option Refusal) (left : ℕ) (more : Result End ℕ) (end : End) → unless_refused o left more ≡ Ok end → (o ≡ None) × (more ≡ Ok end)
 not_refused None left more end e = (refl, e)
@@ -47,35 +50,36 @@ not_refused (Some why) left more end e = absurd cc
 fails_not : (left : ℕ) (end : End) (q : Condensed) (co : Course) → co ≡ Fails left → folded q co ≡ Ok end → ⊥
 fails_not left end q co e f = let g = sym (ap (folded q) e) ∙ f in cc
 
-abbrev Severals : ℕ → Type 0
-Severals n = (q : Condensed) (epoch count : ℕ) (bytes : List ℕ) (end : End) → IsBytes bytes → 16 * n ≤ length bytes → folded q (course epoch count n 0 bytes) ≡ Ok end → Several q epoch count n bytes end
+abbrev Severals : Version → ℕ → Type 0
+Severals version n = (q : Condensed) (epoch count : ℕ) (bytes : List ℕ) (end : End) → IsBytes bytes → 16 * n ≤ length bytes → folded q (course version epoch count n 0 bytes) ≡ Ok end → Several version q epoch count n bytes end
 
-one : (n : ℕ) → Severals n → (q : Condensed) (epoch count : ℕ) (bytes : List ℕ) (end : End) (o : Option Action) → action_at (take 16 bytes) ≡ o → IsBytes bytes → 16 * suc n ≤ length bytes → folded q (course epoch count (suc n) 0 bytes) ≡ Ok end
-    → Several q epoch count (suc n) bytes end
-one n again q epoch count bytes end None read fits long e = absurd (fails_not (length bytes) end q _ (no_action epoch count (suc n) bytes (omega arith) read) e)
-one n again q epoch count bytes end (Some a) read fits long e =
+one : (version : Version) (n : ℕ) → Severals version n → (q : Condensed) (epoch count : ℕ) (bytes : List ℕ) (end : End) (o : Option Action) → action_in version (take 16 bytes) ≡ o → IsBytes bytes → 16 * suc n ≤ length bytes → folded q (course version epoch count (suc n) 0 bytes) ≡ Ok end
+    → Several version q epoch count (suc n) bytes end
+one version n again q epoch count bytes end None read fits long e = absurd (fails_not (length bytes) end q _ (no_action version epoch count (suc n) bytes (omega arith) read) e)
+one version n again q epoch count bytes end (Some a) read fits long e =
     let before : suc n - 1 ≡ n = omega arith in
-    let g = not_refused (refusal q.panel a) (length bytes) (folded (step q a) (course epoch count (suc n - 1) 0 (drop 16 bytes))) end (sym (ap (folded q) (gives epoch count (suc n) bytes a (omega arith) read)) ∙ e) in
-    let t = action_takes (take 16 bytes) a (IsBytes-take 16 bytes fits) read in
+    let g = not_refused (refusal q.panel a) (length bytes) (folded (step q a) (course version epoch count (suc n - 1) 0 (drop 16 bytes))) end (sym (ap (folded q) (gives version epoch count (suc n) bytes a (omega arith) read)) ∙ e) in
+    let t = borne_action_takes version (take 16 bytes) a (IsBytes-take 16 bytes fits) read in
     let here : Takes bytes (action_text a) (drop 16 bytes) = record { parts = sym (take-append-drop 16 bytes) ∙ ap (λ (w : List ℕ). w ++ drop 16 bytes) t.1; rest_fits = IsBytes-drop 16 bytes fits } in
-    let s = again (step q a) epoch count (drop 16 bytes) end (IsBytes-drop 16 bytes fits) (omega (arith, long, length-drop 16 bytes)) (ap (λ (m : ℕ). folded (step q a) (course epoch count m 0 (drop 16 bytes))) (sym before) ∙ g.1) in
+    let s = again (step q a) epoch count (drop 16 bytes) end (IsBytes-drop 16 bytes fits) (omega (arith, long, length-drop 16 bytes)) (ap (λ (m : ℕ). folded (step q a) (course version epoch count m 0 (drop 16 bytes))) (sym before) ∙ g.1) in
     record {
       list = a ∷ s.list;
       after = s.after;
       number = omega (arith, s.number);
       taken = Takes-then bytes (action_text a) (drop 16 bytes) (flat_map action_text s.list) s.after here s.taken;
       limits = (t.0, s.limits);
+      borne = (t.2, s.borne);
       admitted = (timely a t.0, g.0, s.admitted);
       more = s.more;
     }
 
-several : (n : ℕ) → Severals n
-several zero q epoch count bytes end fits long e = record { list = []; after = bytes; number = refl; taken = record { parts = refl; rest_fits = fits }; limits = tt; admitted = tt; more = e }
-several (suc n) q epoch count bytes end fits long e = one n (several n) q epoch count bytes end (action_at (take 16 bytes)) refl fits long e
+several : (version : Version) (n : ℕ) → Severals version n
+several version zero q epoch count bytes end fits long e = record { list = []; after = bytes; number = refl; taken = record { parts = refl; rest_fits = fits }; limits = tt; borne = tt; admitted = tt; more = e }
+several version (suc n) q epoch count bytes end fits long e = one version n (several version n) q epoch count bytes end (action_in version (take 16 bytes)) refl fits long e
 
 -- ---- frames
 
-pub record Found (q : Condensed) (epoch count : ℕ) (bytes : List ℕ) (end : Condensed × ℕ) : Type 0 where
+pub record Found (version : Version) (q : Condensed) (epoch count : ℕ) (bytes : List ℕ) (end : Condensed × ℕ) : Type 0 where
   pub frames : List (List Action)
   pub gate : ℕ
   pub tail : List ℕ
@@ -83,15 +87,16 @@ pub record Found (q : Condensed) (epoch count : ℕ) (bytes : List ℕ) (end : C
   pub shut : is_open gate ≡ false
   pub left : end.1 ≡ 1 + length tail
   pub are_frames : AreFrames epoch count frames
+  pub borne : AreBorne version (actions_in frames)
   pub admitted : AreAdmitted q (actions_in frames)
   pub runs : run q (actions_in frames) ≡ end.0
 
 abbrev ended : Condensed → ℕ → Result End ℕ
 ended q left = Ok (q, left)
 
-on_closed : (q : Condensed) (epoch count gate : ℕ) (bytes : List ℕ) (end : End) → is_open gate ≡ false → folded q (course epoch count 0 0 (gate ∷ bytes)) ≡ Ok end → Found q epoch count (gate ∷ bytes) end
-on_closed q epoch count gate bytes end shut e =
-    let same = ok_is {A = End} (q, suc (length bytes)) end (sym (ap (folded q) (closed epoch count (gate ∷ bytes) (omega arith) shut)) ∙ e) in
+on_closed : (version : Version) (q : Condensed) (epoch count gate : ℕ) (bytes : List ℕ) (end : End) → is_open gate ≡ false → folded q (course version epoch count 0 0 (gate ∷ bytes)) ≡ Ok end → Found version q epoch count (gate ∷ bytes) end
+on_closed version q epoch count gate bytes end shut e =
+    let same = ok_is {A = End} (q, suc (length bytes)) end (sym (ap (folded q) (closed version epoch count (gate ∷ bytes) (omega arith) shut)) ∙ e) in
     record {
       frames = [];
       gate = gate;
@@ -100,14 +105,18 @@ on_closed q epoch count gate bytes end shut e =
       shut = shut;
       left = let l : suc (length bytes) ≡ end.1 = ap (λ (x : End). x.1) same in omega (arith, l);
       are_frames = tt;
+      borne = All-nil (IsBorne version);
       admitted = tt;
       runs = ap (λ (x : End). x.0) same;
     }
 
+both_borne : (version : Version) (xs ys : List Action) → AreBorne version xs → AreBorne version ys → AreBorne version (xs ++ ys)
+both_borne version xs ys p q = All-append (IsBorne version) xs ys p q
+
 -- a frame, and what is found behind it
-with_frame : (q : Condensed) (epoch count n : ℕ) (bytes rest : List ℕ) (end : End) → Heads epoch count bytes (n, rest) → (s : Several q epoch (count + n) n rest end)
-    → Found (run q s.list) epoch (count + n) s.after end → Found q epoch count (165 ∷ bytes) end
-with_frame q epoch count n bytes rest end h s f =
+with_frame : (version : Version) (q : Condensed) (epoch count n : ℕ) (bytes rest : List ℕ) (end : End) → Heads epoch count bytes (n, rest) → (s : Several version q epoch (count + n) n rest end)
+    → Found version (run q s.list) epoch (count + n) s.after end → Found version q epoch count (165 ∷ bytes) end
+with_frame version q epoch count n bytes rest end h s f =
     let head : List ℕ = to_be_bytes w64 epoch ++ to_be_bytes w64 (count + 1) ++ to_be_bytes w16 n in
     let both = Takes-then bytes head rest (flat_map action_text s.list) s.after h.taken s.taken in
     let text : bytes ≡ frame_text epoch (count + 1) s.list ++ s.after = both.parts ∙ ap (λ (k : ℕ). (to_be_bytes w64 epoch ++ to_be_bytes w64 (count + 1) ++ to_be_bytes w16 k ++ flat_map action_text s.list) ++ s.after) (sym s.number) in
@@ -123,19 +132,20 @@ with_frame q epoch count n bytes rest end h s f =
         record { fits = h.fits; some = omega (arith, h.some, s.number); few = omega (arith, h.few, s.number); limits = All-from_recursion IsAction s.list s.limits },
         subst (λ (k : ℕ). AreFrames epoch (count + k) f.frames) (sym s.number) f.are_frames,
       );
+      borne = both_borne version s.list (actions_in f.frames) (All-from_recursion (IsBorne version) s.list s.borne) f.borne;
       admitted = admitted_join q s.list (actions_in f.frames) s.admitted f.admitted;
       runs = run_append q s.list (actions_in f.frames) ∙ f.runs;
     }
 
-abbrev Founds : ℕ → Type 0
-Founds most = (q : Condensed) (epoch count : ℕ) (bytes : List ℕ) (end : End) → length bytes < most → IsBytes bytes → folded q (course epoch count 0 0 bytes) ≡ Ok end → Found q epoch count bytes end
+abbrev Founds : Version → ℕ → Type 0
+Founds version most = (q : Condensed) (epoch count : ℕ) (bytes : List ℕ) (end : End) → length bytes < most → IsBytes bytes → folded q (course version epoch count 0 0 bytes) ≡ Ok end → Found version q epoch count bytes end
 
-on_head : (most : ℕ) → Founds most → (q : Condensed) (epoch count gate : ℕ) (bytes : List ℕ) (end : End) (r : Result (ℕ × List ℕ) ℕ) → head_at epoch count bytes ≡ r → is_open gate ≡ true → length bytes < most → IsBytes bytes
-    → folded q (course epoch count 0 0 (gate ∷ bytes)) ≡ Ok end → Found q epoch count (gate ∷ bytes) end
-on_head most again q epoch count gate bytes end (Err left) read open_gate few fits e = absurd (fails_not left end q _ (no_head epoch count left (gate ∷ bytes) (omega arith) open_gate read) e)
-on_head most again q epoch count gate bytes end (Ok x) read open_gate few fits e =
+on_head : (version : Version) (most : ℕ) → Founds version most → (q : Condensed) (epoch count gate : ℕ) (bytes : List ℕ) (end : End) (r : Result (ℕ × List ℕ) ℕ) → head_at epoch count bytes ≡ r → is_open gate ≡ true → length bytes < most → IsBytes bytes
+    → folded q (course version epoch count 0 0 (gate ∷ bytes)) ≡ Ok end → Found version q epoch count (gate ∷ bytes) end
+on_head version most again q epoch count gate bytes end (Err left) read open_gate few fits e = absurd (fails_not left end q _ (no_head version epoch count left (gate ∷ bytes) (omega arith) open_gate read) e)
+on_head version most again q epoch count gate bytes end (Ok x) read open_gate few fits e =
     let h = head_takes epoch count bytes x fits read in
-    let s = several x.0 q epoch (count + x.0) x.1 end h.taken.rest_fits (omega (arith, h.inside)) (sym (ap (folded q) (opens epoch count x.0 (gate ∷ bytes) x.1 (omega arith) open_gate read)) ∙ e) in
+    let s = several version x.0 q epoch (count + x.0) x.1 end h.taken.rest_fits (omega (arith, h.inside)) (sym (ap (folded q) (opens version epoch count x.0 (gate ∷ bytes) x.1 (omega arith) open_gate read)) ∙ e) in
     let shorter : length s.after < most = omega (
       arith,
       few,
@@ -143,21 +153,21 @@ on_head most again q epoch count gate bytes end (Ok x) read open_gate few fits e
       ap length s.taken.parts ∙ length-append (flat_map action_text s.list) s.after,
     ) in
     let f = again (run q s.list) epoch (count + x.0) s.after end shorter s.taken.rest_fits s.more in
-    subst (λ (g : ℕ). Found q epoch count (g ∷ bytes) end) (sym (eqb-true gate 165 open_gate)) (with_frame q epoch count x.0 bytes x.1 end h s f)
+    subst (λ (g : ℕ). Found version q epoch count (g ∷ bytes) end) (sym (eqb-true gate 165 open_gate)) (with_frame version q epoch count x.0 bytes x.1 end h s f)
 
-on_gate : (most : ℕ) → Founds most → (q : Condensed) (epoch count gate : ℕ) (bytes : List ℕ) (end : End) (b : Bool) → is_open gate ≡ b → length bytes < most → IsBytes bytes → folded q (course epoch count 0 0 (gate ∷ bytes)) ≡ Ok end → Found q epoch count (gate ∷ bytes) end
-on_gate most again q epoch count gate bytes end false shut few fits e = on_closed q epoch count gate bytes end shut e
-on_gate most again q epoch count gate bytes end true open_gate few fits e = on_head most again q epoch count gate bytes end (head_at epoch count bytes) refl open_gate few fits e
+on_gate : (version : Version) (most : ℕ) → Founds version most → (q : Condensed) (epoch count gate : ℕ) (bytes : List ℕ) (end : End) (b : Bool) → is_open gate ≡ b → length bytes < most → IsBytes bytes → folded q (course version epoch count 0 0 (gate ∷ bytes)) ≡ Ok end → Found version q epoch count (gate ∷ bytes) end
+on_gate version most again q epoch count gate bytes end false shut few fits e = on_closed version q epoch count gate bytes end shut e
+on_gate version most again q epoch count gate bytes end true open_gate few fits e = on_head version most again q epoch count gate bytes end (head_at epoch count bytes) refl open_gate few fits e
 
-found_in : (most : ℕ) → Founds most
-found_in zero q epoch count bytes end few fits e = absurd (omega (arith, few))
-found_in (suc most) q epoch count [] end few fits e = absurd (fails_not 0 end q _ (no_gate epoch count 0 [] (omega arith)) e)
-found_in (suc most) q epoch count (gate ∷ bytes) end few fits e = on_gate most (found_in most) q epoch count gate bytes end (is_open gate) refl (omega (arith, few)) (IsBytes-drop 1 (gate ∷ bytes) fits) e
+found_in : (version : Version) (most : ℕ) → Founds version most
+found_in version zero q epoch count bytes end few fits e = absurd (omega (arith, few))
+found_in version (suc most) q epoch count [] end few fits e = absurd (fails_not 0 end q _ (no_gate version epoch count 0 [] (omega arith)) e)
+found_in version (suc most) q epoch count (gate ∷ bytes) end few fits e = on_gate version most (found_in version most) q epoch count gate bytes end (is_open gate) refl (omega (arith, few)) (IsBytes-drop 1 (gate ∷ bytes) fits) e
 
-pub found : (q : Condensed) (epoch count : ℕ) (bytes : List ℕ) (end : Condensed × ℕ) → IsBytes bytes → folded q (course epoch count 0 0 bytes) ≡ Ok end → Found q epoch count bytes end
-found q epoch count bytes end fits e = found_in (suc (length bytes)) q epoch count bytes end (omega arith) fits e
+pub found : (version : Version) (q : Condensed) (epoch count : ℕ) (bytes : List ℕ) (end : Condensed × ℕ) → IsBytes bytes → folded q (course version epoch count 0 0 bytes) ≡ Ok end → Found version q epoch count bytes end
+found version q epoch count bytes end fits e = found_in version (suc (length bytes)) q epoch count bytes end (omega arith) fits e
 
-pub comes_written : (epoch : ℕ) (base plant : Condensed) (bytes : List ℕ) (left : ℕ) → IsBytes bytes → stored_in epoch base bytes ≡ Ok (plant, left) → IsJournal epoch base bytes plant left
-comes_written epoch base plant bytes left fits e =
-    let f = found base epoch base.panel.count bytes (plant, left) fits e in
-    record { frames = f.frames; gate = f.gate; tail = f.tail; parts = f.parts; shut = f.shut; rest = f.left; spelled = f.are_frames; admitted = f.admitted; runs = f.runs }
+pub comes_written : (version : Version) (epoch : ℕ) (base plant : Condensed) (bytes : List ℕ) (left : ℕ) → IsBytes bytes → stored_in version epoch base bytes ≡ Ok (plant, left) → IsJournal version epoch base bytes plant left
+comes_written version epoch base plant bytes left fits e =
+    let f = found version base epoch base.panel.count bytes (plant, left) fits e in
+    record { frames = f.frames; gate = f.gate; tail = f.tail; parts = f.parts; shut = f.shut; rest = f.left; spelled = f.are_frames; borne = f.borne; admitted = f.admitted; runs = f.runs }

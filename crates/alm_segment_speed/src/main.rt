@@ -4,7 +4,7 @@
 //! `bench/segment/run.sh` runs it beside a loop in C that reads the same fields.
 #![tactic(auto)]
 
-use alm_codec::write_frame_body;
+use alm_codec::{Version, write_frame_body};
 use alm_segment::{OPEN_GATE, Scanner};
 use alm_types::{Action, AlarmId, Reading};
 use anyhow::{Result, anyhow};
@@ -51,7 +51,7 @@ fn segment(alloc: Global) -> Result<Vec<u8>> {
 
 /// A sum over the alarms that the actions name.
 fn scan(bytes: &[u8]) -> u64 {
-    let mut scanner = Scanner::new(bytes, 1, 0);
+    let mut scanner = Scanner::new(bytes, 1, 0, Version::V02);
     let mut sum = 0u64;
     for _action in 0..2_000_000 {
         match scanner.next_action() {

@@ -51,6 +51,15 @@ fn put_action(action: Action, lines: &mut Vec<u8>) -> io::Result<()> {
         Action::Unshelve(alarm) => put_word(" UNSHELVE ", alarm, lines),
         Action::Oos(alarm, on) => put_switch(" OOS ", alarm, on, lines),
         Action::Design(alarm, on) => put_switch(" DESIGN ", alarm, on, lines),
+        Action::SetPriority(alarm, priority) => {
+            put_word(" PRIO ", alarm, lines)?;
+            put_parts(&[Part::Word(" "), Part::Number(u64::from(priority))], lines)
+        }
+        Action::SetSetpoint(alarm, setpoint) => {
+            put_word(" SETP ", alarm, lines)?;
+            let value = setpoint.value().unsigned_abs();
+            put_parts(&[Part::Word(" "), Part::Number(value)], lines)
+        }
     }
 }
 

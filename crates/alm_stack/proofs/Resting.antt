@@ -75,7 +75,7 @@ module _ {T : Type 0} {t : ToldGhosts T} {K D : Type 0} {g : Ghosts K D} {d : Di
     free = m.free;
     replies = ap (λ x. notes_of (released_in x)) o ∙ was.replies;
     unanswered = was.unanswered;
-    idle = m.idle;
+    ready = m.ready;
   })
 
   -- what is shown is the plant of all that was accepted

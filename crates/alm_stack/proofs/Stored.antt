@@ -12,13 +12,12 @@ use Rattle.alm_rings.specs.declared.told.Told.{Ghosts as ToldGhosts}
 use Rattle.alm_rings.specs.declared.console.Console.{Console}
 use Rattle.alm_rings.specs.Batches.{sealed_of, fetched_of, emptied_of, given_of}
 use Rattle.alm_rings.specs.Placed.{taken_by, released_by}
-use Rattle.alm_keeper.specs.declared.phase.Phase.TheVariants.{Idle}
 use Rattle.alm_store.specs.declared.store.Store.{Ghosts}
 use Rattle.alm_flusher.specs.declared.held.Held.TheVariants.{Fetched, Committed}
 use Rattle.alm_flusher.specs.Flushes.{IsNext}
 use Rattle.alm_flusher.specs.HeldBatch.{batches_of, stored_of}
 use Rattle.alm_stack.specs.declared.pipeline.Pipeline.{Pipeline}
-use Rattle.alm_stack.specs.Passing.{IsAt, resting, flushing, notes_of}
+use Rattle.alm_stack.specs.Passing.{IsAt, IsReady, resting, flushing, notes_of}
 
 module _ {T : Type 0} {t : ToldGhosts T} {K D : Type 0} {g : Ghosts K D} {d : Disk.Ghosts D} where
   -- at rest all that was accepted is stored
@@ -50,7 +49,7 @@ module _ {T : Type 0} {t : ToldGhosts T} {K D : Type 0} {g : Ghosts K D} {d : Di
   -- after a commit all else is as before
   pub committed_at : (slot : _) (base plant : Condensed) (b : Judged) (c : Console T t) (p q : Pipeline K D g d)
       → (q.sequencer ≡ p.sequencer) × (q.flusher.board ≡ p.flusher.board) × (q.flusher.outboxes ≡ p.flusher.outboxes) × (q.flusher.before.value ≡ p.flusher.before.value) × (q.flusher.fetch ≡ p.flusher.fetch)
-      → (q.flusher.held ≡ Committed b) × (g.phase q.flusher.store ≡ Idle) → IsAt slot (flushing base plant (Fetched b)) c p → IsAt slot (flushing base plant (Committed b)) c q
+      → (q.flusher.held ≡ Committed b) × IsReady (g.phase q.flusher.store) → IsAt slot (flushing base plant (Fetched b)) c p → IsAt slot (flushing base plant (Committed b)) c q
   committed_at slot base plant b c p q same done m = record {
     base = ap (λ s. s.base.value) same.0 ∙ m.base;
     board = ap (λ x. x.base.value) same.1 ∙ m.board;
@@ -63,7 +62,7 @@ module _ {T : Type 0} {t : ToldGhosts T} {K D : Type 0} {g : Ghosts K D} {d : Di
     free = ap (λ f. length (given_of f)) same.4 ∙ (m.free ∙ ap (λ s. length (emptied_of s.ends) + 6) (sym same.0));
     replies = ap (λ v. notes_of (released_by slot v.items)) same.2 ∙ m.replies;
     unanswered = m.unanswered;
-    idle = done.1;
+    ready = done.1;
   }
 
 -- the accepted action of a batch of one request

@@ -19,7 +19,8 @@ use Rattle.alm_rings.specs.declared.fetch_ends.FetchEnds.{FetchEnds}
 use Rattle.alm_rings.specs.Ends.{sent_of, received_of, coming_to, room_of}
 use Rattle.alm_rings.specs.Placed.{inbox_at, outbox_at, taken_by, waiting_by, released_by, room_by}
 use Rattle.alm_rings.specs.Batches.{AreBatchEnds, sealed_of, fetched_of, emptied_of, given_of, coming_in, empties_in, places_of, places_in}
-use Rattle.alm_keeper.specs.declared.phase.Phase.TheVariants.{Idle}
+use Rattle.alm_keeper.specs.declared.phase.Phase.{Phase}
+use Rattle.alm_keeper.specs.declared.phase.Phase.TheVariants.{Committing, Stopped}
 use Rattle.alm_store.specs.declared.store.Store.{Ghosts}
 use Rattle.alm_flusher.specs.declared.held.Held.{Held}
 use Rattle.alm_flusher.specs.declared.held.Held.TheVariants.{Nothing, Fetched, Committed, Published}
@@ -95,6 +96,10 @@ given_back x = record x { held = Nothing; free = 7 }
 abbrev pub received : Situation → Situation
 received x = record x { replies = []; unanswered = 0 }
 
+-- no commit is under way, and the store hasn't stopped
+abbrev pub IsReady : Phase → Type 0
+IsReady phase = (phase ≢ Committing) × (phase ≢ Stopped)
+
 -- the batch of one request, which the flusher holds
 abbrev pub flushing : (base plant : Condensed) → Held → Situation
 flushing base plant held = record (resting base plant) { held = held; free = 6; unanswered = 1 }
@@ -153,7 +158,7 @@ module _ {T : Type 0} {t : ToldGhosts T} {K D : Type 0} {g : Ghosts K D} {d : Di
     pub free : length (given_of p.flusher.fetch) ≡ length (emptied_of p.sequencer.ends) + x.free
     pub replies : notes_of (released_by slot p.flusher.outboxes.items) ≡ notes_of (received_of console) ++ x.replies
     pub unanswered : length (sent_of console) ≡ length (received_of console) + x.unanswered
-    pub idle : g.phase p.flusher.store ≡ Idle
+    pub ready : IsReady (g.phase p.flusher.store)
 
 module _ {T : Type 0} {t : ToldGhosts T} {K D : Type 0} {g : Ghosts K D} {d : Disk.Ghosts D} where
   -- no request of a slot is under way, nor of any other

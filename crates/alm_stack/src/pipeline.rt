@@ -3,13 +3,15 @@
 use crate::judging::judged_of;
 use alm_board::{PlainBoard, PlainTold};
 use alm_flusher::{Advance, Fetch, Flusher, Publishes, Release};
-use alm_keeper::Phase;
 use alm_plant::Plant;
 use alm_rings::Console;
 use alm_sequencer::{Seal, Sequencer, Take};
 use alm_session::Judged;
 use alm_store::Store;
 use alm_types::{Action, Slot};
+
+/// A commit is done in as many steps: where a checkpoint is open, and another one has to make the room.
+const MOST_STEPS: u32 = 647;
 
 /// What a request goes through, between its slot's two rings.
 #[derive(Drop)]
@@ -28,12 +30,13 @@ impl<K: Store> Pipeline<K> {
     ghost use Rattle.alm_disk.specs.Failures.{HasFailed};
     ghost use Rattle.alm_rings.specs.declared.console.Console.{Console};
     ghost use Rattle.alm_rings.specs.Ends.{sent_of};
+    ghost use Rattle.alm_store.specs.Advancing.{Same};
     ghost use Rattle.alm_flusher.specs.Flushes.{IsNext};
     ghost use Rattle.alm_flusher.specs.declared.held.Held.TheVariants as H;
     ghost use Rattle.alm_model.specs.Accept.{accept};
     ghost use Rattle.alm_session.specs.Answers.{request};
     ghost use Rattle.alm_session.specs.Backends.{judged, if_accepted};
-    ghost use Rattle.alm_stack.specs.Passing.{Situation, Note, AreLinked, Knows, IsAt, KeepsOthers, resting, sent, taken, sealed_as, fetched, committed, published, released, given_back, received, flushing, IsJudgedIn, IsNote, MayWait};
+    ghost use Rattle.alm_stack.specs.Passing.{Situation, Note, AreLinked, Knows, IsAt, KeepsOthers, resting, sent, taken, sealed_as, fetched, committed, published, released, given_back, received, flushing, IsJudgedIn, IsNote, IsReady, MayWait};
 
     /// Tells the ends of a slot, and those of the batch rings, what the others did.
     fn tell(&mut self, slot: Slot, console: &mut Console<PlainTold>)
@@ -107,7 +110,8 @@ impl<K: Store> Pipeline<K> {
         requires { AreLinked slot console.old self.old.sequencer.inboxes.items self.old.flusher.outboxes.items self.old.sequencer.ends self.old.flusher.fetch }
         ensures linked { AreLinked slot console.new self.new.sequencer.inboxes.items self.new.flusher.outboxes.items self.new.sequencer.ends self.new.flusher.fetch }
         ensures others { IsTrue result → KeepsOthers slot self.old self.new }
-        ensures store { self.new.flusher.store ≡ self.old.flusher.store }
+        ensures store { Same (K.device self.old.flusher.store) (K.device self.new.flusher.store) (K.stored self.old.flusher.store) (K.stored self.new.flusher.store) (K.failures self.old.flusher.store) (K.failures self.new.flusher.store) }
+        ensures honest { K.honest self.old.flusher.store ↔ K.honest self.new.flusher.store }
         ensures fetched { IsTrue result → (x : Situation) (b : B.Judged) → x.sealed ≡ b ∷ [] → x.held ≡ H.Nothing → IsAt slot x console.old self.old → IsAt slot (fetched b x) console.new self.new }
         ensures sure { result ≡ false → (x : Situation) (b : B.Judged) → x.sealed ≡ b ∷ [] → x.held ≡ H.Nothing → IsAt slot x console.old self.old → ⊥ }
     {
@@ -187,7 +191,8 @@ impl<K: Store> Pipeline<K> {
         requires { AreLinked slot console.old self.old.sequencer.inboxes.items self.old.flusher.outboxes.items self.old.sequencer.ends self.old.flusher.fetch }
         ensures linked { AreLinked slot console.new self.new.sequencer.inboxes.items self.new.flusher.outboxes.items self.new.sequencer.ends self.new.flusher.fetch }
         ensures others { IsTrue result → KeepsOthers slot self.old self.new }
-        ensures store { self.new.flusher.store ≡ self.old.flusher.store }
+        ensures store { Same (K.device self.old.flusher.store) (K.device self.new.flusher.store) (K.stored self.old.flusher.store) (K.stored self.new.flusher.store) (K.failures self.old.flusher.store) (K.failures self.new.flusher.store) }
+        ensures honest { K.honest self.old.flusher.store ↔ K.honest self.new.flusher.store }
         ensures passed { IsTrue result → (base plant : Condensed) → IsAt slot (resting base plant) console.old self.old
             → (b : B.Judged) × (j : IsJudgedIn slot want plant b) × IsAt slot (flushing base (after_verdict plant j.entry.verdict) (H.Fetched b)) console.new self.new }
         ensures spent { result ≡ false → (base plant : Condensed) → IsAt slot (resting base plant) console.old self.old → (2 ^ 64 ≤ length (sent_of console.old) + 1) × (self.new.flusher.held ≡ H.Nothing) }
@@ -209,12 +214,13 @@ impl<K: Store> Pipeline<K> {
         ensures same { (self.new.sequencer ≡ self.old.sequencer) × (self.new.flusher.board ≡ self.old.flusher.board) × (self.new.flusher.outboxes ≡ self.old.flusher.outboxes) × (self.new.flusher.before.value ≡ self.old.flusher.before.value) × (self.new.flusher.fetch ≡ self.old.flusher.fetch) }
         ensures honest { K.honest self.old.flusher.store ↔ K.honest self.new.flusher.store }
         ensures count { K.failures self.old.flusher.store ≤ K.failures self.new.flusher.store }
-        ensures done { IsTrue result → (b : B.Judged) → self.old.flusher.held ≡ H.Fetched b → K.phase self.old.flusher.store ≡ Phase.Idle → length (accepted_of b.entries) ≤ 256 → (self.new.flusher.held ≡ H.Committed b) × (K.phase self.new.flusher.store ≡ Phase.Idle) }
-        ensures failed { result ≡ false → (b : B.Judged) → self.old.flusher.held ≡ H.Fetched b → K.phase self.old.flusher.store ≡ Phase.Idle → length (accepted_of b.entries) ≤ 256 → self.new.flusher.held ≡ H.Failed b }
-        ensures cause { result ≡ false → (b : B.Judged) → self.old.flusher.held ≡ H.Fetched b → K.phase self.old.flusher.store ≡ Phase.Idle → length (accepted_of b.entries) ≤ 256
-            → IsNext (H.Fetched b) (K.stored self.old.flusher.store) → K.honest self.old.flusher.store → ¬ (K.spent (K.device self.old.flusher.store)) → HasFailed (K.failures self.old.flusher.store) (K.failures self.new.flusher.store) }
+        ensures done { IsTrue result → (b : B.Judged) → self.old.flusher.held ≡ H.Fetched b → IsReady (K.phase self.old.flusher.store) → length (accepted_of b.entries) ≤ 256 → (self.new.flusher.held ≡ H.Committed b) × IsReady (K.phase self.new.flusher.store) }
+        ensures failed { result ≡ false → (b : B.Judged) → self.old.flusher.held ≡ H.Fetched b → IsReady (K.phase self.old.flusher.store) → length (accepted_of b.entries) ≤ 256 → self.new.flusher.held ≡ H.Failed b }
+        ensures cause { result ≡ false → (b : B.Judged) → self.old.flusher.held ≡ H.Fetched b → IsReady (K.phase self.old.flusher.store) → length (accepted_of b.entries) ≤ 256
+            → IsNext (H.Fetched b) (K.stored self.old.flusher.store) → K.honest self.old.flusher.store → ¬ (K.spent (K.device self.new.flusher.store)) → HasFailed (K.failures self.old.flusher.store) (K.failures self.new.flusher.store) }
     {
-        for _step in 0..12_u32 {
+        self.flusher.keeper().images();
+        for _step in 0..MOST_STEPS {
             match self.flusher.advance() {
                 Advance::More => {}
                 Advance::Committed => return true,
@@ -263,7 +269,7 @@ impl<K: Store> Pipeline<K> {
         ensures left { IsNone result → (base plant : Condensed) → IsAt slot (resting base plant) console.old self.old
             → (K.stored self.new.flusher.store ≡ plant) × MayWait self.new.flusher.held (verdict_of plant (request slot want)) }
         ensures cause { IsNone result → (base plant : Condensed) → IsAt slot (resting base plant) console.old self.old → K.honest self.old.flusher.store
-            → ¬ (K.spent (K.device self.old.flusher.store)) → length (sent_of console.old) + 1 < 2 ^ 64 → HasFailed (K.failures self.old.flusher.store) (K.failures self.new.flusher.store) }
+            → ¬ (K.spent (K.device self.new.flusher.store)) → length (sent_of console.old) + 1 < 2 ^ 64 → HasFailed (K.failures self.old.flusher.store) (K.failures self.new.flusher.store) }
     {
         if !self.pass(slot, console, want) {
             return None;

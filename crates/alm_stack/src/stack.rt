@@ -116,7 +116,7 @@ impl<K: Store> Backend for StackOver<K> {
         ensures stored { kept_of self.new ≡ kept_by (stands_of self.old) (kept_of self.old) request.now result }
         ensures count { CountsStop (stands_of self.old) result self.old.failures self.new.failures }
         // It stops only where the device failed in this call, where the last epoch is spent, or where the slot's serials are.
-        ensures cause { IsSome (stands_of self.old) → K.honest (store_of self.old) → ¬ (K.spent (K.device (store_of self.old))) → serial_of request.now.slot self.old + 1 < 2 ^ 64 → OnErr result (HasFailed (K.failures (store_of self.old)) (K.failures (store_of self.new))) }
+        ensures cause { IsSome (stands_of self.old) → K.honest (store_of self.old) → ¬ (K.spent (K.device (store_of self.new))) → serial_of request.now.slot self.old + 1 < 2 ^ 64 → OnErr result (HasFailed (K.failures (store_of self.old)) (K.failures (store_of self.new))) }
         ensures honest { K.honest (store_of self.old) ↔ K.honest (store_of self.new) }
     {
         match self.halted {

@@ -6,7 +6,7 @@ use Rattle.std.proofs.lemmas.Grind.{common_steps}
 use Rattle.std.proofs.lemmas.Bool.{cases_Bool}
 use Rattle.alm_types.specs.declared.attr.Attr.{Attr}
 use Rattle.alm_types.specs.declared.action.Action.{Action}
-use Rattle.alm_types.specs.declared.action.Action.TheVariants.{Clock, Value, Ack, Reset, Shelve, Unshelve, Oos, Design}
+use Rattle.alm_types.specs.declared.action.Action.TheVariants.{Clock, Value, Ack, Reset, Shelve, Unshelve, Oos, Design, SetPriority, SetSetpoint}
 use Rattle.alm_types.specs.declared.refusal.Refusal.{Refusal}
 use Rattle.alm_types.specs.declared.refusal.Refusal.TheVariants.{NotUnacknowledged, NotResettable, AlreadyShelved, ShelveLength}
 use Rattle.alm_state.specs.Rows.{State, IsState, is_suppressed, is_annunciated, is_active_core}
@@ -264,6 +264,8 @@ outcome-good a now stamp (Shelve i seconds) s new state fits h =
 outcome-good a now stamp (Unshelve i) s new state fits h = unshelved-good a now stamp s new state
 outcome-good a now stamp (Oos i on) s new state fits h = reflagged-good a now stamp s (record s { out_of_service = on }) new state refl (inl refl)
 outcome-good a now stamp (Design i on) s new state fits h = reflagged-good a now stamp s (record s { by_design = on }) new state refl (inl refl)
+outcome-good a now stamp (SetPriority i priority) s new state fits h = record { state = state; suits = fits; stamp = inl refl; annunciated = λ e. e; shelved = inl refl }
+outcome-good a now stamp (SetSetpoint i setpoint) s new state fits h = record { state = state; suits = fits; stamp = inl refl; annunciated = λ e. e; shelved = inl refl }
 
 -- the row that is left
 abbrev pub row_of : Outcome → State

@@ -1,10 +1,12 @@
 -- What an action makes of an alarm, and why the alarm refuses it.
-use Rattle.std.specs.Prelude.{ℕ, ◌+◌, Bool, true, false, not, ◌||◌, Option, Some, None, is_some, is_none, nat_lt, ◌==◌, if◌then◌else◌}
+use Rattle.std.specs.Prelude.{ℕ, ℤ, ◌+◌, Bool, true, false, not, ◌||◌, ◌&&◌, Option, Some, None, is_some, is_none, nat_le, nat_lt, ◌==◌, if◌then◌else◌}
+use Rattle.std.specs.Ordering.{int_eq}
 use Rattle.alm_types.specs.declared.attr.Attr.{Attr}
+use Rattle.alm_types.specs.Changes.{with_priority, with_setpoint}
 use Rattle.alm_types.specs.declared.action.Action.{Action}
-use Rattle.alm_types.specs.declared.action.Action.TheVariants.{Clock, Value, Ack, Reset, Shelve, Unshelve, Oos, Design}
+use Rattle.alm_types.specs.declared.action.Action.TheVariants.{Clock, Value, Ack, Reset, Shelve, Unshelve, Oos, Design, SetPriority, SetSetpoint}
 use Rattle.alm_types.specs.declared.refusal.Refusal.{Refusal}
-use Rattle.alm_types.specs.declared.refusal.Refusal.TheVariants.{NotUnacknowledged, NotResettable, AlreadyShelved, NotShelved, ShelveLength, AlreadySet, NotSet, NoChange}
+use Rattle.alm_types.specs.declared.refusal.Refusal.TheVariants.{NotUnacknowledged, NotResettable, AlreadyShelved, NotShelved, ShelveLength, AlreadySet, NotSet, NoChange, PriorityRange, SameValue}
 use Rattle.alm_state.specs.Rows.{State, is_suppressed, is_annunciated}
 use Rattle.alm_state.specs.Table.{next_core}
 use Rattle.alm_state.specs.Detection.{detected}
@@ -31,6 +33,14 @@ flag_refusal false false = Some NotSet
 flag_refusal true false = None
 flag_refusal false true = None
 
+-- why an alarm takes no such priority: it is none, or the present one
+abbrev pub priority_refusal : Attr → ℕ → Option Refusal
+priority_refusal a priority = or_else (unless (nat_le 1 priority && nat_le priority 4) PriorityRange) (unless (not (priority == a.priority)) SameValue)
+
+-- why it takes no such setpoint: it is the present one
+abbrev pub setpoint_refusal : Attr → ℤ → Option Refusal
+setpoint_refusal a setpoint = unless (not (int_eq setpoint a.setpoint)) SameValue
+
 -- why the alarm that an action names refuses it
 abbrev pub row_refusal : Action → Attr → State → Option Refusal
 row_refusal (Clock t) a s = None
@@ -42,6 +52,8 @@ row_refusal (Shelve i seconds) a s =
 row_refusal (Unshelve i) a s = unless (is_some s.shelved_until) NotShelved
 row_refusal (Oos i on) a s = flag_refusal on s.out_of_service
 row_refusal (Design i on) a s = flag_refusal on s.by_design
+row_refusal (SetPriority i priority) a s = priority_refusal a priority
+row_refusal (SetSetpoint i setpoint) a s = setpoint_refusal a setpoint
 
 -- the row annunciated anew, with the next stamp
 abbrev pub annunciated_anew : ℕ → State → Outcome
@@ -84,6 +96,14 @@ outcome now stamp (Shelve i seconds) a s = Shelved (record s { core = Normal; sh
 outcome now stamp (Unshelve i) a s = unshelved stamp s
 outcome now stamp (Oos i on) a s = reflagged stamp (record s { out_of_service = on })
 outcome now stamp (Design i on) a s = reflagged stamp (record s { by_design = on })
+outcome now stamp (SetPriority i priority) a s = Changed s
+outcome now stamp (SetSetpoint i setpoint) a s = Changed s
+
+-- the attributes that an action leaves the alarm that it names
+abbrev pub attr_after : Action → Attr → Attr
+attr_after (SetPriority i priority) a = with_priority priority a
+attr_after (SetSetpoint i setpoint) a = with_setpoint setpoint a
+attr_after _ a = a
 
 -- whether the condition holds after something happened
 abbrev pub active_after : Happening → Bool → Bool

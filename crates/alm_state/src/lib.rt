@@ -16,15 +16,17 @@
 //! | reset | LatchAcked | | Normal |
 //!
 //! While a flag is set the core stays Normal and the condition goes on being followed. When the last flag falls, an
-//! active alarm is annunciated anew.
+//! active alarm is annunciated anew. Another priority or setpoint leaves the alarm as it is: its condition is judged by a new
+//! setpoint from the next value on.
 //!
 //! What is used above: `Core::next` is the table, `detect` the detection table, and `row_refusal` and `outcome_of` say
-//! why an alarm refuses an action or what becomes of it.
+//! why an alarm refuses an action or what becomes of it, and `attr_after` what its attributes then are.
 //!
 //! Not promised: anything of other alarms, of who may ask, and of the clock itself, whose moment and next stamp are handed in.
 //! Whether an action is admitted by the plant is for the plant to say.
 #![tactic(auto)]
 
+mod attributes;
 mod core_state;
 mod detection;
 mod happening;
@@ -34,6 +36,7 @@ mod refusals;
 mod row;
 mod showing;
 
+pub use attributes::attr_after;
 pub use core_state::Core;
 pub use detection::detect;
 pub use happening::Happening;

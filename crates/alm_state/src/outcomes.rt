@@ -122,6 +122,7 @@ pub fn outcome_of(now: Moment, stamp: u64, action: &Action, attr: &Attr, row: &R
         Action::Unshelve(_) => { reflagged(row, None, by_design, out_of_service, stamp) }
         Action::Oos(_, on) => { reflagged(row, shelved_until, by_design, on, stamp) }
         Action::Design(_, on) => { reflagged(row, shelved_until, on, out_of_service, stamp) }
+        Action::SetPriority(..) | Action::SetSetpoint(..) => Outcome::Changed(row),
     }
 }
 

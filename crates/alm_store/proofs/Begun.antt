@@ -17,17 +17,15 @@ use Rattle.alm_model.specs.Step.{step}
 use Rattle.alm_codec.specs.Reading.{◌>>=◌}
 use Rattle.alm_disk.specs.Device.{DeviceState}
 use Rattle.alm_checkpoint.specs.Standing.{Stands}
+use Rattle.alm_keeper.specs.declared.phase.Phase.{Phase}
 use Rattle.alm_keeper.specs.declared.phase.Phase.TheVariants as at
 use Rattle.alm_keeper.specs.declared.refused.Refused as R
 use Rattle.alm_keeper.specs.declared.refused.Refused.TheVariants as no
-use Rattle.alm_keeper.specs.declared.stage.Stage.{Stage}
-use Rattle.alm_keeper.specs.declared.stage.Stage.TheVariants.{Idle, Close, CloseSync, Body, BodySync, Gate, GateSync, Stopped}
 use Rattle.alm_keeper.specs.Batch.{tried, tried_one, unless_refused}
 use Rattle.alm_keeper.specs.Keeper.{Held, StandsWithRoom, begin_answer, checkpoint_answer, trial}
-use Rattle.alm_keeper.specs.Stages.{phase_of}
+use Rattle.alm_keeper.specs.Stages.{IsResting, phase_of}
 use Rattle.alm_keeper.proofs.Tried.{tried_admitted}
 use Rattle.alm_store.specs.Keepers.{IsSpent}
-use Rattle.alm_store.specs.Resting.{is_idle}
 
 -- a batch whose trial went well has admitted actions
 one_tried : (o : Option Refusal) (place : ℕ) (p r : Condensed) (f : Condensed → Result Condensed ℕ) (b : Bool) → ((q : Condensed) → f p ≡ Ok q → b ≡ true) → (unless_refused o place p >>= f) ≡ Ok r → (is_none o && b) ≡ true
@@ -52,39 +50,42 @@ if_ok : (b : Bool) (t : Result Unit R.Refused) (x : Unit) → (if b then t else 
 if_ok true t x is = is
 if_ok false t x is = absurd cc
 
-answered : (stage : Stage) (plant : Condensed) (batch : Judged) (x : Unit) → begin_answer stage plant batch ≡ Ok x → admits_all plant (accepted_of batch.entries) ≡ true
-answered Idle plant batch x is =
+answered : (phase : Phase) (plant : Condensed) (batch : Judged) (x : Unit) → begin_answer phase plant batch ≡ Ok x → admits_all plant (accepted_of batch.entries) ≡ true
+answered at.Idle plant batch x is =
     let went = trial_ok (tried plant 0 batch.entries) x (if_ok (batch.first == plant.panel.count + 1) (trial (tried plant 0 batch.entries)) x is) in
     tried_admits batch.entries plant went.0 0 went.1
-answered Close plant batch x is = absurd cc
-answered CloseSync plant batch x is = absurd cc
-answered Body plant batch x is = absurd cc
-answered BodySync plant batch x is = absurd cc
-answered Gate plant batch x is = absurd cc
-answered GateSync plant batch x is = absurd cc
-answered Stopped plant batch x is = absurd cc
+answered at.Paused plant batch x is =
+    let went = trial_ok (tried plant 0 batch.entries) x (if_ok (batch.first == plant.panel.count + 1) (trial (tried plant 0 batch.entries)) x is) in
+    tried_admits batch.entries plant went.0 0 went.1
+answered at.Committing plant batch x is = absurd cc
+answered at.Copying plant batch x is = absurd cc
+answered at.Stopped plant batch x is = absurd cc
 
-pub begun_admitted : (result : Result Unit R.Refused) (stage : Stage) (plant : Condensed) (batch : Judged) → result ≡ begin_answer stage plant batch → OnOk result (admits_all plant (accepted_of batch.entries) ≡ true)
-begun_admitted (Ok x) stage plant batch is = answered stage plant batch x (sym is)
-begun_admitted (Err why) stage plant batch is = tt
+pub begun_admitted : (result : Result Unit R.Refused) (phase : Phase) (plant : Condensed) (batch : Judged) → result ≡ begin_answer phase plant batch → OnOk result (admits_all plant (accepted_of batch.entries) ≡ true)
+begun_admitted (Ok x) phase plant batch is = answered phase plant batch x (sym is)
+begun_admitted (Err why) phase plant batch is = tt
 
 ok_of : {A : Type 0} {E : Type 0} (r : Result A E) (x : A) → r ≡ Ok x → IsOk r
 ok_of r x e = subst IsOk (sym e) refl
 
--- an idle keeper begins a batch that is the next one and admitted
-next_begun : (plant : Condensed) (batch : Judged) → batch.first ≡ plant.panel.count + 1 → AllAdmitted plant (accepted_of batch.entries) → begin_answer Idle plant batch ≡ Ok tt
-next_begun plant batch first all = rw (eq-eqb batch.first (plant.panel.count + 1) first) (ap trial (tried_admitted plant 0 batch.entries all))
+-- an idle or paused keeper begins a batch that is the next one and admitted
+next_begun : (phase : Phase) (plant : Condensed) (batch : Judged) → IsResting phase → batch.first ≡ plant.panel.count + 1 → AllAdmitted plant (accepted_of batch.entries) → begin_answer phase plant batch ≡ Ok tt
+next_begun at.Idle plant batch rest first all = rw (eq-eqb batch.first (plant.panel.count + 1) first) (ap trial (tried_admitted plant 0 batch.entries all))
+next_begun at.Paused plant batch rest first all = rw (eq-eqb batch.first (plant.panel.count + 1) first) (ap trial (tried_admitted plant 0 batch.entries all))
+next_begun at.Committing plant batch rest first all = absurd rest
+next_begun at.Copying plant batch rest first all = absurd rest
+next_begun at.Stopped plant batch rest first all = absurd rest
 
-pub begun_cause : {D : Type 0} (result : Result Unit R.Refused) (k : Held D) (batch : Judged) → result ≡ begin_answer k.stage k.stored.plant batch → phase_of k.stage k.work ≡ at.Idle
+pub begun_cause : {D : Type 0} (result : Result Unit R.Refused) (k : Held D) (batch : Judged) → result ≡ begin_answer (phase_of k.stage k.work) k.stored.plant batch → IsResting (phase_of k.stage k.work)
     → batch.first ≡ k.stored.plant.panel.count + 1 → AllAdmitted k.stored.plant (accepted_of batch.entries) → IsOk result
-begun_cause result k batch is idle first all = ok_of result tt (is ∙ ap (λ (s : Stage). begin_answer s k.stored.plant batch) (is_idle k.stage k.work idle) ∙ next_begun k.stored.plant batch first all)
+begun_cause result k batch is rest first all = ok_of result tt (is ∙ next_begun (phase_of k.stage k.work) k.stored.plant batch rest first all)
 
 -- and a checkpoint, before the last epoch
-pub copied_cause : {D : Type 0} (result : Result Unit R.Refused) (k : Held D) (state : DeviceState) → result ≡ checkpoint_answer k.stage k.stored.epoch → phase_of k.stage k.work ≡ at.Idle → ∥ StandsWithRoom k.stored state.bytes ∥₁ → ¬ (IsSpent state) → IsOk result
+pub copied_cause : {D : Type 0} (result : Result Unit R.Refused) (k : Held D) (state : DeviceState) → result ≡ checkpoint_answer (phase_of k.stage k.work) k.stored.epoch → phase_of k.stage k.work ≡ at.Idle → ∥ StandsWithRoom k.stored state.bytes ∥₁ → ¬ (IsSpent state) → IsOk result
 copied_cause result k state is idle stands unspent = by_epoch (cases_eq (k.stored.epoch + 1) (2 ^ 64))
   where
-    here : result ≡ checkpoint_answer Idle k.stored.epoch
-    here = is ∙ ap (λ (s : Stage). checkpoint_answer s k.stored.epoch) (is_idle k.stage k.work idle)
+    here : result ≡ checkpoint_answer at.Idle k.stored.epoch
+    here = is ∙ ap (λ (p : Phase). checkpoint_answer p k.stored.epoch) idle
 
     by_epoch : (k.stored.epoch + 1 ≡ 2 ^ 64) ⊎ (k.stored.epoch + 1 ≢ 2 ^ 64) → IsOk result
     by_epoch (inl e) =

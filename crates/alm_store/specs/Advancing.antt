@@ -4,7 +4,7 @@ use Rattle.alm_disk.specs.Device.{DeviceState}
 use Rattle.alm_model.specs.Plant.{Condensed}
 use Rattle.alm_keeper.specs.Calls.{IsCall}
 use Rattle.alm_keeper.specs.declared.phase.Phase.{Phase}
-use Rattle.alm_keeper.specs.declared.phase.Phase.TheVariants.{Committing, Stopped}
+use Rattle.alm_keeper.specs.declared.phase.Phase.TheVariants.{Idle, Committing, Copying, Paused, Stopped}
 use Rattle.alm_keeper.specs.declared.progress.Progress.{Progress}
 use Rattle.alm_keeper.specs.declared.progress.Progress.TheVariants.{More, Done, Failed}
 
@@ -12,9 +12,19 @@ use Rattle.alm_keeper.specs.declared.progress.Progress.TheVariants.{More, Done, 
 abbrev pub Same : DeviceState → DeviceState → Condensed → Condensed → ℕ → ℕ → Type 0
 Same d d' s s' f f' = (d' ≡ d) × (s' ≡ s) × (f' ≡ f)
 
+-- a checkpoint is open, and no commit is under way
+abbrev pub IsOpen : Phase → Type 0
+IsOpen Copying = Unit {0}
+IsOpen Paused = Unit {0}
+IsOpen phase = ⊥
+
+-- what else is told of a store stays: phase, next plant, calls that are left, use and length of the segment
+abbrev pub SameWords : Phase → Phase → Condensed → Condensed → (l l' u u' g g' : ℕ) → Type 0
+SameWords p p' n n' l l' u u' g g' = (p' ≡ p) × (n' ≡ n) × (l' ≡ l) × (u' ≡ u) × (g' ≡ g)
+
 -- the old phase and the new one, the stored and the next plant before and then: a commit goes on until it is done, and what is done is stored
 abbrev pub Advanced : Progress → Phase → Phase → (s n s' n' : Condensed) → Type 0
-Advanced More p p' s n s' n' = ((p' ≡ Committing) ↔ (p ≡ Committing)) × (p' ≢ Stopped) × (s' ≡ s) × (n' ≡ n)
+Advanced More p p' s n s' n' = ((p' ≡ Committing) ↔ (p ≡ Committing)) × (p' ≢ Stopped) × (p' ≢ Idle) × (s' ≡ s) × (n' ≡ n)
 Advanced Done p p' s n s' n' = (p' ≢ Committing) × (p' ≢ Stopped) × (s' ≡ n) × (n' ≡ n)
 Advanced Failed p p' s n s' n' = (p' ≡ Stopped) × (s' ≡ s) × (n' ≡ n)
 

@@ -2,3 +2,4 @@ pub mod Advancing
 pub mod Opening
 pub mod Keepers
 pub mod Resting
+pub mod Pacing

@@ -3,17 +3,17 @@
 use crate::store::Store;
 use alm_disk::Disk;
 use alm_keeper::{Keeper, OpenFault, Phase, Progress, Refused, open_store};
-use alm_model::accepted_in;
 use alm_plant::Plant;
 use alm_types::Batch;
 use std::alloc::Global;
 
 impl<D: Disk + Drop> Store for Keeper<D> {
-    ghost use Rattle.std.specs.Prelude.{length};
-    ghost use Rattle.alm_keeper.specs.Keeper.{HasRoom, next};
+    ghost use Rattle.std.specs.Prelude.{◌≡◌, ◌-◌, length};
+    ghost use Rattle.alm_codec.specs.declared.version.Version.TheVariants.{V02};
+    ghost use Rattle.alm_keeper.specs.Keeper.{Takes, next, used};
     ghost use Rattle.alm_keeper.specs.Stages.{phase_of};
-    ghost use Rattle.alm_store.specs.Keepers.{StandsFor, IsSpent, calls_left};
-    ghost use Rattle.alm_store.specs.Resting.{keeps_rules, rests, stands_for_one};
+    ghost use Rattle.alm_store.specs.Keepers.{StandsFor, IsSpent, calls_left, going};
+    ghost use Rattle.alm_store.specs.Resting.{fits_any, goes_alone, goes_open, keeps_rules, rests, stands_for_one};
 
     type Device = D;
 
@@ -31,11 +31,21 @@ impl<D: Disk + Drop> Store for Keeper<D> {
 
     ghost next = { λ k. (next k).plant };
 
-    ghost takes = { λ k actions. HasRoom k.stored (length actions) };
+    ghost takes = { λ k actions. Takes k.stored actions };
 
-    ghost will_take = { λ k actions. HasRoom (next k) (length actions) };
+    ghost will_take = { λ k actions. Takes (next k) actions };
 
-    ghost left = { λ k. calls_left k.stage };
+    ghost left = { λ k. calls_left k.stage k.work (k.run - k.out) };
+
+    ghost written = { λ k. k.written };
+
+    ghost used = { λ k. used k };
+
+    ghost segment = { λ k. k.segment };
+
+    ghost going = { λ k. going k };
+
+    ghost newest = { λ k. k.stored.version ≡ V02 };
 
     ghost spent = { IsSpent };
 
@@ -64,10 +74,24 @@ impl<D: Disk + Drop> Store for Keeper<D> {
     }
 
     fn takes(&self, batch: &Batch) -> bool {
-        self.fits(accepted_in(batch))
+        self.takes(batch)
+    }
+
+    fn is_half_used(&self) -> bool {
+        let used = Keeper::used(self);
+        Keeper::segment(self) - used < used
+    }
+
+    fn written_since(&self) -> u64 {
+        Keeper::written_since(self)
+    }
+
+    fn mark(&mut self) {
+        Keeper::mark(self);
     }
 
     fn begin(&mut self, batch: &Batch) -> Result<(), Refused> {
+        Keeper::images(self);
         Keeper::begin(self, batch)
     }
 
@@ -78,10 +102,17 @@ impl<D: Disk + Drop> Store for Keeper<D> {
     }
 
     fn advance(&mut self) -> Progress {
+        Keeper::images(self);
         Keeper::advance(self)
     }
 
-    ghost idle = { λ k is. rests k is };
+    ghost idle = { λ k other going. rests k other going };
+
+    ghost alone = { λ k is. goes_alone k is };
+
+    ghost opened = { λ k is. goes_open k is };
+
+    ghost fits = { λ k actions newest few any. fits_any k actions newest few any };
 
     ghost one = { λ bytes p q x y. stands_for_one bytes p q x y };
 

@@ -6,14 +6,20 @@
 //!
 //! | phase | `begin` | `begin_checkpoint` | `advance` |
 //! |---|---|---|---|
-//! | idle | begins a commit of the next batch | begins a checkpoint | |
-//! | committing, copying | refused | refused | one device call |
+//! | idle | begins a commit of the next batch | opens a checkpoint | |
+//! | committing | refused | refused | one device call |
+//! | copying | refused | refused | one device call of the checkpoint that is open |
+//! | paused | begins a commit of the next batch | refused | one piece of the checkpoint that is open |
 //! | stopped | refused | refused | |
 //!
 //! What is used above: at any moment every image of the device stands for the stored plant, or for the next one. A commit
-//! that is done has stored its batch; a checkpoint stores what was stored. A call fails only where the device failed in it.
+//! that is done has stored its batch; a checkpoint stores what was stored. What was taken as a checkpoint went on is taken behind
+//! it, and one that no commit came into makes room for any batch. A call fails only where the device failed in it.
 //!
-//! It is not promised that there is room for a batch, nor that a checkpoint makes any.
+//! How fast an open checkpoint goes out is said by what each call makes of it (Pacing): a piece of at most 65,536 bytes goes out by
+//! each call of a paused store, a commit adds one frame, and a checkpoint that is done leaves the frames that came into it.
+//!
+//! It is not promised that there is room for a batch: a store that keeps its pace has it.
 #![tactic(auto)]
 
 mod keeper;

@@ -8,7 +8,7 @@ use std::alloc::Global;
 
 /// A store of actions over a device.
 pub trait Store: Drop {
-    ghost use Rattle.std.specs.Prelude.{◌≡◌, ◌≢◌, ◌⊎◌, ◌↔◌, ◌<◌, ◌≤◌, ◌+◌, ◌^◌, ℕ, true, false, List, length, IsOk, IfOk, IfErr, OnOk, OnErr, IsTrue};
+    ghost use Rattle.std.specs.Prelude.{◌≡◌, ◌≢◌, ◌⊎◌, ◌↔◌, ◌<◌, ◌≤◌, ◌+◌, ◌*◌, ◌^◌, ℕ, true, false, List, length, Option, None, IsSome, IsOk, IfOk, IfErr, OnOk, OnErr, IsTrue};
     ghost use Rattle.alm_types.specs.declared.action.Action.{Action};
     ghost use Rattle.alm_disk.specs.Device.{DeviceState, IsBytes, IsImage};
     ghost use Rattle.alm_disk.specs.Failures.{HasFailed};
@@ -17,10 +17,13 @@ pub trait Store: Drop {
     ghost use Rattle.alm_model.specs.Judging.{accepted_of};
     ghost use Rattle.alm_model.specs.Rules.{AllAdmitted, KeepsRules, admits_all};
     ghost use Rattle.alm_keeper.specs.declared.phase.Phase.{Phase};
-    ghost use Rattle.alm_keeper.specs.declared.phase.Phase.TheVariants.{Idle, Committing, Copying};
-    ghost use Rattle.alm_store.specs.Advancing.{Advanced, Same};
+    ghost use Rattle.alm_keeper.specs.declared.phase.Phase.TheVariants.{Idle, Committing, Copying, Paused, Stopped};
+    ghost use Rattle.alm_keeper.specs.Stages.{IsResting};
+    ghost use Rattle.alm_store.specs.Advancing.{Advanced, IsOpen, Same, SameWords};
     ghost use Rattle.alm_keeper.specs.Calls.{IsCall};
     ghost use Rattle.alm_store.specs.Opening.{HasCause};
+    ghost use Rattle.alm_store.specs.Pacing.{Goes, IsFresh, SamePace};
+    ghost use Rattle.alm_keeper.specs.Pace.{Going, KeepsPace, TakesAny};
 
     type Device: Disk + Drop;
 
@@ -51,6 +54,20 @@ pub trait Store: Drop {
     /// How many device calls are left of that work.
     ghost left: { Self → ℕ };
 
+    /// How many bytes of a checkpoint went out since the last commit's end or mark.
+    ghost written: { Self → ℕ };
+
+    /// Where the first closed gate stands in the segment, and how long that is.
+    ghost used: { Self → ℕ };
+
+    ghost segment: { Self → ℕ };
+
+    /// The checkpoint that is open.
+    ghost going: { Self → Option Going };
+
+    /// The half that stands is of the newest version: it may hold every action.
+    ghost newest: { Self → Type 0 };
+
     /// A device stands at the last epoch.
     ghost spent: { DeviceState → Type 0 };
 
@@ -59,6 +76,8 @@ pub trait Store: Drop {
         ensures honest { IfOk result (λ store. Self.Device.honest disk ↔ honest store) }
         ensures idle { IfOk result (λ store. phase store ≡ Idle) }
         ensures limit { IfOk result (λ store. (stored store).panel.count ≤ 2 ^ 48) }
+        /// Where at most half of the segment is used the store keeps its pace.
+        ensures pace { IfOk result (λ store. 2 * used store ≤ segment store → KeepsPace (segment store) (phase store) (used store) (written store) (going store)) }
         /// What it reads is one of the images before, and stands for the stored plant.
         ensures opened { Self.Device.honest disk → IfOk result (λ store. IsImage (Self.Device.state disk) (device store).bytes × recovers (device store).bytes (stored store)) }
         ensures settled { Self.Device.honest disk → IfOk result (λ store. (place : ℕ) → (device store).pending place ≡ false) }
@@ -73,8 +92,10 @@ pub trait Store: Drop {
         ensures device { Self.Device.state result ≡ device self }
         ensures failures { Self.Device.failures result ≡ failures self };
 
-    /// Does nothing: it says what a crash leaves. In every phase each image stands for the stored plant or the next one.
+    /// Does nothing: it says what a crash leaves. In every phase each image stands for the stored plant or the next one. And a work
+    /// that is under way ends in 320 device calls.
     fn images(&self)
+        ensures few { left self.now ≤ 320 }
         ensures stands { honest self.now → (b : List ℕ) → IsImage (device self.now) b → ∥ recovers b (stored self.now) ⊎ recovers b (next self.now) ∥₁ };
 
     fn phase(&self) -> Phase
@@ -92,43 +113,86 @@ pub trait Store: Drop {
     fn takes(&self, batch: &Batch) -> bool
         ensures { IsTrue result ↔ takes self.now (accepted_of batch.now.entries) };
 
+    /// Whether more than half of the segment is used.
+    fn is_half_used(&self) -> bool
+        ensures { IsTrue result ↔ (segment self.now < 2 * used self.now) };
+
+    fn written_since(&self) -> u64
+        ensures { result ≡ written self.now };
+
+    /// Counts the bytes of a checkpoint from here on.
+    fn mark(&mut self)
+        ensures written { written self.new ≡ 0 }
+        ensures same { Same (device self.old) (device self.new) (stored self.old) (stored self.new) (failures self.old) (failures self.new) }
+        ensures honest { honest self.old ↔ honest self.new }
+        ensures words { SameWords (phase self.old) (phase self.new) (next self.old) (next self.new) (left self.old) (left self.new) (used self.old) (used self.new) (segment self.old) (segment self.new) }
+        ensures going { going self.new ≡ going self.old }
+        ensures newest { newest self.old → newest self.new }
+        ensures takes { (actions : List Action) → (takes self.old actions ↔ takes self.new actions) × (will_take self.old actions ↔ will_take self.new actions) };
+
     /// Begins the commit of a batch that has actions, and is taken: no device call.
     fn begin(&mut self, batch: &Batch) -> Result<(), Refused>
         requires some { 0 < length (accepted_of batch.now.entries) }
         requires takes { takes self.old (accepted_of batch.now.entries) }
         ensures same { Same (device self.old) (device self.new) (stored self.old) (stored self.new) (failures self.old) (failures self.new) }
         ensures honest { honest self.old ↔ honest self.new }
-        ensures refused { phase self.old ≡ Idle → OnErr result ((phase self.new ≢ Committing) × (phase self.new ≢ Copying) × (next self.new ≡ next self.old)) }
-        ensures begun { OnOk result ((phase self.new ≡ Committing) × (next self.new ≡ run (stored self.old) (accepted_of batch.now.entries))) }
+        ensures refused { IsResting (phase self.old) → OnErr result ((phase self.new ≢ Committing) × (next self.new ≡ next self.old)) }
+        ensures begun { OnOk result (IsResting (phase self.old) × (phase self.new ≡ Committing) × (next self.new ≡ run (stored self.old) (accepted_of batch.now.entries))) }
         ensures admitted { OnOk result (admits_all (stored self.old) (accepted_of batch.now.entries) ≡ true) }
         ensures calls { OnOk result (left self.new ≤ 4) }
-        /// An idle store begins a batch that is the next one and admitted.
-        ensures cause { phase self.old ≡ Idle → batch.now.first ≡ (stored self.old).panel.count + 1 → AllAdmitted (stored self.old) (accepted_of batch.now.entries) → IsOk result };
+        ensures written { written self.new ≡ written self.old }
+        ensures newest { newest self.old → newest self.new }
+        ensures pace { IsResting (phase self.old) → SamePace (used self.old) (used self.new) (segment self.old) (segment self.new) (going self.old) (going self.new) }
+        /// An idle or paused store begins a batch that is the next one and admitted.
+        ensures cause { IsResting (phase self.old) → batch.now.first ≡ (stored self.old).panel.count + 1 → AllAdmitted (stored self.old) (accepted_of batch.now.entries) → IsOk result };
 
     /// Begins a checkpoint: no device call.
     fn begin_checkpoint(&mut self) -> Result<(), Refused>
         ensures same { Same (device self.old) (device self.new) (stored self.old) (stored self.new) (failures self.old) (failures self.new) }
         ensures honest { honest self.old ↔ honest self.new }
-        ensures refused { phase self.old ≡ Idle → OnErr result ((phase self.new ≢ Committing) × (phase self.new ≢ Copying) × (next self.new ≡ next self.old)) }
-        ensures begun { OnOk result ((phase self.new ≡ Copying) × (next self.new ≡ stored self.old)) }
-        ensures calls { OnOk result (left self.new ≤ 6) }
+        ensures refused { OnErr result ((phase self.new ≡ phase self.old) × (next self.new ≡ next self.old)) }
+        ensures begun { OnOk result ((phase self.old ≡ Idle) × IsOpen (phase self.new) × (next self.new ≡ stored self.old)) }
+        ensures calls { OnOk result (left self.new ≤ 320) }
+        ensures written { written self.new ≡ written self.old }
+        ensures takes { (actions : List Action) → takes self.old actions → takes self.new actions }
+        ensures half { (used self.new ≡ used self.old) × (segment self.new ≡ segment self.old) }
+        ensures newest { newest self.old → newest self.new }
+        ensures fresh { OnOk result (IsFresh (going self.new)) }
+        ensures going { OnErr result (going self.new ≡ going self.old) }
         /// A checkpoint makes room for a whole batch.
         ensures room { OnOk result ((actions : List Action) → length actions ≤ 256 → will_take self.new actions) }
         ensures cause { honest self.old → phase self.old ≡ Idle → ¬ (spent (device self.old)) → IsOk result };
 
     /// One device call of the work that was begun.
     fn advance(&mut self) -> Progress
-        requires { (phase self.old ≡ Committing) ⊎ (phase self.old ≡ Copying) }
+        requires { (phase self.old ≡ Committing) ⊎ IsOpen (phase self.old) }
         ensures honest { honest self.old ↔ honest self.new }
         ensures call { honest self.old → IsCall (device self.old) (device self.new) }
         ensures count { failures self.old ≤ failures self.new }
         ensures advanced { Advanced result (phase self.old) (phase self.new) (stored self.old) (next self.old) (stored self.new) (next self.new) }
-        ensures fewer { result ≡ Progress.More → (phase self.new ≡ phase self.old) × (left self.new < left self.old) × ((actions : List Action) → will_take self.old actions → will_take self.new actions) }
-        ensures done { result ≡ Progress.Done → (phase self.new ≡ Idle) × ((actions : List Action) → will_take self.old actions → takes self.new actions) }
+        ensures fewer { result ≡ Progress.More → (left self.new < left self.old) × ((actions : List Action) → will_take self.old actions → will_take self.new actions) }
+        /// A checkpoint is done: what it leaves takes what was taken before.
+        ensures done { result ≡ Progress.Done → IsOpen (phase self.old) → (phase self.new ≡ Idle) × ((actions : List Action) → will_take self.old actions → takes self.new actions) }
+        ensures takes { IsOpen (phase self.old) → result ≢ Progress.Failed → (actions : List Action) → takes self.old actions → takes self.new actions }
+        /// A piece has at most 65,536 bytes.
+        ensures written { written self.new ≤ written self.old + 65536 }
+        ensures unwritten { phase self.old ≢ Paused → written self.new ≤ written self.old }
+        ensures segment { segment self.new ≡ segment self.old }
+        ensures newest { newest self.old → newest self.new }
+        /// A commit adds one frame, and counts anew; a piece goes out; and a checkpoint that is done leaves the frames in it.
+        ensures pace { Goes result (phase self.old) (used self.old) (used self.new) (written self.new) (going self.old) (going self.new) }
         ensures cause { result ≡ Progress.Failed → HasFailed (failures self.old) (failures self.new) };
 
-    /// Where nothing is under way the next plant is the stored one.
-    ghost idle: { (store : Self) → phase store ≡ Idle → next store ≡ stored store };
+    /// Where no commit is under way the next plant is the stored one.
+    ghost idle: { (store : Self) → phase store ≢ Committing → phase store ≢ Stopped → next store ≡ stored store };
+
+    /// No checkpoint is open where nothing is under way, and one is as it goes on.
+    ghost alone: { (store : Self) → phase store ≡ Idle → going store ≡ None };
+
+    ghost opened: { (store : Self) → IsOpen (phase store) → IsSome (going store) };
+
+    /// Where there is room for the longest frame any batch is taken by a half of the newest version.
+    ghost fits: { (store : Self) (actions : List Action) → newest store → length actions ≤ 256 → TakesAny (segment store) (used store) → takes store actions };
 
     /// No bytes stand for two plants.
     ghost one: { (b : List ℕ) (p q : Condensed) → recovers b p → recovers b q → p ≡ q };

@@ -1,7 +1,7 @@
 -- What an action can hold.
 use Rattle.std.specs.Prelude.{ℕ, ◌^◌, ◌<◌}
 use Rattle.alm_types.specs.declared.action.Action.{Action}
-use Rattle.alm_types.specs.declared.action.Action.TheVariants.{Clock, Value, Ack, Reset, Shelve, Unshelve, Oos, Design}
+use Rattle.alm_types.specs.declared.action.Action.TheVariants.{Clock, Value, Ack, Reset, Shelve, Unshelve, Oos, Design, SetPriority, SetSetpoint}
 use Rattle.alm_types.specs.Readings.{IsReading}
 
 -- the alarm that an action names
@@ -14,6 +14,8 @@ alarm_of (Shelve i seconds) = i.0
 alarm_of (Unshelve i) = i.0
 alarm_of (Oos i on) = i.0
 alarm_of (Design i on) = i.0
+alarm_of (SetPriority i priority) = i.0
+alarm_of (SetSetpoint i setpoint) = i.0
 
 -- what stands beside the alarm is within its type
 abbrev pub HasArgument : Action → Type 0
@@ -25,6 +27,8 @@ HasArgument (Shelve i seconds) = seconds < 2 ^ 32
 HasArgument (Unshelve i) = Unit {0}
 HasArgument (Oos i on) = Unit {0}
 HasArgument (Design i on) = Unit {0}
+HasArgument (SetPriority i priority) = priority < 2 ^ 32
+HasArgument (SetSetpoint i setpoint) = IsReading setpoint
 
 -- the numbers of an action are within their types
 pub record IsAction (a : Action) : Type 0 where

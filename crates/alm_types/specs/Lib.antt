@@ -1,7 +1,9 @@
 pub mod Actions
 pub mod Attributes
 pub mod Batches
+pub mod Changes
 pub mod Counts
+pub mod Limits
 pub mod Padded
 pub mod Readings
 pub mod Refusals

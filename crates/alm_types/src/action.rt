@@ -23,4 +23,8 @@ pub enum Action {
     Oos(AlarmId, bool),
     /// Suppressed by design, on or off.
     Design(AlarmId, bool),
+    /// The operator gives the alarm another priority, which may be out of its limits.
+    SetPriority(AlarmId, u32),
+    /// The operator gives the alarm another setpoint.
+    SetSetpoint(AlarmId, Reading),
 }

@@ -1,9 +1,9 @@
 //! Attributes.
 
-ghost use Rattle.std.specs.Prelude.{◌≡◌, ◌<◌, ◌≤◌, None, Some, IfOk, IfErr, OnOk, IsTrue};
+ghost use Rattle.std.specs.Prelude.{◌<◌, ◌≤◌, IsTrue};
 ghost use Rattle.alm_types.specs.Texts.{is_tag, is_text};
 ghost use Rattle.alm_types.specs.Readings.{IsReading};
-ghost use Rattle.alm_types.specs.Attributes.{attr_fault, deadband_limit};
+ghost use Rattle.alm_types.specs.Attributes.{deadband_limit};
 
 use crate::attr_fault::AttrFault;
 use crate::kind::Kind;
@@ -39,6 +39,10 @@ pub struct Attr {
 }
 
 impl Attr {
+    ghost use Rattle.std.specs.Prelude.{◌≡◌, ◌≤◌, None, Some, IfOk, IfErr, OnOk};
+    ghost use Rattle.alm_types.specs.Attributes.{attr_fault};
+    ghost use Rattle.alm_types.specs.Changes.{with_priority, with_setpoint};
+
     /// Attributes in their limits, or the first that is not: setpoint, deadband, priority, area, max_shelve, tag, text.
     pub fn new(settings: Settings, tag: &[u8], text: &[u8]) -> Result<Self, AttrFault>
         ensures good { OnOk result (attr_fault settings tag.now text.now ≡ None) }
@@ -73,5 +77,40 @@ impl Attr {
             tag,
             text,
         })
+    }
+
+    /// The same attributes with another priority.
+    pub fn with_priority(self, priority: u8) -> Self
+        requires limits { (1 ≤ priority) × (priority ≤ 4) }
+        ensures { result ≡ with_priority priority self }
+    {
+        Attr {
+            kind: self.kind,
+            setpoint: self.setpoint,
+            deadband: self.deadband,
+            priority,
+            area: self.area,
+            latching: self.latching,
+            max_shelve: self.max_shelve,
+            tag: self.tag,
+            text: self.text,
+        }
+    }
+
+    /// The same attributes with another setpoint.
+    pub fn with_setpoint(self, setpoint: Reading) -> Self
+        ensures { result ≡ with_setpoint setpoint self }
+    {
+        Attr {
+            kind: self.kind,
+            setpoint,
+            deadband: self.deadband,
+            priority: self.priority,
+            area: self.area,
+            latching: self.latching,
+            max_shelve: self.max_shelve,
+            tag: self.tag,
+            text: self.text,
+        }
     }
 }

@@ -39,12 +39,16 @@ pub enum Refusal {
     NoSuchList,
     /// The plant has had 2^48 actions.
     Exhausted,
+    /// The priority isn't 1 to 4.
+    PriorityRange,
+    /// The priority or the setpoint is the present one.
+    SameValue,
 }
 
 impl Refusal {
     ghost use Rattle.alm_types.specs.Refusals.{number_of};
 
-    /// Its number in reply lines, 1 to 18.
+    /// Its number in reply lines, 1 to 20.
     pub fn number(self) -> u8
         ensures { result ≡ number_of self }
     {

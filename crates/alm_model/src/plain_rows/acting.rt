@@ -1,9 +1,9 @@
 //! What an action does to plain rows.
 
 ghost use Rattle.std.specs.Prelude.{◌≡◌, ◌<◌, ◌+◌, ◌*◌, ◌^◌, ◌≤◌, slice_get, length, None, All, fold, vec_capacity, vec_len};
-ghost use Rattle.alm_model.specs.Step.{step, settle, later, acted, put, touch, counted, unshelve};
+ghost use Rattle.alm_model.specs.Step.{step, settle, later, acted, put, touch, counted, unshelve, configured};
 ghost use Rattle.alm_model.specs.Accept.{own_refusal, refusal, alarm_refusal};
-ghost use Rattle.alm_state.specs.Outcome.{outcome};
+ghost use Rattle.alm_state.specs.Outcome.{outcome, attr_after};
 ghost use Rattle.alm_model.specs.Lists.{due};
 ghost use Rattle.alm_model.specs.Rules.{IsTimely};
 ghost use Rattle.alm_model.specs.Keeping.{condensed};
@@ -14,7 +14,7 @@ use crate::lists::fill_in_order;
 use crate::order::Order;
 use crate::plain_rows::PlainRows;
 use crate::wanted::Wanted;
-use alm_state::{Outcome, outcome_of};
+use alm_state::{Outcome, attr_after, outcome_of};
 use alm_types::{Action, AlarmId, Moment};
 
 impl PlainRows {
@@ -55,6 +55,16 @@ impl PlainRows {
         let row = self.rows[index];
         let next = outcome_of(self.clock, self.next_stamp, action, &attr, &row);
         self.put(index, next);
+    }
+
+    /// The alarm has the attributes that an action gives it; its row and its stamp stay.
+    fn configure(&mut self, id: AlarmId, action: &Action)
+        requires here { alarm_refusal action.now (slice_get self.old.panel.attrs id.0) (slice_get self.old.panel.rows id.0) ≡ None }
+        ensures plant { self.new ≡ configured self.old id.0 (attr_after action.now) }
+    {
+        let index = id.0 as usize;
+        let attr = attr_after(action, &self.attrs[index], &self.rows[index]);
+        self.attrs[index] = attr;
     }
 
     /// The flood flags after an action.
@@ -151,6 +161,7 @@ impl PlainRows {
             | Action::Unshelve(id)
             | Action::Oos(id, _)
             | Action::Design(id, _) => self.touch(id, action),
+            Action::SetPriority(id, _) | Action::SetSetpoint(id, _) => self.configure(id, action),
         }
     }
 

@@ -36,7 +36,9 @@ impl PlainRows {
             | Action::Shelve(id, _)
             | Action::Unshelve(id)
             | Action::Oos(id, _)
-            | Action::Design(id, _) => self.alarm_refusal(id, action),
+            | Action::Design(id, _)
+            | Action::SetPriority(id, _)
+            | Action::SetSetpoint(id, _) => self.alarm_refusal(id, action),
         }
     }
 

@@ -1,19 +1,40 @@
-use Rattle.std.proofs.Common.{take, ◌∙◌}
+use Rattle.std.proofs.Common.{◌≡◌, ◌≤◌, ◌<◌, ◌+◌, ℕ, length, take, ◌∙◌, ap, arith}
 use Rattle.std.proofs.Math.Logic.{∥∥₁_map}
-use Rattle.alm_keeper.proofs.Order.{commits, copies}
-use Rattle.alm_keeper.proofs.Going.{commit_passes, checkpoint_passes}
+use Rattle.alm_keeper.proofs.Order.{commits, copies, sent_at}
+use Rattle.alm_keeper.proofs.Going.{commit_passes, checkpoint_passes, piece_passes, run_size}
+use Rattle.alm_keeper.specs.declared.stage.Stage.TheVariants.{Body}
+use Rattle.alm_keeper.specs.declared.stage.Work.TheVariants.{Checkpoint}
+use Rattle.alm_keeper.specs.Keeping.{piece_of, run_in}
 use Rattle.alm_keeper.proofs.advancing.call_next.Goals as goal
 
 pub returns-in-Commit-clause-passes : goal.returns-in-Commit-clause-passes
 returns-in-Commit-clause-passes g c = λ honest keeps.
     let b = c.args.book.now in
     let w = commits b c.requires.in_order c.requires.working c.in-Commit.is in
-    ∥∥₁_map keeps (λ k. commit_passes c.call.result (g.D.Disk.state c.args.disk.now) (g.D.Disk.state c.call.new.disk) b (take c.frame_len.result c.deref.result.now) c.requires.in_order c.requires.working c.in-Commit.is
+    ∥∥₁_map keeps (λ k. commit_passes c.call.result (g.D.Disk.state c.args.disk.now) (g.D.Disk.state c.call.new.disk) b c.requires.in_order c.requires.working (take c.frame_len.result c.deref.result.now) c.in-Commit.is
     ((λ i. take (c.frame_len.ensures i) (c.deref.ensures.value i)) ∙ w.text) (c.call.ensures.stage_call honest) k)
 
-pub returns-in-Checkpoint-clause-passes : goal.returns-in-Checkpoint-clause-passes
-returns-in-Checkpoint-clause-passes g c = λ honest keeps.
+pub returns-in-Body-clause-passes : goal.returns-in-Body-clause-passes
+returns-in-Body-clause-passes g c = λ honest keeps.
     let b = c.args.book.now in
-    let w = copies b c.requires.in_order c.requires.working c.in-Checkpoint.is in
-    ∥∥₁_map keeps (λ k. checkpoint_passes c.call-in-Checkpoint.result (g.D.Disk.state c.args.disk.now) (g.D.Disk.state c.call-in-Checkpoint.new.disk) b c.other_at.result c.deref-in-Checkpoint.result.now c.requires.in_order c.requires.working c.in-Checkpoint.is c.other_at.ensures
-    (c.deref-in-Checkpoint.ensures.value ∙ w.text) w.text (c.call-in-Checkpoint.ensures.stage_call honest) k)
+    let i = c.requires.in_order in
+    let works = c.requires.working in
+    let on = (copies b i works c.in-Checkpoint.is).0 in
+    let sent : b.out < b.run = sent_at b Body Checkpoint i tt c.in-Body.is c.in-Checkpoint.is on in
+    let within : b.out + piece_of b ≤ length (run_in b) = omega (arith, run_size b i works on, sent) in
+    ∥∥₁_map keeps (λ k. piece_passes c.call-in-Body.result (g.D.Disk.state c.args.disk.now) (g.D.Disk.state c.call-in-Body.new.disk) b i works (c.other_at.result + b.out) c.piece.result.now c.in-Checkpoint.is c.in-Body.is
+    (ap (λ (n : ℕ). n + b.out) c.other_at.ensures) c.piece.ensures within (c.call-in-Body.ensures.stage_call honest) k)
+
+pub returns-in_default : goal.returns-in_default
+returns-in_default g c = record {
+  honest = c.call-in_default.ensures.honest;
+  size = c.call-in_default.ensures.size;
+  count = c.call-in_default.ensures.count;
+  one_call = c.call-in_default.ensures.one_call;
+  is_call = c.call-in_default.ensures.is_call;
+  passes = λ honest keeps.
+      let old = g.D.Disk.state c.args.disk.now in
+      let new = g.D.Disk.state c.call-in_default.new.disk in
+      let call = c.call-in_default.ensures.stage_call honest in
+      ∥∥₁_map keeps (λ k. checkpoint_passes c.call-in_default.result old new c.args.book.now c.requires.in_order c.requires.working c.other_at-in_default.result c.in-Checkpoint.is c.in_default.not-Body c.other_at-in_default.ensures call k);
+}

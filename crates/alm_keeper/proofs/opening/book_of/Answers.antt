@@ -13,9 +13,11 @@ returns-clause-in_order c =
       rules = r.rules;
       sizes = r.sizes;
       count = r.count;
+      first = r.behind;
       gate = r.inside;
       room = search rules;
       frame = search rules;
-      image = search rules;
+      buffer = search rules;
       does = search rules;
+      copy = tt;
     }

@@ -6,5 +6,5 @@ use Rattle.alm_keeper.proofs.store_format.put_first_half.Goals as goal
 
 pub returns : goal.returns
 returns c =
-    let text = c.put_half.ensures.text ∙ ap (λ (n : ℕ). half_head_text c.args.layout.now 1 n ++ image_text c.args.plant.now ++ 0 ∷ []) c.count.ensures in
+    let text = c.put_half.ensures.text ∙ ap (λ (n : ℕ). half_head_text c.args.layout.now c.args.layout.now.version 1 n ++ image_text c.args.plant.now ++ 0 ∷ []) c.count.ensures in
     record { text = set_before c.args.out.now c.put_half.new.out 0 (omega (arith, c.requires.room)) ∙ ap (λ (l : List ℕ). 0 ∷ l) text }

@@ -57,5 +57,5 @@ returns-clause-rests g c = λ s k here.
       free = omega (arith, seq.ensures.ends.2, ap length bb.empties.0, ap length ob.2, ap (λ f. length (given_of f)) parts.3, ap length bb.empties.1, eight);
       replies = ap (λ v. notes_of (released_by s v.items)) parts.2 ∙ (ap notes_of (e.released s) ∙ sym (append-nil (notes_of _) ∙ ap notes_of (e.consoles s k here).1));
       unanswered = omega (arith, ap length (e.consoles s k here).0, ap length (e.consoles s k here).1);
-      idle = ap g.K.Store.phase parts.0 ∙ c.requires.idle;
+      ready = (let is = ap g.K.Store.phase parts.0 ∙ c.requires.idle in ((λ p. absurd (cc (p, is))), (λ p. absurd (cc (p, is)))));
     }

@@ -21,7 +21,7 @@ pub returns-in-Open-clause-moves : goal.returns-in-Open-clause-moves
 returns-in-Open-clause-moves g c = λ w m.
     let was = c.in-Open.parts.flusher.store in
     let same : record { state = g.D.Disk.state was.disk; failures = g.D.Disk.failures was.disk } ≡ record { state = g.D.Disk.state c.go-event.new.self.flusher.store.disk; failures = g.D.Disk.failures c.go-event.new.self.flusher.store.disk } =
-    (λ i. record { state = g.D.Disk.state (sym c.go-event.ensures.store i).disk; failures = g.D.Disk.failures (sym c.go-event.ensures.store i).disk }) in
+    (λ i. record { state = sym c.go-event.ensures.store.0 i; failures = sym c.go-event.ensures.store.1 i }) in
     carried w c.args.step.now c.go-event.result _ _ _ _ c.in-Open.ensures (sym c.put.ensures)
     (subst (λ (d : Sight). Moves StandsFor IsSpent w c.args.step.now c.go-event.result (record { state = g.D.Disk.state was.disk; failures = g.D.Disk.failures was.disk }) d) same
     (inner_moves StandsFor IsSpent w c.args.step.now c.go-event.result _ c.requires))

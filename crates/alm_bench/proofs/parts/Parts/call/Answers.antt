@@ -1,4 +1,4 @@
-use Rattle.std.proofs.Common.{refl, ◌≡◌, ◌+◌, ◌∙◌, ◌++◌, length, ap, sym, subst, append_assoc, arith}
+use Rattle.std.proofs.Common.{refl, inl, inr, ◌≡◌, ◌+◌, ◌∙◌, ◌++◌, length, ap, sym, subst, append_assoc, arith}
 use Rattle.alm_model.specs.Judging.{IsLegal, accepted_of, entries_in, firsts_from}
 use Rattle.alm_rings.specs.Placed.{released_by}
 use Rattle.alm_rings.specs.Batches.{fetched_of, given_of}
@@ -59,12 +59,14 @@ returns-in-Failed-clause-moves g c = λ w m.
     let p = c.tell_batches.new.self in
     let o = c.tell_batches.ensures.«open» w m in
     let same = c.tell_batches.ensures.store in
-    let failed = failed_batch (g.K.Store.phase p.flusher.store) p.flusher.held c.advance.new.self.held o.going o.trying c.in-Failed.ensures.held in
-    let next = next_one p.flusher.held failed.0 (g.K.Store.stored p.flusher.store) p.flusher.board.base.value (fetched_of p.flusher.before.value) (fetched_of p.flusher.fetch) (coming_in p.flusher.fetch) (sealed_of p.sequencer.ends) p.sequencer.batch.entries failed.1
-    (subst (λ b. IsLegal b (entries_in (sealed_of p.sequencer.ends) ++ p.sequencer.batch.entries)) p.bases p.sequencer.legal)
-    (p.sequencer.firsts ∙ ap (λ b. firsts_from (b.panel.count + 1) (sealed_of p.sequencer.ends)) p.bases)
-    c.tell_batches.ensures.knows.batches p.flusher.held_is p.flusher.stored in (
+    let failed = failed_batch (g.K.Store.phase p.flusher.store) p.flusher.held c.advance.new.self.held o.going o.trying c.in-Failed.ensures.held in (
       subst (λ s. IsCalls (g.K.Store.device s) (g.K.Store.device c.advance.new.self.store)) same (c.in-Failed.ensures.call o.fits.honest),
-      λ left. subst (λ s. HasFailed (g.K.Store.failures s) (g.K.Store.failures c.advance.new.self.store)) same
-          (c.in-Failed.ensures.cause refl o.fits.honest o.going (λ spent. left (subst (λ s. g.K.Store.spent (g.K.Store.device s)) same spent)) next),
+      λ left. subst (λ s. HasFailed (g.K.Store.failures s) (g.K.Store.failures c.advance.new.self.store)) same (elim failed [
+        | inl f ↦ (let next = next_one p.flusher.held f.0 (g.K.Store.stored p.flusher.store) p.flusher.board.base.value (fetched_of p.flusher.before.value) (fetched_of p.flusher.fetch) (coming_in p.flusher.fetch) (sealed_of p.sequencer.ends) p.sequencer.batch.entries f.1
+            (subst (λ b. IsLegal b (entries_in (sealed_of p.sequencer.ends) ++ p.sequencer.batch.entries)) p.bases p.sequencer.legal)
+            (p.sequencer.firsts ∙ ap (λ b. firsts_from (b.panel.count + 1) (sealed_of p.sequencer.ends)) p.bases)
+            c.tell_batches.ensures.knows.batches p.flusher.held_is p.flusher.stored in
+            c.in-Failed.ensures.cause refl o.fits.honest o.going (λ spent. left (subst (λ s. g.K.Store.spent (g.K.Store.device s)) same spent)) next)
+        | inr f ↦ c.in-Failed.ensures.broken refl o.going f.0
+      ]),
     )

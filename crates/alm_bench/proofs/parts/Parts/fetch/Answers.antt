@@ -38,11 +38,11 @@ returns-in-Got-clause-fits g c = λ w m.
     let idle : w.stage ≡ Nothing = sym f.batches.held ∙ ap stage_of gets.0 in
     opened_as _ _ _ (ap (fetches w) (sym n.1)) (record {
       opened = o.opened;
-      going = λ e. o.going (ap g.K.Store.phase (sym same.0) ∙ e);
+      going = λ e. o.going (sym c.in-Got.ensures.words.0 ∙ e);
       trying = λ x. subst IsGivenUp gets.1.held x;
       fits = record {
-        honest = subst g.K.Store.honest (sym same.0) f.honest;
-        slots = record { requests = f.slots.requests; judged = f.slots.judged; notes = λ s. ap (λ x. notes_of (released_by s x)) (ap (λ v. v.items) same.2) ∙ f.slots.notes s; receipts = f.slots.receipts; few = f.slots.few };
+        honest = c.in-Got.ensures.honest.0 f.honest;
+        slots = record { requests = f.slots.requests; judged = f.slots.judged; notes = λ s. ap (λ x. notes_of (released_by s x)) (ap (λ v. v.items) same.1) ∙ f.slots.notes s; receipts = f.slots.receipts; few = f.slots.few };
         batches = record {
           entries = f.batches.entries;
           waiting = n.2 ∙ ap (λ l. lists_of l ++ n.0) (sym gets.1.fetched);
@@ -53,14 +53,14 @@ returns-in-Got-clause-fits g c = λ w m.
         lists = record {
           opened = f.lists.opened;
           judged_from = f.lists.judged_from;
-          stored_from = ap (λ b. b.base.value) same.1 ∙ f.lists.stored_from;
+          stored_from = ap (λ b. b.base.value) same.0 ∙ f.lists.stored_from;
           all = f.lists.all;
           kept = f.lists.kept ∙ (ap (λ h. f.lists.opened ++ accepted_of (entries_in (fetched_of mid.flusher.before.value) ++ stored_of h)) gets.0
               ∙ (ap (λ h. f.lists.opened ++ accepted_of (entries_in (fetched_of mid.flusher.before.value) ++ stored_of h)) (sym gets.1.held)
-              ∙ ap (λ e. f.lists.opened ++ accepted_of (entries_in (fetched_of e) ++ stored_of new.held)) (sym same.3)));
+              ∙ ap (λ e. f.lists.opened ++ accepted_of (entries_in (fetched_of e) ++ stored_of new.held)) (sym same.2)));
           shown = f.lists.shown ∙ (ap (λ h. f.lists.opened ++ accepted_of (entries_in (fetched_of mid.flusher.before.value) ++ shown_of h)) gets.0
               ∙ (ap (λ h. f.lists.opened ++ accepted_of (entries_in (fetched_of mid.flusher.before.value) ++ shown_of h)) (sym gets.1.held)
-              ∙ ap (λ e. f.lists.opened ++ accepted_of (entries_in (fetched_of e) ++ shown_of new.held)) (sym same.3)));
+              ∙ ap (λ e. f.lists.opened ++ accepted_of (entries_in (fetched_of e) ++ shown_of new.held)) (sym same.2)));
           enough = f.lists.enough;
         };
       };

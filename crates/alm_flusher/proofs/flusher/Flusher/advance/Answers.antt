@@ -31,7 +31,6 @@ invariant_of-self g c =
       numbers = old.numbers;
       idle = λ _. rest;
       next = λ h. absurd (rest h);
-      copy = c.in-Committed.ensures.copy;
       admitted = λ h. absurd (rest h);
       ready = ap (λ p. admits_all p (accepted_of items)) (ap (run base) shown ∙ sym stood) ∙ c.in-Committed.ensures.passed refl;
       either = ∥∥₁_map (c.in-Committed.ensures.rests refl) inl;

@@ -43,7 +43,6 @@ invariant_of-self g c =
       numbers = old.numbers;
       idle = λ _. old.idle (ap (λ h. accepted_of (waiting_of h)) was);
       next = λ p. old.next p ∙ (ap (λ h. run (g.K.Store.stored old.store) (accepted_of (waiting_of h))) was ∙ ap (λ h. run (g.K.Store.stored old.store) (accepted_of (waiting_of h))) (sym is));
-      copy = old.copy;
       admitted = λ p. ap (λ h. admits_all (g.K.Store.stored old.store) (accepted_of (waiting_of h))) is;
       ready = ap (λ h. admits_all (run (g.B.Board.base old.board) (g.B.Board.published old.board)) (accepted_of (ready_of h))) is;
       either = rw is (rw was at old.either);

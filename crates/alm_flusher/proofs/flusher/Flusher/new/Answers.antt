@@ -55,8 +55,7 @@ invariant_of-result g c =
       numbers = λ s k r is. absurd (none-some r (sym (ap (λ l. slice_get l k) (c.requires.released s)) ∙ is));
       idle = λ _ p. absurd (cc (p, c.requires.idle));
       next = λ p. absurd (cc (p, c.requires.idle));
-      copy = λ p. absurd (cc (p, c.requires.idle));
       admitted = λ p. absurd (cc (p, c.requires.idle));
       ready = refl;
-      either = ∣ inl (g.met.K.Store.idle _ c.requires.idle) ∣₁;
+      either = ∣ inl (g.met.K.Store.idle _ (λ p. absurd (cc (p, c.requires.idle))) (λ p. absurd (cc (p, c.requires.idle)))) ∣₁;
     }

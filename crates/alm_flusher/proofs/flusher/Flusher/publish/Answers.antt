@@ -30,7 +30,6 @@ invariant_of-self g c =
       numbers = old.numbers;
       idle = λ e. old.idle (ap (λ h. accepted_of (waiting_of h)) was);
       next = λ p. old.next p ∙ ap (λ h. run (g.K.Store.stored store) (accepted_of (waiting_of h))) was;
-      copy = old.copy;
       admitted = λ p. refl;
       ready = refl;
       either = rw was at old.either;

@@ -44,7 +44,6 @@ invariant_of-self g c =
       numbers = λ s j r is. old.numbers s j r (ap (λ l. slice_get l j) (sym (still s)) ∙ is);
       idle = old.idle;
       next = old.next;
-      copy = old.copy;
       admitted = old.admitted;
       ready = old.ready;
       either = old.either;

@@ -1,25 +1,55 @@
-use Rattle.std.proofs.Common.{◌≡◌, ◌+◌, ◌++◌, ◌∷◌, [], ℕ, length, arith, ap, ◌∙◌}
+use Rattle.std.proofs.Common.{true, ◌≡◌, ◌+◌, ◌^◌, ◌<◌, ◌++◌, ◌∷◌, [], ℕ, List, length, take, arith, refl, sym, ap, subst, ◌∙◌}
+use Rattle.alm_codec.specs.declared.version.Version.TheVariants.{V02}
 use Rattle.alm_codec.specs.Image.{image_text}
 use Rattle.alm_checkpoint.specs.Headers.{half_head_text}
-use Rattle.alm_keeper.specs.Keeping.{account}
-use Rattle.alm_keeper.specs.Stand.{checkpoint_text}
-use Rattle.alm_keeper.proofs.Order.{copying, rests, half_body_long}
+use Rattle.alm_checkpoint.specs.Layouts.{image_size}
+use Rattle.alm_keeper.specs.Stages.{IsResting, phase_of}
+use Rattle.alm_keeper.specs.Keeping.{Does, IsCopying}
+use Rattle.alm_keeper.proofs.Order.{rests, idle_stage, opens_does, opens_copy}
+use Rattle.alm_keeper.specs.declared.book.Book.{Book}
+use Rattle.alm_keeper.specs.declared.stage.Stage.{Stage}
+use Rattle.alm_keeper.specs.declared.stage.Work.TheVariants.{Checkpoint}
 use Rattle.alm_keeper.proofs.book.Book.begin_checkpoint.Goals as goal
+
+pub returns-clause-copies : goal.returns-clause-copies
+returns-clause-copies c =
+    let b = c.args.self.now in
+    let items = c.write_half.new.buffer.items in
+    let run : 25 + c.image_len.result ≡ 25 + image_size b.layout = ap (λ (n : ℕ). 25 + n) c.image_len.ensures in
+    record {
+      idle = idle_stage b.stage b.work (sym c.phase_of.ensures ∙ c.in-Idle.is);
+      stage = c.first_stage-self.ensures;
+      work = refl;
+      account = refl;
+      actions = refl;
+      copying = refl;
+      run = run;
+      text = ap (λ (n : ℕ). take n items) run ∙ c.write_half.ensures.text ∙ ap (λ (n : ℕ). half_head_text b.layout V02 (b.epoch + 1) n ++ image_text b.stored ++ 0 ∷ []) c.count.ensures;
+      out = refl;
+      written = refl;
+    }
 
 pub returns-clause-in_order : goal.returns-clause-in_order
 returns-clause-in_order c =
-    let i = c.requires.in_order in
     let b = c.args.self.now in
-    let text : c.write_half.new.image.items ≡ checkpoint_text (account b) = c.write_half.ensures.text ∙ ap (λ (n : ℕ). half_head_text b.layout (b.epoch + 1) n ++ image_text b.stored ++ 0 ∷ []) c.count.ensures in
+    let i = c.requires.in_order in
+    let idle = idle_stage b.stage b.work (sym c.phase_of.ensures ∙ c.in-Idle.is) in
+    let run : 25 + c.image_len.result ≡ 25 + image_size b.layout = ap (λ (n : ℕ). 25 + n) c.image_len.ensures in
+    let resting : IsResting (phase_of b.stage b.work) = subst (λ (s : Stage). IsResting (phase_of s b.work)) (sym idle) tt in
+    let first = c.first_stage-self.ensures in
+    let more : b.epoch + 1 < 2 ^ 64 = omega (arith, c.if-self.false) in
+    let new : Book = record b { stage = c.first_stage-self.result; work = Checkpoint; copying = true; buffer = c.write_half.new.buffer; run = 25 + c.image_len.result; out = 0 } in
     record {
       layout = i.layout;
       small = i.small;
       rules = i.rules;
       sizes = i.sizes;
       count = i.count;
+      first = i.first;
       gate = i.gate;
       room = i.room;
       frame = i.frame;
-      image = ap length text ∙ half_body_long b i;
-      does = copying c.first_stage-self.result b.other_open (account b) b.actions.items b.frame.items c.write_half.new.image.items b.ahead c.first_stage-self.ensures (record { more = omega (arith, c.if-self.false); text = text; same = rests b c.in-Idle.is i });
+      buffer = c.write_half.ensures.long ∙ i.buffer;
+      does = subst (λ (s : Stage). Does s Checkpoint new) (sym first) (opens_does new b.other_open refl (rests b resting i));
+      copy = subst (λ (s : Stage). IsCopying true s new) (sym first) (opens_copy new b.other_open refl more run i.first refl);
     }

@@ -11,5 +11,5 @@ invariant_of-self g c =
     let result = c.begin.result in (
       c.begin.ensures.in_order,
       still_fits old new (g.D.Disk.size c.self.inside.disk) (begun_layout result actions old new c.begin.ensures.begins) c.self.invariant.1,
-      λ honest. ∥∥₁_map (c.self.invariant.2 honest) (λ k. begun_keeps result actions old new (g.D.Disk.state c.self.inside.disk) c.begin.ensures.begins c.begin.ensures.in_order k),
+      λ honest. ∥∥₁_map (c.self.invariant.2 honest) (λ k. begun_keeps result actions old new (g.D.Disk.state c.self.inside.disk) c.begin.ensures.begins c.self.invariant.0 c.begin.ensures.in_order k),
     )

@@ -9,5 +9,5 @@ invariant_of-self g c =
     let result = c.begin_checkpoint.result in (
       c.begin_checkpoint.ensures.in_order,
       still_fits old new (g.D.Disk.size c.self.inside.disk) (copied_layout result old new c.begin_checkpoint.ensures.copies) c.self.invariant.1,
-      λ honest. ∥∥₁_map (c.self.invariant.2 honest) (λ k. copied_keeps result old new (g.D.Disk.state c.self.inside.disk) c.begin_checkpoint.ensures.copies c.begin_checkpoint.ensures.in_order k),
+      λ honest. ∥∥₁_map (c.self.invariant.2 honest) (λ k. copied_keeps result old new (g.D.Disk.state c.self.inside.disk) c.begin_checkpoint.ensures.copies c.self.invariant.0 c.begin_checkpoint.ensures.in_order k),
     )

@@ -1,8 +1,23 @@
-use Rattle.alm_keeper.proofs.Standings.{images_of, idle_of}
+use Rattle.alm_keeper.proofs.Standings.{images_of, rest_of, lengths_of, runs_of, frames_of, pieces_of, copies_of}
 use Rattle.alm_keeper.proofs.keeper.Keeper.images.Goals as goal
 
 pub returns-clause-either : goal.returns-clause-either
 returns-clause-either g c = images_of g.D.Disk.honest g.D.Disk.state c.self.inside.disk c.self.inside.book c.args.self.now c.self.view_is c.self.invariant.0 c.self.invariant.2
 
-pub returns-clause-idle : goal.returns-clause-idle
-returns-clause-idle g c = idle_of g.D.Disk.honest g.D.Disk.state c.self.inside.disk c.self.inside.book c.args.self.now c.self.view_is c.self.invariant.0 c.self.invariant.2
+pub returns-clause-rests : goal.returns-clause-rests
+returns-clause-rests g c = rest_of g.D.Disk.honest g.D.Disk.state c.self.inside.disk c.self.inside.book c.args.self.now c.self.view_is c.self.invariant.0 c.self.invariant.2
+
+pub returns-clause-lengths : goal.returns-clause-lengths
+returns-clause-lengths g c = lengths_of g.D.Disk.honest g.D.Disk.state c.self.inside.disk c.self.inside.book c.args.self.now c.self.view_is c.self.invariant.0 c.self.invariant.2
+
+pub returns-clause-runs : goal.returns-clause-runs
+returns-clause-runs g c = runs_of g.D.Disk.honest g.D.Disk.state c.self.inside.disk c.self.inside.book c.args.self.now c.self.view_is c.self.invariant.0 c.self.invariant.2
+
+pub returns-clause-frames : goal.returns-clause-frames
+returns-clause-frames g c = frames_of g.D.Disk.honest g.D.Disk.state c.self.inside.disk c.self.inside.book c.args.self.now c.self.view_is c.self.invariant.0 c.self.invariant.2
+
+pub returns-clause-pieces : goal.returns-clause-pieces
+returns-clause-pieces g c = pieces_of g.D.Disk.honest g.D.Disk.state c.self.inside.disk c.self.inside.book c.args.self.now c.self.view_is c.self.invariant.0 c.self.invariant.2
+
+pub returns-clause-copies : goal.returns-clause-copies
+returns-clause-copies g c = copies_of g.D.Disk.honest g.D.Disk.state c.self.inside.disk c.self.inside.book c.args.self.now c.self.view_is c.self.invariant.0 c.self.invariant.2

@@ -1,9 +1,9 @@
-use Rattle.std.proofs.Common.{◌≡◌, ◌∙◌, ◌++◌, ◌∷◌, [], length, ap, sym, arith}
+use Rattle.std.proofs.Common.{◌≡◌, ◌∙◌, ◌++◌, ◌∷◌, [], length, ap, sym, subst, arith}
 use Rattle.std.proofs.lemmas.List.{append-nil}
 use Rattle.alm_rings.specs.Placed.{released_by}
 use Rattle.alm_rings.specs.Batches.{fetched_of, coming_in}
 use Rattle.alm_flusher.specs.declared.held.Held.TheVariants.{Fetched}
-use Rattle.alm_stack.specs.Passing.{notes_of}
+use Rattle.alm_stack.specs.Passing.{IsReady, notes_of}
 use Rattle.alm_stack.proofs.Coming.{cancel, first_of}
 use Rattle.alm_stack.proofs.pipeline.Pipeline.fetch.Goals as goal
 
@@ -20,7 +20,7 @@ returns-in-Got-clause-fetched g c = λ _ x b is none m.
     let one : gets.batch ≡ b = first_of known (coming_in new.fetch) gets.batch b waiting gets.next in
     record {
       base = o.base;
-      board = ap (λ d. d.base.value) same.1 ∙ o.board;
+      board = ap (λ d. d.base.value) same.0 ∙ o.board;
       plant = o.plant;
       requests = o.requests;
       entries = o.entries;
@@ -28,9 +28,9 @@ returns-in-Got-clause-fetched g c = λ _ x b is none m.
       sealed = append-nil (fetched_of new.fetch) ∙ (gets.fetched ∙ (ap (λ y. before ++ y ∷ []) one ∙ (ap (λ l. before ++ l) (sym is) ∙ o.sealed)));
       held = gets.held ∙ ap Fetched one;
       free = ap length c.in-Got.ensures.ends.1 ∙ o.free;
-      replies = ap (λ v. notes_of (released_by c.args.slot v.items)) same.2 ∙ o.replies;
+      replies = ap (λ v. notes_of (released_by c.args.slot v.items)) same.1 ∙ o.replies;
       unanswered = o.unanswered;
-      idle = ap g.K.Store.phase same.0 ∙ o.idle;
+      ready = subst IsReady (sym c.in-Got.ensures.words.0) o.ready;
     }
 
 pub returns-in-Empty-clause-sure : goal.returns-in-Empty-clause-sure

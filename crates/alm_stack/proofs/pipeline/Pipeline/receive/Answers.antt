@@ -30,6 +30,6 @@ returns-in-Some-clause-received g c = λ x note is one m.
         free = o.free;
         replies = o.replies ∙ (ap (λ l. notes_of before ++ l) is ∙ (sym more ∙ sym (append-nil (notes_of (received_of new)))));
         unanswered = omega (arith, o.unanswered, one, ap length c.in-Some.ensures.requests.0, ap length c.in-Some.ensures.some, length-append before (r ∷ []));
-        idle = o.idle;
+        ready = o.ready;
       },
     )

@@ -12,7 +12,7 @@ use Rattle.alm_rings.specs.Placed.{released_by, room_by}
 use Rattle.alm_rings.specs.Batches.{sealed_of, fetched_of, given_of}
 use Rattle.alm_flusher.specs.declared.held.Held.TheVariants.{Published}
 use Rattle.alm_flusher.specs.HeldBatch.{batches_of, left_of, next_of, passed, shown_of}
-use Rattle.alm_stack.specs.Passing.{Note, note_of, notes_of}
+use Rattle.alm_stack.specs.Passing.{IsReady, Note, note_of, notes_of}
 use Rattle.alm_stack.proofs.Coming.{notes_append, notes_length}
 use Rattle.alm_stack.proofs.pipeline.Pipeline.release.Goals as goal
 
@@ -53,7 +53,7 @@ returns-in-Released-clause-released g c = λ _ x b e is one here empty none quie
         free = ap (λ f. length (given_of f)) same.3 ∙ o.free;
         replies = ap notes_of released ∙ (notes_append (released_by c.args.slot p.flusher.outboxes.items) (a.receipt ∷ []) ∙ ((λ i. o.replies i ++ told i ∷ []) ∙ ap (λ l. l ++ note ∷ []) (ap (λ l. notes_of (received_of c.tell.new.console) ++ l) quiet ∙ append-nil (notes_of (received_of c.tell.new.console)))));
         unanswered = o.unanswered;
-        idle = ap g.K.Store.phase same.0 ∙ o.idle;
+        ready = subst IsReady (sym (ap g.K.Store.phase same.0)) o.ready;
       },
       λ s other. ((c.tell.ensures.others s other).0, a.others s (λ q. other (q ∙ slot)) ∙ (c.tell.ensures.others s other).1),
     )

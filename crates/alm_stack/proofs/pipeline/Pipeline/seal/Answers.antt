@@ -32,6 +32,6 @@ returns-in-Sealed-clause-sealed g c = λ _ x e is none free m.
         free = omega (arith, o.free, free, s.free, ap spares o.spare);
         replies = o.replies;
         unanswered = o.unanswered;
-        idle = o.idle;
+        ready = o.ready;
       },
     )

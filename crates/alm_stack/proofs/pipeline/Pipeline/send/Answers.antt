@@ -25,5 +25,5 @@ returns-in-Ok-clause-sent g c = λ _ x none quiet m.
       free = o.free;
       replies = o.replies ∙ ap (λ l. notes_of l ++ x.replies) (sym same);
       unanswered = omega (arith, o.unanswered, quiet, ap length s.0, ap length same, length-append (sent_of old) (c.args.want ∷ []));
-      idle = o.idle;
+      ready = o.ready;
     }

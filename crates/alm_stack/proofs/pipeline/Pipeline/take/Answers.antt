@@ -41,6 +41,6 @@ returns-in-Taken-clause-taken g c = λ _ x want waits none m.
         free = o.free ∙ ap (λ s. length (emptied_of s) + x.free) (sym seals.1);
         replies = o.replies;
         unanswered = o.unanswered;
-        idle = o.idle;
+        ready = o.ready;
       },
     )

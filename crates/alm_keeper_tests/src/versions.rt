@@ -1,0 +1,86 @@
+//! A device of version 01 that goes on under this keeper: its bytes before and after its first checkpoint.
+
+use crate::choosers::Left;
+use crate::damage::{damaged, opened, put};
+use crate::steps::{advance, batch, begin, copies, open, stores, worked};
+use crate::worked::{SIZE, clock, device, table, value};
+use alm_codec::Version;
+use alm_disk::{Crashable, MemDisk};
+use alm_keeper::{Keeper, format_as};
+use alm_types::{Action, AlarmId, Batch};
+use std::alloc::Global;
+use std::test::Fail;
+
+/// A device of version 01 that stores CLOCK 1000 and VAL 0 800.
+fn first_version(alloc: Global) -> Result<Keeper<MemDisk>, Fail> {
+    let first = batch(alloc, 1, &[clock(1000)])?;
+    let second = batch(alloc, 2, &[value(0, 800)])?;
+    let disk = match format_as(alloc, device(alloc, SIZE)?, &table(alloc)?, Version::V01) {
+        Ok(disk) => disk,
+        Err(_) => return Err(Fail::new("not formatted")),
+    };
+    let mut keeper = open(alloc, disk)?;
+    let stored = stores(&mut keeper, &first) && stores(&mut keeper, &second);
+    worked(keeper, stored)
+}
+
+/// A batch of PRIO 0 3, action 3.
+fn priority(alloc: Global) -> Result<Batch, Fail> {
+    batch(alloc, 3, &[Action::SetPriority(AlarmId(0), 3)])
+}
+
+#[test]
+fn a_checkpoint_before_a_new_kind(rt: HostRuntime) -> Result<(), Fail> {
+    let alloc = rt.alloc();
+    let next = priority(alloc)?;
+    let mut keeper = first_version(alloc)?;
+    let before = keeper.takes(&next);
+    let copied = copies(&mut keeper);
+    let after = keeper.takes(&next);
+    let stored = stores(&mut keeper, &next);
+    let disk = keeper.into_disk();
+    assert_eq!(rt; [before, copied, after, stored], [false, true, true, true]);
+    let name = *b"ALMSRV01";
+    assert_eq!(rt; disk.bytes().get(1..9), Some(name.as_slice()));
+    let head = [
+        0xa5, 0, 0, 0, 0, 0, 0, 0, 2, 2, 0, 0, 0, 0, 0, 0, 2, 0, 0, 0, 0, 0, 0, 0x28, 0x6a,
+    ];
+    assert_eq!(rt; disk.bytes().get(14_510..14_535), Some(head.as_slice()));
+    let frame = [
+        0xa5, 0, 0, 0, 0, 0, 0, 0, 2, 0, 0, 0, 0, 0, 0, 0, 3, 0, 1, 9, 0, 0, 0, 0, 0, 0, 0, 0, 0,
+        0, 0, 0, 0, 0, 3, 0,
+    ];
+    assert_eq!(rt; disk.bytes().get(24_881..24_917), Some(frame.as_slice()));
+    Ok(())
+}
+
+#[test]
+fn crashes_of_the_first_checkpoint(rt: HostRuntime) -> Result<(), Fail> {
+    let alloc = rt.alloc();
+    let next = priority(alloc)?;
+    let mut keeper = first_version(alloc)?;
+    let copied = copies(&mut keeper);
+    let keeper = open(alloc, keeper.into_disk().crash(&mut Left::Every(0)))?;
+    let found = (keeper.count(), keeper.epoch());
+    let mut keeper = worked(keeper, copied)?;
+    let begun = begin(&mut keeper, &next);
+    advance(&mut keeper, 4);
+    let keeper = open(alloc, keeper.into_disk().crash(&mut Left::Every(0)))?;
+    let stored = (keeper.count(), keeper.epoch());
+    drop(keeper);
+    assert_eq!(rt; found, (2, 2));
+    assert_eq!(rt; begun, Some(Ok(())));
+    assert_eq!(rt; stored, (3, 2));
+    Ok(())
+}
+
+#[test]
+fn a_new_kind_in_an_old_half(rt: HostRuntime) -> Result<(), Fail> {
+    let alloc = rt.alloc();
+    let mut disk = first_version(alloc)?.into_disk();
+    put(&mut disk, 10_413, 9);
+    let (found, disk) = opened(alloc, disk);
+    drop(disk);
+    assert_eq!(rt; found, damaged(0, 10_413));
+    Ok(())
+}
