@@ -2,7 +2,8 @@
      client PORT load LINES WINDOW MOMENT   18 connections with so many lines each, so many of them unanswered at a time:
                                             prints seconds, requests, accepted; with one at a time also the 99th latency of a
                                             request and the greatest, in microseconds
-     client PORT lone LINES                 the feed alone, one line at a time: prints p50 and p99 in microseconds, accepted
+     client PORT lone LINES                 the feed alone, one line at a time: prints p50, p99 and the greatest in microseconds,
+                                            accepted
      client PORT idle SECONDS               18 connections that say nothing
    Each line is accepted in whatever order the slots come, so that either server has the same to do: the clock moves, the feed's
    alarm comes and goes, and each console takes an alarm of its own out of service and back. An even number of lines leaves the
@@ -132,7 +133,7 @@ static void lone(long lines) {
         took[i] = (now() - begin) * 1e6;
     }
     qsort(took, lines, sizeof *took, by_size);
-    printf("%.0f %.0f %ld\n", took[lines / 2], took[lines * 99 / 100], clients[FEED].accepted);
+    printf("%.0f %.0f %.0f %ld\n", took[lines / 2], took[lines * 99 / 100], took[lines - 1], clients[FEED].accepted);
 }
 
 int main(int count, char **words) {

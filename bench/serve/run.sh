@@ -3,15 +3,11 @@
 # sleeps 0.2 ms (sync.c). Words: how many turns (3), lines of a client with one request out (2000), with 64 (20000), of a lone
 # client (2000), all even, seconds of idleness (10), the first port (25000), a folder on a memory file system (/dev/shm).
 set -eu
-top=$(cd "$(dirname "$0")/../.." && pwd)
 turns=${1:-3} one=${2:-2000} many=${3:-20000} alone=${4:-2000} idle=${5:-10} port=${6:-25000}
 folder=$(mktemp -d "${7:-/dev/shm}/serve.XXXXXX")
-server=
-trap '[ -z "$server" ] || kill "$server" 2>/dev/null; rm -rf "$folder"' EXIT
+. "$(dirname "$0")/servers.sh"
 program=$top/crates/alm_server/out/alm_server
 cc -O2 -pthread -o "$folder/plain" "$top/bench/serve/plain.c"
-cc -O2 -o "$folder/client" "$top/bench/serve/client.c"
-cc -O2 -shared -fPIC -o "$folder/sync.so" "$top/bench/serve/sync.c"
 # The worked plant with a long segment, and more alarms: one for each console.
 {
     sed 's/^size = .*/size = 40000000/' "$top/examples/plant.toml"
@@ -20,34 +16,20 @@ cc -O2 -shared -fPIC -o "$folder/sync.so" "$top/bench/serve/sync.c"
     done
 } >"$folder/plant.toml"
 
-# Starts a server on an empty device and waits until it serves.
+# Starts a server on an empty device.
 start() {
-    rm -f "$folder"/device "$folder"/count "$folder"/said
-    local words=("$folder/plain" "$folder/device" "$port")
     if [ "$1" = ours ]; then
-        "$program" format "$folder/device" "$folder/plant.toml" >/dev/null
-        words=("$program" serve "$folder/device" --port "$port")
+        start_ours "$program"
+    else
+        rm -f "$folder"/device "$folder"/count "$folder"/said
+        serve "$folder/plain" "$folder/device" "$port"
     fi
-    SYNC_COUNT="$folder/count" LD_PRELOAD="$folder/sync.so" "${words[@]}" >"$folder/said" &
-    server=$!
-    until grep -q serving "$folder/said"; do
-        kill -0 "$server"
-        sleep 0.1
-    done
-}
-
-stop() {
-    kill "$server"
-    wait "$server" 2>/dev/null || true
-    server=
 }
 
 syncs() { od -An -tu8 "$folder/count" | tr -d ' '; }
 
 # User and system time of the server so far, in clock ticks.
 ticks() { awk '{ print $14 + $15 }' "/proc/$server/stat"; }
-
-note() { echo "$who $*" >>"$folder/figures"; }
 
 # 18 clients with so many lines each and so many out: requests a second, the processor's time for each, commits.
 load() {
@@ -67,7 +49,7 @@ measure() {
     start "$who"
     load one_out "$one" 1 1
     load 64_out "$many" 64 1000000
-    read -r p50 p99 accepted <<<"$("$folder/client" "$port" lone "$alone")"
+    read -r p50 p99 _ accepted <<<"$("$folder/client" "$port" lone "$alone")"
     [ "$accepted" = "$alone" ]
     note lone_p50_us "$p50"
     note lone_p99_us "$p99"
@@ -85,23 +67,4 @@ measure() {
 for turn in $(seq "$turns"); do
     for who in ours plain; do measure; done
 done
-# The median of the turns of each figure, and their range.
-awk '
-    {
-        key = $2
-        if (!(key in seen)) { seen[key] = 1; order[++keys] = key }
-        for (i = n[$1, key]++; i > 0 && value[$1, key, i] > $3; i--) value[$1, key, i + 1] = value[$1, key, i]
-        value[$1, key, i + 1] = $3 + 0
-    }
-    function median(who, key) { return value[who, key, int((n[who, key] + 1) / 2)] }
-    function range(who, key) { return value[who, key, 1] " to " value[who, key, n[who, key]] }
-    END {
-        printf "%-26s %9s %9s %6s   %-22s %s\n", "median", "ours", "plain", "ratio", "ours in all turns", "plain in all turns"
-        for (i = 1; i <= keys; i++) {
-            key = order[i]
-            ours = median("ours", key)
-            plain = median("plain", key)
-            ratio = plain ? sprintf("%.2f", ours / plain) : "-"
-            printf "%-26s %9s %9s %6s   %-22s %s\n", key, ours, plain, ratio, range("ours", key), range("plain", key)
-        }
-    }' "$folder/figures"
+print_figures plain

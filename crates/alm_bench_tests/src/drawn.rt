@@ -18,14 +18,14 @@ const SHORT: (u32, u32) = (10_000, 60);
 /// More calls than a run makes.
 const CALLS: usize = 5000;
 
-fn random(seed: u64) -> u64 {
+pub fn random(seed: u64) -> u64 {
     let a = seed ^ (seed << 13);
     let b = a ^ (a >> 7);
     b ^ (b << 17)
 }
 
 /// A number below a bound, from some bits of a drawn one.
-fn below(drawn: u64, shift: u32, bound: u32) -> u32
+pub fn below(drawn: u64, shift: u32, bound: u32) -> u32
     requires { 0 < bound }
 {
     (drawn.wrapping_shr(shift) % bound as u64) as u32
@@ -141,7 +141,11 @@ fn steps(alloc: Global, seed: u64, count: u32) -> Result<Vec<Step>, Fail> {
 }
 
 /// The first place where a trace isn't the world's.
-fn differs_at(world: &mut World, steps: &[Step], trace: &[Event]) -> Result<Option<usize>, Fail> {
+pub fn differs_at(
+    world: &mut World,
+    steps: &[Step],
+    trace: &[Event],
+) -> Result<Option<usize>, Fail> {
     if trace.len() != steps.len() {
         return Ok(Some(trace.len()));
     }

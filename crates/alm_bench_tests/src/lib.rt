@@ -3,7 +3,9 @@
 //! | module | what it runs |
 //! |---|---|
 //! | `rows` | the worked course of one action, crashes within its commit, a failure of the device, a refusal behind an action |
+//! | `pieces` | a crash after each call of three commits between which a checkpoint goes out in pieces |
 //! | `drawn` | drawn steps of four slots with crashes at drawn calls and drawn bytes: the trace is that of a world kept here |
+//! | `rounds` | drawn rounds of large batches, so that a checkpoint is often open, with a crash after each of their calls |
 //! | `world` | that world: plain vectors beside the plain plant |
 //!
 //! They stand in a crate of their own, since a crate with tests is proved twice. Expected answers are those of the worked rows, or
@@ -12,6 +14,10 @@
 
 #[cfg(test)]
 mod drawn;
+#[cfg(test)]
+mod pieces;
+#[cfg(test)]
+mod rounds;
 #[cfg(test)]
 mod rows;
 #[cfg(test)]

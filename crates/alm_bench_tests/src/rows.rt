@@ -292,24 +292,29 @@ fn tick(
     Ok(())
 }
 
-/// A segment of 4,116 bytes takes 117 frames of one action, each of 35 bytes, and a closed gate behind them. The next commit begins with a
-/// checkpoint, which is four calls.
+/// A segment of 4,116 bytes is more than half full behind 59 frames of one action, each of 35 bytes: the 59th commit opens a checkpoint,
+/// and so does the 59th of the next half. The whole body is one piece, which no commit follows, so the checkpoint ends before the next
+/// commit: four calls, and two more to close the gate of a half that stood before.
 #[test]
-fn a_full_segment_makes_a_checkpoint_first(rt: HostRuntime) -> Result<(), Fail> {
+fn a_segment_half_full_makes_a_checkpoint(rt: HostRuntime) -> Result<(), Fail> {
     let alloc = rt.alloc();
     let clock = Slot::new(17).ok_or("slot")?;
     let mut steps = Vec::new(alloc);
     let mut wanted = Vec::new(alloc);
     steps.push(Step::Reopen)?;
     wanted.push(Event::Opened(0))?;
-    for turn in 1..=119 {
-        let calls = if turn == 118 { 8 } else { 4 };
+    for turn in 1..=120 {
+        let calls = match turn {
+            60 => 8,
+            119 => 10,
+            _ => 4,
+        };
         tick(&mut steps, &mut wanted, clock, turn, calls)?;
     }
     steps.push(Step::Crash(Vec::new(alloc)))?;
     wanted.push(Event::Crashed)?;
     steps.push(Step::Reopen)?;
-    wanted.push(Event::Opened(119))?;
+    wanted.push(Event::Opened(120))?;
     assert_eq!(rt; differs_at(&trace(alloc, CALLS, &steps)?, &wanted), None);
     Ok(())
 }

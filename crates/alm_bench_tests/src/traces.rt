@@ -4,6 +4,7 @@ use alm_bench::{Event, Step, whole_life};
 use alm_disk::MemDisk;
 use alm_keeper::format;
 use alm_service::worked_table;
+use alm_types::Table;
 use std::alloc::Global;
 use std::test::Fail;
 
@@ -20,11 +21,29 @@ pub fn formatted(alloc: Global, calls: usize) -> Result<MemDisk, Fail> {
     }
 }
 
+/// A table of so many alarms in 2 areas, each like the worked table's first.
+pub fn alike(alloc: Global, alarms: usize) -> Result<Table, Fail> {
+    let first = *worked_table(alloc)?.alarms().first().ok_or("an alarm")?;
+    match Table::new(vec![in alloc; first; alarms]?, 2) {
+        Ok(table) => Ok(table),
+        Err(_) => Err("a table".into()),
+    }
+}
+
 /// The trace of these steps on a device that is formatted for the worked table, and of which so many calls go well.
 pub fn trace(alloc: Global, calls: usize, steps: &[Step]) -> Result<Vec<Event>, Fail> {
-    let table = worked_table(alloc)?;
-    let disk = MemDisk::new(alloc, vec![in alloc; 0u8; SIZE]?, calls)?;
-    Ok(whole_life(alloc, disk, &table, steps).ok().ok_or("a run")?)
+    trace_on(alloc, &worked_table(alloc)?, (SIZE, calls), steps)
+}
+
+/// The same on a device of so many bytes that is formatted for a table.
+pub fn trace_on(
+    alloc: Global,
+    table: &Table,
+    (size, calls): (usize, usize),
+    steps: &[Step],
+) -> Result<Vec<Event>, Fail> {
+    let disk = MemDisk::new(alloc, vec![in alloc; 0u8; size]?, calls)?;
+    Ok(whole_life(alloc, disk, table, steps).ok().ok_or("a run")?)
 }
 
 /// The first place where a trace isn't the one that is wanted.

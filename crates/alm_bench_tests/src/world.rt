@@ -52,12 +52,14 @@ pub struct World {
     published: u64,
     floor: u64,
     closed: bool,
+    /// How many calls of a checkpoint may go before the calls of a commit.
+    before: u32,
     /// Counts that a closed device may stand for.
     sure: u64,
     may: u64,
 }
 
-/// How many device calls a commit takes.
+/// How many device calls a commit takes, beside those of a checkpoint before it.
 const COMMIT: u32 = 4;
 
 /// The lines of all slots, on which nothing was sent.
@@ -88,8 +90,13 @@ fn exists(query: &Query) -> bool {
 }
 
 impl World {
-    /// A closed world with the new plant of a table.
+    /// A closed world with the new plant of a table, in which no checkpoint is made.
     pub fn new(alloc: Global, table: Table) -> Result<Self, AllocError> {
+        Self::with_checkpoints(alloc, table, 0)
+    }
+
+    /// The same, in which so many calls of a checkpoint may go before the calls of a commit.
+    pub fn with_checkpoints(alloc: Global, table: Table, before: u32) -> Result<Self, AllocError> {
         Ok(World {
             alloc,
             plant: PlainPlant::new(alloc, &table)?,
@@ -105,12 +112,14 @@ impl World {
             published: 0,
             floor: 0,
             closed: true,
+            before,
             sure: 0,
             may: 0,
         })
     }
 
-    /// What a step answers, where this was seen: it decides which image a crash left, where there are two.
+    /// What a step answers, where this was seen: it decides which image a crash left, where there are two, and how many calls of a
+    /// checkpoint there were.
     pub fn answers(&mut self, step: &Step, seen: Event) -> Result<Event, AllocError> {
         match step {
             Step::Crash(bytes) => Ok(self.crash(bytes.is_empty())),
@@ -119,19 +128,19 @@ impl World {
                 if self.closed {
                     Ok(Event::Skipped)
                 } else {
-                    self.goes(open)
+                    self.goes(open, seen)
                 }
             }
         }
     }
 
-    fn goes(&mut self, step: &Step) -> Result<Event, AllocError> {
+    fn goes(&mut self, step: &Step, seen: Event) -> Result<Event, AllocError> {
         match step {
             Step::Send(slot, action) => self.send(*slot, *action),
             Step::Take(slot) => self.take(*slot),
             Step::Seal => self.seal(),
             Step::Fetch => Ok(self.fetch()),
-            Step::Call => Ok(self.call()),
+            Step::Call => Ok(self.call(seen)),
             Step::Publish => Ok(self.publish()),
             Step::Release => self.release(),
             Step::GiveBack => Ok(self.give_back()),
@@ -218,19 +227,29 @@ impl World {
         }
     }
 
-    fn call(&mut self) -> Event {
+    fn call(&mut self, seen: Event) -> Event {
         let Stage::Held(made) = self.stage else {
-            return Event::Skipped;
+            return self.call_without_a_batch(seen);
         };
         let made = made.wrapping_add(1);
         let last = self.last_number();
-        if last == self.stored || made == COMMIT {
+        let may_end = made >= COMMIT && seen == Event::Committed;
+        if last == self.stored || may_end || made == self.before.wrapping_add(COMMIT) {
             self.stored = last;
             self.stage = Stage::Stored;
             return Event::Committed;
         }
         self.stage = Stage::Held(made);
         Event::More
+    }
+
+    /// A checkpoint may go on.
+    fn call_without_a_batch(&self, seen: Event) -> Event {
+        if self.before > 0 && seen == Event::More {
+            Event::More
+        } else {
+            Event::Skipped
+        }
     }
 
     fn publish(&mut self) -> Event {
@@ -298,15 +317,22 @@ impl World {
         Event::Looked(self.published)
     }
 
+    fn is_before_the_last_call(&self) -> bool {
+        match self.stage {
+            Stage::Held(made) => made >= COMMIT - 1,
+            _ => false,
+        }
+    }
+
     /// The power fails; the pending bytes stay as they read, or some of them become other bytes.
     fn crash(&mut self, as_read: bool) -> Event {
         if !self.closed {
             self.sure = self.stored;
             self.may = self.stored;
-            // The gate of the batch is written, and not yet synced.
-            if self.stage == Stage::Held(3) {
+            // The gate of the batch may be written, and not yet synced.
+            if self.is_before_the_last_call() {
                 self.may = self.last_number();
-                if as_read {
+                if as_read && self.before == 0 {
                     self.sure = self.may;
                 }
             }

@@ -14,6 +14,9 @@ const AREAS: u32 = 64;
 /// How many actions a batch has.
 const ACTIONS: u32 = 256;
 
+/// More calls than the longest work makes: a checkpoint of 51 pieces.
+const MOST_CALLS: u32 = 64;
+
 /// A table of so many alarms in 64 areas.
 pub fn table(alloc: Global, alarms: u32) -> Result<Table> {
     let mut attrs = Vec::with_capacity(alloc, alarms as usize)?;
@@ -59,7 +62,7 @@ fn fill(batch: &mut Batch, alarms: u32, turn: u32) {
 
 /// The calls of the work that is begun; 1 where it was done.
 fn finish<D: Disk + Drop>(keeper: &mut Keeper<D>) -> u32 {
-    for _call in 0..6 {
+    for _call in 0..MOST_CALLS {
         if keeper.is_working() {
             match keeper.advance() {
                 Progress::More => {}
@@ -72,8 +75,7 @@ fn finish<D: Disk + Drop>(keeper: &mut Keeper<D>) -> u32 {
 }
 
 fn commit<D: Disk + Drop>(keeper: &mut Keeper<D>, batch: &Batch) -> u32 {
-    let actions = accepted_in(batch);
-    if actions == 0 || !keeper.fits(actions) {
+    if accepted_in(batch) == 0 || !keeper.takes(batch) {
         return 0;
     }
     match keeper.begin(batch) {

@@ -17,14 +17,16 @@ use std::sync::atomic::Ordering;
 /// How often the same publish is refused before the run stops.
 const REFUSALS: u64 = 1000;
 
+/// How many turns in a row find no batch before an open checkpoint goes on, a piece a sleep. Where batches come, each takes a piece along:
+/// pieces that went out between them would all wait for the next one's sync.
+const REST: u32 = 66;
+
 // What a pass found.
 #[derive(Clone, Copy, Debug, PartialEq, Eq)]
 enum Pass {
     Work,
     // No sealed batch was there.
     Empty,
-    // No sealed batch was there, and an open checkpoint went on.
-    Copied,
     // The console of the next receipt has no room for it.
     Full,
     Stopped,
@@ -79,23 +81,23 @@ fn answer<K: Store, T: Told + Drop, B: Board<Told = T>, E: Bell + Drop>(
     Pass::Work
 }
 
-// One step of each kind.
+// One step of each kind, behind so many turns that found nothing to do.
 fn step<K: Store, T: Told + Drop, B: Board<Told = T> + Publish<R>, E: Bell + Drop, R: Wait>(
     rt: &R,
     flags: &Flags<E>,
     flusher: &mut Flusher<K, T, B>,
     refused: &mut u64,
+    idle: u32,
 ) -> Pass
     ensures fetch { SameFetchEnds flusher.old.fetch flusher.new.fetch }
     ensures outboxes { (s : ℕ) → SameOutboxAt (outbox_at s flusher.old.outboxes.items) (outbox_at s flusher.new.outboxes.items) }
     ensures base { B.Board.base flusher.new.board ≡ B.Board.base flusher.old.board }
 {
     if flusher.fetch() == Fetch::Empty {
-        return match flusher.advance() {
-            Advance::More => Pass::Copied,
-            Advance::Failed => Pass::Stopped,
-            Advance::Committed | Advance::Nothing => Pass::Empty,
-        };
+        if idle >= REST && flusher.advance() == Advance::Failed {
+            return Pass::Stopped;
+        }
+        return Pass::Empty;
     }
     // Replies that wait come before the pieces of a checkpoint.
     if flusher.next().is_none() && commit(rt, flusher, refused) == Pass::Stopped {
@@ -124,19 +126,9 @@ pub fn flush<K: Store, T: Told + Drop, B: Board<Told = T> + Publish<R>, E: Bell 
         }
         // Before the fetch: what was sealed then is found by it.
         let last = flags.sealed.load(Ordering::SeqCst);
-        match step(rt, flags, flusher, &mut refused) {
+        match step(rt, flags, flusher, &mut refused, idle) {
             Pass::Work => {
                 idle = 0;
-                continue;
-            }
-            Pass::Copied => {
-                if flags.out.swap(false, Ordering::SeqCst) {
-                    flags.sequencer.ring();
-                }
-                idle = 0;
-                if last {
-                    break;
-                }
                 continue;
             }
             Pass::Empty => {

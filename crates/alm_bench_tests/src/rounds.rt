@@ -1,0 +1,192 @@
+//! Drawn rounds of four consoles: each seals one large batch, of which two or three fill half a segment, so that a checkpoint is open
+//! before many of the commits.
+
+use crate::drawn::{below, differs_at, random};
+use crate::traces::{alike, trace_on};
+use crate::world::World;
+use alm_bench::{Event, Step};
+use alm_types::{Action, AlarmId, Reading, Slot, Table};
+use std::alloc::Global;
+use std::test::Fail;
+
+/// A checkpoint of 360 alarms has two pieces.
+const ALARMS: u32 = 360;
+
+/// How long the device is, and more calls than a run makes on it.
+const DEVICE: (usize, usize) = (158_581, 1000);
+
+/// The most calls of a checkpoint before a commit: the other half's gate and its sync, two pieces, a sync, the gate and its sync.
+const BEFORE: u32 = 7;
+
+/// How many rounds a run has before its crash, of 3 to 7 calls each, and how many runs are drawn.
+const ROUNDS: u32 = 24;
+
+/// How many actions a batch has.
+const FEWEST: u32 = 40;
+
+const MOST: u32 = 120;
+
+/// How many calls the rounds before a crash make, at most.
+const MOST_CALLS: u32 = 168;
+
+const RUNS: u32 = 40;
+
+const SEED: u64 = 88_172_645_463_325_252;
+
+/// Where the bytes may be pending that a crash changes: the segment of half 0 and its end, half 1 and its run, and its segment.
+const PLACES: [u64; 4] = [75_186, 79_302, 79_310, 154_465];
+
+/// What is drawn of a run, and how many setpoints were sent.
+#[derive(Clone, Copy)]
+struct Course {
+    drawn: u64,
+    sent: u32,
+}
+
+/// The console whose turn it is.
+fn console(number: u32) -> Result<Slot, Fail> {
+    Ok(Slot::new((number % 4) as u8).ok_or("slot")?)
+}
+
+/// A setpoint that its alarm never had.
+fn setpoint(number: u32) -> Result<Action, Fail> {
+    let setpoint = Reading::new(1000 + number as i64).ok_or("reading")?;
+    Ok(Action::SetSetpoint(AlarmId(number % ALARMS), setpoint))
+}
+
+/// A drawn number of setpoints, sealed as one batch; a batch is fetched, so many device calls are made, and its replies go out.
+fn round(steps: &mut Vec<Step>, course: Course, calls: u32) -> Result<Course, Fail> {
+    let actions = FEWEST + below(course.drawn, 7, MOST - FEWEST);
+    for number in 0..actions {
+        let console = console(number)?;
+        let action = setpoint(course.sent.wrapping_add(number))?;
+        steps.push(Step::Send(console, action))?;
+        steps.push(Step::Take(console))?;
+    }
+    steps.push(Step::Seal)?;
+    steps.push(Step::Fetch)?;
+    for _call in 0..calls {
+        steps.push(Step::Call)?;
+    }
+    steps.push(Step::Publish)?;
+    for number in 0..MOST {
+        steps.push(Step::Release)?;
+        steps.push(Step::Receive(console(number)?))?;
+    }
+    steps.push(Step::GiveBack)?;
+    Ok(Course {
+        drawn: random(course.drawn),
+        sent: course.sent.wrapping_add(actions),
+    })
+}
+
+/// Pending bytes near a place, of which each becomes a closed gate, an open one or another byte.
+fn bytes(alloc: Global, drawn: u64) -> Result<Vec<(u64, u8)>, Fail> {
+    let mut bytes = Vec::new(alloc);
+    let from = match PLACES.get(below(drawn, 30, 4) as usize) {
+        Some(place) => place.wrapping_add(below(drawn, 40, 64) as u64),
+        None => 0,
+    };
+    let byte = match below(drawn, 16, 3) {
+        0 => 0x00,
+        1 => 0xA5,
+        _ => 0x3C,
+    };
+    for place in 0..below(drawn, 24, 200) as u64 {
+        bytes.push((from.wrapping_add(place), byte))?;
+    }
+    Ok(bytes)
+}
+
+/// Rounds of a drawn number of calls, no more than so many in all; a crash, and two rounds on what it left.
+fn steps(alloc: Global, seed: u64, calls: u32) -> Result<Vec<Step>, Fail> {
+    let mut steps = Vec::new(alloc);
+    let mut course = Course {
+        drawn: random(seed),
+        sent: 0,
+    };
+    let mut left = calls;
+    steps.push(Step::Reopen)?;
+    for _round in 0..ROUNDS {
+        let made = left.min(3 + below(course.drawn, 11, 5));
+        left = left.wrapping_sub(made);
+        course = round(&mut steps, course, made)?;
+    }
+    let bytes = bytes(alloc, course.drawn.wrapping_add(calls as u64))?;
+    steps.push(Step::Crash(bytes))?;
+    steps.push(Step::Reopen)?;
+    for _round in 0..2 {
+        course = round(&mut steps, course, BEFORE + 4)?;
+    }
+    steps.push(Step::Crash(Vec::new(alloc)))?;
+    steps.push(Step::Reopen)?;
+    Ok(steps)
+}
+
+/// The first place where the trace of a run with so many calls before its crash isn't the world's.
+fn run_differs_at(alloc: Global, seed: u64, calls: u32) -> Result<Option<usize>, Fail> {
+    let table = alike(alloc, ALARMS as usize)?;
+    let steps = steps(alloc, seed, calls)?;
+    let trace = trace_on(alloc, &table, DEVICE, &steps)?;
+    let mut world = World::with_checkpoints(alloc, table, BEFORE)?;
+    differs_at(&mut world, &steps, &trace)
+}
+
+/// How many commits a trace has, and how many of them took more than their own four calls.
+fn commits(trace: &[Event]) -> (u32, u32) {
+    let mut commits = 0u32;
+    let mut behind_pieces = 0u32;
+    let mut calls = 0u32;
+    for event in trace {
+        match event {
+            Event::Fetched => calls = 0,
+            Event::More => calls = calls.wrapping_add(1),
+            Event::Committed => {
+                commits = commits.wrapping_add(1);
+                behind_pieces = behind_pieces.wrapping_add(u32::from(calls > 3));
+            }
+            _ => {}
+        }
+    }
+    (commits, behind_pieces)
+}
+
+#[test]
+fn a_crash_after_each_call(rt: HostRuntime) -> Result<(), Fail> {
+    for calls in 0..MOST_CALLS {
+        assert_eq!(rt;
+            run_differs_at(rt.alloc(), SEED, calls)?,
+            None,
+            "after {calls}"
+        );
+    }
+    Ok(())
+}
+
+#[test]
+fn drawn_runs_answer_as_the_world_does(rt: HostRuntime) -> Result<(), Fail> {
+    let mut seed = SEED;
+    for _run in 0..RUNS {
+        seed = random(seed);
+        assert_eq!(rt;
+            run_differs_at(rt.alloc(), seed, MOST_CALLS)?,
+            None,
+            "seed {seed}"
+        );
+    }
+    Ok(())
+}
+
+#[test]
+fn many_commits_stand_behind_pieces(rt: HostRuntime) -> Result<(), Fail> {
+    let alloc = rt.alloc();
+    let steps = steps(alloc, SEED, MOST_CALLS)?;
+    let trace = trace_on(alloc, &alike(alloc, ALARMS as usize)?, DEVICE, &steps)?;
+    let (commits, behind_pieces) = commits(&trace);
+    assert!(rt; commits >= ROUNDS, "{commits}");
+    assert!(rt;
+        2 * behind_pieces >= commits,
+        "{behind_pieces} of {commits}"
+    );
+    Ok(())
+}
