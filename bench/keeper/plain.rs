@@ -17,6 +17,7 @@ const ALARM: usize = 182;
 const IMAGE: usize = 16 + AREA * AREAS + ALARM * ALARMS;
 const SEGMENT: usize = 16_777_216;
 const HALF: usize = 25 + IMAGE + SEGMENT;
+const PIECE: usize = 65_536;
 const OPEN: u8 = 0xA5;
 const COMMITS: u32 = 4077;
 const CHECKPOINTS: u32 = 20;
@@ -199,7 +200,9 @@ fn main() {
     let start = Instant::now();
     for _ in 0..CHECKPOINTS {
         copy.copy_from_slice(black_box(&image));
-        file.write_all_at(&copy, 1).expect("a body");
+        for (number, piece) in copy.chunks(PIECE).enumerate() {
+            file.write_all_at(piece, 1 + (PIECE * number) as u64).expect("a piece");
+        }
         file.sync_data().expect("a sync");
         file.write_all_at(&[OPEN], 0).expect("a gate");
         file.sync_data().expect("a sync");

@@ -12,7 +12,8 @@ program=${9:-$top/crates/alm_server/out/alm_server}
 {
     printf 'size = 7483711\nareas = 64\n'
     for alarm in $(seq 0 16383); do
-        printf '\n[[alarm]]\nkind = "high"\nsetpoint = 800\npriority = %d\narea = %d\n' $((alarm % 4 + 1)) $((alarm % 64))
+        printf '\n[[alarm]]\nkind = "high"\nsetpoint = 800\npriority = %d\narea = %d\ntag = "T-%d"\n' \
+            $((alarm % 4 + 1)) $((alarm % 64)) "$alarm"
     done
 } >"$folder/plant.toml"
 

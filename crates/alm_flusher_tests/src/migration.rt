@@ -18,11 +18,13 @@ const SIZE: usize = 28_997;
 const CALLS: usize = 64;
 
 /// A slot's first action is judged, and sealed in a batch of its own.
-fn sealed(slot: Slot, action: Action) -> [(Call, Outcome); 3] {
-    let verdict = Verdict::Accepted(action);
+fn sealed(slot: Slot, action: &Action) -> [(Call, Outcome); 3] {
     [
-        (Call::Send(slot, action), Outcome::Sent(Some(1))),
-        (Call::Take(slot), Outcome::Took(Take::Taken(verdict))),
+        (Call::Send(slot, *action), Outcome::Sent(Some(1))),
+        (
+            Call::Take(slot),
+            Outcome::Took(Take::Taken(Verdict::Accepted(*action))),
+        ),
         (Call::Seal, Outcome::Sealed(Seal::Sealed)),
     ]
 }
@@ -49,11 +51,11 @@ fn played(alloc: Global, steps: u32) -> Result<Played, Fail> {
     let starts = Action::Clock(Moment::new(1000).ok_or("moment")?);
     let comes = Action::Value(AlarmId(0), Reading::new(800).ok_or("reading")?);
     let mut course = Vec::new(alloc);
-    course.extend_from_slice(&sealed(clock, starts))?;
+    course.extend_from_slice(&sealed(clock, &starts))?;
     course.extend_from_slice(&stored(clock, starts, 1))?;
-    course.extend_from_slice(&sealed(feed, comes))?;
+    course.extend_from_slice(&sealed(feed, &comes))?;
     course.extend_from_slice(&stored(feed, comes, 2))?;
-    course.extend_from_slice(&sealed(console, Action::SetPriority(AlarmId(0), 3)))?;
+    course.extend_from_slice(&sealed(console, &Action::SetPriority(AlarmId(0), 3)))?;
     course.push((Call::Fetch, Outcome::Fetched(Fetch::Got)))?;
     for step in 1..=steps {
         let advance = if step == 8 {
