@@ -56,11 +56,22 @@ fn formatted(alloc: Global, calls: usize) -> Result<MemDisk, AllocError> {
 }
 
 /// The stack over a device that fails behind so many calls, those of its format included. An error, too, where it isn't opened.
-pub fn open_stack(alloc: Global, calls: usize) -> Result<DeviceStack, AllocError> {
+fn open_stack(alloc: Global, calls: usize) -> Result<DeviceStack, AllocError> {
     let disk = formatted(alloc, calls)?;
     match Stack::open(alloc, disk) {
         Ok(stack) => Ok(DeviceStack { stack }),
         Err(_) => Err(AllocError),
+    }
+}
+
+/// Whether the stack is opened over a device that fails behind so many calls.
+pub fn opens(alloc: Global, calls: usize) -> bool {
+    match open_stack(alloc, calls) {
+        Ok(stack) => {
+            drop(stack);
+            true
+        }
+        Err(_) => false,
     }
 }
 

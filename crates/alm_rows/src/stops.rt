@@ -1,6 +1,6 @@
 //! A desk over a device that stops.
 
-use crate::device_desk::{answers, open_stack};
+use crate::device_desk::{answers, opens};
 use std::test::Fail;
 
 /// Three actions, four device calls each, a query and a line that is none.
@@ -23,7 +23,8 @@ const OPENING: usize = 6;
 fn a_device_that_stops_answers_nothing_any_more(rt: HostRuntime) -> Result<(), Fail> {
     let alloc = rt.alloc();
     for calls in 0..OPENING {
-        assert!(rt; open_stack(alloc, FORMAT + calls).is_err(), "{calls} calls");
+        let opened = opens(alloc, FORMAT + calls);
+        assert!(rt; !opened, "{calls} calls");
     }
     for calls in 0..14 {
         let done = (calls / 4).min(3);
