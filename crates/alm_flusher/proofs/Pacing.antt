@@ -1,11 +1,10 @@
 -- How the calls of a store keep its pace.
-use Rattle.std.proofs.Common.{◌≡◌, ◌≢◌, ◌⊎◌, inl, inr, ⊎_elim, ℕ, ◌+◌, ◌*◌, ◌<◌, ◌≤◌, ◌++◌, List, [], ◌∷◌, length, Option, Some, None, IsSome, refl, sym, ◌∙◌, ap, subst, arith, length-append}
+use Rattle.std.proofs.Common.{◌≡◌, ◌≢◌, inl, inr, ⊎_elim, ℕ, ◌+◌, ◌*◌, ◌<◌, ◌≤◌, List, [], ◌∷◌, length, Option, Some, None, IsSome, refl, sym, ◌∙◌, subst, arith, length-append}
 use Rattle.alm_types.specs.declared.entry.Entry.{Entry}
 use Rattle.alm_types.specs.declared.verdict.Verdict.{Verdict}
 use Rattle.alm_types.specs.declared.verdict.Verdict.TheVariants.{Accepted, Refused}
 use Rattle.alm_model.specs.Judging.{accepted_of, when_accepted}
-use Rattle.alm_keeper.specs.Keeper.{most}
-use Rattle.alm_keeper.specs.Pace.{Going, Paced, IsAhead, KeepsPace, TakesAny, longest, open_len}
+use Rattle.alm_keeper.specs.Pace.{Going, Paced, IsAhead, KeepsPace, longest}
 use Rattle.alm_keeper.specs.declared.phase.Phase.{Phase}
 use Rattle.alm_keeper.specs.declared.phase.Phase.TheVariants.{Idle, Committing, Copying, Paused, Stopped}
 use Rattle.alm_keeper.specs.declared.progress.Progress.{Progress}

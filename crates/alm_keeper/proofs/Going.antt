@@ -1,7 +1,6 @@
 -- What is kept of a device from one call to the next.
-use Rattle.std.proofs.Common.{◌≡◌, ◌⊎◌, inl, inr, ⊎_elim, ℕ, ◌+◌, ◌-◌, ◌≤◌, Bool, true, false, List, [], ◌∷◌, ◌++◌, length, take, drop, None, Some, Result, Ok, refl, sym, ◌∙◌, ap, subst, arith, append_assoc, length-append, ◌==◌, if◌then◌else◌}
+use Rattle.std.proofs.Common.{◌≡◌, ◌⊎◌, inl, inr, ⊎_elim, ℕ, ◌+◌, ◌-◌, ◌≤◌, Bool, true, false, List, [], ◌∷◌, ◌++◌, length, take, drop, Result, Ok, refl, sym, ◌∙◌, ap, subst, arith, append_assoc, length-append, ◌==◌, if◌then◌else◌}
 use Rattle.std.proofs.lemmas.List.{take_at, length-take-le}
-use Rattle.alm_codec.specs.declared.version.Version.TheVariants.{V02}
 use Rattle.alm_types.specs.declared.action.Action.{Action}
 use Rattle.alm_codec.specs.Frames.{frame_body, frame_text}
 use Rattle.alm_disk.specs.Device.{DeviceState, IsImage, Writes}
@@ -17,10 +16,10 @@ use Rattle.alm_keeper.specs.declared.progress.Progress.{Progress}
 use Rattle.alm_keeper.specs.declared.progress.Progress.TheVariants.{More, Done, Failed}
 use Rattle.alm_keeper.specs.declared.stage.Work.{Work}
 use Rattle.alm_keeper.specs.declared.stage.Work.TheVariants.{Commit, Checkpoint}
-use Rattle.alm_keeper.specs.Stages.{IsWorking, following, sent_stage, rest_stage, rest_work, During}
+use Rattle.alm_keeper.specs.Stages.{IsWorking, rest_stage, rest_work, During}
 use Rattle.alm_keeper.specs.Stand.{Holds, Ready, Account, other_at, committed, turned}
 use Rattle.alm_keeper.specs.Piecewise.{Copy, IsCopy, open_text, run_text, turned_by, copied, sent}
-use Rattle.alm_keeper.specs.Phases.{UnderWay, Rest, Shut, ShutSync, Pause, Frame, End, KeptIn, StageCall, Call, DuringIn, next_work, next_account, shut}
+use Rattle.alm_keeper.specs.Phases.{Rest, Pause, End, KeptIn, StageCall, Call, DuringIn, next_work, next_account}
 use Rattle.alm_keeper.specs.Keeping.{account, run_in, piece_of, done_by, next_of, next, InOrder, Closes, Turns, Grows, GrowsWhere, GoesOn, sent_by, alone, beside, at_out, KeptBy, Keeps, PassesBy, PassesOn, MayLeave, Ends}
 use Rattle.alm_keeper.proofs.Carried.{open_grows, frame_is}
 use Rattle.alm_keeper.proofs.Commit.{ready_holds}

@@ -1,11 +1,9 @@
 -- What a book keeps as work begins and ends.
-use Rattle.std.proofs.Common.{vec_capacity, nat_le, take, ◌-◌, ◌≡◌, ℕ, ◌+◌, ◌*◌, ◌^◌, ◌≤◌, ◌<◌, Bool, true, false, List, length, refl, sym, ◌∙◌, ap, subst, arith, [], ◌∷◌, ◌++◌, length-append, true≢false}
+use Rattle.std.proofs.Common.{vec_capacity, nat_le, take, ◌-◌, ◌≡◌, ℕ, ◌+◌, ◌*◌, ◌^◌, ◌≤◌, ◌<◌, Bool, true, false, List, length, refl, sym, ◌∙◌, ap, subst, arith, ◌∷◌, ◌++◌, true≢false}
 use Rattle.std.proofs.lemmas.List.{take-take}
 use Rattle.std.proofs.lemmas.Bool.{and_parts, leb-true}
 use Rattle.alm_keeper.specs.Stages.{IsWorking, IsResting, first_stage, rest_stage, rest_work, phase_of}
-use Rattle.alm_codec.specs.declared.version.Version.TheVariants.{V02}
 use Rattle.alm_types.specs.declared.action.Action.{Action}
-use Rattle.alm_model.specs.Plant.{Condensed}
 use Rattle.alm_model.specs.Step.{run}
 use Rattle.alm_model.specs.Rules.{KeepsRules}
 use Rattle.alm_model.proofs.Kept.{run-keeps}

@@ -1,5 +1,5 @@
 -- What callers see of a book's calls.
-use Rattle.std.proofs.Common.{◌≡◌, ◌≢◌, ℕ, ◌+◌, ◌-◌, Bool, true, false, List, [], length, Result, Ok, Err, refl, sym, ◌∙◌, ap, subst, arith}
+use Rattle.std.proofs.Common.{◌≡◌, ℕ, ◌+◌, ◌-◌, Bool, true, false, List, length, Result, Ok, Err, refl, sym, ◌∙◌, ap, subst, arith}
 use Rattle.alm_codec.specs.declared.version.Version.TheVariants.{V02}
 use Rattle.alm_types.specs.declared.action.Action.{Action}
 use Rattle.alm_model.specs.Step.{run}
@@ -15,8 +15,7 @@ use Rattle.alm_keeper.specs.declared.stage.Stage.TheVariants.{Idle, Close, Close
 use Rattle.alm_keeper.specs.declared.stage.Work.{Work}
 use Rattle.alm_keeper.specs.declared.stage.Work.TheVariants.{Commit, Checkpoint}
 use Rattle.alm_keeper.specs.Stand.{Account, Fits, Takes, committed, turned, end_of}
-use Rattle.alm_keeper.specs.Stages.{first_stage, rest_stage, rest_work}
-use Rattle.alm_keeper.specs.Keeper.{Held, Standing, HasRoom, Takes as StandingTakes, with_actions, with_checkpoint, begun, begun_by, next_by, grown, after, after_by, BeginsCommit, BeginsCheckpoint, Advances}
+use Rattle.alm_keeper.specs.Keeper.{HasRoom, Takes as StandingTakes, with_actions, with_checkpoint, begun, begun_by, next_by, grown, after, after_by, BeginsCommit, BeginsCheckpoint, Advances}
 use Rattle.alm_keeper.specs.Keeping.{account, done_by, next_of, standing, held, Begins, Copies, Closes, Turns, GrowsWhere, GoesOn, Ends}
 
 -- a commit, a checkpoint

@@ -18,7 +18,7 @@ use Rattle.alm_keeper.specs.declared.stage.Work.TheVariants.{Commit, Checkpoint}
 use Rattle.alm_keeper.specs.Stages.{IsWorking, IsResting, first_stage, phase_of}
 use Rattle.alm_keeper.specs.Stand.{Holds, Account, Ready}
 use Rattle.alm_keeper.specs.Piecewise.{Copy, fresh, run_text}
-use Rattle.alm_keeper.specs.Phases.{Rest, Shut, Pause, Rested, KeptIn, Commits}
+use Rattle.alm_keeper.specs.Phases.{Rest, Shut, Pause, KeptIn, Commits}
 use Rattle.alm_keeper.specs.Keeping.{account, run_in, at_out, Does, Opened, IsCopying, InOrder, FitsDevice, Begins, Copies, KeptBy, Keeps}
 use Rattle.alm_keeper.proofs.Commit.{ready_holds}
 use Rattle.alm_keeper.proofs.Order.{commits, opened}

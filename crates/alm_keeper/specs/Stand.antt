@@ -1,5 +1,5 @@
 -- What a keeper knows of its device.
-use Rattle.std.specs.Prelude.{◌≡◌, ℕ, ◌+◌, ◌≤◌, Bool, true, false, List, [], ◌∷◌, ◌++◌, length}
+use Rattle.std.specs.Prelude.{◌≡◌, ℕ, ◌+◌, ◌≤◌, Bool, true, false, List, ◌∷◌, length}
 use Rattle.alm_types.specs.declared.action.Action.{Action}
 use Rattle.alm_model.specs.Plant.{Condensed}
 use Rattle.alm_model.specs.Step.{run}

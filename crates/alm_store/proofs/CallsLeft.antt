@@ -1,8 +1,7 @@
 -- How many calls of a keeper's work are left, and what it takes when they are done.
-use Rattle.std.proofs.Common.{◌≡◌, ◌≢◌, ◌<◌, ◌≤◌, ◌+◌, ◌-◌, ◌/◌, ◌==◌, ◌⊎◌, inl, inr, ℕ, min, Bool, true, false, List, length, Result, Ok, Err, OnOk, if◌then◌else◌, refl, sym, ◌∙◌, ap, subst, arith}
-use Rattle.std.proofs.lemmas.Bool.{eqb-true, eqb-false, cases_Bool}
+use Rattle.std.proofs.Common.{◌≡◌, ◌≢◌, ◌<◌, ◌≤◌, ◌+◌, ◌-◌, ◌==◌, ◌⊎◌, inl, inr, ℕ, Bool, true, false, List, length, Result, Ok, Err, OnOk, if◌then◌else◌, refl, sym, ◌∙◌, ap, subst, arith}
+use Rattle.std.proofs.lemmas.Bool.{eqb-false}
 use Rattle.alm_types.specs.declared.action.Action.{Action}
-use Rattle.alm_keeper.specs.declared.phase.Phase.{Phase}
 use Rattle.alm_keeper.specs.declared.phase.Phase.TheVariants as at
 use Rattle.alm_keeper.specs.declared.progress.Progress.{Progress}
 use Rattle.alm_keeper.specs.declared.progress.Progress.TheVariants.{More, Done, Failed}
@@ -11,12 +10,12 @@ use Rattle.alm_keeper.specs.declared.stage.Stage.{Stage}
 use Rattle.alm_keeper.specs.declared.stage.Stage.TheVariants.{Idle, Close, CloseSync, Body, BodySync, Gate, GateSync, Stopped}
 use Rattle.alm_keeper.specs.declared.stage.Work.{Work}
 use Rattle.alm_keeper.specs.declared.stage.Work.TheVariants.{Commit, Checkpoint}
-use Rattle.alm_keeper.specs.Stages.{IsWorking, following, first_stage, sent_stage, phase_of}
+use Rattle.alm_keeper.specs.Stages.{IsWorking, first_stage, sent_stage, phase_of}
 use Rattle.alm_codec.specs.declared.version.Version.{Version}
 use Rattle.alm_codec.specs.declared.version.Version.TheVariants.{V02}
 use Rattle.alm_codec.specs.Versions.{AreBorne}
 use Rattle.alm_codec.proofs.Frames.{all_borne}
-use Rattle.alm_keeper.specs.Keeper.{Held, Standing, Takes, next, next_by, begun_by, first_run, piece, counted, sends, after, after_by, BeginsCommit, BeginsCheckpoint, Advances}
+use Rattle.alm_keeper.specs.Keeper.{Held, Standing, Takes, next, next_by, begun_by, first_run, piece, sends, after, after_by, BeginsCommit, BeginsCheckpoint, Advances}
 use Rattle.alm_store.specs.Advancing.{IsOpen}
 use Rattle.alm_store.specs.Keepers.{pieces, body_calls, calls_left}
 

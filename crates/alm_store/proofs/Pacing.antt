@@ -1,10 +1,8 @@
 -- What the calls of a keeper make of an open checkpoint and of the use of its segment.
-use Rattle.std.proofs.Common.{◌≡◌, ◌≢◌, ◌<◌, ◌≤◌, ◌+◌, ◌-◌, ◌*◌, ◌/◌, ◌==◌, ◌⊎◌, inl, inr, ℕ, min, Bool, true, false, List, length, Option, Some, None, Result, Ok, Err, OnOk, OnErr, IfOk, IsSome, if◌then◌else◌, refl, sym, ◌∙◌, ap, subst, arith}
+use Rattle.std.proofs.Common.{◌≡◌, ◌≢◌, ◌≤◌, ◌+◌, ◌-◌, ◌*◌, ◌/◌, ◌==◌, ℕ, Bool, true, false, List, length, Some, Result, Ok, Err, OnOk, OnErr, IfOk, if◌then◌else◌, refl, sym, ◌∙◌, ap, subst, arith}
 use Rattle.std.proofs.lemmas.Bool.{eqb-true, eqb-false, ne_eqb}
 use Rattle.alm_types.specs.declared.action.Action.{Action}
 use Rattle.alm_codec.specs.declared.version.Version.TheVariants.{V02}
-use Rattle.alm_keeper.specs.declared.phase.Phase.{Phase}
-use Rattle.alm_keeper.specs.declared.phase.Phase.TheVariants as at
 use Rattle.alm_keeper.specs.declared.progress.Progress.{Progress}
 use Rattle.alm_keeper.specs.declared.progress.Progress.TheVariants.{More, Done, Failed}
 use Rattle.alm_keeper.specs.declared.refused.Refused.{Refused}
@@ -14,11 +12,10 @@ use Rattle.alm_keeper.specs.declared.stage.Stage.TheVariants.{Idle, Close, Close
 use Rattle.alm_keeper.specs.declared.stage.Work.{Work}
 use Rattle.alm_keeper.specs.declared.stage.Work.TheVariants.{Commit, Checkpoint}
 use Rattle.alm_keeper.specs.Stages.{IsWorking, IsResting, first_stage, sent_stage, rest_stage, rest_work, phase_of}
-use Rattle.alm_keeper.specs.Keeper.{Held, Standing, HasRoom, used, first_run, most, piece, grown, sends, commits, turns, after, after_by, BeginsCommit, BeginsCheckpoint, Advances}
-use Rattle.alm_keeper.specs.Pace.{Going, KeepsPace, longest, open_len}
-use Rattle.alm_store.specs.Advancing.{IsOpen}
+use Rattle.alm_keeper.specs.Keeper.{Held, used, first_run, most, piece, grown, sends, after_by, BeginsCommit, BeginsCheckpoint, Advances}
+use Rattle.alm_keeper.specs.Pace.{Going, KeepsPace}
 use Rattle.alm_store.specs.Keepers.{pieces_out, run_of, is_open, going_if, going}
-use Rattle.alm_store.specs.Pacing.{SamePace, IsFresh, Grows, Sends, Turns, Goes}
+use Rattle.alm_store.specs.Pacing.{SamePace, IsFresh, Grows, Sends, Goes}
 
 -- ---- pieces
 

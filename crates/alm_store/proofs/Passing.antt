@@ -1,5 +1,5 @@
 -- What the calls of a keeper make of its phase and its plants.
-use Rattle.std.proofs.Common.{◌≡◌, ◌≢◌, ◌↔◌, ◌+◌, ◌-◌, ◌==◌, Bool, true, false, List, [], if◌then◌else◌, Result, Ok, Err, OnOk, OnErr, refl, sym, ◌∙◌, ap, subst}
+use Rattle.std.proofs.Common.{◌≡◌, ◌≢◌, ◌↔◌, ◌+◌, ◌-◌, ◌==◌, Bool, true, false, List, if◌then◌else◌, Result, Ok, Err, OnOk, OnErr, refl, sym, ◌∙◌, ap, subst}
 use Rattle.alm_types.specs.declared.action.Action.{Action}
 use Rattle.alm_types.specs.Batches.{Judged}
 use Rattle.alm_model.specs.Plant.{Condensed}
@@ -14,7 +14,7 @@ use Rattle.alm_keeper.specs.declared.stage.Stage.{Stage}
 use Rattle.alm_keeper.specs.declared.stage.Stage.TheVariants.{Idle, Close, CloseSync, Body, BodySync, Gate, GateSync, Stopped}
 use Rattle.alm_keeper.specs.declared.stage.Work.{Work}
 use Rattle.alm_keeper.specs.declared.stage.Work.TheVariants.{Commit, Checkpoint}
-use Rattle.alm_keeper.specs.Stages.{IsWorking, IsResting, following, first_stage, sent_stage, rest_stage, rest_work, phase_of}
+use Rattle.alm_keeper.specs.Stages.{IsWorking, IsResting, first_stage, sent_stage, rest_stage, rest_work, phase_of}
 use Rattle.alm_keeper.specs.Keeper.{Held, Standing, next, next_by, begun_by, piece, commits, after, after_by, begin_answer, checkpoint_answer, BeginsCommit, BeginsCheckpoint, Advances}
 use Rattle.alm_store.specs.Advancing.{Advanced, IsOpen}
 use Rattle.alm_store.specs.Resting.{rests}

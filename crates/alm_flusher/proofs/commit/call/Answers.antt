@@ -1,4 +1,4 @@
-use Rattle.std.proofs.Common.{◌≡◌, sym, ◌∙◌, ⊎_elim}
+use Rattle.std.proofs.Common.{sym, ◌∙◌, ⊎_elim}
 use Rattle.alm_keeper.specs.declared.progress.Progress.TheVariants.{Done}
 use Rattle.alm_flusher.proofs.Pacing.{commit_ends, goes_on}
 use Rattle.alm_flusher.proofs.commit.call.Goals as goal

@@ -1,4 +1,4 @@
-use Rattle.std.proofs.Common.{◌≡◌, ℕ, length, ap, arith}
+use Rattle.std.proofs.Common.{◌≡◌, length, ap, arith}
 use Rattle.alm_flusher.proofs.Pacing.{accepted_few}
 use Rattle.alm_flusher.proofs.commit.few.Goals as goal
 

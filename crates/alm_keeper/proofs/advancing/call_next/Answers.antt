@@ -1,4 +1,4 @@
-use Rattle.std.proofs.Common.{◌≡◌, ◌≤◌, ◌<◌, ◌+◌, ℕ, length, take, ◌∙◌, ap, arith}
+use Rattle.std.proofs.Common.{◌≤◌, ◌<◌, ◌+◌, ℕ, length, take, ◌∙◌, ap, arith}
 use Rattle.std.proofs.Math.Logic.{∥∥₁_map}
 use Rattle.alm_keeper.proofs.Order.{commits, copies, sent_at}
 use Rattle.alm_keeper.proofs.Going.{commit_passes, checkpoint_passes, piece_passes, run_size}

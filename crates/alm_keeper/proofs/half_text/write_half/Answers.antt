@@ -1,4 +1,4 @@
-use Rattle.std.proofs.Common.{◌≡◌, ◌≤◌, ◌+◌, ◌++◌, ◌∷◌, [], ℕ, length, take, drop, arith, ap, ◌∙◌, length-append, length-drop}
+use Rattle.std.proofs.Common.{◌≡◌, ◌+◌, ◌++◌, ◌∷◌, [], length, take, drop, arith, ap, ◌∙◌, length-append, length-drop}
 use Rattle.std.proofs.lemmas.List.{take_at, with_items_is}
 use Rattle.alm_codec.specs.Image.{image_text, image_len}
 use Rattle.alm_codec.proofs.Spelled.{image_length}

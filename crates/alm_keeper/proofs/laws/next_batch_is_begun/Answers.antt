@@ -1,4 +1,4 @@
-use Rattle.std.proofs.Common.{◌≡◌, ◌+◌, Ok, ap, ◌==◌}
+use Rattle.std.proofs.Common.{◌≡◌, ◌+◌, Ok, ap}
 use Rattle.std.proofs.lemmas.Bool.{eq-eqb}
 use Rattle.alm_types.specs.Batches.{Judged}
 use Rattle.alm_model.specs.Plant.{Condensed}

@@ -1,4 +1,4 @@
-use Rattle.std.proofs.Common.{◌++◌, append_assoc, sym}
+use Rattle.std.proofs.Common.{◌++◌}
 use Rattle.alm_types.specs.Reports.{report}
 use Rattle.alm_lines.specs.Parts.{text_of_parts}
 use Rattle.alm_lines.specs.Reply.{report_text}

@@ -1,12 +1,4 @@
 use Rattle.std.proofs.Common.{length, arith, ap}
-use Rattle.alm_types.specs.declared.action.Action.{Action}
-use Rattle.alm_model.specs.Plant.{Condensed}
-use Rattle.alm_model.specs.Step.{run}
-use Rattle.alm_model.specs.Rules.{AreAdmitted}
-use Rattle.alm_codec.specs.Frames.{IsFrame, frame_body}
-use Rattle.alm_keeper.specs.Stand.{Takes}
-use Rattle.alm_keeper.specs.Keeping.{account}
-use Rattle.alm_model.specs.Judging.{accepted_of}
 use Rattle.alm_keeper.proofs.Tried.{accepted_few}
 use Rattle.alm_keeper.proofs.book.Book.begin.Goals as goal
 

@@ -1,11 +1,8 @@
-use Rattle.std.proofs.Common.{◌≡◌, ◌+◌, ◌*◌, ◌-◌, ◌++◌, ◌∷◌, ℕ, List, length, take, refl, ap, ◌∙◌, arith}
-use Rattle.alm_codec.specs.Frames.{frame_body}
-use Rattle.alm_types.specs.declared.action.Action.{Action}
+use Rattle.std.proofs.Common.{◌≡◌, ◌+◌, ℕ, refl, ap}
 use Rattle.alm_keeper.specs.declared.book.Book.{Book}
 use Rattle.alm_keeper.specs.declared.stage.Stage.TheVariants.{Body}
 use Rattle.alm_keeper.specs.declared.stage.Work.TheVariants.{Checkpoint}
-use Rattle.alm_keeper.specs.Keeping.{Grows}
-use Rattle.alm_keeper.proofs.Order.{Stores, grows_within, grown_by, resumed_by, ordered_by}
+use Rattle.alm_keeper.proofs.Order.{Stores, grown_by, resumed_by, ordered_by}
 use Rattle.alm_keeper.proofs.book.Book.resume.Goals as goal
 
 pub returns-clause-closes : goal.returns-clause-closes

@@ -1,10 +1,7 @@
-use Rattle.std.proofs.Common.{List, ◌≡◌, ◌^◌, ◌≤◌, arith, ap, sym, subst, ◌∙◌}
-use Rattle.alm_model.specs.Plant.{Condensed}
-use Rattle.alm_model.specs.Step.{run}
+use Rattle.std.proofs.Common.{List, sym, subst}
 use Rattle.alm_types.specs.declared.action.Action.{Action}
-use Rattle.alm_model.specs.Rules.{KeepsRules, AllAdmitted}
+use Rattle.alm_model.specs.Rules.{AllAdmitted}
 use Rattle.alm_model.proofs.Runs.{all_admitted}
-use Rattle.alm_codec.specs.Image.{IsOf}
 use Rattle.alm_keeper.proofs.Order.{commits}
 use Rattle.alm_keeper.proofs.book.Book.store.Goals as goal
 

@@ -1,10 +1,9 @@
-use Rattle.std.proofs.Common.{◌≡◌, ◌<◌, List, Some, None, length, refl, sym, ap, ◌∙◌, subst}
+use Rattle.std.proofs.Common.{◌≡◌, List, Some, refl, sym, ap, ◌∙◌, subst}
 use Rattle.std.specs.Prelude.{slice_get}
 use Rattle.std.specs.Vec.{with_item}
 use Rattle.std.proofs.lemmas.Option.{slice_get_read, slice_get_within}
 use Rattle.alm_types.specs.declared.attr.Attr.{Attr}
 use Rattle.alm_state.specs.Outcome.{attr_after}
-use Rattle.alm_model.specs.Accept.{alarm_refusal}
 use Rattle.alm_model.specs.Keeping.{change}
 use Rattle.alm_model.specs.Plain.{shown}
 use Rattle.alm_model.specs.Plant.{Condensed}

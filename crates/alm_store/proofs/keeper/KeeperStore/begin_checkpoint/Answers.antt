@@ -1,5 +1,4 @@
 use Rattle.std.proofs.Common.{sym, subst}
-use Rattle.alm_keeper.specs.declared.phase.Phase.{Phase}
 use Rattle.alm_keeper.specs.Stages.{IsResting}
 use Rattle.alm_store.proofs.Begun.{copied_cause}
 use Rattle.alm_store.proofs.CallsLeft.{checkpoint_calls, checkpoint_room}
