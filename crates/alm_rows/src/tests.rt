@@ -6,6 +6,7 @@ use alm_plant::Plant;
 use alm_service::{CountedReader, RunFault, desk_run};
 use alm_session::{CountedWriter, DeskFault, desk_of};
 use alm_types::{Attr, Kind, Settings, Slot, Table};
+use std::alloc::Global;
 use std::io::Read;
 use std::test::Fail;
 
@@ -143,24 +144,45 @@ const ALARM: Settings = Settings {
     max_shelve: 0,
 };
 
+const ALARMS: u32 = 16_384;
+
+/// Each alarm comes, and two lists are asked for.
+fn lines_of_all(alloc: Global) -> Result<String, Fail> {
+    let mut lines = String::new(alloc);
+    for alarm in 0..ALARMS {
+        lines.push_str(format!(in alloc; "16 0 VAL {alarm} 1\n")?.as_str())?;
+    }
+    lines.push_str("0 1 LIST P 1\n0 2 LIST P 2\n")?;
+    Ok(lines)
+}
+
+/// What is printed for them.
+fn replies_to_all(alloc: Global) -> Result<String, Fail> {
+    let mut replies = String::new(alloc);
+    for number in 1..=ALARMS {
+        replies.push_str(format!(in alloc; "16 0 OK {number}\n")?.as_str())?;
+    }
+    replies.push_str("0 1 LIST 16384 16384")?;
+    for alarm in 0..ALARMS {
+        replies.push_str(format!(in alloc; " {alarm}")?.as_str())?;
+    }
+    replies.push_str("\n0 2 LIST 16384 0\n")?;
+    Ok(replies)
+}
+
+/// What the desk of so many alarms prints.
+fn printed_by_all(alloc: Global, lines: &str) -> Result<Vec<u8>, Fail> {
+    let alarms = vec![in alloc; Attr::new(ALARM, b"T", b"")?; ALARMS as usize]?;
+    let mut desk = desk_of::<Plant>(alloc, &Table::new(alarms, 1)?)?;
+    Ok(printed(alloc, &mut desk, lines.as_bytes())?)
+}
+
 #[test]
 fn a_list_of_16384_alarms(rt: HostRuntime) -> Result<(), Fail> {
     let alloc = rt.alloc();
-    let alarms = vec![in alloc; Attr::new(ALARM, b"T", b"")?; 16_384]?;
-    let mut desk = desk_of::<Plant>(alloc, &Table::new(alarms, 1)?)?;
-    let mut input = String::new(alloc);
-    let mut wanted = String::new(alloc);
-    for alarm in 0..16_384_u32 {
-        input.push_str(format!(in alloc; "16 0 VAL {alarm} 1\n")?.as_str())?;
-        wanted.push_str(format!(in alloc; "16 0 OK {}\n", alarm + 1)?.as_str())?;
-    }
-    input.push_str("0 1 LIST P 1\n0 2 LIST P 2\n")?;
-    wanted.push_str("0 1 LIST 16384 16384")?;
-    for alarm in 0..16_384_u32 {
-        wanted.push_str(format!(in alloc; " {alarm}")?.as_str())?;
-    }
-    wanted.push_str("\n0 2 LIST 16384 0\n")?;
-    let got = printed(alloc, &mut desk, input.as_str().as_bytes())?;
+    let lines = lines_of_all(alloc)?;
+    let wanted = replies_to_all(alloc)?;
+    let got = printed_by_all(alloc, lines.as_str())?;
     assert_eq!(rt; got.as_slice(), wanted.as_str().as_bytes());
     Ok(())
 }
