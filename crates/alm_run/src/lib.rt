@@ -4,7 +4,7 @@
 //! |---|---|---|
 //! | of each slot | [`sit`]: one turn of its [`Source`] after another | after a turn that says [`Go::End`], or before one where `stop` is set |
 //! | the sequencer's | [`run_sequencer`]: takes one request of each slot in turn, and seals where no batch is out, once those who were just answered have asked again or nobody did for 200 microseconds, or where the open batch is full | where all sources had ended before a pass that took nothing, and the open batch is empty; or where `stop` is set |
-//! | the flusher's | [`run_flusher`]: commits, publishes and releases | where nothing more was to be sealed before a fetch that gave nothing; at a failure of the device; after 1,000 refused publishes in a row |
+//! | the flusher's | [`run_flusher`]: commits, publishes and releases; each time its sleep ends and nothing is there, a piece of an open checkpoint | where nothing more was to be sealed before a fetch that gave nothing; at a failure of the device; after 1,000 refused publishes in a row |
 //!
 //! [`Flags`] are hints, each read before the step that it bounds. A thread that has nothing to do looks again some 64 times, and then sleeps by
 //! its [`Bell`]: whoever has something for it rings, and every 100 milliseconds it looks once by itself.
