@@ -7,7 +7,7 @@ Clients on all ports ask one request after another, each behind the answer to it
 actions in the order of their numbers. Then some do so while at each call on the device's file in turn the call fails, the process is killed
 or the power fails, or while from a request on there is no more memory: the server has ended with the status of its fault line, and
 the device holds each action that was answered, at the number that the answer named, and of those without an answer what may have come
-before or behind. Each request for memory, and each thread, is refused in turn. Lines of a grammar that breaks itself (lines.py) are sent to a port in pieces that end anywhere; the replies fit the second
+before or behind. A server that nobody asks ends its checkpoint. Each request for memory, and each thread, is refused in turn. Lines of a grammar that breaks itself (lines.py) are sent to a port in pieces that end anywhere; the replies fit the second
 reading of the lines.
 """
 import itertools
@@ -205,6 +205,21 @@ class Serving:
         check(self.replay([known[number] for number in sorted(known)]) == state(self.program, device), "the device stands for something else")
         return len(known)
 
+    def idle(self):
+        """59 actions use more than half of the least segment, and nobody asks any more: the checkpoint goes out all the same."""
+        device = os.path.join(self.folder, "device")
+        shutil.copyfile(self.fresh, device)
+        server = self.start(device)
+        with server.connect(17) as one, one.makefile("rb") as replies:
+            for moment in range(1, 60):
+                one.sendall(b"%d CLOCK %d\n" % (moment, moment))
+                reply = replies.readline()
+                check(reply == b"%d OK %d\n" % (moment, moment), "CLOCK", moment, "was answered", reply)
+        time.sleep(2)
+        server.end()
+        shown = run_words(self.program, ["show", device]).stdout
+        check(shown.startswith(b"NOW 59 COUNT 59 EPOCH 2\n"), "an idle server made no checkpoint:", shown)
+
     def refusals(self, call, step):
         """Each request of a served connection for memory, or for a thread, refused in turn. How many there were."""
         made = self.one_refusal(None)[call]
@@ -289,6 +304,7 @@ def main():
     try:
         serving = Serving(program, folder)
         accepted = serving.whole(600 // step + 20)
+        serving.idle()
         faults = serving.faults(step)
         stopped = serving.scarcity(step // 17 + 1)
         refused = serving.refusals("memory", step // 17 + 1)

@@ -8,7 +8,7 @@ use std::thread::Parker;
 use std::time::Duration;
 
 /// How often a thread looks again, and only lets others run, before it sleeps: some 50 microseconds.
-const YIELDS: u32 = 64;
+pub const YIELDS: u32 = 64;
 
 /// How long it sleeps at most, in milliseconds.
 const NAP: u64 = 100;

@@ -4,6 +4,7 @@ ghost use Rattle.alm_rings.specs.Batches.{SameFetchEnds};
 ghost use Rattle.alm_rings.specs.Placed.{SameOutboxAt, outbox_at};
 
 use crate::bell::Bell;
+use crate::doorbell::YIELDS;
 use crate::flags::Flags;
 use crate::storage::Storage;
 use alm_board::{Board, Publish};
@@ -17,9 +18,9 @@ use std::sync::atomic::Ordering;
 /// How often the same publish is refused before the run stops.
 const REFUSALS: u64 = 1000;
 
-/// How many turns in a row find no batch before an open checkpoint goes on, a piece a sleep. Where batches come, each takes a piece along:
-/// pieces that went out between them would all wait for the next one's sync.
-const REST: u32 = 66;
+/// How many turns in a row find no batch before an open checkpoint goes on: the thread has slept by then, and sends a piece each time it
+/// wakes. Where batches come, each takes a piece along: pieces that went out between them would all wait for the next one's sync.
+const REST: u32 = YIELDS + 2;
 
 // What a pass found.
 #[derive(Clone, Copy, Debug, PartialEq, Eq)]
