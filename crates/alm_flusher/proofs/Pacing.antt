@@ -57,6 +57,15 @@ begins_between u u' l l' o o' p p' w w' same some keeps = keeps_same u u' l l' o
 stays : (l u u' w w' : ℕ) (p p' : Phase) (o o' : Option Going) → (u' ≡ u) × (o' ≡ o) → (IsAhead p' w' → IsAhead p w) → KeepsPace l p u w o → KeepsPace l p' u' w' o'
 stays l u u' w w' p p' o o' goes to keeps = keeps_same u u' l l o o' (goes.0, refl, goes.1) p p' w w' (λ _. to) keeps
 
+-- a commit's end opens no checkpoint
+pub stays_alone : (phase : Phase) (u u' w' : ℕ) (o o' : Option Going) → phase ≡ Committing → o ≡ None → Goes Done phase u u' w' o o' → o' ≡ None
+stays_alone Committing u u' w' None o' is none goes = goes.2
+stays_alone Committing u u' w' (Some g) o' is none goes = absurd cc
+stays_alone Idle u u' w' o o' is none goes = absurd cc
+stays_alone Copying u u' w' o o' is none goes = absurd cc
+stays_alone Paused u u' w' o o' is none goes = absurd cc
+stays_alone Stopped u u' w' o o' is none goes = absurd cc
+
 -- a piece
 sends : (l u u' w w' : ℕ) (p p' : Phase) (o o' : Option Going) → p' ≢ Committing → u' ≡ u → Sends o o' → KeepsPace l p u w o → KeepsPace l p' u' w' o'
 sends l u u' w w' p p' None o' other same goes keeps = absurd goes

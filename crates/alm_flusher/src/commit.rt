@@ -1,6 +1,6 @@
 //! One step of the commit of a batch, or of a checkpoint.
 
-ghost use Rattle.std.specs.Prelude.{◌≡◌, ◌≢◌, ℕ, ◌⊎◌, ◌↔◌, ◌+◌, ◌*◌, ◌<◌, ◌≤◌, [], length, IsTrue, true, false};
+ghost use Rattle.std.specs.Prelude.{◌≡◌, ◌≢◌, ℕ, ◌⊎◌, ◌↔◌, ◌+◌, ◌*◌, ◌<◌, ◌≤◌, [], length, IsTrue, None, true, false};
 ghost use Rattle.alm_disk.specs.Failures.{HasFailed};
 ghost use Rattle.alm_model.specs.Judging.{accepted_of};
 ghost use Rattle.alm_model.specs.Rules.{AllAdmitted, admits_all};
@@ -47,6 +47,7 @@ fn start<K: Store>(store: &mut K, batch: &Batch) -> bool
     ensures segment { K.segment store.new ≡ K.segment store.old }
     ensures newest { K.newest store.old → K.newest store.new }
     ensures pace { IsTrue result → K.takes store.old (accepted_of batch.now.entries) → SamePace (K.used store.old) (K.used store.new) (K.segment store.old) (K.segment store.new) (K.going store.old) (K.going store.new) }
+    ensures alone { IsTrue result → K.phase store.new ≡ Phase.Committing → K.going store.new ≡ K.going store.old }
 {
     if store.takes(batch) {
         store.begin(batch).is_ok()
@@ -108,6 +109,7 @@ fn prepare<K: Store>(store: &mut K, batch: &Batch) -> bool
     ensures segment { K.segment store.new ≡ K.segment store.old }
     ensures newest { K.newest store.old → K.newest store.new }
     ensures pace { IsTrue result → K.newest store.old → 452651 ≤ K.segment store.old → KeepsPace (K.segment store.old) (K.phase store.old) (K.used store.old) (K.written store.old) (K.going store.old) → KeepsPace (K.segment store.new) (K.phase store.new) (K.used store.new) (K.written store.new) (K.going store.new) }
+    ensures alone { IsTrue result → K.phase store.new ≡ Phase.Committing → K.going store.new ≡ K.going store.old }
 {
     few(batch);
     match store.phase() {
@@ -145,6 +147,8 @@ fn call<K: Store>(store: &mut K, batch: &Batch) -> Advance
     ensures newest { K.newest store.old → K.newest store.new }
     ensures pace { result ≡ Advance.More → 452651 ≤ K.segment store.old → KeepsPace (K.segment store.old) (K.phase store.old) (K.used store.old) (K.written store.old) (K.going store.old) → KeepsPace (K.segment store.new) (K.phase store.new) (K.used store.new) (K.written store.new) (K.going store.new) }
     ensures near { result ≡ Advance.Committed → KeepsPace (K.segment store.old) (K.phase store.old) (K.used store.old) (K.written store.old) (K.going store.old) → NearPace (K.segment store.new) (K.phase store.new) (K.used store.new) (K.written store.new) (K.going store.new) }
+    ensures commits { result ≡ Advance.Committed → K.phase store.old ≡ Phase.Committing }
+    ensures alone { result ≡ Advance.Committed → K.going store.old ≡ None → K.going store.new ≡ None }
 {
     let phase = store.phase();
     match store.advance() {
@@ -169,6 +173,7 @@ fn open_checkpoint<K: Store>(store: &mut K)
     ensures segment { K.segment store.new ≡ K.segment store.old }
     ensures newest { K.newest store.old → K.newest store.new }
     ensures pace { K.honest store.old → ¬ (K.spent (K.device store.new)) → NearPace (K.segment store.old) (K.phase store.old) (K.used store.old) (K.written store.old) (K.going store.old) → KeepsPace (K.segment store.new) (K.phase store.new) (K.used store.new) (K.written store.new) (K.going store.new) }
+    ensures only { 2 * K.used store.new ≤ K.segment store.new → K.going store.new ≡ K.going store.old }
 {
     if store.phase() == Phase::Idle && store.is_half_used() {
         match store.begin_checkpoint() {
@@ -208,6 +213,7 @@ fn commit<K: Store>(store: &mut K, batch: &Batch) -> Advance
     ensures newest { K.newest store.old → K.newest store.new }
     ensures pace { result ≡ Advance.More → K.newest store.old → 452651 ≤ K.segment store.old → KeepsPace (K.segment store.old) (K.phase store.old) (K.used store.old) (K.written store.old) (K.going store.old) → KeepsPace (K.segment store.new) (K.phase store.new) (K.used store.new) (K.written store.new) (K.going store.new) }
     ensures near { result ≡ Advance.Committed → K.newest store.old → 452651 ≤ K.segment store.old → KeepsPace (K.segment store.old) (K.phase store.old) (K.used store.old) (K.written store.old) (K.going store.old) → NearPace (K.segment store.new) (K.phase store.new) (K.used store.new) (K.written store.new) (K.going store.new) }
+    ensures alone { result ≡ Advance.Committed → K.going store.old ≡ None → K.going store.new ≡ None }
 {
     if !prepare(store, batch) {
         return Advance::Failed;
@@ -228,6 +234,7 @@ pub(crate) fn advance_by<K: Store>(store: &mut K, batch: &Batch) -> Advance
     ensures none { accepted_of batch.now.entries ≡ [] → (K.device store.new ≡ K.device store.old) × (K.failures store.new ≡ K.failures store.old) }
     ensures taken { K.phase store.old ≡ Phase.Idle → K.takes store.old (accepted_of batch.now.entries) → result ≡ Advance.More → K.phase store.new ≡ Phase.Committing }
     ensures opens { result ≡ Advance.Committed → K.honest store.old → ¬ (K.spent (K.device store.new)) → K.segment store.new < 2 * K.used store.new → IsOpen (K.phase store.new) }
+    ensures only { result ≡ Advance.Committed → K.going store.old ≡ None → 2 * K.used store.new ≤ K.segment store.new → K.going store.new ≡ None }
     ensures between { K.phase store.old ≡ Phase.Paused → K.phase store.new ≡ Phase.Committing → 0 < K.written store.old }
     ensures waits { result ≡ Advance.More → K.takes store.old (accepted_of batch.now.entries) → K.written store.old ≤ 65536 → K.written store.new ≤ 65536 }
     ensures still { result ≡ Advance.More → K.takes store.old (accepted_of batch.now.entries) → K.phase store.new ≢ Phase.Committing → K.takes store.new (accepted_of batch.now.entries) }

@@ -189,6 +189,8 @@ impl<K: Store, T: Told + Drop, B: Board<Told = T>> Flusher<K, T, B> {
         ensures taken { K.phase self.old.store ≡ Phase.Idle → K.takes self.old.store (to_commit self.old.held) → result ≡ Advance.More → K.phase self.new.store ≡ Phase.Committing }
         // Behind a commit a checkpoint is open where more than half of the segment is used, but for the last epoch.
         ensures opens { result ≡ Advance.Committed → K.honest self.old.store → ¬ (K.spent (K.device self.new.store)) → K.segment self.new.store < 2 * K.used self.new.store → IsOpen (K.phase self.new.store) }
+        // Behind a commit none is opened where that isn't so.
+        ensures only { result ≡ Advance.Committed → K.going self.old.store ≡ None → 2 * K.used self.new.store ≤ K.segment self.new.store → K.going self.new.store ≡ None }
         // A piece goes out before each commit within a checkpoint,
         ensures between { K.phase self.old.store ≡ Phase.Paused → K.phase self.new.store ≡ Phase.Committing → 0 < K.written self.old.store }
         // and no more than one while a batch waits that was taken as it was fetched.
