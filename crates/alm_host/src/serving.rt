@@ -4,7 +4,7 @@ ghost use Rattle.std.specs.Prelude.{◌≡◌, ◌≤◌};
 ghost use Rattle.alm_host.specs.Serving.{fault_of_serve};
 
 use alm_file::FileDisk;
-use alm_program::{Fault, io_fault};
+use alm_program::{Fault, file_fault};
 use alm_serve::{ServeFault, serve_run};
 use std::fs::{File, Files};
 use std::io;
@@ -34,7 +34,7 @@ pub fn serve_file<R: Files<File = File> + Print + Net + Threads + Wait + Sync + 
 ) -> Result<(), Fault>
     requires { port ≤ 65518 }
 {
-    let disk = FileDisk::open(rt, device).map_err(io_fault)?;
+    let disk = FileDisk::open(rt, device).map_err(file_fault)?;
     match serve_run(rt, rt.alloc(), disk, port, conns, &mut io::writer(rt)) {
         Ok(_) => Ok(()),
         Err(fault) => Err(serve_fault(fault)),

@@ -2,7 +2,7 @@
 
 use crate::fault::Fault;
 use crate::file_stack::FileStack;
-use crate::io_faults::io_fault;
+use crate::io_faults::{file_fault, io_fault};
 use alm_file::FileDisk;
 use alm_model::Alarms;
 use alm_plant::Plant;
@@ -50,7 +50,7 @@ pub fn run_device_desk<R: Input + Print + Files<File = File> + AllocGlobal>(
     rt: &R,
     device: &str,
 ) -> Result<(), Fault> {
-    let disk = FileDisk::open(rt, device).map_err(io_fault)?;
+    let disk = FileDisk::open(rt, device).map_err(file_fault)?;
     let stack = open_stack(rt.alloc(), disk)?;
     run_over(rt, stack)
 }

@@ -4,7 +4,7 @@ ghost use Rattle.alm_lines.specs.Written.{Prints};
 ghost use Rattle.alm_program.specs.Formatted.{formatted_text};
 
 use crate::fault::Fault;
-use crate::io_faults::io_fault;
+use crate::io_faults::{file_fault, io_fault};
 use alm_checkpoint::Layout;
 use alm_codec::Version;
 use alm_file::FileDisk;
@@ -38,7 +38,7 @@ fn format_file<R: Files<File = File> + AllocGlobal>(
         Some(layout) => layout.device_len(),
         None => 0,
     };
-    let disk = FileDisk::make(rt, device, size, used).map_err(io_fault)?;
+    let disk = FileDisk::make(rt, device, size, used).map_err(file_fault)?;
     match format(rt.alloc(), disk, table) {
         Ok(_) => {}
         Err((fault, _)) => return Err(Fault::from(fault)),

@@ -36,6 +36,6 @@ mod showing;
 
 pub use fault::Fault;
 pub use fault_line::print_fault;
-pub use io_faults::io_fault;
+pub use io_faults::file_fault;
 pub use program::{end_of, run_local, run_words};
 pub use serve_order::ServeOrder;

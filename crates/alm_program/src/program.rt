@@ -7,8 +7,10 @@ use crate::desk::{run_desk, run_device_desk};
 use crate::fault::Fault;
 use crate::fault_line::print_fault;
 use crate::formatting::run_format;
+use crate::io_faults::io_fault;
 use crate::serve_order::ServeOrder;
 use crate::showing::run_show;
+use alm_file::fill_streams;
 use alm_words::{Job, job_of};
 use std::env::{self, Env};
 use std::fs::{File, Files};
@@ -24,10 +26,12 @@ fn words_of<R: Env + AllocGlobal>(rt: &R) -> Result<Vec<String>, Fault> {
     }
 }
 
-/// Does what the words ask of files and standard streams. Where they ask for a server, nothing is done, and the answer is what they ask.
+/// Does what the words ask of files and standard streams, the descriptor of each closed stream taken before. Where they ask for a server,
+/// no more is done, and the answer is what they ask.
 pub fn run_words<R: Input + Print + Env + Files<File = File> + AllocGlobal>(
     rt: &R,
 ) -> Result<Option<ServeOrder>, Fault> {
+    fill_streams(rt).map_err(io_fault)?;
     let words = words_of(rt)?;
     match job_of(rt.alloc(), words.as_slice())? {
         Job::Desk(None) => run_desk(rt)?,

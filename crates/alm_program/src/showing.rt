@@ -1,7 +1,7 @@
 //! What is shown of a device.
 
 use crate::fault::Fault;
-use crate::io_faults::io_fault;
+use crate::io_faults::{file_fault, io_fault};
 use alm_file::FileDisk;
 use alm_keeper::{Keeper, open_store};
 use alm_service::show_plant;
@@ -20,12 +20,12 @@ fn print_plant<R: Print + AllocGlobal>(rt: &R, keeper: &Keeper<FileDisk>) -> Res
     writer.flush().map_err(|_| Fault::Io)
 }
 
-/// Prints the plant of a device.
+/// Prints the plant of a device, which is opened to be read alone.
 pub fn run_show<R: Print + Files<File = File> + AllocGlobal>(
     rt: &R,
     device: &str,
 ) -> Result<(), Fault> {
-    let disk = FileDisk::open(rt, device).map_err(io_fault)?;
+    let disk = FileDisk::open_to_read(rt, device).map_err(file_fault)?;
     match open_store(rt.alloc(), disk) {
         Ok(keeper) => print_plant(rt, &keeper),
         Err((fault, _)) => Err(Fault::from(fault)),
