@@ -5,9 +5,10 @@ use Rattle.alm_disk.specs.Device.{DeviceState}
 use Rattle.alm_disk.specs.declared.disk.Disk
 use Rattle.alm_keeper.specs.declared.keeper.Keeper.{Keeper}
 use Rattle.alm_store.specs.declared.store.Store.{Ghosts}
-use Rattle.alm_store.specs.Keepers.{StandsFor, IsSpent}
+use Rattle.alm_keeper.specs.AsStore.{StandsFor, IsSpent}
 use Rattle.alm_model.specs.Plant.{Condensed}
 use Rattle.alm_bench.specs.declared.setup.Setup as T
+use Rattle.alm_bench.specs.declared.setup.Setup.TheVariants.{Open, Shut, Gone}
 use Rattle.alm_bench.specs.declared.step.Step.{Step}
 use Rattle.alm_bench.specs.declared.step.Step.TheVariants.{Send, Take, Seal, Fetch, Call, Publish, Release, GiveBack, Receive, Look, Crash, Reopen}
 use Rattle.alm_bench.specs.declared.event.Event.{Event}
@@ -15,7 +16,7 @@ use Rattle.alm_bench.specs.declared.event.Event.TheVariants.{Skipped}
 use Rattle.alm_bench.specs.World.{World, Answers, after}
 use Rattle.alm_bench.specs.Headline.{Sight, Moves}
 use Rattle.alm_bench.specs.Matches.{IsInner}
-use Rattle.alm_bench.specs.Stands.{IsSetup, sight}
+use Rattle.alm_bench.specs.Stands.{IsSetup, sight, IsThere, serves_well}
 
 module _ {D : Type 0} {g : Ghosts (Keeper D) D} {d : Disk.Ghosts D} where
   pub carried : (w : World) (step : Step) (event : Event) (s s' t t' : T.Setup D D g d) → s ≡ s' → t ≡ t' → Moves StandsFor IsSpent w step event (sight s) (sight t) → Moves StandsFor IsSpent w step event (sight s') (sight t')
@@ -25,6 +26,15 @@ module _ {D : Type 0} {g : Ghosts (Keeper D) D} {d : Disk.Ghosts D} where
 
   pub still : (w : World) (s t : T.Setup D D g d) → s ≡ t → IsSetup w s → IsSetup w t
   still w s t same stands = subst (λ (x : T.Setup D D g d). IsSetup w x) same stands
+
+  pub there : (s t : T.Setup D D g d) → s ≡ t → IsThere s → IsThere t
+  there s t same is = subst (λ (x : T.Setup D D g d). IsThere x) same is
+
+  -- a bench that stands for a world has an honest device
+  pub stands_honest : (w : World) (s : T.Setup D D g d) → IsSetup w s → serves_well s
+  stands_honest w (Open parts) is = is.fits.honest
+  stands_honest w (Shut disk) is = is.1
+  stands_honest w Gone is = is
 
 pub shut_not_open : (closed : _) → closed ≡ true → closed ≡ false → ⊥
 shut_not_open closed shut opened = true≢false (sym shut ∙ opened)

@@ -8,8 +8,8 @@ use Rattle.alm_model.specs.Plant.{Condensed}
 use Rattle.alm_model.specs.Rules.{KeepsRules}
 use Rattle.alm_model.specs.Step.{run}
 use Rattle.alm_store.specs.Opening.{HasCause}
-use Rattle.alm_keeper.specs.declared.open_fault.OpenFault.{OpenFault}
-use Rattle.alm_keeper.specs.declared.open_fault.OpenFault.TheVariants.{Unformatted, Damaged, Disk, OutOfMemory}
+use Rattle.alm_store.specs.declared.open_fault.OpenFault.{OpenFault}
+use Rattle.alm_store.specs.declared.open_fault.OpenFault.TheVariants.{Unformatted, Damaged, Disk, OutOfMemory}
 use Rattle.alm_types.specs.declared.action.Action.{Action}
 use Rattle.alm_bench.specs.World.{IsStorageFault}
 use Rattle.alm_model.proofs.ByStamp.{by-stamp-permutation, by-stamp-rises}

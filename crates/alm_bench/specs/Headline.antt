@@ -10,10 +10,10 @@ use Rattle.alm_model.specs.Rising.{RisesByStamp, is_by_stamp}
 use Rattle.alm_model.specs.declared.list.List.{List as Choice}
 use Rattle.alm_model.specs.Step.{run}
 use Rattle.alm_model.specs.Judging.{accepted_of}
-use Rattle.alm_keeper.specs.Calls.{IsCall}
+use Rattle.alm_store.specs.Calls.{IsCall}
 use Rattle.alm_store.specs.Advancing.{IsCalls}
 use Rattle.alm_store.specs.Opening.{HasCause}
-use Rattle.alm_store.specs.Keepers.{StandsFor}
+use Rattle.alm_keeper.specs.AsStore.{StandsFor}
 use Rattle.alm_bench.specs.Named.{names}
 use Rattle.alm_bench.specs.World.{World, Answers, after, entries_at}
 use Rattle.alm_bench.specs.declared.step.Step.{Step}

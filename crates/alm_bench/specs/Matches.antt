@@ -22,7 +22,7 @@ use Rattle.alm_flusher.specs.HeldBatch.{stored_of, shown_of}
 use Rattle.alm_sequencer.specs.Spares.{spares}
 use Rattle.alm_store.specs.declared.store.Store.{Ghosts}
 use Rattle.alm_disk.specs.declared.disk.Disk
-use Rattle.alm_keeper.specs.declared.phase.Phase.TheVariants.{Stopped}
+use Rattle.alm_store.specs.declared.phase.Phase.TheVariants.{Stopped}
 use Rattle.alm_bench.specs.declared.parts.Parts.{Parts}
 use Rattle.alm_flusher.specs.declared.advance.Advance as A
 use Rattle.alm_bench.specs.declared.step.Step.{Step}

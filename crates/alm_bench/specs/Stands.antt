@@ -3,7 +3,7 @@ use Rattle.std.specs.Prelude.{◌≡◌, true, false, []}
 use Rattle.alm_disk.specs.declared.disk.Disk
 use Rattle.alm_keeper.specs.declared.keeper.Keeper.{Keeper}
 use Rattle.alm_store.specs.declared.store.Store.{Ghosts}
-use Rattle.alm_store.specs.Keepers.{StandsFor, IsSpent}
+use Rattle.alm_keeper.specs.AsStore.{StandsFor, IsSpent}
 use Rattle.alm_bench.specs.declared.setup.Setup as T
 use Rattle.alm_bench.specs.declared.setup.Setup.TheVariants.{Open, Shut, Gone}
 use Rattle.alm_bench.specs.declared.bench.Bench.{Bench}
@@ -29,3 +29,21 @@ module _ {D : Type 0} {g : Ghosts (Keeper D) D} {d : Disk.Ghosts D} where
 
   abbrev pub sight_of : Bench D D g d → Sight
   sight_of bench = sight bench.setup
+
+  -- it has its device: it isn't in the middle of a step
+  abbrev pub IsThere : T.Setup D D g d → Type 0
+  IsThere (Open parts) = Unit {0}
+  IsThere (Shut disk) = Unit {0}
+  IsThere Gone = ⊥
+
+  abbrev pub HasDevice : Bench D D g d → Type 0
+  HasDevice bench = IsThere bench.setup
+
+  -- that device does what its trait says
+  abbrev pub serves_well : T.Setup D D g d → Type 0
+  serves_well (Open parts) = g.honest parts.flusher.store
+  serves_well (Shut disk) = d.honest disk
+  serves_well Gone = ⊥
+
+  abbrev pub IsHonest : Bench D D g d → Type 0
+  IsHonest bench = serves_well bench.setup

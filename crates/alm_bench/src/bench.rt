@@ -1,9 +1,9 @@
 //! A bench: all parts over a device, driven step by step.
 
-ghost use Rattle.std.specs.Prelude.{◌≡◌, ◌↔◌, ℕ, List, IfOk, IfErr, OnErr};
+ghost use Rattle.std.specs.Prelude.{◌≡◌, ◌↔◌, ℕ, List, false, IfOk, IfErr, OnErr};
 ghost use Rattle.alm_disk.specs.Device.{IsImage};
 ghost use Rattle.alm_model.specs.Plant.{Condensed};
-ghost use Rattle.alm_store.specs.Keepers.{StandsFor, IsSpent};
+ghost use Rattle.alm_keeper.specs.AsStore.{StandsFor, IsSpent};
 ghost use Rattle.alm_store.specs.Opening.{HasCause};
 ghost use Rattle.alm_bench.specs.World.{World, Answers, after, first, shut};
 ghost use Rattle.alm_bench.specs.declared.step.Step.TheVariants as S;
@@ -32,7 +32,7 @@ where
 
 impl<D: Crashable + Drop> Bench<D> {
     ghost use Rattle.alm_bench.specs.Matches.{IsInner};
-    ghost use Rattle.alm_bench.specs.Stands.{Stands, sight_of};
+    ghost use Rattle.alm_bench.specs.Stands.{Stands, sight_of, HasDevice, IsHonest};
     ghost use Rattle.alm_bench.specs.Headline.{Headline, Moves, IsRun, StandOnly, after_all};
     ghost use Rattle.alm_bench.specs.declared.step.Step.TheVariants as S;
 
@@ -40,6 +40,8 @@ impl<D: Crashable + Drop> Bench<D> {
     pub fn closed(disk: D) -> Bench<D>
         ensures stands { D.honest disk → (plant : Condensed) → StandOnly (D.state disk) plant → Stands (shut (first plant)) result }
         ensures device { sight_of result ≡ record { state = D.state disk; failures = D.failures disk } }
+        ensures honest { D.honest disk ↔ IsHonest result }
+        ensures there { HasDevice result }
     {
         Bench {
             setup: Setup::Shut(disk),
@@ -51,6 +53,9 @@ impl<D: Crashable + Drop> Bench<D> {
     /// Refused, and the device is given back, where it stands for nothing, where it failed, or for want of memory.
     pub fn new(alloc: Global, disk: D) -> Result<Bench<D>, (OpenFault, D)>
         ensures stands { D.honest disk → (plant : Condensed) → StandOnly (D.state disk) plant → IfOk result (λ bench. Stands (first plant) bench) }
+        /// What it reads is one of the images before, and nothing is pending.
+        ensures device { D.honest disk → IfOk result (λ bench. IsImage (D.state disk) (sight_of bench).state.bytes × ((place : ℕ) → (sight_of bench).state.pending place ≡ false)) }
+        ensures there { IfOk result (λ bench. HasDevice bench) }
         ensures honest { IfErr result (λ e. D.honest disk ↔ D.honest e.1) }
         ensures no_new_image { D.honest disk → IfErr result (λ e. (image : List ℕ) → IsImage (D.state e.1) image → IsImage (D.state disk) image) }
         ensures cause { D.honest disk → IfErr result (λ e. HasCause StandsFor (D.state disk) e.0 (D.failures disk) (D.failures e.1)) }
@@ -60,6 +65,20 @@ impl<D: Crashable + Drop> Bench<D> {
                 setup: Setup::Open(parts),
             }),
             Err(refused) => Err(refused),
+        }
+    }
+
+    /// The device alone.
+    pub fn into_disk(self) -> D
+        requires { HasDevice self }
+        ensures honest { IsHonest self ↔ D.honest result }
+        ensures state { D.state result ≡ (sight_of self).state }
+        ensures failures { D.failures result ≡ (sight_of self).failures }
+    {
+        match self.setup {
+            Setup::Open(parts) => parts.into_device(),
+            Setup::Shut(disk) => disk,
+            Setup::Gone => unreachable!(),
         }
     }
 
@@ -93,6 +112,7 @@ impl<D: Crashable + Drop> Bench<D> {
         ensures answer { (w : World) → Stands w self.old → Answers w (S.Crash bytes.now) result }
         ensures stands { (w : World) → Stands w self.old → Stands (after w (S.Crash bytes.now) result) self.new }
         ensures moves { (w : World) → Stands w self.old → Moves StandsFor IsSpent w (S.Crash bytes.now) result (sight_of self.old) (sight_of self.new) }
+        ensures there { HasDevice self.old → HasDevice self.new }
     {
         match self.take() {
             Setup::Open(parts) => {
@@ -114,6 +134,7 @@ impl<D: Crashable + Drop> Bench<D> {
         ensures answer { (w : World) → Stands w self.old → Answers w S.Reopen result }
         ensures stands { (w : World) → Stands w self.old → Stands (after w S.Reopen result) self.new }
         ensures moves { (w : World) → Stands w self.old → Moves StandsFor IsSpent w S.Reopen result (sight_of self.old) (sight_of self.new) }
+        ensures there { HasDevice self.old → HasDevice self.new }
     {
         match self.take() {
             Setup::Shut(disk) => match open_parts::<Keeper<D>>(alloc, disk) {
@@ -140,6 +161,7 @@ impl<D: Crashable + Drop> Bench<D> {
         ensures answer { (w : World) → Stands w self.old → Answers w S.Call result }
         ensures stands { (w : World) → Stands w self.old → Stands (after w S.Call result) self.new }
         ensures moves { (w : World) → Stands w self.old → Moves StandsFor IsSpent w S.Call result (sight_of self.old) (sight_of self.new) }
+        ensures there { HasDevice self.old → HasDevice self.new }
     {
         match self.take() {
             Setup::Open(mut parts) => match parts.call() {
@@ -175,6 +197,7 @@ impl<D: Crashable + Drop> Bench<D> {
         ensures answer { (w : World) → Stands w self.old → Answers w step.now result }
         ensures stands { (w : World) → Stands w self.old → Stands (after w step.now result) self.new }
         ensures moves { (w : World) → Stands w self.old → Moves StandsFor IsSpent w step.now result (sight_of self.old) (sight_of self.new) }
+        ensures there { HasDevice self.old → HasDevice self.new }
     {
         match self.take() {
             Setup::Open(mut parts) => {
@@ -195,6 +218,7 @@ impl<D: Crashable + Drop> Bench<D> {
         ensures answer { (w : World) → Stands w self.old → Answers w step.now result }
         ensures stands { (w : World) → Stands w self.old → Stands (after w step.now result) self.new }
         ensures moves { (w : World) → Stands w self.old → Moves StandsFor IsSpent w step.now result (sight_of self.old) (sight_of self.new) }
+        ensures there { HasDevice self.old → HasDevice self.new }
     {
         match step {
             Step::Crash(bytes) => self.crash(bytes),
@@ -217,6 +241,7 @@ impl<D: Crashable + Drop> Bench<D> {
         ensures answer { (w : World) → Stands w self.old → Answers w step.now result }
         ensures stands { (w : World) → Stands w self.old → Stands (after w step.now result) self.new }
         ensures moves { (w : World) → Stands w self.old → Moves StandsFor IsSpent w step.now result (sight_of self.old) (sight_of self.new) }
+        ensures there { HasDevice self.old → HasDevice self.new }
         ensures before { (w : World) → Stands w self.old → Headline StandsFor IsSpent w (sight_of self.old).state }
         ensures headline { (w : World) → Stands w self.old → Headline StandsFor IsSpent (after w step.now result) (sight_of self.new).state }
     {
@@ -231,6 +256,7 @@ impl<D: Crashable + Drop> Bench<D> {
     pub fn run(&mut self, alloc: Global, steps: &[Step]) -> Result<Vec<Event>, AllocError>
         ensures run { IfOk result (λ trace. (w : World) → Stands w self.old → IsRun StandsFor IsSpent w (sight_of self.old) steps.now trace.items (sight_of self.new)) }
         ensures stands { IfOk result (λ trace. (w : World) → Stands w self.old → Stands (after_all w steps.now trace.items) self.new) }
+        ensures there { HasDevice self.old → HasDevice self.new }
         ensures memory { OnErr result (self.new ≡ self.old) }
     {
         let mut trace = Vec::with_capacity(alloc, steps.len())?;

@@ -6,7 +6,7 @@ ghost use Rattle.alm_disk.specs.Device.{IsImage};
 ghost use Rattle.alm_model.specs.Plant.{Condensed};
 ghost use Rattle.alm_model.specs.Step.{run};
 ghost use Rattle.alm_board.specs.Fronts.{IsFront};
-ghost use Rattle.alm_store.specs.Keepers.{StandsFor, IsSpent};
+ghost use Rattle.alm_keeper.specs.AsStore.{StandsFor, IsSpent};
 ghost use Rattle.alm_bench.specs.World.{first, shut};
 ghost use Rattle.alm_bench.specs.Headline.{Sight, IsRun, after_all};
 ghost use Rattle.alm_bench.specs.Told.{Tells};

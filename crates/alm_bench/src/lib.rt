@@ -6,8 +6,8 @@
 //! | [`Bench`] | all parts over a device, or a closed device alone |
 //! | [`Step`] | what happens next: one slot sends or receives, one part goes on, the power fails, the device is opened again |
 //! | [`Event`] | what came of it; the events of a run are its trace |
-//! | [`life`] | a run from a formatted device |
-//! | [`whole_life`] | a run from a device that is formatted first |
+//! | [`life`] | a run from a formatted device, which is given back |
+//! | [`whole_life`] | a run from a device that is formatted first, and given back |
 //! | [`laws`] | what was told or shown in a run is recovered ever after |
 //!
 //! The one contract that is used above is that of [`Bench::run`], and [`life`] says it in one call. The trace is that of a world

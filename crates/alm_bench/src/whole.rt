@@ -1,12 +1,12 @@
 //! The whole life of a device under any steps.
 
-ghost use Rattle.std.specs.Prelude.{◌≡◌, ℕ, false, length, IfOk, IfErr};
+ghost use Rattle.std.specs.Prelude.{◌≡◌, ◌⊎◌, ◌↔◌, ℕ, false, length, IfOk, IfErr};
 ghost use Rattle.alm_disk.specs.Failures.{HasFailed};
 ghost use Rattle.alm_checkpoint.specs.Headers.{suits};
-ghost use Rattle.alm_keeper.specs.Moments.{Formats, FailsIn};
+ghost use Rattle.alm_keeper.specs.Moments.{Formats, Goes, FailsIn};
 ghost use Rattle.alm_model.specs.New.{new_plant};
 ghost use Rattle.alm_model.specs.Plant.{Condensed};
-ghost use Rattle.alm_store.specs.Keepers.{StandsFor, IsSpent};
+ghost use Rattle.alm_keeper.specs.AsStore.{StandsFor, IsSpent};
 ghost use Rattle.alm_bench.specs.World.{first, shut};
 ghost use Rattle.alm_bench.specs.Headline.{Sight, IsRun, StandOnly};
 
@@ -18,42 +18,54 @@ use alm_keeper::{FormatFault, format};
 use alm_types::Table;
 use std::alloc::{AllocError, Global};
 
-/// The headline: a device that is honest, and that stands for a plant whatever a crash leaves of it, goes through these steps. The
-/// first of them that is possible is a crash or a reopening.
+/// The headline: a device that is honest, and that stands for a plant whatever a crash leaves of it, goes through these steps, and is
+/// given back beside their trace. The first of them that is possible is a crash or a reopening.
+///
+/// Refused for want of memory, before the first step: the device is given back as it was.
 pub fn life<D: Crashable + Drop>(
     alloc: Global,
     disk: D,
     steps: &[Step],
-) -> Result<Vec<Event>, AllocError>
-    ensures { D.honest disk → (plant : Condensed) → StandOnly (D.state disk) plant →
-        IfOk result (λ trace. (last : Sight) × IsRun StandsFor IsSpent (shut (first plant)) (record { state = D.state disk; failures = D.failures disk }) steps.now trace.items last) }
+) -> Result<(Vec<Event>, D), (AllocError, D)>
+    ensures run { D.honest disk → (plant : Condensed) → StandOnly (D.state disk) plant →
+        IfOk result (λ lived. D.honest lived.1 × IsRun StandsFor IsSpent (shut (first plant)) (record { state = D.state disk; failures = D.failures disk }) steps.now lived.0.items (record { state = D.state lived.1; failures = D.failures lived.1 })) }
+    ensures refused { IfErr result (λ e. (D.honest disk ↔ D.honest e.1) × (D.state e.1 ≡ D.state disk) × (D.failures e.1 ≡ D.failures disk)) }
 {
     let mut bench = Bench::closed(disk);
-    bench.run(alloc, steps)
+    match bench.run(alloc, steps) {
+        Ok(trace) => Ok((trace, bench.into_disk())),
+        Err(fault) => Err((fault, bench.into_disk())),
+    }
 }
 
-/// The headline from the first byte on: an honest device is formatted for a table, and goes through these steps. At first it stands
-/// for the table's new plant.
+/// The headline from the first byte on: an honest device is formatted for a table, goes through these steps, and is given back beside
+/// their trace. At first it stands for the table's new plant.
 ///
-/// Refused where `format` refuses, and for want of memory.
+/// Refused, and the device is given back, where `format` refuses, and for want of memory.
 pub fn whole_life<D: Crashable + Drop>(
     alloc: Global,
     disk: D,
     table: &Table,
     steps: &[Step],
-) -> Result<Vec<Event>, FormatFault>
+) -> Result<(Vec<Event>, D), (FormatFault, D)>
+    // The run begins at what `format` makes of the device.
     ensures run { D.honest disk →
-        IfOk result (λ trace. (formatted last : Sight) × StandOnly formatted.state (new_plant table.now) × IsRun StandsFor IsSpent (shut (first (new_plant table.now))) formatted steps.now trace.items last) }
-    ensures too_small { IfErr result (λ fault. fault ≡ FormatFault.TooSmall → (n : ℕ) → suits (D.size disk) (length table.now.alarms) table.now.areas n ≡ false) }
+        IfOk result (λ lived. D.honest lived.1 × (formatted : D) × Formats Goes D.serves D.state (D.honest disk × ((D.state disk).faulted ≡ false)) (D.size disk) table.now disk formatted ×
+        StandOnly (D.state formatted) (new_plant table.now) × IsRun StandsFor IsSpent (shut (first (new_plant table.now))) (record { state = D.state formatted; failures = D.failures formatted }) steps.now lived.0.items (record { state = D.state lived.1; failures = D.failures lived.1 })) }
+    ensures too_small { IfErr result (λ e. e.0 ≡ FormatFault.TooSmall → (e.1 ≡ disk) × ((n : ℕ) → suits (D.size disk) (length table.now.alarms) table.now.areas n ≡ false)) }
     // The device calls that were made, of which the last failed.
-    ensures failed { IfErr result (λ fault. fault ≡ FormatFault.Disk → (left : D) × HasFailed (D.failures disk) (D.failures left) ×
-        Formats FailsIn D.serves D.state (D.honest disk × ((D.state disk).faulted ≡ false)) (D.size disk) table.now disk left) }
+    ensures failed { IfErr result (λ e. e.0 ≡ FormatFault.Disk → HasFailed (D.failures disk) (D.failures e.1) ×
+        Formats FailsIn D.serves D.state (D.honest disk × ((D.state disk).faulted ≡ false)) (D.size disk) table.now disk e.1) }
+    // Memory was short before the device was touched, or as soon as it was formatted.
+    ensures memory { IfErr result (λ e. e.0 ≡ FormatFault.OutOfMemory → (e.1 ≡ disk) ⊎ ((formatted : D) × Formats Goes D.serves D.state (D.honest disk × ((D.state disk).faulted ≡ false)) (D.size disk) table.now disk formatted ×
+        (D.state e.1 ≡ D.state formatted) × (D.failures e.1 ≡ D.failures formatted))) }
+    ensures honest { IfErr result (λ e. D.honest disk ↔ D.honest e.1) }
 {
     match format(alloc, disk, table) {
         Ok(disk) => match life(alloc, disk, steps) {
-            Ok(trace) => Ok(trace),
-            Err(AllocError) => Err(FormatFault::OutOfMemory),
+            Ok(lived) => Ok(lived),
+            Err((AllocError, disk)) => Err((FormatFault::OutOfMemory, disk)),
         },
-        Err((fault, _left)) => Err(fault),
+        Err(refused) => Err(refused),
     }
 }

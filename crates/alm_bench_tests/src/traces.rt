@@ -43,7 +43,8 @@ pub fn trace_on(
     steps: &[Step],
 ) -> Result<Vec<Event>, Fail> {
     let disk = MemDisk::new(alloc, vec![in alloc; 0u8; size]?, calls)?;
-    Ok(whole_life(alloc, disk, table, steps).ok().ok_or("a run")?)
+    let (trace, _left) = whole_life(alloc, disk, table, steps).ok().ok_or("a run")?;
+    Ok(trace)
 }
 
 /// The first place where a trace isn't the one that is wanted.

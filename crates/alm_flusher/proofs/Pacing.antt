@@ -4,11 +4,11 @@ use Rattle.alm_types.specs.declared.entry.Entry.{Entry}
 use Rattle.alm_types.specs.declared.verdict.Verdict.{Verdict}
 use Rattle.alm_types.specs.declared.verdict.Verdict.TheVariants.{Accepted, Refused}
 use Rattle.alm_model.specs.Judging.{accepted_of, when_accepted}
-use Rattle.alm_keeper.specs.Pace.{Going, Paced, IsAhead, KeepsPace, longest}
-use Rattle.alm_keeper.specs.declared.phase.Phase.{Phase}
-use Rattle.alm_keeper.specs.declared.phase.Phase.TheVariants.{Idle, Committing, Copying, Paused, Stopped}
-use Rattle.alm_keeper.specs.declared.progress.Progress.{Progress}
-use Rattle.alm_keeper.specs.declared.progress.Progress.TheVariants.{More, Done, Failed}
+use Rattle.alm_store.specs.Pace.{Going, Paced, IsAhead, KeepsPace, longest}
+use Rattle.alm_store.specs.declared.phase.Phase.{Phase}
+use Rattle.alm_store.specs.declared.phase.Phase.TheVariants.{Idle, Committing, Copying, Paused, Stopped}
+use Rattle.alm_store.specs.declared.progress.Progress.{Progress}
+use Rattle.alm_store.specs.declared.progress.Progress.TheVariants.{More, Done, Failed}
 use Rattle.alm_store.specs.Advancing.{IsOpen}
 use Rattle.alm_store.specs.Pacing.{SamePace, IsFresh, Grows, Sends, Turns, Goes}
 use Rattle.alm_flusher.specs.Pacing.{NearPace}

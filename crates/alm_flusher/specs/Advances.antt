@@ -3,8 +3,8 @@ use Rattle.std.specs.Prelude.{◌≡◌, ◌≢◌, ◌<◌, ◌≤◌, ◌+◌,
 use Rattle.alm_types.specs.declared.action.Action.{Action}
 use Rattle.alm_model.specs.Plant.{Condensed}
 use Rattle.alm_model.specs.Step.{run}
-use Rattle.alm_keeper.specs.declared.phase.Phase.{Phase}
-use Rattle.alm_keeper.specs.declared.phase.Phase.TheVariants.{Idle, Committing, Copying, Paused, Stopped}
+use Rattle.alm_store.specs.declared.phase.Phase.{Phase}
+use Rattle.alm_store.specs.declared.phase.Phase.TheVariants.{Idle, Committing, Copying, Paused, Stopped}
 use Rattle.alm_store.specs.Advancing.{IsOpen}
 use Rattle.alm_flusher.specs.declared.advance.Advance.{Advance}
 use Rattle.alm_flusher.specs.declared.advance.Advance.TheVariants.{More, Committed, Failed, Nothing}

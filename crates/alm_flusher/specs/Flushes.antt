@@ -13,8 +13,8 @@ use Rattle.alm_rings.specs.declared.outbox.Outbox.{Outbox}
 use Rattle.alm_rings.specs.Placed.{outbox_at, released_by, room_by}
 use Rattle.alm_rings.specs.declared.fetch_ends.FetchEnds.{FetchEnds}
 use Rattle.alm_rings.specs.Batches.{fetched_of, coming_in}
-use Rattle.alm_keeper.specs.declared.phase.Phase.{Phase}
-use Rattle.alm_keeper.specs.declared.phase.Phase.TheVariants.{Idle, Stopped}
+use Rattle.alm_store.specs.declared.phase.Phase.{Phase}
+use Rattle.alm_store.specs.declared.phase.Phase.TheVariants.{Idle, Stopped}
 use Rattle.alm_store.specs.Advancing.{IsOpen}
 use Rattle.alm_flusher.specs.HeldBatch.{next_of, passed, left_of}
 use Rattle.alm_flusher.specs.declared.advance.Advance.{Advance}

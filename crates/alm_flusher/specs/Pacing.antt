@@ -1,7 +1,7 @@
 -- How a store keeps its pace between a commit and the checkpoint that is opened behind it.
 use Rattle.std.specs.Prelude.{◌≡◌, ◌⊎◌, ℕ, ◌+◌, ◌*◌, ◌≤◌, Option, Some, None}
-use Rattle.alm_keeper.specs.Pace.{Going, Paced, IsAhead, longest}
-use Rattle.alm_keeper.specs.declared.phase.Phase.{Phase}
+use Rattle.alm_store.specs.Pace.{Going, Paced, IsAhead, longest}
+use Rattle.alm_store.specs.declared.phase.Phase.{Phase}
 
 -- where no checkpoint is open more than half of the segment may be used by one frame that was committed now
 abbrev pub NearPace : (segment : ℕ) → Phase → (used written : ℕ) → Option Going → Type 0

@@ -5,17 +5,16 @@ ghost use Rattle.alm_disk.specs.Failures.{HasFailed};
 ghost use Rattle.alm_model.specs.Judging.{accepted_of};
 ghost use Rattle.alm_model.specs.Rules.{AllAdmitted, admits_all};
 ghost use Rattle.alm_model.specs.Step.{run};
-ghost use Rattle.alm_keeper.specs.Calls.{IsCall};
-ghost use Rattle.alm_keeper.specs.Pace.{KeepsPace};
+ghost use Rattle.alm_store.specs.Calls.{IsCall};
+ghost use Rattle.alm_store.specs.Pace.{KeepsPace};
 ghost use Rattle.alm_store.specs.Advancing.{IsCalls, IsOpen};
 ghost use Rattle.alm_store.specs.Pacing.{SamePace};
 ghost use Rattle.alm_flusher.specs.Advances.{Advances, Behind, GoesOn, IsSure, Within};
 ghost use Rattle.alm_flusher.specs.Pacing.{NearPace};
 
 use crate::advance::Advance;
-use alm_keeper::{Phase, Progress};
 use alm_model::accepted_in;
-use alm_store::Store;
+use alm_store::{Phase, Progress, Store};
 use alm_types::Batch;
 
 // A batch has at most 256 accepted actions.

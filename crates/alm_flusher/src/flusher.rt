@@ -9,7 +9,7 @@ ghost use Rattle.alm_rings.specs.declared.receipt.Receipt.{Receipt};
 ghost use Rattle.alm_rings.specs.Batches.{fetched_of};
 ghost use Rattle.alm_rings.specs.Placed.{released_by};
 ghost use Rattle.alm_board.specs.Fronts.{IsFront};
-ghost use Rattle.alm_keeper.specs.declared.phase.Phase.TheVariants.{Committing};
+ghost use Rattle.alm_store.specs.declared.phase.Phase.TheVariants.{Committing};
 ghost use Rattle.alm_flusher.specs.HeldBatch.{batches_of, waiting_of, ready_of, stored_of, shown_of, told_of};
 ghost use Rattle.alm_flusher.specs.Replies.{replies_in, replies_to};
 
@@ -20,11 +20,10 @@ use crate::held::Held;
 use crate::publishes::Publishes;
 use crate::release::Release;
 use alm_board::{Board, Publish};
-use alm_keeper::Phase;
 use alm_rings::{
     Console, FetchEnds, Outbox, Receipt, SealEnds, Told, batches_beside, replies_beside,
 };
-use alm_store::Store;
+use alm_store::{Phase, Store};
 use alm_types::{Entry, Slot, Verdict};
 use std::mem::replace;
 use std::snapshot::Snapshot;
@@ -85,8 +84,8 @@ fn number_of(verdict: Verdict, before: u64, count: u64) -> u64
 impl<K: Store, T: Told + Drop, B: Board<Told = T>> Flusher<K, T, B> {
     ghost use Rattle.std.specs.Prelude.{◌≡◌, ◌≢◌, ◌↔◌, ◌⊎◌, ◌+◌, ◌*◌, ◌<◌, ◌≤◌, ◌++◌, [], ℕ, List, length, MatchBool, false, slice_get, Some, None, IsSome, IsTrue};
     ghost use Rattle.alm_disk.specs.Failures.{HasFailed};
-    ghost use Rattle.alm_keeper.specs.Calls.{IsCall};
-    ghost use Rattle.alm_keeper.specs.Pace.{KeepsPace};
+    ghost use Rattle.alm_store.specs.Calls.{IsCall};
+    ghost use Rattle.alm_store.specs.Pace.{KeepsPace};
     ghost use Rattle.alm_store.specs.Advancing.{IsCalls, IsOpen, Same, SameWords};
     ghost use Rattle.alm_types.specs.declared.action.Action.{Action};
     ghost use Rattle.alm_rings.specs.Batches.{AreBatchEnds, SameSealEnds, SameFetchEnds, sealed_of, fetched_of, given_of, emptied_of, empties_in, coming_in, places_of, places_in};

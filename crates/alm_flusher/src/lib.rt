@@ -23,7 +23,7 @@
 //! While a batch waits that was taken as it was fetched, no more than one piece goes out (`waits` of [`Flusher::advance`]). A store
 //! that keeps its pace takes each batch as it is fetched, where the half that stands is of version 02 (`taken` of
 //! [`Flusher::fetch`]): at its opening one does where at most half of the segment is used, and it goes on so with each call, as long
-//! as the segment has 452,651 bytes or more and epochs are left (`pace` and `newest` of both calls; alm_keeper's Pace says what that
+//! as the segment has 452,651 bytes or more and epochs are left (`pace` and `newest` of both calls; alm_store's Pace says what that
 //! is).
 //!
 //! It is not promised that a reply is ever released: a ring may stay full, and a store may stop.

@@ -12,8 +12,8 @@ use Rattle.alm_checkpoint.specs.Layouts.{half_at, half_len, device_len}
 use Rattle.alm_keeper.specs.declared.book.Book.{Book}
 use Rattle.alm_keeper.specs.declared.stage.Stage.{Stage}
 use Rattle.alm_keeper.specs.declared.stage.Stage.TheVariants.{Idle, Close, CloseSync, Body, BodySync, Gate, GateSync, Stopped}
-use Rattle.alm_keeper.specs.declared.progress.Progress.{Progress}
-use Rattle.alm_keeper.specs.declared.progress.Progress.TheVariants.{More, Done, Failed}
+use Rattle.alm_store.specs.declared.progress.Progress.{Progress}
+use Rattle.alm_store.specs.declared.progress.Progress.TheVariants.{More, Done, Failed}
 use Rattle.alm_keeper.specs.declared.stage.Work.{Work}
 use Rattle.alm_keeper.specs.declared.stage.Work.TheVariants.{Commit, Checkpoint}
 use Rattle.alm_keeper.specs.Stages.{IsWorking, rest_stage, rest_work, During}

@@ -23,7 +23,13 @@ pub mod Restored
 pub mod Opened
 pub mod Shut
 pub mod Calls
+pub mod Called
 pub mod Formed
 pub mod Fresh
 pub mod Moments
 pub mod Pace
+pub mod StoreBegun
+pub mod CallsLeft
+pub mod StoreOpened
+pub mod StorePassing
+pub mod StorePacing

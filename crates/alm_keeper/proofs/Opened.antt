@@ -17,8 +17,8 @@ use Rattle.alm_checkpoint.specs.Standing.{HasFault}
 use Rattle.alm_checkpoint.specs.Restoring.{IsUnrestored}
 use Rattle.alm_checkpoint.specs.Restoring.{Holds as RestoredAs}
 use Rattle.alm_checkpoint.proofs.CutOf.{cut_at}
-use Rattle.alm_keeper.specs.declared.open_fault.OpenFault.{OpenFault}
-use Rattle.alm_keeper.specs.declared.open_fault.OpenFault.TheVariants.{Unformatted, Damaged, Disk, OutOfMemory}
+use Rattle.alm_store.specs.declared.open_fault.OpenFault.{OpenFault}
+use Rattle.alm_store.specs.declared.open_fault.OpenFault.TheVariants.{Unformatted, Damaged, Disk, OutOfMemory}
 use Rattle.alm_keeper.specs.declared.opening.Marks.{Marks}
 use Rattle.alm_keeper.specs.declared.book.Book.{Book}
 use Rattle.alm_keeper.specs.Stand.{Account, Ready}

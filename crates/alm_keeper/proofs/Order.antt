@@ -2,7 +2,8 @@
 use Rattle.std.proofs.Common.{vec_capacity, nat_le, take, ◌-◌, ◌≡◌, ℕ, ◌+◌, ◌*◌, ◌^◌, ◌≤◌, ◌<◌, Bool, true, false, List, length, refl, sym, ◌∙◌, ap, subst, arith, ◌∷◌, ◌++◌, true≢false}
 use Rattle.std.proofs.lemmas.List.{take-take}
 use Rattle.std.proofs.lemmas.Bool.{and_parts, leb-true}
-use Rattle.alm_keeper.specs.Stages.{IsWorking, IsResting, first_stage, rest_stage, rest_work, phase_of}
+use Rattle.alm_keeper.specs.Stages.{IsWorking, first_stage, rest_stage, rest_work, phase_of}
+use Rattle.alm_store.specs.Advancing.{IsResting}
 use Rattle.alm_types.specs.declared.action.Action.{Action}
 use Rattle.alm_model.specs.Step.{run}
 use Rattle.alm_model.specs.Rules.{KeepsRules}
@@ -20,7 +21,7 @@ use Rattle.alm_keeper.specs.declared.stage.Work.TheVariants.{Commit, Checkpoint}
 use Rattle.alm_segment.specs.Course.{frame_len}
 use Rattle.alm_checkpoint.specs.declared.layout.Layout.{Layout}
 use Rattle.alm_checkpoint.specs.Cut.{IsLayout}
-use Rattle.alm_keeper.specs.declared.phase.Phase.TheVariants as at
+use Rattle.alm_store.specs.declared.phase.Phase.TheVariants as at
 use Rattle.alm_keeper.specs.Stand.{Account, end_of, committed}
 use Rattle.alm_keeper.specs.Keeping.{account, run_in, Committing, DoesWork, Does, Opened, Sent, IsCopying, Grows, GrowsWhere, Closes, InOrder}
 

@@ -1,7 +1,7 @@
 -- A store that keeps its pace takes every batch.
-use Rattle.std.proofs.Common.{ℕ, ◌+◌, ◌-◌, ◌*◌, ◌≤◌, Option, Some, None, arith}
-use Rattle.alm_keeper.specs.declared.phase.Phase.{Phase}
-use Rattle.alm_keeper.specs.Pace.{Going, Paced, KeepsPace, TakesAny, IsAhead}
+use Rattle.std.proofs.Common.{ℕ, ◌≤◌, Option, Some, None, arith}
+use Rattle.alm_store.specs.declared.phase.Phase.{Phase}
+use Rattle.alm_store.specs.Pace.{Going, Paced, KeepsPace, TakesAny, IsAhead}
 
 -- at most 53 commits come into one checkpoint
 pub at_most : (segment used : ℕ) (ahead : Type 0) (g : Going) (p : Paced segment used ahead g) → p.commits ≤ 53
@@ -11,7 +11,3 @@ at_most segment used ahead g p = omega (arith, p.frames, p.whole)
 pub takes_any : (segment : ℕ) (phase : Phase) (used written : ℕ) (going : Option Going) → 452651 ≤ segment → KeepsPace segment phase used written going → TakesAny segment used
 takes_any segment phase used written None long keeps = omega (arith, long, keeps)
 takes_any segment phase used written (Some g) long keeps = omega (arith, long, keeps.half, at_most segment used (IsAhead phase written) g keeps)
-
--- where there is room for the longest frame any batch fits
-pub room_for : (room segment actions : ℕ) → actions ≤ 256 → TakesAny segment (segment - room) → 19 + 16 * actions + 1 ≤ room
-room_for room segment actions few any = omega (arith, few, any)

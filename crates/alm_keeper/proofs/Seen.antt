@@ -6,10 +6,10 @@ use Rattle.alm_model.specs.Step.{run}
 use Rattle.alm_segment.specs.Course.{frame_len}
 use Rattle.alm_checkpoint.specs.Layouts.{head_len, image_size}
 use Rattle.alm_keeper.specs.declared.book.Book.{Book}
-use Rattle.alm_keeper.specs.declared.refused.Refused.{Refused}
-use Rattle.alm_keeper.specs.declared.refused.Refused.TheVariants as no
-use Rattle.alm_keeper.specs.declared.progress.Progress.{Progress}
-use Rattle.alm_keeper.specs.declared.progress.Progress.TheVariants.{More, Done, Failed}
+use Rattle.alm_store.specs.declared.refused.Refused.{Refused}
+use Rattle.alm_store.specs.declared.refused.Refused.TheVariants as no
+use Rattle.alm_store.specs.declared.progress.Progress.{Progress}
+use Rattle.alm_store.specs.declared.progress.Progress.TheVariants.{More, Done, Failed}
 use Rattle.alm_keeper.specs.declared.stage.Stage.{Stage}
 use Rattle.alm_keeper.specs.declared.stage.Stage.TheVariants.{Idle, Close, CloseSync, Body, BodySync, Gate, GateSync, Stopped}
 use Rattle.alm_keeper.specs.declared.stage.Work.{Work}
@@ -37,6 +37,7 @@ module _ {D : Type 0} (disk : D) where
     disk = disk;
     stage = b.1 i;
     work = b.2 i;
+    half = (b.4.account i).half;
     other_open = (b.4.account i).other_open;
     image = image_size (b.4.account i).layout;
     segment = (b.4.account i).layout.segment;
@@ -51,6 +52,7 @@ module _ {D : Type 0} (disk : D) where
     disk = disk;
     stage = b.1 i;
     work = b.2 i;
+    half = (b.4.account i).half;
     other_open = (b.4.account i).other_open;
     image = image_size (b.4.account i).layout;
     segment = (b.4.account i).layout.segment;
@@ -71,6 +73,7 @@ module _ {D : Type 0} (disk : D) where
     disk = disk;
     stage = b.stage i;
     work = b.work i;
+    half = (b.account i).half;
     other_open = (b.account i).other_open;
     image = image_size (b.account i).layout;
     segment = (b.account i).layout.segment;
@@ -90,6 +93,7 @@ module _ {D : Type 0} (disk to : D) (old new : Book) where
     disk = to;
     stage = c.stage i;
     work = c.work i;
+    half = (c.account i).half;
     other_open = (c.account i).other_open;
     image = image_size (c.account i).layout;
     segment = (c.account i).layout.segment;
@@ -110,6 +114,7 @@ module _ {D : Type 0} (disk to : D) (old new : Book) where
     disk = to;
     stage = t.stage i;
     work = t.work i;
+    half = (t.account i).half;
     other_open = (t.account i).other_open;
     image = image_size (t.account i).layout;
     segment = (t.account i).layout.segment;

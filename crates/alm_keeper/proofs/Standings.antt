@@ -7,7 +7,8 @@ use Rattle.alm_disk.specs.Settled.{IsSettled}
 use Rattle.alm_disk.proofs.Images.{settled_image}
 use Rattle.alm_segment.proofs.Segments.{folds}
 use Rattle.alm_checkpoint.specs.Standing.{Stands}
-use Rattle.alm_checkpoint.specs.Layouts.{head_len}
+use Rattle.alm_checkpoint.specs.Layouts.{head_len, image_size}
+use Rattle.alm_checkpoint.specs.Opening.{opened_in}
 use Rattle.alm_checkpoint.specs.Cut.{device_of}
 use Rattle.alm_checkpoint.proofs.Shown.{shown, shown_opens, stands}
 use Rattle.alm_checkpoint.proofs.Grown.{gate_at}
@@ -17,14 +18,15 @@ use Rattle.alm_keeper.specs.declared.stage.Stage.TheVariants.{Idle, Close, Close
 use Rattle.alm_keeper.specs.declared.stage.Work.{Work}
 use Rattle.alm_keeper.specs.declared.stage.Work.TheVariants.{Commit, Checkpoint}
 use Rattle.alm_types.specs.declared.action.Action.{Action}
-use Rattle.alm_keeper.specs.Stages.{IsWorking, IsResting, During, phase_of}
+use Rattle.alm_keeper.specs.Stages.{IsWorking, During, phase_of}
+use Rattle.alm_store.specs.Advancing.{IsResting}
 use Rattle.alm_keeper.specs.Stand.{Holds, Ready, Account, account_of, committed, turned}
 use Rattle.alm_keeper.specs.Piecewise.{Copy, run_text, turned_by}
 use Rattle.alm_keeper.specs.Phases.{KeptIn}
-use Rattle.alm_keeper.specs.Keeper.{Standing, Held, StandsFor, StandsWithRoom, MayStand}
+use Rattle.alm_keeper.specs.Keeper.{Standing, Held, StandsFor, StandsWithRoom, LiesIn, MayStand}
 use Rattle.alm_keeper.specs.Keeper.{next as next_seen_of}
 use Rattle.alm_keeper.specs.Keeper.{Advances as AdvancesSeen}
-use Rattle.alm_keeper.specs.declared.progress.Progress.{Progress}
+use Rattle.alm_store.specs.declared.progress.Progress.{Progress}
 use Rattle.alm_keeper.specs.Keeping.{account, done_by, next_of, next, alone, beside, at_out, standing, held, InOrder, KeptBy, Keeps, MayLeave, Ends}
 use Rattle.alm_keeper.proofs.Commit.{ready_holds}
 use Rattle.alm_keeper.proofs.Order.{Possible, possible, layout_limits, runs_by, frames_by, piece_by, copies_by}
@@ -61,6 +63,16 @@ ready_room a b r =
 
     left : suc (length r.tail) ≡ (standing (account_of r.cut a.plant)).room
     left = omega (arith, gate_at r.cut a.plant (r.gate ∷ r.tail) r.stores r.reaches)
+
+-- .. in its half
+pub ready_lies : (a : Account) (b : List ℕ) → Ready a b → LiesIn a.half (image_size a.layout) a.layout.segment b
+ready_lies a b r = record {
+  opened = shown r.cut (r.gate ∷ r.tail);
+  opens = ap opened_in r.text ∙ shown_opens r.cut a.plant (r.gate ∷ r.tail) r.stores r.reaches;
+  in_half = sym (ap (λ (y : Account). y.half) r.is);
+  image_long = sym (ap (λ (y : Account). image_size y.layout) r.is);
+  segment_long = sym (ap (λ (y : Account). y.layout.segment) r.is);
+}
 
 during_map : (B A B' A' : List ℕ → Type 0) (stage : Stage) (b : List ℕ) → (B b → B' b) → (A b → A' b) → During B A stage b → During B' A' stage b
 during_map B A B' A' Idle b f g d = g d
@@ -168,6 +180,13 @@ rest_stands book state i rests k = by_rest (at_rest book state i rests k)
     by_rest (Idles off kept) = subst (StandsWithRoom (standing (account book))) (sym kept.rests.reads) (ready_room (account book) kept.bytes kept.ready)
     by_rest (Pauses c on run kept) = subst (StandsWithRoom (standing (account book))) (sym kept.1.rests.reads) (ready_room (account book) kept.1.bytes kept.1.ready)
 
+rest_lies : (book : Book) (state : DeviceState) → InOrder book → IsResting (phase_of book.stage book.work) → Keeps state book → LiesIn book.half (image_size book.layout) book.layout.segment state.bytes
+rest_lies book state i rests k = by_rest (at_rest book state i rests k)
+  where
+    by_rest : AtRest book state → LiesIn book.half (image_size book.layout) book.layout.segment state.bytes
+    by_rest (Idles off kept) = subst (LiesIn book.half (image_size book.layout) book.layout.segment) (sym kept.rests.reads) (ready_lies (account book) kept.bytes kept.ready)
+    by_rest (Pauses c on run kept) = subst (LiesIn book.half (image_size book.layout) book.layout.segment) (sym kept.1.rests.reads) (ready_lies (account book) kept.1.bytes kept.1.ready)
+
 -- the same of a keeper as its callers see it
 module _ {D : Type 0} (honest : D → Type 0) (state : D → DeviceState) (disk : D) (book : Book) (k : Held D) (same : held disk book ≡ k) (order : InOrder book) (kept : honest disk → ∥ Keeps (state disk) book ∥₁) where
   pub images_of : honest k.disk → (b : List ℕ) → IsImage (state k.disk) b → ∥ StandsFor k.stored b ⊎ StandsFor (next_seen_of k) b ∥₁
@@ -177,6 +196,10 @@ module _ {D : Type 0} (honest : D → Type 0) (state : D → DeviceState) (disk 
   pub rest_of : honest k.disk → IsResting (phase_of k.stage k.work) → ∥ StandsWithRoom k.stored (state k.disk).bytes ∥₁
   rest_of = subst (λ (h : Held D). honest h.disk → IsResting (phase_of h.stage h.work) → ∥ StandsWithRoom h.stored (state h.disk).bytes ∥₁) same
       (λ is rests. ∥∥₁_map (kept is) (λ x. rest_stands book (state disk) order rests x))
+
+  pub lies_of : honest k.disk → IsResting (phase_of k.stage k.work) → ∥ LiesIn k.half k.image k.segment (state k.disk).bytes ∥₁
+  lies_of = subst (λ (h : Held D). honest h.disk → IsResting (phase_of h.stage h.work) → ∥ LiesIn h.half h.image h.segment (state h.disk).bytes ∥₁) same
+      (λ is rests. ∥∥₁_map (kept is) (λ x. rest_lies book (state disk) order rests x))
 
   pub lengths_of : (k.image ≤ 3289168) × (k.segment ≤ 16777216)
   lengths_of = subst (λ (h : Held D). (h.image ≤ 3289168) × (h.segment ≤ 16777216)) same (layout_limits book.layout order.layout)

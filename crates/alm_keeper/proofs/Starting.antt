@@ -9,13 +9,14 @@ use Rattle.alm_checkpoint.specs.Headers.{half_head_text}
 use Rattle.alm_checkpoint.specs.declared.layout.Layout.{Layout}
 use Rattle.alm_checkpoint.specs.Layouts.{device_len}
 use Rattle.alm_keeper.specs.declared.book.Book.{Book}
-use Rattle.alm_keeper.specs.declared.refused.Refused.{Refused}
-use Rattle.alm_keeper.specs.declared.refused.Refused.TheVariants as no
+use Rattle.alm_store.specs.declared.refused.Refused.{Refused}
+use Rattle.alm_store.specs.declared.refused.Refused.TheVariants as no
 use Rattle.alm_keeper.specs.declared.stage.Stage.{Stage}
 use Rattle.alm_keeper.specs.declared.stage.Stage.TheVariants.{Idle, Close, CloseSync, Body, BodySync, Gate, GateSync, Stopped}
 use Rattle.alm_keeper.specs.declared.stage.Work.{Work}
 use Rattle.alm_keeper.specs.declared.stage.Work.TheVariants.{Commit, Checkpoint}
-use Rattle.alm_keeper.specs.Stages.{IsWorking, IsResting, first_stage, phase_of}
+use Rattle.alm_keeper.specs.Stages.{IsWorking, first_stage, phase_of}
+use Rattle.alm_store.specs.Advancing.{IsResting}
 use Rattle.alm_keeper.specs.Stand.{Holds, Account, Ready}
 use Rattle.alm_keeper.specs.Piecewise.{Copy, fresh, run_text}
 use Rattle.alm_keeper.specs.Phases.{Rest, Shut, Pause, KeptIn, Commits}

@@ -1,20 +1,13 @@
--- One call of a device, by what it does to it.
-use Rattle.std.specs.Prelude.{◌⊎◌, ℕ, List, Result}
-use Rattle.alm_disk.specs.Device.{DeviceState, Writes, Syncs}
-use Rattle.alm_disk.specs.declared.disk_fault.DiskFault.{DiskFault}
+-- Which call of a device is that of a stage.
+use Rattle.std.specs.Prelude.{ℕ, ◌+◌}
+use Rattle.alm_disk.specs.declared.call.Call.{Call}
+use Rattle.alm_disk.specs.declared.call.Call.TheVariants.{Write, Sync}
+use Rattle.alm_keeper.specs.declared.stage.Stage.{Stage}
+use Rattle.alm_keeper.specs.declared.stage.Stage.TheVariants.{Close, Body, Gate}
 
--- one write
-pub record IsWrite (old new : DeviceState) : Type 0 where
-  pub at : ℕ
-  pub bytes : List ℕ
-  pub result : Result Unit DiskFault
-  pub writes : Writes at bytes result old new
-
--- one sync
-pub record IsSync (old new : DeviceState) : Type 0 where
-  pub result : Result Unit DiskFault
-  pub syncs : Syncs result old new
-
--- one write or one sync, which was done or failed
-abbrev pub IsCall : DeviceState → DeviceState → Type 0
-IsCall old new = ∥ IsWrite old new ⊎ IsSync old new ∥₁
+-- the call of a stage, for the gate at a place and n bytes behind it
+abbrev pub stage_call : Stage → (at n : ℕ) → Call
+stage_call Close at n = Write at 1
+stage_call Body at n = Write (at + 1) n
+stage_call Gate at n = Write at 1
+stage_call stage at n = Sync

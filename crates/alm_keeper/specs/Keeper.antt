@@ -4,25 +4,29 @@ use Rattle.alm_types.specs.declared.action.Action.{Action}
 use Rattle.alm_types.specs.Batches.{Judged}
 use Rattle.alm_model.specs.Plant.{Condensed}
 use Rattle.alm_model.specs.Step.{run}
-use Rattle.alm_disk.specs.Calls.{IsOneCall}
 use Rattle.alm_disk.specs.declared.call.Call.{Call}
+use Rattle.alm_disk.specs.declared.call.Call.TheVariants.{Read, Write, Sync}
 use Rattle.alm_disk.specs.declared.disk_fault.DiskFault.{DiskFault}
 use Rattle.alm_codec.specs.declared.version.Version.{Version}
 use Rattle.alm_codec.specs.declared.version.Version.TheVariants.{V02}
 use Rattle.alm_codec.specs.Versions.{AreBorne}
 use Rattle.alm_segment.specs.Course.{frame_len}
-use Rattle.alm_checkpoint.specs.Layouts.{head_len}
+use Rattle.alm_checkpoint.specs.declared.half.Half.{Half}
+use Rattle.alm_checkpoint.specs.declared.half.Half.TheVariants.{First, Second}
+use Rattle.alm_checkpoint.specs.Layouts.{header_len, head_len, image_size, other}
+use Rattle.alm_checkpoint.specs.Opening.{Opened, opened_in}
 use Rattle.alm_checkpoint.specs.Standing.{Stands}
-use Rattle.alm_keeper.specs.declared.phase.Phase.{Phase}
-use Rattle.alm_keeper.specs.declared.phase.Phase.TheVariants as at
+use Rattle.alm_store.specs.declared.phase.Phase.{Phase}
+use Rattle.alm_store.specs.declared.phase.Phase.TheVariants as at
 use Rattle.alm_keeper.specs.declared.stage.Stage.{Stage}
-use Rattle.alm_keeper.specs.declared.stage.Stage.TheVariants.{Idle, CloseSync, Body, GateSync, Stopped}
+use Rattle.alm_keeper.specs.declared.stage.Stage.TheVariants.{Idle, Close, CloseSync, Body, Gate, GateSync, Stopped}
 use Rattle.alm_keeper.specs.declared.stage.Work.{Work}
 use Rattle.alm_keeper.specs.declared.stage.Work.TheVariants.{Commit, Checkpoint}
-use Rattle.alm_keeper.specs.declared.refused.Refused.{Refused}
-use Rattle.alm_keeper.specs.declared.refused.Refused.TheVariants as no
-use Rattle.alm_keeper.specs.declared.progress.Progress.{Progress}
-use Rattle.alm_keeper.specs.declared.progress.Progress.TheVariants.{More, Done, Failed}
+use Rattle.alm_store.specs.declared.refused.Refused.{Refused}
+use Rattle.alm_store.specs.declared.refused.Refused.TheVariants as no
+use Rattle.alm_store.specs.declared.progress.Progress.{Progress}
+use Rattle.alm_store.specs.declared.progress.Progress.TheVariants.{More, Done, Failed}
+use Rattle.alm_store.specs.Pace.{most}
 use Rattle.alm_keeper.specs.Batch.{tried}
 use Rattle.alm_keeper.specs.Stages.{first_stage, following, sent_stage, rest_stage, rest_work, During}
 
@@ -40,7 +44,8 @@ pub record Held (D : Type 0) : Type 0 where
   -- which device call is next, and of which work
   pub stage : Stage
   pub work : Work
-  -- the gate of the half that doesn't stand reads open
+  -- the half that stands; the gate of the other one reads open
+  pub half : Half
   pub other_open : Bool
   -- how long an image and a segment are
   pub image : ℕ
@@ -110,6 +115,14 @@ StandsFor s bytes = Stands bytes s.epoch s.plant
 abbrev pub StandsWithRoom : Standing → List ℕ → Type 0
 StandsWithRoom s bytes = (stands : Stands bytes s.epoch s.plant) × (stands.left ≡ s.room) × (stands.opened.head.version ≡ s.version)
 
+-- where they lie: of the halves this one stands, with an image and a segment of these lengths
+pub record LiesIn (half : Half) (image segment : ℕ) (bytes : List ℕ) : Type 0 where
+  pub opened : Opened
+  pub opens : opened_in bytes ≡ Ok opened
+  pub in_half : opened.half ≡ half
+  pub image_long : image_size opened.layout ≡ image
+  pub segment_long : opened.layout.segment ≡ segment
+
 -- at any moment of the call that is next: until the gate's write begins they stand for what is stored, from then on for that or for
 -- what is begun
 abbrev pub MayStand : {D : Type 0} → Held D → List ℕ → Type 0
@@ -147,10 +160,7 @@ abbrev pub BeginsCheckpoint : {D : Type 0} → Result Unit Refused → (old new 
 BeginsCheckpoint (Ok _) old new = new ≡ record old { stage = first_stage old.other_open; work = Checkpoint; copying = true; run = first_run old; out = 0 }
 BeginsCheckpoint (Err why) old new = new ≡ old
 
--- the longest piece, and the next one of so many bytes that are left
-abbrev pub most : ℕ
-most = 65536
-
+-- the next piece of so many bytes that are left
 abbrev pub piece : (left : ℕ) → ℕ
 piece left = min left most
 
@@ -172,7 +182,7 @@ commits k = record k { stage = rest_stage k.copying; work = rest_work k.copying;
 
 -- a checkpoint is done
 abbrev pub turns : {D : Type 0} → Held D → Held D
-turns k = record k { stage = Idle; other_open = true; stored = begun_by Checkpoint k; copying = false }
+turns k = record k { stage = Idle; half = other k.half; other_open = true; stored = begun_by Checkpoint k; copying = false }
 
 -- the keeper after the call that is next was done
 abbrev pub after_by : {D : Type 0} → Stage → Work → Held D → Held D
@@ -191,8 +201,46 @@ Advances More old new = (old.stage ≢ GateSync) × (new ≡ record (after old) 
 Advances Done old new = (old.stage ≡ GateSync) × (new ≡ record (after old) { disk = new.disk })
 Advances Failed old new = new ≡ record old { disk = new.disk; stage = Stopped }
 
--- exactly one call was made of the device, and it failed where that is told
-pub record CallsOnce {D : Type 0} (serves : D → Call → Result Unit DiskFault → D → Type 0) (told : Progress) (old new : D) : Type 0 where
+-- ---- the device call
+
+-- how long a half is: its head, its image and its segment
+abbrev pub half_size : {D : Type 0} → Held D → ℕ
+half_size k = head_len + k.image + k.segment
+
+-- where a half begins, whose length is this: its gate
+abbrev pub half_from : (size : ℕ) → Half → ℕ
+half_from size First = header_len
+half_from size Second = header_len + size
+
+-- the gate that the work opens: the first closed one of the half that stands, or that of the other half
+abbrev pub gate_by : {D : Type 0} → Work → Held D → ℕ
+gate_by Commit k = half_from (half_size k) k.half + half_size k - k.stored.room
+gate_by Checkpoint k = half_from (half_size k) (other k.half)
+
+-- a write at this place of so many bytes, or a sync. Behind the gate goes the body of the frame, or the next piece of the run
+abbrev pub call_by : {D : Type 0} → Stage → Work → Held D → Call
+call_by Close work k = Write (gate_by work k) 1
+call_by Body Commit k = Write (gate_by Commit k + 1) (frame_len (length k.actions))
+call_by Body Checkpoint k = Write (gate_by Checkpoint k + k.out + 1) (piece (k.run - k.out))
+call_by Gate work k = Write (gate_by work k) 1
+call_by stage work k = Sync
+
+-- the device call that is next
+abbrev pub call_of : {D : Type 0} → Held D → Call
+call_of k = call_by k.stage k.work k
+
+-- how many bytes a call writes
+abbrev pub bytes_of : Call → ℕ
+bytes_of (Read at n) = 0
+bytes_of (Write at n) = n
+bytes_of Sync = 0
+
+-- just the bytes that the call writes went out, and are counted
+abbrev pub SendsPiece : {D : Type 0} → (old new : Held D) → Type 0
+SendsPiece old new = (new.out ≡ old.out + bytes_of (call_of old)) × (new.written ≡ counted old.written (bytes_of (call_of old)))
+
+-- this call was made of the device and no other, and it failed where that is told
+pub record CallsOnce {D : Type 0} (serves : D → Call → Result Unit DiskFault → D → Type 0) (call : Call) (told : Progress) (old new : D) : Type 0 where
   pub result : Result Unit DiskFault
-  pub call : IsOneCall serves result old new
+  pub served : serves old call result new
   pub fault : (told ≡ Failed) ↔ IsErr result

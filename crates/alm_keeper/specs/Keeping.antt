@@ -1,7 +1,8 @@
 -- What a keeper knows and has begun.
 use Rattle.std.specs.Prelude.{◌≡◌, ◌⊎◌, ℕ, ◌+◌, ◌-◌, ◌*◌, ◌^◌, ◌<◌, ◌≤◌, Bool, true, false, None, Some, List, [], ◌∷◌, ◌++◌, length, take, vec_capacity, Result, Ok, Err}
 use Rattle.alm_keeper.specs.Keeper.{Standing, Held, piece, counted}
-use Rattle.alm_keeper.specs.Stages.{During, following, first_stage, sent_stage, rest_stage, rest_work, IsResting, phase_of}
+use Rattle.alm_keeper.specs.Stages.{During, following, first_stage, sent_stage, rest_stage, rest_work, phase_of}
+use Rattle.alm_store.specs.Advancing.{IsResting}
 use Rattle.alm_types.specs.declared.action.Action.{Action}
 use Rattle.alm_model.specs.Plant.{Condensed}
 use Rattle.alm_model.specs.Rules.{KeepsRules, AreAdmitted}
@@ -16,13 +17,13 @@ use Rattle.alm_keeper.specs.declared.stage.Stage.{Stage}
 use Rattle.alm_keeper.specs.declared.stage.Stage.TheVariants.{Idle, Close, CloseSync, Body, GateSync, Stopped}
 use Rattle.alm_keeper.specs.declared.stage.Work.{Work}
 use Rattle.alm_keeper.specs.declared.stage.Work.TheVariants.{Commit, Checkpoint}
-use Rattle.alm_keeper.specs.declared.refused.Refused.{Refused}
-use Rattle.alm_keeper.specs.declared.refused.Refused.TheVariants as no
+use Rattle.alm_store.specs.declared.refused.Refused.{Refused}
+use Rattle.alm_store.specs.declared.refused.Refused.TheVariants as no
 use Rattle.alm_keeper.specs.declared.book.Book.{Book}
 use Rattle.alm_disk.specs.Device.{DeviceState, IsImage}
 use Rattle.alm_disk.specs.declared.disk_fault.DiskFault.{DiskFault}
-use Rattle.alm_keeper.specs.declared.progress.Progress.{Progress}
-use Rattle.alm_keeper.specs.declared.progress.Progress.TheVariants.{More, Done, Failed}
+use Rattle.alm_store.specs.declared.progress.Progress.{Progress}
+use Rattle.alm_store.specs.declared.progress.Progress.TheVariants.{More, Done, Failed}
 use Rattle.alm_keeper.specs.Piecewise.{Copy, run_text}
 use Rattle.alm_keeper.specs.Phases.{UnderWay, Rest, Shut, ShutSync, Pause, Frame, End, KeptIn}
 use Rattle.alm_keeper.specs.Phases.{Advances as AdvancesOn}
@@ -244,6 +245,7 @@ held disk b = record {
   disk = disk;
   stage = b.stage;
   work = b.work;
+  half = b.half;
   other_open = b.other_open;
   image = image_size b.layout;
   segment = b.layout.segment;

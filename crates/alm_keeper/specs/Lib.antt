@@ -10,4 +10,5 @@ pub mod Stages
 pub mod Opening
 pub mod Formatting
 pub mod Moments
-pub mod Pace
+pub mod AsStore
+pub mod StoreLaws

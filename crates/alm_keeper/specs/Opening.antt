@@ -14,8 +14,8 @@ use Rattle.alm_checkpoint.specs.Standing.{HasFault}
 use Rattle.alm_checkpoint.specs.Restoring.{IsUnrestored}
 use Rattle.alm_checkpoint.specs.Restoring.{Holds as RestoredAs}
 use Rattle.alm_checkpoint.specs.declared.restore_fault.RestoreFault.TheVariants as unrestored
-use Rattle.alm_keeper.specs.declared.open_fault.OpenFault.{OpenFault}
-use Rattle.alm_keeper.specs.declared.open_fault.OpenFault.TheVariants.{Unformatted, Damaged, Disk, OutOfMemory}
+use Rattle.alm_store.specs.declared.open_fault.OpenFault.{OpenFault}
+use Rattle.alm_store.specs.declared.open_fault.OpenFault.TheVariants.{Unformatted, Damaged, Disk, OutOfMemory}
 use Rattle.alm_keeper.specs.declared.book.Book.{Book}
 use Rattle.alm_keeper.specs.Stand.{Ready}
 use Rattle.alm_keeper.specs.Keeping.{account}

@@ -1,7 +1,7 @@
 -- The stages of a keeper's work: which device call is next.
 use Rattle.std.specs.Prelude.{◌⊎◌, ◌==◌, ℕ, Bool, true, false, List, Result, Ok, Err, if◌then◌else◌}
-use Rattle.alm_keeper.specs.declared.phase.Phase.{Phase}
-use Rattle.alm_keeper.specs.declared.phase.Phase.TheVariants as at
+use Rattle.alm_store.specs.declared.phase.Phase.{Phase}
+use Rattle.alm_store.specs.declared.phase.Phase.TheVariants as at
 use Rattle.alm_keeper.specs.declared.stage.Work.{Work}
 use Rattle.alm_keeper.specs.declared.stage.Work.TheVariants.{Commit, Checkpoint}
 use Rattle.alm_keeper.specs.declared.stage.Stage.{Stage}
@@ -67,9 +67,3 @@ phase_of Stopped work = at.Stopped
 phase_of stage Commit = at.Committing
 phase_of Body Checkpoint = at.Paused
 phase_of stage Checkpoint = at.Copying
-
--- nothing is under way, so that a commit may be begun
-abbrev pub IsResting : Phase → Type 0
-IsResting at.Idle = Unit {0}
-IsResting at.Paused = Unit {0}
-IsResting phase = ⊥

@@ -3,17 +3,16 @@
 ghost use Rattle.std.specs.Prelude.{◌≡◌, ◌≤◌, ◌⊎◌, ◌↔◌, List, ℕ};
 ghost use Rattle.alm_keeper.specs.Stages.{IsWorking};
 ghost use Rattle.alm_disk.specs.Device.{IsImage};
-ghost use Rattle.alm_disk.specs.Calls.{IsOneCall};
 ghost use Rattle.alm_disk.specs.Failures.{CountsFault, HasFailed};
-ghost use Rattle.alm_keeper.specs.Calls.{IsCall};
-ghost use Rattle.alm_keeper.specs.Keeper.{CallsOnce};
-ghost use Rattle.alm_keeper.specs.Keeping.{InOrder, FitsDevice, Keeps, PassesOn, MayLeave, Ends};
+ghost use Rattle.alm_store.specs.Calls.{IsCall};
+ghost use Rattle.alm_keeper.specs.Keeper.{call_of, CallsOnce};
+ghost use Rattle.alm_keeper.specs.Keeping.{held, InOrder, FitsDevice, Keeps, PassesOn, MayLeave, Ends};
 
 use crate::book::Book;
 use crate::gated::call;
-use crate::progress::Progress;
 use crate::stage::{Stage, Work};
 use alm_disk::{Disk, DiskFault};
+use alm_store::Progress;
 
 /// The device call that is next.
 fn call_next<D: Disk>(disk: &mut D, book: &Book) -> Result<(), DiskFault>
@@ -23,7 +22,7 @@ fn call_next<D: Disk>(disk: &mut D, book: &Book) -> Result<(), DiskFault>
     ensures honest { D.honest disk.old ↔ D.honest disk.new }
     ensures size { D.size disk.new ≡ D.size disk.old }
     ensures count { CountsFault result (D.failures disk.old) (D.failures disk.new) }
-    ensures one_call { IsOneCall D.serves result disk.old disk.new }
+    ensures serves { D.serves disk.old (call_of (held disk.old book.now)) result disk.new }
     ensures is_call { D.honest disk.old → IsCall (D.state disk.old) (D.state disk.new) }
     ensures passes { D.honest disk.old → ∥ Keeps (D.state disk.old) book.now ∥₁ → ∥ PassesOn result (D.state disk.old) (D.state disk.new) book.now ∥₁ }
 {
@@ -53,7 +52,7 @@ pub fn advance<D: Disk>(disk: &mut D, book: &mut Book) -> Progress
     ensures ends { Ends result book.old book.new }
     ensures failed { result ≡ Progress.Failed → HasFailed (D.failures disk.old) (D.failures disk.new) }
     ensures count { D.failures disk.old ≤ D.failures disk.new }
-    ensures call { CallsOnce D.serves result disk.old disk.new }
+    ensures call { CallsOnce D.serves (call_of (held disk.old book.old)) result disk.old disk.new }
     ensures is_call { D.honest disk.old → IsCall (D.state disk.old) (D.state disk.new) }
     ensures keeps { D.honest disk.old → ∥ Keeps (D.state disk.old) book.old ∥₁ → ∥ Keeps (D.state disk.new) book.new ∥₁ }
     ensures any_moment { D.honest disk.old → ∥ Keeps (D.state disk.old) book.old ∥₁ → (b : List ℕ) → (IsImage (D.state disk.old) b ⊎ IsImage (D.state disk.new) b) → ∥ MayLeave book.old b ∥₁ }

@@ -16,15 +16,13 @@ ghost use Rattle.alm_keeper.specs.Keeping.{account, run_in, piece_of, InOrder, B
 use crate::bearing::bears_all;
 use crate::frame::{append_frame, write_frame};
 use crate::half_text::write_half;
-use crate::phase::Phase;
-use crate::progress::Progress;
-use crate::refused::Refused;
 use crate::stage::{Stage, Work, phase_of};
 use crate::trying::try_all;
 use alm_checkpoint::{HEAD_LEN, Half, HalfHead, Layout};
 use alm_codec::Version;
 use alm_model::{Alarms, accepted_in, apply_all};
 use alm_plant::Plant;
+use alm_store::{Phase, Progress, Refused};
 use alm_types::{Action, Batch};
 
 /// The longest piece of a run.

@@ -2,9 +2,9 @@
 
 ghost use Rattle.std.specs.Prelude.{◌≡◌, ◌↔◌, ◌<◌, ◌≤◌, ◌+◌, ◌^◌, List, ℕ, length};
 ghost use Rattle.alm_keeper.specs.Stages.{IsWorking};
-ghost use Rattle.alm_disk.specs.Calls.{IsOneCall};
 ghost use Rattle.alm_disk.specs.Failures.{CountsFault};
-ghost use Rattle.alm_keeper.specs.Calls.{IsCall};
+ghost use Rattle.alm_keeper.specs.Calls.{stage_call};
+ghost use Rattle.alm_store.specs.Calls.{IsCall};
 ghost use Rattle.alm_keeper.specs.Phases.{StageCall};
 
 use crate::stage::Stage;
@@ -22,7 +22,7 @@ pub fn call<D: Disk>(disk: &mut D, stage: Stage, at: u64, text: &[u8]) -> Result
     ensures honest { D.honest disk.old ↔ D.honest disk.new }
     ensures size { D.size disk.new ≡ D.size disk.old }
     ensures count { CountsFault result (D.failures disk.old) (D.failures disk.new) }
-    ensures one_call { IsOneCall D.serves result disk.old disk.new }
+    ensures serves { D.serves disk.old (stage_call stage at (length text.now)) result disk.new }
     ensures is_call { D.honest disk.old → IsCall (D.state disk.old) (D.state disk.new) }
     ensures stage_call { D.honest disk.old → StageCall stage at text.now result (D.state disk.old) (D.state disk.new) }
 {

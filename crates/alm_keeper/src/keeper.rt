@@ -1,28 +1,26 @@
 //! Keepers.
 
-ghost use Rattle.std.specs.Prelude.{◌≡◌, ◌≤◌, ◌⊎◌, ◌↔◌, ◌+◌, ◌*◌, ◌^◌, List, ℕ, length, IsTrue, IfOk, IfErr, Err, true, false};
+ghost use Rattle.std.specs.Prelude.{◌≡◌, ◌≢◌, ◌≤◌, ◌⊎◌, ◌↔◌, ◌+◌, ◌*◌, ◌^◌, List, ℕ, length, IsTrue, IfOk, IfErr, Err, true, false};
 ghost use Rattle.alm_checkpoint.specs.Layouts.{head_len};
 ghost use Rattle.alm_disk.specs.Device.{IsImage};
 ghost use Rattle.alm_disk.specs.Failures.{HasFailed};
 ghost use Rattle.alm_disk.specs.Settled.{IsSettled};
 ghost use Rattle.alm_model.specs.Plant.{Condensed};
 ghost use Rattle.alm_model.specs.Judging.{accepted_of};
-ghost use Rattle.alm_keeper.specs.Calls.{IsCall};
-ghost use Rattle.alm_keeper.specs.Stages.{IsWorking, IsResting, phase_of};
+ghost use Rattle.alm_store.specs.Calls.{IsCall};
+ghost use Rattle.alm_keeper.specs.Stages.{IsWorking, phase_of};
+ghost use Rattle.alm_store.specs.Advancing.{IsResting};
 ghost use Rattle.alm_keeper.specs.Opening.{Opens, CountsAs};
-ghost use Rattle.alm_keeper.specs.Keeper.{Held, next, HasRoom, Takes, IsPaused, StandsFor, StandsWithRoom, MayStand, begin_answer, checkpoint_answer, BeginsCommit, BeginsCheckpoint, Advances, CallsOnce};
+ghost use Rattle.alm_keeper.specs.Keeper.{Held, next, HasRoom, Takes, IsPaused, StandsFor, StandsWithRoom, LiesIn, MayStand, begin_answer, checkpoint_answer, BeginsCommit, BeginsCheckpoint, Advances, call_of, SendsPiece, CallsOnce};
 
 use crate::advancing::advance;
 use crate::book::Book;
-use crate::open_fault::OpenFault;
 use crate::opening::open_book;
-use crate::phase::Phase;
-use crate::progress::Progress;
-use crate::refused::Refused;
 use crate::stage::{Stage, Work, is_working, phase_of};
 use alm_disk::Disk;
 use alm_model::Alarms;
 use alm_plant::Plant;
+use alm_store::{OpenFault, Phase, Progress, Refused};
 use alm_types::Batch;
 use std::alloc::Global;
 use std::marker::Model;
@@ -53,7 +51,9 @@ impl<D: Disk + Drop> Keeper<D> {
         requires working { IsWorking self.old.stage }
         ensures honest { D.honest self.old.disk ↔ D.honest self.new.disk }
         ensures advances { Advances result self.old self.new }
-        ensures call { CallsOnce D.serves result self.old.disk self.new.disk }
+        // Which call it is: a write at this place of so many bytes, or a sync.
+        ensures call { CallsOnce D.serves (call_of self.old) result self.old.disk self.new.disk }
+        ensures piece { self.old.stage ≡ Stage.Body → self.old.work ≡ Work.Checkpoint → result ≢ Progress.Failed → SendsPiece self.old self.new }
         ensures is_call { D.honest self.old.disk → IsCall (D.state self.old.disk) (D.state self.new.disk) }
         ensures failed { result ≡ Progress.Failed → HasFailed (D.failures self.old.disk) (D.failures self.new.disk) }
         ensures count { D.failures self.old.disk ≤ D.failures self.new.disk }
@@ -95,6 +95,8 @@ impl<D: Disk + Drop> Keeper<D> {
     pub fn images(&self)
         ensures either { D.honest self.now.disk → (b : List ℕ) → IsImage (D.state self.now.disk) b → ∥ StandsFor self.now.stored b ⊎ StandsFor (next self.now) b ∥₁ }
         ensures rests { D.honest self.now.disk → IsResting (phase_of self.now.stage self.now.work) → ∥ StandsWithRoom self.now.stored (D.state self.now.disk).bytes ∥₁ }
+        // The half that stands, and the lengths by which `call_of` has its places.
+        ensures lies { D.honest self.now.disk → IsResting (phase_of self.now.stage self.now.work) → ∥ LiesIn self.now.half self.now.image self.now.segment (D.state self.now.disk).bytes ∥₁ }
         // The largest image, and the longest segment.
         ensures lengths { (self.now.image ≤ 3289168) × (self.now.segment ≤ 16777216) }
         // The frames in the run of a checkpoint stand among those of the segment.

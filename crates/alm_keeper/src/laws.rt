@@ -8,11 +8,11 @@ ghost use Rattle.alm_model.specs.Plant.{Condensed};
 ghost use Rattle.alm_model.specs.Rules.{AllAdmitted};
 ghost use Rattle.alm_model.specs.Judging.{accepted_of};
 ghost use Rattle.alm_keeper.specs.Keeper.{begin_answer};
-ghost use Rattle.alm_keeper.specs.Pace.{Going, Paced, IsAhead, KeepsPace, TakesAny};
+ghost use Rattle.alm_store.specs.Pace.{Going, Paced, IsAhead, KeepsPace, TakesAny};
 ghost use Rattle.alm_keeper.specs.Phases.{UnderWay, KeptIn, Call, Advances};
 ghost use Rattle.alm_keeper.specs.Stand.{Account, end_of};
-ghost use Rattle.alm_keeper.specs.declared.phase.Phase.{Phase};
-ghost use Rattle.alm_keeper.specs.Stages.{IsResting};
+ghost use Rattle.alm_store.specs.declared.phase.Phase.{Phase};
+ghost use Rattle.alm_store.specs.Advancing.{IsResting};
 
 /// A batch that is the next one and admitted is begun by a keeper that rests, also between the pieces of a checkpoint.
 pub fn next_batch_is_begun()

@@ -35,11 +35,11 @@
 //! |---|---|
 //! | Keeper | a keeper as its callers see it: stage, work, what is stored and what is begun; and what each call makes of it |
 //! | Stages | the stages, and which bytes may be left at each |
-//! | Pace | how fast an open checkpoint has to go out, so that the half that stands takes every batch |
+//! | AsStore, StoreLaws | what a keeper is as a [`Store`](alm_store::Store), and why that meets a store's laws |
 //! | Batch | the accepted actions of a batch, and how they are tried one after the other |
 //! | Formatting, Moments | what formatting makes: ten device calls in their order, and what a crash leaves at any moment of each |
 //! | Opening | what opening answers to the bytes |
-//! | Calls | one write or one sync |
+//! | Calls | which device call is that of a stage |
 //! | Stand, Resting, Piecewise, Phases, Keeping | what a keeper knows of its device: for the proofs |
 //!
 //! What is used above: `any_moment` of [`Keeper::advance`], where "stands for" is the relation `Stands` between bytes, an epoch and
@@ -53,6 +53,7 @@
 #![tactic(auto)]
 
 mod advancing;
+mod as_store;
 mod bearing;
 mod book;
 mod format_fault;
@@ -64,18 +65,12 @@ mod keeper;
 pub mod laws;
 mod open_fault;
 mod opening;
-mod phase;
-mod progress;
-mod refused;
 mod stage;
 mod store_format;
 mod trying;
 
+pub use alm_store::{OpenFault, Phase, Progress, Refused};
 pub use format_fault::FormatFault;
 pub use keeper::{Keeper, open_store};
-pub use open_fault::OpenFault;
-pub use phase::Phase;
-pub use progress::Progress;
-pub use refused::Refused;
 pub use stage::Stage;
 pub use store_format::{format, format_as};

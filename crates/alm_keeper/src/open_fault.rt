@@ -4,19 +4,7 @@ ghost use Rattle.std.specs.Prelude.{◌≡◌};
 ghost use Rattle.alm_keeper.specs.Opening.{open_fault};
 
 use alm_checkpoint::Fault;
-
-/// Why a device is not opened.
-#[derive(Clone, Copy, Debug, PartialEq, Eq)]
-pub enum OpenFault {
-    /// The device was never formatted, or not to the end.
-    Unformatted,
-    /// The first field that breaks a rule: in which half (0 or 1; 2 is the header), and where on the device.
-    Damaged { half: u8, at: u64 },
-    /// The device has failed.
-    Disk,
-    /// It says nothing of the bytes.
-    OutOfMemory,
-}
+use alm_store::OpenFault;
 
 /// The fault of the bytes.
 pub fn open_fault(fault: Fault) -> OpenFault

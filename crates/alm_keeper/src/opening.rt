@@ -12,7 +12,7 @@ ghost use Rattle.alm_keeper.specs.Keeping.{InOrder, FitsDevice};
 
 use crate::book::Book;
 use crate::frame::FRAME_ROOM;
-use crate::open_fault::{OpenFault, open_fault};
+use crate::open_fault::open_fault;
 use crate::stage::{Stage, Work};
 use alm_checkpoint::{
     HEAD_LEN, Half, HalfHead, Layout, RestoreFault, choose, read_half_gate, read_header,
@@ -21,6 +21,7 @@ use alm_codec::MOST_ACTIONS;
 use alm_disk::{Disk, DiskFault};
 use alm_model::Alarms;
 use alm_plant::Plant;
+use alm_store::OpenFault;
 use std::alloc::Global;
 
 /// Reads so many bytes from a place on.
@@ -234,6 +235,15 @@ fn book_of(
     ensures idle { IfOk result (λ book. (book.stage ≡ Stage.Idle) × (book.copying ≡ false) × (book.written ≡ 0)) }
     ensures restores { Restores layout marks text.now segment.now result }
 {
+    let Ok(actions) = Vec::with_capacity(alloc, MOST_ACTIONS) else {
+        return Err(OpenFault::OutOfMemory);
+    };
+    let Ok(buffer) = vec![in alloc; 0u8; HEAD_LEN + layout.image_len() + layout.segment()] else {
+        return Err(OpenFault::OutOfMemory);
+    };
+    let Ok(frame) = vec![in alloc; 0u8; FRAME_ROOM] else {
+        return Err(OpenFault::OutOfMemory);
+    };
     let (stored, gate) = match layout.restore::<Plant>(
         alloc,
         marks.half,
@@ -246,15 +256,6 @@ fn book_of(
         Err(RestoreFault::Damaged(fault)) => return Err(open_fault(fault)),
     };
     let Ok(ahead) = stored.copy(alloc) else {
-        return Err(OpenFault::OutOfMemory);
-    };
-    let Ok(actions) = Vec::with_capacity(alloc, MOST_ACTIONS) else {
-        return Err(OpenFault::OutOfMemory);
-    };
-    let Ok(buffer) = vec![in alloc; 0u8; HEAD_LEN + layout.image_len() + layout.segment()] else {
-        return Err(OpenFault::OutOfMemory);
-    };
-    let Ok(frame) = vec![in alloc; 0u8; FRAME_ROOM] else {
         return Err(OpenFault::OutOfMemory);
     };
     Ok(Book {

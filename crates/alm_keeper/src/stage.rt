@@ -3,7 +3,7 @@
 ghost use Rattle.std.specs.Prelude.{◌≡◌, ◌↔◌, IsTrue};
 ghost use Rattle.alm_keeper.specs.Stages.{IsWorking, phase_of};
 
-use crate::phase::Phase;
+use alm_store::Phase;
 
 /// Which device call is next.
 #[derive(Clone, Copy, Debug, PartialEq, Eq)]

@@ -58,6 +58,33 @@ pub struct Doors {
     pub bells: Vec<SlotBell>,
 }
 
+/// What the doors of these ports share: how many connections there may be, and a bell of each.
+fn visits_of(alloc: Global, conns: u32, bounds: &[Bound]) -> Result<Arc<Visits>, PortFault> {
+    let visits = Visits::new(conns, bells_of(alloc, bounds)?);
+    Arc::new(alloc, visits).map_err(|_| PortFault::OutOfMemory)
+}
+
+/// The door of a port.
+fn open_door(alloc: Global, bound: Bound, visits: &Arc<Visits>) -> Result<Door, PortFault> {
+    let session = Session::new(alloc)?;
+    let events = Events::with_capacity(alloc, EVENTS)?;
+    Ok(Door::new(bound, events, visits.clone()?, session)?)
+}
+
+/// The doors of these ports.
+fn doors_of(alloc: Global, bounds: Vec<Bound>, visits: &Arc<Visits>) -> Result<Vec<Door>, PortFault>
+    ensures { IfOk result (λ doors. vec_len doors ≡ vec_len bounds) }
+{
+    let mut doors = Vec::with_capacity(alloc, bounds.len())?;
+    for bound in bounds {
+        match doors.push(open_door(alloc, bound, visits)?) {
+            Ok(()) => {}
+            Err(_) => return Err(PortFault::OutOfMemory),
+        }
+    }
+    Ok(doors)
+}
+
 /// Binds the ports of these slots on loopback, the first slot's given, for so many connections in all; 0 is without end.
 pub fn open_doors<R: Net>(
     rt: &R,
@@ -71,19 +98,8 @@ pub fn open_doors<R: Net>(
     ensures bells { IfOk result (λ d. vec_len d.bells ≡ length slots.now) }
 {
     let bounds = bind_all(rt, alloc, slots, port)?;
+    let visits = visits_of(alloc, conns, &bounds)?;
     let bells = bells_of(alloc, &bounds)?;
-    let Ok(visits) = Arc::new(alloc, Visits::new(conns, bells_of(alloc, &bounds)?)) else {
-        return Err(PortFault::OutOfMemory);
-    };
-    let mut doors = Vec::with_capacity(alloc, bounds.len())?;
-    for bound in bounds {
-        let session = Session::new(alloc)?;
-        let events = Events::with_capacity(alloc, EVENTS)?;
-        let door = Door::new(bound, events, visits.clone()?, session)?;
-        match doors.push(door) {
-            Ok(()) => {}
-            Err(_) => return Err(PortFault::OutOfMemory),
-        }
-    }
+    let doors = doors_of(alloc, bounds, &visits)?;
     Ok(Doors { doors, bells })
 }

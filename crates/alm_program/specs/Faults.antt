@@ -9,8 +9,8 @@ use Rattle.alm_words.specs.declared.words_fault.WordsFault.{WordsFault}
 use Rattle.alm_words.specs.declared.words_fault.WordsFault.TheVariants as words
 use Rattle.alm_service.specs.declared.show_fault.ShowFault.{ShowFault}
 use Rattle.alm_service.specs.declared.show_fault.ShowFault.TheVariants as show
-use Rattle.alm_keeper.specs.declared.open_fault.OpenFault.{OpenFault}
-use Rattle.alm_keeper.specs.declared.open_fault.OpenFault.TheVariants as opening
+use Rattle.alm_store.specs.declared.open_fault.OpenFault.{OpenFault}
+use Rattle.alm_store.specs.declared.open_fault.OpenFault.TheVariants as opening
 use Rattle.alm_keeper.specs.declared.format_fault.FormatFault.{FormatFault}
 use Rattle.alm_keeper.specs.declared.format_fault.FormatFault.TheVariants as format
 use Rattle.alm_program.specs.declared.fault.Fault.{Fault}

@@ -12,9 +12,8 @@ use crate::flushing::flush;
 use crate::landed::Landed;
 use alm_board::{Board, Publish};
 use alm_flusher::Flusher;
-use alm_keeper::Phase;
 use alm_rings::Told;
-use alm_store::Store;
+use alm_store::{Phase, Store};
 use std::sync::Wait;
 
 /// Runs a flusher over these ends until nothing is left, and gives them back. The board is closed.

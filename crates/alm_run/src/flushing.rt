@@ -9,9 +9,8 @@ use crate::flags::Flags;
 use crate::storage::Storage;
 use alm_board::{Board, Publish};
 use alm_flusher::{Advance, Fetch, Flusher, Publishes, Release};
-use alm_keeper::Phase;
 use alm_rings::Told;
-use alm_store::Store;
+use alm_store::{Phase, Store};
 use std::sync::Wait;
 use std::sync::atomic::Ordering;
 

@@ -1,6 +1,6 @@
 //! What the flusher's thread gives back.
 ghost use Rattle.std.specs.Prelude.{◌≡◌, ◌≢◌};
-ghost use Rattle.alm_keeper.specs.declared.phase.Phase.TheVariants.{Stopped};
+ghost use Rattle.alm_store.specs.declared.phase.Phase.TheVariants.{Stopped};
 ghost use Rattle.alm_run.specs.declared.storage.Storage.TheVariants.{Whole};
 
 use crate::storage::Storage;

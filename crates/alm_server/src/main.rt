@@ -1,10 +1,19 @@
-//! The alarm server.
+//! The alarm server: a process's words, streams, files and ports over the proved parts.
 //!
-//! `alm_server desk` answers the lines of standard input over the worked table in memory. A status other than 0 comes with
-//! one line on standard error: `fault usage` with 1, `fault memory` and `fault io` with 3.
+//! A status other than 0 comes with one line on standard error; `alm_program` says which words do what, and which fault has which line
+//! and status.
+//!
+//! ```text
+//! alm_server format plant.device plant.toml
+//! alm_server desk plant.device
+//! alm_server serve plant.device --port 5000
+//! ```
 #![tactic(auto)]
 
-use alm_host::run_in_process;
+mod process;
+mod serving;
+
+use crate::process::run_in_process;
 use std::process::ExitCode;
 
 fn main(rt: HostRuntime) -> ExitCode {

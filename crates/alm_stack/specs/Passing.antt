@@ -19,8 +19,8 @@ use Rattle.alm_rings.specs.declared.fetch_ends.FetchEnds.{FetchEnds}
 use Rattle.alm_rings.specs.Ends.{sent_of, received_of, coming_to, room_of}
 use Rattle.alm_rings.specs.Placed.{inbox_at, outbox_at, taken_by, waiting_by, released_by, room_by}
 use Rattle.alm_rings.specs.Batches.{AreBatchEnds, sealed_of, fetched_of, emptied_of, given_of, coming_in, empties_in, places_of, places_in}
-use Rattle.alm_keeper.specs.declared.phase.Phase.{Phase}
-use Rattle.alm_keeper.specs.declared.phase.Phase.TheVariants.{Committing, Stopped}
+use Rattle.alm_store.specs.declared.phase.Phase.{Phase}
+use Rattle.alm_store.specs.declared.phase.Phase.TheVariants.{Committing, Stopped}
 use Rattle.alm_store.specs.declared.store.Store.{Ghosts}
 use Rattle.alm_flusher.specs.declared.held.Held.{Held}
 use Rattle.alm_flusher.specs.declared.held.Held.TheVariants.{Nothing, Fetched, Committed, Published}

@@ -1,5 +1,1 @@
-pub mod Begun
-pub mod CallsLeft
-pub mod Opened
-pub mod Passing
-pub mod Pacing
+pub mod Pace

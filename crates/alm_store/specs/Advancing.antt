@@ -2,11 +2,11 @@
 use Rattle.std.specs.Prelude.{◌≡◌, ◌≢◌, ◌↔◌, ◌⊎◌, ℕ}
 use Rattle.alm_disk.specs.Device.{DeviceState}
 use Rattle.alm_model.specs.Plant.{Condensed}
-use Rattle.alm_keeper.specs.Calls.{IsCall}
-use Rattle.alm_keeper.specs.declared.phase.Phase.{Phase}
-use Rattle.alm_keeper.specs.declared.phase.Phase.TheVariants.{Idle, Committing, Copying, Paused, Stopped}
-use Rattle.alm_keeper.specs.declared.progress.Progress.{Progress}
-use Rattle.alm_keeper.specs.declared.progress.Progress.TheVariants.{More, Done, Failed}
+use Rattle.alm_store.specs.Calls.{IsCall}
+use Rattle.alm_store.specs.declared.phase.Phase.{Phase}
+use Rattle.alm_store.specs.declared.phase.Phase.TheVariants.{Idle, Committing, Copying, Paused, Stopped}
+use Rattle.alm_store.specs.declared.progress.Progress.{Progress}
+use Rattle.alm_store.specs.declared.progress.Progress.TheVariants.{More, Done, Failed}
 
 -- the device, the stored plant and the count of failures are as before
 abbrev pub Same : DeviceState → DeviceState → Condensed → Condensed → ℕ → ℕ → Type 0
@@ -17,6 +17,12 @@ abbrev pub IsOpen : Phase → Type 0
 IsOpen Copying = Unit {0}
 IsOpen Paused = Unit {0}
 IsOpen phase = ⊥
+
+-- nothing is under way, so that a commit may be begun
+abbrev pub IsResting : Phase → Type 0
+IsResting Idle = Unit {0}
+IsResting Paused = Unit {0}
+IsResting phase = ⊥
 
 -- what else is told of a store stays: phase, next plant, calls that are left, use and length of the segment
 abbrev pub SameWords : Phase → Phase → Condensed → Condensed → (l l' u u' g g' : ℕ) → Type 0

@@ -1,5 +1,5 @@
 pub mod Advancing
+pub mod Calls
 pub mod Opening
-pub mod Keepers
-pub mod Resting
+pub mod Pace
 pub mod Pacing

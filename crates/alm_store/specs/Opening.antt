@@ -3,8 +3,8 @@ use Rattle.std.specs.Prelude.{ℕ, List}
 use Rattle.alm_disk.specs.Device.{DeviceState, IsImage}
 use Rattle.alm_disk.specs.Failures.{HasFailed}
 use Rattle.alm_model.specs.Plant.{Condensed}
-use Rattle.alm_keeper.specs.declared.open_fault.OpenFault.{OpenFault}
-use Rattle.alm_keeper.specs.declared.open_fault.OpenFault.TheVariants.{Unformatted, Damaged, Disk, OutOfMemory}
+use Rattle.alm_store.specs.declared.open_fault.OpenFault.{OpenFault}
+use Rattle.alm_store.specs.declared.open_fault.OpenFault.TheVariants.{Unformatted, Damaged, Disk, OutOfMemory}
 
 -- an image of the device stands for no plant
 pub record IsFaulty (recovers : List ℕ → Condensed → Type 0) (state : DeviceState) : Type 0 where

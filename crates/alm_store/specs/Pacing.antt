@@ -1,11 +1,11 @@
 -- What the calls of a store make of an open checkpoint and of the use of its segment.
 use Rattle.std.specs.Prelude.{◌≡◌, ℕ, ◌+◌, ◌*◌, ◌≤◌, Option, Some, None}
-use Rattle.alm_keeper.specs.Keeper.{most}
-use Rattle.alm_keeper.specs.Pace.{Going, longest, open_len}
-use Rattle.alm_keeper.specs.declared.phase.Phase.{Phase}
-use Rattle.alm_keeper.specs.declared.phase.Phase.TheVariants.{Committing, Paused}
-use Rattle.alm_keeper.specs.declared.progress.Progress.{Progress}
-use Rattle.alm_keeper.specs.declared.progress.Progress.TheVariants.{More, Done, Failed}
+use Rattle.alm_store.specs.Pace.{most}
+use Rattle.alm_store.specs.Pace.{Going, longest, open_len}
+use Rattle.alm_store.specs.declared.phase.Phase.{Phase}
+use Rattle.alm_store.specs.declared.phase.Phase.TheVariants.{Committing, Paused}
+use Rattle.alm_store.specs.declared.progress.Progress.{Progress}
+use Rattle.alm_store.specs.declared.progress.Progress.TheVariants.{More, Done, Failed}
 
 -- the use and the length of the segment stay, and the open checkpoint
 abbrev pub SamePace : (u u' l l' : ℕ) → (o o' : Option Going) → Type 0

@@ -1,8 +1,8 @@
-//! What the flusher sees of a keeper.
+//! A store of actions over a device, as the flusher and all above it see one.
 //!
-//! A [`Keeper`](alm_keeper::Keeper) commits batches and makes checkpoints, one device call at a time. [`Store`] says of it
-//! what the flusher's proofs want, and no more: which plant is stored, and which one is when the work that is under way is
-//! done. A store in memory serves tests.
+//! A [`Store`] commits batches and makes checkpoints, one device call at a time: which plant is stored, which one is when the work
+//! that is under way is done, and what its device may hold at any moment. The keeper is one; whatever stands on this crate alone is
+//! proved of every other as well.
 //!
 //! | phase | `begin` | `begin_checkpoint` | `advance` |
 //! |---|---|---|---|
@@ -22,7 +22,14 @@
 //! It is not promised that there is room for a batch: a store that keeps its pace has it.
 #![tactic(auto)]
 
-mod keeper;
+mod open_fault;
+mod phase;
+mod progress;
+mod refused;
 mod store;
 
+pub use open_fault::OpenFault;
+pub use phase::Phase;
+pub use progress::Progress;
+pub use refused::Refused;
 pub use store::Store;

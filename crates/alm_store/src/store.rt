@@ -1,7 +1,10 @@
 //! A store of actions over a device, one device call at a time.
 
+use crate::open_fault::OpenFault;
+use crate::phase::Phase;
+use crate::progress::Progress;
+use crate::refused::Refused;
 use alm_disk::Disk;
-use alm_keeper::{OpenFault, Phase, Progress, Refused};
 use alm_plant::Plant;
 use alm_types::Batch;
 use std::alloc::Global;
@@ -16,14 +19,14 @@ pub trait Store: Drop {
     ghost use Rattle.alm_model.specs.Step.{run};
     ghost use Rattle.alm_model.specs.Judging.{accepted_of};
     ghost use Rattle.alm_model.specs.Rules.{AllAdmitted, KeepsRules, admits_all};
-    ghost use Rattle.alm_keeper.specs.declared.phase.Phase.{Phase};
-    ghost use Rattle.alm_keeper.specs.declared.phase.Phase.TheVariants.{Idle, Committing, Copying, Paused, Stopped};
-    ghost use Rattle.alm_keeper.specs.Stages.{IsResting};
+    ghost use Rattle.alm_store.specs.declared.phase.Phase.{Phase};
+    ghost use Rattle.alm_store.specs.declared.phase.Phase.TheVariants.{Idle, Committing, Copying, Paused, Stopped};
+    ghost use Rattle.alm_store.specs.Advancing.{IsResting};
     ghost use Rattle.alm_store.specs.Advancing.{Advanced, IsOpen, Same, SameWords};
-    ghost use Rattle.alm_keeper.specs.Calls.{IsCall};
+    ghost use Rattle.alm_store.specs.Calls.{IsCall};
     ghost use Rattle.alm_store.specs.Opening.{HasCause};
     ghost use Rattle.alm_store.specs.Pacing.{Goes, IsFresh, SamePace};
-    ghost use Rattle.alm_keeper.specs.Pace.{Going, KeepsPace, TakesAny};
+    ghost use Rattle.alm_store.specs.Pace.{Going, KeepsPace, TakesAny};
 
     type Device: Disk + Drop;
 

@@ -1,23 +1,22 @@
 //! Who sits at the slots.
-ghost use Rattle.std.specs.Prelude.{◌≡◌, IfOk, length, map};
+ghost use Rattle.std.specs.Prelude.{◌≡◌, ◌≤◌, [], length, map, vec_capacity};
 
 use alm_board::Look;
 use alm_rings::{Console, Told};
 use alm_run::{Chair, Source};
-use std::alloc::{AllocError, Global};
 
-/// Seats the sources in the order of the slots.
+/// Seats the sources in the order of the slots, in a list that has room for them.
 pub fn seat<T: Told + Drop, L: Look<Told = T> + Drop, S: Source<T, L> + Drop>(
-    alloc: Global,
+    mut chairs: Vec<Chair<T, L, S>>,
     consoles: Vec<Console<T>>,
     looks: Vec<L>,
     sources: Vec<S>,
-) -> Result<Vec<Chair<T, L, S>>, AllocError>
+) -> Vec<Chair<T, L, S>>
+    requires room { (chairs.items ≡ []) × (length consoles.items ≤ vec_capacity chairs) }
     requires looks { length looks.items ≡ length consoles.items }
     requires sources { length sources.items ≡ length consoles.items }
-    ensures consoles { IfOk result (λ chairs. map (λ chair. chair.console) chairs.items ≡ consoles.items) }
+    ensures consoles { map (λ chair. chair.console) result.items ≡ consoles.items }
 {
-    let mut chairs = Vec::with_capacity(alloc, consoles.len())?;
     let mut looks = looks.into_iter();
     let mut sources = sources.into_iter();
     for console in consoles {
@@ -32,5 +31,5 @@ pub fn seat<T: Told + Drop, L: Look<Told = T> + Drop, S: Source<T, L> + Drop>(
             _ => unreachable!(),
         }
     }
-    Ok(chairs)
+    chairs
 }

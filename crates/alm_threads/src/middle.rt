@@ -1,6 +1,6 @@
 //! What stands between the consoles and the device.
 ghost use Rattle.std.specs.Prelude.{◌≡◌, ℕ, ◌<◌, ◌≤◌, ◌^◌, [], length};
-ghost use Rattle.alm_keeper.specs.declared.phase.Phase.TheVariants.{Idle};
+ghost use Rattle.alm_store.specs.declared.phase.Phase.TheVariants.{Idle};
 ghost use Rattle.alm_rings.specs.Batches.{AreBatchEnds, sealed_of, fetched_of, empties_in};
 ghost use Rattle.alm_rings.specs.Placed.{AreApart, taken_by, released_by};
 

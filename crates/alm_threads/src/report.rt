@@ -1,6 +1,6 @@
 //! What a run leaves.
 ghost use Rattle.std.specs.Prelude.{◌≡◌, ◌≢◌};
-ghost use Rattle.alm_keeper.specs.declared.phase.Phase.TheVariants.{Stopped};
+ghost use Rattle.alm_store.specs.declared.phase.Phase.TheVariants.{Stopped};
 ghost use Rattle.alm_run.specs.declared.storage.Storage.TheVariants.{Whole};
 
 use alm_rings::SlotReport;

@@ -25,7 +25,7 @@ use alm_run::{
 };
 use alm_store::Store;
 use alm_types::Slot;
-use std::alloc::Global;
+use std::alloc::{AllocError, Global};
 use std::sync::Wait;
 use std::thread;
 use std::thread::{Scope, Threads};
@@ -195,6 +195,32 @@ fn in_scope<
     )
 }
 
+// Room for who sits at the slots, for the consoles that come back, and for what each slot reports.
+struct Room<T: Told + Drop, L: Look<Told = T> + Drop, S: Source<T, L> + Drop> {
+    chairs: Vec<Chair<T, L, S>>,
+    consoles: Vec<Console<T>>,
+    reports: Vec<Option<SlotReport>>,
+}
+
+// Room for so many slots.
+fn room_for<T: Told + Drop, L: Look<Told = T> + Drop, S: Source<T, L> + Drop>(
+    alloc: Global,
+    slots: usize,
+) -> Result<Room<T, L, S>, AllocError>
+    ensures chairs { IfOk result (λ r. (r.chairs.items ≡ []) × (slots ≤ vec_capacity r.chairs)) }
+    ensures consoles { IfOk result (λ r. (r.consoles.items ≡ []) × (slots ≤ vec_capacity r.consoles)) }
+    ensures reports { IfOk result (λ r. (r.reports.items ≡ []) × (slots ≤ vec_capacity r.reports)) }
+{
+    let chairs = Vec::with_capacity(alloc, slots)?;
+    let consoles = Vec::with_capacity(alloc, slots)?;
+    let reports = Vec::with_capacity(alloc, slots)?;
+    Ok(Room {
+        chairs,
+        consoles,
+        reports,
+    })
+}
+
 /// Runs these parts with a source for each slot, in the order of the slots, and a bell for each that wakes it: a thread for each source and
 /// one for the sequencer; the flusher runs in the caller's.
 ///
@@ -220,6 +246,10 @@ pub fn run_with_bells<
     requires sources { length sources.items ≡ length parts.slots.items }
     ensures run { IfOk result (λ report. IsRun (K.stored parts.middle.flusher.store) parts.slots.items (K.stored report.keeper) report.slots.items) }
 {
+    let Ok(room) = room_for(alloc, parts.slots.len()) else {
+        drop(parts.close(rt));
+        return Err(StartFault::OutOfMemory);
+    };
     let Parts {
         slots,
         consoles,
@@ -227,16 +257,7 @@ pub fn run_with_bells<
         board,
         middle,
     } = parts;
-    let parcel = Parcel::new(board, rt);
-    let Ok(room) = Vec::with_capacity(alloc, slots.len()) else {
-        return Err(StartFault::OutOfMemory);
-    };
-    let Ok(reports) = Vec::with_capacity(alloc, slots.len()) else {
-        return Err(StartFault::OutOfMemory);
-    };
-    let Ok(chairs) = seat(alloc, consoles, looks, sources) else {
-        return Err(StartFault::OutOfMemory);
-    };
+    let chairs = seat(room.chairs, consoles, looks, sources);
     let flags = Flags::new(Bells::new(slots.as_slice(), bells));
     let ends = in_scope(
         rt,
@@ -245,11 +266,11 @@ pub fn run_with_bells<
         &slots,
         hold,
         chairs,
-        room,
-        parcel.open(),
+        room.consoles,
+        board,
         middle,
     )?;
-    Ok(report_of(ends, reports))
+    Ok(report_of(ends, room.reports))
 }
 
 /// Runs these parts with a source for each slot, in the order of the slots, each woken when a receipt is released to it.

@@ -1,4 +1,4 @@
-use Rattle.alm_store.specs.Keepers.{StandsFor, IsSpent}
+use Rattle.alm_keeper.specs.AsStore.{StandsFor, IsSpent}
 use Rattle.alm_bench.specs.World.{first, shut}
 use Rattle.alm_bench.proofs.Order.{shut_order}
 use Rattle.alm_bench.proofs.Told.{told_is_recovered}

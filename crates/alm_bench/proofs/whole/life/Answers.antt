@@ -1,17 +1,20 @@
-use Rattle.std.proofs.Common.{subst}
-use Rattle.alm_store.specs.Keepers.{StandsFor, IsSpent}
+use Rattle.std.proofs.Common.{◌≡◌, subst, sym}
+use Rattle.alm_keeper.specs.AsStore.{StandsFor, IsSpent}
 use Rattle.alm_bench.specs.World.{shut, first}
-use Rattle.alm_bench.specs.Headline.{Sight, IsRun}
+use Rattle.alm_bench.specs.Headline.{Sight, IsRun, after_all}
 use Rattle.alm_bench.specs.Stands.{sight_of}
-use Rattle.alm_bench.proofs.Results.{if_ok}
+use Rattle.alm_bench.proofs.Carried.{stands_honest}
 use Rattle.alm_bench.proofs.whole.life.Goals as goal
 
-pub returns : goal.returns
-returns g c = λ honest plant all.
-    if_ok _ _ c.run.result
-    (λ trace run. (
-      sight_of c.run.new.self,
-      subst (λ (d : Sight). IsRun StandsFor IsSpent (shut (first plant)) d c.args.steps.now trace.items (sight_of c.run.new.self)) c.closed-bench.ensures.device
-          (run (shut (first plant)) (c.closed-bench.ensures.stands honest plant all)),
-    ))
-    c.run.ensures.run
+pub returns-in-Ok-clause-run : goal.returns-in-Ok-clause-run
+returns-in-Ok-clause-run g c = λ honest plant all.
+    let w = shut (first plant) in
+    let at = c.closed-bench.ensures.stands honest plant all in
+    let trace = c.in-Ok.trace in
+    let back = c.into_disk.ensures in
+    let left : sight_of c.run.new.self ≡ record { state = g.D.Disk.state c.into_disk.result; failures = g.D.Disk.failures c.into_disk.result } = (λ i. record { state = sym back.state i; failures = sym back.failures i }) in
+    let from = c.closed-bench.ensures.device in (
+      back.honest.0 (stands_honest (after_all w c.args.steps.now trace.items) c.run.new.self.setup (c.in-Ok.ensures.stands w at)),
+      subst (λ (last : Sight). IsRun StandsFor IsSpent w (record { state = g.D.Disk.state c.args.disk; failures = g.D.Disk.failures c.args.disk }) c.args.steps.now trace.items last) left
+          (subst (λ (d : Sight). IsRun StandsFor IsSpent w d c.args.steps.now trace.items (sight_of c.run.new.self)) from (c.in-Ok.ensures.run w at)),
+    )

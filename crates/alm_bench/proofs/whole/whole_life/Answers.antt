@@ -1,7 +1,7 @@
 use Rattle.std.proofs.Common.{List, ℕ, sym, subst}
 use Rattle.alm_disk.proofs.Images.{settled_image}
 use Rattle.alm_model.specs.New.{new_plant}
-use Rattle.alm_store.specs.Keepers.{StandsFor}
+use Rattle.alm_keeper.specs.AsStore.{StandsFor}
 use Rattle.alm_bench.specs.Headline.{StandOnly}
 use Rattle.alm_bench.proofs.whole.whole_life.Goals as goal
 
@@ -12,5 +12,5 @@ returns-in-Ok-life-clause-run g c = λ honest.
     let settled = c.in-Ok.ensures.settled honest in
     let new = c.in-Ok.ensures.stands honest in
     let only : StandOnly state plant = λ image is. subst (λ (bytes : List ℕ). StandsFor bytes plant) (sym (settled_image state state.bytes image settled is)) (1, new.stands) in
-    let run = c.in-Ok-life.ensures (c.in-Ok.ensures.honest.0 honest) plant only in
-    (record { state = state; failures = g.D.Disk.failures c.in-Ok.disk }, run.0, only, run.1)
+    let run = c.in-Ok-life.ensures.run (c.in-Ok.ensures.honest.0 honest) plant only in
+    (run.0, c.in-Ok.disk, c.in-Ok.ensures.moments, only, run.1)

@@ -1,5 +1,5 @@
 use Rattle.std.proofs.Common.{sym, ◌∙◌, ⊎_elim}
-use Rattle.alm_keeper.specs.declared.progress.Progress.TheVariants.{Done}
+use Rattle.alm_store.specs.declared.progress.Progress.TheVariants.{Done}
 use Rattle.alm_flusher.proofs.Pacing.{commit_ends, goes_on, stays_alone}
 use Rattle.alm_flusher.proofs.commit.call.Goals as goal
 

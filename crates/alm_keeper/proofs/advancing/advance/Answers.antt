@@ -30,6 +30,6 @@ returns-in-Ok-clause-call g c =
     let fine : IsErr c.call_next.result → ⊥ = λ err. true≢false (sym (subst (λ (r : Result Unit DiskFault). IsErr r) c.in-Ok.is err)) in
     record {
       result = c.call_next.result;
-      call = c.call_next.ensures.one_call;
+      served = c.call_next.ensures.serves;
       fault = (λ failed. absurd (not_failed c.args.book.now.stage c.args.book.now.work c.go_on.result c.args.book.now c.go_on.new.self c.go_on.ensures.goes failed), λ err. absurd (fine err));
     }

@@ -1,4 +1,4 @@
-use Rattle.alm_keeper.specs.Pace.{IsAhead}
+use Rattle.alm_store.specs.Pace.{IsAhead}
 use Rattle.alm_keeper.proofs.Pace.{at_most, takes_any}
 use Rattle.alm_keeper.proofs.laws.a_store_that_keeps_its_pace_takes_any_batch.Goals as goal
 

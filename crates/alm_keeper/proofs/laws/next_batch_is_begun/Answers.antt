@@ -5,9 +5,9 @@ use Rattle.alm_model.specs.Plant.{Condensed}
 use Rattle.alm_model.specs.Judging.{accepted_of}
 use Rattle.alm_model.specs.Rules.{AllAdmitted}
 use Rattle.alm_keeper.specs.Keeper.{trial, begin_answer}
-use Rattle.alm_keeper.specs.Stages.{IsResting}
-use Rattle.alm_keeper.specs.declared.phase.Phase.{Phase}
-use Rattle.alm_keeper.specs.declared.phase.Phase.TheVariants as at
+use Rattle.alm_store.specs.Advancing.{IsResting}
+use Rattle.alm_store.specs.declared.phase.Phase.{Phase}
+use Rattle.alm_store.specs.declared.phase.Phase.TheVariants as at
 use Rattle.alm_keeper.proofs.Tried.{tried_admitted}
 use Rattle.alm_keeper.proofs.laws.next_batch_is_begun.Goals as goal
 

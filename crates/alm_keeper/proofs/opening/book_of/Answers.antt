@@ -1,12 +1,14 @@
-use Rattle.std.proofs.Common.{rules, arith}
-use Rattle.alm_keeper.specs.Opening.{opened_by}
-use Rattle.alm_keeper.proofs.Restored.{restored}
+use Rattle.std.proofs.Common.{rules, arith, ◌∙◌, ap, subst}
+use Rattle.alm_checkpoint.specs.declared.restore_fault.RestoreFault.{RestoreFault}
+use Rattle.alm_checkpoint.specs.Restoring.{IsUnrestored}
+use Rattle.alm_keeper.specs.Opening.{opened_by, open_fault}
+use Rattle.alm_keeper.proofs.Restored.{restored, unrestored_is}
 use Rattle.alm_keeper.proofs.opening.book_of.Goals as goal
 
 pub returns-clause-in_order : goal.returns-clause-in_order
 returns-clause-in_order c =
     let o = opened_by c.args.layout c.args.marks c.args.text.now c.args.segment.now in
-    let r = restored o c.in-Ok.found.0 c.in-Ok.found.1 c.in-Ok.ensures.holds (λ i. omega (arith, c.type_inv.segment i)) c.requires.segment c.requires.count in
+    let r = restored o c.in-Ok-restore.found.0 c.in-Ok-restore.found.1 c.in-Ok-restore.ensures.holds (λ i. omega (arith, c.type_inv.segment i)) c.requires.segment c.requires.count in
     record {
       layout = c.requires.limits;
       small = c.requires.small;
@@ -21,3 +23,6 @@ returns-clause-in_order c =
       does = search rules;
       copy = tt;
     }
+
+pub returns-in-Err-Damaged-clause-restores : goal.returns-in-Err-Damaged-clause-restores
+returns-in-Err-Damaged-clause-restores c = unrestored_is c.args.layout c.args.marks c.args.text.now c.args.segment.now c.in-Err-Damaged.fault c.open_fault.result (c.open_fault.ensures ∙ ap open_fault c.in-Err-Damaged.fault-is) (subst (λ (r : RestoreFault). IsUnrestored (opened_by c.args.layout c.args.marks c.args.text.now c.args.segment.now) r) c.in-Err-Damaged.field-0-is c.in-Err-Damaged.ensures.damage)

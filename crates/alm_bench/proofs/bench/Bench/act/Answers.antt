@@ -1,4 +1,4 @@
-use Rattle.alm_store.specs.Keepers.{StandsFor, IsSpent}
+use Rattle.alm_keeper.specs.AsStore.{StandsFor, IsSpent}
 use Rattle.std.proofs.Common.{sym, subst}
 use Rattle.alm_bench.specs.declared.step.Step.{Step}
 use Rattle.alm_bench.specs.World.{Answers, after}

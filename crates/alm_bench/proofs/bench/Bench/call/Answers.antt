@@ -1,10 +1,10 @@
 use Rattle.std.proofs.Common.{◌≡◌, sym, refl, subst}
-use Rattle.alm_store.specs.Keepers.{StandsFor, IsSpent}
+use Rattle.alm_keeper.specs.AsStore.{StandsFor, IsSpent}
 use Rattle.alm_bench.specs.World.{after, shut}
 use Rattle.alm_bench.specs.Headline.{Moves, Sight}
 use Rattle.alm_bench.specs.declared.step.Step.TheVariants as S
 use Rattle.alm_bench.specs.declared.event.Event.TheVariants as E
-use Rattle.alm_bench.proofs.Carried.{carried, still, shut_not_open}
+use Rattle.alm_bench.proofs.Carried.{carried, still, there, shut_not_open}
 use Rattle.alm_bench.proofs.bench.Bench.call.Goals as goal
 
 pub returns-in-More-clause-answer : goal.returns-in-More-clause-answer
@@ -71,4 +71,20 @@ returns-in-Gone g c = record {
   answer = λ w m. absurd (still w _ _ (sym c.in-Gone.ensures) m);
   stands = λ w m. absurd (still w _ _ (sym c.in-Gone.ensures) m);
   moves = λ w m. absurd (still w _ _ (sym c.in-Gone.ensures) m);
+  there = λ h. absurd (there _ _ (sym c.in-Gone.ensures) h);
 }
+
+pub returns-in-More-clause-there : goal.returns-in-More-clause-there
+returns-in-More-clause-there g c = λ h. there _ _ (sym c.put.ensures) tt
+
+pub returns-in-Committed-clause-there : goal.returns-in-Committed-clause-there
+returns-in-Committed-clause-there g c = λ h. there _ _ (sym c.put-in-Committed.ensures) tt
+
+pub returns-in-Nothing-clause-there : goal.returns-in-Nothing-clause-there
+returns-in-Nothing-clause-there g c = λ h. there _ _ (sym c.put-in-Nothing.ensures) tt
+
+pub returns-in-Failed-clause-there : goal.returns-in-Failed-clause-there
+returns-in-Failed-clause-there g c = λ h. there _ _ (sym c.put-in-Failed.ensures) tt
+
+pub returns-in-Shut-clause-there : goal.returns-in-Shut-clause-there
+returns-in-Shut-clause-there g c = λ h. there _ _ (sym c.put-in-Shut.ensures) tt

@@ -1,6 +1,6 @@
 use Rattle.std.proofs.Common.{refl}
-use Rattle.alm_store.specs.Keepers.{StandsFor}
-use Rattle.alm_store.specs.Resting.{keeps_rules, stands_for_one}
+use Rattle.alm_keeper.specs.AsStore.{StandsFor}
+use Rattle.alm_keeper.specs.StoreLaws.{keeps_rules, stands_for_one}
 use Rattle.alm_bench.proofs.Reopened.{first_is}
 use Rattle.alm_bench.proofs.bench.Bench.closed.Goals as goal
 

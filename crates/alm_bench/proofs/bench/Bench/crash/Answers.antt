@@ -2,6 +2,7 @@ use Rattle.std.proofs.Common.{sym, subst, refl}
 use Rattle.alm_bench.specs.World.{shut}
 use Rattle.alm_bench.specs.Stands.{IsSetup}
 use Rattle.alm_bench.specs.declared.setup.Setup as T
+use Rattle.alm_bench.proofs.Carried.{there}
 use Rattle.alm_bench.proofs.bench.Bench.crash.Goals as goal
 
 pub returns-in-Open-clause-stands : goal.returns-in-Open-clause-stands
@@ -10,3 +11,12 @@ returns-in-Open-clause-stands g c = λ w m.
     let honest = c.into_device.ensures.honest.0 is.fits.honest in
     subst (λ (s : T.Setup _ _ _ _). IsSetup (shut w) s) (sym c.put.ensures)
     (refl, c.crashed-disk.ensures.honest.0 honest, λ image left. c.into_device.ensures.headline w is.fits image (c.crashed-disk.ensures.no_new_image honest image left))
+
+pub returns-in-Open-clause-there : goal.returns-in-Open-clause-there
+returns-in-Open-clause-there g c = λ h. there _ _ (sym c.put.ensures) tt
+
+pub returns-in-Shut-clause-there : goal.returns-in-Shut-clause-there
+returns-in-Shut-clause-there g c = λ h. there _ _ (sym c.put-in-Shut.ensures) tt
+
+pub returns-in-Gone-clause-there : goal.returns-in-Gone-clause-there
+returns-in-Gone-clause-there g c = λ h. absurd (there _ _ (sym c.in-Gone.ensures) h)

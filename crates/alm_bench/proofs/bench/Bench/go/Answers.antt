@@ -1,10 +1,10 @@
 use Rattle.std.proofs.Common.{◌≡◌, sym, subst}
-use Rattle.alm_store.specs.Keepers.{StandsFor, IsSpent}
+use Rattle.alm_keeper.specs.AsStore.{StandsFor, IsSpent}
 use Rattle.alm_bench.specs.World.{World, after}
 use Rattle.alm_bench.specs.Headline.{Moves, Sight}
 use Rattle.alm_bench.specs.Stands.{IsSetup}
 use Rattle.alm_bench.specs.declared.event.Event.TheVariants.{Skipped}
-use Rattle.alm_bench.proofs.Carried.{carried, still, inner_skips, after_skipped, inner_moves}
+use Rattle.alm_bench.proofs.Carried.{carried, still, there, inner_skips, after_skipped, inner_moves}
 use Rattle.alm_bench.proofs.bench.Bench.go.Goals as goal
 
 pub go-event-requires : goal.go-event-requires
@@ -42,4 +42,11 @@ returns-in-Gone g c = record {
   answer = λ w m. absurd (still w _ _ (sym c.in-Gone.ensures) m);
   stands = λ w m. absurd (still w _ _ (sym c.in-Gone.ensures) m);
   moves = λ w m. absurd (still w _ _ (sym c.in-Gone.ensures) m);
+  there = λ h. absurd (there _ _ (sym c.in-Gone.ensures) h);
 }
+
+pub returns-in-Open-clause-there : goal.returns-in-Open-clause-there
+returns-in-Open-clause-there g c = λ h. there _ _ (sym c.put.ensures) tt
+
+pub returns-in-Shut-clause-there : goal.returns-in-Shut-clause-there
+returns-in-Shut-clause-there g c = λ h. there _ _ (sym c.put-in-Shut.ensures) tt

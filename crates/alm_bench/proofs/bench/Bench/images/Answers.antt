@@ -1,6 +1,6 @@
 use Rattle.std.proofs.Common.{sym, subst}
 use Rattle.alm_bench.specs.Stands.{IsSetup, sight}
-use Rattle.alm_store.specs.Keepers.{StandsFor, IsSpent}
+use Rattle.alm_keeper.specs.AsStore.{StandsFor, IsSpent}
 use Rattle.alm_bench.specs.declared.setup.Setup as T
 use Rattle.alm_bench.specs.Headline.{Headline}
 use Rattle.alm_bench.proofs.bench.Bench.images.Goals as goal

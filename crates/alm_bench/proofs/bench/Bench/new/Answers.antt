@@ -1,5 +1,5 @@
 use Rattle.std.proofs.Common.{◌≡◌, [], arith}
-use Rattle.alm_store.specs.Resting.{stands_for_one}
+use Rattle.alm_keeper.specs.StoreLaws.{stands_for_one}
 use Rattle.alm_bench.proofs.bench.Bench.new.Goals as goal
 
 pub returns-in-Ok-clause-stands : goal.returns-in-Ok-clause-stands
@@ -10,3 +10,6 @@ returns-in-Ok-clause-stands g c = λ honest plant all.
     let bytes = (g.D.Disk.state store.disk).bytes in
     let is : store.stored.plant ≡ plant = stands_for_one bytes store.stored.plant plant opened.1 (all bytes opened.0) in
     e.open honest plant [] plant.panel.count is (omega arith)
+
+pub returns-in-Ok-clause-device : goal.returns-in-Ok-clause-device
+returns-in-Ok-clause-device g c = λ honest. let opened = c.in-Ok.ensures.opened honest in (opened.0, c.in-Ok.ensures.settled honest)

@@ -1,11 +1,11 @@
 use Rattle.std.proofs.Common.{◌-◌, take, sym, refl, subst, arith}
 use Rattle.alm_model.specs.Plant.{Condensed}
-use Rattle.alm_store.specs.Keepers.{StandsFor}
+use Rattle.alm_keeper.specs.AsStore.{StandsFor}
 use Rattle.alm_bench.specs.World.{after}
 use Rattle.alm_bench.specs.Headline.{IsFrontPlant}
 use Rattle.alm_bench.specs.declared.step.Step.TheVariants as S
 use Rattle.alm_bench.specs.declared.event.Event.TheVariants as E
-use Rattle.alm_bench.proofs.Carried.{carried, still, shut_not_open}
+use Rattle.alm_bench.proofs.Carried.{carried, still, there, shut_not_open}
 use Rattle.alm_bench.proofs.Reopened.{storage_fault, found, reaches}
 use Rattle.alm_bench.proofs.bench.Bench.reopen.Goals as goal
 
@@ -68,4 +68,14 @@ returns-in-Gone g c = record {
   answer = λ w m. absurd (still w _ _ (sym c.in-Gone.ensures) m);
   stands = λ w m. absurd (still w _ _ (sym c.in-Gone.ensures) m);
   moves = λ w m. absurd (still w _ _ (sym c.in-Gone.ensures) m);
+  there = λ h. absurd (there _ _ (sym c.in-Gone.ensures) h);
 }
+
+pub returns-in-Ok-clause-there : goal.returns-in-Ok-clause-there
+returns-in-Ok-clause-there g c = λ h. there _ _ (sym c.put.ensures) tt
+
+pub returns-in-Err-clause-there : goal.returns-in-Err-clause-there
+returns-in-Err-clause-there g c = λ h. there _ _ (sym c.put-in-Err.ensures) tt
+
+pub returns-in-Open-clause-there : goal.returns-in-Open-clause-there
+returns-in-Open-clause-there g c = λ h. there _ _ (sym c.put-in-Open.ensures) tt

@@ -1,4 +1,4 @@
-use Rattle.alm_store.specs.Keepers.{StandsFor, IsSpent}
+use Rattle.alm_keeper.specs.AsStore.{StandsFor, IsSpent}
 use Rattle.std.proofs.Common.{rules, refl, ◌≡◌, ◌+◌, ◌∙◌, ◌++◌, ◌∷◌, [], List, take, length, ap, sym, subst, arith, length-append}
 use Rattle.std.proofs.lemmas.List.{take_more, take_all}
 use Rattle.alm_bench.specs.declared.step.Step.{Step}
@@ -35,6 +35,7 @@ loop-step-preserved g c =
           subst (λ (v : World). Stands v c.step-event.new.self)
           (sym (after_more StandsFor IsSpent w first last (take i ss) tr s e (inv.run w m)) ∙ (ap (after_all w (take i ss ++ s ∷ [])) (sym items) ∙ ap (λ (l : List Step). after_all w l c.push_reserved.new.self.items) (sym more)))
           (c.step-event.ensures.stands (after_all w (take i ss) tr) (inv.stands w m));
+      there = λ h. c.step-event.ensures.there (inv.there h);
     }
 
 pub loop-step-init : goal.loop-step-init
@@ -45,6 +46,7 @@ loop-step-init g c =
       room = search rules;
       run = λ w m. subst (λ (t : List Event). IsRun StandsFor IsSpent w here [] t here) (sym c.in_ok-trace.ensures.items) (c.images.ensures.headline w m, refl);
       stands = λ w m. m;
+      there = λ h. h;
     }
 
 pub returns-clause-run : goal.returns-clause-run

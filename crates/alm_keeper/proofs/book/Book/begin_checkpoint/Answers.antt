@@ -3,7 +3,8 @@ use Rattle.alm_codec.specs.declared.version.Version.TheVariants.{V02}
 use Rattle.alm_codec.specs.Image.{image_text}
 use Rattle.alm_checkpoint.specs.Headers.{half_head_text}
 use Rattle.alm_checkpoint.specs.Layouts.{image_size}
-use Rattle.alm_keeper.specs.Stages.{IsResting, phase_of}
+use Rattle.alm_keeper.specs.Stages.{phase_of}
+use Rattle.alm_store.specs.Advancing.{IsResting}
 use Rattle.alm_keeper.specs.Keeping.{Does, IsCopying}
 use Rattle.alm_keeper.proofs.Order.{rests, idle_stage, opens_does, opens_copy}
 use Rattle.alm_keeper.specs.declared.book.Book.{Book}

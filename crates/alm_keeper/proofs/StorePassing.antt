@@ -1,0 +1,188 @@
+-- What the calls of a keeper make of its phase and its plants.
+use Rattle.std.proofs.Common.{◌≡◌, ◌≢◌, ◌↔◌, ◌+◌, ◌-◌, ◌==◌, Bool, true, false, List, if◌then◌else◌, Result, Ok, Err, OnOk, OnErr, refl, sym, ◌∙◌, ap, subst}
+use Rattle.alm_types.specs.declared.action.Action.{Action}
+use Rattle.alm_types.specs.Batches.{Judged}
+use Rattle.alm_model.specs.Plant.{Condensed}
+use Rattle.alm_model.specs.Step.{run}
+use Rattle.alm_store.specs.declared.phase.Phase.{Phase}
+use Rattle.alm_store.specs.declared.phase.Phase.TheVariants as at
+use Rattle.alm_store.specs.declared.progress.Progress.{Progress}
+use Rattle.alm_store.specs.declared.progress.Progress.TheVariants.{More, Done, Failed}
+use Rattle.alm_store.specs.declared.refused.Refused as R
+use Rattle.alm_store.specs.declared.refused.Refused.TheVariants as no
+use Rattle.alm_keeper.specs.declared.stage.Stage.{Stage}
+use Rattle.alm_keeper.specs.declared.stage.Stage.TheVariants.{Idle, Close, CloseSync, Body, BodySync, Gate, GateSync, Stopped}
+use Rattle.alm_keeper.specs.declared.stage.Work.{Work}
+use Rattle.alm_keeper.specs.declared.stage.Work.TheVariants.{Commit, Checkpoint}
+use Rattle.alm_keeper.specs.Stages.{IsWorking, first_stage, sent_stage, rest_stage, rest_work, phase_of}
+use Rattle.alm_store.specs.Advancing.{IsResting}
+use Rattle.alm_keeper.specs.Keeper.{Held, Standing, next, next_by, begun_by, piece, commits, after, after_by, begin_answer, checkpoint_answer, BeginsCommit, BeginsCheckpoint, Advances}
+use Rattle.alm_store.specs.Advancing.{Advanced, IsOpen}
+use Rattle.alm_keeper.specs.StoreLaws.{rests}
+use Rattle.alm_keeper.proofs.CallsLeft.{next_kept, same_next, stored_kept, first_next}
+
+-- a call that isn't the last leaves a commit a commit, and another work another one
+abbrev Moves : (p p' : Phase) → Type 0
+Moves p p' = ((p' ≡ at.Committing) ↔ (p ≡ at.Committing)) × (p' ≢ at.Stopped) × (p' ≢ at.Idle)
+
+commit_moves : Moves at.Committing at.Committing
+commit_moves = ((λ e. refl, λ e. refl), λ e. absurd cc, λ e. absurd cc)
+
+copy_moves : Moves at.Copying at.Copying
+copy_moves = ((λ e. absurd cc, λ e. absurd cc), λ e. absurd cc, λ e. absurd cc)
+
+pause_copies : Moves at.Paused at.Copying
+pause_copies = ((λ e. absurd cc, λ e. absurd cc), λ e. absurd cc, λ e. absurd cc)
+
+pause_moves : Moves at.Paused at.Paused
+pause_moves = ((λ e. absurd cc, λ e. absurd cc), λ e. absurd cc, λ e. absurd cc)
+
+copy_pauses : Moves at.Copying at.Paused
+copy_pauses = ((λ e. absurd cc, λ e. absurd cc), λ e. absurd cc, λ e. absurd cc)
+
+sent_moves : (b : Bool) → Moves at.Paused (phase_of (if b then BodySync else Body) Checkpoint)
+sent_moves true = pause_copies
+sent_moves false = pause_moves
+
+module _ {D : Type 0} (k : Held D) where
+  abbrev To : Stage → Work → Phase → Type 0
+  To s w p = Moves p (phase_of s w)
+
+  moves_by : (s : Stage) (w : Work) → k.work ≡ w → s ≢ GateSync → IsWorking s → To (after_by s w k).stage (after_by s w k).work (phase_of s w)
+  moves_by Idle w is not works = absurd works
+  moves_by Stopped w is not works = absurd works
+  moves_by Close Commit is not works = subst (λ (v : Work). To CloseSync v at.Committing) (sym is) commit_moves
+  moves_by Close Checkpoint is not works = subst (λ (v : Work). To CloseSync v at.Copying) (sym is) copy_moves
+  moves_by CloseSync Commit is not works = subst (λ (v : Work). To Body v at.Committing) (sym is) commit_moves
+  moves_by CloseSync Checkpoint is not works = subst (λ (v : Work). To Body v at.Copying) (sym is) copy_pauses
+  moves_by Body Commit is not works = subst (λ (v : Work). To BodySync v at.Committing) (sym is) commit_moves
+  moves_by Body Checkpoint is not works =
+      subst (λ (v : Work). To (sent_stage (k.out + piece (k.run - k.out)) k.run) v at.Paused) (sym is) (sent_moves (k.out + piece (k.run - k.out) == k.run))
+  moves_by BodySync Commit is not works = subst (λ (v : Work). To Gate v at.Committing) (sym is) commit_moves
+  moves_by BodySync Checkpoint is not works = subst (λ (v : Work). To Gate v at.Copying) (sym is) copy_moves
+  moves_by Gate Commit is not works = subst (λ (v : Work). To GateSync v at.Committing) (sym is) commit_moves
+  moves_by Gate Checkpoint is not works = subst (λ (v : Work). To GateSync v at.Copying) (sym is) copy_moves
+  moves_by GateSync w is not works = absurd (not refl)
+
+  -- a work is done
+  abbrev Ends : Held D → Condensed → Type 0
+  Ends new q = (phase_of new.stage new.work ≢ at.Committing) × (phase_of new.stage new.work ≢ at.Stopped) × (new.stored.plant ≡ q) × ((next new).plant ≡ q)
+
+  commit_ends : (b : Bool) → k.copying ≡ b → Ends (commits k) (begun_by Commit k).plant
+  commit_ends true is = (
+    (λ e. absurd (subst (λ (b : Bool). phase_of (rest_stage b) (rest_work b) ≡ at.Committing → ⊥) (sym is) (λ x. absurd cc) e)),
+    (λ e. absurd (subst (λ (b : Bool). phase_of (rest_stage b) (rest_work b) ≡ at.Stopped → ⊥) (sym is) (λ x. absurd cc) e)),
+    refl,
+    ap (λ (b : Bool). (next_by (rest_stage b) (commits k).stored (begun_by (rest_work b) (commits k))).plant) is,
+  )
+  commit_ends false is = (
+    (λ e. absurd (subst (λ (b : Bool). phase_of (rest_stage b) (rest_work b) ≡ at.Committing → ⊥) (sym is) (λ x. absurd cc) e)),
+    (λ e. absurd (subst (λ (b : Bool). phase_of (rest_stage b) (rest_work b) ≡ at.Stopped → ⊥) (sym is) (λ x. absurd cc) e)),
+    refl,
+    ap (λ (b : Bool). (next_by (rest_stage b) (commits k).stored (begun_by (rest_work b) (commits k))).plant) is,
+  )
+
+  ends_by : (w : Work) → Ends (after_by GateSync w k) (begun_by w k).plant
+  ends_by Commit = commit_ends k.copying refl
+  ends_by Checkpoint = ((λ e. absurd cc), (λ e. absurd cc), refl, refl)
+
+next_working : (s : Stage) (stored begun : Standing) → IsWorking s → next_by s stored begun ≡ begun
+next_working Idle stored begun is = absurd is
+next_working Stopped stored begun is = absurd is
+next_working Close stored begun is = refl
+next_working CloseSync stored begun is = refl
+next_working Body stored begun is = refl
+next_working BodySync stored begun is = refl
+next_working Gate stored begun is = refl
+next_working GateSync stored begun is = refl
+
+begun_stays : {D : Type 0} (k : Held D) (disk : D) (s : Stage) (w : Work) → begun_by w (record k { disk = disk; stage = s }) ≡ begun_by w k
+begun_stays k disk s Commit = refl
+begun_stays k disk s Checkpoint = refl
+
+module _ {D : Type 0} (old new : Held D) (works : IsWorking old.stage) where
+  pub advanced : (result : Progress) → Advances result old new → Advanced result (phase_of old.stage old.work) (phase_of new.stage new.work) old.stored.plant (next old).plant new.stored.plant (next new).plant
+  advanced More goes =
+      let m = moves_by old old.stage old.work refl goes.0 works in
+      let moves : Moves (phase_of old.stage old.work) (phase_of new.stage new.work) = subst (λ (k : Held D). Moves (phase_of old.stage old.work) (phase_of k.stage k.work)) (sym goes.1) m in (
+        moves.0,
+        moves.1,
+        moves.2,
+        ap (λ (k : Held D). k.stored.plant) goes.1 ∙ ap (λ (s : Standing). s.plant) (stored_kept old old.stage old.work goes.0),
+        ap (λ (k : Held D). (next k).plant) goes.1 ∙ ap (λ (s : Standing). s.plant) (same_next (after old) new.disk ∙ next_kept old old.stage old.work refl goes.0 works),
+      )
+  advanced Done goes =
+      let is : after old ≡ after_by GateSync old.work old = ap (λ (s : Stage). after_by s old.work old) goes.0 in
+      let e = ends_by old old.work in
+      let n : (next old).plant ≡ (begun_by old.work old).plant = ap (λ (s : Standing). s.plant) (next_working old.stage old.stored (begun_by old.work old) works) in
+      let here : Ends old new (begun_by old.work old).plant =
+      subst (λ (k : Held D). Ends old k (begun_by old.work old).plant) (sym goes.1)
+      (subst (λ (k : Held D). Ends old (record k { disk = new.disk }) (begun_by old.work old).plant) (sym is) (e.0, e.1, e.2, ap (λ (s : Standing). s.plant) (same_next (after_by GateSync old.work old) new.disk) ∙ e.3)) in
+      (here.0, here.1, here.2 ∙ sym n, here.3 ∙ sym n)
+  advanced Failed goes = (
+    ap (λ (k : Held D). phase_of k.stage k.work) goes,
+    ap (λ (k : Held D). k.stored.plant) goes,
+    ap (λ (k : Held D). (next k).plant) goes ∙ ap (λ (s : Standing). s.plant) (begun_stays old new.disk Stopped old.work ∙ sym (next_working old.stage old.stored (begun_by old.work old) works)),
+  )
+
+-- ---- beginnings
+
+resting_other : (p : Phase) → IsResting p → (p ≢ at.Committing) × (p ≢ at.Stopped)
+resting_other at.Idle is = (λ e. absurd cc, λ e. absurd cc)
+resting_other at.Paused is = (λ e. absurd cc, λ e. absurd cc)
+resting_other at.Committing is = absurd is
+resting_other at.Copying is = absurd is
+resting_other at.Stopped is = absurd is
+
+began : (p : Phase) (plant : Condensed) (batch : Judged) (x : Unit) → begin_answer p plant batch ≡ Ok x → IsResting p
+began at.Idle plant batch x is = tt
+began at.Paused plant batch x is = tt
+began at.Committing plant batch x is = absurd cc
+began at.Copying plant batch x is = absurd cc
+began at.Stopped plant batch x is = absurd cc
+
+opened : (s : Stage) (w : Work) (epoch : _) (x : Unit) → checkpoint_answer (phase_of s w) epoch ≡ Ok x → phase_of s w ≡ at.Idle
+opened s w epoch x is = by_phase (phase_of s w) is
+  where
+    by_phase : (p : Phase) → checkpoint_answer p epoch ≡ Ok x → p ≡ at.Idle
+    by_phase at.Idle is = refl
+    by_phase at.Paused is = absurd cc
+    by_phase at.Committing is = absurd cc
+    by_phase at.Copying is = absurd cc
+    by_phase at.Stopped is = absurd cc
+
+first_open : (b : Bool) → IsOpen (phase_of (first_stage b) Checkpoint)
+first_open true = tt
+first_open false = tt
+
+module _ {D : Type 0} (old new : Held D) where
+  pub begun_phase : (result : Result Unit R.Refused) (actions : List Action) (batch : Judged) → result ≡ begin_answer (phase_of old.stage old.work) old.stored.plant batch → BeginsCommit result actions old new
+      → OnOk result (IsResting (phase_of old.stage old.work) × (phase_of new.stage new.work ≡ at.Committing) × ((next new).plant ≡ run old.stored.plant actions))
+  begun_phase (Ok x) actions batch is goes = (began (phase_of old.stage old.work) old.stored.plant batch x (sym is), ap (λ (k : Held D). phase_of k.stage k.work) goes, ap (λ (k : Held D). (next k).plant) goes)
+  begun_phase (Err why) actions batch is goes = tt
+
+  pub refused_phase : (result : Result Unit R.Refused) (actions : List Action) → BeginsCommit result actions old new → IsResting (phase_of old.stage old.work)
+      → OnErr result ((phase_of new.stage new.work ≢ at.Committing) × ((next new).plant ≡ (next old).plant))
+  refused_phase (Ok x) actions goes rest = tt
+  refused_phase (Err (no.NotAccepted place)) actions goes rest =
+      let o = resting_other (phase_of old.stage old.work) rest in
+      let p : phase_of new.stage new.work ≡ at.Stopped = ap (λ (k : Held D). phase_of k.stage k.work) goes in (
+        λ e. absurd (stopped (sym p ∙ e)),
+        ap (λ (k : Held D). (next k).plant) goes ∙ sym (rests old o.0 o.1),
+      )
+    where
+      stopped : at.Stopped ≡ at.Committing → ⊥
+      stopped e = absurd cc
+  refused_phase (Err no.Stopped) actions goes rest = (λ e. (resting_other (phase_of old.stage old.work) rest).0 (sym (ap (λ (k : Held D). phase_of k.stage k.work) goes) ∙ e), ap (λ (k : Held D). (next k).plant) goes)
+  refused_phase (Err no.Working) actions goes rest = (λ e. (resting_other (phase_of old.stage old.work) rest).0 (sym (ap (λ (k : Held D). phase_of k.stage k.work) goes) ∙ e), ap (λ (k : Held D). (next k).plant) goes)
+  refused_phase (Err no.Gap) actions goes rest = (λ e. (resting_other (phase_of old.stage old.work) rest).0 (sym (ap (λ (k : Held D). phase_of k.stage k.work) goes) ∙ e), ap (λ (k : Held D). (next k).plant) goes)
+  refused_phase (Err no.Exhausted) actions goes rest = (λ e. (resting_other (phase_of old.stage old.work) rest).0 (sym (ap (λ (k : Held D). phase_of k.stage k.work) goes) ∙ e), ap (λ (k : Held D). (next k).plant) goes)
+
+  pub opened_phase : (result : Result Unit R.Refused) → result ≡ checkpoint_answer (phase_of old.stage old.work) old.stored.epoch → BeginsCheckpoint result old new
+      → OnOk result ((phase_of old.stage old.work ≡ at.Idle) × IsOpen (phase_of new.stage new.work) × ((next new).plant ≡ old.stored.plant))
+  opened_phase (Ok x) is goes = (
+    opened old.stage old.work old.stored.epoch x (sym is),
+    subst IsOpen (sym (ap (λ (k : Held D). phase_of k.stage k.work) goes)) (first_open old.other_open),
+    ap (λ (k : Held D). (next k).plant) goes ∙ ap (λ (s : Standing). s.plant) (first_next old.other_open old.stored _),
+  )
+  opened_phase (Err why) is goes = tt

@@ -1,0 +1,61 @@
+-- A keeper as a store.
+use Rattle.std.specs.Prelude.{◌+◌, ◌-◌, ◌/◌, ◌^◌, ◌==◌, ℕ, Bool, true, false, List, Option, Some, None, if◌then◌else◌}
+use Rattle.alm_disk.specs.Device.{DeviceState}
+use Rattle.alm_model.specs.Plant.{Condensed}
+use Rattle.alm_checkpoint.specs.Standing.{Stands}
+use Rattle.alm_keeper.specs.Keeper.{Held, first_run}
+use Rattle.alm_store.specs.Pace.{most}
+use Rattle.alm_store.specs.Pace.{Going}
+use Rattle.alm_keeper.specs.declared.stage.Stage.{Stage}
+use Rattle.alm_keeper.specs.declared.stage.Stage.TheVariants.{Idle, Close, CloseSync, Body, BodySync, Gate, GateSync}
+use Rattle.alm_keeper.specs.declared.stage.Work.{Work}
+use Rattle.alm_keeper.specs.declared.stage.Work.TheVariants.{Commit, Checkpoint}
+
+-- the bytes stand for the plant, in some epoch
+abbrev pub StandsFor : List ℕ → Condensed → Type 0
+StandsFor bytes plant = (epoch : ℕ) × Stands bytes epoch plant
+
+-- the device stands at the last epoch
+abbrev pub IsSpent : DeviceState → Type 0
+IsSpent state = ∥ ((plant : Condensed) × Stands state.bytes (2 ^ 64 - 1) plant) ∥₁
+
+-- in how many pieces so many bytes go out
+abbrev pub pieces : ℕ → ℕ
+pieces left = (left - 1) / most + 1
+
+-- how many device calls write and open what a gate guards, of a run so many bytes
+abbrev pub body_calls : Work → (left : ℕ) → ℕ
+body_calls Commit left = 4
+body_calls Checkpoint left = 3 + pieces left
+
+-- how many are left of the work that is under way
+abbrev pub calls_left : Stage → Work → (left : ℕ) → ℕ
+calls_left Close work left = 2 + body_calls work left
+calls_left CloseSync work left = 1 + body_calls work left
+calls_left Body work left = body_calls work left
+calls_left BodySync work left = 3
+calls_left Gate work left = 2
+calls_left GateSync work left = 1
+calls_left stage work left = 0
+
+-- ---- the open checkpoint
+
+-- how many pieces of a run went out: the last one may be short
+abbrev pub pieces_out : (out run : ℕ) → ℕ
+pieces_out out run = if out == run then out / most + 1 else out / most
+
+-- one is open
+abbrev pub is_open : Stage → Work → (copying : Bool) → Bool
+is_open Idle work copying = false
+is_open stage Checkpoint copying = true
+is_open stage Commit copying = copying
+
+abbrev pub going_if : Bool → Going → Option Going
+going_if true g = Some g
+going_if false g = None
+
+abbrev pub run_of : {D : Type 0} → Held D → Going
+run_of k = record { since = k.run - first_run k; pieces = pieces_out k.out k.run }
+
+abbrev pub going : {D : Type 0} → Held D → Option Going
+going k = going_if (is_open k.stage k.work k.copying) (run_of k)

@@ -1,0 +1,120 @@
+//! A keeper is a store.
+
+use crate::keeper::{Keeper, open_store};
+use alm_disk::Disk;
+use alm_plant::Plant;
+use alm_store::{OpenFault, Phase, Progress, Refused, Store};
+use alm_types::Batch;
+use std::alloc::Global;
+
+impl<D: Disk + Drop> Store for Keeper<D> {
+    ghost use Rattle.std.specs.Prelude.{◌≡◌, ◌-◌, length};
+    ghost use Rattle.alm_codec.specs.declared.version.Version.TheVariants.{V02};
+    ghost use Rattle.alm_keeper.specs.Keeper.{Takes, next, used};
+    ghost use Rattle.alm_keeper.specs.Stages.{phase_of};
+    ghost use Rattle.alm_keeper.specs.AsStore.{StandsFor, IsSpent, calls_left, going};
+    ghost use Rattle.alm_keeper.specs.StoreLaws.{fits_any, goes_alone, goes_open, keeps_rules, rests, stands_for_one};
+
+    type Device = D;
+
+    ghost honest = { λ k. D.honest k.disk };
+
+    ghost device = { λ k. D.state k.disk };
+
+    ghost failures = { λ k. D.failures k.disk };
+
+    ghost recovers = { StandsFor };
+
+    ghost phase = { λ k. phase_of k.stage k.work };
+
+    ghost stored = { λ k. k.stored.plant };
+
+    ghost next = { λ k. (next k).plant };
+
+    ghost takes = { λ k actions. Takes k.stored actions };
+
+    ghost will_take = { λ k actions. Takes (next k) actions };
+
+    ghost left = { λ k. calls_left k.stage k.work (k.run - k.out) };
+
+    ghost written = { λ k. k.written };
+
+    ghost used = { λ k. used k };
+
+    ghost segment = { λ k. k.segment };
+
+    ghost going = { λ k. going k };
+
+    ghost newest = { λ k. k.stored.version ≡ V02 };
+
+    ghost spent = { IsSpent };
+
+    fn open(alloc: Global, disk: D) -> Result<Self, (OpenFault, D)> {
+        open_store(alloc, disk)
+    }
+
+    fn into_device(self) -> D {
+        self.into_disk()
+    }
+
+    fn images(&self) {
+        Keeper::images(self);
+    }
+
+    fn phase(&self) -> Phase {
+        Keeper::phase(self)
+    }
+
+    fn count(&self) -> u64 {
+        Keeper::count(self)
+    }
+
+    fn stored(&self) -> &Plant {
+        Keeper::stored(self)
+    }
+
+    fn takes(&self, batch: &Batch) -> bool {
+        self.takes(batch)
+    }
+
+    fn is_half_used(&self) -> bool {
+        let used = Keeper::used(self);
+        Keeper::segment(self) - used < used
+    }
+
+    fn written_since(&self) -> u64 {
+        Keeper::written_since(self)
+    }
+
+    fn mark(&mut self) {
+        Keeper::mark(self);
+    }
+
+    fn begin(&mut self, batch: &Batch) -> Result<(), Refused> {
+        Keeper::images(self);
+        Keeper::begin(self, batch)
+    }
+
+    fn begin_checkpoint(&mut self) -> Result<(), Refused> {
+        Keeper::images(self);
+        let _least = self.segment();
+        Keeper::begin_checkpoint(self)
+    }
+
+    fn advance(&mut self) -> Progress {
+        Keeper::images(self);
+        Keeper::advance(self)
+    }
+
+    ghost idle = { λ k other going. rests k other going };
+
+    ghost alone = { λ k is. goes_alone k is };
+
+    ghost opened = { λ k is. goes_open k is };
+
+    ghost fits = { λ k actions newest few any. fits_any k actions newest few any };
+
+    ghost one = { λ bytes p q x y. stands_for_one bytes p q x y };
+
+    ghost rules = { λ bytes p are x. keeps_rules bytes p are x };
+}

@@ -1,0 +1,7 @@
+-- What keeping pace gives.
+use Rattle.std.proofs.Common.{ℕ, ◌≤◌, ◌+◌, ◌-◌, ◌*◌, arith}
+use Rattle.alm_store.specs.Pace.{TakesAny}
+
+-- where there is room for the longest frame any batch fits
+pub room_for : (room segment actions : ℕ) → actions ≤ 256 → TakesAny segment (segment - room) → 19 + 16 * actions + 1 ≤ room
+room_for room segment actions few any = omega (arith, few, any)
