@@ -7,6 +7,7 @@ Each command runs with each of the eight sets of closed streams over a device wi
 byte what the command leaves there with open streams, or what it was, and status and fault line are those of the page. Then streams
 that are the device, and files that are none: nothing is lost.
 """
+import fcntl
 import itertools
 import os
 import shutil
@@ -200,13 +201,11 @@ class Streams:
         """A device that can't be written is shown, twice at once, and beside no desk."""
         device = self.device()
         os.chmod(device, 0o444)
-        locks = [subprocess.Popen(["flock", "-s", device, "sleep", "20"])]
-        time.sleep(0.3)
-        check(self.show(device) == self.shown, "show beside a reader")
-        run = run_words(self.program, ["desk", device])
-        check(run.returncode == 3 and run.stderr == b"fault io\n", "desk beside a reader", run.stderr)
-        locks[0].kill()
-        locks[0].wait()
+        with open(device, "rb") as reader:
+            fcntl.flock(reader, fcntl.LOCK_SH)
+            check(self.show(device) == self.shown, "show beside a reader")
+            run = run_words(self.program, ["desk", device])
+            check(run.returncode == 3 and run.stderr == b"fault io\n", "desk beside a reader", run.stderr)
         os.chmod(device, 0o644)
         desk = subprocess.Popen([self.program, "desk", device], stdin=subprocess.PIPE, stdout=subprocess.PIPE)
         desk.stdin.write(b"17 9 CLOCK 2000\n")
