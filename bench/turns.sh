@@ -1,24 +1,27 @@
-# What the benchmarks share: one of our programs and a plain one beside it, in turns, and the ratios of their best times.
+# What the benchmarks share: our program of benchmarks and a plain one beside it, in turns, and the ratios of their best times.
 # A run.sh sources it; `work` is a folder that goes when it ends.
 top="$(cd "$(dirname "${BASH_SOURCE[0]}")/.." && pwd)"
 work="$(mktemp -d)"
 trap 'rm -rf "$work"' EXIT
 
-# Builds the program of a crate.
+# Our benchmarks: the first word is which.
+speed="$top/crates/alm_speed/out/alm_speed"
+
+# Builds them: the one that takes no time is run.
 build() {
-    (cd "$top/crates/$1" && rt run > "$work/build.log" 2>&1) || {
+    (cd "$top/crates/alm_speed" && rt run -- rings 1 > "$work/build.log" 2>&1) || {
         tail -20 "$work/build.log"
         exit 1
     }
 }
 
-# Runs a crate's program and the plain one with the same arguments, five times. Each says on its standard error or output what it timed, its answer
-# and the nanoseconds.
+# Runs our benchmark of a name, and the plain program, with the same arguments, five times. Each says on its standard error or output what it
+# timed, its answer and the nanoseconds.
 run_in_turns() {
-    local crate="$1"
+    local name="$1"
     shift
     for _ in 1 2 3 4 5; do
-        "$top/crates/$crate/out/$crate" "$@" 2>&1 > "$work/sums" | sed 's/^/ours /' >> "$work/times"
+        "$speed" "$name" "$@" 2>&1 > "$work/sums" | sed 's/^/ours /' >> "$work/times"
         "$work/plain" "$@" | sed 's/^/plain /' >> "$work/times"
     done
 }

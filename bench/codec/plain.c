@@ -1,4 +1,4 @@
-/* Copies and sums as many bytes as the largest image has, byte by byte: what alm_codec_speed is compared with. */
+/* Copies and sums as many bytes as the largest image has, byte by byte: what `alm_speed codec` is compared with. */
 #include <stdint.h>
 #include <stdio.h>
 #include <stdlib.h>

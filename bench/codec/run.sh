@@ -5,11 +5,11 @@ set -eu
 here="$(cd "$(dirname "$0")" && pwd)"
 . "$here/../turns.sh"
 
-build alm_codec_speed
+build
 cc -O2 "$here/plain.c" -o "$work/plain"
 
 for _ in 1 2 3 4 5; do
-    "$top/crates/alm_codec_speed/out/alm_codec_speed" 2>> "$work/times" > "$work/sums"
+    "$speed" codec 2>> "$work/times" > "$work/sums"
     "$work/plain" >> "$work/times"
 done
 

@@ -1,4 +1,4 @@
-//! The same way in plain Rust: what `alm_flusher_speed` is compared with. The parts are those of way.rs.
+//! The same way in plain Rust: what `alm_speed flusher` is compared with. The parts are those of way.rs.
 #[path = "../plant/plant.rs"]
 mod plant;
 mod ring;

@@ -6,13 +6,13 @@ set -eu
 here="$(cd "$(dirname "$0")" && pwd)"
 . "$here/../turns.sh"
 
-build alm_flusher_speed
-device="$(mktemp /dev/shm/alm_flusher_speed.XXXXXX)"
+build
+device="$(mktemp /dev/shm/alm_speed.XXXXXX)"
 trap 'rm -rf "$work" "$device"' EXIT
 for how in exchanges stores; do
     echo "beside plain Rust whose rings tell by $how:"
     rustc --edition 2021 -O --cfg "$how" --check-cfg 'cfg(exchanges, stores)' "$here/plain.rs" -o "$work/plain"
     rm -f "$work/times"
-    run_in_turns alm_flusher_speed "$device"
+    run_in_turns flusher "$device"
     print_ratios ns 'key ~ /^accepted/ ? sum[key] / 2 : sum[key]'
 done

@@ -1,5 +1,5 @@
-//! The same calls in plain Rust: what `alm_keeper_speed` is compared with. A copy of as many bytes as a checkpoint writes; commits of 256
-//! actions, checked and done to a plant, two writes and two syncs each; and opening the device that `alm_keeper_speed` left: reading it, its image
+//! The same calls in plain Rust: what `alm_speed keeper` is compared with. A copy of as many bytes as a checkpoint writes; commits of 256
+//! actions, checked and done to a plant, two writes and two syncs each; and opening the device that `alm_speed keeper` left: reading it, its image
 //! into rows and the actions of its segment on them.
 #[path = "../plant/plant.rs"]
 mod plant;

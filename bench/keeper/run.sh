@@ -5,9 +5,9 @@ set -eu
 here="$(cd "$(dirname "$0")" && pwd)"
 . "$here/../turns.sh"
 
-build alm_keeper_speed
+build
 rustc --edition 2021 -O "$here/plain.rs" -o "$work/plain"
-device="$(mktemp /dev/shm/alm_keeper_speed.XXXXXX)"
+device="$(mktemp /dev/shm/alm_speed.XXXXXX)"
 trap 'rm -rf "$work" "$device"' EXIT
-run_in_turns alm_keeper_speed "$device"
+run_in_turns keeper "$device"
 print_ratios us 'key == "open" ? 1000 : 1000 * sum[key]'

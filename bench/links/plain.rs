@@ -1,4 +1,4 @@
-//! The same lists and wheel in plain Rust, on the same input: what `links_speed` is compared with.
+//! The same lists and wheel in plain Rust, on the same input: what `alm_speed links` is compared with.
 use std::time::Instant;
 
 const NODES: u32 = 16_384;

@@ -4,7 +4,7 @@ set -eu
 here="$(cd "$(dirname "$0")" && pwd)"
 . "$here/../turns.sh"
 
-build alm_links_speed
+build
 rustc -O "$here/plain.rs" -o "$work/plain"
-run_in_turns alm_links_speed
+run_in_turns links
 print_ratios ms 1e6

@@ -1,4 +1,4 @@
-//! The same measure in plain Rust, on the same input: what `alm_measure_speed` is compared with.
+//! The same measure in plain Rust, on the same input: what `alm_speed measure` is compared with.
 use std::time::Instant;
 
 const ALARMS: u32 = 16_384;

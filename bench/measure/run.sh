@@ -4,7 +4,7 @@ set -eu
 here="$(cd "$(dirname "$0")" && pwd)"
 . "$here/../turns.sh"
 
-build alm_measure_speed
+build
 rustc -O "$here/plain.rs" -o "$work/plain"
-run_in_turns alm_measure_speed
+run_in_turns measure
 print_ratios ns 'key ~ /^annunciated/ ? 50000000 : 1000000'

@@ -1,4 +1,4 @@
-//! The same plant in plain Rust, on the same input: what `alm_plant_speed` is compared with.
+//! The same plant in plain Rust, on the same input: what `alm_speed plant` is compared with.
 mod plant;
 
 use plant::{Action, Attr, Kind, Plant};

@@ -4,7 +4,7 @@ set -eu
 here="$(cd "$(dirname "$0")" && pwd)"
 . "$here/../turns.sh"
 
-build alm_plant_speed
+build
 rustc -O "$here/plain.rs" -o "$work/plain"
-run_in_turns alm_plant_speed
+run_in_turns plant
 print_ratios ns 'key == "fill" ? 2000 : key == "plain_fill" ? 2 : sum[key]'

@@ -1,4 +1,4 @@
-//! What `alm_rings_bench` exchanges, over two channels of 64 of Rust's own library, by the calls that wait: one thread sends until 64
+//! What `alm_speed rings` exchanges, over two channels of 64 of Rust's own library, by the calls that wait: one thread sends until 64
 //! requests are unanswered, receives eight receipts, and so on; another answers.
 mod receipt;
 

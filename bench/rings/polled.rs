@@ -1,4 +1,4 @@
-//! What `alm_rings_bench` exchanges, over two channels of 64 of Rust's own library, polled as the rings are: one thread sends requests
+//! What `alm_speed rings` exchanges, over two channels of 64 of Rust's own library, polled as the rings are: one thread sends requests
 //! and receives their receipts by turns, as many as go and then as many as have come, with up to 64 unanswered; another answers.
 mod receipt;
 

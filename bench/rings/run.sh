@@ -8,11 +8,11 @@ here="$(cd "$(dirname "$0")" && pwd)"
 . "$here/../turns.sh"
 requests=${1:-10000000}
 
-build alm_rings_bench
+build
 for program in polled blocking; do
     rustc -O "$here/$program.rs" -o "$work/$program"
 done
-python3 - "$requests" "$top/crates/alm_rings_bench/out/alm_rings_bench" "$work/polled" "$work/blocking" <<'PY'
+python3 - "$requests" "$speed" "$work/polled" "$work/blocking" <<'PY'
 import statistics
 import subprocess
 import sys
@@ -23,8 +23,9 @@ programs = dict(zip(["rings", "channels, polled", "channels, blocking"], sys.arg
 
 
 def rate(program):
+    words = [program, "rings", requests] if program == programs["rings"] else [program, requests]
     begin = time.perf_counter()
-    printed = subprocess.run([program, requests], stdout=subprocess.PIPE, text=True, check=True).stdout
+    printed = subprocess.run(words, stdout=subprocess.PIPE, text=True, check=True).stdout
     seconds = time.perf_counter() - begin
     if printed != f"sent {requests} taken {requests} released {requests} received {requests}\n":
         sys.exit(f"{program} printed {printed}")

@@ -4,7 +4,7 @@ set -eu
 here="$(cd "$(dirname "$0")" && pwd)"
 . "$here/../turns.sh"
 
-build alm_segment_speed
+build
 cc -O2 "$here/plain.c" -o "$work/plain"
-run_in_turns alm_segment_speed
+run_in_turns segment
 print_ratios 'ms a scan' '20e6'

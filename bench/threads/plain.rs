@@ -1,4 +1,4 @@
-//! The same threads in plain Rust: what `alm_threads_speed` is compared with. A thread for each slot, one for the sequencer and one for the
+//! The same threads in plain Rust: what `alm_speed threads` is compared with. A thread for each slot, one for the sequencer and one for the
 //! flusher, over the parts of ../flusher/way.rs; the plant that is shown stands under an `RwLock`. Who has nothing to do looks again 64 times, and
 //! then sleeps until it is rung for.
 #[path = "../plant/plant.rs"]

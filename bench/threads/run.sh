@@ -6,10 +6,10 @@ set -eu
 here="$(cd "$(dirname "$0")" && pwd)"
 . "$here/../turns.sh"
 
-build alm_threads_speed
-device="$(mktemp /dev/shm/alm_threads_speed.XXXXXX)"
+build
+device="$(mktemp /dev/shm/alm_speed.XXXXXX)"
 trap 'rm -rf "$work" "$device"' EXIT
 cc -O2 -shared -fPIC -o "$work/sync.so" "$here/../serve/sync.c"
 rustc --edition 2021 -O --cfg exchanges --check-cfg 'cfg(exchanges, stores)' "$here/plain.rs" -o "$work/plain"
-SYNC_COUNT="$work/count" LD_PRELOAD="$work/sync.so" run_in_turns alm_threads_speed "$device"
+SYNC_COUNT="$work/count" LD_PRELOAD="$work/sync.so" run_in_turns threads "$device"
 print_ratios ns 'sum[key]'

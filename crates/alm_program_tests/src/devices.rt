@@ -1,8 +1,6 @@
 //! The program over devices, in files of the tests' own folder.
 
-use crate::process::Process;
-use crate::script::{Script, Step};
-use alm_program::run_local;
+use crate::runs::{BROKEN, DONE, Run, TABLE_FAULT, USAGE, ends, first_wrong};
 use std::fs;
 use std::test::Fail;
 
@@ -57,21 +55,6 @@ A 0 1 0 FLOOD 1 0
 A 1 0 FLOOD 0 0
 ";
 
-pub const DONE: &str = "ExitCode(unix_exit_status(0))";
-
-/// Whether the program, with these words and this input, ends so: its status, and what it printed and told of a fault.
-pub fn ends(rt: &HostRuntime, words: &[u8], input: &[u8], wanted: (&str, &[u8], &[u8])) -> bool {
-    let steps = [Step::Gives(input)];
-    let process = Process::new(rt, words, Script::new(&steps), 10_000);
-    let mut errors = Vec::new(rt.alloc());
-    let status = run_local(&process, &mut errors);
-    let printed = process.into_printed();
-    let Ok(status) = format!(in rt.alloc(); "{status:?}") else {
-        return false;
-    };
-    status.as_str() == wanted.0 && printed.as_slice() == wanted.1 && errors.as_slice() == wanted.2
-}
-
 /// Writes a file of these parts.
 fn write_file(rt: &HostRuntime, path: &str, parts: &[&str]) -> Result<(), Fail> {
     let mut text = String::new(rt.alloc());
@@ -82,43 +65,40 @@ fn write_file(rt: &HostRuntime, path: &str, parts: &[&str]) -> Result<(), Fail> 
     Ok(())
 }
 
+/// A device keeps what was answered, and its count goes on; formatted again, it is new.
+const KEEPS: [Run; 6] = [
+    (
+        b"alm_server\nformat\nkeeps.device\nkeeps.toml\n",
+        b"",
+        (DONE, b"formatted 4 2 4116\n", b""),
+    ),
+    (
+        b"alm_server\ndesk\nkeeps.device\n",
+        b"17 1 CLOCK 1000\n16 2 VAL 0 800\n",
+        (DONE, b"17 1 OK 1\n16 2 OK 2\n", b""),
+    ),
+    (b"alm_server\nshow\nkeeps.device\n", b"", (DONE, SHOWN, b"")),
+    (
+        b"alm_server\ndesk\nkeeps.device\n",
+        b"0 1 ACK 0\n0 2 STATE 0\n",
+        (DONE, b"0 1 OK 3\n0 2 STATE 3 ACKED 1 - -\n", b""),
+    ),
+    (
+        b"alm_server\nformat\nkeeps.device\nkeeps.toml\n",
+        b"",
+        (DONE, b"formatted 4 2 4116\n", b""),
+    ),
+    (
+        b"alm_server\ndesk\nkeeps.device\n",
+        b"17 1 CLOCK 5\n",
+        (DONE, b"17 1 OK 1\n", b""),
+    ),
+];
+
 #[test]
 fn a_device_keeps_what_was_answered(rt: HostRuntime) -> Result<(), Fail> {
     write_file(&rt, "keeps.toml", &[SIZES, ALARMS])?;
-    let words: [&[u8]; 3] = [
-        b"alm_server\nformat\nkeeps.device\nkeeps.toml\n",
-        b"alm_server\ndesk\nkeeps.device\n",
-        b"alm_server\nshow\nkeeps.device\n",
-    ];
-    assert!(rt; ends(&rt, words[0], b"", (DONE, b"formatted 4 2 4116\n", b"")));
-    assert!(rt;
-        ends(
-            &rt,
-            words[1],
-            b"17 1 CLOCK 1000\n16 2 VAL 0 800\n",
-            (DONE, b"17 1 OK 1\n16 2 OK 2\n", b""),
-        )
-    );
-    assert!(rt; ends(&rt, words[2], b"", (DONE, SHOWN, b"")));
-    // The count goes on.
-    assert!(rt;
-        ends(
-            &rt,
-            words[1],
-            b"0 1 ACK 0\n0 2 STATE 0\n",
-            (DONE, b"0 1 OK 3\n0 2 STATE 3 ACKED 1 - -\n", b""),
-        )
-    );
-    // Formatted again, it is new.
-    assert!(rt; ends(&rt, words[0], b"", (DONE, b"formatted 4 2 4116\n", b"")));
-    assert!(rt;
-        ends(
-            &rt,
-            words[1],
-            b"17 1 CLOCK 5\n",
-            (DONE, b"17 1 OK 1\n", b"")
-        )
-    );
+    assert_eq!(rt; first_wrong(&rt, &KEEPS), None);
     Ok(())
 }
 
@@ -136,6 +116,45 @@ A 0 1 0 FLOOD 1 0
 A 1 0 FLOOD 0 0
 ";
 
+/// A device is formatted.
+const FORMATS: [Run; 1] = [(
+    b"alm_server\nformat\nold.device\nold.toml\n",
+    b"",
+    (DONE, b"formatted 4 2 4116\n", b""),
+)];
+
+/// One of version 01 goes on, and the first priority brings about a checkpoint of version 02.
+const UPGRADES: [Run; 4] = [
+    (
+        b"alm_server\ndesk\nold.device\n",
+        b"17 1 CLOCK 1000\n16 2 VAL 0 800\n",
+        (DONE, b"17 1 OK 1\n16 2 OK 2\n", b""),
+    ),
+    (b"alm_server\nshow\nold.device\n", b"", (DONE, SHOWN, b"")),
+    (
+        b"alm_server\ndesk\nold.device\n",
+        b"0 1 PRIO 0 3\n0 2 LIST P 3\n",
+        (DONE, b"0 1 OK 3\n0 2 LIST 3 1 0\n", b""),
+    ),
+    (
+        b"alm_server\nshow\nold.device\n",
+        b"",
+        (DONE, SHOWN_UPGRADED, b""),
+    ),
+];
+
+/// It opens again, and goes on.
+const GOES_ON: [Run; 1] = [(
+    b"alm_server\ndesk\nold.device\n",
+    b"0 1 ACK 0\n0 2 SETP 0 900\n0 3 STATE 0\n",
+    (DONE, b"0 1 OK 4\n0 2 OK 5\n0 3 STATE 5 ACKED 1 - -\n", b""),
+)];
+
+/// The head of its second half, in version 02.
+const HEAD: [u8; 25] = [
+    0xa5, 0, 0, 0, 0, 0, 0, 0, 2, 2, 0, 0, 0, 0, 0, 0, 2, 0, 0, 0, 0, 0, 0, 0x28, 0x6a,
+];
+
 /// Makes a new device one of version 01: the name in its header and the mark of its half.
 fn make_old(rt: &HostRuntime, path: &str) -> Result<(), Fail> {
     let mut bytes = fs::read(rt, path)?;
@@ -145,110 +164,94 @@ fn make_old(rt: &HostRuntime, path: &str) -> Result<(), Fail> {
     Ok(())
 }
 
+/// Whether a device has the header of version 01 and a second half of version 02.
+fn is_upgraded(bytes: &[u8]) -> bool {
+    bytes.get(1..9) == Some(b"ALMSRV01".as_slice())
+        && bytes.get(14_510..14_535) == Some(HEAD.as_slice())
+}
+
 #[test]
 fn a_device_of_version_01_goes_on_and_opens_again(rt: HostRuntime) -> Result<(), Fail> {
     write_file(&rt, "old.toml", &[SIZES, ALARMS])?;
-    let words: [&[u8]; 3] = [
-        b"alm_server\nformat\nold.device\nold.toml\n",
-        b"alm_server\ndesk\nold.device\n",
-        b"alm_server\nshow\nold.device\n",
-    ];
-    assert!(rt; ends(&rt, words[0], b"", (DONE, b"formatted 4 2 4116\n", b"")));
+    assert_eq!(rt; first_wrong(&rt, &FORMATS), None);
     make_old(&rt, "old.device")?;
-    let early: &[u8] = b"17 1 CLOCK 1000\n16 2 VAL 0 800\n";
-    assert!(rt; ends(&rt, words[1], early, (DONE, b"17 1 OK 1\n16 2 OK 2\n", b"")));
-    assert!(rt; ends(&rt, words[2], b"", (DONE, SHOWN, b"")));
-    let new: &[u8] = b"0 1 PRIO 0 3\n0 2 LIST P 3\n";
-    assert!(rt;
-        ends(
-            &rt,
-            words[1],
-            new,
-            (DONE, b"0 1 OK 3\n0 2 LIST 3 1 0\n", b"")
-        )
-    );
-    assert!(rt; ends(&rt, words[2], b"", (DONE, SHOWN_UPGRADED, b"")));
+    assert_eq!(rt; first_wrong(&rt, &UPGRADES), None);
     let bytes = fs::read(&rt, "old.device")?;
-    let name = *b"ALMSRV01";
-    assert_eq!(rt; bytes.get(1..9), Some(name.as_slice()));
-    let head = [
-        0xa5, 0, 0, 0, 0, 0, 0, 0, 2, 2, 0, 0, 0, 0, 0, 0, 2, 0, 0, 0, 0, 0, 0, 0x28, 0x6a,
-    ];
-    assert_eq!(rt; bytes.get(14_510..14_535), Some(head.as_slice()));
-    let later: &[u8] = b"0 1 ACK 0\n0 2 SETP 0 900\n0 3 STATE 0\n";
-    let replies: &[u8] = b"0 1 OK 4\n0 2 OK 5\n0 3 STATE 5 ACKED 1 - -\n";
-    assert!(rt; ends(&rt, words[1], later, (DONE, replies, b"")));
+    assert!(rt; is_upgraded(&bytes));
+    assert_eq!(rt; first_wrong(&rt, &GOES_ON), None);
     Ok(())
 }
 
-const TABLE_FAULT: &str = "ExitCode(unix_exit_status(2))";
+/// Table files, by their parts, and the fault of each.
+const REFUSED: [(&[&str], &[u8]); 6] = [
+    (&["size = \n"], b"fault toml\n"),
+    (&["size = 28997\n", ALARMS], b"fault table - areas\n"),
+    (&[SIZES], b"fault table - alarm\n"),
+    (&[SIZES, "alarm = []\n"], b"fault rows\n"),
+    (&[SIZES, ALARMS, "prio = 1\n"], b"fault table 3 prio\n"),
+    (&[SIZES, "\"a\\nb\" = 1\n", ALARMS], b"fault table - a?b\n"),
+];
 
 #[test]
 fn a_table_that_is_refused_makes_no_device(rt: HostRuntime) -> Result<(), Fail> {
-    let files: [(&[&str], &[u8]); 6] = [
-        (&["size = \n"], b"fault toml\n"),
-        (&["size = 28997\n", ALARMS], b"fault table - areas\n"),
-        (&[SIZES], b"fault table - alarm\n"),
-        (&[SIZES, "alarm = []\n"], b"fault rows\n"),
-        (&[SIZES, ALARMS, "prio = 1\n"], b"fault table 3 prio\n"),
-        (&[SIZES, "\"a\\nb\" = 1\n", ALARMS], b"fault table - a?b\n"),
-    ];
-    for (parts, line) in files {
+    let words = b"alm_server\nformat\nrefused.device\nrefused.toml\n";
+    for (row, (parts, line)) in REFUSED.iter().enumerate() {
         write_file(&rt, "refused.toml", parts)?;
-        assert!(rt;
-            ends(
-                &rt,
-                b"alm_server\nformat\nrefused.device\nrefused.toml\n",
-                b"",
-                (TABLE_FAULT, b"", line),
-            )
-        );
-        assert!(rt; fs::metadata(&rt, "refused.device").is_err());
+        let same = ends(&rt, words, b"", (TABLE_FAULT, b"", line));
+        assert!(rt; same, "row {row}");
+        let made = fs::metadata(&rt, "refused.device").is_ok();
+        assert!(rt; !made, "row {row}");
     }
     Ok(())
 }
 
+/// There is no device.
+const MISSING: [Run; 1] = [(
+    b"alm_server\nshow\nfaulty.device\n",
+    b"",
+    (BROKEN, b"", b"fault io\n"),
+)];
+
+/// A byte too small for four alarms: the file stands, and isn't formatted.
+const TOO_SMALL: [Run; 3] = [
+    (
+        b"alm_server\nformat\nfaulty.device\nfaulty.toml\n",
+        b"",
+        (TABLE_FAULT, b"", b"fault too-small\n"),
+    ),
+    (
+        b"alm_server\nshow\nfaulty.device\n",
+        b"",
+        (TABLE_FAULT, b"", b"fault unformatted\n"),
+    ),
+    (
+        b"alm_server\ndesk\nfaulty.device\n",
+        b"0 1 STATE 0\n",
+        (TABLE_FAULT, b"", b"fault unformatted\n"),
+    ),
+];
+
+/// The header's gate is open, and its name is another; then the device and the table are one file.
+const ANOTHER: [Run; 2] = [
+    (
+        b"alm_server\nshow\nfaulty.device\n",
+        b"",
+        (TABLE_FAULT, b"", b"fault damaged 2 1\n"),
+    ),
+    (
+        b"alm_server\nformat\n./faulty.toml\nfaulty.toml\n",
+        b"",
+        (USAGE, b"", b"fault usage\n"),
+    ),
+];
+
 #[test]
 fn the_fault_of_a_device_is_told(rt: HostRuntime) -> Result<(), Fail> {
-    let show: &[u8] = b"alm_server\nshow\nfaulty.device\n";
-    let desk: &[u8] = b"alm_server\ndesk\nfaulty.device\n";
-    let usage = "ExitCode(unix_exit_status(1))";
-    let broken = "ExitCode(unix_exit_status(3))";
-    assert!(rt; ends(&rt, show, b"", (broken, b"", b"fault io\n")));
-    // A byte too small for four alarms: the file stands, and isn't formatted.
+    assert_eq!(rt; first_wrong(&rt, &MISSING), None);
     write_file(&rt, "faulty.toml", &["size = 28996\nareas = 2\n", ALARMS])?;
-    assert!(rt;
-        ends(
-            &rt,
-            b"alm_server\nformat\nfaulty.device\nfaulty.toml\n",
-            b"",
-            (TABLE_FAULT, b"", b"fault too-small\n"),
-        )
-    );
-    assert!(rt; ends(&rt, show, b"", (TABLE_FAULT, b"", b"fault unformatted\n")));
-    assert!(rt;
-        ends(
-            &rt,
-            desk,
-            b"0 1 STATE 0\n",
-            (TABLE_FAULT, b"", b"fault unformatted\n")
-        )
-    );
-    // The header's gate is open, and its name is another.
-    fs::write(
-        &rt,
-        "faulty.device",
-        b"\xA5BLMSRV01 and more than a header has\n".as_slice(),
-    )?;
-    assert!(rt; ends(&rt, show, b"", (TABLE_FAULT, b"", b"fault damaged 2 1\n")));
-    // The device and the table are one file.
-    assert!(rt;
-        ends(
-            &rt,
-            b"alm_server\nformat\n./faulty.toml\nfaulty.toml\n",
-            b"",
-            (usage, b"", b"fault usage\n"),
-        )
-    );
+    assert_eq!(rt; first_wrong(&rt, &TOO_SMALL), None);
+    let text = b"\xA5BLMSRV01 and more than a header has\n";
+    fs::write(&rt, "faulty.device", text.as_slice())?;
+    assert_eq!(rt; first_wrong(&rt, &ANOTHER), None);
     Ok(())
 }

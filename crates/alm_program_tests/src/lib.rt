@@ -5,11 +5,15 @@
 #[cfg(test)]
 mod devices;
 #[cfg(test)]
+mod earlier;
+#[cfg(test)]
 mod process;
 #[cfg(test)]
 mod reading;
 #[cfg(test)]
 mod running;
+#[cfg(test)]
+mod runs;
 #[cfg(test)]
 mod script;
 #[cfg(test)]

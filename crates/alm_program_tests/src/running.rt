@@ -1,138 +1,84 @@
 //! The program from its words to its status.
 
-use crate::process::Process;
-use crate::script::{Script, Step};
-use alm_program::run_local;
-use std::alloc::Global;
-use std::test::Fail;
-
-/// What a run of the program left: its status, what it printed, and what it told of a fault.
-#[derive(Drop)]
-struct Outcome {
-    status: String,
-    printed: Vec<u8>,
-    errors: Vec<u8>,
-}
-
-/// Runs the program over a process.
-fn run(alloc: Global, process: Process<'_>) -> Result<Outcome, Fail> {
-    let mut errors = Vec::new(alloc);
-    let status = run_local(&process, &mut errors);
-    Ok(Outcome {
-        status: format!(in alloc; "{status:?}")?,
-        printed: process.into_printed(),
-        errors,
-    })
-}
-
-const DONE: &str = "ExitCode(unix_exit_status(0))";
-
-const USAGE: &str = "ExitCode(unix_exit_status(1))";
-
-const BROKEN: &str = "ExitCode(unix_exit_status(3))";
+use crate::runs::{BROKEN, DONE, Ending, USAGE, ends, ends_over};
+use crate::script::Step;
 
 /// The words of a desk.
 const DESK: &[u8] = b"alm_server\ndesk\n";
 
+/// Words that are none of the program's.
+const WORDS: [&[u8]; 8] = [
+    b"",
+    b"alm_server\n",
+    b"alm_server\n\n",
+    b"alm_server\nDesk\n",
+    b"alm_server\ndesk \n",
+    b"alm_server\ndesk\nextra\nmore\n",
+    b"alm_server\nextra\ndesk\n",
+    b"alm_server\ndes\xff\n",
+];
+
 #[test]
-fn words_that_are_none_of_the_programs(rt: HostRuntime) -> Result<(), Fail> {
-    let alloc = rt.alloc();
-    let table = [
-        b"".as_slice(),
-        b"alm_server\n",
-        b"alm_server\n\n",
-        b"alm_server\nDesk\n",
-        b"alm_server\ndesk \n",
-        b"alm_server\ndesk\nextra\nmore\n",
-        b"alm_server\nextra\ndesk\n",
-        b"alm_server\ndes\xff\n",
-    ];
-    for words in table {
-        let steps = [Step::Gives(b"0 1 STATE 0\n")];
-        let end = run(alloc, Process::new(&rt, words, Script::new(&steps), 100))?;
-        assert_eq!(rt;
-            end.status.as_str(),
-            USAGE,
-            "{} bytes of words",
-            words.len()
-        );
-        assert_eq!(rt; end.errors.as_slice(), b"fault usage\n".as_slice());
-        assert_eq!(rt; end.printed.as_slice(), b"".as_slice());
+fn words_that_are_none_of_the_programs(rt: HostRuntime) {
+    for (row, words) in WORDS.iter().enumerate() {
+        let same = ends(&rt, words, b"0 1 STATE 0\n", (USAGE, b"", b"fault usage\n"));
+        assert!(rt; same, "row {row}");
     }
-    Ok(())
 }
 
 #[test]
-fn an_empty_input_prints_nothing(rt: HostRuntime) -> Result<(), Fail> {
-    let alloc = rt.alloc();
-    let end = run(alloc, Process::new(&rt, DESK, Script::new(&[]), 0))?;
-    assert_eq!(rt; end.status.as_str(), DONE);
-    assert_eq!(rt; end.errors.as_slice(), b"".as_slice());
-    assert_eq!(rt; end.printed.as_slice(), b"".as_slice());
-    Ok(())
+fn an_empty_input_prints_nothing(rt: HostRuntime) {
+    assert!(rt; ends_over(&rt, DESK, &[], 0, (DONE, b"", b"")));
 }
 
+/// Steps of an input of which the fourth fails.
+const FAILS: [Step<'static>; 5] = [
+    Step::Gives(b"16 1 VAL 0 8"),
+    Step::Interrupted,
+    Step::Gives(b"00\n0 2 STATE 0"),
+    Step::Fails,
+    Step::Gives(b"\n"),
+];
+
+/// How a run ends over so many of them.
+const ENDS: [(usize, Ending<'static>); 4] = [
+    (2, (DONE, b"", b"")),
+    (3, (DONE, b"16 1 OK 1\n", b"")),
+    (4, (BROKEN, b"16 1 OK 1\n", b"fault io\n")),
+    (5, (BROKEN, b"16 1 OK 1\n", b"fault io\n")),
+];
+
 #[test]
-fn a_reader_that_fails_is_a_fault_after_what_was_read(rt: HostRuntime) -> Result<(), Fail> {
-    let alloc = rt.alloc();
-    let steps = [
-        Step::Gives(b"16 1 VAL 0 8"),
-        Step::Interrupted,
-        Step::Gives(b"00\n0 2 STATE 0"),
-        Step::Fails,
-        Step::Gives(b"\n"),
-    ];
-    for (length, status, printed, errors) in [
-        (2, DONE, b"".as_slice(), b"".as_slice()),
-        (3, DONE, b"16 1 OK 1\n".as_slice(), b"".as_slice()),
-        (
-            4,
-            BROKEN,
-            b"16 1 OK 1\n".as_slice(),
-            b"fault io\n".as_slice(),
-        ),
-        (
-            5,
-            BROKEN,
-            b"16 1 OK 1\n".as_slice(),
-            b"fault io\n".as_slice(),
-        ),
-    ] {
-        let script = Script::new(&steps[..length]);
-        let end = run(alloc, Process::new(&rt, DESK, script, 100))?;
-        assert_eq!(rt; end.status.as_str(), status, "{length} steps");
-        assert_eq!(rt; end.printed.as_slice(), printed, "{length} steps");
-        assert_eq!(rt; end.errors.as_slice(), errors, "{length} steps");
+fn a_reader_that_fails_is_a_fault_after_what_was_read(rt: HostRuntime) {
+    for (length, ending) in ENDS {
+        let steps = FAILS.get(..length).unwrap_or(&[]);
+        let same = ends_over(&rt, DESK, steps, 100, ending);
+        assert!(rt; same, "{length} steps");
     }
-    Ok(())
 }
 
+/// Three lines in three reads, and their replies of 10, 9 and 24 bytes.
+const LINES: [Step<'static>; 3] = [
+    Step::Gives(b"16 1 VAL 0 800\n"),
+    Step::Gives(b"0 2 ACK 0\n0 "),
+    Step::Gives(b"3 STATE 0\n"),
+];
+
+const REPLIES: &[u8] = b"16 1 OK 1\n0 2 OK 2\n0 3 STATE 2 ACKED 1 - -\n";
+
+/// How many bytes go out at so many writes, of which each takes three.
+const TAKEN: [usize; 16] = [0, 3, 6, 9, 10, 13, 16, 19, 22, 25, 28, 31, 34, 37, 40, 43];
+
 #[test]
-fn a_failed_write_is_a_fault_at_each_write(rt: HostRuntime) -> Result<(), Fail> {
-    let alloc = rt.alloc();
-    let steps = [
-        Step::Gives(b"16 1 VAL 0 800\n"),
-        Step::Gives(b"0 2 ACK 0\n0 "),
-        Step::Gives(b"3 STATE 0\n"),
-    ];
-    let wanted = b"16 1 OK 1\n0 2 OK 2\n0 3 STATE 2 ACKED 1 - -\n";
-    // Replies of 10, 9 and 24 bytes, three at a write.
-    let taken = [0, 3, 6, 9, 10, 13, 16, 19, 22, 25, 28, 31, 34, 37, 40, 43];
-    for (writes, printed) in taken.iter().enumerate() {
-        let done = *printed == wanted.len();
-        let end = run(alloc, Process::new(&rt, DESK, Script::new(&steps), writes))?;
-        assert_eq!(rt;
-            end.printed.as_slice(),
-            &wanted[..*printed],
-            "write {writes}"
-        );
-        let (status, errors) = if done {
-            (DONE, b"".as_slice())
+fn a_failed_write_is_a_fault_at_each_write(rt: HostRuntime) {
+    for (writes, taken) in TAKEN.iter().enumerate() {
+        let printed = REPLIES.get(..*taken).unwrap_or(&[]);
+        let ending = if *taken == REPLIES.len() {
+            (DONE, printed, b"".as_slice())
         } else {
-            (BROKEN, b"fault io\n".as_slice())
+            (BROKEN, printed, b"fault io\n".as_slice())
         };
-        assert_eq!(rt; end.status.as_str(), status, "write {writes}");
-        assert_eq!(rt; end.errors.as_slice(), errors, "write {writes}");
+        let same = ends_over(&rt, DESK, &LINES, writes, ending);
+        assert!(rt; same, "write {writes}");
     }
-    Ok(())
 }

@@ -1,7 +1,6 @@
 //! Stories of the desk in memory, line by line.
 
-use crate::devices::{DONE, ends};
-use std::test::Fail;
+use crate::runs::{DONE, Run, first_wrong};
 
 /// A shelving that the clock ends, and the alarm that is annunciated anew.
 const SHELVING: &[u8] = b"17 1 CLOCK 1000
@@ -93,10 +92,58 @@ const FLOOD_REPLIES: &[u8] = b"17 1 OK 1
 0 29 FLOOD 25 0 0
 ";
 
+/// An operator's morning: two alarms, one acknowledged and gone, a latched one that has to be reset; then the first gets another setpoint
+/// and another priority.
+const MORNING: &[u8] = b"17 1 CLOCK 21600
+16 2 VAL 0 812
+16 3 VAL 2 1
+0 4 LIST P 1
+0 5 ACK 0
+16 6 VAL 0 780
+0 7 STATE 0
+0 8 ACK 2
+16 9 VAL 2 0
+0 10 STATE 2
+0 11 RESET 2
+0 12 LIST P 1
+0 13 SETP 0 850
+16 14 VAL 0 812
+16 15 VAL 0 850
+0 16 PRIO 0 2
+0 17 LIST P 2
+0 18 PRIO 0 5
+";
+
+const MORNING_REPLIES: &[u8] = b"17 1 OK 1
+16 2 OK 2
+16 3 OK 3
+0 4 LIST 3 2 0 2
+0 5 OK 4
+16 6 OK 5
+0 7 STATE 5 NORM 0 - -
+0 8 OK 6
+16 9 OK 7
+0 10 STATE 7 LATAK 0 - -
+0 11 OK 8
+0 12 LIST 8 0
+0 13 OK 9
+16 14 NO 9
+16 15 OK 10
+0 16 OK 11
+0 17 LIST 11 1 0
+0 18 NO 19
+";
+
+/// The words of a desk.
+const DESK: &[u8] = b"alm_server\ndesk\n";
+
+const STORIES: [Run; 3] = [
+    (DESK, SHELVING, (DONE, SHELVING_REPLIES, b"")),
+    (DESK, FLOOD, (DONE, FLOOD_REPLIES, b"")),
+    (DESK, MORNING, (DONE, MORNING_REPLIES, b"")),
+];
+
 #[test]
-fn stories_are_told_as_they_should_be(rt: HostRuntime) -> Result<(), Fail> {
-    let words = b"alm_server\ndesk\n";
-    assert!(rt; ends(&rt, words, SHELVING, (DONE, SHELVING_REPLIES, b"")));
-    assert!(rt; ends(&rt, words, FLOOD, (DONE, FLOOD_REPLIES, b"")));
-    Ok(())
+fn stories_are_told_as_they_should_be(rt: HostRuntime) {
+    assert_eq!(rt; first_wrong(&rt, &STORIES), None);
 }

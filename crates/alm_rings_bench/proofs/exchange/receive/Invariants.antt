@@ -1,5 +1,0 @@
-use Rattle.alm_rings.specs.Ends.{SameConsole}
-use Rattle.alm_rings_bench.proofs.exchange.receive.Given as goal
-
-abbrev pub invariant-loop : goal.invariant-loop
-invariant-loop l = SameConsole l.fn.console l.console
