@@ -5,6 +5,6 @@ set -eu
 top=$(cd "$(dirname "$0")/.." && pwd)
 program=$top/crates/alm_server/out/alm_server
 "$top/alm_server" show /dev/null >/dev/null 2>&1 || true # proves and builds it where that is to be done
-for script in streams examples faults memory damage lines serve; do
+for script in streams examples faults memory damage lines serve clients; do
     "$top/tests/$script.py" "$program" "$@"
 done

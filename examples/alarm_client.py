@@ -1,0 +1,319 @@
+"""The lines of the alarm server, for clients in Python: docs/PROTOCOL.md, without any library beside Python's own.
+
+    with Client.connect(5000, slot=0) as console:
+        for alarm in console.priority_list(1).alarms:
+            console.acknowledge(alarm)
+
+A `Client` asks at one slot. Each method waits for its reply; `ask_all` keeps up to 64 requests under way and gives their replies
+in order. An answer NO is a `Refused`, an end of the connection is a `Lost`: of an action that had no reply nothing is known, so ask the
+state when the server is back.
+"""
+import collections
+import enum
+import itertools
+import socket
+import subprocess
+from dataclasses import dataclass
+from typing import Iterable, Iterator, Optional
+
+HOST = "127.0.0.1"
+FEED, CLOCK = 16, 17
+PRIORITIES = range(1, 5)
+WHEEL_SLOTS = range(256)
+# How many requests of a connection the server takes before their replies have gone out.
+WINDOW = 64
+# Seconds to wait for a reply. A slot that another client has gives none until that one leaves.
+PATIENCE = 5.0
+
+
+class Refusal(enum.IntEnum):
+    """The numbers behind NO."""
+
+    NO_SUCH_ALARM = 1
+    NOT_UNACKNOWLEDGED = 2
+    NOT_RESETTABLE = 3
+    ALREADY_SHELVED = 4
+    NOT_SHELVED = 5
+    SHELVE_LENGTH = 6
+    ALREADY_SET = 7
+    NOT_SET = 8
+    NO_CHANGE = 9
+    CLOCK_BACK = 10
+    WRONG_ROLE = 11
+    BAD_LINE = 13
+    LINE_TOO_LONG = 14
+    STOPPED = 15
+    OUT_OF_MEMORY = 16
+    NO_SUCH_LIST = 17
+    EXHAUSTED = 18
+    PRIORITY_RANGE = 19
+    SAME_VALUE = 20
+
+
+class Refused(Exception):
+    """The answer was NO: nothing changed, but where the storage has stopped."""
+
+    def __init__(self, request: str, refusal: Refusal):
+        super().__init__(f"{request}: refused by {refusal.value} ({refusal.name})")
+        self.request, self.refusal = request, refusal
+
+
+class Lost(Exception):
+    """The connection ended, or no reply came in time: whether the last requests were done isn't known."""
+
+
+@dataclass(frozen=True)
+class State:
+    """What is shown of an alarm."""
+
+    count: int
+    shown: str
+    condition: bool
+    flags: str
+    deadline: Optional[int]
+
+    @property
+    def is_unacknowledged(self) -> bool:
+        return self.shown in ("UNACK", "RTNUN", "LATUN")
+
+
+@dataclass(frozen=True)
+class Listing:
+    """The alarms of a list, and the count of actions of the plant that was looked at."""
+
+    count: int
+    alarms: list[int]
+
+
+@dataclass(frozen=True)
+class Flood:
+    """The annunciations of an area in the last 600 seconds, and whether it is flooded."""
+
+    count: int
+    window: int
+    flooded: bool
+
+
+def read_state(words: list[str]) -> State:
+    """The state in the words behind STATE."""
+    count, shown, condition, flags, deadline = words
+    return State(int(count), shown, condition == "1", flags.strip("-"), None if deadline == "-" else int(deadline))
+
+
+def read_listing(words: list[str]) -> Listing:
+    """The list in the words behind LIST, STALE or CHATTER."""
+    count, length, *alarms = words
+    if len(alarms) != int(length):
+        raise Lost(f"a list of {length} alarms has {len(alarms)}")
+    return Listing(int(count), [int(alarm) for alarm in alarms])
+
+
+def read_flood(words: list[str]) -> Flood:
+    """The window in the words behind FLOOD."""
+    count, window, flooded = words
+    return Flood(int(count), int(window), flooded == "1")
+
+
+class Client:
+    """The requests of one slot. How lines go out and come back is a subclass's `send`, `receive` and `close`."""
+
+    def __init__(self) -> None:
+        self.ids = itertools.count(1)
+
+    @staticmethod
+    def connect(port: int, slot: int, patience: float = PATIENCE) -> "ServerClient":
+        """A connection to a server whose slot 0 is at this port."""
+        return ServerClient(port, slot, patience)
+
+    def send(self, text: str) -> None:
+        raise NotImplementedError
+
+    def receive(self) -> str:
+        raise NotImplementedError
+
+    def close(self) -> None:
+        raise NotImplementedError
+
+    def __enter__(self):
+        return self
+
+    def __exit__(self, *_) -> None:
+        self.close()
+
+    def next_line(self, request: str) -> tuple[str, str]:
+        """An id that no earlier line has, and the line."""
+        number = str(next(self.ids) % 2**32)
+        return number, f"{number} {request}\n"
+
+    def reply_to(self, number: str, request: str) -> list[str]:
+        """The words of the next reply behind its id."""
+        line = self.receive()
+        words = line.split()
+        if not line.endswith("\n") or words[:1] != [number]:
+            raise Lost(f"no reply to {request}")
+        if words[1] == "NO":
+            raise Refused(request, Refusal(int(words[2])))
+        return words[1:]
+
+    def ask(self, request: str) -> list[str]:
+        """Asks; the words of the reply behind its id."""
+        number, line = self.next_line(request)
+        self.send(line)
+        return self.reply_to(number, request)
+
+    def ask_all(self, requests: Iterable[str]) -> Iterator[list[str] | Refused]:
+        """The replies to requests, in order, with up to 64 under way. One that was refused gives its `Refused`. Take all of them."""
+        waiting: collections.deque[tuple[str, str]] = collections.deque()
+        remaining = iter(requests)
+        while True:
+            lines = [(*self.next_line(request), request) for request in itertools.islice(remaining, WINDOW - len(waiting))]
+            if lines:
+                self.send("".join(line for _, line, _ in lines))
+            waiting.extend((number, request) for number, _, request in lines)
+            if not waiting:
+                return
+            for _ in range(max(1, len(waiting) - WINDOW // 2)):
+                yield self.reply_or_refusal(*waiting.popleft())
+
+    def reply_or_refusal(self, number: str, request: str) -> list[str] | Refused:
+        try:
+            return self.reply_to(number, request)
+        except Refused as refused:
+            return refused
+
+    def act(self, request: str) -> int:
+        """Asks for an action; its number."""
+        _ok, number = self.ask(request)
+        return int(number)
+
+    def acknowledge(self, alarm: int) -> int:
+        return self.act(f"ACK {alarm}")
+
+    def reset(self, alarm: int) -> int:
+        return self.act(f"RESET {alarm}")
+
+    def shelve(self, alarm: int, seconds: int) -> int:
+        return self.act(f"SHELVE {alarm} {seconds}")
+
+    def unshelve(self, alarm: int) -> int:
+        return self.act(f"UNSHELVE {alarm}")
+
+    def value(self, alarm: int, value: int) -> int:
+        return self.act(f"VAL {alarm} {value}")
+
+    def clock(self, moment: int) -> int:
+        return self.act(f"CLOCK {moment}")
+
+    def state(self, alarm: int) -> State:
+        return read_state(self.ask(f"STATE {alarm}")[1:])
+
+    def states(self, alarms: Iterable[int]) -> list[State]:
+        """The states of alarms that there are."""
+        return [read_state(granted(reply)[1:]) for reply in self.ask_all(f"STATE {alarm}" for alarm in alarms)]
+
+    def listing(self, query: str) -> Listing:
+        """The answer to LIST, STALE or CHATTER."""
+        return read_listing(self.ask(query)[1:])
+
+    def priority_list(self, priority: int) -> Listing:
+        """The annunciated alarms of a priority, the oldest annunciation first."""
+        return self.listing(f"LIST P {priority}")
+
+    def area_list(self, area: int) -> Listing:
+        return self.listing(f"LIST A {area}")
+
+    def shelved(self) -> list[int]:
+        """All shelved alarms."""
+        replies = self.ask_all(f"LIST S {slot}" for slot in WHEEL_SLOTS)
+        return [alarm for reply in replies for alarm in read_listing(granted(reply)[1:]).alarms]
+
+    def stale(self) -> Listing:
+        return self.listing("STALE")
+
+    def chattering(self) -> Listing:
+        return self.listing("CHATTER")
+
+    def flood(self, area: int) -> Flood:
+        return read_flood(self.ask(f"FLOOD {area}")[1:])
+
+    def floods(self) -> list[Flood]:
+        """The floods of all areas, by number."""
+        replies = self.ask_all(f"FLOOD {area}" for area in range(64))
+        return [read_flood(reply[1:]) for reply in replies if not isinstance(reply, Refused)]
+
+
+def granted(reply: list[str] | Refused) -> list[str]:
+    """The words of a reply; raises where it was refused."""
+    if isinstance(reply, Refused):
+        raise reply
+    return reply
+
+
+class ServerClient(Client):
+    """A connection to a slot of `alm_server serve`."""
+
+    def __init__(self, port: int, slot: int, patience: float = PATIENCE):
+        super().__init__()
+        self.slot = slot
+        try:
+            self.socket = socket.create_connection((HOST, port + slot), timeout=patience)
+        except OSError as error:
+            raise Lost(f"port {port + slot}: {error.strerror or error}") from error
+        self.socket.setsockopt(socket.IPPROTO_TCP, socket.TCP_NODELAY, 1)
+        self.stream = self.socket.makefile("rb")
+
+    def send(self, text: str) -> None:
+        try:
+            self.socket.sendall(text.encode("ascii"))
+        except OSError as error:
+            raise Lost(f"slot {self.slot}: {error}") from error
+
+    def receive(self) -> str:
+        try:
+            return self.stream.readline().decode("ascii")
+        except TimeoutError as error:
+            raise Lost(f"slot {self.slot} gives no answer: another client may have it") from error
+        except OSError as error:
+            raise Lost(f"slot {self.slot}: {error}") from error
+
+    def close(self) -> None:
+        self.stream.close()
+        self.socket.close()
+
+
+class DeskProcess:
+    """`alm_server desk`, over a device or over its own table in memory. Its slots share one stream."""
+
+    def __init__(self, program: str, device: Optional[str] = None):
+        pipe = subprocess.PIPE
+        words = [program, "desk"] + ([device] if device else [])
+        self.process = subprocess.Popen(words, stdin=pipe, stdout=pipe, encoding="ascii")
+
+    def at(self, slot: int) -> "DeskClient":
+        return DeskClient(self, slot)
+
+    def end(self) -> int:
+        """Ends the input; the program's status."""
+        self.process.stdin.close()
+        return self.process.wait()
+
+
+class DeskClient(Client):
+    """A slot of a desk."""
+
+    def __init__(self, desk: DeskProcess, slot: int):
+        super().__init__()
+        self.desk, self.slot = desk, slot
+
+    def send(self, text: str) -> None:
+        self.desk.process.stdin.write("".join(f"{self.slot} {line}\n" for line in text.splitlines()))
+        self.desk.process.stdin.flush()
+
+    def receive(self) -> str:
+        slot, _, reply = self.desk.process.stdout.readline().partition(" ")
+        if slot != str(self.slot):
+            raise Lost("the desk has ended")
+        return reply
+
+    def close(self) -> None:
+        pass

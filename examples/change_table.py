@@ -1,0 +1,206 @@
+#!/usr/bin/env python3
+"""Brings the states of a stopped device onto one with another table.
+
+    alm_server format NEW NEW.toml
+    examples/change_table.py OLD NEW.toml | alm_server desk NEW
+
+It asks `alm_server export OLD` and `alm_server show OLD`, and prints desk lines that bring, for every tag that both tables have, the
+condition, the acknowledgement, what is left of a shelving, the flags, the priority and the setpoint onto a device that was formatted
+with NEW.toml. Annunciated alarms come in the order of the old lists. After the lines `show NEW` says of these alarms what `show OLD` said.
+Where the new table can't hold something, as a shelving longer than its max_shelve, that is told on standard error, and the status is 1.
+
+Not brought: the count of actions, which begins anew; the moments of annunciations, so FLOOD, STALE and CHATTER begin without them; the order
+within LIST S. With --new-values priorities and setpoints are those of the new table.
+"""
+import argparse
+import graphlib
+import itertools
+import pathlib
+import subprocess
+import sys
+from dataclasses import dataclass, replace
+from typing import Iterator, Optional
+
+from alarm_client import CLOCK, FEED
+from table_file import READING_LIMIT, Alarm, Table, load_table, read_table
+
+PROGRAM = pathlib.Path(__file__).resolve().parent.parent / "alm_server"
+CONSOLE = 0
+# How long an annunciation counts in FLOOD and CHATTER, in seconds: what is brought stands farther back than that.
+WINDOW = 600
+GONE = ("RTNUN", "LATUN", "LATAK")
+ACKNOWLEDGED = ("ACKED", "LATAK")
+
+
+@dataclass(frozen=True)
+class Shown:
+    """What `show` says of an alarm."""
+
+    shown: str
+    condition: bool
+    flags: str
+    deadline: Optional[int]
+
+
+@dataclass(frozen=True)
+class Plant:
+    """What `export` and `show` say of a device."""
+
+    table: Table
+    now: int
+    alarms: list[Shown]
+    lists: list[list[int]]
+
+
+def read_plant(exported: str, shown: str) -> Plant:
+    """The plant in the texts of `export` and `show`."""
+    head, *lines = shown.splitlines()
+    alarms, lists = [], []
+    for words in map(str.split, lines):
+        if words[0] == "ALARM":
+            _, _, _, state, condition, flags, deadline = words
+            alarms.append(Shown(state, condition == "1", flags.strip("-"), None if deadline == "-" else int(deadline)))
+        else:
+            length = int(words[2])
+            lists.append([int(alarm) for alarm in words[3:3 + length]])
+    return Plant(read_table(exported), int(head.split()[1]), alarms, lists)
+
+
+def load_plant(program: str, device: str) -> Plant:
+    texts = [subprocess.run([program, word, device], stdout=subprocess.PIPE, text=True, check=True).stdout for word in ("export", "show")]
+    return read_plant(*texts)
+
+
+def in_order(plant: Plant) -> list[int]:
+    """The annunciated alarms in an order that all lists agree with."""
+    before: graphlib.TopologicalSorter[int] = graphlib.TopologicalSorter()
+    for alarms in plant.lists:
+        for alarm in alarms:
+            before.add(alarm)
+        for first, second in itertools.pairwise(alarms):
+            before.add(second, first)
+    return list(before.static_order())
+
+
+class Change:
+    """The lines from an old plant to a new table, and what can't be brought."""
+
+    def __init__(self, plant: Plant, table: Table, new_values: bool):
+        self.plant, self.new_values = plant, new_values
+        numbers = table.numbers()
+        old = plant.table.numbers()
+        self.pairs = {number: (numbers[tag], table.alarms[numbers[tag]]) for tag, number in old.items() if tag in numbers}
+        self.tags = {number: tag for tag, number in old.items()}
+        self.left = [tag for tag in old if tag not in numbers]
+        self.added = [tag for tag in numbers if tag not in old]
+        self.kept_back: list[str] = []
+        self.ids = itertools.count(1)
+
+    def line(self, slot: int, request: str) -> str:
+        return f"{slot} {next(self.ids)} {request}"
+
+    def lacks(self, number: int, why: str) -> None:
+        self.kept_back.append(f"{self.tags[number]}: {why}")
+
+    def lines(self) -> Iterator[str]:
+        """All lines: values, then annunciated alarms at a moment before the windows, then at the present moment the suppressed ones."""
+        for number in self.pairs:
+            yield from self.settings(number)
+        if self.plant.now > WINDOW + 1:
+            yield self.line(CLOCK, f"CLOCK {self.plant.now - WINDOW - 1}")
+        for number in in_order(self.plant):
+            if number in self.pairs:
+                yield from self.annunciation(number)
+        if self.plant.now:
+            yield self.line(CLOCK, f"CLOCK {self.plant.now}")
+        for number in self.pairs:
+            if self.plant.alarms[number].flags:
+                yield from self.suppression(number)
+
+    def settings(self, number: int) -> Iterator[str]:
+        """The priority and the setpoint in force."""
+        there, new = self.pairs[number]
+        old = self.plant.table.alarms[number]
+        if self.new_values:
+            return
+        if old.priority != new.priority:
+            yield self.line(CONSOLE, f"PRIO {there} {old.priority}")
+        if old.setpoint != new.setpoint:
+            yield self.line(CONSOLE, f"SETP {there} {old.setpoint}")
+            self.pairs[number] = there, replace(new, setpoint=old.setpoint)
+
+    def annunciation(self, number: int) -> Iterator[str]:
+        """The state of an annunciated alarm, from normal."""
+        there, new = self.pairs[number]
+        shown = self.plant.alarms[number].shown
+        if shown in GONE and not self.can_go(number, new):
+            return
+        yield self.line(FEED, f"VAL {there} {new.coming}")
+        if shown in ACKNOWLEDGED:
+            yield self.line(CONSOLE, f"ACK {there}")
+        if shown in GONE:
+            yield self.line(FEED, f"VAL {there} {new.going}")
+
+    def can_go(self, number: int, new: Alarm) -> bool:
+        """Whether the state of a condition that went is one that the new alarm can have."""
+        shown = self.plant.alarms[number].shown
+        if abs(new.going) > READING_LIMIT:
+            self.lacks(number, f"no value ends its condition, so {shown} isn't brought")
+        elif (shown != "RTNUN") != new.latching:
+            self.lacks(number, f"the new table changes `latching`, so {shown} isn't brought")
+        else:
+            return True
+        return False
+
+    def suppression(self, number: int) -> Iterator[str]:
+        """The flags of an alarm, and its condition behind them, so that it isn't annunciated."""
+        there, new = self.pairs[number]
+        old = self.plant.alarms[number]
+        if "O" in old.flags:
+            yield self.line(CONSOLE, f"OOS {there} ON")
+        if "D" in old.flags:
+            yield self.line(FEED, f"DESIGN {there} ON")
+        if "S" in old.flags:
+            yield from self.shelving(number, there, new, old.deadline - self.plant.now)
+        if old.condition:
+            yield self.line(FEED, f"VAL {there} {new.coming}")
+
+    def shelving(self, number: int, there: int, new: Alarm, seconds: int) -> Iterator[str]:
+        """What is left of a shelving, as far as the new table lets it."""
+        allowed = min(seconds, new.max_shelve)
+        if allowed < seconds:
+            self.lacks(number, f"shelved for {seconds} s more, and the new table allows {new.max_shelve}")
+        if allowed:
+            yield self.line(CONSOLE, f"SHELVE {there} {allowed}")
+
+
+def tell(change: Change) -> None:
+    """Says on standard error what there was, and what isn't brought."""
+    say = lambda *words: print("change_table:", *words, file=sys.stderr)
+    say(f"{len(change.pairs)} alarms in both tables, {len(change.added)} new, {len(change.left)} left out:", *change.left)
+    say("not brought: the count, and the moments of annunciations, so FLOOD, STALE and CHATTER begin without them")
+    for why in change.kept_back:
+        say(why)
+
+
+def main() -> None:
+    words = argparse.ArgumentParser(description="Brings the states of a stopped device onto one with another table.")
+    words.add_argument("old", help="the stopped device")
+    words.add_argument("table", help="the new table file")
+    words.add_argument("--program", default=str(PROGRAM), help="alm_server")
+    words.add_argument("--new-values", action="store_true", help="priorities and setpoints as the new table has them")
+    chosen = words.parse_args()
+    try:
+        change = Change(load_plant(chosen.program, chosen.old), load_table(chosen.table), chosen.new_values)
+    except (ValueError, OSError) as error:
+        sys.exit(f"change_table: {error}")
+    except subprocess.CalledProcessError as error:
+        sys.exit(error.returncode)
+    for line in change.lines():
+        print(line)
+    tell(change)
+    sys.exit(1 if change.kept_back else 0)
+
+
+if __name__ == "__main__":
+    main()
