@@ -7,6 +7,8 @@ mod devices;
 #[cfg(test)]
 mod earlier;
 #[cfg(test)]
+mod exporting;
+#[cfg(test)]
 mod process;
 #[cfg(test)]
 mod reading;
