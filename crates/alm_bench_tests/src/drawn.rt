@@ -5,6 +5,7 @@ ghost use Rattle.std.specs.Prelude.{◌<◌};
 use crate::traces::trace;
 use crate::world::World;
 use alm_bench::{Event, Step};
+use alm_model::{Alarms, PlainPlant};
 use alm_service::worked_table;
 use alm_types::{Action, AlarmId, Moment, Query, Reading, Slot};
 use std::alloc::Global;
@@ -141,8 +142,8 @@ fn steps(alloc: Global, seed: u64, count: u32) -> Result<Vec<Step>, Fail> {
 }
 
 /// The first place where a trace isn't the world's.
-pub fn differs_at(
-    world: &mut World,
+pub fn differs_at<P: Alarms + Drop>(
+    world: &mut World<P>,
     steps: &[Step],
     trace: &[Event],
 ) -> Result<Option<usize>, Fail> {
@@ -164,9 +165,29 @@ pub fn differs_at(
 /// The first place where the trace of so many drawn steps isn't the world's.
 fn run_differs_at(alloc: Global, seed: u64, count: u32) -> Result<Option<usize>, Fail> {
     let steps = steps(alloc, seed, count)?;
-    let trace = trace(alloc, CALLS, &steps)?;
-    let mut world = World::new(alloc, worked_table(alloc)?)?;
-    differs_at(&mut world, &steps, &trace)
+    let found = steps_differ_at(alloc, &steps);
+    drop(steps);
+    found
+}
+
+/// The first place where the trace of these steps isn't that of a new world with a plain plant.
+fn steps_differ_at(alloc: Global, steps: &[Step]) -> Result<Option<usize>, Fail> {
+    let trace = trace(alloc, CALLS, steps)?;
+    let found = trace_differs_at::<PlainPlant>(alloc, steps, &trace);
+    drop(trace);
+    found
+}
+
+/// The same of their trace.
+fn trace_differs_at<P: Alarms + Drop>(
+    alloc: Global,
+    steps: &[Step],
+    trace: &[Event],
+) -> Result<Option<usize>, Fail> {
+    let mut world = World::<P>::new(alloc, worked_table(alloc)?)?;
+    let found = differs_at(&mut world, steps, trace);
+    drop(world);
+    found
 }
 
 /// The first of so many runs that differs, and where.

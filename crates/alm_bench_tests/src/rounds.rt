@@ -5,6 +5,7 @@ use crate::drawn::{below, differs_at, random};
 use crate::traces::{alike, trace_on};
 use crate::world::World;
 use alm_bench::{Event, Step};
+use alm_model::{Alarms, PlainPlant};
 use alm_types::{Action, AlarmId, Reading, Slot, Table};
 use std::alloc::Global;
 use std::test::Fail;
@@ -125,11 +126,31 @@ fn steps(alloc: Global, seed: u64, calls: u32) -> Result<Vec<Step>, Fail> {
 
 /// The first place where the trace of a run with so many calls before its crash isn't the world's.
 fn run_differs_at(alloc: Global, seed: u64, calls: u32) -> Result<Option<usize>, Fail> {
-    let table = alike(alloc, ALARMS as usize)?;
     let steps = steps(alloc, seed, calls)?;
-    let trace = trace_on(alloc, &table, DEVICE, &steps)?;
-    let mut world = World::with_checkpoints(alloc, table, BEFORE)?;
-    differs_at(&mut world, &steps, &trace)
+    let found = steps_differ_at(alloc, &steps);
+    drop(steps);
+    found
+}
+
+/// The first place where the trace of these steps isn't that of a new world with a plain plant.
+fn steps_differ_at(alloc: Global, steps: &[Step]) -> Result<Option<usize>, Fail> {
+    let trace = trace_on(alloc, &alike(alloc, ALARMS as usize)?, DEVICE, steps)?;
+    let found = trace_differs_at::<PlainPlant>(alloc, steps, &trace);
+    drop(trace);
+    found
+}
+
+/// The same of their trace.
+fn trace_differs_at<P: Alarms + Drop>(
+    alloc: Global,
+    steps: &[Step],
+    trace: &[Event],
+) -> Result<Option<usize>, Fail> {
+    let table = alike(alloc, ALARMS as usize)?;
+    let mut world = World::<P>::with_checkpoints(alloc, table, BEFORE)?;
+    let found = differs_at(&mut world, steps, trace);
+    drop(world);
+    found
 }
 
 /// How many commits a trace has, and how many of them took more than their own four calls.

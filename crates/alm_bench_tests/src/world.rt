@@ -1,7 +1,7 @@
-//! The world beside a bench: plain vectors, and the plain plant of all accepted actions.
+//! The world beside a bench: plain vectors, and the plant of all accepted actions.
 
 use alm_bench::{Event, Step};
-use alm_model::{Alarms, PlainPlant, judge};
+use alm_model::{Alarms, judge};
 use alm_types::{Action, AlarmId, Query, Request, Slot, Table, Verdict};
 use std::alloc::{AllocError, Global};
 
@@ -36,10 +36,10 @@ enum Stage {
 
 /// The world.
 #[derive(Drop)]
-pub struct World {
+pub struct World<P: Alarms + Drop> {
     alloc: Global,
     table: Table,
-    plant: PlainPlant,
+    plant: P,
     accepted: Vec<Action>,
     lines: Vec<Line>,
     entries: Vec<Judged>,
@@ -89,7 +89,7 @@ fn exists(query: &Query) -> bool {
     }
 }
 
-impl World {
+impl<P: Alarms + Drop> World<P> {
     /// A closed world with the new plant of a table, in which no checkpoint is made.
     pub fn new(alloc: Global, table: Table) -> Result<Self, AllocError> {
         Self::with_checkpoints(alloc, table, 0)
@@ -99,7 +99,7 @@ impl World {
     pub fn with_checkpoints(alloc: Global, table: Table, before: u32) -> Result<Self, AllocError> {
         Ok(World {
             alloc,
-            plant: PlainPlant::new(alloc, &table)?,
+            plant: P::new(alloc, &table)?,
             table,
             accepted: Vec::new(alloc),
             lines: lines(alloc)?,
@@ -369,14 +369,13 @@ impl World {
 
     /// The plant of the first accepted actions.
     fn refold(&mut self, count: u64) -> Result<(), AllocError> {
-        let mut plant = PlainPlant::new(self.alloc, &self.table)?;
+        self.plant = P::new(self.alloc, &self.table)?;
         self.accepted.truncate(count as usize);
         for action in &self.accepted {
-            if plant.admits(action).is_ok() {
-                plant.apply(action);
+            if self.plant.admits(action).is_ok() {
+                self.plant.apply(action);
             }
         }
-        self.plant = plant;
         Ok(())
     }
 }

@@ -5,62 +5,49 @@ use alm_checkpoint::{Fault, Half, Layout};
 use alm_codec::Version;
 use std::test::Fail;
 
-#[test]
-fn worked_sizes(rt: HostRuntime) -> Result<(), Fail> {
-    assert_eq!(rt;
-        Layout::longest(4, 2, 28_997, Version::V02),
-        Some(Layout::of(4, 2, 4116, Version::V02))
-    );
-    assert_eq!(rt; Layout::longest(4, 2, 28_996, Version::V02), None);
-    assert_eq!(rt;
-        Layout::longest(4, 2, 28_998, Version::V02),
-        Some(Layout::of(4, 2, 4116, Version::V02))
-    );
-    assert_eq!(rt;
-        Layout::longest(4, 2, 28_999, Version::V02),
-        Some(Layout::of(4, 2, 4117, Version::V02))
-    );
-    Ok(())
+/// Alarms, areas and the bytes of a device, and the longest segment that fits twice.
+type Size = (u32, u8, u64, Option<u32>);
+
+/// Devices of the worked table, and some that are too small. An image of 16,384 alarms in 64 areas has
+/// 16 + 64 * 4801 + 16,384 * 182 = 3,289,168 bytes.
+const SIZES: [Size; 14] = [
+    (4, 2, 28_997, Some(4116)),
+    (4, 2, 28_996, None),
+    (4, 2, 28_998, Some(4116)),
+    (4, 2, 28_999, Some(4117)),
+    (1, 1, 0, None),
+    (1, 1, 22, None),
+    (1, 1, 23, None),
+    (16_384, 64, 1 << 20, None),
+    (16_384, 64, 6_586_640, None),
+    (16_384, 64, 6_586_641, Some(4116)),
+    (16_384, 64, 40_132_841, Some(16_777_216)),
+    (16_384, 64, 40_132_840, Some(16_777_215)),
+    (16_384, 64, 1 << 40, Some(16_777_216)),
+    (16_384, 64, u64::MAX, Some(16_777_216)),
+];
+
+/// Whether the longest segment of a size is this one.
+fn is_longest((rows, areas, size, segment): Size) -> bool {
+    let found = Layout::longest(rows, areas, size, Version::V02);
+    match (found, segment) {
+        (Some(found), Some(segment)) => found == Layout::of(rows, areas, segment, Version::V02),
+        (found, segment) => found.is_none() && segment.is_none(),
+    }
 }
 
 #[test]
-fn sizes_without_a_layout(rt: HostRuntime) -> Result<(), Fail> {
-    assert_eq!(rt; Layout::longest(1, 1, 0, Version::V02), None);
-    assert_eq!(rt; Layout::longest(1, 1, 22, Version::V02), None);
-    assert_eq!(rt; Layout::longest(1, 1, 23, Version::V02), None);
-    assert_eq!(rt; Layout::longest(16_384, 64, 1 << 20, Version::V02), None);
-    Ok(())
+fn the_longest_segments(rt: HostRuntime) {
+    for size in SIZES {
+        assert!(rt; is_longest(size), "{size:?}");
+    }
 }
 
-/// An image of 16,384 alarms in 64 areas has 16 + 64 * 4801 + 16,384 * 182 = 3,289,168 bytes.
 #[test]
-fn the_largest_table(rt: HostRuntime) -> Result<(), Fail> {
-    assert_eq!(rt; Layout::longest(16_384, 64, 6_586_640, Version::V02), None);
-    let shortest = Layout::of(16_384, 64, 4116, Version::V02);
-    assert_eq!(rt;
-        Layout::longest(16_384, 64, 6_586_641, Version::V02),
-        Some(shortest)
-    );
+fn the_largest_table(rt: HostRuntime) {
     let longest = Layout::of(16_384, 64, 16_777_216, Version::V02);
-    assert_eq!(rt;
-        Layout::longest(16_384, 64, 40_132_841, Version::V02),
-        Some(longest)
-    );
-    assert_eq!(rt;
-        Layout::longest(16_384, 64, 40_132_840, Version::V02),
-        Some(Layout::of(16_384, 64, 16_777_215, Version::V02))
-    );
-    assert_eq!(rt;
-        Layout::longest(16_384, 64, 1 << 40, Version::V02),
-        Some(longest)
-    );
-    assert_eq!(rt;
-        Layout::longest(16_384, 64, u64::MAX, Version::V02),
-        Some(longest)
-    );
     assert_eq!(rt; longest.segment_at(Half::Second), 23_355_625);
     assert_eq!(rt; longest.device_len(), 40_132_841);
-    Ok(())
 }
 
 #[test]

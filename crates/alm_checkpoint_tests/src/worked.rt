@@ -8,42 +8,79 @@ use alm_types::{Action, AlarmId, Attr, Kind, Moment, Reading, Settings, Table};
 use std::alloc::Global;
 use std::test::Fail;
 
-fn alarm(
-    kind: Kind,
-    setpoint: i64,
-    deadband: u64,
-    priority: u8,
-    area: u8,
-    max_shelve: u32,
-) -> Settings {
-    Settings {
-        kind,
-        setpoint,
-        deadband,
-        priority,
-        area,
-        latching: kind == Kind::Discrete,
-        max_shelve,
+/// How many bytes the device has.
+const SIZE: usize = 28_997;
+
+/// A high alarm of the first priority in the first area.
+const HIGH: Settings = Settings {
+    kind: Kind::High,
+    setpoint: 800,
+    deadband: 10,
+    priority: 1,
+    area: 0,
+    latching: false,
+    max_shelve: 3600,
+};
+
+/// The alarms of the worked table, with their tags.
+const ALARMS: [(Settings, &[u8]); 4] = [
+    (HIGH, b"TI-101"),
+    (
+        Settings {
+            kind: Kind::Low,
+            setpoint: 100,
+            deadband: 5,
+            priority: 2,
+            ..HIGH
+        },
+        b"PI-102",
+    ),
+    (
+        Settings {
+            kind: Kind::Discrete,
+            setpoint: 1,
+            deadband: 0,
+            area: 1,
+            latching: true,
+            max_shelve: 0,
+            ..HIGH
+        },
+        b"XS-201",
+    ),
+    (
+        Settings {
+            setpoint: 50,
+            deadband: 0,
+            priority: 3,
+            area: 1,
+            max_shelve: 0,
+            ..HIGH
+        },
+        b"LI-202",
+    ),
+];
+
+fn table(alloc: Global) -> Result<Table, Fail> {
+    let mut alarms = Vec::with_capacity(alloc, ALARMS.len())?;
+    for (settings, tag) in ALARMS {
+        alarms.push(Attr::new(settings, tag, b"")?)?;
     }
+    Ok(Table::new(alarms, 2)?)
 }
 
-/// The plant of the worked table.
-fn plant(alloc: Global) -> Result<PlainPlant, Fail> {
-    let mut alarms = Vec::new(alloc);
-    alarms.push(Attr::new(alarm(Kind::High, 800, 10, 1, 0, 3600), b"TI-101", b"")?)?;
-    alarms.push(Attr::new(alarm(Kind::Low, 100, 5, 2, 0, 3600), b"PI-102", b"")?)?;
-    alarms.push(Attr::new(alarm(Kind::Discrete, 1, 0, 1, 1, 0), b"XS-201", b"")?)?;
-    alarms.push(Attr::new(alarm(Kind::High, 50, 0, 3, 1, 0), b"LI-202", b"")?)?;
-    Ok(PlainPlant::new(alloc, &Table::new(alarms, 2)?)?)
-}
-
-/// The image of the new plant.
-fn image(alloc: Global) -> Result<Vec<u8>, Fail> {
-    let plant = plant(alloc)?;
+/// The image of a plant.
+fn image_of<P: Alarms>(alloc: Global, plant: &P) -> Result<Vec<u8>, Fail> {
     let size = image_len(plant.alarms() as u32, plant.areas() as u8);
     let mut bytes = vec![in alloc; 0u8; size as usize]?;
-    write_image(&plant, &mut bytes);
+    write_image(plant, &mut bytes);
     Ok(bytes)
+}
+
+/// The image of a new plant of the worked table.
+fn image<P: Alarms + Drop>(alloc: Global) -> Result<Vec<u8>, Fail> {
+    let table = table(alloc)?;
+    let plant = P::new(alloc, &table)?;
+    image_of(alloc, &plant)
 }
 
 pub fn clock(seconds: u64) -> Result<Action, Fail> {
@@ -68,13 +105,8 @@ pub fn device(alloc: Global, commits: u32, reading: i64) -> Result<Vec<u8>, Fail
     device_of(alloc, Version::V01, commits, reading)
 }
 
-/// The same of a version.
-pub fn device_of(
-    alloc: Global,
-    version: Version,
-    commits: u32,
-    reading: i64,
-) -> Result<Vec<u8>, Fail> {
+/// The header, and the first half's head and image.
+fn put_front(alloc: Global, device: &mut Vec<u8>, version: Version) -> Result<(), Fail> {
     let layout = Layout::of(4, 2, 4116, version);
     let mut header = [0; 22];
     layout.write_header(&mut header);
@@ -85,21 +117,39 @@ pub fn device_of(
         count: 0,
     };
     layout.write_half_head(&first, &mut head);
-    let mut device = Vec::new(alloc);
     device.push(OPEN_GATE)?;
     device.extend_from_slice(&header)?;
     device.push(OPEN_GATE)?;
     device.extend_from_slice(&head)?;
-    device.extend_from_slice(&image(alloc)?)?;
+    let image = image::<PlainPlant>(alloc)?;
+    device.extend_from_slice(&image)?;
+    Ok(())
+}
+
+/// The commits, and zeros behind them.
+fn put_commits(device: &mut Vec<u8>, commits: u32, reading: i64) -> Result<(), Fail> {
     if commits > 0 {
-        commit(&mut device, 1, 1, clock(1000)?)?;
+        commit(device, 1, 1, clock(1000)?)?;
     }
     if commits > 1 {
-        commit(&mut device, 1, 2, value(0, reading)?)?;
+        commit(device, 1, 2, value(0, reading)?)?;
     }
-    for _ in device.len()..28_997 {
+    for _ in device.len()..SIZE {
         device.push(0)?;
     }
+    Ok(())
+}
+
+/// The same of a version.
+pub fn device_of(
+    alloc: Global,
+    version: Version,
+    commits: u32,
+    reading: i64,
+) -> Result<Vec<u8>, Fail> {
+    let mut device = Vec::with_capacity(alloc, SIZE)?;
+    put_front(alloc, &mut device, version)?;
+    put_commits(&mut device, commits, reading)?;
     Ok(device)
 }
 

@@ -29,6 +29,52 @@ fn is_none(text: &[u8]) -> bool {
     is_none_in(text, Version::V01) && is_none_in(text, Version::V02)
 }
 
+/// The texts of actions of alarms.
+const TEXTS: [(Action, [u8; 16]); 6] = [
+    (
+        Action::Ack(AlarmId(0)),
+        [3, 0, 0, 0, 0, 0, 0, 0, 0, 0, 0, 0, 0, 0, 0, 0],
+    ),
+    (
+        Action::Reset(AlarmId(258)),
+        [4, 0, 0, 0, 0, 0, 1, 2, 0, 0, 0, 0, 0, 0, 0, 0],
+    ),
+    (
+        Action::Shelve(AlarmId(0), 3600),
+        [5, 0, 0, 0, 0, 0, 0, 0, 0, 0, 0, 0, 0, 0, 0x0e, 0x10],
+    ),
+    (
+        Action::Unshelve(AlarmId(3)),
+        [6, 0, 0, 0, 0, 0, 0, 3, 0, 0, 0, 0, 0, 0, 0, 0],
+    ),
+    (
+        Action::Oos(AlarmId(2), true),
+        [7, 0, 0, 0, 0, 0, 0, 2, 0, 0, 0, 0, 0, 0, 0, 1],
+    ),
+    (
+        Action::Design(AlarmId(3), false),
+        [8, 0, 0, 0, 0, 0, 0, 3, 0, 0, 0, 0, 0, 0, 0, 0],
+    ),
+];
+
+/// Bytes that are no action in either version.
+const NONE: [&[u8]; 14] = [
+    &[],
+    &[3, 0, 0, 0, 0, 0, 0, 0, 0, 0, 0, 0, 0, 0, 0],
+    &[3, 0, 0, 0, 0, 0, 0, 0, 0, 0, 0, 0, 0, 0, 0, 0, 0],
+    &[0, 0, 0, 0, 0, 0, 0, 0, 0, 0, 0, 0, 0, 0, 0, 0],
+    &[9, 0, 0, 0, 0, 0, 0, 0, 0, 0, 0, 1, 0, 0, 0, 0],
+    &[10, 0, 0, 0, 0, 0, 0, 0, 0, 0, 0, 0xe8, 0xd4, 0xa5, 0x10, 1],
+    &[11, 0, 0, 0, 0, 0, 0, 0, 0, 0, 0, 0, 0, 0, 0, 0],
+    &[3, 0, 0, 1, 0, 0, 0, 0, 0, 0, 0, 0, 0, 0, 0, 0],
+    &[3, 0, 0, 0, 0, 0, 0, 0, 0, 0, 0, 0, 0, 0, 0, 1],
+    &[1, 0, 0, 0, 0, 0, 0, 1, 0, 0, 0, 0, 0, 0, 3, 0xe8],
+    &[1, 0, 0, 0, 0, 0, 0, 0, 0, 0, 1, 0, 0, 0, 0, 0],
+    &[2, 0, 0, 0, 0, 0, 0, 0, 0, 0, 0, 0xe8, 0xd4, 0xa5, 0x10, 1],
+    &[5, 0, 0, 0, 0, 0, 0, 0, 0, 0, 0, 1, 0, 0, 0, 0],
+    &[7, 0, 0, 0, 0, 0, 0, 0, 0, 0, 0, 0, 0, 0, 0, 2],
+];
+
 #[test]
 fn texts_of_moments_and_values(rt: HostRuntime) -> Result<(), Fail> {
     let moment = Moment::new(1000).ok_or("moment")?;
@@ -58,51 +104,10 @@ fn texts_of_moments_and_values(rt: HostRuntime) -> Result<(), Fail> {
 }
 
 #[test]
-fn texts_of_acks_and_resets(rt: HostRuntime) {
-    assert!(rt;
-        is_text(
-            Action::Ack(AlarmId(0)),
-            &[3, 0, 0, 0, 0, 0, 0, 0, 0, 0, 0, 0, 0, 0, 0, 0]
-        )
-    );
-    assert!(rt;
-        is_text(
-            Action::Reset(AlarmId(258)),
-            &[4, 0, 0, 0, 0, 0, 1, 2, 0, 0, 0, 0, 0, 0, 0, 0]
-        )
-    );
-}
-
-#[test]
-fn texts_of_shelvings(rt: HostRuntime) {
-    assert!(rt;
-        is_text(
-            Action::Shelve(AlarmId(0), 3600),
-            &[5, 0, 0, 0, 0, 0, 0, 0, 0, 0, 0, 0, 0, 0, 0x0e, 0x10]
-        )
-    );
-    assert!(rt;
-        is_text(
-            Action::Unshelve(AlarmId(3)),
-            &[6, 0, 0, 0, 0, 0, 0, 3, 0, 0, 0, 0, 0, 0, 0, 0]
-        )
-    );
-}
-
-#[test]
-fn texts_of_switches(rt: HostRuntime) {
-    assert!(rt;
-        is_text(
-            Action::Oos(AlarmId(2), true),
-            &[7, 0, 0, 0, 0, 0, 0, 2, 0, 0, 0, 0, 0, 0, 0, 1]
-        )
-    );
-    assert!(rt;
-        is_text(
-            Action::Design(AlarmId(3), false),
-            &[8, 0, 0, 0, 0, 0, 0, 3, 0, 0, 0, 0, 0, 0, 0, 0]
-        )
-    );
+fn texts_of_actions_of_alarms(rt: HostRuntime) {
+    for (action, text) in TEXTS {
+        assert!(rt; is_text(action, &text), "{action:?}");
+    }
 }
 
 #[test]
@@ -119,18 +124,7 @@ fn texts_of_version_02_alone(rt: HostRuntime) -> Result<(), Fail> {
 
 #[test]
 fn bytes_that_are_no_action(rt: HostRuntime) {
-    assert!(rt; is_none(&[]));
-    assert!(rt; is_none(&[3, 0, 0, 0, 0, 0, 0, 0, 0, 0, 0, 0, 0, 0, 0]));
-    assert!(rt; is_none(&[3, 0, 0, 0, 0, 0, 0, 0, 0, 0, 0, 0, 0, 0, 0, 0, 0]));
-    assert!(rt; is_none(&[0, 0, 0, 0, 0, 0, 0, 0, 0, 0, 0, 0, 0, 0, 0, 0]));
-    assert!(rt; is_none(&[9, 0, 0, 0, 0, 0, 0, 0, 0, 0, 0, 1, 0, 0, 0, 0]));
-    assert!(rt; is_none(&[10, 0, 0, 0, 0, 0, 0, 0, 0, 0, 0, 0xe8, 0xd4, 0xa5, 0x10, 1]));
-    assert!(rt; is_none(&[11, 0, 0, 0, 0, 0, 0, 0, 0, 0, 0, 0, 0, 0, 0, 0]));
-    assert!(rt; is_none(&[3, 0, 0, 1, 0, 0, 0, 0, 0, 0, 0, 0, 0, 0, 0, 0]));
-    assert!(rt; is_none(&[3, 0, 0, 0, 0, 0, 0, 0, 0, 0, 0, 0, 0, 0, 0, 1]));
-    assert!(rt; is_none(&[1, 0, 0, 0, 0, 0, 0, 1, 0, 0, 0, 0, 0, 0, 3, 0xe8]));
-    assert!(rt; is_none(&[1, 0, 0, 0, 0, 0, 0, 0, 0, 0, 1, 0, 0, 0, 0, 0]));
-    assert!(rt; is_none(&[2, 0, 0, 0, 0, 0, 0, 0, 0, 0, 0, 0xe8, 0xd4, 0xa5, 0x10, 1]));
-    assert!(rt; is_none(&[5, 0, 0, 0, 0, 0, 0, 0, 0, 0, 0, 1, 0, 0, 0, 0]));
-    assert!(rt; is_none(&[7, 0, 0, 0, 0, 0, 0, 0, 0, 0, 0, 0, 0, 0, 0, 2]));
+    for (row, bytes) in NONE.iter().enumerate() {
+        assert!(rt; is_none(bytes), "row {row}");
+    }
 }

@@ -38,51 +38,38 @@ fn frames_are_written_and_read(rt: HostRuntime) -> Result<(), Fail> {
     Ok(())
 }
 
+/// A byte of a frame that is another, and its place.
+type Change = Option<(usize, u8)>;
+
+/// Damaged frames of an epoch behind a count: the epoch, the count, how many bytes there are, what is changed in them, and the place of the
+/// damage.
+const DAMAGED: [(u64, u64, usize, Change, usize); 9] = [
+    (2, 0, 35, None, 0),
+    (1, 1, 35, None, 8),
+    (1, 0, 7, None, 0),
+    (1, 0, 15, None, 8),
+    (1, 0, 17, None, 16),
+    (1, 0, 34, None, 16),
+    (1, 0, 35, Some((17, 0)), 16),
+    (1, 0, 35, Some((16, 1)), 16),
+    (1, 0, 35, Some((21, 1)), 18),
+];
+
 #[test]
 fn damaged_frames(rt: HostRuntime) -> Result<(), Fail> {
     let mut actions = Vec::with_capacity(rt.alloc(), MOST_ACTIONS)?;
-    let mut frame = CLOCK_FRAME;
-    assert_eq!(rt;
-        read_frame(&frame, 2, 0, &mut actions, Version::V02),
-        Err(Damage { at: 0 })
-    );
-    assert_eq!(rt;
-        read_frame(&frame, 1, 1, &mut actions, Version::V02),
-        Err(Damage { at: 8 })
-    );
-    assert_eq!(rt;
-        read_frame(&frame[..7], 1, 0, &mut actions, Version::V02),
-        Err(Damage { at: 0 })
-    );
-    assert_eq!(rt;
-        read_frame(&frame[..15], 1, 0, &mut actions, Version::V02),
-        Err(Damage { at: 8 })
-    );
-    assert_eq!(rt;
-        read_frame(&frame[..17], 1, 0, &mut actions, Version::V02),
-        Err(Damage { at: 16 })
-    );
-    assert_eq!(rt;
-        read_frame(&frame[..34], 1, 0, &mut actions, Version::V02),
-        Err(Damage { at: 16 })
-    );
-    frame[17] = 0;
-    assert_eq!(rt;
-        read_frame(&frame, 1, 0, &mut actions, Version::V02),
-        Err(Damage { at: 16 })
-    );
-    frame[16] = 1;
-    frame[17] = 1;
-    assert_eq!(rt;
-        read_frame(&frame, 1, 0, &mut actions, Version::V02),
-        Err(Damage { at: 16 })
-    );
-    frame[16] = 0;
-    frame[21] = 1;
-    assert_eq!(rt;
-        read_frame(&frame, 1, 0, &mut actions, Version::V02),
-        Err(Damage { at: 18 })
-    );
+    for (epoch, count, length, change, at) in DAMAGED {
+        let mut frame = CLOCK_FRAME;
+        if let Some((place, byte)) = change {
+            *frame.get_mut(place).ok_or("place")? = byte;
+        }
+        let bytes = frame.get(..length).ok_or("length")?;
+        assert_eq!(rt;
+            read_frame(bytes, epoch, count, &mut actions, Version::V02),
+            Err(Damage { at }),
+            "{length} bytes, {change:?} in epoch {epoch} after {count}"
+        );
+    }
     Ok(())
 }
 

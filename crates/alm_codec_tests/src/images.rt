@@ -1,16 +1,16 @@
 //! Worked images, and each byte of one changed.
 
-use crate::worked::{act, clock, image, new_plant, value};
+use crate::worked::{clock, image, image_after, value};
 use alm_codec::{Damage, ImageFault, read_image};
 use alm_model::{Alarms, PlainPlant};
 use std::alloc::Global;
 use std::test::Fail;
 
 /// Whether an image of four alarms in two areas is read and written again as it was.
-fn is_read_back(alloc: Global, bytes: &[u8]) -> Result<bool, Fail> {
+fn is_read_back<P: Alarms + Drop>(alloc: Global, bytes: &[u8]) -> Result<bool, Fail> {
     match read_image(alloc, bytes, 4, 2, 4) {
         Ok(parts) => {
-            let plant = PlainPlant::build(alloc, parts)?;
+            let plant = P::build(alloc, parts)?;
             Ok(image(alloc, &plant)?.as_slice() == bytes)
         }
         Err(ImageFault::Damaged(_)) => Ok(true),
@@ -20,7 +20,7 @@ fn is_read_back(alloc: Global, bytes: &[u8]) -> Result<bool, Fail> {
 
 #[test]
 fn the_image_of_a_new_plant(rt: HostRuntime) -> Result<(), Fail> {
-    let bytes = image(rt.alloc(), &new_plant(rt.alloc())?)?;
+    let bytes = image_after::<PlainPlant>(rt.alloc(), &[])?;
     assert_eq!(rt; bytes.len(), 10_346);
     let head = [
         1, 1, 0, 0, 0, 0, 0, 0, 0, 0, 3, 0x20, 0, 0, 0, 0, 0, 0, 0, 0x0a, 0, 0, 0x0e, 0x10, 6,
@@ -29,16 +29,13 @@ fn the_image_of_a_new_plant(rt: HostRuntime) -> Result<(), Fail> {
     assert_eq!(rt; bytes.get(9618..9649), Some(head.as_slice()));
     assert_eq!(rt; bytes.get(9649..9800), Some([0; 151].as_slice()));
     assert!(rt; read_image(rt.alloc(), &bytes, 4, 2, 0).is_ok());
-    assert!(rt; is_read_back(rt.alloc(), &bytes)?);
+    assert!(rt; is_read_back::<PlainPlant>(rt.alloc(), &bytes)?);
     Ok(())
 }
 
 #[test]
 fn the_image_after_an_annunciation(rt: HostRuntime) -> Result<(), Fail> {
-    let mut plant = new_plant(rt.alloc())?;
-    act(&mut plant, clock(1000)?)?;
-    act(&mut plant, value(0, 800)?)?;
-    let bytes = image(rt.alloc(), &plant)?;
+    let bytes = image_after::<PlainPlant>(rt.alloc(), &[clock(1000)?, value(0, 800)?])?;
     let front = [
         0, 0, 0, 0, 0, 0, 3, 0xe8, 0, 0, 0, 0, 0, 0, 0, 2, 0, 0, 0, 0, 0, 0, 0, 0, 1,
     ];
@@ -49,13 +46,13 @@ fn the_image_after_an_annunciation(rt: HostRuntime) -> Result<(), Fail> {
     assert_eq!(rt; bytes.get(9756..9784), Some(tail.as_slice()));
     assert_eq!(rt; bytes.get(9784..9800), Some([0; 16].as_slice()));
     assert!(rt; read_image(rt.alloc(), &bytes, 4, 2, 2).is_ok());
-    assert!(rt; is_read_back(rt.alloc(), &bytes)?);
+    assert!(rt; is_read_back::<PlainPlant>(rt.alloc(), &bytes)?);
     Ok(())
 }
 
 #[test]
 fn bytes_behind_an_image_are_damage(rt: HostRuntime) -> Result<(), Fail> {
-    let mut bytes = image(rt.alloc(), &new_plant(rt.alloc())?)?;
+    let mut bytes = image_after::<PlainPlant>(rt.alloc(), &[])?;
     bytes.push(0)?;
     assert_eq!(rt;
         read_image(rt.alloc(), &bytes, 4, 2, 0).err(),
@@ -76,16 +73,13 @@ fn bytes_behind_an_image_are_damage(rt: HostRuntime) -> Result<(), Fail> {
 #[test]
 fn each_byte_changed(rt: HostRuntime) -> Result<(), Fail> {
     let alloc = rt.alloc();
-    let mut plant = new_plant(alloc)?;
-    act(&mut plant, clock(1000)?)?;
-    act(&mut plant, value(0, 800)?)?;
-    let mut bytes = image(alloc, &plant)?;
+    let mut bytes = image_after::<PlainPlant>(alloc, &[clock(1000)?, value(0, 800)?])?;
     let mut all = true;
     for place in 0..bytes.len() {
         let was = bytes[place];
         for byte in [0u8, 1, 0xa5, 0xff] {
             bytes[place] = byte;
-            all = is_read_back(alloc, &bytes)? && all;
+            all = is_read_back::<PlainPlant>(alloc, &bytes)? && all;
         }
         bytes[place] = was;
     }

@@ -30,7 +30,7 @@ fn table(alloc: Global, rows: u32, areas: u8) -> Result<Table, Fail>
 }
 
 /// So many alarms are annunciated.
-fn annunciate(plant: &mut PlainPlant, rows: u32) -> Result<(), Fail> {
+fn annunciate<P: Alarms>(plant: &mut P, rows: u32) -> Result<(), Fail> {
     for number in 0..rows {
         let high = value(number, 1)?;
         act(plant, high)?;
@@ -38,44 +38,57 @@ fn annunciate(plant: &mut PlainPlant, rows: u32) -> Result<(), Fail> {
     Ok(())
 }
 
+/// The image of a plant of which each alarm is annunciated.
+fn largest_image<P: Alarms + Drop>(alloc: Global) -> Result<Vec<u8>, Fail> {
+    let mut plant = P::new(alloc, &table(alloc, 16_384, 64)?)?;
+    annunciate(&mut plant, 16_384)?;
+    image(alloc, &plant)
+}
+
+/// The plant of such an image.
+fn largest_plant<P: Alarms>(alloc: Global, bytes: &[u8]) -> Result<P, Fail> {
+    match read_image(alloc, bytes, 16_384, 64, 16_384) {
+        Ok(parts) => Ok(P::build(alloc, parts)?),
+        Err(_) => Err("damaged".into()),
+    }
+}
+
+/// The count of the plant of such an image, and whether its image is the same again.
+fn read_again<P: Alarms + Drop>(alloc: Global, bytes: &[u8]) -> Result<(u64, bool), Fail> {
+    let again = largest_plant::<P>(alloc, bytes)?;
+    let second = image(alloc, &again)?;
+    Ok((again.count(), second.as_slice() == bytes))
+}
+
 #[test]
 fn the_largest_image(rt: HostRuntime) -> Result<(), Fail> {
     let alloc = rt.alloc();
-    let mut plant = PlainPlant::new(alloc, &table(alloc, 16_384, 64)?)?;
-    annunciate(&mut plant, 16_384)?;
-    let bytes = image(alloc, &plant)?;
+    let bytes = largest_image::<PlainPlant>(alloc)?;
     assert_eq!(rt; bytes.len(), 3_289_168);
-    let parts = match read_image(alloc, &bytes, 16_384, 64, 16_384) {
-        Ok(parts) => parts,
-        Err(_) => return Err("damaged".into()),
-    };
-    let again = PlainPlant::build(alloc, parts)?;
-    assert_eq!(rt; again.count(), 16_384);
-    let second = image(alloc, &again)?;
-    assert!(rt; second.as_slice() == bytes.as_slice());
+    assert_eq!(rt; read_again::<PlainPlant>(alloc, &bytes)?, (16_384, true));
     Ok(())
 }
 
 /// Whether the image of a plant with an annunciation in its last area is read and written again as it was.
-fn is_read_back(alloc: Global, areas: u8) -> Result<bool, Fail>
+fn is_read_back<P: Alarms + Drop>(alloc: Global, areas: u8) -> Result<bool, Fail>
     requires some { 1 ≤ areas }
     requires few { areas ≤ 64 }
 {
     let rows = areas as u32;
-    let mut plant = PlainPlant::new(alloc, &table(alloc, rows, areas)?)?;
+    let mut plant = P::new(alloc, &table(alloc, rows, areas)?)?;
     act(&mut plant, value(rows - 1, 1)?)?;
     let bytes = image(alloc, &plant)?;
     match read_image(alloc, &bytes, rows, areas, 1) {
-        Ok(parts) => Ok(image(alloc, &PlainPlant::build(alloc, parts)?)? == bytes),
+        Ok(parts) => Ok(image(alloc, &P::build(alloc, parts)?)? == bytes),
         Err(_) => Ok(false),
     }
 }
 
 #[test]
 fn images_of_the_fewest_and_the_most_areas(rt: HostRuntime) -> Result<(), Fail> {
-    assert!(rt; is_read_back(rt.alloc(), 1)?);
-    assert!(rt; is_read_back(rt.alloc(), 2)?);
-    assert!(rt; is_read_back(rt.alloc(), 63)?);
-    assert!(rt; is_read_back(rt.alloc(), 64)?);
+    assert!(rt; is_read_back::<PlainPlant>(rt.alloc(), 1)?);
+    assert!(rt; is_read_back::<PlainPlant>(rt.alloc(), 2)?);
+    assert!(rt; is_read_back::<PlainPlant>(rt.alloc(), 63)?);
+    assert!(rt; is_read_back::<PlainPlant>(rt.alloc(), 64)?);
     Ok(())
 }

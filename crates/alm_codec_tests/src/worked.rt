@@ -1,39 +1,86 @@
 //! A worked plant of four alarms in two areas, and its image.
 
 use alm_codec::{image_len, write_image};
-use alm_model::{Alarms, PlainPlant};
+use alm_model::Alarms;
 use alm_types::{Action, AlarmId, Attr, Kind, Moment, Reading, Refusal, Settings, Table};
 use std::alloc::Global;
 use std::test::Fail;
 
-/// An alarm of priority 1 that does not latch.
-fn alarm(kind: Kind, setpoint: i64, deadband: u64, area: u8, max_shelve: u32) -> Settings {
-    Settings {
-        kind,
-        setpoint,
-        deadband,
-        priority: 1,
-        area,
-        latching: kind == Kind::Discrete,
-        max_shelve,
+/// A high alarm of priority 1 in the first area.
+const HIGH: Settings = Settings {
+    kind: Kind::High,
+    setpoint: 800,
+    deadband: 10,
+    priority: 1,
+    area: 0,
+    latching: false,
+    max_shelve: 3600,
+};
+
+/// The alarms of the plant, with their tags.
+const ALARMS: [(Settings, &[u8]); 4] = [
+    (HIGH, b"TI-101"),
+    (
+        Settings {
+            kind: Kind::Low,
+            setpoint: 100,
+            deadband: 5,
+            ..HIGH
+        },
+        b"PI-102",
+    ),
+    (
+        Settings {
+            kind: Kind::Discrete,
+            setpoint: 1,
+            deadband: 0,
+            area: 1,
+            latching: true,
+            max_shelve: 0,
+            ..HIGH
+        },
+        b"XS-201",
+    ),
+    (
+        Settings {
+            setpoint: 50,
+            deadband: 0,
+            area: 1,
+            max_shelve: 0,
+            ..HIGH
+        },
+        b"LI-202",
+    ),
+];
+
+fn table(alloc: Global) -> Result<Table, Fail> {
+    let mut alarms = Vec::with_capacity(alloc, ALARMS.len())?;
+    for (settings, tag) in ALARMS {
+        alarms.push(Attr::new(settings, tag, b"")?)?;
     }
+    Ok(Table::new(alarms, 2)?)
 }
 
 /// The plant without annunciations.
-pub fn new_plant(alloc: Global) -> Result<PlainPlant, Fail> {
-    let mut alarms = Vec::new(alloc);
-    alarms.push(Attr::new(alarm(Kind::High, 800, 10, 0, 3600), b"TI-101", b"")?)?;
-    alarms.push(Attr::new(alarm(Kind::Low, 100, 5, 0, 3600), b"PI-102", b"")?)?;
-    alarms.push(Attr::new(alarm(Kind::Discrete, 1, 0, 1, 0), b"XS-201", b"")?)?;
-    alarms.push(Attr::new(alarm(Kind::High, 50, 0, 1, 0), b"LI-202", b"")?)?;
-    Ok(PlainPlant::new(alloc, &Table::new(alarms, 2)?)?)
+pub fn new_plant<P: Alarms>(alloc: Global) -> Result<P, Fail> {
+    let table = table(alloc)?;
+    Ok(P::new(alloc, &table)?)
 }
 
 /// Does an action, or says why it is refused.
-pub fn act(plant: &mut PlainPlant, action: Action) -> Result<(), Refusal> {
+pub fn act<P: Alarms>(plant: &mut P, action: Action) -> Result<(), Refusal> {
     plant.admits(&action)?;
     plant.apply(&action);
     Ok(())
+}
+
+/// The image of the new plant after these actions.
+pub fn image_after<P: Alarms + Drop>(alloc: Global, actions: &[Action]) -> Result<Vec<u8>, Fail> {
+    let mut plant = new_plant::<P>(alloc)?;
+    for action in actions {
+        act(&mut plant, *action)?;
+    }
+    image(alloc, &plant)
 }
 
 pub fn clock(seconds: u64) -> Result<Action, Fail> {
@@ -45,7 +92,7 @@ pub fn value(alarm: u32, value: i64) -> Result<Action, Fail> {
 }
 
 /// The image of a plant.
-pub fn image(alloc: Global, plant: &PlainPlant) -> Result<Vec<u8>, Fail> {
+pub fn image<P: Alarms>(alloc: Global, plant: &P) -> Result<Vec<u8>, Fail> {
     let size = image_len(plant.alarms() as u32, plant.areas() as u8);
     let mut bytes = vec![in alloc; 0u8; size as usize]?;
     write_image(plant, &mut bytes);

@@ -18,30 +18,36 @@ fn fault(settings: Settings) -> Option<AttrFault> {
     Attr::new(settings, b"TI-101", b"").err()
 }
 
+/// Setpoints, and the fault of each.
+const SETPOINTS: [(i64, Option<AttrFault>); 4] = [
+    (-1_000_000_000_000, None),
+    (-1_000_000_000_001, Some(AttrFault::Setpoint)),
+    (1_000_000_000_000, None),
+    (1_000_000_000_001, Some(AttrFault::Setpoint)),
+];
+
 #[test]
 fn setpoints(rt: HostRuntime) {
-    for (setpoint, wanted) in [
-        (-1_000_000_000_000, None),
-        (-1_000_000_000_001, Some(AttrFault::Setpoint)),
-        (1_000_000_000_000, None),
-        (1_000_000_000_001, Some(AttrFault::Setpoint)),
-    ] {
+    for (setpoint, wanted) in SETPOINTS {
         let settings = Settings { setpoint, ..GOOD };
         assert_eq!(rt; fault(settings), wanted, "at {setpoint}");
     }
 }
 
+/// Deadbands of each kind, and their faults.
+const DEADBANDS: [(Kind, u64, Option<AttrFault>); 7] = [
+    (Kind::High, 0, None),
+    (Kind::High, 1_000_000_000_000, None),
+    (Kind::High, 1_000_000_000_001, Some(AttrFault::Deadband)),
+    (Kind::Low, 1_000_000_000_000, None),
+    (Kind::Low, 1_000_000_000_001, Some(AttrFault::Deadband)),
+    (Kind::Discrete, 0, None),
+    (Kind::Discrete, 1, Some(AttrFault::Deadband)),
+];
+
 #[test]
 fn deadbands_by_kind(rt: HostRuntime) {
-    for (kind, deadband, wanted) in [
-        (Kind::High, 0, None),
-        (Kind::High, 1_000_000_000_000, None),
-        (Kind::High, 1_000_000_000_001, Some(AttrFault::Deadband)),
-        (Kind::Low, 1_000_000_000_000, None),
-        (Kind::Low, 1_000_000_000_001, Some(AttrFault::Deadband)),
-        (Kind::Discrete, 0, None),
-        (Kind::Discrete, 1, Some(AttrFault::Deadband)),
-    ] {
+    for (kind, deadband, wanted) in DEADBANDS {
         let settings = Settings {
             kind,
             deadband,
@@ -51,15 +57,18 @@ fn deadbands_by_kind(rt: HostRuntime) {
     }
 }
 
+/// Priorities and areas, and their faults.
+const PRIORITIES: [(u8, u8, Option<AttrFault>); 5] = [
+    (0, 0, Some(AttrFault::Priority)),
+    (1, 0, None),
+    (4, 63, None),
+    (5, 63, Some(AttrFault::Priority)),
+    (4, 64, Some(AttrFault::Area)),
+];
+
 #[test]
 fn priorities_and_areas(rt: HostRuntime) {
-    for (priority, area, wanted) in [
-        (0, 0, Some(AttrFault::Priority)),
-        (1, 0, None),
-        (4, 63, None),
-        (5, 63, Some(AttrFault::Priority)),
-        (4, 64, Some(AttrFault::Area)),
-    ] {
+    for (priority, area, wanted) in PRIORITIES {
         let settings = Settings {
             priority,
             area,
@@ -69,93 +78,115 @@ fn priorities_and_areas(rt: HostRuntime) {
     }
 }
 
+/// The longest shelvings, and their faults.
+const SHELVINGS: [(u32, Option<AttrFault>); 3] = [
+    (0, None),
+    (604_800, None),
+    (604_801, Some(AttrFault::MaxShelve)),
+];
+
 #[test]
 fn shelvings(rt: HostRuntime) {
-    for (max_shelve, wanted) in [
-        (0, None),
-        (604_800, None),
-        (604_801, Some(AttrFault::MaxShelve)),
-    ] {
+    for (max_shelve, wanted) in SHELVINGS {
         let settings = Settings { max_shelve, ..GOOD };
         assert_eq!(rt; fault(settings), wanted, "at {max_shelve}");
     }
 }
 
+/// Tags, and the fault of each.
+const TAGS: [(&[u8], Option<AttrFault>); 7] = [
+    (b"", Some(AttrFault::Tag)),
+    (b"x", None),
+    (&[b'x'; 32], None),
+    (&[b'x'; 33], Some(AttrFault::Tag)),
+    (b"!~", None),
+    (b"a b", Some(AttrFault::Tag)),
+    (b"a\x7f", Some(AttrFault::Tag)),
+];
+
+/// Texts, and the fault of each.
+const TEXTS: [(&[u8], Option<AttrFault>); 6] = [
+    (b"", None),
+    (&[b'x'; 80], None),
+    (&[b'x'; 81], Some(AttrFault::Text)),
+    (b" ~", None),
+    (b"\x1f", Some(AttrFault::Text)),
+    (b"\x7f", Some(AttrFault::Text)),
+];
+
 #[test]
 fn tags_and_texts_at_their_limits(rt: HostRuntime) {
-    let long = [b'x'; 81];
-    for (tag, wanted) in [
-        (&long[..0], Some(AttrFault::Tag)),
-        (&long[..1], None),
-        (&long[..32], None),
-        (&long[..33], Some(AttrFault::Tag)),
-        (b"!~".as_slice(), None),
-        (b"a b".as_slice(), Some(AttrFault::Tag)),
-        (b"a\x7f".as_slice(), Some(AttrFault::Tag)),
-    ] {
-        assert_eq!(rt;
-            Attr::new(GOOD, tag, b"").err(),
-            wanted,
-            "tag of {}",
-            tag.len()
-        );
+    for (tag, wanted) in TAGS {
+        let fault = Attr::new(GOOD, tag, b"").err();
+        assert_eq!(rt; fault, wanted, "tag of {}", tag.len());
     }
-    for (text, wanted) in [
-        (&long[..0], None),
-        (&long[..80], None),
-        (&long[..81], Some(AttrFault::Text)),
-        (b" ~".as_slice(), None),
-        (b"\x1f".as_slice(), Some(AttrFault::Text)),
-        (b"\x7f".as_slice(), Some(AttrFault::Text)),
-    ] {
-        assert_eq!(rt;
-            Attr::new(GOOD, b"T", text).err(),
-            wanted,
-            "text of {}",
-            text.len()
-        );
+    for (text, wanted) in TEXTS {
+        let fault = Attr::new(GOOD, b"T", text).err();
+        assert_eq!(rt; fault, wanted, "text of {}", text.len());
     }
 }
 
+/// Settings that break each of their limits.
+const NONE_GOOD: Settings = Settings {
+    kind: Kind::High,
+    setpoint: 1_000_000_000_001,
+    deadband: 1_000_000_000_001,
+    priority: 0,
+    area: 64,
+    latching: false,
+    max_shelve: 604_801,
+};
+
+/// Settings with a tag and a text, of which one more is good in each row, and the first fault of what is left.
+const FAULTS: [(Settings, &[u8], &[u8], Option<AttrFault>); 8] = [
+    (NONE_GOOD, b"", b"\n", Some(AttrFault::Setpoint)),
+    (
+        Settings {
+            setpoint: 0,
+            ..NONE_GOOD
+        },
+        b"",
+        b"\n",
+        Some(AttrFault::Deadband),
+    ),
+    (
+        Settings {
+            setpoint: 0,
+            deadband: 0,
+            ..NONE_GOOD
+        },
+        b"",
+        b"\n",
+        Some(AttrFault::Priority),
+    ),
+    (
+        Settings {
+            area: 64,
+            max_shelve: 604_801,
+            ..GOOD
+        },
+        b"",
+        b"\n",
+        Some(AttrFault::Area),
+    ),
+    (
+        Settings {
+            max_shelve: 604_801,
+            ..GOOD
+        },
+        b"",
+        b"\n",
+        Some(AttrFault::MaxShelve),
+    ),
+    (GOOD, b"", b"\n", Some(AttrFault::Tag)),
+    (GOOD, b"T", b"\n", Some(AttrFault::Text)),
+    (GOOD, b"T", b"", None),
+];
+
 #[test]
 fn the_first_of_several_faults(rt: HostRuntime) {
-    let mut settings = Settings {
-        setpoint: 1_000_000_000_001,
-        deadband: 1_000_000_000_001,
-        priority: 0,
-        area: 64,
-        max_shelve: 604_801,
-        ..GOOD
-    };
-    assert_eq!(rt;
-        Attr::new(settings, b"", b"\n").err(),
-        Some(AttrFault::Setpoint)
-    );
-    settings.setpoint = 0;
-    assert_eq!(rt;
-        Attr::new(settings, b"", b"\n").err(),
-        Some(AttrFault::Deadband)
-    );
-    settings.deadband = 0;
-    assert_eq!(rt;
-        Attr::new(settings, b"", b"\n").err(),
-        Some(AttrFault::Priority)
-    );
-    settings.priority = 4;
-    assert_eq!(rt;
-        Attr::new(settings, b"", b"\n").err(),
-        Some(AttrFault::Area)
-    );
-    settings.area = 63;
-    assert_eq!(rt;
-        Attr::new(settings, b"", b"\n").err(),
-        Some(AttrFault::MaxShelve)
-    );
-    settings.max_shelve = 0;
-    assert_eq!(rt; Attr::new(settings, b"", b"\n").err(), Some(AttrFault::Tag));
-    assert_eq!(rt;
-        Attr::new(settings, b"T", b"\n").err(),
-        Some(AttrFault::Text)
-    );
-    assert_eq!(rt; Attr::new(settings, b"T", b"").err(), None);
+    for (settings, tag, text, wanted) in FAULTS {
+        let fault = Attr::new(settings, tag, text).err();
+        assert_eq!(rt; fault, wanted, "before {wanted:?}");
+    }
 }

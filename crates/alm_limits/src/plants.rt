@@ -5,6 +5,7 @@ use alm_types::{
     Action, AlarmId, Answer, Attr, Kind, Moment, Reading, Refusal, Request, Settings, Slot, Table,
 };
 use std::alloc::Global;
+use std::process::Abort;
 use std::test::Fail;
 
 /// A table of so many alarms, which come at 1 and go at 0, each in the area of its number modulo the areas.
@@ -43,15 +44,22 @@ fn list<P: Alarms>(alloc: Global, plant: &P, list: List) -> Result<Vec<u32>, Fai
     Ok(out)
 }
 
+/// The area of an alarm.
+fn area_of<P: Alarms>(plant: &P, alarm: u32) -> Option<u8> {
+    match plant.attr(AlarmId(alarm)) {
+        Some(attr) => Some(attr.area),
+        None => None,
+    }
+}
+
 /// The refusal of an action.
 fn refusal<P: Alarms>(plant: &P, want: Action) -> Option<Refusal> {
     plant.admits(&want).err()
 }
 
-#[test]
-fn the_largest_plant(rt: HostRuntime) -> Result<(), Fail> {
+fn largest_plant<P: Alarms + Drop, R: Abort + AllocGlobal>(rt: &R) -> Result<(), Fail> {
     let alloc = rt.alloc();
-    let mut plant = PlainPlant::new(alloc, &table(alloc, 16384, 64)?)?;
+    let mut plant = P::new(alloc, &table(alloc, 16384, 64)?)?;
     let high = Reading::new(1).ok_or("reading")?;
     for number in 0..16_384_u32 {
         ask(&mut plant, 16, Action::Value(AlarmId(number), high))?;
@@ -73,10 +81,9 @@ fn the_largest_plant(rt: HostRuntime) -> Result<(), Fail> {
     Ok(())
 }
 
-#[test]
-fn the_largest_plant_is_copied(rt: HostRuntime) -> Result<(), Fail> {
+fn copies_the_largest_plant<P: Alarms + Drop, R: Abort + AllocGlobal>(rt: &R) -> Result<(), Fail> {
     let alloc = rt.alloc();
-    let mut plant = PlainPlant::new(alloc, &table(alloc, 16384, 64)?)?;
+    let mut plant = P::new(alloc, &table(alloc, 16384, 64)?)?;
     let high = Reading::new(1).ok_or("reading")?;
     ask(&mut plant, 16, Action::Value(AlarmId(16_383), high))?;
     let copy = plant.copy(alloc)?;
@@ -89,15 +96,21 @@ fn the_largest_plant_is_copied(rt: HostRuntime) -> Result<(), Fail> {
     Ok(())
 }
 
-#[test]
-fn the_largest_plant_is_built_of_its_parts(rt: HostRuntime) -> Result<(), Fail> {
+fn builds_the_largest_plant<P: Alarms + Drop, R: Abort + AllocGlobal>(rt: &R) -> Result<(), Fail> {
     let alloc = rt.alloc();
     let parts = PlantParts::new(alloc, &table(alloc, 16384, 64)?)?;
-    let plant = PlainPlant::build(alloc, parts)?;
+    let plant = P::build(alloc, parts)?;
     assert_eq!(rt; plant.alarms(), 16_384);
     assert_eq!(rt; plant.areas(), 64);
     assert_eq!(rt; plant.next_stamp(), 1);
     Ok(())
+}
+
+#[test]
+fn the_largest_plant_is_made_copied_and_built_of_its_parts(rt: HostRuntime) -> Result<(), Fail> {
+    largest_plant::<PlainPlant, _>(&rt)?;
+    copies_the_largest_plant::<PlainPlant, _>(&rt)?;
+    builds_the_largest_plant::<PlainPlant, _>(&rt)
 }
 
 #[test]
@@ -108,10 +121,9 @@ fn an_answer_takes_room_for_the_longest_list(rt: HostRuntime) -> Result<(), Fail
     Ok(())
 }
 
-#[test]
-fn the_last_moment(rt: HostRuntime) -> Result<(), Fail> {
+fn last_moment<P: Alarms + Drop, R: Abort + AllocGlobal>(rt: &R) -> Result<(), Fail> {
     let alloc = rt.alloc();
-    let mut plant = PlainPlant::new(alloc, &table(alloc, 2, 1)?)?;
+    let mut plant = P::new(alloc, &table(alloc, 2, 1)?)?;
     let high = Reading::new(1).ok_or("reading")?;
     ask(&mut plant, 16, Action::Value(AlarmId(1), high))?;
     let last = Moment::new(1_099_511_627_775).ok_or("moment")?;
@@ -133,9 +145,13 @@ fn the_last_moment(rt: HostRuntime) -> Result<(), Fail> {
 }
 
 #[test]
-fn a_copy_is_the_same_plant(rt: HostRuntime) -> Result<(), Fail> {
+fn the_last_moment(rt: HostRuntime) -> Result<(), Fail> {
+    last_moment::<PlainPlant, _>(&rt)
+}
+
+fn copy_is_the_same_plant<P: Alarms + Drop, R: Abort + AllocGlobal>(rt: &R) -> Result<(), Fail> {
     let alloc = rt.alloc();
-    let mut plant = PlainPlant::new(alloc, &table(alloc, 3, 2)?)?;
+    let mut plant = P::new(alloc, &table(alloc, 3, 2)?)?;
     let high = Reading::new(1).ok_or("reading")?;
     ask(
         &mut plant,
@@ -150,8 +166,8 @@ fn a_copy_is_the_same_plant(rt: HostRuntime) -> Result<(), Fail> {
     assert_eq!(rt; copy.count(), 3);
     assert_eq!(rt; copy.next_stamp(), 3);
     assert_eq!(rt; copy.state(AlarmId(2)), plant.state(AlarmId(2)));
-    assert_eq!(rt; copy.attr(AlarmId(2)).map(|attr| attr.area), Some(0));
-    assert_eq!(rt; copy.attr(AlarmId(3)).map(|attr| attr.area), None);
+    assert_eq!(rt; area_of(&copy, 2), Some(0));
+    assert_eq!(rt; area_of(&copy, 3), None);
     assert_eq!(rt; copy.moments(AlarmId(2)).len(), 1);
     assert_eq!(rt; copy.moments(AlarmId(1)).len(), 0);
     assert_eq!(rt;
@@ -161,10 +177,11 @@ fn a_copy_is_the_same_plant(rt: HostRuntime) -> Result<(), Fail> {
     Ok(())
 }
 
-#[test]
-fn a_copy_has_the_same_measures(rt: HostRuntime) -> Result<(), Fail> {
+fn copy_has_the_same_measures<P: Alarms + Drop, R: Abort + AllocGlobal>(
+    rt: &R,
+) -> Result<(), Fail> {
     let alloc = rt.alloc();
-    let mut plant = PlainPlant::new(alloc, &table(alloc, 3, 2)?)?;
+    let mut plant = P::new(alloc, &table(alloc, 3, 2)?)?;
     let high = Reading::new(1).ok_or("reading")?;
     for number in [2, 0] {
         ask(&mut plant, 16, Action::Value(AlarmId(number), high))?;
@@ -178,12 +195,19 @@ fn a_copy_has_the_same_measures(rt: HostRuntime) -> Result<(), Fail> {
 }
 
 #[test]
-fn a_plant_that_has_had_all_its_actions(rt: HostRuntime) -> Result<(), Fail> {
+fn a_copy_is_the_same_plant_with_the_same_measures(rt: HostRuntime) -> Result<(), Fail> {
+    copy_is_the_same_plant::<PlainPlant, _>(&rt)?;
+    copy_has_the_same_measures::<PlainPlant, _>(&rt)
+}
+
+fn plant_that_has_had_all_its_actions<P: Alarms + Drop, R: Abort + AllocGlobal>(
+    rt: &R,
+) -> Result<(), Fail> {
     let alloc = rt.alloc();
     let table = table(alloc, 4, 2)?;
     let mut parts = PlantParts::new(alloc, &table)?;
     parts.count = 1 << 48;
-    let plant = PlainPlant::build(alloc, parts)?;
+    let plant = P::build(alloc, parts)?;
     assert_eq!(rt; plant.count(), 281_474_976_710_656);
     let five = Moment::new(5).ok_or("moment")?;
     assert_eq!(rt;
@@ -203,4 +227,9 @@ fn a_plant_that_has_had_all_its_actions(rt: HostRuntime) -> Result<(), Fail> {
         Some(Refusal::Exhausted)
     );
     Ok(())
+}
+
+#[test]
+fn a_plant_that_has_had_all_its_actions(rt: HostRuntime) -> Result<(), Fail> {
+    plant_that_has_had_all_its_actions::<PlainPlant, _>(&rt)
 }

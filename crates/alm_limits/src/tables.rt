@@ -26,45 +26,63 @@ fn fault(alloc: Global, rows: usize, area: u8, areas: u8) -> Result<Option<Table
     Ok(Table::new(alarms, areas).err())
 }
 
+/// How many alarms, the area of each and how many areas, and the fault of such a table.
+const TABLES: [(usize, u8, u8, Option<TableFault>); 8] = [
+    (0, 0, 0, Some(TableFault::NoRows)),
+    (1, 0, 1, None),
+    (16384, 0, 1, None),
+    (16385, 0, 0, Some(TableFault::TooManyRows)),
+    (1, 63, 0, Some(TableFault::Areas)),
+    (1, 63, 64, None),
+    (1, 63, 65, Some(TableFault::Areas)),
+    (2, 63, 63, Some(TableFault::AreaOf(0))),
+];
+
 #[test]
 fn tables_at_their_limits(rt: HostRuntime) -> Result<(), Fail> {
-    let alloc = rt.alloc();
-    for (rows, area, areas, wanted) in [
-        (0, 0, 0, Some(TableFault::NoRows)),
-        (1, 0, 1, None),
-        (16384, 0, 1, None),
-        (16385, 0, 0, Some(TableFault::TooManyRows)),
-        (1, 63, 0, Some(TableFault::Areas)),
-        (1, 63, 64, None),
-        (1, 63, 65, Some(TableFault::Areas)),
-        (2, 63, 63, Some(TableFault::AreaOf(0))),
-    ] {
-        assert_eq!(rt;
-            fault(alloc, rows, area, areas)?,
-            wanted,
-            "{rows} rows, {areas} areas"
-        );
+    for (rows, area, areas, wanted) in TABLES {
+        let fault = fault(rt.alloc(), rows, area, areas)?;
+        assert_eq!(rt; fault, wanted, "{rows} rows, {areas} areas");
     }
     Ok(())
 }
 
+/// Alarms of these areas.
+fn alarms_of(alloc: Global, areas: &[u8]) -> Result<Vec<Attr>, Fail> {
+    let mut alarms = Vec::new(alloc);
+    for area in areas {
+        alarms.push(alarm(*area)?)?;
+    }
+    Ok(alarms)
+}
+
 #[test]
 fn the_first_alarm_in_no_area(rt: HostRuntime) -> Result<(), Fail> {
-    let alloc = rt.alloc();
-    let alarms = [alarm(0)?, alarm(1)?, alarm(2)?, alarm(0)?, alarm(7)?].to_vec(alloc)?;
-    assert_eq!(rt; Table::new(alarms, 2).err(), Some(TableFault::AreaOf(2)));
+    let alarms = alarms_of(rt.alloc(), &[0, 1, 2, 0, 7])?;
+    let fault = Table::new(alarms, 2).err();
+    assert_eq!(rt; fault, Some(TableFault::AreaOf(2)));
     Ok(())
+}
+
+/// Whether a table has two areas and, behind one more alarm, an alarm of the second one.
+fn has_its_rows(table: &Table) -> bool {
+    match table.alarms() {
+        [_, alarm] => {
+            table.areas() == 2
+                && alarm.area == 1
+                && alarm.tag.as_bytes() == b"T".as_slice()
+                && alarm.text.as_bytes() == b"".as_slice()
+        }
+        _ => false,
+    }
 }
 
 #[test]
 fn a_table_gives_its_rows(rt: HostRuntime) -> Result<(), Fail> {
-    let table = Table::new([alarm(0)?, alarm(1)?].to_vec(rt.alloc())?, 2)?;
-    assert_eq!(rt; table.areas(), 2);
-    let alarms = table.alarms();
-    assert_eq!(rt; alarms.len(), 2);
-    assert_eq!(rt; alarms[1].area, 1);
-    assert_eq!(rt; alarms[1].tag.as_bytes(), b"T".as_slice());
-    assert_eq!(rt; alarms[1].text.as_bytes(), b"".as_slice());
+    let table = Table::new(alarms_of(rt.alloc(), &[0, 1])?, 2)?;
+    let same = has_its_rows(&table);
+    drop(table);
+    assert!(rt; same);
     Ok(())
 }
 

@@ -1,16 +1,17 @@
-//! A plain plant, and a measure beside it.
+//! A plant, and a measure beside it.
 
 use crate::told;
 use crate::watched::Watched;
-use alm_model::{Alarms, List, PlainPlant};
+use alm_model::{Alarms, List};
 use alm_state::Core;
 use alm_types::{Action, AlarmId, Request, Slot, Table};
 use std::alloc::{AllocError, Global};
 use std::test::Fail;
 
+/// A plant, and a measure of what is done to it.
 #[derive(Drop)]
-pub struct Beside {
-    pub plant: PlainPlant,
+pub struct Beside<P: Alarms + Drop> {
+    pub plant: P,
     pub measure: Watched,
 }
 
@@ -23,12 +24,17 @@ fn slot_of(want: &Action) -> u8 {
     }
 }
 
-impl Beside {
+impl<P: Alarms + Drop> Beside<P> {
     pub fn new(alloc: Global, table: &Table) -> Result<Self, AllocError> {
         Ok(Beside {
-            plant: PlainPlant::new(alloc, table)?,
+            plant: P::new(alloc, table)?,
             measure: Watched::new(alloc, table)?,
         })
+    }
+
+    /// Goes on with another measure.
+    pub fn go_on_with(&mut self, measure: Watched) {
+        self.measure = measure;
     }
 
     /// A measure that is made of what the plant tells.

@@ -4,8 +4,9 @@ ghost use Rattle.std.specs.Prelude.{◌<◌};
 
 use crate::beside::Beside;
 use crate::tables::table;
-use alm_model::Alarms;
-use alm_types::{Action, AlarmId, Moment, Reading};
+use alm_model::{Alarms, PlainPlant};
+use alm_types::{Action, AlarmId, Moment, Reading, Table};
+use std::alloc::{AllocError, Global};
 use std::test::Fail;
 
 const ACTIONS: u32 = 10_000;
@@ -59,39 +60,103 @@ fn action(drawn: u64, now: Moment) -> Result<Action, Fail> {
     })
 }
 
-#[test]
-fn drawn_actions_are_measured_as_a_plain_plant_does(rt: HostRuntime) -> Result<(), Fail> {
-    let alloc = rt.alloc();
-    let table = table(alloc).ok_or("table")?;
-    let mut beside = Beside::new(alloc, &table)?;
+/// What was seen: how many actions were accepted, how often there was a flood in the last area, and how often an alarm that chattered.
+#[derive(Clone, Copy)]
+struct Seen {
+    accepted: u32,
+    floods: u32,
+    chattering: u32,
+}
+
+/// Notes what is seen after an action.
+fn note<P: Alarms + Drop>(
+    alloc: Global,
+    beside: &Beside<P>,
+    seen: &mut Seen,
+) -> Result<(), AllocError> {
+    if let Some((_window, true)) = beside.measure.window(2) {
+        seen.floods = seen.floods.wrapping_add(1);
+    }
+    if beside.measure.chattering(alloc)?.len() > 0 {
+        seen.chattering = seen.chattering.wrapping_add(1);
+    }
+    Ok(())
+}
+
+/// Goes on with a copy of the measure after each 500 actions, and with one that is made of lists after each 700.
+fn replace<P: Alarms + Drop>(
+    alloc: Global,
+    table: &Table,
+    beside: &mut Beside<P>,
+    accepted: u32,
+) -> Result<(), Fail> {
+    if accepted % 500 == 0 {
+        let copy = beside.measure.copy(alloc)?;
+        beside.go_on_with(copy);
+    }
+    if accepted % 700 == 0 {
+        let made = beside.made(alloc, table).ok_or("lists")?;
+        beside.go_on_with(made);
+    }
+    Ok(())
+}
+
+/// Does a drawn action, if it is accepted: whether all that is measured then is the plant's.
+fn draw<P: Alarms + Drop>(
+    alloc: Global,
+    table: &Table,
+    beside: &mut Beside<P>,
+    seed: u64,
+    seen: &mut Seen,
+) -> Result<bool, Fail> {
+    let action = action(seed, beside.plant.now())?;
+    if !beside.act(action)? {
+        return Ok(true);
+    }
+    seen.accepted = seen.accepted.wrapping_add(1);
+    let same = beside.is_same(alloc)?;
+    note(alloc, beside, seen)?;
+    replace(alloc, table, beside, seen.accepted)?;
+    Ok(same)
+}
+
+/// Draws until so many actions are accepted: what was seen, or an error where something else is measured.
+fn draw_all<P: Alarms + Drop>(
+    alloc: Global,
+    table: &Table,
+    beside: &mut Beside<P>,
+) -> Result<Seen, Fail> {
     let mut seed = 88172645463325252;
-    let mut accepted = 0u32;
-    let mut floods = 0u32;
-    let mut chattering = 0u32;
-    for turn in 0..50_000u32 {
+    let mut seen = Seen {
+        accepted: 0,
+        floods: 0,
+        chattering: 0,
+    };
+    for _turn in 0..50_000u32 {
         seed = random(seed);
-        let action = action(seed, beside.plant.now())?;
-        if accepted == ACTIONS || !beside.act(action)? {
-            continue;
-        }
-        accepted = accepted.wrapping_add(1);
-        assert!(rt;
-            beside.is_same(alloc)?,
-            "after action {accepted}, turn {turn}"
-        );
-        if let Some((_window, true)) = beside.measure.window(2) {
-            floods = floods.wrapping_add(1);
-        }
-        if beside.measure.chattering(alloc)?.len() > 0 {
-            chattering = chattering.wrapping_add(1);
-        }
-        if accepted % 500 == 0 {
-            beside.measure = beside.measure.copy(alloc)?;
-        }
-        if accepted % 700 == 0 {
-            beside.measure = beside.made(alloc, &table).ok_or("lists")?;
+        if seen.accepted < ACTIONS && !draw(alloc, table, beside, seed, &mut seen)? {
+            return Err("another measure".into());
         }
     }
+    Ok(seen)
+}
+
+/// The same on a new plain plant.
+fn draw_on_new(alloc: Global) -> Result<Seen, Fail> {
+    let table = table(alloc).ok_or("table")?;
+    let mut beside = Beside::<PlainPlant>::new(alloc, &table)?;
+    let seen = draw_all(alloc, &table, &mut beside);
+    drop(beside);
+    seen
+}
+
+#[test]
+fn drawn_actions_are_measured_as_a_plain_plant_does(rt: HostRuntime) -> Result<(), Fail> {
+    let Seen {
+        accepted,
+        floods,
+        chattering,
+    } = draw_on_new(rt.alloc())?;
     assert_eq!(rt; accepted, ACTIONS);
     assert!(rt;
         floods > 100 && floods < 9_900,

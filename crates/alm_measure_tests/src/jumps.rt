@@ -8,9 +8,13 @@ use std::test::Fail;
 
 const LAST_MOMENT: u64 = (1 << 40) - 1;
 
+/// A new measure.
+fn new_measure(alloc: Global) -> Result<Watched, Fail> {
+    Ok(Watched::new(alloc, &table(alloc).ok_or("table")?)?)
+}
+
 /// Alarm 0 is annunciated once at 1401, twice at 1941 and four times at 2000, where the clock then stands.
-fn seven_annunciations(alloc: Global) -> Result<Watched, Fail> {
-    let mut measure = Watched::new(alloc, &table(alloc).ok_or("table")?)?;
+fn annunciate_seven_times(measure: &mut Watched) -> Result<(), Fail> {
     for (moment, times) in [(1401, 1), (1941, 2), (2000, 4)] {
         measure.advance(Moment::new(moment).ok_or("moment")?);
         for _time in 0..times {
@@ -18,7 +22,7 @@ fn seven_annunciations(alloc: Global) -> Result<Watched, Fail> {
         }
         measure.settle();
     }
-    Ok(measure)
+    Ok(())
 }
 
 /// The annunciations of each age, as far as there are any: the age, and how many.
@@ -33,75 +37,120 @@ fn ages(alloc: Global, measure: &Watched) -> Result<Vec<(u32, u64)>, Fail> {
     Ok(found)
 }
 
+/// A jump behind seven annunciations: where it goes, the ages that it leaves, the window, and whether the alarm still chatters.
+type Jump<'a> = (u64, &'a [(u32, u64)], u64, bool);
+
+/// The ages before the jump.
+const BEFORE: [(u32, u64); 3] = [(0, 4), (59, 2), (599, 1)];
+
+/// Whether a jump leaves of seven annunciations what it should, and one more is counted then.
+fn leaves(
+    alloc: Global,
+    measure: &mut Watched,
+    (to, wanted, window, chatters): Jump<'_>,
+) -> Result<bool, Fail> {
+    annunciate_seven_times(measure)?;
+    let before = ages(alloc, measure)?.as_slice() == BEFORE.as_slice();
+    let moved = measure.advance(Moment::new(to).ok_or("moment")?);
+    measure.settle();
+    let left = ages(alloc, measure)?.as_slice() == wanted
+        && measure.window(0) == Some((window, false))
+        && measure.window(1) == Some((0, false));
+    let chattering = measure.chattering(alloc)?.len() == 1;
+    let counted = measure.annunciated(0)
+        && measure.age(0, 0) == Some(1)
+        && measure.window(0) == Some((window.wrapping_add(1), false));
+    Ok(before && moved && left && chattering == chatters && counted)
+}
+
+const JUMPS: [Jump<'static>; 9] = [
+    (2001, &[(1, 4), (60, 2)], 6, true),
+    (2059, &[(59, 4), (118, 2)], 6, true),
+    (2060, &[(60, 4), (119, 2)], 6, false),
+    (2540, &[(540, 4), (599, 2)], 6, false),
+    (2541, &[(541, 4)], 4, false),
+    (2599, &[(599, 4)], 4, false),
+    (2600, &[], 0, false),
+    (2601, &[], 0, false),
+    (LAST_MOMENT, &[], 0, false),
+];
+
+/// The same of a new measure.
+fn leaves_of_new(alloc: Global, row: Jump<'_>) -> Result<bool, Fail> {
+    let mut measure = new_measure(alloc)?;
+    let same = leaves(alloc, &mut measure, row);
+    drop(measure);
+    same
+}
+
 #[test]
 fn a_jump_leaves_what_is_less_than_600_seconds_old(rt: HostRuntime) -> Result<(), Fail> {
-    let alloc = rt.alloc();
-    for (to, wanted, window, chatters) in [
-        (2001, [(1, 4), (60, 2)].as_slice(), 6, true),
-        (2059, [(59, 4), (118, 2)].as_slice(), 6, true),
-        (2060, [(60, 4), (119, 2)].as_slice(), 6, false),
-        (2540, [(540, 4), (599, 2)].as_slice(), 6, false),
-        (2541, [(541, 4)].as_slice(), 4, false),
-        (2599, [(599, 4)].as_slice(), 4, false),
-        (2600, [].as_slice(), 0, false),
-        (2601, [].as_slice(), 0, false),
-        (LAST_MOMENT, [].as_slice(), 0, false),
-    ] {
-        let mut measure = seven_annunciations(alloc)?;
-        assert_eq!(rt;
-            ages(alloc, &measure)?.as_slice(),
-            [(0, 4), (59, 2), (599, 1)].as_slice()
-        );
-        assert!(rt; measure.advance(Moment::new(to).ok_or("moment")?));
-        measure.settle();
-        assert_eq!(rt; ages(alloc, &measure)?.as_slice(), wanted, "to {to}");
-        assert_eq!(rt; measure.window(0), Some((window, false)), "to {to}");
-        assert_eq!(rt; measure.window(1), Some((0, false)), "to {to}");
-        let chattering = measure.chattering(alloc)?;
-        assert_eq!(rt; chattering.len() == 1, chatters, "to {to}");
-        assert!(rt; measure.annunciated(0));
-        assert_eq!(rt; measure.age(0, 0), Some(1), "to {to}");
-        assert_eq!(rt; measure.window(0), Some((window + 1, false)), "to {to}");
+    for row in JUMPS {
+        let same = leaves_of_new(rt.alloc(), row)?;
+        assert!(rt; same, "to {}", row.0);
     }
     Ok(())
+}
+
+/// Whether a second passes with one annunciation, and the window of the last 600 seconds is counted.
+fn passes(measure: &mut Watched, second: u64) -> Result<bool, Fail> {
+    let moved = measure.advance(Moment::new(second).ok_or("moment")?);
+    let annunciated = measure.annunciated(3);
+    measure.settle();
+    let window = second.min(600);
+    Ok(moved && annunciated && measure.window(1) == Some((window, window > 10)))
+}
+
+/// The first second of an hour that doesn't; or 3600.
+fn first_wrong(measure: &mut Watched) -> Result<u64, Fail> {
+    for second in 1..3600u64 {
+        if !passes(measure, second)? {
+            return Ok(second);
+        }
+    }
+    Ok(3600)
+}
+
+/// Whether each age has one annunciation, and the last moments are the last three seconds.
+fn is_even(measure: &Watched) -> bool {
+    let mut even = true;
+    for age in 0..600 {
+        even = even && measure.age(1, age) == Some(1);
+    }
+    match measure.moments(3) {
+        [last, before, first] => {
+            let seconds = (last.seconds(), before.seconds(), first.seconds());
+            even && seconds == (3599, 3598, 3597)
+        }
+        _ => false,
+    }
 }
 
 #[test]
 fn each_second_of_an_hour_forgets_one_second(rt: HostRuntime) -> Result<(), Fail> {
-    let alloc = rt.alloc();
-    let mut measure = Watched::new(alloc, &table(alloc).ok_or("table")?)?;
-    for second in 1..3600u64 {
-        assert!(rt; measure.advance(Moment::new(second).ok_or("moment")?));
-        assert!(rt; measure.annunciated(3));
-        measure.settle();
-        let window = second.min(600);
-        assert_eq!(rt;
-            measure.window(1),
-            Some((window, window > 10)),
-            "at {second}"
-        );
-    }
-    for age in 0..600 {
-        assert_eq!(rt; measure.age(1, age), Some(1));
-    }
-    assert!(rt;
-        measure
-            .moments(3)
-            .iter()
-            .map(|m| m.seconds())
-            .eq([3599, 3598, 3597])
-    );
+    let mut measure = new_measure(rt.alloc())?;
+    let wrong = first_wrong(&mut measure);
+    let even = is_even(&measure);
+    drop(measure);
+    assert_eq!(rt; wrong?, 3600);
+    assert!(rt; even);
     Ok(())
+}
+
+/// Whether calls out of their conditions weren't made.
+fn refuses(measure: &mut Watched) -> bool {
+    !measure.annunciated(6)
+        && !measure.advance(Moment::start())
+        && measure.window(3).is_none()
+        && measure.age(0, 600).is_none()
+        && measure.moments(6).is_empty()
 }
 
 #[test]
 fn calls_out_of_their_conditions_were_not_made(rt: HostRuntime) -> Result<(), Fail> {
-    let alloc = rt.alloc();
-    let mut measure = Watched::new(alloc, &table(alloc).ok_or("table")?)?;
-    assert!(rt; !measure.annunciated(6));
-    assert!(rt; !measure.advance(Moment::start()));
-    assert_eq!(rt; measure.window(3), None);
-    assert_eq!(rt; measure.age(0, 600), None);
-    assert_eq!(rt; measure.moments(6).len(), 0);
+    let mut measure = new_measure(rt.alloc())?;
+    let refused = refuses(&mut measure);
+    drop(measure);
+    assert!(rt; refused);
     Ok(())
 }

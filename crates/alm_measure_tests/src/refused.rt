@@ -3,31 +3,61 @@
 
 use crate::tables::table;
 use crate::watched::Watched;
-use alm_types::Moment;
+use alm_types::{Moment, Table};
+use std::alloc::{AllocError, Global};
 use std::test::Fail;
+
+/// The table of the tests, tried twice.
+fn table_again(alloc: Global) -> Option<Table> {
+    match table(alloc) {
+        Some(rows) => Some(rows),
+        None => table(alloc),
+    }
+}
+
+/// A new measure, tried twice.
+fn new_again(alloc: Global, rows: &Table) -> Result<Watched, AllocError> {
+    match Watched::new(alloc, rows) {
+        Ok(measure) => Ok(measure),
+        Err(_) => Watched::new(alloc, rows),
+    }
+}
+
+/// A copy, tried twice.
+fn copy_again(alloc: Global, measure: &Watched) -> Result<Watched, AllocError> {
+    match measure.copy(alloc) {
+        Ok(copy) => Ok(copy),
+        Err(_) => measure.copy(alloc),
+    }
+}
+
+/// Whether a copy has what the measure has, and goes on without it.
+fn is_apart(measure: &Watched, copy: &mut Watched) -> bool {
+    copy.window(2) == Some((1, false))
+        && copy.age(2, 0) == Some(1)
+        && copy.moments(4).len() == 1
+        && copy.annunciated(5)
+        && copy.window(2) == Some((2, false))
+        && measure.window(2) == Some((1, false))
+        && measure.moments(5).is_empty()
+}
+
+/// The same of a measure with one annunciation, and a copy of it.
+fn is_copied(alloc: Global, measure: &mut Watched) -> Result<bool, Fail> {
+    let moved = measure.advance(Moment::new(1000).ok_or("moment")?);
+    let annunciated = measure.annunciated(4);
+    let mut copy = copy_again(alloc, measure)?;
+    let apart = is_apart(measure, &mut copy);
+    drop(copy);
+    Ok(moved && annunciated && apart)
+}
 
 #[test]
 fn a_measure_that_cannot_be_copied_stays_as_it_is(rt: HostRuntime) -> Result<(), Fail> {
-    let rows = match table(rt.alloc()) {
-        Some(rows) => rows,
-        None => table(rt.alloc()).ok_or("table")?,
-    };
-    let mut measure = match Watched::new(rt.alloc(), &rows) {
-        Ok(measure) => measure,
-        Err(_) => Watched::new(rt.alloc(), &rows)?,
-    };
-    assert!(rt; measure.advance(Moment::new(1000).ok_or("moment")?));
-    assert!(rt; measure.annunciated(4));
-    let mut copy = match measure.copy(rt.alloc()) {
-        Ok(copy) => copy,
-        Err(_) => measure.copy(rt.alloc())?,
-    };
-    assert_eq!(rt; copy.window(2), Some((1, false)));
-    assert_eq!(rt; copy.age(2, 0), Some(1));
-    assert_eq!(rt; copy.moments(4).len(), 1);
-    assert!(rt; copy.annunciated(5));
-    assert_eq!(rt; copy.window(2), Some((2, false)));
-    assert_eq!(rt; measure.window(2), Some((1, false)));
-    assert_eq!(rt; measure.moments(5).len(), 0);
+    let rows = table_again(rt.alloc()).ok_or("table")?;
+    let mut measure = new_again(rt.alloc(), &rows)?;
+    let copied = is_copied(rt.alloc(), &mut measure);
+    drop(measure);
+    assert!(rt; copied?);
     Ok(())
 }

@@ -1,91 +1,153 @@
 //! The worked rows of floods and of chattering alarms.
 
 use crate::beside::Beside;
+use crate::rows::Step::{Chatter, Clock, Moments, Same, Values, Window};
 use crate::tables::table;
+use alm_model::{Alarms, PlainPlant};
 use alm_types::{Action, AlarmId, Moment, Reading};
-use std::process::Abort;
+use std::alloc::Global;
 use std::test::Fail;
 
-/// Moves the clock.
-fn clock<R: Abort>(rt: &R, beside: &mut Beside, moment: u64) -> Result<(), Fail> {
-    let moment = Moment::new(moment).ok_or("moment")?;
-    assert!(rt; beside.act(Action::Clock(moment))?);
-    Ok(())
+/// What is done, or what is measured then of the first area or of alarm 0.
+#[derive(Clone, Copy)]
+enum Step<'a> {
+    /// The clock moves.
+    Clock(u64),
+    /// Values of alarm 0 come in, each of which changes its condition.
+    Values(&'a [i64]),
+    /// The window, and whether there is a flood.
+    Window(u64, bool),
+    /// The alarms that chatter.
+    Chatter(&'a [u32]),
+    /// The last moments.
+    Moments(&'a [u64]),
+    /// All that is measured is the plant's.
+    Same,
 }
 
-/// Brings in values of alarm 0, each of which changes its condition.
-fn values<R: Abort>(rt: &R, beside: &mut Beside, values: &[i64]) -> Result<(), Fail> {
+const ROWS: [(&str, &[Step<'static>]); 3] = [
+    (
+        "A flood begins above 10 and ends below 5",
+        &[
+            Clock(1000),
+            Values(&[800, 700, 800, 700, 800, 700, 800, 700, 800, 700, 800, 700]),
+            Clock(1100),
+            Values(&[800, 700]),
+            Clock(1200),
+            Values(&[800, 700, 800, 700, 800]),
+            Window(10, false),
+            Values(&[700, 800]),
+            Window(11, true),
+            Clock(1599),
+            Window(11, true),
+            Clock(1600),
+            Window(5, true),
+            Clock(1700),
+            Window(4, false),
+            Same,
+        ],
+    ),
+    (
+        "Three annunciations within a minute chatter",
+        &[
+            Clock(1000),
+            Values(&[800, 700]),
+            Clock(1030),
+            Values(&[800, 700]),
+            Clock(1060),
+            Values(&[800]),
+            Chatter(&[]),
+            Moments(&[1060, 1030, 1000]),
+        ],
+    ),
+    (
+        "Chattering ends a minute after the first of three",
+        &[
+            Clock(1000),
+            Clock(1001),
+            Values(&[800, 700]),
+            Clock(1030),
+            Values(&[800, 700]),
+            Clock(1060),
+            Values(&[800]),
+            Chatter(&[0]),
+            Clock(1061),
+            Chatter(&[]),
+        ],
+    ),
+];
+
+/// Whether each of these values is accepted.
+fn are_accepted<P: Alarms + Drop>(beside: &mut Beside<P>, values: &[i64]) -> Result<bool, Fail> {
     for value in values {
         let value = Reading::new(*value).ok_or("reading")?;
-        assert!(rt; beside.act(Action::Value(AlarmId(0), value))?);
+        if !beside.act(Action::Value(AlarmId(0), value))? {
+            return Ok(false);
+        }
     }
-    Ok(())
+    Ok(true)
+}
+
+/// Whether the moments are these seconds.
+fn are_seconds(moments: &[Moment], wanted: &[u64]) -> bool {
+    if moments.len() != wanted.len() {
+        return false;
+    }
+    for (moment, seconds) in moments.iter().zip(wanted) {
+        if moment.seconds() != *seconds {
+            return false;
+        }
+    }
+    true
+}
+
+/// Whether a step goes as it should.
+fn goes<P: Alarms + Drop>(
+    alloc: Global,
+    beside: &mut Beside<P>,
+    step: &Step<'_>,
+) -> Result<bool, Fail> {
+    Ok(match step {
+        Clock(moment) => {
+            let moment = Moment::new(*moment).ok_or("moment")?;
+            beside.act(Action::Clock(moment))?
+        }
+        Values(values) => are_accepted(beside, values)?,
+        Window(window, flood) => beside.measure.window(0) == Some((*window, *flood)),
+        Chatter(alarms) => beside.measure.chattering(alloc)?.as_slice() == *alarms,
+        Moments(wanted) => are_seconds(beside.measure.moments(0), wanted),
+        Same => beside.is_same(alloc)?,
+    })
+}
+
+/// The first step of a row that doesn't go as it should.
+fn first_wrong<P: Alarms + Drop>(
+    alloc: Global,
+    beside: &mut Beside<P>,
+    row: &[Step<'_>],
+) -> Result<Option<usize>, Fail> {
+    for (place, step) in row.iter().enumerate() {
+        if !goes(alloc, beside, step)? {
+            return Ok(Some(place));
+        }
+    }
+    Ok(None)
+}
+
+/// The same on a new plain plant.
+fn first_wrong_of_new(alloc: Global, row: &[Step<'_>]) -> Result<Option<usize>, Fail> {
+    let table = table(alloc).ok_or("table")?;
+    let mut beside = Beside::<PlainPlant>::new(alloc, &table)?;
+    let found = first_wrong(alloc, &mut beside, row);
+    drop(beside);
+    found
 }
 
 #[test]
-fn a_flood_begins_above_10_and_ends_below_5(rt: HostRuntime) -> Result<(), Fail> {
-    let mut beside = Beside::new(rt.alloc(), &table(rt.alloc()).ok_or("table")?)?;
-    clock(&rt, &mut beside, 1000)?;
-    for _time in 0..6 {
-        values(&rt, &mut beside, &[800, 700])?;
+fn each_row(rt: HostRuntime) -> Result<(), Fail> {
+    for (name, row) in ROWS {
+        let wrong = first_wrong_of_new(rt.alloc(), row)?;
+        assert_eq!(rt; wrong, None, "{name}");
     }
-    clock(&rt, &mut beside, 1100)?;
-    values(&rt, &mut beside, &[800, 700])?;
-    clock(&rt, &mut beside, 1200)?;
-    values(&rt, &mut beside, &[800, 700, 800, 700, 800])?;
-    assert_eq!(rt; beside.measure.window(0), Some((10, false)));
-    values(&rt, &mut beside, &[700, 800])?;
-    assert_eq!(rt; beside.measure.window(0), Some((11, true)));
-    for (moment, window, flood) in [(1599, 11, true), (1600, 5, true), (1700, 4, false)] {
-        clock(&rt, &mut beside, moment)?;
-        assert_eq!(rt;
-            beside.measure.window(0),
-            Some((window, flood)),
-            "at {moment}"
-        );
-    }
-    assert!(rt; beside.is_same(rt.alloc())?);
-    Ok(())
-}
-
-#[test]
-fn three_annunciations_within_a_minute_chatter(rt: HostRuntime) -> Result<(), Fail> {
-    let alloc = rt.alloc();
-    let mut beside = Beside::new(alloc, &table(alloc).ok_or("table")?)?;
-    for (moment, pair) in [(1000, [800, 700]), (1030, [800, 700])] {
-        clock(&rt, &mut beside, moment)?;
-        values(&rt, &mut beside, &pair)?;
-    }
-    clock(&rt, &mut beside, 1060)?;
-    values(&rt, &mut beside, &[800])?;
-    assert_eq!(rt; beside.measure.chattering(alloc)?.as_slice(), [].as_slice());
-    assert!(rt;
-        beside
-            .measure
-            .moments(0)
-            .iter()
-            .map(|m| m.seconds())
-            .eq([1060, 1030, 1000])
-    );
-    Ok(())
-}
-
-#[test]
-fn chattering_ends_a_minute_after_the_first_of_three(rt: HostRuntime) -> Result<(), Fail> {
-    let alloc = rt.alloc();
-    let mut beside = Beside::new(alloc, &table(alloc).ok_or("table")?)?;
-    clock(&rt, &mut beside, 1000)?;
-    for (moment, pair) in [(1001, [800, 700]), (1030, [800, 700])] {
-        clock(&rt, &mut beside, moment)?;
-        values(&rt, &mut beside, &pair)?;
-    }
-    clock(&rt, &mut beside, 1060)?;
-    values(&rt, &mut beside, &[800])?;
-    assert_eq!(rt;
-        beside.measure.chattering(alloc)?.as_slice(),
-        [0].as_slice()
-    );
-    clock(&rt, &mut beside, 1061)?;
-    assert_eq!(rt; beside.measure.chattering(alloc)?.as_slice(), [].as_slice());
     Ok(())
 }

@@ -1,8 +1,8 @@
-//! What a plain plant tells of its measures, as lists.
+//! What a plant tells of its measures, as lists.
 
 ghost use Rattle.std.specs.Prelude.{◌≤◌, All, IfOk, sum};
 
-use alm_model::{Ages, Alarms, List, PlainPlant, Recent};
+use alm_model::{Ages, Alarms, List, Recent};
 use alm_types::AlarmId;
 use std::alloc::{AllocError, Global};
 
@@ -10,7 +10,7 @@ use std::alloc::{AllocError, Global};
 const MOST: u64 = 1000;
 
 /// The ages of an area.
-fn ages_of(plant: &PlainPlant, area: u32) -> Ages
+fn ages_of<P: Alarms>(plant: &P, area: u32) -> Ages
     ensures { sum result ≤ 600000 }
 {
     let mut counts = [0; 600];
@@ -23,7 +23,7 @@ fn ages_of(plant: &PlainPlant, area: u32) -> Ages
 }
 
 /// The ages of so many areas.
-pub fn ages(alloc: Global, plant: &PlainPlant, areas: u32) -> Result<Vec<Ages>, AllocError>
+pub fn ages<P: Alarms>(alloc: Global, plant: &P, areas: u32) -> Result<Vec<Ages>, AllocError>
     ensures { IfOk result (λ told. All (λ ages. sum ages ≤ 600000) told.items) }
 {
     let mut told = Vec::with_capacity(alloc, areas as usize)?;
@@ -34,7 +34,7 @@ pub fn ages(alloc: Global, plant: &PlainPlant, areas: u32) -> Result<Vec<Ages>, 
 }
 
 /// The flood flags of so many areas.
-pub fn floods(alloc: Global, plant: &PlainPlant, areas: u32) -> Result<Vec<bool>, AllocError> {
+pub fn floods<P: Alarms>(alloc: Global, plant: &P, areas: u32) -> Result<Vec<bool>, AllocError> {
     let mut told = Vec::with_capacity(alloc, areas as usize)?;
     for area in 0..areas {
         if plant.has_list(List::Area(area)) {
@@ -45,7 +45,11 @@ pub fn floods(alloc: Global, plant: &PlainPlant, areas: u32) -> Result<Vec<bool>
 }
 
 /// The last moments of so many alarms.
-pub fn moments(alloc: Global, plant: &PlainPlant, alarms: u32) -> Result<Vec<Recent>, AllocError> {
+pub fn moments<P: Alarms>(
+    alloc: Global,
+    plant: &P,
+    alarms: u32,
+) -> Result<Vec<Recent>, AllocError> {
     let mut told = Vec::with_capacity(alloc, alarms as usize)?;
     for number in 0..alarms {
         let moments = plant.moments(AlarmId(number));

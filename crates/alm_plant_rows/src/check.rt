@@ -1,116 +1,124 @@
 //! A check of a row.
 
 use crate::step::Step;
+use crate::want::Want;
 use alm_model::{Alarms, List, PlainPlant};
 use alm_plant::Plant;
 use alm_service::worked_table;
-use alm_types::{Action, AlarmId, Answer, Refusal, Request, Shown, Slot};
+use alm_types::{AlarmId, Answer, Refusal, Request, Shown, Slot, Table};
+use std::alloc::{AllocError, Global};
 use std::process::Abort;
 use std::test::Fail;
 
-/// A slot asks for an action: it is done, and counted, or nothing changes.
-fn ask<P: Alarms, R: Abort + AllocGlobal>(
-    rt: &R,
+/// A row: its name, and its steps on a new plant of the worked table.
+pub type Row = (&'static str, &'static [Step<'static>]);
+
+/// Whether what a slot wants is done, and counted, or refused as it should be, and nothing is counted.
+fn is_answered<P: Alarms>(
     plant: &mut P,
     slot: u8,
-    want: Action,
+    want: Want,
     wanted: Option<Refusal>,
-) -> Result<(), Fail> {
+) -> Result<bool, Fail> {
     let slot = Slot::new(slot).ok_or("slot")?;
+    let want = want.action()?;
     let before = plant.count();
-    match plant.check(&Request { slot, want }) {
+    Ok(match plant.check(&Request { slot, want }) {
         Ok(action) => {
-            assert_eq!(rt; wanted, None);
-            assert_eq!(rt; action, want);
             plant.apply(&action);
-            assert_eq!(rt; plant.count(), before + 1);
+            wanted.is_none() && action == want && plant.count() == before + 1
         }
-        Err(refusal) => {
-            assert_eq!(rt; wanted, Some(refusal));
-            assert_eq!(rt; plant.count(), before);
-        }
-    }
-    Ok(())
+        Err(refusal) => wanted == Some(refusal) && plant.count() == before,
+    })
 }
 
-/// What a plant shows of an alarm.
-fn shows<P: Alarms, R: Abort + AllocGlobal>(
-    rt: &R,
+/// Whether a plant shows this of an alarm.
+fn shows<P: Alarms>(
+    alloc: Global,
     plant: &P,
     alarm: u32,
     wanted: (Shown, bool, u8, Option<u64>),
-) -> Result<(), Fail> {
-    let row = plant.state(AlarmId(alarm)).ok_or("alarm")?;
-    let mut answer = Answer::new(rt.alloc());
+) -> bool {
+    let Some(row) = plant.state(AlarmId(alarm)) else {
+        return false;
+    };
+    let mut answer = Answer::new(alloc);
     row.report(&mut answer);
-    let shown = (answer.shown, answer.active, answer.flags, answer.until);
-    assert_eq!(rt; shown, wanted);
-    Ok(())
+    (answer.shown, answer.active, answer.flags, answer.until) == wanted
 }
 
-/// The alarms of a list.
-fn lists<P: Alarms, R: Abort + AllocGlobal>(
-    rt: &R,
+/// Whether an alarm has this priority and this setpoint.
+fn has_attributes<P: Alarms>(plant: &P, alarm: u32, wanted: (u8, i64)) -> bool {
+    match plant.attr(AlarmId(alarm)) {
+        Some(attr) => (attr.priority, attr.setpoint.value()) == wanted,
+        None => false,
+    }
+}
+
+/// Whether these are the alarms of a list.
+fn lists<P: Alarms>(
+    alloc: Global,
     plant: &P,
     list: List,
     wanted: &[u32],
-) -> Result<(), Fail> {
-    let mut out = Vec::with_capacity(rt.alloc(), plant.alarms())?;
-    assert!(rt; plant.has_list(list));
+) -> Result<bool, AllocError> {
+    if !plant.has_list(list) {
+        return Ok(false);
+    }
+    let mut out = Vec::with_capacity(alloc, plant.alarms())?;
     plant.fill(list, &mut out);
-    assert_eq!(rt; out.as_slice(), wanted);
-    Ok(())
+    Ok(out.as_slice() == wanted)
 }
 
-/// One step.
-fn take<P: Alarms, R: Abort + AllocGlobal>(
-    rt: &R,
-    plant: &mut P,
-    step: &Step<'_>,
-) -> Result<(), Fail> {
-    match step {
-        Step::Done(slot, want) => ask(rt, plant, *slot, *want, None)?,
-        Step::Refused(slot, want, refusal) => ask(rt, plant, *slot, *want, Some(*refusal))?,
+/// Whether an area has this window and this flag.
+fn has_window<P: Alarms>(plant: &P, area: u32, wanted: (u64, bool)) -> bool {
+    plant.has_list(List::Area(area)) && plant.window(area) == wanted
+}
+
+/// Whether a step goes as it should.
+fn goes<P: Alarms>(alloc: Global, plant: &mut P, step: &Step<'_>) -> Result<bool, Fail> {
+    Ok(match step {
+        Step::Done(slot, want) => is_answered(plant, *slot, *want, None)?,
+        Step::Refused(slot, want, refusal) => is_answered(plant, *slot, *want, Some(*refusal))?,
         Step::State(alarm, shown, active, flags, until) => {
-            shows(rt, plant, *alarm, (*shown, *active, *flags, *until))?;
+            shows(alloc, plant, *alarm, (*shown, *active, *flags, *until))
         }
         Step::Attributes(alarm, priority, setpoint) => {
-            let attr = plant.attr(AlarmId(*alarm)).ok_or("alarm")?;
-            assert_eq!(rt;
-                (attr.priority, attr.setpoint.value()),
-                (*priority, *setpoint)
-            );
+            has_attributes(plant, *alarm, (*priority, *setpoint))
         }
-        Step::NoAlarm(alarm) => assert!(rt; plant.state(AlarmId(*alarm)).is_none()),
-        Step::Listed(list, wanted) => lists(rt, plant, *list, wanted)?,
-        Step::NoList(list) => assert!(rt; !plant.has_list(*list)),
-        Step::Window(area, window, flood) => {
-            assert!(rt; plant.has_list(List::Area(*area)));
-            assert_eq!(rt; plant.window(*area), (*window, *flood));
-        }
-    }
-    Ok(())
+        Step::NoAlarm(alarm) => plant.state(AlarmId(*alarm)).is_none(),
+        Step::Listed(list, wanted) => lists(alloc, plant, *list, wanted)?,
+        Step::NoList(list) => !plant.has_list(*list),
+        Step::Window(area, window, flood) => has_window(plant, *area, (*window, *flood)),
+    })
 }
 
-/// Takes the steps of a row on a new plant, and on plants each of which is a copy of the one before.
-fn check_on<P: Alarms + Drop, R: Abort + AllocGlobal>(
-    rt: &R,
+/// The first step of a row that doesn't go as it should on a new plant, or on a copy of the plant before it.
+fn first_wrong<P: Alarms + Drop>(
+    alloc: Global,
+    table: &Table,
     row: &[Step<'_>],
-) -> Result<(), Fail> {
+) -> Result<Option<usize>, Fail> {
+    let mut plant = P::new(alloc, table)?;
+    let mut copy = P::new(alloc, table)?;
+    for (place, step) in row.iter().enumerate() {
+        copy = copy.copy(alloc)?;
+        if !goes(alloc, &mut plant, step)? || !goes(alloc, &mut copy, step)? {
+            return Ok(Some(place));
+        }
+    }
+    Ok(None)
+}
+
+/// Checks rows on each plant there is.
+pub fn check_all<R: Abort + AllocGlobal>(rt: &R, rows: &[Row]) -> Result<(), Fail> {
     let alloc = rt.alloc();
     let table = worked_table(alloc)?;
-    let mut plant = P::new(alloc, &table)?;
-    let mut copy = P::new(alloc, &table)?;
-    for step in row {
-        take(rt, &mut plant, step)?;
-        copy = copy.copy(alloc)?;
-        take(rt, &mut copy, step)?;
+    for (name, row) in rows {
+        let wrong = first_wrong::<PlainPlant>(alloc, &table, row)?;
+        assert_eq!(rt; wrong, None, "{name}");
+        let wrong = first_wrong::<Plant>(alloc, &table, row)?;
+        assert_eq!(rt; wrong, None, "{name}");
     }
     Ok(())
-}
-
-/// Checks a row on each plant there is.
-pub fn check<R: Abort + AllocGlobal>(rt: &R, row: &[Step<'_>]) -> Result<(), Fail> {
-    check_on::<PlainPlant, R>(rt, row)?;
-    check_on::<Plant, R>(rt, row)
 }

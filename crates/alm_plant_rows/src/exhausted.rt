@@ -1,50 +1,50 @@
 //! A plant that has had all its actions.
 
-use crate::actions::{priority, setpoint};
+use crate::want::Want;
 use alm_model::{Alarms, PlainPlant, PlantParts};
 use alm_service::worked_table;
-use alm_types::{Action, Moment, Refusal, Request, Slot};
+use alm_types::{Refusal, Request, Slot};
+use std::alloc::Global;
 use std::test::Fail;
 
-#[test]
-fn a_full_plant_refuses_the_clock_last_for_want_of_numbers(rt: HostRuntime) -> Result<(), Fail> {
-    let alloc = rt.alloc();
+/// What each slot wants of such a plant, and why it is refused: for want of numbers last.
+const REFUSED: [(u8, Want, Refusal); 8] = [
+    (17, Want::Clock(5), Refusal::Exhausted),
+    (17, Want::Clock(0), Refusal::ClockBack),
+    (0, Want::SetPriority(0, 2), Refusal::Exhausted),
+    (0, Want::SetPriority(0, 1), Refusal::SameValue),
+    (0, Want::SetPriority(0, 5), Refusal::PriorityRange),
+    (0, Want::SetPriority(4, 5), Refusal::NoSuchAlarm),
+    (0, Want::SetSetpoint(0, 900), Refusal::Exhausted),
+    (0, Want::SetSetpoint(0, 800), Refusal::SameValue),
+];
+
+/// A plant of the worked table that has had all its actions.
+fn full<P: Alarms>(alloc: Global) -> Result<P, Fail> {
     let mut parts = PlantParts::new(alloc, &worked_table(alloc)?)?;
     parts.count = 1 << 48;
-    let plant = PlainPlant::build(alloc, parts)?;
-    let slot = Slot::new(17).ok_or("slot")?;
-    let later = Action::Clock(Moment::new(5).ok_or("moment")?);
-    let now = Action::Clock(Moment::start());
-    assert_eq!(rt;
-        plant.check(&Request { slot, want: later }).err(),
-        Some(Refusal::Exhausted)
-    );
-    assert_eq!(rt;
-        plant.check(&Request { slot, want: now }).err(),
-        Some(Refusal::ClockBack)
-    );
-    Ok(())
+    Ok(P::build(alloc, parts)?)
+}
+
+/// The first of them that such a plant answers otherwise.
+fn first_wrong<P: Alarms + Drop>(alloc: Global) -> Result<Option<Want>, Fail> {
+    let plant = full::<P>(alloc)?;
+    for (slot, want, refusal) in REFUSED {
+        let slot = Slot::new(slot).ok_or("slot")?;
+        let request = Request {
+            slot,
+            want: want.action()?,
+        };
+        if plant.check(&request).err() != Some(refusal) {
+            return Ok(Some(want));
+        }
+    }
+    Ok(None)
 }
 
 #[test]
-fn a_full_plant_refuses_priorities_and_setpoints_last_for_want_of_numbers(
-    rt: HostRuntime,
-) -> Result<(), Fail> {
-    let alloc = rt.alloc();
-    let mut parts = PlantParts::new(alloc, &worked_table(alloc)?)?;
-    parts.count = 1 << 48;
-    let plant = PlainPlant::build(alloc, parts)?;
-    let slot = Slot::new(0).ok_or("slot")?;
-    let rows = [
-        (priority(0, 2), Refusal::Exhausted),
-        (priority(0, 1), Refusal::SameValue),
-        (priority(0, 5), Refusal::PriorityRange),
-        (priority(4, 5), Refusal::NoSuchAlarm),
-        (setpoint(0, 900)?, Refusal::Exhausted),
-        (setpoint(0, 800)?, Refusal::SameValue),
-    ];
-    for (want, refusal) in rows {
-        assert_eq!(rt; plant.check(&Request { slot, want }).err(), Some(refusal));
-    }
+fn a_full_plant_refuses_last_for_want_of_numbers(rt: HostRuntime) -> Result<(), Fail> {
+    let wrong = first_wrong::<PlainPlant>(rt.alloc())?;
+    assert!(rt; wrong.is_none(), "{wrong:?}");
     Ok(())
 }

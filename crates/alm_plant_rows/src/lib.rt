@@ -5,8 +5,6 @@
 #![tactic(auto)]
 
 #[cfg(test)]
-mod actions;
-#[cfg(test)]
 mod changes;
 #[cfg(test)]
 mod check;
@@ -20,3 +18,5 @@ mod rows;
 mod stamps;
 #[cfg(test)]
 mod step;
+#[cfg(test)]
+mod want;

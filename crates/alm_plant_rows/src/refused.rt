@@ -1,36 +1,36 @@
 //! Want of memory: run with each allocation refused in turn (`rt try --test --fail-alloc N`), this passes. One is refused at
 //! most, so what was refused is made the second time: a maker that always gives up doesn't pass.
 
-use crate::actions::value;
+use crate::want::Want;
 use alm_model::{Alarms, PlainPlant, PlantParts};
 use alm_service::worked_table;
 use alm_types::{AlarmId, Table};
 use std::alloc::{AllocError, Global};
+use std::process::Abort;
 use std::test::Fail;
 
 /// A plant of a table, by its parts.
-fn built(alloc: Global, table: &Table) -> Result<PlainPlant, AllocError> {
-    PlainPlant::build(alloc, PlantParts::new(alloc, table)?)
+fn built<P: Alarms>(alloc: Global, table: &Table) -> Result<P, AllocError> {
+    P::build(alloc, PlantParts::new(alloc, table)?)
 }
 
-#[test]
-fn a_plant_is_made_whole_or_not_at_all(rt: HostRuntime) -> Result<(), Fail> {
+fn is_made_whole<P: Alarms + Drop, R: Abort + AllocGlobal>(rt: &R) -> Result<(), Fail> {
     let alloc = rt.alloc();
     let table = match worked_table(alloc) {
         Ok(table) => table,
         Err(_) => worked_table(alloc)?,
     };
-    let parts = match built(alloc, &table) {
+    let parts = match built::<P>(alloc, &table) {
         Ok(plant) => plant,
-        Err(_) => built(alloc, &table)?,
+        Err(_) => built::<P>(alloc, &table)?,
     };
     assert_eq!(rt; parts.alarms(), 4);
     assert_eq!(rt; parts.count(), 0);
-    let mut plant = match PlainPlant::new(alloc, &table) {
+    let mut plant = match P::new(alloc, &table) {
         Ok(plant) => plant,
-        Err(_) => PlainPlant::new(alloc, &table)?,
+        Err(_) => P::new(alloc, &table)?,
     };
-    let come = value(0, 800)?;
+    let come = Want::Value(0, 800).action()?;
     assert!(rt; plant.admits(&come).is_ok());
     plant.apply(&come);
     let copy = match plant.copy(alloc) {
@@ -42,4 +42,9 @@ fn a_plant_is_made_whole_or_not_at_all(rt: HostRuntime) -> Result<(), Fail> {
     assert_eq!(rt; plant.count(), 1);
     assert_eq!(rt; plant.moments(AlarmId(0)).len(), 1);
     Ok(())
+}
+
+#[test]
+fn a_plant_is_made_whole_or_not_at_all(rt: HostRuntime) -> Result<(), Fail> {
+    is_made_whole::<PlainPlant, _>(&rt)
 }

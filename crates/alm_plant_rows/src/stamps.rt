@@ -1,9 +1,10 @@
 //! Stamps, and what goes by them.
 
-use crate::actions::{clock, value};
+use crate::want::Want;
 use alm_model::{Alarms, List, PlainPlant};
-use alm_types::{Action, AlarmId, Attr, Kind, Request, Settings, Slot, Table};
+use alm_types::{AlarmId, Attr, Kind, Request, Settings, Slot, Table};
 use std::alloc::Global;
+use std::process::Abort;
 use std::test::Fail;
 
 /// Alarms of one area that come at 1, go at 0 and may be shelved for an hour.
@@ -18,16 +19,17 @@ const ALARM: Settings = Settings {
 };
 
 /// A plant of three such alarms, at 1000.
-fn three(alloc: Global) -> Result<PlainPlant, Fail> {
+fn three<P: Alarms + Drop>(alloc: Global) -> Result<P, Fail> {
     let alarms = vec![in alloc; Attr::new(ALARM, b"T", b"")?; 3]?;
-    let mut plant = PlainPlant::new(alloc, &Table::new(alarms, 1)?)?;
-    ask(&mut plant, 17, clock(1000)?)?;
+    let mut plant = P::new(alloc, &Table::new(alarms, 1)?)?;
+    ask(&mut plant, 17, Want::Clock(1000))?;
     Ok(plant)
 }
 
-/// Asks for an action at a slot.
-fn ask<P: Alarms>(plant: &mut P, slot: u8, want: Action) -> Result<(), Fail> {
+/// Asks at a slot.
+fn ask<P: Alarms>(plant: &mut P, slot: u8, want: Want) -> Result<(), Fail> {
     let slot = Slot::new(slot).ok_or("slot")?;
+    let want = want.action()?;
     let action = plant.check(&Request { slot, want })?;
     plant.apply(&action);
     Ok(())
@@ -38,17 +40,16 @@ fn stamp<P: Alarms>(plant: &P, alarm: u32) -> Option<u64> {
     plant.state(AlarmId(alarm)).map(|row| row.stamp)
 }
 
-#[test]
-fn three_shelvings_end_by_deadline(rt: HostRuntime) -> Result<(), Fail> {
+fn shelvings<P: Alarms + Drop, R: Abort + AllocGlobal>(rt: &R) -> Result<(), Fail> {
     let alloc = rt.alloc();
-    let mut plant = three(alloc)?;
+    let mut plant = three::<P>(alloc)?;
     for alarm in 0..3_u32 {
-        ask(&mut plant, 16, value(alarm, 1)?)?;
+        ask(&mut plant, 16, Want::Value(alarm, 1))?;
     }
     for (alarm, seconds) in [(0, 300), (1, 20), (2, 150)] {
-        ask(&mut plant, 0, Action::Shelve(AlarmId(alarm), seconds))?;
+        ask(&mut plant, 0, Want::Shelve(alarm, seconds))?;
     }
-    ask(&mut plant, 17, clock(2000)?)?;
+    ask(&mut plant, 17, Want::Clock(2000))?;
     let mut area = Vec::with_capacity(alloc, plant.alarms())?;
     assert!(rt; plant.has_list(List::Area(0)));
     plant.fill(List::Area(0), &mut area);
@@ -57,29 +58,42 @@ fn three_shelvings_end_by_deadline(rt: HostRuntime) -> Result<(), Fail> {
 }
 
 #[test]
-fn an_alarm_that_becomes_normal_has_no_stamp(rt: HostRuntime) -> Result<(), Fail> {
-    let mut plant = three(rt.alloc())?;
+fn three_shelvings_end_by_deadline(rt: HostRuntime) -> Result<(), Fail> {
+    shelvings::<PlainPlant, _>(&rt)
+}
+
+fn stamp_of_a_normal_alarm<P: Alarms + Drop, R: Abort + AllocGlobal>(rt: &R) -> Result<(), Fail> {
+    let mut plant = three::<P>(rt.alloc())?;
     assert_eq!(rt; stamp(&plant, 0), Some(0));
-    ask(&mut plant, 16, value(0, 1)?)?;
+    ask(&mut plant, 16, Want::Value(0, 1))?;
     assert_eq!(rt; stamp(&plant, 0), Some(1));
-    ask(&mut plant, 0, Action::Ack(AlarmId(0)))?;
+    ask(&mut plant, 0, Want::Ack(0))?;
     assert_eq!(rt; stamp(&plant, 0), Some(1));
-    ask(&mut plant, 16, value(0, 0)?)?;
+    ask(&mut plant, 16, Want::Value(0, 0))?;
     assert_eq!(rt; stamp(&plant, 0), Some(0));
     assert_eq!(rt; plant.next_stamp(), 2);
     Ok(())
 }
 
 #[test]
-fn a_second_flag_leaves_the_stamp_of_a_shelving(rt: HostRuntime) -> Result<(), Fail> {
-    let mut plant = three(rt.alloc())?;
-    ask(&mut plant, 0, Action::Shelve(AlarmId(2), 60))?;
-    ask(&mut plant, 0, Action::Shelve(AlarmId(1), 60))?;
+fn an_alarm_that_becomes_normal_has_no_stamp(rt: HostRuntime) -> Result<(), Fail> {
+    stamp_of_a_normal_alarm::<PlainPlant, _>(&rt)
+}
+
+fn stamp_of_a_shelving<P: Alarms + Drop, R: Abort + AllocGlobal>(rt: &R) -> Result<(), Fail> {
+    let mut plant = three::<P>(rt.alloc())?;
+    ask(&mut plant, 0, Want::Shelve(2, 60))?;
+    ask(&mut plant, 0, Want::Shelve(1, 60))?;
     assert_eq!(rt; stamp(&plant, 2), Some(1));
     assert_eq!(rt; stamp(&plant, 1), Some(2));
-    ask(&mut plant, 0, Action::Oos(AlarmId(2), true))?;
+    ask(&mut plant, 0, Want::Oos(2, true))?;
     assert_eq!(rt; stamp(&plant, 2), Some(1));
-    ask(&mut plant, 0, Action::Unshelve(AlarmId(2)))?;
+    ask(&mut plant, 0, Want::Unshelve(2))?;
     assert_eq!(rt; stamp(&plant, 2), Some(0));
     Ok(())
+}
+
+#[test]
+fn a_second_flag_leaves_the_stamp_of_a_shelving(rt: HostRuntime) -> Result<(), Fail> {
+    stamp_of_a_shelving::<PlainPlant, _>(&rt)
 }

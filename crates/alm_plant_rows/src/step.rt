@@ -1,15 +1,16 @@
 //! Steps of a row.
 
+use crate::want::Want;
 use alm_model::List;
-use alm_types::{Action, Refusal, Shown};
+use alm_types::{Refusal, Shown};
 
 /// What is asked of a plant, and what it answers.
 #[derive(Clone, Copy)]
 pub enum Step<'a> {
-    /// A slot's action is accepted.
-    Done(u8, Action),
-    /// A slot's action is refused.
-    Refused(u8, Action, Refusal),
+    /// A slot's want is accepted.
+    Done(u8, Want),
+    /// A slot's want is refused.
+    Refused(u8, Want, Refusal),
     /// What is shown of an alarm, whether it is active, its flags and the end of its shelving.
     State(u32, Shown, bool, u8, Option<u64>),
     /// The priority and the setpoint of an alarm.

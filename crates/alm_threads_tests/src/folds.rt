@@ -63,6 +63,24 @@ pub enum Accepted<'n> {
     Alone(Slot),
 }
 
+/// Whether a plant is that of the first so many actions of these that were accepted.
+fn is_plant_of<P: Alarms + Drop, Q: Alarms>(
+    alloc: Global,
+    plant: &Q,
+    table: &Table,
+    accepted: Accepted<'_>,
+    count: u64,
+) -> bool {
+    let wanted = match accepted {
+        Accepted::Noted(notes) => folded::<P>(alloc, table, notes, count),
+        Accepted::Alone(slot) => foretold::<P>(alloc, table, slot, count),
+    };
+    match wanted {
+        Some(wanted) => are_same(plant, &wanted),
+        None => false,
+    }
+}
+
 /// How many actions a device stands for, and whether it is the plant of as many that were accepted. `None` where it isn't opened.
 pub fn reopened<K: Store>(
     alloc: Global,
@@ -72,13 +90,6 @@ pub fn reopened<K: Store>(
 ) -> Option<(u64, bool)> {
     let store = K::open(alloc, disk).ok()?;
     let count = store.count();
-    let wanted = match accepted {
-        Accepted::Noted(notes) => folded::<PlainPlant>(alloc, table, notes, count),
-        Accepted::Alone(slot) => foretold::<PlainPlant>(alloc, table, slot, count),
-    };
-    let is_fold = match wanted {
-        Some(plant) => are_same(store.stored(), &plant),
-        None => false,
-    };
+    let is_fold = is_plant_of::<PlainPlant, _>(alloc, store.stored(), table, accepted, count);
     Some((count, is_fold))
 }

@@ -11,6 +11,7 @@ use alm_keeper::Keeper;
 use alm_rings::SlotReport;
 use alm_run::Storage;
 use alm_service::worked_table;
+use alm_store::Store;
 use alm_types::{Action, AlarmId, Moment, Reading, Shown};
 use std::alloc::Global;
 use std::sync::atomic::Ordering;
@@ -27,34 +28,72 @@ const ONE: SlotReport = SlotReport {
 };
 
 /// What is left of a run of scripts.
-#[derive(Drop)]
+#[derive(Clone, Copy, Debug, PartialEq, Eq)]
 struct Found {
     storage: Storage,
     count: u64,
-    slots: Vec<Option<SlotReport>>,
+    /// How many slots have a report, and those of two slots.
+    reports: usize,
+    slots: [Option<SlotReport>; 2],
     /// How often a step was wrong, and how often a bound was met.
     wrong: u64,
     late: u64,
 }
 
-/// Runs these steps over a device whose first commit is held, where it is, until another slot has gone on.
-fn play<R: Threads + Wait + Sync>(
+/// A run of steps: what is played, whether the first commit is held until another slot has gone on, and the slots whose reports are
+/// looked at.
+#[derive(Clone, Copy)]
+struct Row<'a> {
+    steps: &'a [(u8, Step)],
+    is_held: bool,
+    slots: [usize; 2],
+}
+
+/// The report of a slot.
+fn report_of(slots: &[Option<SlotReport>], slot: usize) -> Option<SlotReport> {
+    match slots.get(slot) {
+        Some(report) => *report,
+        None => None,
+    }
+}
+
+/// How many slots have a report.
+fn reports(slots: &[Option<SlotReport>]) -> usize {
+    let mut count = 0usize;
+    for slot in slots {
+        if slot.is_some() {
+            count = count.wrapping_add(1);
+        }
+    }
+    count
+}
+
+/// Runs a row's steps over a device.
+fn play_over<K: Store, R: Threads + Wait + Sync>(
     rt: &R,
     alloc: Global,
+    disk: K::Device,
     steps: &[(u8, Step)],
-    is_held: bool,
-) -> Option<Found> {
-    let table = worked_table(alloc).ok()?;
-    let notes = Arc::new(alloc, Notes::new(alloc, 0).ok()?).ok()?;
-    let gate = Arc::new(alloc, Gate::new(is_held)).ok()?;
+    gate: &Arc<Gate, Global>,
+    notes: &Arc<Notes, Global>,
+) -> Option<Left<K::Device>> {
     let Ok(slots) = all_slots(alloc) else {
         return None;
     };
-    let sources = scripts(alloc, &slots, steps, &gate, &notes).ok()?;
-    let disk = HeldDisk::new(formatted(alloc, &table)?, Arc::try_clone(&gate).ok()?);
-    let left = run_on::<Keeper<HeldDisk<MemDisk, Arc<Gate, Global>>>, _, _>(
-        rt, alloc, disk, slots, &gate, sources,
-    )?;
+    let sources = scripts(alloc, &slots, steps, gate, notes).ok()?;
+    run_on::<K, _, _>(rt, alloc, disk, slots, gate, sources)
+}
+
+/// What is left of it.
+fn found_over<K: Store, R: Threads + Wait + Sync>(
+    rt: &R,
+    alloc: Global,
+    disk: K::Device,
+    row: &Row<'_>,
+    gate: &Arc<Gate, Global>,
+    notes: &Arc<Notes, Global>,
+) -> Option<Found> {
+    let left = play_over::<K, R>(rt, alloc, disk, row.steps, gate, notes)?;
     let Left {
         storage,
         count,
@@ -62,13 +101,39 @@ fn play<R: Threads + Wait + Sync>(
         disk,
     } = left;
     drop(disk);
+    let [one, other] = row.slots;
     Some(Found {
         storage,
         count,
-        slots,
+        reports: reports(&slots),
+        slots: [report_of(&slots, one), report_of(&slots, other)],
         wrong: notes.wrong.load(Ordering::SeqCst),
         late: gate.late.load(Ordering::SeqCst),
     })
+}
+
+/// Runs a row over a device of the worked table.
+fn play<R: Threads + Wait + Sync>(rt: &R, alloc: Global, row: &Row<'_>) -> Option<Found> {
+    let notes = Arc::new(alloc, Notes::new(alloc, 0).ok()?).ok()?;
+    let gate = Arc::new(alloc, Gate::new(row.is_held)).ok()?;
+    let table = worked_table(alloc).ok()?;
+    let hold = Arc::try_clone(&gate).ok()?;
+    let disk = HeldDisk::new(formatted(alloc, &table)?, hold);
+    found_over::<Keeper<HeldDisk<MemDisk, Arc<Gate, Global>>>, R>(
+        rt, alloc, disk, row, &gate, &notes,
+    )
+}
+
+/// All went well with so many actions, and one request of each of the two slots was answered.
+fn whole(count: u64) -> Found {
+    Found {
+        storage: Storage::Whole,
+        count,
+        reports: 18,
+        slots: [Some(ONE), Some(ONE)],
+        wrong: 0,
+        late: 0,
+    }
 }
 
 #[test]
@@ -83,13 +148,13 @@ fn a_look_shows_what_the_receipt_told(rt: HostRuntime) -> Result<(), Fail> {
         (0, Step::See(alarm, Shown::Acked)),
         (16, Step::Learn),
     ];
-    let found = play(&rt, rt.alloc(), &steps, false).ok_or("run")?;
-    assert_eq!(rt;
-        (found.wrong, found.storage, found.count),
-        (0, Storage::Whole, 2)
-    );
-    assert_eq!(rt; found.slots.get(0), Some(&Some(ONE)));
-    assert_eq!(rt; found.slots.get(16), Some(&Some(ONE)));
+    let row = Row {
+        steps: &steps,
+        is_held: false,
+        slots: [0, 16],
+    };
+    let found = play(&rt, rt.alloc(), &row).ok_or("run")?;
+    assert_eq!(rt; found, whole(2));
     Ok(())
 }
 
@@ -104,16 +169,12 @@ fn others_go_on_while_a_sync_is_held(rt: HostRuntime) -> Result<(), Fail> {
         (0, Step::Learn),
         (17, Step::Learn),
     ];
-    let found = play(&rt, rt.alloc(), &steps, true).ok_or("run")?;
-    assert_eq!(rt; found.late, 0, "no bound is met");
-    assert_eq!(rt;
-        (found.wrong, found.storage, found.count),
-        (0, Storage::Whole, 1)
-    );
-    for slot in found.slots.iter() {
-        assert!(rt; slot.is_some(), "each slot has its report");
-    }
-    assert_eq!(rt; found.slots.get(0), Some(&Some(ONE)));
-    assert_eq!(rt; found.slots.get(17), Some(&Some(ONE)));
+    let row = Row {
+        steps: &steps,
+        is_held: true,
+        slots: [0, 17],
+    };
+    let found = play(&rt, rt.alloc(), &row).ok_or("run")?;
+    assert_eq!(rt; found, whole(1));
     Ok(())
 }

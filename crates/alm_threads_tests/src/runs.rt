@@ -10,9 +10,13 @@ use alm_keeper::Keeper;
 use alm_rings::SlotReport;
 use alm_run::Storage;
 use alm_service::worked_table;
-use std::sync::Arc;
+use alm_store::Store;
+use alm_types::Table;
+use std::alloc::Global;
 use std::sync::atomic::Ordering;
+use std::sync::{Arc, Wait};
 use std::test::Fail;
+use std::thread::Threads;
 
 /// How many requests each source sends.
 const EACH: u64 = 20_000;
@@ -25,31 +29,84 @@ const ALL: SlotReport = SlotReport {
     received: EACH,
 };
 
-#[test]
-fn eighteen_sources_are_answered_in_order_and_all_is_kept(rt: HostRuntime) -> Result<(), Fail> {
-    let alloc = rt.alloc();
-    let table = worked_table(alloc)?;
-    let notes = Arc::new(alloc, Notes::new(alloc, 360_000)?)?;
-    let slots = all_slots(alloc)?;
-    let sources = callers(alloc, &slots, None, EACH, &notes)?;
-    let disk = formatted(alloc, &table).ok_or("format")?;
-    let left = run_on::<Keeper<MemDisk>, _, _>(&rt, alloc, disk, slots, &Free, sources);
+/// What is left of a run: the storage, how many actions are stored, whether each slot has had all, and whether the device stands for what was
+/// noted.
+#[derive(Clone, Copy, Debug)]
+struct Found {
+    storage: Storage,
+    count: u64,
+    is_answered: bool,
+    reopened: Option<(u64, bool)>,
+}
+
+/// Whether all 18 slots have had all.
+fn is_answered(slots: &[Option<SlotReport>]) -> bool {
+    let mut all = slots.len() == 18;
+    for slot in slots {
+        all = all && *slot == Some(ALL);
+    }
+    all
+}
+
+/// Runs a caller at each slot over a device.
+fn run_callers<K: Store, R: Threads + Wait + Sync>(
+    rt: &R,
+    alloc: Global,
+    disk: K::Device,
+    notes: &Arc<Notes, Global>,
+) -> Option<Left<K::Device>> {
+    let Ok(slots) = all_slots(alloc) else {
+        return None;
+    };
+    let sources = callers(alloc, &slots, None, EACH, notes).ok()?;
+    run_on::<K, _, _>(rt, alloc, disk, slots, &Free, sources)
+}
+
+/// Runs them, and opens the device again.
+fn run_over<K: Store, R: Threads + Wait + Sync>(
+    rt: &R,
+    alloc: Global,
+    disk: K::Device,
+    table: &Table,
+    notes: &Arc<Notes, Global>,
+) -> Option<Found> {
     let Left {
         storage,
         count,
         slots,
         disk,
-    } = left.ok_or("run")?;
-    assert_eq!(rt; storage, Storage::Whole);
-    assert_eq!(rt; notes.wrong.load(Ordering::SeqCst), 0);
-    assert_eq!(rt; notes.unseen.load(Ordering::SeqCst), 0);
-    assert_eq!(rt; notes.shown.load(Ordering::SeqCst), 360_000);
-    assert_eq!(rt; slots.len(), 18);
-    for slot in slots.iter() {
-        assert_eq!(rt; *slot, Some(ALL));
-    }
-    assert!(rt; count > EACH, "{count} accepted");
-    let found = reopened::<Keeper<MemDisk>>(alloc, disk, &table, Accepted::Noted(&notes));
-    assert_eq!(rt; found, Some((count, true)));
+    } = run_callers::<K, R>(rt, alloc, disk, notes)?;
+    Some(Found {
+        storage,
+        count,
+        is_answered: is_answered(&slots),
+        reopened: reopened::<K>(alloc, disk, table, Accepted::Noted(notes)),
+    })
+}
+
+/// The same over a device of the worked table.
+fn run_all<R: Threads + Wait + Sync>(
+    rt: &R,
+    alloc: Global,
+    notes: &Arc<Notes, Global>,
+) -> Option<Found> {
+    let table = worked_table(alloc).ok()?;
+    let disk = formatted(alloc, &table)?;
+    run_over::<Keeper<MemDisk>, R>(rt, alloc, disk, &table, notes)
+}
+
+#[test]
+fn eighteen_sources_are_answered_in_order_and_all_is_kept(rt: HostRuntime) -> Result<(), Fail> {
+    let notes = Arc::new(rt.alloc(), Notes::new(rt.alloc(), 360_000)?)?;
+    let found = run_all(&rt, rt.alloc(), &notes).ok_or("run")?;
+    let wrong = notes.wrong.load(Ordering::SeqCst);
+    let unseen = notes.unseen.load(Ordering::SeqCst);
+    let shown = notes.shown.load(Ordering::SeqCst);
+    drop(notes);
+    assert_eq!(rt; found.storage, Storage::Whole);
+    assert_eq!(rt; (wrong, unseen, shown), (0, 0, 360_000));
+    assert!(rt; found.is_answered);
+    assert!(rt; found.count > EACH, "{} accepted", found.count);
+    assert_eq!(rt; found.reopened, Some((found.count, true)));
     Ok(())
 }

@@ -3,4 +3,4 @@ use Rattle.alm_measure_tests.proofs.told.ages.Given as goal
 
 -- each area has few
 abbrev pub invariant-loop-area : goal.invariant-loop-area
-invariant-loop-area l = All (λ ages. sum ages ≤ 600000) l.told.items
+invariant-loop-area g l = All (λ ages. sum ages ≤ 600000) l.told.items

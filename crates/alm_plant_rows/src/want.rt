@@ -1,0 +1,41 @@
+//! Actions by their numbers.
+
+use alm_types::{Action, AlarmId, Moment, Reading};
+use std::test::Fail;
+
+/// What a slot asks for, by numbers, so that a constant can have it.
+#[derive(Clone, Copy, Debug)]
+pub enum Want {
+    Clock(u64),
+    Value(u32, i64),
+    Ack(u32),
+    Reset(u32),
+    Shelve(u32, u32),
+    Unshelve(u32),
+    Oos(u32, bool),
+    Design(u32, bool),
+    SetPriority(u32, u32),
+    SetSetpoint(u32, i64),
+}
+
+impl Want {
+    /// The action of these numbers; an error where a number is out of its range.
+    pub fn action(self) -> Result<Action, Fail> {
+        Ok(match self {
+            Want::Clock(seconds) => Action::Clock(Moment::new(seconds).ok_or("moment")?),
+            Want::Value(alarm, value) => {
+                Action::Value(AlarmId(alarm), Reading::new(value).ok_or("reading")?)
+            }
+            Want::Ack(alarm) => Action::Ack(AlarmId(alarm)),
+            Want::Reset(alarm) => Action::Reset(AlarmId(alarm)),
+            Want::Shelve(alarm, seconds) => Action::Shelve(AlarmId(alarm), seconds),
+            Want::Unshelve(alarm) => Action::Unshelve(AlarmId(alarm)),
+            Want::Oos(alarm, on) => Action::Oos(AlarmId(alarm), on),
+            Want::Design(alarm, on) => Action::Design(AlarmId(alarm), on),
+            Want::SetPriority(alarm, priority) => Action::SetPriority(AlarmId(alarm), priority),
+            Want::SetSetpoint(alarm, setpoint) => {
+                Action::SetSetpoint(AlarmId(alarm), Reading::new(setpoint).ok_or("reading")?)
+            }
+        })
+    }
+}
