@@ -6,6 +6,7 @@
 //! | `desk DEVICE` | the same over a formatted device |
 //! | `format DEVICE TABLE` | makes the file of a device, and formats it for a table file |
 //! | `show DEVICE` | prints the plant that a device stands for |
+//! | `export DEVICE` | prints the table of that plant as a table file, with the device's size and the priorities and setpoints in force |
 //! | `serve DEVICE --port P [--conns N]` | a [`ServeOrder`], for a server of the slots of a formatted device at 18 ports |
 //!
 //! Every other word, and a request for help, is wrong usage.
@@ -25,6 +26,7 @@
 #![tactic(auto)]
 
 mod desk;
+mod exporting;
 mod fault;
 mod fault_line;
 mod file_stack;

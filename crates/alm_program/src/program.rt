@@ -4,6 +4,7 @@ ghost use Rattle.std.specs.Process.{exit_status};
 ghost use Rattle.alm_program.specs.Faults.{EndsBy, IsEnd};
 
 use crate::desk::{run_desk, run_device_desk};
+use crate::exporting::run_export;
 use crate::fault::Fault;
 use crate::fault_line::print_fault;
 use crate::formatting::run_format;
@@ -38,6 +39,7 @@ pub fn run_words<R: Input + Print + Env + Files<File = File> + AllocGlobal>(
         Job::Desk(Some(device)) => run_device_desk(rt, device)?,
         Job::Format { device, table } => run_format(rt, device, table)?,
         Job::Show(device) => run_show(rt, device)?,
+        Job::Export(device) => run_export(rt, device)?,
         Job::Serve {
             device,
             port,

@@ -5,6 +5,8 @@
 #[cfg(test)]
 mod devices;
 #[cfg(test)]
+mod exporting;
+#[cfg(test)]
 mod process;
 #[cfg(test)]
 mod reading;
