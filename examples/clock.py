@@ -61,7 +61,7 @@ def send(client: Client, plant: PlantClock, moment: int) -> bool:
 
 def run(port: int, seconds: Optional[int]) -> list[float]:
     """Sends moments, for so many seconds or without end; how long the replies took, in seconds."""
-    plant, client, taken = PlantClock(), None, []
+    plant, client, taken, told = PlantClock(), None, [], ""
     ends = None if seconds is None else time.monotonic() + seconds
     while ends is None or time.monotonic() < ends:
         try:
@@ -70,9 +70,11 @@ def run(port: int, seconds: Optional[int]) -> list[float]:
             began = time.monotonic()
             if moment is not None and send(client, plant, moment) and seconds is not None:
                 taken.append(time.monotonic() - began)
+            told = ""
         except Lost as lost:
-            say(lost, "- trying again")
-            client = None
+            if str(lost) != told:
+                say(lost, "- trying again")
+            client, told = None, str(lost)
         time.sleep(1 - time.time() % 1)
     return taken
 

@@ -107,15 +107,17 @@ class Console:
     def height(self) -> int:
         return max(1, self.screen.getmaxyx()[0] - ABOVE - BELOW)
 
-    def look(self) -> None:
-        """Asks the server, with a new connection where there is none."""
+    def look(self, whole: bool) -> None:
+        """Asks the server, with a new connection where there is none: for the lists, or for the rows on the screen alone."""
         try:
             if self.client is None:
                 self.client = Client.connect(self.port, self.slot, PATIENCE)
                 self.check_table(self.client)
                 self.message = ""
-            self.board.look(self.client)
-            self.arrange()
+                whole = True
+            if whole:
+                self.board.look(self.client)
+                self.arrange()
             shown = self.rows[self.top:self.top + self.height]
             self.states = dict(zip(shown, self.client.states(shown)))
         except Lost as lost:
@@ -155,10 +157,10 @@ class Console:
 
     def draw(self) -> None:
         self.screen.erase()
+        self.put(0, self.board.head())
         area = "all areas" if self.area is None else f"area {self.area}"
-        self.put(0, f"{self.board.head()}   {self.view.value}, {area}")
         floods = "FLOOD in areas " + " ".join(map(str, sorted(self.board.flooded))) if self.board.flooded else ""
-        self.put(1, floods, curses.A_BOLD)
+        self.put(1, f"{self.view.value}, {area}   {floods}", curses.A_BOLD)
         self.put(2, "  P TAG            STATE AR FSC UNTIL    TEXT", curses.A_UNDERLINE)
         for row, alarm in enumerate(self.rows[self.top:self.top + self.height]):
             chosen = self.top + row == self.selected
@@ -211,10 +213,8 @@ class Console:
     def turn(self) -> None:
         self.view, self.selected = self.view.next(), 0
 
-    def press(self, key: int) -> None:
-        """Does what a key asks. What was said of the key before goes."""
-        if key == -1:
-            return
+    def press(self, key: int) -> bool:
+        """Does what a key asks; whether the lists may be others then. What was said of the key before goes."""
         if self.client is not None:
             self.message = ""
         moves = {curses.KEY_UP: -1, curses.KEY_DOWN: 1, curses.KEY_PPAGE: -self.height, curses.KEY_NPAGE: self.height,
@@ -225,17 +225,21 @@ class Console:
             self.select(moves[key])
         elif key < 256 and chr(key) in actions:
             actions[chr(key)]()
+            return True
+        return False
 
     def run(self) -> None:
-        """Looks each second and at each key, until q."""
+        """Looks each second and behind each action, and at the rows on the screen behind each other key, until q."""
         curses.curs_set(0)
         key, next_look = -1, 0.0
         while key != ord("q"):
-            if key != -1 or time.monotonic() >= next_look:
-                self.press(key)
-                self.look()
-                next_look = time.monotonic() + PERIOD
+            due = time.monotonic() >= next_look
+            acted = key != -1 and self.press(key)
+            if due or key != -1:
+                self.look(due or acted)
                 self.draw()
+            if due or acted:
+                next_look = time.monotonic() + PERIOD
             self.screen.timeout(max(10, int((next_look - time.monotonic()) * 1000)))
             key = self.screen.getch()
 
