@@ -174,9 +174,12 @@ class Change:
             yield self.line(CONSOLE, f"SHELVE {there} {allowed}")
 
 
+def say(*words: object) -> None:
+    print("change_table:", *words, file=sys.stderr)
+
+
 def tell(change: Change) -> None:
-    """Says on standard error what there was, and what isn't brought."""
-    say = lambda *words: print("change_table:", *words, file=sys.stderr)
+    """Says what there was, and what isn't brought."""
     say(f"{len(change.pairs)} alarms in both tables, {len(change.added)} new, {len(change.left)} left out:", *change.left)
     say("not brought: the count, and the moments of annunciations, so FLOOD, STALE and CHATTER begin without them")
     for why in change.kept_back:

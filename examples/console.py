@@ -21,7 +21,7 @@ from dataclasses import dataclass, field
 from typing import Callable, Optional
 
 from alarm_client import PRIORITIES, Client, Lost, Refusal, Refused, State
-from table_file import Table, load_table
+from table_file import Table, table_or_exit
 
 PERIOD = 1.0
 PATIENCE = 2.0
@@ -250,7 +250,7 @@ def main() -> None:
     words.add_argument("--slot", type=int, default=0, help="the console's slot, 0 to 15")
     words.add_argument("table", help="the plant's table file")
     chosen = words.parse_args()
-    table = load_table(chosen.table)
+    table = table_or_exit("console", chosen.table)
     curses.wrapper(lambda screen: Console(screen, chosen.port, chosen.slot, table).run())
 
 

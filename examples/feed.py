@@ -19,7 +19,7 @@ import time
 from typing import Iterable, Iterator
 
 from alarm_client import FEED, Client, Lost, Refusal, Refused, ServerClient
-from table_file import READING_LIMIT, load_table
+from table_file import READING_LIMIT, table_or_exit
 
 CHUNK = 65_536
 
@@ -134,7 +134,7 @@ def main() -> None:
     words.add_argument("table", help="the plant's table file")
     words.add_argument("file", nargs="?", help="lines tag,value; else standard input")
     chosen = words.parse_args()
-    feed = Feed(chosen.port, load_table(chosen.table).numbers())
+    feed = Feed(chosen.port, table_or_exit("feed", chosen.table).numbers())
     file = os.open(chosen.file, os.O_RDONLY) if chosen.file else sys.stdin.fileno()
     for lines in feed.chunks(file):
         feed.send(list(feed.values(lines)))

@@ -11,7 +11,7 @@ import argparse
 import collections
 import http.server
 import time
-from typing import Iterator, Optional
+from typing import Iterable, Iterator, Optional
 
 from alarm_client import HOST, PRIORITIES, Client, Lost, Refused
 from device_file import DeviceFile, NoDevice
@@ -38,6 +38,11 @@ def annunciated(client: Client) -> dict[str, float]:
     return dict(counts)
 
 
+def by_area(values: Iterable[int]) -> dict[str, float]:
+    """The samples of the areas."""
+    return {f'{{area="{area}"}}': value for area, value in enumerate(values)}
+
+
 def plant(client: Client) -> Iterator[str]:
     """What the plant shows. Between two queries it may go on."""
     began = time.perf_counter()
@@ -50,7 +55,6 @@ def plant(client: Client) -> Iterator[str]:
     yield from metric("alarms_stale", "gauge", "Alarms annunciated for a day or more.", {"": len(client.stale().alarms)})
     yield from metric("alarms_chattering", "gauge", "Alarms with three annunciations in a minute.", {"": len(client.chattering().alarms)})
     floods = client.floods()
-    by_area = lambda values: {f'{{area="{area}"}}': value for area, value in enumerate(values)}
     yield from metric("alarms_area_annunciations", "gauge", "Annunciations in the last 600 seconds.", by_area(flood.window for flood in floods))
     yield from metric("alarms_area_flooded", "gauge", "Whether the area is flooded.", by_area(int(flood.flooded) for flood in floods))
 

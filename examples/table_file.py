@@ -79,6 +79,16 @@ def load_table(path: str) -> Table:
         return read_table(file.read())
 
 
+def table_or_exit(tool: str, path: str) -> Table:
+    """The table of a file whose tags each stand once; without one the tool ends, and says why."""
+    try:
+        table = load_table(path)
+        table.numbers()
+        return table
+    except (OSError, KeyError, TypeError, ValueError) as error:
+        raise SystemExit(f"{tool}: {path} is no table file: {error}") from None
+
+
 def quoted(text: str) -> str:
     """A string of TOML."""
     return '"' + text.replace("\\", "\\\\").replace('"', '\\"') + '"'
