@@ -25,7 +25,7 @@ fn is_same_file<R: Files<File = File>>(rt: &R, one: &str, other: &str) -> bool {
 }
 
 /// Formats the file of a device for a table: with room on the disk for all that its layout uses, so that no later write can
-/// meet a full disk. An old file is set to the size. The length of its segments.
+/// meet a full disk. An old file is set to the size, and is as it was where the table needs a larger one. The length of its segments.
 fn format_file<R: Files<File = File> + AllocGlobal>(
     rt: &R,
     device: &str,
@@ -33,19 +33,13 @@ fn format_file<R: Files<File = File> + AllocGlobal>(
     table: &Table,
 ) -> Result<u32, Fault> {
     let rows = table.alarms().len() as u32;
-    let layout = Layout::longest(rows, table.areas(), size, Version::V02);
-    let used = match layout {
-        Some(layout) => layout.device_len(),
-        None => 0,
+    let Some(layout) = Layout::longest(rows, table.areas(), size, Version::V02) else {
+        return Err(Fault::TooSmall);
     };
-    let disk = FileDisk::make(rt, device, size, used).map_err(file_fault)?;
+    let disk = FileDisk::make(rt, device, size, layout.device_len()).map_err(file_fault)?;
     match format(rt.alloc(), disk, table) {
-        Ok(_) => {}
-        Err((fault, _)) => return Err(Fault::from(fault)),
-    }
-    match layout {
-        Some(layout) => Ok(layout.segment),
-        None => Err(Fault::TooSmall),
+        Ok(_) => Ok(layout.segment),
+        Err((fault, _)) => Err(Fault::from(fault)),
     }
 }
 

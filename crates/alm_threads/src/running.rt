@@ -196,6 +196,7 @@ fn in_scope<
 }
 
 // Room for who sits at the slots, for the consoles that come back, and for what each slot reports.
+#[derive(Drop)]
 struct Room<T: Told + Drop, L: Look<Told = T> + Drop, S: Source<T, L> + Drop> {
     chairs: Vec<Chair<T, L, S>>,
     consoles: Vec<Console<T>>,
@@ -246,7 +247,14 @@ pub fn run_with_bells<
     requires sources { length sources.items ≡ length parts.slots.items }
     ensures run { IfOk result (λ report. IsRun (K.stored parts.middle.flusher.store) parts.slots.items (K.stored report.keeper) report.slots.items) }
 {
-    let Ok(room) = room_for(alloc, parts.slots.len()) else {
+    let Ok(
+        Room {
+            chairs,
+            consoles: back,
+            reports,
+        },
+    ) = room_for(alloc, parts.slots.len())
+    else {
         drop(parts.close(rt));
         return Err(StartFault::OutOfMemory);
     };
@@ -257,20 +265,10 @@ pub fn run_with_bells<
         board,
         middle,
     } = parts;
-    let chairs = seat(room.chairs, consoles, looks, sources);
+    let chairs = seat(chairs, consoles, looks, sources);
     let flags = Flags::new(Bells::new(slots.as_slice(), bells));
-    let ends = in_scope(
-        rt,
-        alloc,
-        &flags,
-        &slots,
-        hold,
-        chairs,
-        room.consoles,
-        board,
-        middle,
-    )?;
-    Ok(report_of(ends, room.reports))
+    let ends = in_scope(rt, alloc, &flags, &slots, hold, chairs, back, board, middle)?;
+    Ok(report_of(ends, reports))
 }
 
 /// Runs these parts with a source for each slot, in the order of the slots, each woken when a receipt is released to it.
