@@ -95,10 +95,26 @@ const KEEPS: [Run; 6] = [
     ),
 ];
 
+/// A table that is too large for its size leaves the device as it was.
+const STAYS: [Run; 2] = [
+    (
+        b"alm_server\nformat\nkeeps.device\nsmall.toml\n",
+        b"",
+        (TABLE_FAULT, b"", b"fault too-small\n"),
+    ),
+    (
+        b"alm_server\ndesk\nkeeps.device\n",
+        b"17 1 CLOCK 5\n",
+        (DONE, b"17 1 NO 10\n", b""),
+    ),
+];
+
 #[test]
 fn a_device_keeps_what_was_answered(rt: HostRuntime) -> Result<(), Fail> {
     write_file(&rt, "keeps.toml", &[SIZES, ALARMS])?;
     assert_eq!(rt; first_wrong(&rt, &KEEPS), None);
+    write_file(&rt, "small.toml", &["size = 28996\nareas = 2\n", ALARMS])?;
+    assert_eq!(rt; first_wrong(&rt, &STAYS), None);
     Ok(())
 }
 
@@ -212,13 +228,22 @@ const MISSING: [Run; 1] = [(
     (BROKEN, b"", b"fault io\n"),
 )];
 
-/// A byte too small for four alarms: the file stands, and isn't formatted.
-const TOO_SMALL: [Run; 3] = [
+/// A byte too small for four alarms: nothing is made.
+const TOO_SMALL: [Run; 2] = [
     (
         b"alm_server\nformat\nfaulty.device\nfaulty.toml\n",
         b"",
         (TABLE_FAULT, b"", b"fault too-small\n"),
     ),
+    (
+        b"alm_server\nshow\nfaulty.device\n",
+        b"",
+        (BROKEN, b"", b"fault io\n"),
+    ),
+];
+
+/// A file that was never formatted.
+const UNFORMATTED: [Run; 2] = [
     (
         b"alm_server\nshow\nfaulty.device\n",
         b"",
@@ -250,6 +275,8 @@ fn the_fault_of_a_device_is_told(rt: HostRuntime) -> Result<(), Fail> {
     assert_eq!(rt; first_wrong(&rt, &MISSING), None);
     write_file(&rt, "faulty.toml", &["size = 28996\nareas = 2\n", ALARMS])?;
     assert_eq!(rt; first_wrong(&rt, &TOO_SMALL), None);
+    fs::write(&rt, "faulty.device", [0u8; 64].as_slice())?;
+    assert_eq!(rt; first_wrong(&rt, &UNFORMATTED), None);
     let text = b"\xA5BLMSRV01 and more than a header has\n";
     fs::write(&rt, "faulty.device", text.as_slice())?;
     assert_eq!(rt; first_wrong(&rt, &ANOTHER), None);

@@ -7,7 +7,7 @@ use crate::script::Step;
 const DESK: &[u8] = b"alm_server\ndesk\n";
 
 /// Words that are none of the program's.
-const WORDS: [&[u8]; 8] = [
+const WORDS: [&[u8]; 11] = [
     b"",
     b"alm_server\n",
     b"alm_server\n\n",
@@ -16,6 +16,9 @@ const WORDS: [&[u8]; 8] = [
     b"alm_server\ndesk\nextra\nmore\n",
     b"alm_server\nextra\ndesk\n",
     b"alm_server\ndes\xff\n",
+    b"alm_server\nexport\n",
+    b"alm_server\nshow\none.device\nmore\n",
+    b"alm_server\n--help\n",
 ];
 
 #[test]
