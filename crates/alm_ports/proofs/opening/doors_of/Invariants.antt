@@ -4,4 +4,4 @@ use Rattle.alm_ports.proofs.opening.doors_of.Given as goal
 
 -- as many doors as ports
 abbrev pub invariant-loop-bound : goal.invariant-loop-bound
-invariant-loop-bound g l = vec_len l.doors ≡ length l.yielded
+invariant-loop-bound l = vec_len l.doors ≡ length l.yielded

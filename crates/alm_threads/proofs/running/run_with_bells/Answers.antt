@@ -17,14 +17,14 @@ pub report_of-requires-clause-apart : goal.report_of-requires-clause-apart
 report_of-requires-clause-apart g c =
     let p = c.args.parts in
     let back = c.in_ok-ends.ends.consoles.items in
-    let all = subst (λ cs. AllSame cs back) c.seat.ensures.consoles c.in_ok-ends.ensures.consoles in
+    let all = subst (λ cs. AllSame cs back) c.seat-chairs.ensures.consoles c.in_ok-ends.ensures.consoles in
     apart_by (λ (x : Console _ _). x.slot) back p.slots.items (same_slots p.consoles.items back all ∙ p.order) p.apart
 
 pub report_of-requires-clause-tied : goal.report_of-requires-clause-tied
 report_of-requires-clause-tied g c =
     let p = c.args.parts in
     let e = c.in_ok-ends.ends in
-    let all = subst (λ cs. AllSame cs e.consoles.items) c.seat.ensures.consoles c.in_ok-ends.ensures.consoles in
+    let all = subst (λ cs. AllSame cs e.consoles.items) c.seat-chairs.ensures.consoles c.in_ok-ends.ensures.consoles in
     tied_still p.consoles.items e.consoles.items p.middle.rings.inboxes.items e.rings.inboxes.items p.middle.flusher.outboxes.items e.landed.outboxes.items all c.in_ok-ends.ensures.inboxes c.in_ok-ends.ensures.outboxes (record {
       has_inbox = p.inboxes;
       has_outbox = p.outboxes;
@@ -36,7 +36,7 @@ pub report_of-requires-clause-room : goal.report_of-requires-clause-room
 report_of-requires-clause-room g c =
     let p = c.args.parts in
     let back = c.in_ok-ends.ends.consoles in
-    let all = subst (λ cs. AllSame cs back.items) c.seat.ensures.consoles c.in_ok-ends.ensures.consoles in
+    let all = subst (λ cs. AllSame cs back.items) c.seat-chairs.ensures.consoles c.in_ok-ends.ensures.consoles in
     let order = same_slots p.consoles.items back.items all ∙ p.order in
     (c.in-Ok.ensures.reports.0, omega (arith, c.in-Ok.ensures.reports.1, c.len.ensures, back.ok, p.slots.ok, map_count (λ (x : Console _ _). x.slot) back.items, ap length order))
 
@@ -45,7 +45,7 @@ returns g c =
     let p = c.args.parts in
     let e = c.in_ok-ends.ends in
     let f = c.in_ok-ends.ensures in
-    let all = subst (λ cs. AllSame cs e.consoles.items) c.seat.ensures.consoles f.consoles in
+    let all = subst (λ cs. AllSame cs e.consoles.items) c.seat-chairs.ensures.consoles f.consoles in
     let order = same_slots p.consoles.items e.consoles.items all ∙ p.order in
     let entries = f.judged.entries in
     let fetched = fetched_of e.landed.fetch in
