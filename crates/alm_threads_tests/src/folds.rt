@@ -63,18 +63,8 @@ pub enum Accepted<'n> {
     Alone(Slot),
 }
 
-/// Whether a plant is that of the first so many actions of these that were accepted.
-fn is_plant_of<P: Alarms + Drop, Q: Alarms>(
-    alloc: Global,
-    plant: &Q,
-    table: &Table,
-    accepted: Accepted<'_>,
-    count: u64,
-) -> bool {
-    let wanted = match accepted {
-        Accepted::Noted(notes) => folded::<P>(alloc, table, notes, count),
-        Accepted::Alone(slot) => foretold::<P>(alloc, table, slot, count),
-    };
+/// Whether a plant is the one that is wanted, where there is one.
+fn is_wanted<P: Alarms + Drop, Q: Alarms>(plant: &Q, wanted: Option<P>) -> bool {
     match wanted {
         Some(wanted) => are_same(plant, &wanted),
         None => false,
@@ -90,6 +80,10 @@ pub fn reopened<K: Store>(
 ) -> Option<(u64, bool)> {
     let store = K::open(alloc, disk).ok()?;
     let count = store.count();
-    let is_fold = is_plant_of::<PlainPlant, _>(alloc, store.stored(), table, accepted, count);
+    let wanted = match accepted {
+        Accepted::Noted(notes) => folded::<PlainPlant>(alloc, table, notes, count),
+        Accepted::Alone(slot) => foretold::<PlainPlant>(alloc, table, slot, count),
+    };
+    let is_fold = is_wanted(store.stored(), wanted);
     Some((count, is_fold))
 }
