@@ -320,45 +320,24 @@ fn calls_of(turn: u64) -> u32 {
     }
 }
 
-/// 120 ticks, a crash and a reopening.
-fn ticks(
-    alloc: Global,
-    clock: Slot,
-    steps: &mut Vec<Step>,
-    wanted: &mut Vec<Event>,
-) -> Result<(), Fail> {
-    steps.push(Step::Reopen)?;
-    wanted.push(Event::Opened(0))?;
-    for turn in 1..=120 {
-        tick(steps, wanted, clock, turn, calls_of(turn))?;
-    }
-    steps.push(Step::Crash(Vec::new(alloc)))?;
-    wanted.push(Event::Crashed)?;
-    steps.push(Step::Reopen)?;
-    wanted.push(Event::Opened(120))?;
-    Ok(())
-}
-
-/// The first place where their trace isn't the one that is wanted.
-fn ticks_differ_at(alloc: Global, clock: Slot) -> Result<Option<usize>, Fail> {
-    let mut steps = Vec::new(alloc);
-    let mut wanted = Vec::new(alloc);
-    let found = match ticks(alloc, clock, &mut steps, &mut wanted) {
-        Ok(()) => goes_so(alloc, CALLS, &steps, &wanted),
-        Err(fail) => Err(fail),
-    };
-    drop(steps);
-    drop(wanted);
-    found
-}
-
 /// A segment of 4,116 bytes is more than half full behind 59 frames of one action, each of 35 bytes: the 59th commit opens a checkpoint,
 /// and so does the 59th of the next half. The whole body is one piece, which no commit follows, so the checkpoint ends before the next
 /// commit: four calls, and two more to close the gate of a half that stood before.
 #[test]
 fn a_segment_half_full_makes_a_checkpoint(rt: HostRuntime) -> Result<(), Fail> {
+    let alloc = rt.alloc();
     let clock = Slot::new(17).ok_or("slot")?;
-    let found = ticks_differ_at(rt.alloc(), clock)?;
-    assert_eq!(rt; found, None);
+    let mut steps = Vec::new(alloc);
+    let mut wanted = Vec::new(alloc);
+    steps.push(Step::Reopen)?;
+    wanted.push(Event::Opened(0))?;
+    for turn in 1..=120 {
+        tick(&mut steps, &mut wanted, clock, turn, calls_of(turn))?;
+    }
+    steps.push(Step::Crash(Vec::new(alloc)))?;
+    wanted.push(Event::Crashed)?;
+    steps.push(Step::Reopen)?;
+    wanted.push(Event::Opened(120))?;
+    assert_eq!(rt; goes_so(alloc, CALLS, &steps, &wanted)?, None);
     Ok(())
 }
