@@ -9,8 +9,7 @@ use alm_disk::{Free, MemDisk, OnceDisk};
 use alm_keeper::Keeper;
 use alm_run::Storage;
 use alm_service::worked_table;
-use alm_store::Store;
-use alm_types::{Slot, Table};
+use alm_types::Slot;
 use std::alloc::Global;
 use std::sync::atomic::Ordering;
 use std::sync::{Arc, Wait};
@@ -21,7 +20,7 @@ use std::thread::Threads;
 const EACH: u64 = 1000;
 
 /// What a run leaves whose device fails a call.
-#[derive(Clone, Copy)]
+#[derive(Drop)]
 struct Found {
     storage: Storage,
     /// How many receipts or looks were wrong.
@@ -33,45 +32,6 @@ struct Found {
     is_fold: bool,
 }
 
-/// Runs 18 sources, or one of them, over a device.
-fn run_sources<K: Store, R: Threads + Wait + Sync>(
-    rt: &R,
-    alloc: Global,
-    disk: K::Device,
-    only: Option<Slot>,
-    notes: &Arc<Notes, Global>,
-) -> Option<Left<K::Device>> {
-    let Ok(slots) = all_slots(alloc) else {
-        return None;
-    };
-    let sources = callers(alloc, &slots, only, EACH, notes).ok()?;
-    run_on::<K, _, _>(rt, alloc, disk, slots, &Free, sources)
-}
-
-/// Runs them, and opens the device again.
-fn run_over<K: Store, R: Threads + Wait + Sync>(
-    rt: &R,
-    alloc: Global,
-    disk: K::Device,
-    only: Option<Slot>,
-    table: &Table,
-    notes: &Arc<Notes, Global>,
-) -> Option<Found> {
-    let Left { storage, disk, .. } = run_sources::<K, R>(rt, alloc, disk, only, notes)?;
-    let accepted = match only {
-        Some(slot) => Accepted::Alone(slot),
-        None => Accepted::Noted(notes),
-    };
-    let (count, is_fold) = reopened::<K>(alloc, disk, table, accepted)?;
-    Some(Found {
-        storage,
-        wrong: notes.wrong.load(Ordering::SeqCst),
-        told: notes.told.load(Ordering::SeqCst),
-        count,
-        is_fold,
-    })
-}
-
 /// Runs 18 sources, or one of them, over a device that fails its call of a number. `None` where memory is short, no thread can be made
 /// or the device isn't opened again.
 fn run_failing<R: Threads + Wait + Sync>(
@@ -80,10 +40,27 @@ fn run_failing<R: Threads + Wait + Sync>(
     only: Option<Slot>,
     call: u64,
 ) -> Option<Found> {
-    let notes = Arc::new(alloc, Notes::new(alloc, 18_000).ok()?).ok()?;
+    let Ok(slots) = all_slots(alloc) else {
+        return None;
+    };
     let table = worked_table(alloc).ok()?;
+    let notes = Arc::new(alloc, Notes::new(alloc, 18_000).ok()?).ok()?;
+    let sources = callers(alloc, &slots, only, EACH, &notes).ok()?;
     let disk = OnceDisk::new(formatted(alloc, &table)?, call);
-    run_over::<Keeper<OnceDisk<MemDisk>>, R>(rt, alloc, disk, only, &table, &notes)
+    let left = run_on::<Keeper<OnceDisk<MemDisk>>, _, _>(rt, alloc, disk, slots, &Free, sources)?;
+    let Left { storage, disk, .. } = left;
+    let accepted = match only {
+        Some(slot) => Accepted::Alone(slot),
+        None => Accepted::Noted(&notes),
+    };
+    let (count, is_fold) = reopened::<Keeper<OnceDisk<MemDisk>>>(alloc, disk, &table, accepted)?;
+    Some(Found {
+        storage,
+        wrong: notes.wrong.load(Ordering::SeqCst),
+        told: notes.told.load(Ordering::SeqCst),
+        count,
+        is_fold,
+    })
 }
 
 /// The calls that fail. An opening makes six, and a run more than sixty.
