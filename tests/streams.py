@@ -59,6 +59,12 @@ class Streams:
         self.answered = self.path("answered")
         shutil.copyfile(self.stored, self.answered)
         check(run_words(program, ["desk", self.answered], lines=ASKED).returncode == 0, "desk")
+        self.formatted = self.path("formatted")
+        shutil.copyfile(self.stored, self.formatted)
+        check(run_words(program, ["format", self.formatted, PLANT]).returncode == 0, "format")
+        self.acked = self.path("acked")
+        shutil.copyfile(self.stored, self.acked)
+        check(run_words(program, ["desk", self.acked], lines=b"0 4 ACK 0\n").returncode == 0, "desk")
         self.shown = self.show(self.stored)
 
     def path(self, name):
@@ -122,7 +128,7 @@ class Streams:
         fails = OUTPUT in closed
         self.ends(run, closed, 3 if fails else 0, b"io" if fails else b"", "format")
         check(run.out == (b"" if fails else b"formatted 4 2 4116\n"), "format", closed, run.out)
-        check(self.show(device) == self.show(self.fresh), "format", closed, "the device")
+        check(read(device) == read(self.formatted), "format", closed, "the device")
 
     def serve_with(self, closed):
         device = self.device()
@@ -140,7 +146,7 @@ class Streams:
         out, errors = process.communicate(timeout=60)
         self.done += 1
         check(process.returncode == 0 and out == b"stopped 4\n" and errors == b"", "serve", closed, out, errors)
-        check(b" COUNT 4 " in self.show(device), "serve", closed, "the device")
+        check(read(device) == read(self.acked), "serve", closed, "the device")
 
     def streams_that_are_the_device(self):
         """Each is wrong usage, and the device is as it was. Where standard error is the device no line is told."""
