@@ -4,12 +4,12 @@ use Rattle.alm_types.specs.Batches.{Judged}
 use Rattle.alm_model.specs.Judging.{accepted_of}
 use Rattle.alm_store.specs.declared.phase.Phase.{Phase}
 use Rattle.alm_store.specs.declared.phase.Phase.TheVariants.{Stopped}
-use Rattle.alm_flusher.specs.declared.held.Held.{Held}
-use Rattle.alm_flusher.specs.declared.held.Held.TheVariants.{Nothing, Fetched, Failed, Committed, Published}
-use Rattle.alm_flusher.specs.declared.advance.Advance.TheVariants as A
-use Rattle.alm_flusher.specs.declared.publishes.Publishes.TheVariants as P
-use Rattle.alm_flusher.specs.Flushes.{AdvanceAnswers, IsFree, PublishAnswers}
-use Rattle.alm_flusher.specs.HeldBatch.{to_commit}
+use Rattle.alm_flush.specs.declared.held.Held.{Held}
+use Rattle.alm_flush.specs.declared.held.Held.TheVariants.{Nothing, Fetched, Failed, Committed, Published}
+use Rattle.alm_flush.specs.declared.advance.Advance.TheVariants as A
+use Rattle.alm_flush.specs.declared.publishes.Publishes.TheVariants as P
+use Rattle.alm_flush.specs.Flushes.{AdvanceAnswers, IsFree, PublishAnswers}
+use Rattle.alm_flush.specs.HeldBatch.{to_commit}
 use Rattle.alm_bench.specs.Matches.{IsGivenUp}
 
 pub committed_batch : (p : Phase) (h h' : Held) → AdvanceAnswers A.Committed p h h' → (b : Judged) × (h ≡ Fetched b) × (h' ≡ Committed b)

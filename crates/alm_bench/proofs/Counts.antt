@@ -10,11 +10,11 @@ use Rattle.alm_disk.specs.declared.disk.Disk
 use Rattle.alm_store.specs.declared.store.Store.{Ghosts}
 use Rattle.alm_rings.specs.Placed.{taken_by, released_by}
 use Rattle.alm_rings.specs.Batches.{fetched_of, sealed_of, coming_in}
-use Rattle.alm_flusher.specs.Replies.{replies_in, replies_to}
-use Rattle.alm_flusher.specs.HeldBatch.{batches_of, told_of, next_of, passed}
-use Rattle.alm_flusher.specs.declared.held.Held.{Held}
-use Rattle.alm_flusher.specs.declared.held.Held.TheVariants.{Nothing, Fetched, Failed, Committed, Published}
-use Rattle.alm_flusher.proofs.HeldLaws.{told_pass, batches_pass}
+use Rattle.alm_flush.specs.Replies.{replies_in, replies_to}
+use Rattle.alm_flush.specs.HeldBatch.{batches_of, told_of, next_of, passed}
+use Rattle.alm_flush.specs.declared.held.Held.{Held}
+use Rattle.alm_flush.specs.declared.held.Held.TheVariants.{Nothing, Fetched, Failed, Committed, Published}
+use Rattle.alm_flush.proofs.HeldLaws.{told_pass, batches_pass}
 use Rattle.alm_bench.specs.declared.parts.Parts.{Parts}
 use Rattle.alm_bench.specs.Matches.{note, notes_of, KnowsAll}
 

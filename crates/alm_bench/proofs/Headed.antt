@@ -17,9 +17,9 @@ use Rattle.alm_rings.specs.Batches.{fetched_of, sealed_of}
 use Rattle.alm_model.proofs.Legal.{entries_append}
 use Rattle.alm_disk.specs.declared.disk.Disk
 use Rattle.alm_store.specs.declared.store.Store.{Ghosts}
-use Rattle.alm_flusher.specs.HeldBatch.{batches_of, stored_of, shown_of, waiting_of}
-use Rattle.alm_flusher.specs.declared.held.Held.{Held}
-use Rattle.alm_flusher.specs.declared.held.Held.TheVariants.{Nothing, Fetched, Failed, Committed, Published}
+use Rattle.alm_flush.specs.HeldBatch.{batches_of, stored_of, shown_of, waiting_of}
+use Rattle.alm_flush.specs.declared.held.Held.{Held}
+use Rattle.alm_flush.specs.declared.held.Held.TheVariants.{Nothing, Fetched, Failed, Committed, Published}
 use Rattle.alm_bench.specs.declared.parts.Parts.{Parts}
 use Rattle.alm_bench.specs.World.{World}
 use Rattle.alm_model.proofs.ByStamp.{by-stamp-permutation, by-stamp-rises}

@@ -8,11 +8,11 @@ use Rattle.alm_model.specs.Plant.{Condensed}
 use Rattle.alm_types.specs.Batches.{Judged}
 use Rattle.alm_model.specs.Rules.{AllAdmitted}
 use Rattle.alm_model.proofs.Legal.{admitted_front, accepted_append, legal_admitted, next_batch}
-use Rattle.alm_flusher.specs.HeldBatch.{batches_of, stored_of, next_of}
-use Rattle.alm_flusher.specs.Flushes.{IsNext}
-use Rattle.alm_flusher.specs.declared.held.Held.{Held}
-use Rattle.alm_flusher.specs.declared.held.Held.TheVariants.{Nothing, Fetched, Failed, Committed, Published}
-use Rattle.alm_flusher.proofs.HeldLaws.{none_past}
+use Rattle.alm_flush.specs.HeldBatch.{batches_of, stored_of, next_of}
+use Rattle.alm_flush.specs.Flushes.{IsNext}
+use Rattle.alm_flush.specs.declared.held.Held.{Held}
+use Rattle.alm_flush.specs.declared.held.Held.TheVariants.{Nothing, Fetched, Failed, Committed, Published}
+use Rattle.alm_flush.proofs.HeldLaws.{none_past}
 use Rattle.alm_bench.specs.World.{HasVerdicts, next_at}
 use Rattle.alm_bench.specs.Matches.{stage_of}
 

@@ -7,7 +7,7 @@ use Rattle.alm_model.specs.Judging.{accepted_of, entries_in}
 use Rattle.alm_model.proofs.Runs.{run_append}
 use Rattle.alm_rings.specs.Batches.{fetched_of}
 use Rattle.alm_board.specs.Logs.{list_of}
-use Rattle.alm_flusher.specs.HeldBatch.{shown_of}
+use Rattle.alm_flush.specs.HeldBatch.{shown_of}
 use Rattle.alm_bench.specs.declared.parts.Parts.{Parts}
 use Rattle.alm_bench.specs.World.{World, shown_in}
 use Rattle.alm_bench.specs.Matches.{Fits}

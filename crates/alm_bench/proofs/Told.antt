@@ -11,8 +11,8 @@ use Rattle.alm_model.specs.Step.{run}
 use Rattle.alm_model.specs.Judging.{accepted_of, when_accepted}
 use Rattle.alm_board.specs.Fronts.{IsFront}
 use Rattle.alm_board.proofs.FrontLaws.{front_more, front_of, front_self, front_shorter, front_trans}
-use Rattle.alm_flusher.specs.declared.held.Held.TheVariants as V
-use Rattle.alm_flusher.proofs.HeldLaws.{published_split}
+use Rattle.alm_flush.specs.declared.held.Held.TheVariants as V
+use Rattle.alm_flush.proofs.HeldLaws.{published_split}
 use Rattle.alm_bench.specs.declared.step.Step.{Step}
 use Rattle.alm_bench.specs.declared.step.Step.TheVariants.{Send, Take, Seal, Fetch, Call, Publish, Release, GiveBack, Receive, Look, Crash, Reopen}
 use Rattle.alm_bench.specs.declared.event.Event.{Event}

@@ -16,15 +16,15 @@ use Rattle.alm_rings.specs.declared.seal_ends.SealEnds.{SealEnds}
 use Rattle.alm_rings.specs.Ends.{sent_of, received_of, coming_to, room_of}
 use Rattle.alm_rings.specs.Placed.{taken_by, waiting_by, released_by, room_by}
 use Rattle.alm_rings.specs.Batches.{sealed_of, fetched_of, emptied_of, given_of, coming_in, empties_in, places_of, places_in}
-use Rattle.alm_flusher.specs.declared.held.Held as H
-use Rattle.alm_flusher.specs.declared.held.Held.TheVariants as V
-use Rattle.alm_flusher.specs.HeldBatch.{stored_of, shown_of}
-use Rattle.alm_sequencer.specs.Spares.{spares}
+use Rattle.alm_flush.specs.declared.held.Held as H
+use Rattle.alm_flush.specs.declared.held.Held.TheVariants as V
+use Rattle.alm_flush.specs.HeldBatch.{stored_of, shown_of}
+use Rattle.alm_seq.specs.Spares.{spares}
 use Rattle.alm_store.specs.declared.store.Store.{Ghosts}
 use Rattle.alm_disk.specs.declared.disk.Disk
 use Rattle.alm_store.specs.declared.phase.Phase.TheVariants.{Stopped}
 use Rattle.alm_bench.specs.declared.parts.Parts.{Parts}
-use Rattle.alm_flusher.specs.declared.advance.Advance as A
+use Rattle.alm_flush.specs.declared.advance.Advance as A
 use Rattle.alm_bench.specs.declared.step.Step.{Step}
 use Rattle.alm_bench.specs.declared.step.Step.TheVariants.{Call, Crash, Reopen}
 use Rattle.alm_bench.specs.declared.event.Event.{Event}

@@ -15,7 +15,7 @@ use crate::parts::Parts;
 use crate::setup::Setup;
 use crate::step::Step;
 use alm_disk::Crashable;
-use alm_flusher::Advance;
+use alm_flush::Advance;
 use alm_keeper::{Keeper, OpenFault};
 use alm_store::Store;
 use std::alloc::{AllocError, Global};

@@ -11,11 +11,11 @@ ghost use Rattle.alm_bench.specs.Matches.{IsOpen};
 
 use crate::parts::Parts;
 use alm_board::PlainBoard;
-use alm_flusher::Flusher;
+use alm_flush::Flusher;
 use alm_keeper::{OpenFault, Phase};
 use alm_model::Alarms;
 use alm_rings::{SlotEnds, batches_beside, open_batches, open_slots};
-use alm_sequencer::Sequencer;
+use alm_seq::Sequencer;
 use alm_store::Store;
 use std::alloc::Global;
 

@@ -10,7 +10,7 @@ use crate::visits::Visits;
 use alm_board::FreeLook;
 use alm_rings::{Console, Told};
 use alm_run::{Go, Source};
-use alm_turn::{Session, Turn, drain};
+use alm_session::{Session, Turn, drain};
 use mio::net::TcpListener;
 use mio::{Events, Interest, Poll, Token};
 use std::io;

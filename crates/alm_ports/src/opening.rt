@@ -7,7 +7,7 @@ use crate::door::Door;
 use crate::port_fault::PortFault;
 use crate::slot_bell::SlotBell;
 use crate::visits::Visits;
-use alm_turn::Session;
+use alm_session::Session;
 use alm_types::Slot;
 use mio::Events;
 use std::alloc::Global;

@@ -2,7 +2,7 @@
 
 ghost use Rattle.std.specs.Prelude.{◌≤◌, ◌^◌, ◌-◌};
 
-use alm_turn::{ReadGave, Wire, WriteTook};
+use alm_session::{ReadGave, Wire, WriteTook};
 use std::io::{ErrorKind, Read, Write};
 
 /// A non-blocking stream as a wire: what it would have to wait for, or was interrupted in, is Blocked; a read of 0 bytes is the

@@ -3,11 +3,11 @@
 use crate::fault::Fault;
 use crate::file_stack::FileStack;
 use crate::io_faults::{file_fault, io_fault};
+use alm_desk::{Backend, CountedWriter, LocalDesk};
 use alm_file::FileDisk;
 use alm_model::Alarms;
 use alm_plant::Plant;
 use alm_service::{CountedReader, desk_run, worked_table};
-use alm_session::{Backend, CountedWriter, LocalDesk};
 use alm_stack::Stack;
 use std::alloc::Global;
 use std::fs::{File, Files};

@@ -2,11 +2,11 @@
 
 use crate::fault::Fault;
 use crate::io_faults::{file_fault, io_fault};
+use alm_desk::CountedWriter;
 use alm_disk::Disk;
 use alm_export::export_plant;
 use alm_file::FileDisk;
 use alm_keeper::{Keeper, open_store};
-use alm_session::CountedWriter;
 use std::fs::{File, Files};
 use std::io::{self, BufWriter};
 

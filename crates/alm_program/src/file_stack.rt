@@ -1,7 +1,7 @@
 //! The stack over a device's file.
 
+use alm_desk::{Backend, Judged, Stopped};
 use alm_file::FileDisk;
-use alm_session::{Backend, Judged, Stopped};
 use alm_stack::Stack;
 use alm_types::{Answer, Query, Refusal, Request};
 

@@ -2,10 +2,10 @@
 
 use crate::fault::Fault;
 use crate::io_faults::{file_fault, io_fault};
+use alm_desk::CountedWriter;
 use alm_file::FileDisk;
 use alm_keeper::{Keeper, open_store};
 use alm_service::show_plant;
-use alm_session::CountedWriter;
 use alm_types::Answer;
 use std::fs::{File, Files};
 use std::io::{self, BufWriter};

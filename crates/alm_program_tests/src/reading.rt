@@ -1,9 +1,9 @@
 //! Reads, and a desk over them.
 
 use crate::script::{Script, Step};
+use alm_desk::{Backend, CountedWriter, LocalDesk, desk_of};
 use alm_plant::Plant;
 use alm_service::{CountedReader, ReadOutcome, RunFault, desk_run, worked_table};
-use alm_session::{Backend, CountedWriter, LocalDesk, desk_of};
 use std::alloc::Global;
 use std::test::Fail;
 

@@ -5,9 +5,9 @@ use mathlib.Core.List.{IsPrefix}
 use Rattle.alm_types.specs.Batches.{Judged}
 use Rattle.alm_model.specs.Judging.{entries_in}
 use Rattle.alm_model.proofs.Legal.{entries_append}
-use Rattle.alm_flusher.specs.HeldBatch.{batches_of, stored_of, told_of}
-use Rattle.alm_flusher.specs.declared.held.Held.{Held}
-use Rattle.alm_flusher.specs.declared.held.Held.TheVariants.{Nothing, Fetched, Failed, Committed, Published}
+use Rattle.alm_flush.specs.HeldBatch.{batches_of, stored_of, told_of}
+use Rattle.alm_flush.specs.declared.held.Held.{Held}
+use Rattle.alm_flush.specs.declared.held.Held.TheVariants.{Nothing, Fetched, Failed, Committed, Published}
 
 stored_front : (h : Held) → IsPrefix (stored_of h) (entries_in (batches_of h))
 stored_front Nothing = ([], refl)

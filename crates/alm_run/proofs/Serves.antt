@@ -5,7 +5,7 @@ use Rattle.alm_rings.specs.declared.inbox.Inbox.{Inbox}
 use Rattle.alm_rings.specs.declared.outbox.Outbox.{Outbox}
 use Rattle.alm_rings.specs.declared.told.Told.{Ghosts}
 use Rattle.alm_rings.specs.Placed.{SameInboxAt, inbox_at, SameOutboxAt}
-use Rattle.alm_sequencer.specs.Sequences.{SameInboxes}
+use Rattle.alm_seq.specs.Sequences.{SameInboxes}
 use Rattle.alm_run.specs.Serving.{Serves}
 
 pub same_at_trans : (a b c : Option Inbox) → SameInboxAt a b → SameInboxAt b c → SameInboxAt a c

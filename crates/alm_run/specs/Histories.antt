@@ -14,7 +14,7 @@ use Rattle.alm_rings.specs.declared.seal_ends.SealEnds.{SealEnds}
 use Rattle.alm_rings.specs.declared.fetch_ends.FetchEnds.{FetchEnds}
 use Rattle.alm_rings.specs.Batches.{sealed_of, fetched_of}
 use Rattle.alm_rings.specs.Placed.{taken_by, released_by}
-use Rattle.alm_flusher.specs.Replies.{replies_in, replies_to}
+use Rattle.alm_flush.specs.Replies.{replies_in, replies_to}
 
 -- from this base: the entries of the sealed batches, and those that were not sealed, are one legal history of one thread, and of each slot they answer the requests that were taken, each once, in order
 pub record Judged (base : Condensed) (inboxes : List Inbox) (ends : SealEnds) : Type 0 where

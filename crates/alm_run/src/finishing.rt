@@ -11,7 +11,7 @@ use crate::flusher_parts::FlusherParts;
 use crate::flushing::flush;
 use crate::landed::Landed;
 use alm_board::{Board, Publish};
-use alm_flusher::Flusher;
+use alm_flush::Flusher;
 use alm_rings::Told;
 use alm_store::{Phase, Store};
 use std::sync::Wait;

@@ -8,7 +8,7 @@ use crate::doorbell::YIELDS;
 use crate::flags::Flags;
 use crate::storage::Storage;
 use alm_board::{Board, Publish};
-use alm_flusher::{Advance, Fetch, Flusher, Publishes, Release};
+use alm_flush::{Advance, Fetch, Flusher, Publishes, Release};
 use alm_rings::Told;
 use alm_store::{Phase, Store};
 use std::sync::Wait;

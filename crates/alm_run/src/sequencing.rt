@@ -1,7 +1,7 @@
 //! The sequencer's thread.
 ghost use Rattle.std.specs.Prelude.{◌≡◌};
 ghost use Rattle.alm_rings.specs.Batches.{SameSealEnds};
-ghost use Rattle.alm_sequencer.specs.Sequences.{SameInboxes, base_of};
+ghost use Rattle.alm_seq.specs.Sequences.{SameInboxes, base_of};
 ghost use Rattle.alm_run.specs.Serving.{Serves};
 
 use crate::bell::Bell;
@@ -9,7 +9,7 @@ use crate::company::Company;
 use crate::flags::Flags;
 use alm_disk::Hold;
 use alm_model::Alarms;
-use alm_sequencer::{Seal, Sequencer, Take};
+use alm_seq::{Seal, Sequencer, Take};
 use alm_types::Slot;
 use std::sync::Wait;
 use std::sync::atomic::Ordering;

@@ -2,7 +2,7 @@
 ghost use Rattle.std.specs.Prelude.{◌≡◌, ℕ, ◌<◌, ◌≤◌, ◌^◌, [], length, IfOk};
 ghost use Rattle.alm_rings.specs.Batches.{SameSealEnds, sealed_of, empties_in};
 ghost use Rattle.alm_rings.specs.Placed.{AreApart, taken_by};
-ghost use Rattle.alm_sequencer.specs.Sequences.{SameInboxes};
+ghost use Rattle.alm_seq.specs.Sequences.{SameInboxes};
 ghost use Rattle.alm_run.specs.Histories.{Judged};
 ghost use Rattle.alm_run.specs.Serving.{Serves};
 
@@ -14,7 +14,7 @@ use crate::sequencing::sequence;
 use crate::start_fault::StartFault;
 use alm_disk::Hold;
 use alm_model::Alarms;
-use alm_sequencer::Sequencer;
+use alm_seq::Sequencer;
 use alm_types::Slot;
 use std::snapshot::Snapshot;
 use std::sync::Wait;

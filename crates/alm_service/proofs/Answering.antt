@@ -7,7 +7,7 @@ use Rattle.std.specs.Io.KnownBytes.{Appends, Keeps}
 use Rattle.std.proofs.Common.{inl, inr}
 use Rattle.std.proofs.lemmas.Bool.{cases_Bool}
 use Rattle.alm_lines.specs.Stream.{is_end}
-use Rattle.alm_session.specs.Answers.{Standing}
+use Rattle.alm_desk.specs.Answers.{Standing}
 use Rattle.alm_service.specs.Desk.{AnsweredBytes, IsPrinted, IsDesk, IsCutDeskLine, BreaksOff, held_at_desk, fed_to_desk, lines_of, line, printed, stands_after, desk_reply, desk_after, desk_line_of}
 use Rattle.alm_service.specs.declared.run_fault.RunFault.{RunFault}
 use Rattle.alm_service.specs.Turns.{IsTurn, IsBroken}

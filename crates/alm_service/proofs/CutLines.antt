@@ -3,8 +3,8 @@ use Rattle.std.proofs.Common.{ℕ, List, Option, refl, inl, inr}
 use Rattle.std.specs.Io.KnownBytes.{Appends}
 use Rattle.alm_lines.specs.Line.{line_of}
 use Rattle.alm_lines.specs.Written.{IsCutShort}
-use Rattle.alm_session.specs.Answers.{Standing}
-use Rattle.alm_session.specs.Failing.{IsCutLine}
+use Rattle.alm_desk.specs.Answers.{Standing}
+use Rattle.alm_desk.specs.Failing.{IsCutLine}
 use Rattle.alm_service.specs.Desk.{IsCutDeskLine, head, request_of}
 
 -- before the reply

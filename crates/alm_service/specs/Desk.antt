@@ -7,9 +7,9 @@ use Rattle.alm_types.specs.Refusals.{number_of}
 use Rattle.alm_lines.specs.Line.{number, cut, line_of}
 use Rattle.alm_lines.specs.Stream.{is_end, held_within, fed_within}
 use Rattle.alm_lines.specs.Written.{IsCutShort}
-use Rattle.alm_session.specs.Answers.{Standing, SlotLine, reply, after}
-use Rattle.alm_session.specs.Failing.{IsCutLine}
-use Rattle.alm_session.specs.declared.hindrance.Hindrance.{Hindrance}
+use Rattle.alm_desk.specs.Answers.{Standing, SlotLine, reply, after}
+use Rattle.alm_desk.specs.Failing.{IsCutLine}
+use Rattle.alm_desk.specs.declared.hindrance.Hindrance.{Hindrance}
 
 -- what is held of the desk's next line: of its bytes 131 count, one more than it may have without its line end
 abbrev pub held_at_desk : List ℕ → ℕ → List ℕ

@@ -1,7 +1,7 @@
 -- One read of a desk.
 use Rattle.std.specs.Prelude.{◌≡◌, ℕ, List, [], Bool, false, Option}
 use Rattle.std.specs.Io.KnownBytes.{Consumes, IsAtEnd}
-use Rattle.alm_session.specs.Answers.{Standing}
+use Rattle.alm_desk.specs.Answers.{Standing}
 use Rattle.alm_service.specs.Desk.{IsPrinted, BreaksOff, lines_of}
 
 -- some bytes were read and answered; where no more come the input is at its end

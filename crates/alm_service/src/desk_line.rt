@@ -7,8 +7,8 @@ ghost use Rattle.alm_lines.specs.Line.{number};
 ghost use Rattle.alm_lines.specs.Written.{Prints};
 ghost use Rattle.alm_service.specs.Desk.{desk_line_of, desk_reply, desk_after, unreadable_text, request_of, IsCutDeskLine};
 
+use alm_desk::{Backend, CountedWriter, Hindrance, LocalDesk, WriteFailed};
 use alm_lines::{Part, cut, number};
-use alm_session::{Backend, CountedWriter, Hindrance, LocalDesk, WriteFailed};
 use alm_types::{Refusal, Slot};
 use std::io::Write;
 

@@ -11,8 +11,8 @@ use crate::counted_reader::CountedReader;
 use crate::desk_line::answer_desk_line;
 use crate::read_outcome::ReadOutcome;
 use crate::run_fault::RunFault;
+use alm_desk::{Backend, CountedWriter, LocalDesk, WriteFailed};
 use alm_lines::HeldLine;
-use alm_session::{Backend, CountedWriter, LocalDesk, WriteFailed};
 use std::io::{Read, Write};
 
 /// How many bytes of a line count: one more than it may have without its LF.

@@ -1,6 +1,6 @@
 //! Faults of showing.
 
-use alm_session::WriteFailed;
+use alm_desk::WriteFailed;
 
 /// Why a plant isn't shown to its end.
 #[derive(Clone, Copy, Debug, PartialEq, Eq)]

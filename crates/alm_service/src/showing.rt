@@ -8,9 +8,9 @@ ghost use Rattle.alm_model.specs.Look.{look};
 ghost use Rattle.alm_service.specs.Showing.{told_between, alarm_line, priority_line, area_line, head_line, plant_text, CountsShow};
 
 use crate::show_fault::ShowFault;
+use alm_desk::CountedWriter;
 use alm_lines::Part;
 use alm_model::{Alarms, look};
-use alm_session::CountedWriter;
 use alm_types::{AlarmId, Answer, Query, Refusal};
 use std::io::Write;
 

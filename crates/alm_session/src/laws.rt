@@ -1,12 +1,23 @@
-//! Laws of the desk's definitions: each function does nothing, and its contract is the law.
+//! Laws of turns: each function does nothing, and its contract is the law.
 
-ghost use Rattle.std.specs.Prelude.{◌≡◌, ℕ, List, [], map, take, replicate};
-ghost use Rattle.alm_session.specs.Desks.{Tagged, lines_in};
-ghost use Rattle.alm_session.specs.Whole.{whole_lines};
+ghost use Rattle.std.specs.Prelude.{ℕ, ◌+◌, ◌≤◌, ◌<◌, ◌^◌, length};
+ghost use Rattle.alm_types.specs.declared.query.Query.{Query};
+ghost use Rattle.alm_model.specs.Plant.{Condensed};
+ghost use Rattle.alm_model.specs.Rules.{KeepsRules};
+ghost use Rattle.alm_desk.specs.Answers.{look_reply};
+ghost use Rattle.alm_desk.specs.declared.hindrance.Hindrance.TheVariants.{Nothing};
+ghost use Rattle.alm_session.specs.Ended.{IsFresh, IsFinished, IsAnswered};
+ghost use Rattle.alm_session.specs.Turns.{IsTurn, Side};
 
-/// That no more than 128 bytes of a line are held makes no difference: the lines that bytes end are those of the whole
-/// streams. So it is from a new desk on.
-pub fn lines_are_whole()
-    ensures held { (wholes : List (List ℕ)) (bytes : List Tagged) → lines_in (map (take 128) wholes) bytes ≡ whole_lines wholes bytes }
-    ensures fresh { (bytes : List Tagged) → lines_in (replicate 18 []) bytes ≡ whole_lines (replicate 18 []) bytes }
+/// What single turns do, they do one after the other; and of a connection that was new and has ended, each line was answered, and what
+/// was written is the replies in the order of the lines.
+pub fn turns_answer_all_lines()
+    ensures join { (base : Condensed) (m n : ℕ) (a b c : Side) → IsTurn base m a b → IsTurn base n b c → IsTurn base (m + n) a c }
+    ensures ended { (base : Condensed) (n : ℕ) (a b : Side) → IsTurn base n a b → IsFresh a → IsFinished b → IsAnswered base a b }
+{}
+
+/// Of a plant that keeps its rules, and so has 16,384 alarms at most, no reply to a query is longer than the room for replies: such a
+/// query is never refused for its length.
+pub fn replies_have_room()
+    ensures { (q : Condensed) (id : ℕ) (query : Query) → KeepsRules q → q.panel.count ≤ 2 ^ 48 → id < 2 ^ 32 → length (look_reply q id query Nothing) ≤ 131072 }
 {}

@@ -1,41 +1,46 @@
-//! Connections: what is answered to the lines of a slot.
+//! One slot's connection over a wire that never waits.
 //!
-//! A [`LocalDesk`] answers the lines of all 18 slots in one thread, each before the next, over a [`Backend`]: a plant that
-//! judges requests and answers queries. Once the backend's storage has stopped, the line that met it and every later line
-//! that asks something are answered `NO 15`, which says nothing of what became of an action.
+//! A [`Session`] does in one turn the first of these that can be done without waiting:
 //!
-//! What is used above: the bytes that [`LocalDesk::feed`] writes, over all calls and slots, are the replies to the lines in
-//! the order in which their line ends came, each judged on the plant of the actions before it. They hang on the bytes
-//! alone and not on how they were cut: [`feed_all`] says so of any sequence of pieces. A fault of the desk comes only where
-//! its writer failed, which a [`CountedWriter`] counts.
+//! | step | where | the turn |
+//! |---|---|---|
+//! | receives a receipt, learns what it tells, and prints the reply to the oldest action that waits | the ring knows a receipt | [`Turn::Went`] |
+//! | writes once | replies stand to be written | Went, Idle where the write is blocked, Fault where it fails |
+//! | sends the action of the line that is held | a line is held | Went, Idle where it has to wait |
+//! | answers the query or the bad line that is held | a line is held, no action waits | Went |
+//! | reads once | no line is held | Went, Idle where the read is blocked, Ended at the end, Fault where it fails |
 //!
-//! Not promised: after a writer's fault, how much of the last reply went out.
+//! So replies stand in the order of the lines, and a look comes after all receipts before it were learnt. A line is taken only while no
+//! reply stands to be written, and the wire is read only while no whole line is held: a client that doesn't read isn't read either.
+//!
+//! | what a session holds | room |
+//! |---|---|
+//! | bytes that were read | 4,096 |
+//! | the line that hasn't ended | 128 |
+//! | ids of actions that wait for their receipts | 64 |
+//! | replies that aren't written | 131,072 |
+//!
+//! What is used above: [`Session::turn`], by the relation `IsTurn` between the slot's side before and after; the law
+//! [`laws::turns_answer_all_lines`] makes of it what a whole connection is. [`drain`] drops what a lost connection leaves.
+//! [`Wire`] is what a socket is to a session, [`MemWire`] one in memory.
+//!
+//! Not promised: any time. That the k-th receipt answers the k-th request is the flusher's to say; here receipts come in order.
 #![tactic(auto)]
 
-mod answering;
-mod backend;
-mod counted_writer;
-mod desk_fault;
-mod hindrance;
-mod judged;
+mod draining;
+mod intake;
 pub mod laws;
-mod local_desk;
-mod memory_backend;
-mod memory_desk;
-mod piece;
-mod piece_feeding;
-mod slot_feeding;
-mod stopped;
-mod write_failed;
+mod mem_wire;
+mod output;
+mod session;
+mod told;
+mod turn;
+mod wire;
 
-pub use backend::Backend;
-pub use counted_writer::CountedWriter;
-pub use desk_fault::DeskFault;
-pub use hindrance::Hindrance;
-pub use judged::Judged;
-pub use local_desk::LocalDesk;
-pub use memory_desk::desk_of;
-pub use piece::Piece;
-pub use piece_feeding::feed_all;
-pub use stopped::Stopped;
-pub use write_failed::WriteFailed;
+pub use draining::drain;
+pub use intake::Intake;
+pub use mem_wire::MemWire;
+pub use output::{Output, Sent};
+pub use session::Session;
+pub use turn::Turn;
+pub use wire::{ReadGave, Wire, WriteTook};

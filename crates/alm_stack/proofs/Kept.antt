@@ -9,9 +9,9 @@ use Rattle.alm_model.specs.Accept.{accept}
 use Rattle.alm_model.specs.Plant.{Condensed}
 use Rattle.alm_model.specs.Step.{run}
 use Rattle.alm_model.specs.Judging.{accepted_of, after_verdict, verdict_of, when_accepted}
-use Rattle.alm_flusher.specs.declared.held.Held.{Held}
-use Rattle.alm_flusher.specs.HeldBatch.{waiting_of}
-use Rattle.alm_session.specs.Backends.{if_accepted}
+use Rattle.alm_flush.specs.declared.held.Held.{Held}
+use Rattle.alm_flush.specs.HeldBatch.{waiting_of}
+use Rattle.alm_desk.specs.Backends.{if_accepted}
 use Rattle.alm_stack.specs.Passing.{MayWait}
 use Rattle.alm_stack.specs.Stacks.{kept_at}
 use Rattle.alm_stack.proofs.Verdicts.{after_is}

@@ -16,8 +16,8 @@ use Rattle.alm_rings.specs.declared.seal_ends.SealEnds.{SealEnds}
 use Rattle.alm_rings.specs.declared.fetch_ends.FetchEnds.{FetchEnds}
 use Rattle.alm_rings.specs.Batches.{sealed_of, fetched_of}
 use Rattle.alm_rings.specs.Placed.{inbox_at, outbox_at, taken_in, released_in}
-use Rattle.alm_sequencer.specs.Sequences.{live_of}
-use Rattle.alm_flusher.specs.HeldBatch.{batches_of, shown_of}
+use Rattle.alm_seq.specs.Sequences.{live_of}
+use Rattle.alm_flush.specs.HeldBatch.{batches_of, shown_of}
 use Rattle.alm_store.specs.declared.store.Store.{Ghosts}
 use Rattle.alm_stack.specs.declared.pipeline.Pipeline.{Pipeline}
 use Rattle.alm_stack.specs.Passing.{AreLinked, IsAt, RestsAt, resting, notes_of}

@@ -13,9 +13,9 @@ use Rattle.alm_rings.specs.declared.console.Console.{Console}
 use Rattle.alm_rings.specs.Batches.{sealed_of, fetched_of, emptied_of, given_of}
 use Rattle.alm_rings.specs.Placed.{taken_by, released_by}
 use Rattle.alm_store.specs.declared.store.Store.{Ghosts}
-use Rattle.alm_flusher.specs.declared.held.Held.TheVariants.{Fetched, Committed}
-use Rattle.alm_flusher.specs.Flushes.{IsNext}
-use Rattle.alm_flusher.specs.HeldBatch.{batches_of, stored_of}
+use Rattle.alm_flush.specs.declared.held.Held.TheVariants.{Fetched, Committed}
+use Rattle.alm_flush.specs.Flushes.{IsNext}
+use Rattle.alm_flush.specs.HeldBatch.{batches_of, stored_of}
 use Rattle.alm_stack.specs.declared.pipeline.Pipeline.{Pipeline}
 use Rattle.alm_stack.specs.Passing.{IsAt, IsReady, resting, flushing, notes_of}
 

@@ -9,8 +9,8 @@ use Rattle.alm_model.specs.Accept.{accept}
 use Rattle.alm_model.specs.Plant.{Condensed}
 use Rattle.alm_model.specs.Judging.{verdict_from, verdict_of, after_verdict, when_accepted}
 use Rattle.alm_model.proofs.Runs.{step_count}
-use Rattle.alm_session.specs.Backends.{judged, judged_by, if_accepted}
-use Rattle.alm_session.specs.declared.judged.Judged.{Judged}
+use Rattle.alm_desk.specs.Backends.{judged, judged_by, if_accepted}
+use Rattle.alm_desk.specs.declared.judged.Judged.{Judged}
 
 after_from : (q : Condensed) (n : ℕ) (r : Result Action Refusal) → after_verdict q (verdict_from n r) ≡ if_accepted q r
 after_from q n (Ok a) = refl

@@ -22,12 +22,12 @@ use Rattle.alm_rings.specs.Batches.{AreBatchEnds, sealed_of, fetched_of, emptied
 use Rattle.alm_store.specs.declared.phase.Phase.{Phase}
 use Rattle.alm_store.specs.declared.phase.Phase.TheVariants.{Committing, Stopped}
 use Rattle.alm_store.specs.declared.store.Store.{Ghosts}
-use Rattle.alm_flusher.specs.declared.held.Held.{Held}
-use Rattle.alm_flusher.specs.declared.held.Held.TheVariants.{Nothing, Fetched, Committed, Published}
-use Rattle.alm_sequencer.specs.Sequences.{live_of}
-use Rattle.alm_flusher.specs.HeldBatch.{waiting_of}
-use Rattle.alm_session.specs.Answers.{request}
-use Rattle.alm_session.specs.declared.judged.Judged as J
+use Rattle.alm_flush.specs.declared.held.Held.{Held}
+use Rattle.alm_flush.specs.declared.held.Held.TheVariants.{Nothing, Fetched, Committed, Published}
+use Rattle.alm_seq.specs.Sequences.{live_of}
+use Rattle.alm_flush.specs.HeldBatch.{waiting_of}
+use Rattle.alm_desk.specs.Answers.{request}
+use Rattle.alm_desk.specs.declared.judged.Judged as J
 use Rattle.alm_stack.specs.declared.pipeline.Pipeline.{Pipeline}
 
 -- what a receipt says of a request: the verdict, and the action's number or the count against which it was refused

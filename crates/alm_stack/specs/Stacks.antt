@@ -8,8 +8,8 @@ use Rattle.alm_rings.specs.declared.told.Told.{Ghosts as ToldGhosts}
 use Rattle.alm_rings.specs.declared.console.Console.{Console}
 use Rattle.alm_rings.specs.Ends.{sent_of}
 use Rattle.alm_store.specs.declared.store.Store.{Ghosts}
-use Rattle.alm_sequencer.specs.Sequences.{live_of}
-use Rattle.alm_session.specs.Backends.{if_accepted}
+use Rattle.alm_seq.specs.Sequences.{live_of}
+use Rattle.alm_desk.specs.Backends.{if_accepted}
 use Rattle.alm_stack.specs.declared.stack.StackOver.{StackOver}
 
 -- none from the request on at which the storage stopped

@@ -3,8 +3,8 @@
 ghost use Rattle.std.specs.Prelude.{◌≡◌};
 
 use alm_board::PlainTold;
+use alm_desk::Judged;
 use alm_rings::Receipt;
-use alm_session::Judged;
 
 /// What a receipt says.
 pub fn judged_of(receipt: Receipt<PlainTold>) -> Judged

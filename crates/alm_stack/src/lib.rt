@@ -8,7 +8,7 @@
 //! write with its sync) > board > receipt > [ring] > console
 //! ```
 //!
-//! What is used above is that it is a [`Backend`](alm_session::Backend): an answer is what the plant answers, and it is given
+//! What is used above is that it is a [`Backend`](alm_desk::Backend): an answer is what the plant answers, and it is given
 //! once the action is stored. What a crash leaves is said by [`Stack::images`]: each image of the device stands for the plant
 //! while the stack runs, and once its storage has stopped for the plant before, without the action that met it or with it. It
 //! stops only where the device failed in that call, where the last epoch is spent, or where a slot's serials are.

@@ -2,16 +2,16 @@
 
 ghost use Rattle.std.specs.Prelude.{◌≡◌, ◌≤◌, ◌^◌, ℕ, length, slice_get, Some, IfOk, IfErr};
 ghost use Rattle.alm_rings.specs.declared.console.Console.{Console};
-ghost use Rattle.alm_sequencer.specs.Sequences.{live_of};
+ghost use Rattle.alm_seq.specs.Sequences.{live_of};
 ghost use Rattle.alm_stack.specs.Passing.{AreLinked, RestsAt};
 
 use crate::pipeline::Pipeline;
 use alm_board::{PlainBoard, PlainTold};
-use alm_flusher::Flusher;
+use alm_flush::Flusher;
 use alm_keeper::Phase;
 use alm_model::Alarms;
 use alm_rings::{Console, SlotEnds, batches_beside, open_batches, open_slots};
-use alm_sequencer::Sequencer;
+use alm_seq::Sequencer;
 use alm_store::Store;
 use std::alloc::Global;
 

@@ -2,11 +2,11 @@
 
 use crate::judging::judged_of;
 use alm_board::{PlainBoard, PlainTold};
-use alm_flusher::{Advance, Fetch, Flusher, Publishes, Release};
+use alm_desk::Judged;
+use alm_flush::{Advance, Fetch, Flusher, Publishes, Release};
 use alm_plant::Plant;
 use alm_rings::Console;
-use alm_sequencer::{Seal, Sequencer, Take};
-use alm_session::Judged;
+use alm_seq::{Seal, Sequencer, Take};
 use alm_store::Store;
 use alm_types::{Action, Slot};
 
@@ -31,11 +31,11 @@ impl<K: Store> Pipeline<K> {
     ghost use Rattle.alm_rings.specs.declared.console.Console.{Console};
     ghost use Rattle.alm_rings.specs.Ends.{sent_of};
     ghost use Rattle.alm_store.specs.Advancing.{Same};
-    ghost use Rattle.alm_flusher.specs.Flushes.{IsNext};
-    ghost use Rattle.alm_flusher.specs.declared.held.Held.TheVariants as H;
+    ghost use Rattle.alm_flush.specs.Flushes.{IsNext};
+    ghost use Rattle.alm_flush.specs.declared.held.Held.TheVariants as H;
     ghost use Rattle.alm_model.specs.Accept.{accept};
-    ghost use Rattle.alm_session.specs.Answers.{request};
-    ghost use Rattle.alm_session.specs.Backends.{judged, if_accepted};
+    ghost use Rattle.alm_desk.specs.Answers.{request};
+    ghost use Rattle.alm_desk.specs.Backends.{judged, if_accepted};
     ghost use Rattle.alm_stack.specs.Passing.{Situation, Note, AreLinked, Knows, IsAt, KeepsOthers, resting, sent, taken, sealed_as, fetched, committed, published, released, given_back, received, flushing, IsJudgedIn, IsNote, IsReady, MayWait};
 
     /// Tells the ends of a slot, and those of the batch rings, what the others did.

@@ -9,9 +9,9 @@ ghost use Rattle.alm_stack.specs.Passing.{AreLinked, RestsAt, MayWait};
 use crate::opening::{Furnished, furnish};
 use crate::pipeline::Pipeline;
 use alm_board::{Look, PlainTold, Seen};
+use alm_desk::{Backend, Judged, Stopped};
 use alm_keeper::{Keeper, OpenFault};
 use alm_rings::Console;
-use alm_session::{Backend, Judged, Stopped};
 use alm_store::Store;
 use alm_types::{Answer, Query, Refusal, Request};
 use std::alloc::Global;
@@ -102,7 +102,7 @@ impl<K: Store> StackOver<K> {
 impl<K: Store> Backend for StackOver<K> {
     ghost use Rattle.std.specs.Prelude.{◌≡◌, ◌↔◌, ◌<◌, ◌+◌, ◌^◌, IsSome, OnErr};
     ghost use Rattle.alm_disk.specs.Failures.{HasFailed};
-    ghost use Rattle.alm_session.specs.Backends.{IsJudged, CountsStop, kept_by};
+    ghost use Rattle.alm_desk.specs.Backends.{IsJudged, CountsStop, kept_by};
     ghost use Rattle.alm_stack.specs.Stacks.{stands_of, kept_of, store_of, serial_of};
 
     ghost stands = { stands_of };

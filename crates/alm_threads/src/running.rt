@@ -3,7 +3,7 @@ ghost use Rattle.std.specs.Prelude.{◌≡◌, ◌≤◌, ℕ, [], length, map, 
 ghost use mathlib.Core.List.{IsPrefix};
 ghost use Rattle.alm_rings.specs.Batches.{AreBatchEnds, SameSealEnds, SameFetchEnds, fetched_of, sealed_of};
 ghost use Rattle.alm_rings.specs.Placed.{AreApart, SameOutboxAt, outbox_at};
-ghost use Rattle.alm_sequencer.specs.Sequences.{SameInboxes};
+ghost use Rattle.alm_seq.specs.Sequences.{SameInboxes};
 ghost use Rattle.alm_run.specs.Histories.{Judged, Flushed};
 ghost use Rattle.alm_run.specs.Same.{AllSame};
 ghost use Rattle.alm_run.specs.Serving.{Serves};

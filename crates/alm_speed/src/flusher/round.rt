@@ -1,6 +1,6 @@
 //! A batch of requests on its way.
 
-use alm_flusher_tests::parts::Parts;
+use alm_flush_tests::parts::Parts;
 use alm_store::Store;
 use alm_types::{Request, Verdict};
 

@@ -3,8 +3,8 @@ use Rattle.std.proofs.lemmas.List.{append-nil}
 use Rattle.alm_model.specs.Judging.{accepted_of, entries_in}
 use Rattle.alm_rings.specs.Placed.{inbox_at, outbox_at, taken_by, released_by}
 use Rattle.alm_rings.specs.Batches.{AreBatchEnds, fetched_of, given_of}
-use Rattle.alm_sequencer.specs.Spares.{spares}
-use Rattle.alm_flusher.specs.HeldBatch.{stored_of, shown_of}
+use Rattle.alm_seq.specs.Spares.{spares}
+use Rattle.alm_flush.specs.HeldBatch.{stored_of, shown_of}
 use Rattle.alm_bench.specs.Matches.{IsGivenUp, lists_of, notes_of, stage_of}
 use Rattle.alm_bench.proofs.Placing.{ring_trans, ring_sym}
 use Rattle.alm_bench.proofs.opened.furnish.Goals as goal

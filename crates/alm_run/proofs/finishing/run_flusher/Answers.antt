@@ -2,7 +2,7 @@ use Rattle.std.proofs.Common.{◌++◌, ◌∙◌, ap, sym}
 use Rattle.alm_model.specs.Judging.{accepted_of, entries_in}
 use Rattle.alm_model.specs.Step.{run}
 use Rattle.alm_rings.specs.Batches.{fetched_of}
-use Rattle.alm_flusher.specs.HeldBatch.{stored_of, told_of}
+use Rattle.alm_flush.specs.HeldBatch.{stored_of, told_of}
 use Rattle.alm_run.proofs.Histories.{kept_front, told_kept}
 use Rattle.alm_run.proofs.finishing.run_flusher.Goals as goal
 

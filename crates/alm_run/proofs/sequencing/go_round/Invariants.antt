@@ -1,6 +1,6 @@
 use Rattle.std.specs.Prelude.{◌≡◌}
 use Rattle.alm_rings.specs.Batches.{SameSealEnds}
-use Rattle.alm_sequencer.specs.Sequences.{SameInboxes, base_of}
+use Rattle.alm_seq.specs.Sequences.{SameInboxes, base_of}
 use Rattle.alm_run.specs.Serving.{Serves}
 use Rattle.alm_run.proofs.sequencing.go_round.Given as goal
 

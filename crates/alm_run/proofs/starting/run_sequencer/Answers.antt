@@ -1,6 +1,6 @@
 use Rattle.std.proofs.Common.{◌≡◌, ◌∙◌, refl, subst}
 use Rattle.alm_model.specs.Judging.{IsLegal}
-use Rattle.alm_sequencer.specs.Sequences.{base_of, history_of, open_of}
+use Rattle.alm_seq.specs.Sequences.{base_of, history_of, open_of}
 use Rattle.alm_run.proofs.starting.run_sequencer.Goals as goal
 
 pub returns-clause-judged : goal.returns-clause-judged

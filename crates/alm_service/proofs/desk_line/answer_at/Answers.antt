@@ -1,6 +1,6 @@
 use Rattle.std.proofs.Common.{Err, ap}
 use Rattle.alm_lines.proofs.Prefixes.{on_err}
-use Rattle.alm_session.proofs.Slots.{only_writer}
+use Rattle.alm_desk.proofs.Slots.{only_writer}
 use Rattle.alm_service.proofs.CutLines.{cut_in_head, cut_in_reply}
 use Rattle.alm_service.proofs.desk_line.answer_at.Goals as goal
 

@@ -1,4 +1,4 @@
-use Rattle.alm_sequencer.specs.Sequences.{SameInboxes}
+use Rattle.alm_seq.specs.Sequences.{SameInboxes}
 use Rattle.alm_run.specs.declared.rings.Rings.{Rings}
 use Rattle.std.proofs.Common.{subst}
 use Rattle.alm_threads.proofs.running.run_all.Goals as goal

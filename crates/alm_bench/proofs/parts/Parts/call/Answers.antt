@@ -2,8 +2,8 @@ use Rattle.std.proofs.Common.{refl, inl, inr, ◌≡◌, ◌+◌, ◌∙◌, ◌
 use Rattle.alm_model.specs.Judging.{IsLegal, accepted_of, entries_in, firsts_from}
 use Rattle.alm_rings.specs.Placed.{released_by}
 use Rattle.alm_rings.specs.Batches.{fetched_of, given_of}
-use Rattle.alm_flusher.specs.HeldBatch.{stored_of, shown_of}
-use Rattle.alm_flusher.proofs.HeldLaws.{accepted_more}
+use Rattle.alm_flush.specs.HeldBatch.{stored_of, shown_of}
+use Rattle.alm_flush.proofs.HeldLaws.{accepted_more}
 use Rattle.alm_bench.specs.World.{Held, stores}
 use Rattle.alm_bench.specs.Matches.{IsGivenUp, stage_of, lists_of, notes_of, held_at}
 use Rattle.alm_bench.proofs.Calls.{committed_batch, failed_batch}

@@ -2,7 +2,7 @@ use Rattle.std.proofs.Common.{◌≡◌, ◌∙◌, ◌++◌, length, ap, sym, s
 use Rattle.alm_model.specs.Judging.{accepted_of, entries_in}
 use Rattle.alm_rings.specs.Placed.{released_by}
 use Rattle.alm_rings.specs.Batches.{fetched_of, sealed_of, coming_in}
-use Rattle.alm_flusher.specs.HeldBatch.{stored_of, shown_of}
+use Rattle.alm_flush.specs.HeldBatch.{stored_of, shown_of}
 use Rattle.alm_bench.specs.World.{Nothing, fetches}
 use Rattle.alm_bench.specs.Matches.{IsGivenUp, stage_of, lists_of, notes_of, held_at}
 use Rattle.alm_bench.proofs.Lists.{next_sealed, none_sealed}

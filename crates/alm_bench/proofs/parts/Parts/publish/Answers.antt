@@ -3,8 +3,8 @@ use Rattle.alm_model.specs.Judging.{accepted_of, entries_in}
 use Rattle.alm_rings.specs.Placed.{released_by}
 use Rattle.alm_rings.specs.Placed.{outbox_at}
 use Rattle.alm_rings.specs.Batches.{AreBatchEnds, fetched_of, given_of}
-use Rattle.alm_flusher.specs.HeldBatch.{stored_of, shown_of}
-use Rattle.alm_flusher.proofs.HeldLaws.{accepted_more}
+use Rattle.alm_flush.specs.HeldBatch.{stored_of, shown_of}
+use Rattle.alm_flush.proofs.HeldLaws.{accepted_more}
 use Rattle.alm_bench.specs.World.{Stored, shows}
 use Rattle.alm_bench.specs.Matches.{IsGivenUp, stage_of, lists_of, notes_of, held_at}
 use Rattle.alm_bench.proofs.Calls.{published_batch}

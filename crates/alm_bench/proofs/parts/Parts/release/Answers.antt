@@ -7,8 +7,8 @@ use Rattle.alm_model.proofs.Runs.{run_count}
 use Rattle.alm_board.specs.Logs.{list_of}
 use Rattle.alm_rings.specs.Placed.{outbox_at, released_in, released_by, room_by, taken_by, waiting_by}
 use Rattle.alm_rings.specs.Batches.{AreBatchEnds, fetched_of, given_of}
-use Rattle.alm_flusher.specs.HeldBatch.{stored_of, shown_of, left_of, passed, next_of}
-use Rattle.alm_flusher.proofs.HeldLaws.{stored_pass, shown_pass}
+use Rattle.alm_flush.specs.HeldBatch.{stored_of, shown_of, left_of, passed, next_of}
+use Rattle.alm_flush.proofs.HeldLaws.{stored_pass, shown_pass}
 use Rattle.alm_bench.specs.World.{Stage, Shown, Note, HasVerdicts, goes_to, next_at, next_notes, note_of, raised, told_more, tells, with_at}
 use Rattle.alm_bench.specs.Matches.{IsGivenUp, stage_of, lists_of, note, notes_of, held_at}
 use Rattle.alm_bench.proofs.Moved.{opened_as}

@@ -4,7 +4,7 @@ use Rattle.alm_model.specs.Judging.{accepted_of, entries_in}
 use Rattle.alm_rings.specs.Placed.{taken_by}
 use Rattle.alm_rings.specs.Batches.{fetched_of, sealed_of, emptied_of, empties_in}
 use Rattle.alm_model.proofs.Legal.{entries_snoc}
-use Rattle.alm_sequencer.specs.Spares.{spares}
+use Rattle.alm_seq.specs.Spares.{spares}
 use Rattle.alm_bench.specs.World.{after}
 use Rattle.alm_bench.specs.Matches.{lists_of}
 use Rattle.alm_bench.specs.declared.step.Step.TheVariants as S

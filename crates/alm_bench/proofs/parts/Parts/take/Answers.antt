@@ -8,8 +8,8 @@ use Rattle.alm_types.specs.declared.entry.Entry.{Entry}
 use Rattle.alm_rings.specs.Ends.{sent_of}
 use Rattle.alm_rings.specs.Placed.{inbox_at, taken_in, taken_by, waiting_by}
 use Rattle.alm_rings.specs.Batches.{AreBatchEnds, sealed_of, emptied_of}
-use Rattle.alm_sequencer.specs.Sequences.{live_of, history_of}
-use Rattle.alm_sequencer.specs.Spares.{spares}
+use Rattle.alm_seq.specs.Sequences.{live_of, history_of}
+use Rattle.alm_seq.specs.Spares.{spares}
 use Rattle.alm_bench.specs.World.{live, judges, entry_of, with_entry, with_at}
 use Rattle.alm_bench.specs.Matches.{lists_of}
 use Rattle.alm_bench.proofs.Lists.{taken_is}

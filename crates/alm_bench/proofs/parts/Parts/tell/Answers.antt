@@ -7,8 +7,8 @@ use Rattle.alm_rings.specs.declared.console.Console.{Console}
 use Rattle.alm_rings.specs.Ends.{sent_of, received_of}
 use Rattle.alm_rings.specs.Placed.{inbox_at, outbox_at}
 use Rattle.alm_rings.specs.Batches.{AreBatchEnds, sealed_of, fetched_of, emptied_of, given_of}
-use Rattle.alm_sequencer.specs.Spares.{spares}
-use Rattle.alm_flusher.specs.HeldBatch.{stored_of, shown_of}
+use Rattle.alm_seq.specs.Spares.{spares}
+use Rattle.alm_flush.specs.HeldBatch.{stored_of, shown_of}
 use Rattle.alm_bench.specs.Matches.{IsGivenUp, KnowsEnds, lists_of, notes_of, stage_of}
 use Rattle.alm_bench.proofs.Placing.{set_here, set_cases, still_inbox, still_outbox, ring_trans, ring_sym}
 use Rattle.alm_bench.proofs.parts.Parts.tell.Goals as goal

@@ -1,5 +1,5 @@
 use Rattle.std.proofs.Common.{refl, ◌∙◌}
-use Rattle.alm_flusher.specs.declared.held.Held.TheVariants.{Committed, Published}
+use Rattle.alm_flush.specs.declared.held.Held.TheVariants.{Committed, Published}
 use Rattle.alm_stack.specs.Passing.{Note, flushing, released, given_back}
 use Rattle.alm_stack.proofs.Coming.{if_some}
 use Rattle.alm_stack.proofs.pipeline.Pipeline.answer.Goals as goal

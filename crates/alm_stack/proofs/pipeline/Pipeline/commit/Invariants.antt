@@ -1,8 +1,8 @@
 use Rattle.std.proofs.Common.{◌≡◌, ◌≤◌, ◌-◌, ◌↔◌, [], length}
 use Rattle.alm_types.specs.Batches.{Judged}
 use Rattle.alm_model.specs.Judging.{accepted_of}
-use Rattle.alm_flusher.specs.Advances.{Within}
-use Rattle.alm_flusher.specs.declared.held.Held.TheVariants.{Fetched}
+use Rattle.alm_flush.specs.Advances.{Within}
+use Rattle.alm_flush.specs.declared.held.Held.TheVariants.{Fetched}
 use Rattle.alm_stack.specs.Passing.{IsReady}
 use Rattle.alm_stack.proofs.pipeline.Pipeline.commit.Given as goal
 

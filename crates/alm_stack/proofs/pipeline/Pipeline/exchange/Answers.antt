@@ -7,10 +7,10 @@ use Rattle.alm_disk.specs.Failures.{HasFailed}
 use Rattle.alm_types.specs.declared.verdict.Verdict.{Verdict}
 use Rattle.alm_rings.specs.Batches.{fetched_of}
 use Rattle.alm_rings.specs.Placed.{inbox_at, outbox_at}
-use Rattle.alm_flusher.specs.HeldBatch.{stored_of, waiting_of}
-use Rattle.alm_session.specs.Answers.{request}
-use Rattle.alm_session.specs.Backends.{if_accepted}
-use Rattle.alm_session.specs.declared.judged.Judged.{Judged}
+use Rattle.alm_flush.specs.HeldBatch.{stored_of, waiting_of}
+use Rattle.alm_desk.specs.Answers.{request}
+use Rattle.alm_desk.specs.Backends.{if_accepted}
+use Rattle.alm_desk.specs.declared.judged.Judged.{Judged}
 use Rattle.alm_stack.specs.Passing.{IsAt, resting}
 use Rattle.alm_stack.proofs.Coming.{if_some}
 use Rattle.alm_stack.proofs.Verdicts.{after_is, judged_is, few_accepted}

@@ -2,7 +2,7 @@ use Rattle.std.proofs.Common.{◌≡◌, ◌∙◌, ◌++◌, ◌∷◌, [], len
 use Rattle.std.proofs.lemmas.List.{append-nil}
 use Rattle.alm_rings.specs.Placed.{released_by}
 use Rattle.alm_rings.specs.Batches.{fetched_of, coming_in}
-use Rattle.alm_flusher.specs.declared.held.Held.TheVariants.{Fetched}
+use Rattle.alm_flush.specs.declared.held.Held.TheVariants.{Fetched}
 use Rattle.alm_stack.specs.Passing.{IsReady, notes_of}
 use Rattle.alm_stack.proofs.Coming.{cancel, first_of}
 use Rattle.alm_stack.proofs.pipeline.Pipeline.fetch.Goals as goal

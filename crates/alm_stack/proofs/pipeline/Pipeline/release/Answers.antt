@@ -10,8 +10,8 @@ use Rattle.alm_board.specs.Logs.{list_of}
 use Rattle.alm_rings.specs.Ends.{received_of}
 use Rattle.alm_rings.specs.Placed.{released_by, room_by}
 use Rattle.alm_rings.specs.Batches.{sealed_of, fetched_of, given_of}
-use Rattle.alm_flusher.specs.declared.held.Held.TheVariants.{Published}
-use Rattle.alm_flusher.specs.HeldBatch.{batches_of, left_of, next_of, passed, shown_of}
+use Rattle.alm_flush.specs.declared.held.Held.TheVariants.{Published}
+use Rattle.alm_flush.specs.HeldBatch.{batches_of, left_of, next_of, passed, shown_of}
 use Rattle.alm_stack.specs.Passing.{IsReady, Note, note_of, notes_of}
 use Rattle.alm_stack.proofs.Coming.{notes_append, notes_length}
 use Rattle.alm_stack.proofs.pipeline.Pipeline.release.Goals as goal

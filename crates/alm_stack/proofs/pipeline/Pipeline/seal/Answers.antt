@@ -5,7 +5,7 @@ use Rattle.alm_model.specs.Judging.{accepted_of, entries_in}
 use Rattle.alm_model.proofs.Legal.{entries_snoc}
 use Rattle.alm_rings.specs.Placed.{taken_by}
 use Rattle.alm_rings.specs.Batches.{sealed_of, fetched_of}
-use Rattle.alm_sequencer.specs.Spares.{spares}
+use Rattle.alm_seq.specs.Spares.{spares}
 use Rattle.alm_stack.proofs.pipeline.Pipeline.seal.Goals as goal
 
 pub returns-in-Sealed-clause-sealed : goal.returns-in-Sealed-clause-sealed

@@ -6,7 +6,7 @@ use Rattle.alm_model.proofs.Legal.{run_snoc}
 use Rattle.alm_rings.specs.Ends.{sent_of}
 use Rattle.alm_rings.specs.Placed.{taken_by, waiting_by}
 use Rattle.alm_rings.specs.Batches.{sealed_of, emptied_of}
-use Rattle.alm_sequencer.specs.Sequences.{live_of}
+use Rattle.alm_seq.specs.Sequences.{live_of}
 use Rattle.alm_stack.proofs.Coming.{cancel, first_of}
 use Rattle.alm_stack.proofs.pipeline.Pipeline.take.Goals as goal
 

@@ -1,8 +1,8 @@
 use Rattle.std.proofs.Common.{◌≡◌, ◌⊎◌, sym, ap, subst, arith}
 use Rattle.alm_disk.specs.Device.{IsImage}
 use Rattle.alm_model.specs.Judging.{accepted_of}
-use Rattle.alm_sequencer.specs.Sequences.{live_of}
-use Rattle.alm_flusher.specs.HeldBatch.{waiting_of}
+use Rattle.alm_seq.specs.Sequences.{live_of}
+use Rattle.alm_flush.specs.HeldBatch.{waiting_of}
 use Rattle.alm_stack.proofs.Kept.{kept_image}
 use Rattle.alm_stack.proofs.Resting.{head_of}
 use Rattle.alm_stack.proofs.Stored.{stored_at_rest}

@@ -3,8 +3,8 @@ use Rattle.alm_board.specs.Logs.{list_of}
 use Rattle.alm_model.specs.Look.{IsLook}
 use Rattle.alm_model.specs.Plant.{Condensed}
 use Rattle.alm_model.specs.Step.{run}
-use Rattle.alm_sequencer.specs.Sequences.{live_of}
-use Rattle.alm_session.specs.Backends.{IsAsked}
+use Rattle.alm_seq.specs.Sequences.{live_of}
+use Rattle.alm_desk.specs.Backends.{IsAsked}
 use Rattle.alm_stack.specs.Stacks.{running}
 use Rattle.alm_stack.proofs.Resting.{head_of, shown_at_rest}
 use Rattle.alm_stack.proofs.stack.StackOverBackend.ask.Goals as goal

@@ -7,8 +7,8 @@ use Rattle.alm_model.specs.Accept.{accept}
 use Rattle.alm_model.specs.Plant.{Condensed}
 use Rattle.alm_model.specs.Judging.{verdict_of}
 use Rattle.alm_rings.specs.declared.console.Console.{Console}
-use Rattle.alm_sequencer.specs.Sequences.{live_of}
-use Rattle.alm_session.specs.Backends.{IsJudged, if_accepted, kept_by}
+use Rattle.alm_seq.specs.Sequences.{live_of}
+use Rattle.alm_desk.specs.Backends.{IsJudged, if_accepted, kept_by}
 use Rattle.alm_stack.specs.Passing.{AreLinked, MayWait, RestsAt}
 use Rattle.alm_stack.specs.Stacks.{running, kept_at, kept_of, sent_to}
 use Rattle.alm_stack.proofs.Resting.{set_cases, still_linked, others_rest, at_rest, lives}

@@ -1,0 +1,4 @@
+pub mod Pieces
+pub mod Slots
+pub mod Cuts
+pub mod Wholes

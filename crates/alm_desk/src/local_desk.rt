@@ -1,0 +1,203 @@
+//! A desk that answers each line of 18 slots before the next.
+
+ghost use Rattle.std.specs.Prelude.{◌≡◌, IfOk, IfErr, OnOk, [], replicate, false};
+
+use crate::answering::answer_line;
+use crate::backend::Backend;
+use crate::counted_writer::CountedWriter;
+use crate::desk_fault::DeskFault;
+use crate::hindrance::Hindrance;
+use crate::slot_feeding::feed_slot;
+use alm_lines::{Decoder, line_of};
+use alm_types::{Answer, Slot};
+use std::alloc::{AllocError, Global};
+use std::io::Write;
+use std::marker::Model;
+
+/// A desk over a backend.
+#[derive(Drop)]
+pub struct LocalDesk<B: Backend + Drop> {
+    backend: B,
+    decoders: Vec<Decoder>,
+    answer: Answer,
+    closed: bool,
+}
+
+impl<B: Backend + Drop> Model for LocalDesk<B> {
+    ghost use Rattle.std.specs.Prelude.{◌≡◌, length};
+    ghost use Rattle.alm_desk.specs.Answers.{standing_of};
+    ghost use Rattle.alm_desk.specs.Desks.{Desk};
+
+    ghost Value = { Desk };
+
+    ghost view = { λ d. record {
+      standing = standing_of (B.stands d.backend) (B.kept d.backend) (B.failures d.backend) d.answer.refused;
+      helds = d.decoders.items;
+      closed = d.closed;
+    } };
+
+    ghost invariant = { λ d. length d.decoders.items ≡ 18 };
+}
+
+/// Decoders that hold nothing.
+fn no_lines(alloc: Global) -> Result<Vec<Decoder>, AllocError>
+    ensures { IfOk result (λ decoders. decoders.items ≡ replicate 18 []) }
+{
+    let mut decoders = Vec::with_capacity(alloc, 18)?;
+    for _slot in 0..18_usize {
+        decoders.push(Decoder::new())?;
+    }
+    Ok(decoders)
+}
+
+impl<B: Backend + Drop> LocalDesk<B> {
+    ghost use Rattle.std.specs.Prelude.{◌≡◌, OnOk, IfErr, IfOk, Err, is_none, false, true, [], replicate};
+    ghost use Rattle.std.specs.Io.KnownBytes.{Appends};
+    ghost use Rattle.alm_lines.specs.Line.{line_of};
+    ghost use Rattle.alm_desk.specs.Answers.{reply, after, answered_at, standing_of};
+    ghost use Rattle.alm_desk.specs.Desks.{IsFed, HasFailed, tag, lines_in};
+    ghost use Rattle.alm_desk.specs.Failing.{BreaksOff, IsCutLine};
+
+    pub fn new(alloc: Global, backend: B) -> Result<Self, AllocError>
+        ensures { IfOk result (λ desk. desk ≡ record {
+          standing = standing_of (B.stands backend) (B.kept backend) (B.failures backend) 0;
+          helds = replicate 18 [];
+          closed = false;
+        }) }
+    {
+        Ok(LocalDesk {
+            backend,
+            decoders: no_lines(alloc)?,
+            answer: Answer::new(alloc),
+            closed: false,
+        })
+    }
+
+    /// Whether the storage has stopped.
+    pub fn stopped(&self) -> bool
+        ensures { result ≡ is_none self.now.standing.plant }
+    {
+        self.backend.is_stopped()
+    }
+
+    /// How often the storage has failed, up to 2^64 - 1: it stops only where it fails.
+    pub fn failures(&self) -> u64
+        ensures { result ≡ self.now.standing.failures }
+    {
+        self.backend.failures()
+    }
+
+    /// Whether a writer has failed: nothing is answered from then on.
+    pub fn is_closed(&self) -> bool
+        ensures { result ≡ self.now.closed }
+    {
+        self.closed
+    }
+
+    /// What the desk stands on.
+    pub fn backend(&self) -> &B
+        ensures stands { B.stands result.now ≡ self.now.standing.plant }
+        ensures kept { B.kept result.now ≡ self.now.standing.kept }
+        ensures failures { B.failures result.now ≡ self.now.standing.failures }
+    {
+        &self.backend
+    }
+
+    /// The backend alone.
+    pub fn into_backend(self) -> B
+        ensures stands { B.stands result ≡ self.standing.plant }
+        ensures kept { B.kept result ≡ self.standing.kept }
+        ensures failures { B.failures result ≡ self.standing.failures }
+    {
+        let LocalDesk {
+            backend,
+            decoders: _,
+            answer: _,
+            closed: _,
+        } = self;
+        backend
+    }
+
+    /// Closes the desk, where something else that was written to the same writer failed.
+    pub fn close(&mut self)
+        ensures { self.new ≡ record self.old { closed = true } }
+    {
+        self.closed = true;
+    }
+
+    /// Takes bytes at a slot, and answers each line that they end before the next.
+    pub fn feed<W: Write + Drop>(
+        &mut self,
+        slot: Slot,
+        piece: &[u8],
+        writer: &mut CountedWriter<W>,
+    ) -> Result<(), DeskFault>
+        ensures fed { OnOk result (IsFed self.old (tag slot piece.now) (W.contents writer.old.inner) self.new
+            (W.contents writer.new.inner)) }
+        ensures whole { OnOk result (writer.new.failed ≡ writer.old.failed) }
+        ensures fault { IfErr result (λ e. HasFailed e self.old.closed self.new.closed writer.old.failed writer.new.failed) }
+        ensures broken { result ≡ Err DeskFault.Write → BreaksOff self.old.standing (lines_in self.old.helds (tag slot piece.now))
+            (W.contents writer.old.inner) self.new.standing (W.contents writer.new.inner) }
+        ensures closed { result ≡ Err DeskFault.Closed → (self.new ≡ self.old) × (writer.new ≡ writer.old) }
+    {
+        if self.closed {
+            return Err(DeskFault::Closed);
+        }
+        let decoder = &mut self.decoders[slot.number() as usize];
+        match feed_slot(
+            &mut self.backend,
+            &mut self.answer,
+            decoder,
+            slot,
+            piece,
+            writer,
+        ) {
+            Ok(()) => Ok(()),
+            Err(_) => {
+                self.closed = true;
+                Err(DeskFault::Write)
+            }
+        }
+    }
+
+    /// Answers a whole line at a slot, whatever is held there: what came in its way.
+    pub fn answer<W: Write + Drop>(
+        &mut self,
+        slot: Slot,
+        line: &[u8],
+        writer: &mut CountedWriter<W>,
+    ) -> Result<Hindrance, DeskFault>
+        ensures text { IfOk result (λ hindrance. Appends (W.contents writer.old.inner) (W.contents writer.new.inner) (reply
+            self.old.standing (answered_at slot (line_of line.now) hindrance))) }
+        ensures standing { IfOk result (λ hindrance. self.new ≡ record self.old {
+          standing = after self.old.standing (answered_at slot
+              (line_of line.now) hindrance);
+        }) }
+        ensures open { OnOk result (self.old.closed ≡ false) }
+        ensures whole { OnOk result (writer.new.failed ≡ writer.old.failed) }
+        ensures fault { IfErr result (λ e. HasFailed e self.old.closed self.new.closed writer.old.failed writer.new.failed) }
+        ensures helds { self.new.helds ≡ self.old.helds }
+        ensures cut { result ≡ Err DeskFault.Write → IsCutLine self.old.standing (record { slot = slot; line = line_of line.now })
+            (W.contents writer.old.inner) self.new.standing (W.contents writer.new.inner) }
+        ensures closed { result ≡ Err DeskFault.Closed → (self.new ≡ self.old) × (writer.new ≡ writer.old) }
+    {
+        if self.closed {
+            return Err(DeskFault::Closed);
+        }
+        let line = line_of(line);
+        let (hindrance, told) = answer_line(
+            &mut self.backend,
+            &mut self.answer,
+            slot,
+            line,
+            writer,
+        );
+        match told {
+            Ok(()) => Ok(hindrance),
+            Err(_) => {
+                self.closed = true;
+                Err(DeskFault::Write)
+            }
+        }
+    }
+}

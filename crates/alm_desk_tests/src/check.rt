@@ -1,0 +1,90 @@
+//! A check of a row.
+
+use crate::desk::{new_desk, printed};
+use crate::device_desk::prints_over_a_device;
+use alm_desk::{Backend, LocalDesk};
+use std::alloc::Global;
+use std::io::Read;
+use std::process::Abort;
+use std::test::Fail;
+
+/// A row: lines, each at a slot and with its one reply.
+pub type Row = &'static [(u8, &'static str, &'static str)];
+
+/// The desk's lines of a row, and what it prints for them.
+fn texts(alloc: Global, row: Row) -> Result<(String, String), Fail> {
+    let mut input = String::new(alloc);
+    let mut output = String::new(alloc);
+    for (slot, line, reply) in row {
+        input.push_str(format!(in alloc; "{slot} {line}\n")?.as_str())?;
+        output.push_str(format!(in alloc; "{slot} {reply}\n")?.as_str())?;
+    }
+    Ok((input, output))
+}
+
+/// Whether a desk prints this for what a reader gives.
+fn prints<B: Backend + Drop, I: Read + Drop>(
+    alloc: Global,
+    desk: &mut LocalDesk<B>,
+    reader: I,
+    wanted: &[u8],
+) -> bool {
+    match printed(alloc, desk, reader) {
+        Ok(got) => got.as_slice() == wanted,
+        Err(_) => false,
+    }
+}
+
+/// The number of the first line of a row that a desk answers otherwise.
+fn first_wrong<B: Backend + Drop>(
+    alloc: Global,
+    desk: &mut LocalDesk<B>,
+    row: Row,
+) -> Result<Option<usize>, Fail> {
+    for place in 0..row.len() {
+        let (input, wanted) = texts(alloc, &row[place..=place])?;
+        let wanted = wanted.as_str().as_bytes();
+        if !prints(alloc, desk, input.as_str().as_bytes(), wanted) {
+            return Ok(Some(place));
+        }
+    }
+    Ok(None)
+}
+
+/// Feeds the lines of a row one by one: the number of the first that is answered otherwise.
+fn first_wrong_of_new(alloc: Global, row: Row) -> Result<Option<usize>, Fail> {
+    let mut desk = new_desk(alloc)?;
+    let found = first_wrong(alloc, &mut desk, row);
+    drop(desk);
+    found
+}
+
+/// Whether a new desk prints this for a front and the bytes behind it.
+fn prints_in_two(alloc: Global, (front, back): (&[u8], &[u8]), wanted: &[u8]) -> bool {
+    match new_desk(alloc) {
+        Ok(mut desk) => {
+            let same = prints(alloc, &mut desk, front.chain(back), wanted);
+            drop(desk);
+            same
+        }
+        Err(_) => false,
+    }
+}
+
+/// Checks the replies of a new desk to the lines of a row, each a slot, a line and its reply, however they are cut; and the
+/// same over a device.
+pub fn check<R: Abort + AllocGlobal>(rt: &R, name: &str, row: Row) -> Result<(), Fail> {
+    let alloc = rt.alloc();
+    let wrong = first_wrong_of_new(alloc, row)?;
+    assert_eq!(rt; wrong, None, "{name}, line by line");
+    let (input, wanted) = texts(alloc, row)?;
+    let input = input.as_str().as_bytes();
+    let wanted = wanted.as_str().as_bytes();
+    for at in 0..=input.len() {
+        let same = prints_in_two(alloc, input.split_at(at), wanted);
+        assert!(rt; same, "{name}, cut at {at}");
+    }
+    let same = prints_over_a_device(alloc, input, wanted);
+    assert!(rt; same, "{name}, over a device");
+    Ok(())
+}

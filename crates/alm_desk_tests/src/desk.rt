@@ -1,0 +1,25 @@
+//! A desk over the worked table, and what it prints.
+
+use alm_desk::{Backend, CountedWriter, LocalDesk, desk_of};
+use alm_plant::Plant;
+use alm_service::{CountedReader, RunFault, desk_run, worked_table};
+use std::alloc::{AllocError, Global};
+use std::io::Read;
+
+/// A desk over the new plant of the worked table.
+pub fn new_desk(alloc: Global) -> Result<LocalDesk<Plant>, AllocError> {
+    let table = worked_table(alloc)?;
+    desk_of(alloc, &table)
+}
+
+/// What a desk prints for what a reader gives.
+pub fn printed<B: Backend + Drop, R: Read + Drop>(
+    alloc: Global,
+    desk: &mut LocalDesk<B>,
+    reader: R,
+) -> Result<Vec<u8>, RunFault> {
+    let mut reader = CountedReader::new(reader);
+    let mut writer = CountedWriter::new(Vec::new(alloc));
+    desk_run(&mut reader, &mut writer, desk)?;
+    Ok(writer.into_inner())
+}

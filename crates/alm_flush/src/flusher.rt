@@ -1,0 +1,417 @@
+//! Commits the fetched batches, one after the other, publishes them, and releases their verdicts.
+
+ghost use Rattle.std.specs.Prelude.{◌≡◌, ◌≢◌, ℕ, ◌⊎◌, ◌+◌, ◌<◌, ◌≤◌, ◌++◌, [], length, slice_get, Some, true};
+ghost use Rattle.alm_model.specs.Judging.{accepted_of, when_accepted, entries_in, of_slot};
+ghost use Rattle.alm_model.specs.Rules.{admits_all};
+ghost use Rattle.alm_model.specs.Step.{run};
+ghost use Rattle.alm_rings.specs.declared.outbox.Outbox.{Outbox};
+ghost use Rattle.alm_rings.specs.declared.receipt.Receipt.{Receipt};
+ghost use Rattle.alm_rings.specs.Batches.{fetched_of};
+ghost use Rattle.alm_rings.specs.Placed.{released_by};
+ghost use Rattle.alm_board.specs.Fronts.{IsFront};
+ghost use Rattle.alm_store.specs.declared.phase.Phase.TheVariants.{Committing};
+ghost use Rattle.alm_flush.specs.HeldBatch.{batches_of, waiting_of, ready_of, stored_of, shown_of, told_of};
+ghost use Rattle.alm_flush.specs.Replies.{replies_in, replies_to};
+
+use crate::advance::Advance;
+use crate::commit::{advance_by, few, go_on};
+use crate::fetch::Fetch;
+use crate::held::Held;
+use crate::publishes::Publishes;
+use crate::release::Release;
+use alm_board::{Board, Publish};
+use alm_rings::{
+    Console, FetchEnds, Outbox, Receipt, SealEnds, Told, batches_beside, replies_beside,
+};
+use alm_store::{Phase, Store};
+use alm_types::{Entry, Slot, Verdict};
+use std::mem::replace;
+use std::snapshot::Snapshot;
+
+/// How many slots there are.
+const SLOTS: usize = 18;
+
+/// Released means stored and published.
+#[derive(Drop)]
+pub struct Flusher<K: Store, T: Told + Drop, B: Board<Told = T>> {
+    store: K,
+    board: B,
+    outboxes: Vec<Outbox<T>>,
+    // Where the outbox of each slot stands; not below their number where it has none.
+    places: [usize; SLOTS],
+    fetch: FetchEnds,
+    held: Held,
+    // The number of the last action whose verdict is released.
+    number: u64,
+    // The ends when nothing was held.
+    before: Snapshot<FetchEnds>,
+    pub ghost placed: { (k : ℕ) (o : Outbox _ _) → slice_get outboxes.items k ≡ Some o → slice_get places o.slot ≡ Some k },
+    pub ghost back: { (s k : ℕ) (o : Outbox _ _) → slice_get places s ≡ Some k → slice_get outboxes.items k ≡ Some o → o.slot ≡ s },
+    pub ghost held_is: { fetched_of fetch ≡ fetched_of before.value ++ batches_of held },
+    /// What is stored,
+    pub ghost stored: { K.stored store ≡ run (B.base board) (accepted_of (entries_in (fetched_of before.value) ++ stored_of held)) },
+    /// what is published: a front of it,
+    pub ghost published: { B.published board ≡ accepted_of (entries_in (fetched_of before.value) ++ shown_of held) },
+    pub ghost pending: { IsFront (B.pending board) (accepted_of (ready_of held)) },
+    /// and what is released to each slot.
+    pub ghost released: { (s : ℕ) → replies_in (released_by s outboxes.items) ≡ replies_to (of_slot s (entries_in (fetched_of before.value) ++ told_of held)) },
+    pub ghost number_is: { number ≡ (B.base board).panel.count + length (accepted_of (entries_in (fetched_of before.value) ++ told_of held)) },
+    /// The numbers that were released are stored.
+    pub ghost numbers: { (s k : ℕ) (r : Receipt _ _) → slice_get (released_by s outboxes.items) k ≡ Some r → r.number ≤ number },
+    pub ghost idle: { accepted_of (waiting_of held) ≡ [] → K.phase store ≢ Committing },
+    pub ghost next: { K.phase store ≡ Committing → K.next store ≡ run (K.stored store) (accepted_of (waiting_of held)) },
+    /// What is being committed is admitted, and what is to be published.
+    pub ghost admitted: { K.phase store ≡ Committing → admits_all (K.stored store) (accepted_of (waiting_of held)) ≡ true },
+    pub ghost ready: { admits_all (run (B.base board) (B.published board)) (accepted_of (ready_of held)) ≡ true },
+    /// The plant that the store is about to hold is the stored one, or the one with the held batch.
+    pub ghost either: { ∥ (K.next store ≡ K.stored store) ⊎ (K.next store ≡ run (K.stored store) (accepted_of (waiting_of held))) ∥₁ },
+}
+
+// The number that a receipt has with this verdict, behind the number before it.
+fn number_of(verdict: Verdict, before: u64, count: u64) -> u64
+    requires { before + length (when_accepted verdict) ≤ count }
+    ensures { result ≡ before + length (when_accepted verdict) }
+{
+    match verdict {
+        Verdict::Accepted(_) => {
+            let _most = count;
+            before + 1
+        }
+        Verdict::Refused(_, _) => before,
+    }
+}
+
+impl<K: Store, T: Told + Drop, B: Board<Told = T>> Flusher<K, T, B> {
+    ghost use Rattle.std.specs.Prelude.{◌≡◌, ◌≢◌, ◌↔◌, ◌⊎◌, ◌+◌, ◌*◌, ◌<◌, ◌≤◌, ◌++◌, [], ℕ, List, length, MatchBool, false, slice_get, Some, None, IsSome, IsTrue};
+    ghost use Rattle.alm_disk.specs.Failures.{HasFailed};
+    ghost use Rattle.alm_store.specs.Calls.{IsCall};
+    ghost use Rattle.alm_store.specs.Pace.{KeepsPace};
+    ghost use Rattle.alm_store.specs.Advancing.{IsCalls, IsOpen, Same, SameWords};
+    ghost use Rattle.alm_types.specs.declared.action.Action.{Action};
+    ghost use Rattle.alm_rings.specs.Batches.{AreBatchEnds, SameSealEnds, SameFetchEnds, sealed_of, fetched_of, given_of, emptied_of, empties_in, coming_in, places_of, places_in};
+    ghost use Rattle.alm_rings.specs.Placed.{AreApart, outbox_at, released_by, room_by, SameOutboxAt};
+    ghost use Rattle.alm_rings.specs.Ends.{sent_of, received_of, coming_to, room_of, SameConsole};
+    ghost use Rattle.rtrb.specs.Ring.{IsPair};
+    ghost use Rattle.alm_rings.specs.declared.outbox.Outbox.{Outbox};
+    ghost use Rattle.alm_flush.specs.Advances.{IsSure, Within};
+    ghost use Rattle.alm_flush.specs.Flushes.{FetchAnswers, AdvanceAnswers, PublishAnswers, ReleaseAnswers, GivesBack, IsDone, IsFree, IsNext};
+    ghost use Rattle.alm_flush.specs.HeldBatch.{next_of, to_commit};
+    ghost use Rattle.alm_rings.specs.declared.receipt.Receipt.{Receipt};
+
+    /// Nothing is held at first. The store has no work begun, and the board shows the plant that is stored.
+    pub fn new(store: K, board: B, outboxes: Vec<Outbox<T>>, fetch: FetchEnds) -> Self
+        requires apart { AreApart (λ o. o.slot) outboxes.items }
+        requires released { (s : ℕ) → released_by s outboxes.items ≡ [] }
+        requires fetched { fetched_of fetch ≡ [] }
+        requires idle { K.phase store ≡ Phase.Idle }
+        requires stored { K.stored store ≡ B.base board }
+        requires published { B.published board ≡ [] }
+        requires pending { B.pending board ≡ [] }
+        ensures parts { (result.store ≡ store) × (result.board ≡ board) × (result.outboxes ≡ outboxes) × (result.fetch ≡ fetch) }
+        ensures held { (result.held ≡ Held.Nothing) × (result.before.value ≡ fetch) }
+    {
+        let mut places = [outboxes.len(); SLOTS];
+        for place in 0..outboxes.len() {
+            places[outboxes[place].slot().number() as usize] = place;
+        }
+        Flusher {
+            number: store.count(),
+            before: Snapshot::of(&fetch),
+            store,
+            board,
+            outboxes,
+            places,
+            fetch,
+            held: Held::Nothing,
+        }
+    }
+
+    /// Whether a sealed batch is known to wait.
+    pub fn waits(&self) -> bool
+        ensures { IsTrue result ↔ (0 < length (coming_in self.now.fetch)) }
+    {
+        self.fetch.waits()
+    }
+
+    /// The entry whose verdict is the next to be released.
+    pub fn next(&self) -> Option<Entry>
+        ensures { result ≡ next_of self.now.held }
+    {
+        self.held.next()
+    }
+
+    /// Fetches the next sealed batch.
+    pub fn fetch(&mut self) -> Fetch
+        ensures ends { SameFetchEnds self.old.fetch self.new.fetch × (given_of self.new.fetch ≡ given_of self.old.fetch) × (places_in self.new.fetch ≡ places_in self.old.fetch) }
+        ensures same { (self.new.board ≡ self.old.board) × (self.new.outboxes ≡ self.old.outboxes) × (self.new.before.value ≡ self.old.before.value) }
+        ensures kept { result ≢ Fetch.Got → self.new.store ≡ self.old.store }
+        // The store counts what a checkpoint writes from here on; else it is as before.
+        ensures marked { result ≡ Fetch.Got → K.written self.new.store ≡ 0 }
+        ensures honest { K.honest self.old.store ↔ K.honest self.new.store }
+        ensures store { Same (K.device self.old.store) (K.device self.new.store) (K.stored self.old.store) (K.stored self.new.store) (K.failures self.old.store) (K.failures self.new.store) }
+        ensures words { SameWords (K.phase self.old.store) (K.phase self.new.store) (K.next self.old.store) (K.next self.new.store) (K.left self.old.store) (K.left self.new.store) (K.used self.old.store) (K.used self.new.store) (K.segment self.old.store) (K.segment self.new.store) }
+        ensures takes { (actions : List Action) → (K.takes self.old.store actions ↔ K.takes self.new.store actions) × (K.will_take self.old.store actions ↔ K.will_take self.new.store actions) }
+        // A store that keeps its pace does so, and takes the batch where the half that stands is of the newest version.
+        ensures newest { K.newest self.old.store → K.newest self.new.store }
+        ensures pace { KeepsPace (K.segment self.old.store) (K.phase self.old.store) (K.used self.old.store) (K.written self.old.store) (K.going self.old.store) → KeepsPace (K.segment self.new.store) (K.phase self.new.store) (K.used self.new.store) (K.written self.new.store) (K.going self.new.store) }
+        ensures taken { result ≡ Fetch.Got → K.newest self.new.store → 452651 ≤ K.segment self.new.store → KeepsPace (K.segment self.new.store) (K.phase self.new.store) (K.used self.new.store) (K.written self.new.store) (K.going self.new.store) → K.takes self.new.store (to_commit self.new.held) }
+        ensures answer { FetchAnswers result self.old.held self.new.held self.old.fetch self.new.fetch }
+    {
+        match self.held {
+            Held::Nothing => match self.fetch.fetch() {
+                Some(batch) => {
+                    self.store.mark();
+                    few(&batch);
+                    self.held = Held::Fetched(batch);
+                    Fetch::Got
+                }
+                None => Fetch::Empty,
+            },
+            _ => Fetch::Held,
+        }
+    }
+
+    /// One step of the held batch's commit: at most one device call, and none for a batch without actions. A checkpoint comes
+    /// first where the store doesn't take the batch. Once a commit has failed it fails for good.
+    ///
+    /// Where more than half of the segment is used behind a commit, a checkpoint is opened. It goes out in pieces: one before
+    /// each commit of a batch that is taken, and as long as no batch is to be committed one after the other.
+    pub fn advance(&mut self) -> Advance
+        ensures honest { K.honest self.old.store ↔ K.honest self.new.store }
+        ensures same { (self.new.board ≡ self.old.board) × (self.new.outboxes ≡ self.old.outboxes) × (self.new.before.value ≡ self.old.before.value) × (self.new.fetch ≡ self.old.fetch) }
+        ensures call { K.honest self.old.store → IsCalls (K.device self.old.store) (K.device self.new.store) }
+        ensures one { K.honest self.old.store → 0 < length (to_commit self.old.held) → result ≢ Advance.Failed → IsCall (K.device self.old.store) (K.device self.new.store) }
+        ensures more { K.honest self.old.store → result ≡ Advance.More → IsCall (K.device self.old.store) (K.device self.new.store) }
+        ensures none { to_commit self.old.held ≡ [] → result ≡ Advance.Committed → (K.device self.new.store ≡ K.device self.old.store) × (K.failures self.new.store ≡ K.failures self.old.store) }
+        ensures nothing { result ≡ Advance.Nothing → self.new.store ≡ self.old.store }
+        // A checkpoint only where the store doesn't take the batch.
+        ensures taken { K.phase self.old.store ≡ Phase.Idle → K.takes self.old.store (to_commit self.old.held) → result ≡ Advance.More → K.phase self.new.store ≡ Phase.Committing }
+        // Behind a commit a checkpoint is open where more than half of the segment is used, but for the last epoch.
+        ensures opens { result ≡ Advance.Committed → K.honest self.old.store → ¬ (K.spent (K.device self.new.store)) → K.segment self.new.store < 2 * K.used self.new.store → IsOpen (K.phase self.new.store) }
+        // Behind a commit none is opened where that isn't so.
+        ensures only { result ≡ Advance.Committed → K.going self.old.store ≡ None → 2 * K.used self.new.store ≤ K.segment self.new.store → K.going self.new.store ≡ None }
+        // A piece goes out before each commit within a checkpoint,
+        ensures between { K.phase self.old.store ≡ Phase.Paused → K.phase self.new.store ≡ Phase.Committing → 0 < K.written self.old.store }
+        // and no more than one while a batch waits that was taken as it was fetched.
+        ensures waits { result ≡ Advance.More → K.takes self.old.store (to_commit self.old.held) → 0 < length (to_commit self.old.held) → K.written self.old.store ≤ 65536 → K.written self.new.store ≤ 65536 }
+        ensures still { result ≡ Advance.More → K.takes self.old.store (to_commit self.old.held) → 0 < length (to_commit self.old.held) → K.phase self.new.store ≢ Phase.Committing → K.takes self.new.store (to_commit self.old.held) }
+        // So the store keeps its pace, and takes every batch, as long as epochs are left.
+        ensures newest { K.newest self.old.store → K.newest self.new.store }
+        ensures pace { result ≢ Advance.Failed → K.honest self.old.store → ¬ (K.spent (K.device self.new.store)) → K.newest self.old.store → 452651 ≤ K.segment self.old.store → KeepsPace (K.segment self.old.store) (K.phase self.old.store) (K.used self.old.store) (K.written self.old.store) (K.going self.old.store) → KeepsPace (K.segment self.new.store) (K.phase self.new.store) (K.used self.new.store) (K.written self.new.store) (K.going self.new.store) }
+        ensures segment { K.segment self.new.store ≡ K.segment self.old.store }
+        // A batch is committed in a bounded number of steps: 326 where the store is idle.
+        ensures ends { (m : ℕ) → result ≡ Advance.More → 0 < length (to_commit self.old.held) → Within (m + 1) (K.phase self.old.store) (K.left self.old.store) (K.takes self.old.store (to_commit self.old.held)) (K.will_take self.old.store (to_commit self.old.held)) (length (to_commit self.old.held))
+            → Within m (K.phase self.new.store) (K.left self.new.store) (K.takes self.new.store (to_commit self.new.held)) (K.will_take self.new.store (to_commit self.new.held)) (length (to_commit self.new.held)) }
+        ensures at_rest { result ≡ Advance.Committed → K.phase self.new.store ≢ Phase.Committing }
+        ensures count { K.failures self.old.store ≤ K.failures self.new.store }
+        ensures going { K.phase self.old.store ≢ Phase.Stopped → result ≢ Advance.Failed → K.phase self.new.store ≢ Phase.Stopped }
+        ensures held { AdvanceAnswers result (K.phase self.old.store) self.old.held self.new.held }
+        // Only the device fails once no checkpoint is to be begun any more.
+        ensures sure { result ≡ Advance.Failed → IsSure (K.phase self.old.store) (K.takes self.old.store (to_commit self.old.held)) → IsNext self.old.held (K.stored self.old.store) → HasFailed (K.failures self.old.store) (K.failures self.new.store) }
+        // The first failure has a cause.
+        ensures cause { result ≡ Advance.Failed → K.honest self.old.store → K.phase self.old.store ≢ Phase.Stopped → ¬ (K.spent (K.device self.old.store)) → IsNext self.old.held (K.stored self.old.store) → HasFailed (K.failures self.old.store) (K.failures self.new.store) }
+        ensures late { result ≡ Advance.Failed → K.honest self.old.store → K.phase self.old.store ≢ Phase.Stopped → ¬ (K.spent (K.device self.new.store)) → IsNext self.old.held (K.stored self.old.store) → HasFailed (K.failures self.old.store) (K.failures self.new.store) }
+        ensures broken { result ≡ Advance.Failed → K.phase self.old.store ≢ Phase.Stopped → IsFree self.old.held → HasFailed (K.failures self.old.store) (K.failures self.new.store) }
+    {
+        match replace(&mut self.held, Held::Nothing) {
+            Held::Fetched(batch) => {
+                let advanced = advance_by(&mut self.store, &batch);
+                match advanced {
+                    Advance::Committed => self.held = Held::Committed(batch),
+                    Advance::More => self.held = Held::Fetched(batch),
+                    Advance::Failed => self.held = Held::Failed(batch),
+                    Advance::Nothing => self.held = Held::Fetched(batch),
+                }
+                advanced
+            }
+            Held::Failed(batch) => {
+                self.held = Held::Failed(batch);
+                Advance::Failed
+            }
+            held => {
+                self.held = held;
+                go_on(&mut self.store)
+            }
+        }
+    }
+
+    /// Shows the committed batch.
+    pub fn publish<C>(&mut self, by: &C) -> Publishes
+    where
+        B: Publish<C>,
+        ensures same { (self.new.store ≡ self.old.store) × (self.new.outboxes ≡ self.old.outboxes) × (self.new.before.value ≡ self.old.before.value) × (self.new.fetch ≡ self.old.fetch) }
+        ensures base { B.Board.base self.new.board ≡ B.Board.base self.old.board }
+        ensures held { PublishAnswers result self.old.held self.new.held }
+        ensures sure { B.Publish.sure → result ≢ Publishes.OutOfMemory }
+    {
+        match replace(&mut self.held, Held::Nothing) {
+            Held::Committed(batch) => match self.board.publish(by, &batch) {
+                Ok(()) => {
+                    self.held = Held::Published(batch, 0);
+                    Publishes::Published
+                }
+                Err(_) => {
+                    self.held = Held::Committed(batch);
+                    Publishes::OutOfMemory
+                }
+            },
+            held => {
+                self.held = held;
+                Publishes::NotYet
+            }
+        }
+    }
+
+    /// Gives the batch back once all its verdicts are released.
+    pub fn give_back(&mut self) -> bool
+        ensures ends { SameFetchEnds self.old.fetch self.new.fetch × (fetched_of self.new.fetch ≡ fetched_of self.old.fetch) × (coming_in self.new.fetch ≡ coming_in self.old.fetch) }
+        ensures same { (self.new.store ≡ self.old.store) × (self.new.board ≡ self.old.board) × (self.new.outboxes ≡ self.old.outboxes) }
+        ensures given { MatchBool result (GivesBack self.old.held self.new.held (given_of self.old.fetch) (given_of self.new.fetch)) ((self.new.held ≡ self.old.held) × (given_of self.new.fetch ≡ given_of self.old.fetch) × (self.new.before.value ≡ self.old.before.value)) }
+        ensures cause { result ≡ false → IsDone self.old.held → ¬ (0 < places_in self.old.fetch) }
+    {
+        match self.held.next() {
+            Some(_) => return false,
+            None => {}
+        }
+        match replace(&mut self.held, Held::Nothing) {
+            Held::Published(batch, released) => match self.fetch.give_back(batch) {
+                Ok(()) => {
+                    self.before = Snapshot::of(&self.fetch);
+                    true
+                }
+                Err(batch) => {
+                    self.held = Held::Published(batch, released);
+                    false
+                }
+            },
+            held => {
+                self.held = held;
+                false
+            }
+        }
+    }
+
+    // Where the outbox of a slot stands; not below their number where it has none.
+    fn place(&self, slot: Slot) -> usize
+        ensures slot { (o : Outbox _ _) → slice_get self.now.outboxes.items result ≡ Some o → o.slot ≡ slot }
+        ensures missing { length self.now.outboxes.items ≤ result → outbox_at slot self.now.outboxes.items ≡ None }
+    {
+        self.places[slot.number() as usize]
+    }
+
+    /// Releases the next verdict to its slot, with the published list as told.
+    pub fn release(&mut self) -> Release
+        ensures ends { (s : ℕ) → SameOutboxAt (outbox_at s self.old.outboxes.items) (outbox_at s self.new.outboxes.items) }
+        ensures same { (self.new.store ≡ self.old.store) × (self.new.board ≡ self.old.board) × (self.new.before.value ≡ self.old.before.value) × (self.new.fetch ≡ self.old.fetch) }
+        ensures answer { ReleaseAnswers result self.old.held self.new.held self.old.outboxes.items self.new.outboxes.items (B.base self.old.board) (K.stored self.old.store) (B.published self.old.board) }
+    {
+        let Some(entry) = self.held.next() else {
+            return Release::Nothing;
+        };
+        let slot = entry.slot;
+        let count = self.store.count();
+        let number = number_of(entry.verdict, self.number, count);
+        let place = self.place(slot);
+        if place >= self.outboxes.len() {
+            return Release::Full(slot);
+        }
+        let told = self.board.tell();
+        let receipt = Receipt {
+            serial: entry.serial,
+            verdict: entry.verdict,
+            number,
+            told,
+        };
+        let outbox = &mut self.outboxes[place];
+        match outbox.release(receipt) {
+            Ok(()) => {
+                self.number = number;
+                self.held.pass();
+                Release::Released(slot)
+            }
+            Err(receipt) => {
+                drop(receipt);
+                Release::Full(slot)
+            }
+        }
+    }
+
+    /// Tells the two ends of each batch ring, in one thread, what the other did. Takes no memory.
+    pub fn batches_beside(&mut self, seal: &mut SealEnds)
+        requires { AreBatchEnds seal.old self.old.fetch }
+        ensures same { (self.new.store ≡ self.old.store) × (self.new.board ≡ self.old.board) × (self.new.outboxes ≡ self.old.outboxes) × (self.new.before.value ≡ self.old.before.value) × (self.new.held ≡ self.old.held) }
+        ensures ends { AreBatchEnds seal.new self.new.fetch × SameSealEnds seal.old seal.new × SameFetchEnds self.old.fetch self.new.fetch }
+        ensures sealed { (sealed_of seal.new ≡ sealed_of seal.old) × (fetched_of self.new.fetch ≡ fetched_of self.old.fetch) }
+        ensures empties { (emptied_of seal.new ≡ emptied_of seal.old) × (given_of self.new.fetch ≡ given_of self.old.fetch) }
+        ensures fetched { fetched_of self.new.fetch ++ coming_in self.new.fetch ≡ sealed_of seal.new }
+        ensures emptied { emptied_of seal.new ++ empties_in seal.new ≡ given_of self.new.fetch }
+        ensures places { 8 + length (fetched_of self.new.fetch) ≤ places_of seal.new + length (sealed_of seal.new) }
+        ensures back { 8 + length (emptied_of seal.new) ≤ places_in self.new.fetch + length (given_of self.new.fetch) }
+    {
+        batches_beside(seal, &mut self.fetch);
+    }
+
+    /// Tells a slot's outbox and the console at its other end, in one thread, what the other did. Takes no memory.
+    pub fn replies_beside(&mut self, slot: Slot, console: &mut Console<T>)
+        requires slot { IsSome (outbox_at slot self.old.outboxes.items) }
+        requires ends { (o : Outbox _ _) → outbox_at slot self.old.outboxes.items ≡ Some o → IsPair o.replies console.old.replies }
+        ensures same { (self.new.store ≡ self.old.store) × (self.new.board ≡ self.old.board) × (self.new.before.value ≡ self.old.before.value) × (self.new.fetch ≡ self.old.fetch) × (self.new.held ≡ self.old.held) }
+        ensures released { (s : ℕ) → released_by s self.new.outboxes.items ≡ released_by s self.old.outboxes.items }
+        ensures outboxes { (s : ℕ) → SameOutboxAt (outbox_at s self.old.outboxes.items) (outbox_at s self.new.outboxes.items) }
+        ensures others { (s : ℕ) → s ≢ slot → outbox_at s self.new.outboxes.items ≡ outbox_at s self.old.outboxes.items }
+        ensures ends { (o : Outbox _ _) → outbox_at slot self.new.outboxes.items ≡ Some o → IsPair o.replies console.new.replies }
+        ensures console { SameConsole console.old console.new × (received_of console.new ≡ received_of console.old) × (sent_of console.new ≡ sent_of console.old) × (room_of console.new ≡ room_of console.old) }
+        ensures replies { received_of console.new ++ coming_to console.new ≡ released_by slot self.new.outboxes.items }
+        ensures room { 64 + length (received_of console.new) ≤ room_by slot self.new.outboxes.items + length (released_by slot self.new.outboxes.items) }
+    {
+        let place = self.place(slot);
+        if place < self.outboxes.len() {
+            replies_beside(console, &mut self.outboxes[place]);
+        }
+    }
+
+    /// Its store, its board and its ends, as they are.
+    pub fn into_ends(self) -> (K, B, Vec<Outbox<T>>, FetchEnds)
+        ensures { (result.0 ≡ self.store) × (result.1 ≡ self.board) × (result.2 ≡ self.outboxes) × (result.3 ≡ self.fetch) }
+    {
+        let Flusher {
+            store,
+            board,
+            outboxes,
+            places: _,
+            fetch,
+            held: _,
+            number: _,
+            before: _,
+        } = self;
+        (store, board, outboxes, fetch)
+    }
+
+    /// Its store alone.
+    pub fn into_keeper(self) -> K
+    where
+        B: Drop,
+        ensures keeper { result ≡ self.store }
+    {
+        self.store
+    }
+
+    /// The board. What was released to each slot are, in order, the verdicts of its entries in the fetched batches up to
+    /// where the flusher stands.
+    pub fn board(&self) -> &B
+        ensures board { result.now ≡ self.now.board }
+        ensures stands { fetched_of self.now.fetch ≡ fetched_of self.now.before.value ++ batches_of self.now.held }
+        ensures released { (s : ℕ) → replies_in (released_by s self.now.outboxes.items) ≡ replies_to (of_slot s (entries_in (fetched_of self.now.before.value) ++ told_of self.now.held)) }
+    {
+        &self.board
+    }
+
+    /// The store. The published list is a front of the one that is stored, and each number that was released is stored.
+    pub fn keeper(&self) -> &K
+        ensures keeper { result.now ≡ self.now.store }
+        ensures front { (list : List Action) × ((K.stored self.now.store ≡ run (B.base self.now.board) list) × IsFront (B.published self.now.board) list) }
+        ensures numbers { (s k : ℕ) (r : Receipt _ _) → slice_get (released_by s self.now.outboxes.items) k ≡ Some r → r.number ≤ (K.stored self.now.store).panel.count }
+    {
+        &self.store
+    }
+}

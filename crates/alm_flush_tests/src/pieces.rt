@@ -1,0 +1,128 @@
+//! Commits between the pieces of a checkpoint: 1,000 alarms in 2 areas, on a device of zeros.
+
+use crate::course::{Call, Outcome, Played, play_over};
+use crate::opened::{Standing, open_formatted, stands_as};
+use alm_disk::MemDisk;
+use alm_flush::{Advance, Release};
+use alm_seq::{Seal, Take};
+use alm_types::{Action, Attr, Kind, Moment, Settings, Slot, Table, Verdict};
+use std::alloc::Global;
+use std::test::Fail;
+
+/// How long the device is, and where the third frame of half 1 stands.
+const SIZE: usize = 391_541;
+
+const THIRD: usize = 387_495;
+
+/// An alarm of an area.
+fn alarm(area: u8) -> Option<Attr> {
+    let settings = Settings {
+        kind: Kind::High,
+        setpoint: 800,
+        deadband: 10,
+        priority: 1,
+        area,
+        latching: false,
+        max_shelve: 0,
+    };
+    Attr::new(settings, b"TI-101", b"").ok()
+}
+
+/// The table.
+fn table(alloc: Global) -> Result<Table, Fail> {
+    let mut alarms = Vec::new(alloc);
+    for number in 0..1000u32 {
+        match alarm((number % 2) as u8) {
+            Some(alarm) => alarms.push(alarm)?,
+            None => return Err(Fail::new("an alarm")),
+        }
+    }
+    match Table::new(alarms, 2) {
+        Ok(table) => Ok(table),
+        Err(_) => Err(Fail::new("a table")),
+    }
+}
+
+/// What is left when a course was played on new parts over the device.
+fn played(alloc: Global, course: &[(Call, Outcome)]) -> Result<Played, Fail> {
+    let disk = MemDisk::new(alloc, vec![in alloc; 0u8; SIZE]?, 1024)?;
+    let store = open_formatted(alloc, &table(alloc)?, disk)?;
+    Ok(play_over(alloc, store, course)?)
+}
+
+/// A batch of one action, the first of its number: it is stored in so many steps.
+fn stored_in(slot: Slot, number: u64, steps: u64) -> Result<[(Call, Outcome); 7], Fail> {
+    let action = Action::Clock(Moment::new(number).ok_or("moment")?);
+    let verdict = Verdict::Accepted(action);
+    Ok([
+        (Call::Send(slot, action), Outcome::Sent(Some(number))),
+        (Call::Take(slot), Outcome::Took(Take::Taken(verdict))),
+        (Call::Seal, Outcome::Sealed(Seal::Sealed)),
+        (Call::Store(16), Outcome::Stored(Some(steps))),
+        (Call::Release, Outcome::Released(Release::Released(slot))),
+        (Call::GiveBack, Outcome::GaveBack(true)),
+        (
+            Call::Receive(slot),
+            Outcome::Received(Some((number, number, verdict))),
+        ),
+    ])
+}
+
+/// The first 59 commits, of which the last opens a checkpoint of three pieces.
+fn opening(alloc: Global, slot: Slot) -> Result<Vec<(Call, Outcome)>, Fail> {
+    let mut course = Vec::new(alloc);
+    for number in 1..=59u64 {
+        course.extend_from_slice(&stored_in(slot, number, 4)?)?;
+    }
+    Ok(course)
+}
+
+#[test]
+fn a_piece_goes_out_before_each_commit(rt: HostRuntime) -> Result<(), Fail> {
+    let alloc = rt.alloc();
+    let clock = Slot::new(17).ok_or("slot")?;
+    let mut course = opening(alloc, clock)?;
+    // Three calls end the checkpoint before the 62nd commit.
+    for (number, steps) in [(60, 5), (61, 5), (62, 8)] {
+        course.extend_from_slice(&stored_in(clock, number, steps)?)?;
+    }
+    let Played {
+        differs_at,
+        disk,
+        ..
+    } = played(alloc, &course)?;
+    assert_eq!(rt; differs_at, None);
+    let frame = [0xA5, 0, 0, 0, 0, 0, 0, 0, 2, 0, 0, 0, 0, 0, 0, 0, 62, 0, 1];
+    assert_eq!(rt; disk.bytes().get(THIRD..THIRD + 19), Some(frame.as_slice()));
+    let wanted = Standing {
+        epoch: 2,
+        count: 62,
+        used: 105,
+    };
+    assert_eq!(rt; stands_as(alloc, disk)?, wanted);
+    Ok(())
+}
+
+#[test]
+fn an_open_checkpoint_goes_on_without_a_batch(rt: HostRuntime) -> Result<(), Fail> {
+    let alloc = rt.alloc();
+    let mut course = opening(alloc, Slot::new(17).ok_or("slot")?)?;
+    // Three pieces, a sync, the gate and its sync.
+    for _call in 0..6 {
+        course.push((Call::Advance, Outcome::Advanced(Advance::More)))?;
+    }
+    course.push((Call::Advance, Outcome::Advanced(Advance::Nothing)))?;
+    let Played {
+        differs_at,
+        disk,
+        ..
+    } = played(alloc, &course)?;
+    assert_eq!(rt; differs_at, None);
+    let wanted = Standing {
+        epoch: 2,
+        count: 59,
+        used: 0,
+    };
+    assert_eq!(rt; stands_as(alloc, disk)?, wanted);
+    Ok(())
+}

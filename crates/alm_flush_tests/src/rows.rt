@@ -1,0 +1,126 @@
+//! The worked rows.
+
+use crate::course::{Call, Outcome, differs_at};
+use alm_flush::{Advance, Fetch, Publishes, Release};
+use alm_seq::{Seal, Take};
+use alm_types::{Action, AlarmId, Reading, Refusal, Shown, Slot, Verdict};
+use std::test::Fail;
+
+const DEVICE: usize = 65_536;
+
+const REFUSED: Verdict = Verdict::Refused(Refusal::NotUnacknowledged, 0);
+
+#[test]
+fn a_refusal_goes_its_way(rt: HostRuntime) -> Result<(), Fail> {
+    let slot = Slot::new(0).ok_or("slot")?;
+    let course = [
+        (
+            Call::Send(slot, Action::Ack(AlarmId(0))),
+            Outcome::Sent(Some(1)),
+        ),
+        (Call::Take(slot), Outcome::Took(Take::Taken(REFUSED))),
+        (Call::Take(slot), Outcome::Took(Take::Empty)),
+        (Call::Fetch, Outcome::Fetched(Fetch::Empty)),
+        (Call::Seal, Outcome::Sealed(Seal::Sealed)),
+        (Call::Seal, Outcome::Sealed(Seal::NothingToSeal)),
+        (Call::Advance, Outcome::Advanced(Advance::Nothing)),
+        (Call::Fetch, Outcome::Fetched(Fetch::Got)),
+        (Call::Fetch, Outcome::Fetched(Fetch::Held)),
+        (Call::Publish, Outcome::Published(Publishes::NotYet)),
+        (Call::Release, Outcome::Released(Release::Nothing)),
+        (Call::GiveBack, Outcome::GaveBack(false)),
+        (Call::Advance, Outcome::Advanced(Advance::Committed)),
+        // It isn't released before it is published.
+        (Call::Release, Outcome::Released(Release::Nothing)),
+        (Call::Publish, Outcome::Published(Publishes::Published)),
+        // A reply is left.
+        (Call::GiveBack, Outcome::GaveBack(false)),
+        (Call::Release, Outcome::Released(Release::Released(slot))),
+        (Call::Release, Outcome::Released(Release::Nothing)),
+        (Call::GiveBack, Outcome::GaveBack(true)),
+        (Call::Fetch, Outcome::Fetched(Fetch::Empty)),
+        (
+            Call::Receive(slot),
+            Outcome::Received(Some((1, 0, REFUSED))),
+        ),
+    ];
+    assert_eq!(rt; differs_at(rt.alloc(), DEVICE, 64, &course)?, None);
+    Ok(())
+}
+
+/// A slot's request of a serial, taken and refused.
+fn refused(slot: Slot, serial: u64) -> [(Call, Outcome); 2] {
+    [
+        (
+            Call::Send(slot, Action::Ack(AlarmId(0))),
+            Outcome::Sent(Some(serial)),
+        ),
+        (Call::Take(slot), Outcome::Took(Take::Taken(REFUSED))),
+    ]
+}
+
+/// Its batch is stored without a device call, its reply goes, and the batch comes back.
+fn answered(slot: Slot, serial: u64) -> [(Call, Outcome); 4] {
+    [
+        (Call::Store(1), Outcome::Stored(Some(1))),
+        (Call::Release, Outcome::Released(Release::Released(slot))),
+        (Call::GiveBack, Outcome::GaveBack(true)),
+        (
+            Call::Receive(slot),
+            Outcome::Received(Some((serial, 0, REFUSED))),
+        ),
+    ]
+}
+
+#[test]
+fn the_eighth_seal_finds_no_room(rt: HostRuntime) -> Result<(), Fail> {
+    let slot = Slot::new(3).ok_or("slot")?;
+    let mut course = Vec::new(rt.alloc());
+    for serial in 1..=7 {
+        course.extend_from_slice(&refused(slot, serial))?;
+        course.push((Call::Seal, Outcome::Sealed(Seal::Sealed)))?;
+    }
+    course.extend_from_slice(&refused(slot, 8))?;
+    course.push((Call::Seal, Outcome::Sealed(Seal::NoRoom)))?;
+    // When the first comes back, the eighth is sealed.
+    course.extend_from_slice(&answered(slot, 1))?;
+    course.push((Call::Seal, Outcome::Sealed(Seal::Sealed)))?;
+    for serial in 2..=8 {
+        course.extend_from_slice(&answered(slot, serial))?;
+    }
+    course.push((Call::Fetch, Outcome::Fetched(Fetch::Empty)))?;
+    assert_eq!(rt; differs_at(rt.alloc(), DEVICE, 64, &course)?, None);
+    Ok(())
+}
+
+#[test]
+fn a_look_shows_what_is_published(rt: HostRuntime) -> Result<(), Fail> {
+    let feed = Slot::new(16).ok_or("slot")?;
+    let high = Reading::new(900).ok_or("reading")?;
+    let course = [
+        (
+            Call::Send(feed, Action::Value(AlarmId(0), high)),
+            Outcome::Sent(Some(1)),
+        ),
+        (
+            Call::Take(feed),
+            Outcome::Took(Take::Taken(Verdict::Accepted(Action::Value(AlarmId(0), high)))),
+        ),
+        (Call::Seal, Outcome::Sealed(Seal::Sealed)),
+        (Call::Look(AlarmId(0)), Outcome::Looked(0, Shown::Normal)),
+        (
+            Call::Look(AlarmId(4)),
+            Outcome::NotShown(Refusal::NoSuchAlarm),
+        ),
+        // It is seen once it is published, before its receipt is released.
+        (Call::Store(8), Outcome::Stored(Some(4))),
+        (Call::Look(AlarmId(0)), Outcome::Looked(1, Shown::Unack)),
+        (Call::Release, Outcome::Released(Release::Released(feed))),
+        (
+            Call::Receive(feed),
+            Outcome::Received(Some((1, 1, Verdict::Accepted(Action::Value(AlarmId(0), high))))),
+        ),
+    ];
+    assert_eq!(rt; differs_at(rt.alloc(), DEVICE, 64, &course)?, None);
+    Ok(())
+}

@@ -1,0 +1,41 @@
+-- A connection from its beginning to its end.
+use Rattle.std.proofs.Common.{◌≡◌, ℕ, ◌+◌, List, [], ◌∷◌, ◌++◌, length, refl, ap, sym, subst, ◌∙◌, arith}
+use Rattle.std.specs.Prelude.{map}
+use Rattle.std.specs.List.{flat_map}
+use Rattle.std.specs.Io.KnownBytes.{Appends}
+use Rattle.std.proofs.lemmas.List.{append-nil}
+use Rattle.alm_model.specs.Plant.{Condensed}
+use Rattle.alm_lines.specs.declared.line.Line.{Line}
+use Rattle.alm_session.specs.Intakes.{Held, lines_from, lines_in, open_in}
+use Rattle.alm_session.specs.Turns.{action, met_text, slip_of, slips, strays, Side, IsTurn}
+use Rattle.alm_session.specs.Ended.{IsFresh, IsFinished, IsAnswered}
+use Rattle.alm_session.proofs.Joins.{joined}
+
+no_more : {X : Type 0} (xs : List X) → length xs ≡ 0 → xs ≡ []
+no_more [] e = refl
+no_more (x ∷ xs) e = (let bad : ◌≡◌ {A = ℕ} 1 0 = omega (arith, e) in cc)
+
+pub answered_all : (base : Condensed) (n : ℕ) (a b : Side) → IsTurn base n a b → IsFresh a → IsFinished b → IsAnswered base a b
+answered_all base n a b p fresh finished =
+    let taken : lines_from [] p.got ≡ p.taken =
+    subst (λ (h : Held). lines_in h ++ lines_from (open_in h) p.got ≡ p.taken ++ lines_in b.held) fresh.0 p.lines
+    ∙ ap (λ (l : List Line). p.taken ++ l) finished.0 ∙ append-nil p.taken in
+    let order : map slip_of p.taken ≡ flat_map slips p.met =
+    subst (λ (w : List ℕ). map action w ++ map slip_of p.taken ≡ flat_map slips p.met ++ map action b.waiting) fresh.1 p.order
+    ∙ ap (λ (w : List ℕ). flat_map slips p.met ++ map action w) finished.1 ∙ append-nil (flat_map slips p.met) in
+    let text : flat_map (met_text base) p.met ≡ p.wrote =
+    subst (λ (l : List ℕ). l ++ flat_map (met_text base) p.met ≡ p.wrote ++ b.left) fresh.2 p.text
+    ∙ ap (λ (l : List ℕ). p.wrote ++ l) finished.2 ∙ append-nil p.wrote in
+    record {
+      got = p.got;
+      met = p.met;
+      read = p.read;
+      lines = ap (map slip_of) taken ∙ order;
+      written = subst (λ (t : List ℕ). Appends a.written b.written t) (sym text) p.written;
+      heard = p.heard;
+      learnt = p.learnt;
+      own = λ few. no_more (flat_map strays p.met) (omega (arith, p.balance, few, fresh.3, ap length fresh.1, ap length finished.1));
+    }
+
+pub join : (base : Condensed) (m n : ℕ) (a b c : Side) → IsTurn base m a b → IsTurn base n b c → IsTurn base (m + n) a c
+join base m n a b c p q = joined p q

@@ -1,0 +1,69 @@
+-- Turns, one after the other.
+use Rattle.std.proofs.Common.{◌≡◌, ℕ, ◌+◌, List, [], ◌∷◌, ◌++◌, length, take, refl, ap, sym, subst, ◌∙◌, arith, append_assoc, length-append}
+use Rattle.std.specs.Prelude.{map, if◌then◌else◌}
+use Rattle.std.specs.List.{flat_map}
+use Rattle.std.proofs.KnownBytes.{Appends-trans, Consumes-trans}
+use Rattle.std.proofs.lemmas.List.{map-append}
+use Rattle.std.proofs.lemmas.Grind.{flat_map-append}
+use Rattle.std.proofs.Common.{Bool, true, false}
+use Rattle.alm_types.specs.declared.action.Action.{Action}
+use Rattle.alm_model.specs.Plant.{Condensed}
+use Rattle.alm_lines.specs.declared.line.Line.{Line}
+use Rattle.alm_lines.specs.Line.{line_of}
+use Rattle.alm_lines.specs.Stream.{is_end, fed}
+use Rattle.alm_session.specs.Intakes.{lines_from, lines_in, open_in}
+use Rattle.alm_session.specs.Turns.{Heard, Met, met_text, Slip, action, slip_of, slips, heards, strays, wants, Knows, refused_next, refused_over, Side, IsTurn}
+use Rattle.alm_session.proofs.Streams.{fed-append}
+
+with_end : (ends : Bool) (held next xs ys : List ℕ) → ((k : List ℕ) → lines_from k (xs ++ ys) ≡ lines_from k xs ++ lines_from (fed k xs) ys)
+    → (if ends then line_of held ∷ lines_from [] (xs ++ ys) else lines_from (if ends then [] else next) (xs ++ ys))
+    ≡ (if ends then line_of held ∷ lines_from [] xs else lines_from (if ends then [] else next) xs) ++ lines_from (fed (if ends then [] else next) xs) ys
+with_end true held next xs ys h = ap (λ (l : List Line). line_of held ∷ l) (h [])
+with_end false held next xs ys h = h next
+
+lines_from-append : (held xs ys : List ℕ) → lines_from held (xs ++ ys) ≡ lines_from held xs ++ lines_from (fed held xs) ys
+lines_from-append held [] ys = refl
+lines_from-append held (x ∷ xs) ys = with_end (is_end x) held (take 128 (held ++ x ∷ [])) xs ys (λ k. lines_from-append k xs ys)
+
+pub knows-append : (base : Condensed) (k l m : List Action) (xs ys : List Met) → Knows base k xs l → Knows base l ys m → Knows base k (xs ++ ys) m
+knows-append base k l m [] ys p q = rw (← p) q
+knows-append base k l m (x ∷ xs) ys (next, (step, rest)) q = (next, (step, knows-append base next l m xs ys rest q))
+
+refused_over-append : (base : Condensed) (n : ℕ) (xs ys : List Met) → refused_over base n (xs ++ ys) ≡ refused_over base (refused_over base n xs) ys
+refused_over-append base n [] ys = refl
+refused_over-append base n (x ∷ xs) ys = refused_over-append base (refused_next base n x) xs ys
+
+-- two lists, each split in two
+across : {X : Type 0} (a b c s t u v : List X) → a ++ s ≡ u ++ b → b ++ t ≡ v ++ c → a ++ (s ++ t) ≡ (u ++ v) ++ c
+across a b c s t u v p q = sym (append_assoc a s t) ∙ ap (λ l. l ++ t) p ∙ append_assoc u b t ∙ ap (λ l. u ++ l) q ∙ sym (append_assoc u v c)
+
+pub joined : {base : Condensed} {m n : ℕ} {a b c : Side} → IsTurn base m a b → IsTurn base n b c → IsTurn base (m + n) a c
+joined {base} {m} {n} {a} {b} {c} p q = record {
+  got = p.got ++ q.got;
+  wrote = p.wrote ++ q.wrote;
+  taken = p.taken ++ q.taken;
+  met = p.met ++ q.met;
+  read = Consumes-trans a.coming b.coming c.coming p.got q.got p.read q.read;
+  lines = ap (λ (l : List Line). lines_in a.held ++ l) (lines_from-append (open_in a.held) p.got q.got ∙ ap (λ (h : List ℕ). lines_from (open_in a.held) p.got ++ lines_from h q.got) (sym p.open_line))
+      ∙ across (lines_in a.held) (lines_in b.held) (lines_in c.held) (lines_from (open_in a.held) p.got) (lines_from (open_in b.held) q.got) p.taken q.taken p.lines q.lines;
+  open_line = q.open_line ∙ ap (λ (h : List ℕ). fed h q.got) p.open_line ∙ sym (fed-append (open_in a.held) p.got q.got);
+  order = ap (λ (l : List Slip). map action a.waiting ++ l) (map-append slip_of p.taken q.taken)
+      ∙ across (map action a.waiting) (map action b.waiting) (map action c.waiting) (map slip_of p.taken) (map slip_of q.taken) (flat_map slips p.met) (flat_map slips q.met) p.order q.order
+      ∙ ap (λ (l : List Slip). l ++ map action c.waiting) (sym (flat_map-append slips p.met q.met));
+  text = ap (λ (l : List ℕ). a.left ++ l) (flat_map-append (met_text base) p.met q.met)
+      ∙ across a.left b.left c.left (flat_map (met_text base) p.met) (flat_map (met_text base) q.met) p.wrote q.wrote p.text q.text;
+  written = Appends-trans a.written b.written c.written p.wrote q.wrote p.written q.written;
+  sent = q.sent ∙ ap (λ (l : List Action). l ++ flat_map wants q.taken) p.sent ∙ append_assoc a.sent (flat_map wants p.taken) (flat_map wants q.taken) ∙ ap (λ (l : List Action). a.sent ++ l) (sym (flat_map-append wants p.taken q.taken));
+  heard = q.heard ∙ ap (λ (l : List Heard). l ++ flat_map heards q.met) p.heard ∙ append_assoc a.heard (flat_map heards p.met) (flat_map heards q.met) ∙ ap (λ (l : List Heard). a.heard ++ l) (sym (flat_map-append heards p.met q.met));
+  learnt = knows-append base a.known b.known c.known p.met q.met p.learnt q.learnt;
+  refused = q.refused ∙ ap (λ (n : ℕ). refused_over base n q.met) p.refused ∙ sym (refused_over-append base a.refused p.met q.met);
+  balance = omega (arith, p.balance, q.balance, ap length (flat_map-append strays p.met q.met), length-append (flat_map strays p.met) (flat_map strays q.met));
+  moved = omega (arith, p.moved, q.moved, length-append p.got q.got, length-append p.wrote q.wrote, length-append p.taken q.taken, ap length (flat_map-append heards p.met q.met), length-append (flat_map heards p.met) (flat_map heards q.met));
+}
+
+-- something, after what did nothing that counts
+pub behind : {base : Condensed} {n : ℕ} {a b c : Side} → IsTurn base 0 a b → IsTurn base n b c → IsTurn base n a c
+behind {base} {n} {a} {b} {c} p q = subst (λ (k : ℕ). IsTurn base k a c) (none_more n) (joined p q)
+  where
+    none_more : (n : ℕ) → 0 + n ≡ n
+    none_more n = omega arith

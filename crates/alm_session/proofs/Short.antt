@@ -1,0 +1,200 @@
+-- No reply to a query is longer than the room for replies.
+use Rattle.std.proofs.Common.{◌≡◌, inl, inr, ℕ, ◌+◌, ◌*◌, ◌^◌, ◌<◌, ◌≤◌, Bool, true, false, List, [], ◌∷◌, ◌++◌, length, refl, sym, ◌∙◌, arith, Option, Some, None, subst}
+use Rattle.std.specs.Prelude.{filter, sum, sum_by, slice_get, codes, decimal, Ok, Err, if◌then◌else◌, ◌==◌}
+use Rattle.std.specs.List.{AllByRecursion, range_with_len}
+use Rattle.std.proofs.lemmas.Fmt.{length-decimal-le}
+use Rattle.std.proofs.lemmas.List.{length-append}
+use Rattle.std.proofs.lemmas.List.Sums.{get_or-le-sum_by, length-filter, count_by-le-length}
+use Rattle.std.proofs.lemmas.List.FromFn.{length-range_with_len}
+use Rattle.std.proofs.lemmas.Option.{none-some, slice_get_within, get_or_from_slice_get, slice_get_cases}
+use Rattle.alm_types.specs.declared.query.Query.{Query}
+use Rattle.alm_types.specs.declared.query.Query.TheVariants as query
+use Rattle.alm_types.specs.declared.refusal.Refusal.{Refusal}
+use Rattle.alm_types.specs.declared.refusal.Refusal.TheVariants as refusal
+use Rattle.alm_types.specs.Refusals.{number_of}
+use Rattle.alm_types.specs.Reports.{Report, flood, alarms}
+use Rattle.alm_types.specs.declared.shown.Shown.{Shown}
+use Rattle.alm_types.specs.declared.shown.Shown.TheVariants as shown
+use Rattle.alm_lists.proofs.Each.{all-filter, all-in_order, all-range, every}
+use Rattle.alm_model.specs.Plant.{Condensed}
+use Rattle.alm_model.specs.Look.{state_report, flood_report}
+use Rattle.alm_model.specs.Rules.{KeepsRules}
+use Rattle.alm_model.proofs.Listed.{listed-few}
+use Rattle.alm_state.specs.Rows.{State}
+use Rattle.alm_state.specs.Suits.{IsAhead}
+use Rattle.alm_state.specs.Showing.{report_of, shown_of, flags_of}
+use Rattle.alm_types.specs.declared.attr.Attr.{Attr}
+use Rattle.alm_desk.specs.Answers.{look_reply, report_reply}
+use Rattle.alm_desk.specs.declared.hindrance.Hindrance.TheVariants.{Nothing}
+use Rattle.alm_model.specs.Lists as lists
+use Rattle.alm_model.specs.declared.list.List.{List as Choice}
+use Rattle.alm_model.specs.declared.list.List.TheVariants as choice
+use Rattle.alm_lines.specs.Reply.{spaced, report_text, no_text, told_text, query_word, shown_word, letters, deadline, digit}
+
+-- each number after a space: six bytes at most
+pub spaced-short : (xs : List ℕ) → AllByRecursion (λ x. x < 16384) xs → length (spaced xs) ≤ 6 * length xs
+spaced-short [] a = omega arith
+spaced-short (x ∷ xs) a =
+    omega (arith, length-append (32 ∷ decimal x) (spaced xs), length-decimal-le 5 x (omega arith) (omega (arith, a.0)) (omega (arith, a.0)), spaced-short xs a.1)
+
+-- the numbers of a list are those of alarms
+inside : (q : Condensed) (test : ℕ → Bool) → AllByRecursion (λ x. x < length q.panel.rows) (filter test (range_with_len 0 (length q.panel.rows)))
+inside q test = all-filter (λ x. x < length q.panel.rows) test _ (all-range (λ x. x < length q.panel.rows) 0 (length q.panel.rows) (λ x h k. omega (arith, k)))
+
+-- and the word of what is shown has five letters at most
+shown-short : (s : Shown) → length (shown_word s) ≤ 5
+shown-short shown.OutOfService = omega arith
+shown-short shown.ByDesign = omega arith
+shown-short shown.Shelved = omega arith
+shown-short shown.Normal = omega arith
+shown-short shown.Unack = omega arith
+shown-short shown.Acked = omega arith
+shown-short shown.RtnUnack = omega arith
+shown-short shown.LatchUnack = omega arith
+shown-short shown.LatchAcked = omega arith
+
+outside : {X : Type 0} (xs : List X) (i : ℕ) → slice_get xs i ≡ None → i < length xs → ⊥
+outside xs i e h = elim (slice_get_cases xs i).1 [
+  | inl (x, within, here, there) ↦ none-some x (sym e ∙ here)
+  | inr (past, none) ↦ absurd (omega (arith, h, past))
+]
+
+-- the longest word of a query
+word-short : (asked : Query) → length (query_word asked) ≤ 9
+word-short (query.State i) = omega arith
+word-short (query.Priority n) = omega arith
+word-short (query.Area n) = omega arith
+word-short (query.Wheel n) = omega arith
+word-short (query.Flood n) = omega arith
+word-short query.Stale = omega arith
+word-short query.Chatter = omega arith
+
+either-short : (k : ℕ) (b : Bool) (x y : List ℕ) → length x ≤ k → length y ≤ k → length (if b then x else y) ≤ k
+either-short k true x y h j = h
+either-short k false x y h j = j
+
+letters-short : (n : ℕ) → length (letters n) ≤ 3
+letters-short n =
+    either-short 3 (n == 0) (codes "-") _ (omega arith)
+    (either-short 3 (n == 1) (codes "S") _ (omega arith)
+    (either-short 3 (n == 2) (codes "D") _ (omega arith)
+    (either-short 3 (n == 3) (codes "DS") _ (omega arith)
+    (either-short 3 (n == 4) (codes "O") _ (omega arith)
+    (either-short 3 (n == 5) (codes "OS") _ (omega arith)
+    (either-short 3 (n == 6) (codes "OD") (codes "ODS") (omega arith) (omega arith)))))))
+
+digit-short : (b : Bool) → length (decimal (digit b)) ≤ 1
+digit-short true = length-decimal-le 1 1 (omega arith) (omega arith) (omega arith)
+digit-short false = length-decimal-le 1 0 (omega arith) (omega arith) (omega arith)
+
+four : (a b c d : List ℕ) → length (a ++ b ++ c ++ d) ≡ length a + length b + length c + length d
+four a b c d = omega (arith, length-append (a ++ b ++ c) d, length-append (a ++ b) c, length-append a b)
+
+five : (a b c d e : List ℕ) → length (a ++ b ++ c ++ d ++ e) ≡ length a + length b + length c + length d + length e
+five a b c d e = omega (arith, length-append (a ++ b ++ c ++ d) e, four a b c d)
+
+eight : (a b c d e f g h : List ℕ) → length (a ++ b ++ c ++ d ++ e ++ f ++ g ++ h) ≡ length a + length b + length c + length d + length e + length f + length g + length h
+eight a b c d e f g h = omega (arith, length-append (a ++ b ++ c ++ d ++ e ++ f ++ g) h, length-append (a ++ b ++ c ++ d ++ e ++ f) g, length-append (a ++ b ++ c ++ d ++ e) f, five a b c d e)
+
+module _ (q : Condensed) (id : ℕ) (rules : KeepsRules q) (actions : q.panel.count ≤ 2 ^ 48) (small : id < 2 ^ 32) where
+  -- what is told is as long as its report, and a little more
+  told-short : (asked : Query) (r : Report) → length (report_text r) ≤ 131000 → length (told_text id q.panel.count asked r) ≤ 131072
+  told-short asked r short =
+      let size : length (told_text id q.panel.count asked r) ≡ length (decimal id) + length (query_word asked) + length (decimal q.panel.count) + length (report_text r) + 1 = five (decimal id) (query_word asked) (decimal q.panel.count) (report_text r) (codes "\n") in
+      omega (
+        arith,
+        size,
+        length-decimal-le 10 id (omega arith) (omega (arith, small)) (omega (arith, small)),
+        word-short asked,
+        length-decimal-le 15 q.panel.count (omega arith) (omega (arith, actions)) (omega (arith, actions)),
+        short,
+      )
+
+  refused-short : (refusal : Refusal) → length (decimal (number_of refusal)) ≤ 2 → length (no_text id refusal) ≤ 131072
+  refused-short refusal short =
+      let size : length (no_text id refusal) ≡ length (decimal id) + 4 + length (decimal (number_of refusal)) + 1 = four (decimal id) (codes " NO ") (decimal (number_of refusal)) (codes "\n") in
+      omega (arith, size, length-decimal-le 10 id (omega arith) (omega (arith, small)) (omega (arith, small)), short)
+
+  -- a list of the measures
+  few-measured : (test : List ℕ → Bool) (c : Choice) → length (lists.measured test c q) ≤ length q.panel.rows
+  few-measured test c =
+      omega (
+        arith,
+        length-filter (λ i. test (lists.moments_in (slice_get q.kept.moments i))) (lists.alarms (lists.stands_in c) q.panel.attrs q.panel.rows),
+        count_by-le-length (λ i. test (lists.moments_in (slice_get q.kept.moments i))) (lists.alarms (lists.stands_in c) q.panel.attrs q.panel.rows),
+        length-filter (lists.is_one (lists.stands_in c) q.panel.attrs q.panel.rows) (range_with_len 0 (length q.panel.rows)),
+        count_by-le-length (lists.is_one (lists.stands_in c) q.panel.attrs q.panel.rows) (range_with_len 0 (length q.panel.rows)),
+        length-range_with_len 0 (length q.panel.rows),
+      )
+
+  few : (c : Choice) → length (lists.list_of c q) ≤ length q.panel.rows
+  few (choice.Priority n) = listed-few lists.stamp (lists.stands_in (choice.Priority n)) q.panel.attrs q.panel.rows
+  few (choice.Area n) = listed-few lists.stamp (lists.stands_in (choice.Area n)) q.panel.attrs q.panel.rows
+  few (choice.Wheel n) = listed-few lists.stamp (lists.stands_in (choice.Wheel n)) q.panel.attrs q.panel.rows
+  few choice.Stale = few-measured (lists.is_old q.panel.now) choice.Stale
+  few choice.Chatter = few-measured (lists.is_frequent q.panel.now) choice.Chatter
+
+  below : (x : ℕ) → x < length q.panel.rows → x < 16384
+  below x h = omega (arith, h, rules.few)
+
+  alarms-below : (test : Attr → State → Bool) → AllByRecursion (λ x. x < 16384) (lists.alarms test q.panel.attrs q.panel.rows)
+  alarms-below test = every below _ (inside q (lists.is_one test q.panel.attrs q.panel.rows))
+
+  all-below : (c : Choice) → AllByRecursion (λ x. x < 16384) (lists.list_of c q)
+  all-below (choice.Priority n) = all-in_order (λ x. x < 16384) _ _ (alarms-below (lists.stands_in (choice.Priority n)))
+  all-below (choice.Area n) = all-in_order (λ x. x < 16384) _ _ (alarms-below (lists.stands_in (choice.Area n)))
+  all-below (choice.Wheel n) = all-in_order (λ x. x < 16384) _ _ (alarms-below (lists.stands_in (choice.Wheel n)))
+  all-below choice.Stale = all-filter (λ x. x < 16384) _ _ (alarms-below (lists.stands_in choice.Stale))
+  all-below choice.Chatter = all-filter (λ x. x < 16384) _ _ (alarms-below (lists.stands_in choice.Chatter))
+
+  list-short : (c : Choice) → length (report_text (alarms (lists.list_of c q))) ≤ 131000
+  list-short c =
+      omega (
+        arith,
+        length-append (codes " ") (decimal (length (lists.list_of c q)) ++ spaced (lists.list_of c q)),
+        length-append (decimal (length (lists.list_of c q))) (spaced (lists.list_of c q)),
+        length-decimal-le 5 (length (lists.list_of c q)) (omega arith) (omega (arith, few c, rules.few)) (omega (arith, few c, rules.few)),
+        spaced-short (lists.list_of c q) (all-below c),
+        few c,
+        rules.few,
+      )
+
+  listed-short : (asked : Query) (c : Choice) (b : Bool) → length (report_reply id q.panel.count asked (if b then Ok (alarms (lists.list_of c q)) else Err refusal.NoSuchList)) ≤ 131072
+  listed-short asked c true = told-short asked (alarms (lists.list_of c q)) (list-short c)
+  listed-short asked c false = refused-short refusal.NoSuchList (length-decimal-le 2 17 (omega arith) (omega arith) (omega arith))
+
+  -- an area
+  flood-short : (asked : Query) (a : ℕ) (o : Option (List ℕ)) (f : Option Bool) → slice_get q.kept.ages a ≡ o → length (report_reply id q.panel.count asked (flood_report o f)) ≤ 131072
+  flood-short asked a None f e = refused-short refusal.NoSuchList (length-decimal-le 2 17 (omega arith) (omega arith) (omega arith))
+  flood-short asked a (Some ages) None e = refused-short refusal.NoSuchList (length-decimal-le 2 17 (omega arith) (omega arith) (omega arith))
+  flood-short asked a (Some ages) (Some on) e =
+      let whole : sum ages ≤ sum_by sum q.kept.ages = subst (λ w. sum w ≤ sum_by sum q.kept.ages) (get_or_from_slice_get q.kept.ages a ages [] e) (get_or-le-sum_by sum q.kept.ages a [] (slice_get_within q.kept.ages a ages e)) in
+      let window : sum ages < 2 ^ 63 = omega (arith, whole, rules.annunciations, rules.stamps, actions) in
+      let size : length (report_text (flood (sum ages) on)) ≡ 1 + length (decimal (sum ages)) + 1 + length (decimal (digit on)) = four (codes " ") (decimal (sum ages)) (codes " ") (decimal (digit on)) in
+      told-short asked (flood (sum ages) on) (omega (arith, size, length-decimal-le 19 (sum ages) (omega arith) (omega (arith, window)) (omega (arith, window)), digit-short on))
+
+  -- an alarm
+  deadline-short : (longest : ℕ) → longest ≤ 604800 → (until : Option ℕ) → IsAhead q.panel.now longest until → length (deadline until) ≤ 13
+  deadline-short longest limit None h = omega arith
+  deadline-short longest limit (Some t) h = length-decimal-le 13 t (omega arith) (omega (arith, h.1, limit, rules.now)) (omega (arith, h.1, limit, rules.now))
+
+  report-short : (s : State) → length (deadline s.shelved_until) ≤ 13 → length (report_text (report_of s)) ≤ 131000
+  report-short s until =
+      let size : length (report_text (report_of s)) ≡ 1 + length (shown_word (shown_of s)) + 1 + length (decimal (digit s.active)) + 1 + length (letters (flags_of s)) + 1 + length (deadline s.shelved_until) = eight (codes " ") (shown_word (shown_of s)) (codes " ") (decimal (digit s.active)) (codes " ") (letters (flags_of s)) (codes " ") (deadline s.shelved_until) in
+      omega (arith, size, shown-short (shown_of s), digit-short s.active, letters-short (flags_of s), until)
+
+  alarm-short : (asked : Query) (i : ℕ) (o : Option State) (a : Option Attr) (ms : Option (List ℕ)) → slice_get q.panel.rows i ≡ o → slice_get q.panel.attrs i ≡ a → slice_get q.kept.moments i ≡ ms → length (report_reply id q.panel.count asked (state_report o)) ≤ 131072
+  alarm-short asked i None a ms e f g = refused-short refusal.NoSuchAlarm (length-decimal-le 2 1 (omega arith) (omega arith) (omega arith))
+  alarm-short asked i (Some s) None ms e f g = absurd (outside q.panel.attrs i f (omega (arith, slice_get_within q.panel.rows i s e, rules.attrs)))
+  alarm-short asked i (Some s) (Some a) None e f g = absurd (outside q.kept.moments i g (omega (arith, slice_get_within q.panel.rows i s e, rules.recent)))
+  alarm-short asked i (Some s) (Some a) (Some ms) e f g = told-short asked (report_of s) (report-short s (deadline-short a.max_shelve a.max_shelve_limit s.shelved_until (rules.alarms i a s ms f e g).deadline))
+
+  -- no reply to a query
+  pub short : (asked : Query) → length (look_reply q id asked Nothing) ≤ 131072
+  short (query.State i) = alarm-short (query.State i) i.0 (slice_get q.panel.rows i.0) (slice_get q.panel.attrs i.0) (slice_get q.kept.moments i.0) refl refl refl
+  short (query.Flood a) = flood-short (query.Flood a) a (slice_get q.kept.ages a) (slice_get q.floods a) refl
+  short (query.Priority n) = listed-short (query.Priority n) (choice.Priority n) (lists.exists (choice.Priority n) q)
+  short (query.Area n) = listed-short (query.Area n) (choice.Area n) (lists.exists (choice.Area n) q)
+  short (query.Wheel n) = listed-short (query.Wheel n) (choice.Wheel n) (lists.exists (choice.Wheel n) q)
+  short query.Stale = listed-short query.Stale choice.Stale (lists.exists choice.Stale q)
+  short query.Chatter = listed-short query.Chatter choice.Chatter (lists.exists choice.Chatter q)

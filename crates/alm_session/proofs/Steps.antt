@@ -1,0 +1,200 @@
+-- Single steps of a session.
+use Rattle.std.proofs.Common.{◌≡◌, ℕ, ◌+◌, ◌≤◌, List, [], ◌∷◌, ◌++◌, Option, Some, None, length, take, drop, refl, ap, sym, ◌∙◌, arith, length-append}
+use Rattle.std.specs.Prelude.{map}
+use Rattle.std.specs.List.{flat_map}
+use Rattle.std.specs.Io.KnownBytes.{Consumes, Appends}
+use Rattle.std.proofs.KnownBytes.{Appends-nil}
+use Rattle.std.proofs.lemmas.List.{take-append-drop, append-nil, length-take-le}
+use Rattle.alm_types.specs.declared.action.Action.{Action}
+use Rattle.alm_model.specs.Plant.{Condensed}
+use Rattle.alm_lines.specs.declared.line.Line.{Line}
+use Rattle.alm_lines.specs.Stream.{fed}
+use Rattle.alm_desk.specs.Answers.{verdict_reply}
+use Rattle.alm_board.specs.Fronts.{IsFront}
+use Rattle.alm_session.specs.Intakes.{Held, lines_from, lines_in, open_in}
+use Rattle.alm_session.specs.Turns.{Heard, Met, acted, stray, met_text, Slip, action, slip_of, slips, heards, strays, wants, Knows, KnowsNext, refused_next, refused_over, Side, IsTurn}
+
+pub consumes_nil : (o : Option (List ℕ)) → Consumes o o []
+consumes_nil None = tt
+consumes_nil (Some xs) = refl
+
+-- what stays of one that is put behind nothing more
+one_text : (base : Condensed) (left : List ℕ) (m : Met) → left ++ flat_map (met_text base) (m ∷ []) ≡ left ++ met_text base m
+one_text base left m = ap (λ (t : List ℕ). left ++ t) (append-nil (met_text base m))
+
+-- nothing happens but that bytes are taken up to the next line
+pub still : (base : Condensed) (a b : Side) → lines_in b.held ≡ lines_in a.held → open_in b.held ≡ open_in a.held → b.waiting ≡ a.waiting → b.left ≡ a.left → b.known ≡ a.known
+    → b.coming ≡ a.coming → b.written ≡ a.written → b.sent ≡ a.sent → b.heard ≡ a.heard → b.refused ≡ a.refused → IsTurn base 0 a b
+still base a b lines opens waiting left known coming written sent heard refused = record {
+  got = [];
+  wrote = [];
+  taken = [];
+  met = [];
+  read = rw coming (consumes_nil a.coming);
+  lines = append-nil (lines_in a.held) ∙ sym lines;
+  open_line = opens;
+  order = append-nil (map action a.waiting) ∙ ap (map action) (sym waiting);
+  text = append-nil a.left ∙ sym left;
+  written = rw written (Appends-nil a.written);
+  sent = sent ∙ sym (append-nil a.sent);
+  heard = heard ∙ sym (append-nil a.heard);
+  learnt = known;
+  refused = refused;
+  balance = omega (arith, ap length sent, ap length heard, ap length waiting);
+  moved = omega arith;
+}
+
+-- a receipt answers the first line that waits
+pub answered : (base : Condensed) (a b : Side) (id : ℕ) (h : Heard) → b.held ≡ a.held → a.waiting ≡ id ∷ b.waiting → b.left ≡ a.left ++ met_text base (acted id h) → IsFront a.known b.known → IsFront h.list b.known
+    → b.coming ≡ a.coming → b.written ≡ a.written → b.sent ≡ a.sent → b.heard ≡ a.heard ++ h ∷ [] → b.refused ≡ a.refused → IsTurn base 1 a b
+answered base a b id h held waiting left known learnt coming written sent heard refused = record {
+  got = [];
+  wrote = [];
+  taken = [];
+  met = acted id h ∷ [];
+  read = rw coming (consumes_nil a.coming);
+  lines = append-nil (lines_in a.held) ∙ ap lines_in (sym held);
+  open_line = ap open_in held;
+  order = append-nil (map action a.waiting) ∙ ap (map action) waiting;
+  text = one_text base a.left (acted id h) ∙ sym left;
+  written = rw written (Appends-nil a.written);
+  sent = sent ∙ sym (append-nil a.sent);
+  heard = heard;
+  learnt = (b.known, ((known, learnt), refl));
+  refused = refused;
+  balance = omega (arith, ap length sent, ap length waiting, ap length heard, length-append a.heard (h ∷ []));
+  moved = omega arith;
+}
+
+no_one : {P : Type 0} → ◌≡◌ {A = ℕ} 1 0 → P
+no_one {P} e = cc
+
+pub nothing_of : (xs : List ℕ) → length xs ≡ 0 → xs ≡ []
+nothing_of [] e = refl
+nothing_of (x ∷ xs) e = (let bad : ◌≡◌ {A = ℕ} 1 0 = omega (arith, e) in no_one bad)
+
+-- a receipt comes while no line waits
+pub strayed : (base : Condensed) (a b : Side) (h : Heard) → b.held ≡ a.held → a.waiting ≡ [] → b.waiting ≡ [] → b.left ≡ a.left → IsFront a.known b.known → IsFront h.list b.known
+    → b.coming ≡ a.coming → b.written ≡ a.written → b.sent ≡ a.sent → b.heard ≡ a.heard ++ h ∷ [] → b.refused ≡ a.refused → IsTurn base 1 a b
+strayed base a b h held waiting waits left known learnt coming written sent heard refused = record {
+  got = [];
+  wrote = [];
+  taken = [];
+  met = stray h ∷ [];
+  read = rw coming (consumes_nil a.coming);
+  lines = append-nil (lines_in a.held) ∙ ap lines_in (sym held);
+  open_line = ap open_in held;
+  order = append-nil (map action a.waiting) ∙ ap (map action) (waiting ∙ sym waits);
+  text = one_text base a.left (stray h) ∙ append-nil a.left ∙ sym left;
+  written = rw written (Appends-nil a.written);
+  sent = sent ∙ sym (append-nil a.sent);
+  heard = heard;
+  learnt = (b.known, ((known, learnt), refl));
+  refused = refused;
+  balance = omega (arith, ap length sent, ap length waiting, ap length waits, ap length heard, length-append a.heard (h ∷ []));
+  moved = omega arith;
+}
+
+-- bytes are written
+pub wrote_some : (base : Condensed) (a b : Side) (n : ℕ) → 1 ≤ n → n ≤ length a.left → b.held ≡ a.held → b.waiting ≡ a.waiting → b.left ≡ drop n a.left → b.known ≡ a.known
+    → b.coming ≡ a.coming → Appends a.written b.written (take n a.left) → b.sent ≡ a.sent → b.heard ≡ a.heard → b.refused ≡ a.refused → IsTurn base 1 a b
+wrote_some base a b n some within held waiting left known coming written sent heard refused = record {
+  got = [];
+  wrote = take n a.left;
+  taken = [];
+  met = [];
+  read = rw coming (consumes_nil a.coming);
+  lines = append-nil (lines_in a.held) ∙ ap lines_in (sym held);
+  open_line = ap open_in held;
+  order = append-nil (map action a.waiting) ∙ ap (map action) (sym waiting);
+  text = append-nil a.left ∙ sym (ap (λ (t : List ℕ). take n a.left ++ t) left ∙ take-append-drop n a.left);
+  written = written;
+  sent = sent ∙ sym (append-nil a.sent);
+  heard = heard ∙ sym (append-nil a.heard);
+  learnt = known;
+  refused = refused;
+  balance = omega (arith, ap length sent, ap length heard, ap length waiting);
+  moved = omega (arith, some, taken_length n a.left within);
+}
+  where
+    taken_length : (n : ℕ) (xs : List ℕ) → n ≤ length xs → length (take n xs) ≡ n
+    taken_length n xs h = length-take-le n xs h
+
+-- bytes are read, where no line was held
+pub read_some : (base : Condensed) (a b : Side) → a.held.line ≡ None → a.held.rest ≡ [] → b.held ≡ record a.held { rest = b.held.rest } → 1 ≤ length b.held.rest → b.waiting ≡ a.waiting → b.left ≡ a.left
+    → b.known ≡ a.known → Consumes a.coming b.coming b.held.rest → b.written ≡ a.written → b.sent ≡ a.sent → b.heard ≡ a.heard → b.refused ≡ a.refused → IsTurn base 1 a b
+read_some base a b none empty held some waiting left known coming written sent heard refused = record {
+  got = b.held.rest;
+  wrote = [];
+  taken = [];
+  met = [];
+  read = coming;
+  lines = rw (none, empty) (sym (ap lines_in held ∙ lined a.held b.held.rest none));
+  open_line = ap open_in held ∙ opened a.held b.held.rest empty;
+  order = append-nil (map action a.waiting) ∙ ap (map action) (sym waiting);
+  text = append-nil a.left ∙ sym left;
+  written = rw written (Appends-nil a.written);
+  sent = sent ∙ sym (append-nil a.sent);
+  heard = heard ∙ sym (append-nil a.heard);
+  learnt = known;
+  refused = refused;
+  balance = omega (arith, ap length sent, ap length heard, ap length waiting);
+  moved = omega (arith, some);
+}
+  where
+    lined : (h : Held) (rest : List ℕ) → h.line ≡ None → lines_in (record h { rest = rest }) ≡ lines_from h.held rest
+    lined h rest none = rw none refl
+
+    opened : (h : Held) (rest : List ℕ) → h.rest ≡ [] → open_in (record h { rest = rest }) ≡ fed (open_in h) rest
+    opened h rest empty = rw empty refl
+
+-- a line is taken and answered at once, or sent
+pub took : (base : Condensed) (a b : Side) (line : Line) (met : List Met) → a.held.line ≡ Some line → b.held ≡ record a.held { line = None }
+    → map action a.waiting ++ slip_of line ∷ [] ≡ flat_map slips met ++ map action b.waiting → b.left ≡ a.left ++ flat_map (met_text base) met
+    → b.coming ≡ a.coming → b.written ≡ a.written → b.sent ≡ a.sent ++ wants line → b.heard ≡ a.heard → flat_map heards met ≡ [] → flat_map strays met ≡ [] → Knows base a.known met b.known
+    → b.refused ≡ refused_over base a.refused met → length (wants line) + length a.waiting ≡ length b.waiting → IsTurn base 1 a b
+took base a b line met held later order left coming written sent heard none plain learnt refused count = record {
+  got = [];
+  wrote = [];
+  taken = line ∷ [];
+  met = met;
+  read = rw coming (consumes_nil a.coming);
+  lines = append-nil (lines_in a.held) ∙ passed a.held line held ∙ ap (λ (h : Held). line ∷ lines_in h) (sym later);
+  open_line = ap open_in later;
+  order = order;
+  text = sym left;
+  written = rw written (Appends-nil a.written);
+  sent = sent ∙ ap (λ (l : List Action). a.sent ++ l) (sym (append-nil (wants line)));
+  heard = heard ∙ sym (ap (λ (l : List Heard). a.heard ++ l) none ∙ append-nil a.heard);
+  learnt = learnt;
+  refused = refused;
+  balance = omega (arith, count, ap length sent, length-append a.sent (wants line), ap length heard, ap length plain);
+  moved = omega arith;
+}
+  where
+    passed : (h : Held) (line : Line) → h.line ≡ Some line → lines_in h ≡ line ∷ lines_in (record h { line = None })
+    passed h line held = rw held refl
+
+at_end : (xs ys zs : List ℕ) → xs ≡ zs → ys ≡ [] → xs ≡ ys ++ (zs ++ [])
+at_end xs ys zs e f = rw f (e ∙ sym (append-nil zs))
+
+alone_order : (w v : List ℕ) (s : Slip) (l : List Slip) → w ≡ [] → v ≡ [] → l ≡ s ∷ [] → map action w ++ s ∷ [] ≡ (l ++ []) ++ map action v
+alone_order w v s l e f h = rw (e, f, h) refl
+
+-- a line is answered at once, where no action waits and nothing is to be written
+pub at_once : (base : Condensed) (a b : Side) (line : Line) (m : Met) → a.held.line ≡ Some line → b.held ≡ record a.held { line = None } → a.waiting ≡ [] → b.waiting ≡ [] → a.left ≡ [] → b.left ≡ met_text base m
+    → slips m ≡ slip_of line ∷ [] → wants line ≡ [] → heards m ≡ [] → strays m ≡ [] → KnowsNext base a.known m b.known → b.coming ≡ a.coming → b.written ≡ a.written → b.sent ≡ a.sent → b.heard ≡ a.heard → b.refused ≡ refused_next base a.refused m → IsTurn base 1 a b
+at_once base a b line m held later waiting waits empty left slip want none plain known coming written sent heard refused =
+    took base a b line (m ∷ []) held later (alone_order a.waiting b.waiting (slip_of line) (slips m) waiting waits slip) (at_end b.left a.left (met_text base m) left empty) coming written
+    (sent ∙ sym (append-nil a.sent) ∙ ap (λ (l : List Action). a.sent ++ l) (sym want)) heard (append-nil (heards m) ∙ none) (append-nil (strays m) ∙ plain) (b.known, (known, refl))
+    refused (omega (arith, ap length want, ap length waiting, ap length waits))
+
+-- a receipt is received
+pub received : (base : Condensed) (a b : Side) (h : Heard) → b.held ≡ a.held → (a.waiting ≡ [] → (b.waiting ≡ []) × (b.left ≡ a.left))
+    → ((id : ℕ) (ids : List ℕ) → a.waiting ≡ id ∷ ids → (b.waiting ≡ ids) × (b.left ≡ a.left ++ verdict_reply id h.number h.verdict)) → IsFront a.known b.known → IsFront h.list b.known
+    → b.coming ≡ a.coming → b.written ≡ a.written → b.sent ≡ a.sent → b.heard ≡ a.heard ++ h ∷ [] → b.refused ≡ a.refused → IsTurn base 1 a b
+received base a b h held none some known learnt coming written sent heard refused = by_waiting a.waiting refl
+  where
+    by_waiting : (w : List ℕ) → a.waiting ≡ w → IsTurn base 1 a b
+    by_waiting [] e = strayed base a b h held e (none e).0 (none e).1 known learnt coming written sent heard refused
+    by_waiting (id ∷ ids) e = answered base a b id h held (e ∙ ap (λ (l : List ℕ). id ∷ l) (sym (some id ids e).0)) (some id ids e).1 known learnt coming written sent heard refused

@@ -1,0 +1,18 @@
+use Rattle.std.proofs.Common.{◌≡◌, length, ◌∷◌, [], refl, sym, ap, rules}
+use Rattle.alm_types.specs.declared.answer.Answer.{Answer}
+use Rattle.alm_session.specs.Turns.{bad, slip_at, wants_at}
+use Rattle.alm_session.proofs.Steps.{at_once, still, nothing_of}
+use Rattle.alm_session.proofs.session.Session.take.Goals as goal
+
+pub returns-then-not-is_empty-clause-turn : goal.returns-then-not-is_empty-clause-turn
+returns-then-not-is_empty-clause-turn g c = λ coming written. still _ _ _ refl refl refl refl refl refl refl refl refl refl
+
+pub returns-then-not-is_empty-2-clause-turn : goal.returns-then-not-is_empty-2-clause-turn
+returns-then-not-is_empty-2-clause-turn g c = λ coming written. still _ _ _ refl refl refl refl refl refl refl refl refl refl
+
+pub returns-else-not-is_empty-2-clause-turn : goal.returns-else-not-is_empty-2-clause-turn
+returns-else-not-is_empty-2-clause-turn g c = λ coming written.
+    let zero : length c.args.self.now.waiting.items ≡ 0 = search rules in
+    let alone = nothing_of c.args.self.now.waiting.items zero in
+    at_once _ _ _ c.args.line (bad c.args.line.id c.in-Bad.refusal) c.requires.line c.refuse.ensures.held alone c.refuse.ensures.waiting c.requires.empty.0 c.refuse.ensures.left
+    (sym (ap (λ a. slip_at c.args.line.id a ∷ []) c.in-Bad.is)) (ap wants_at c.in-Bad.is) refl refl refl refl refl refl refl (ap (λ (a : Answer). a.refused) c.refuse.ensures.answer)

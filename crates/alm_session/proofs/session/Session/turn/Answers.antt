@@ -1,0 +1,21 @@
+use Rattle.std.proofs.Common.{refl, sym, ◌∙◌}
+use Rattle.alm_session.proofs.Steps.{still, wrote_some}
+use Rattle.alm_session.proofs.Joins.{behind}
+use Rattle.alm_session.proofs.Turning.{on_base, gone_turns}
+use Rattle.alm_session.proofs.session.Session.turn.Goals as goal
+
+pub returns-in-Nothing-clause-turn : goal.returns-in-Nothing-clause-turn
+returns-in-Nothing-clause-turn g c =
+    behind (c.if-receive.ensures.turn (g.W.Wire.coming c.args.wire.now) (g.W.Wire.written c.args.wire.now))
+    (behind (still _ _ _ refl refl refl (c.in-Nothing.ensures.sends.1 ∙ sym c.in-Nothing.ensures.sends.0) refl c.write.ensures.coming c.in-Nothing.ensures.sends.3 refl refl refl)
+    (on_base (sym c.receive.ensures.base) c.go_on.ensures.turn))
+
+pub returns-in-Nothing-clause-answer : goal.returns-in-Nothing-clause-answer
+returns-in-Nothing-clause-answer g c =
+    gone_turns _ _ _ _ _ _ _ _ c.in-Nothing.ensures.counts (c.if-receive.ensures.quiet refl) c.go_on.ensures.answer
+
+pub returns-in-Some-clause-turn : goal.returns-in-Some-clause-turn
+returns-in-Some-clause-turn g c =
+    let sends = c.in-Some.ensures.sends.1 in
+    behind (c.if-receive.ensures.turn (g.W.Wire.coming c.args.wire.now) (g.W.Wire.written c.args.wire.now))
+    (wrote_some _ _ _ sends.0 sends.1 sends.2 refl refl sends.3 refl c.write.ensures.coming sends.4 refl refl refl)

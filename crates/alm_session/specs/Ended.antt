@@ -1,0 +1,26 @@
+-- A connection from its beginning to its end.
+use Rattle.std.specs.Prelude.{◌≡◌, ℕ, ◌≤◌, List, [], ◌++◌, None, length, map}
+use Rattle.std.specs.List.{flat_map}
+use Rattle.std.specs.Io.KnownBytes.{Consumes, Appends}
+use Rattle.alm_model.specs.Plant.{Condensed}
+use Rattle.alm_session.specs.Intakes.{lines_from, lines_in}
+use Rattle.alm_session.specs.Turns.{Met, met_text, slip_of, slips, heards, strays, Knows, Side}
+
+-- nothing has come, nothing stands to be written, and no request of the slot is unanswered
+abbrev pub IsFresh : Side → Type 0
+IsFresh s = (s.held ≡ record { line = None; held = []; rest = [] }) × (s.waiting ≡ []) × (s.left ≡ []) × (length s.sent ≡ length s.heard)
+
+-- all lines that came are taken, all actions answered, all replies written
+abbrev pub IsFinished : Side → Type 0
+IsFinished s = (lines_in s.held ≡ []) × (s.waiting ≡ []) × (s.left ≡ [])
+
+-- each line of what was read is answered, and what was written is the replies in the order of the lines. Each receipt that came answers a line, where no more came than requests were sent
+pub record IsAnswered (base : Condensed) (a b : Side) : Type 0 where
+  pub got : List ℕ
+  pub met : List Met
+  pub read : Consumes a.coming b.coming got
+  pub lines : map slip_of (lines_from [] got) ≡ flat_map slips met
+  pub written : Appends a.written b.written (flat_map (met_text base) met)
+  pub heard : b.heard ≡ a.heard ++ flat_map heards met
+  pub learnt : Knows base a.known met b.known
+  pub own : length b.heard ≤ length b.sent → flat_map strays met ≡ []

@@ -1,0 +1,13 @@
+-- What clauses read of a wire in memory.
+use Rattle.std.specs.Prelude.{ℕ, List, drop}
+use Rattle.alm_session.specs.declared.mem_wire.MemWire.{MemWire}
+
+-- what is still to come
+abbrev pub input_of : MemWire → List ℕ
+input_of w = drop w.at w.input.items
+
+abbrev pub output_of : MemWire → List ℕ
+output_of w = w.output.items
+
+abbrev pub room_of : MemWire → ℕ
+room_of w = w.room

@@ -1,0 +1,71 @@
+-- What a call on a wire does.
+use Rattle.std.specs.Prelude.{◌≡◌, ℕ, ◌≤◌, List, [], Option, length, take, drop}
+use Rattle.std.specs.Io.KnownBytes.{Consumes, Appends, IsAtEnd}
+use Rattle.alm_types.specs.Counts.{one_more}
+use Rattle.alm_session.specs.Intakes.{Held}
+use Rattle.alm_session.specs.declared.wire.ReadGave.{ReadGave}
+use Rattle.alm_session.specs.declared.wire.ReadGave.TheVariants as read
+use Rattle.alm_session.specs.declared.wire.WriteTook.{WriteTook}
+use Rattle.alm_session.specs.declared.wire.WriteTook.TheVariants as write
+use Rattle.alm_session.specs.declared.output.Sent.{Sent}
+use Rattle.alm_session.specs.declared.output.Sent.TheVariants as sent
+use Rattle.alm_session.specs.Outputs.{Left}
+
+-- how many reads and writes were blocked, and how many calls failed, each up to the greatest number
+pub record Counts : Type 0 where
+  pub blocked_reads : ℕ
+  pub blocked_writes : ℕ
+  pub failed : ℕ
+
+abbrev pub blocked_read : Counts → Counts
+blocked_read c = record c { blocked_reads = one_more c.blocked_reads }
+
+abbrev pub blocked_write : Counts → Counts
+blocked_write c = record c { blocked_writes = one_more c.blocked_writes }
+
+abbrev pub failed_call : Counts → Counts
+failed_call c = record c { failed = one_more c.failed }
+
+-- a read gives at least one byte and no more than there is room for; what it was blocked or failed by is counted
+abbrev pub ReadCounts : ReadGave → ℕ → Counts → Counts → Type 0
+ReadCounts (read.Got n) room old new = (new ≡ old) × (1 ≤ n) × (n ≤ room)
+ReadCounts read.End room old new = new ≡ old
+ReadCounts read.Blocked room old new = new ≡ blocked_read old
+ReadCounts read.Failed room old new = new ≡ failed_call old
+
+abbrev pub WriteCounts : WriteTook → ℕ → Counts → Counts → Type 0
+WriteCounts (write.Wrote n) room old new = (new ≡ old) × (1 ≤ n) × (n ≤ room)
+WriteCounts write.Blocked room old new = new ≡ blocked_write old
+WriteCounts write.Failed room old new = new ≡ failed_call old
+
+-- what a read gives is taken from what comes; at the end nothing is left
+abbrev pub ReadBytes : ReadGave → List ℕ → Option (List ℕ) → Option (List ℕ) → Type 0
+ReadBytes (read.Got n) buffer old new = Consumes old new (take n buffer)
+ReadBytes read.End buffer old new = (new ≡ old) × IsAtEnd new
+ReadBytes read.Blocked buffer old new = new ≡ old
+ReadBytes read.Failed buffer old new = new ≡ old
+
+abbrev pub WriteBytes : WriteTook → List ℕ → Option (List ℕ) → Option (List ℕ) → Type 0
+WriteBytes (write.Wrote n) bytes old new = Appends old new (take n bytes)
+WriteBytes write.Blocked bytes old new = new ≡ old
+WriteBytes write.Failed bytes old new = new ≡ old
+
+-- what was read is behind what was held; else nothing changed
+abbrev pub Reads : ReadGave → Held → Held → Option (List ℕ) → Option (List ℕ) → Type 0
+Reads (read.Got n) before later old new = (length later.rest ≡ n) × Consumes old new later.rest × (later ≡ record before { rest = later.rest })
+Reads read.End before later old new = (later ≡ before) × (new ≡ old) × IsAtEnd new
+Reads read.Blocked before later old new = (later ≡ before) × (new ≡ old)
+Reads read.Failed before later old new = (later ≡ before) × (new ≡ old)
+
+-- what was written stood first of what is left
+abbrev pub Sends : Sent → Left → Left → Option (List ℕ) → Option (List ℕ) → Type 0
+Sends sent.Nothing before later old new = (before.left ≡ []) × (later.left ≡ []) × (later.used ≡ 0) × (new ≡ old)
+Sends sent.Some before later old new = (later.used ≡ before.used) × ((n : ℕ) × (1 ≤ n) × (n ≤ length before.left) × (later.left ≡ drop n before.left) × Appends old new (take n before.left))
+Sends sent.Blocked before later old new = (later ≡ before) × (new ≡ old)
+Sends sent.Failed before later old new = (later ≡ before) × (new ≡ old)
+
+abbrev pub SentCounts : Sent → Counts → Counts → Type 0
+SentCounts sent.Nothing old new = new ≡ old
+SentCounts sent.Some old new = new ≡ old
+SentCounts sent.Blocked old new = new ≡ blocked_write old
+SentCounts sent.Failed old new = new ≡ failed_call old

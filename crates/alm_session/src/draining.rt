@@ -1,0 +1,42 @@
+//! What a lost connection leaves behind.
+
+ghost use Rattle.std.specs.Prelude.{◌≡◌, ◌↔◌, ◌≤◌, IsTrue, length, false};
+ghost use Rattle.alm_rings.specs.Ends.{SameConsole, sent_of, received_of, coming_to};
+ghost use Rattle.alm_session.specs.Draining.{IsDrained};
+ghost use Rattle.alm_session.specs.Sides.{heard_by, IsQuiet};
+
+use alm_board::FreeLook;
+use alm_rings::{Console, Told};
+
+/// Receives a receipt, learns what it tells and drops it: false where none is known to wait.
+fn drop_one<T: Told + Drop, L: FreeLook<Told = T>>(console: &mut Console<T>, look: &mut L) -> bool
+    ensures base { L.Look.base look.new ≡ L.Look.base look.old }
+    ensures end { SameConsole console.old console.new }
+    ensures sent { sent_of console.new ≡ sent_of console.old }
+    ensures drained { IsDrained (L.Look.base look.old) (L.Look.knows look.old) (heard_by console.old) (L.Look.knows look.new) (heard_by console.new) }
+    ensures quiet { result ≡ false → IsQuiet console.new }
+{
+    match console.receive() {
+        Some(receipt) => {
+            look.learn(receipt);
+            true
+        }
+        None => false,
+    }
+}
+
+/// Receives, learns and drops the receipts that are known to wait, up to 64: whether no request of the slot is unanswered.
+pub fn drain<T: Told + Drop, L: FreeLook<Told = T>>(console: &mut Console<T>, look: &mut L) -> bool
+    ensures base { L.Look.base look.new ≡ L.Look.base look.old }
+    ensures end { SameConsole console.old console.new }
+    ensures sent { sent_of console.new ≡ sent_of console.old }
+    ensures drained { IsDrained (L.Look.base look.old) (L.Look.knows look.old) (heard_by console.old) (L.Look.knows look.new) (heard_by console.new) }
+    ensures settled { IsTrue result ↔ (length (sent_of console.new) ≤ length (received_of console.new)) }
+{
+    for _receipt in 0..64_usize {
+        if !drop_one(console, look) {
+            return console.unanswered() == 0;
+        }
+    }
+    console.unanswered() == 0
+}

@@ -1,0 +1,149 @@
+//! Replies that aren't written yet.
+
+ghost use Rattle.std.specs.Prelude.{◌≡◌, ◌+◌, ◌≤◌, ◌++◌, [], length, vec_len, vec_capacity, OnErr, OnOk, is_ok, decimal, codes, IfOk};
+ghost use Rattle.alm_lines.specs.Reply.{ok_text, no_text};
+
+use crate::told::put_told;
+use crate::wire::{Wire, WriteTook};
+use alm_types::{Answer, Query, Refusal};
+use std::alloc::{AllocError, Global};
+use std::marker::Model;
+
+/// The places of the buffer: the longest list of alarms goes in.
+const ROOM: usize = 131_072;
+
+/// Replies that aren't written yet.
+#[derive(Drop)]
+pub struct Output {
+    text: Vec<u8>,
+    written: usize,
+}
+
+impl Model for Output {
+    ghost use Rattle.std.specs.Prelude.{◌≤◌, drop, vec_len, vec_capacity};
+    ghost use Rattle.alm_session.specs.Outputs.{Left};
+
+    ghost Value = { Left };
+
+    ghost view = { λ o. record { left = drop o.written o.text.items; used = vec_len o.text } };
+
+    ghost invariant = { λ o. (o.written ≤ vec_len o.text) × (131072 ≤ vec_capacity o.text) };
+}
+
+/// What became of a write.
+#[derive(Clone, Copy, Debug, PartialEq, Eq)]
+pub enum Sent {
+    Nothing,
+    Some,
+    Blocked,
+    Failed,
+}
+
+/// Puts bytes where there is room.
+fn put(text: &mut Vec<u8>, bytes: &[u8])
+    requires { vec_len text.old + length bytes.now ≤ vec_capacity text.old }
+    ensures items { text.new.items ≡ text.old.items ++ bytes.now }
+    ensures len { vec_len text.new ≡ vec_len text.old + length bytes.now }
+    ensures room { vec_capacity text.old ≤ vec_capacity text.new }
+{
+    match text.extend_from_slice(bytes) {
+        Ok(()) => {}
+        Err(_) => unreachable!(),
+    }
+}
+
+/// Puts an id, a word and a number, where there is room for 64 bytes.
+fn put_line(text: &mut Vec<u8>, id: u32, word: &str, number: u64)
+    requires word { length word.now ≡ 4 }
+    requires room { vec_len text.old + 64 ≤ vec_capacity text.old }
+    ensures items { text.new.items ≡ text.old.items ++ decimal id ++ word.now ++ decimal number ++ codes "\n" }
+    ensures len { vec_len text.new ≤ vec_len text.old + 64 }
+    ensures kept { vec_capacity text.old ≤ vec_capacity text.new }
+{
+    put(text, itoa::Buffer::new().format(id).as_bytes());
+    put(text, word.as_bytes());
+    put(text, itoa::Buffer::new().format(number).as_bytes());
+    put(text, b"\n");
+}
+
+impl Output {
+    ghost use Rattle.std.specs.Prelude.{◌≡◌, ◌+◌, ◌≤◌, ◌<◌, ◌++◌, [], length, IfOk, take, drop};
+    ghost use Rattle.alm_lines.specs.Reply.{ok_text, no_text, told_text};
+    ghost use Rattle.alm_types.specs.Reports.{report};
+    ghost use Rattle.std.specs.Prelude.{true, false};
+    ghost use Rattle.alm_session.specs.Outputs.{Left};
+    ghost use Rattle.alm_session.specs.Wires.{Sends, SentCounts};
+
+    /// Nothing is to be written.
+    pub fn new(alloc: Global) -> Result<Self, AllocError>
+        ensures { IfOk result (λ o. o ≡ record { left = []; used = 0 }) }
+    {
+        Ok(Output {
+            text: Vec::with_capacity(alloc, ROOM)?,
+            written: 0,
+        })
+    }
+
+    /// Nothing is to be written any more.
+    pub fn clear(&mut self)
+        ensures { self.new ≡ record { left = []; used = 0 } }
+    {
+        self.text.clear();
+        self.written = 0;
+    }
+
+    /// Prints that an action was accepted.
+    pub fn ok(&mut self, id: u32, number: u64)
+        requires { self.old.used + 64 ≤ 131072 }
+        ensures text { self.new.left ≡ self.old.left ++ ok_text id number }
+        ensures used { self.new.used ≤ self.old.used + 64 }
+    {
+        put_line(&mut self.text, id, " OK ", number);
+    }
+
+    /// Prints a refusal.
+    pub fn no(&mut self, id: u32, refusal: Refusal)
+        requires { self.old.used + 64 ≤ 131072 }
+        ensures text { self.new.left ≡ self.old.left ++ no_text id refusal }
+        ensures used { self.new.used ≤ self.old.used + 64 }
+    {
+        put_line(&mut self.text, id, " NO ", u64::from(refusal.number()));
+    }
+
+    /// Prints what is told to a query, where nothing is to be written. False, and nothing is printed, where it doesn't go in.
+    pub fn told(&mut self, id: u32, n: u64, query: Query, answer: &Answer) -> bool
+        requires { self.old.used ≡ 0 }
+        ensures text { result ≡ true → self.new.left ≡ told_text id n query (report query answer.now) }
+        ensures unprinted { result ≡ false → (self.new.left ≡ []) × (self.new.used ≡ 0) × (131072 < length (told_text id n query (report query answer.now))) }
+        ensures used { self.new.used ≤ 131072 }
+    {
+        let printed = put_told(&mut self.text, id, n, query, answer).is_ok();
+        self.written = 0;
+        if printed && self.text.len() <= ROOM {
+            return true;
+        }
+        self.text.clear();
+        false
+    }
+
+    /// Writes once, where something is to be written.
+    pub fn write<W: Wire>(&mut self, wire: &mut W) -> Sent
+        ensures sends { Sends result self.old self.new (W.written wire.old) (W.written wire.new) }
+        ensures counts { SentCounts result (W.counts wire.old) (W.counts wire.new) }
+        ensures coming { W.coming wire.new ≡ W.coming wire.old }
+    {
+        if self.written == self.text.len() {
+            self.text.clear();
+            self.written = 0;
+            return Sent::Nothing;
+        }
+        match wire.write(&self.text[self.written..]) {
+            WriteTook::Wrote(count) => {
+                self.written += count;
+                Sent::Some
+            }
+            WriteTook::Blocked => Sent::Blocked,
+            WriteTook::Failed => Sent::Failed,
+        }
+    }
+}

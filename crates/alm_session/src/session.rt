@@ -1,0 +1,258 @@
+//! One slot's connection.
+
+ghost use Rattle.std.specs.Prelude.{◌≡◌, ◌+◌, ◌*◌, ◌≤◌, length};
+ghost use Rattle.arrayvec.specs.ArrayVec.{array_vec_len};
+
+use crate::intake::Intake;
+use crate::output::{Output, Sent};
+use crate::turn::Turn;
+use crate::wire::{ReadGave, Wire};
+use alm_board::{FreeLook, Look};
+use alm_lines::{Ask, Line};
+use alm_rings::{Busy, Console, Told};
+use alm_types::{Action, Answer, Query, Refusal, Verdict};
+use arrayvec::ArrayVec;
+use std::alloc::{AllocError, Global};
+
+/// One slot's connection.
+#[derive(Drop)]
+pub struct Session {
+    intake: Intake,
+    /// The ids of the actions that are unanswered, oldest first.
+    waiting: ArrayVec<u32, 64>,
+    output: Output,
+    answer: Answer,
+    ghost room: { output.used + 64 * array_vec_len waiting ≤ 131072 },
+}
+
+impl Session {
+    ghost use Rattle.std.specs.Prelude.{◌≡◌, ◌+◌, ◌≤◌, ◌<◌, ◌⊎◌, ℕ, List, [], ◌∷◌, length, Option, None, Some, IfOk, true, false, IsTrue};
+    ghost use Rattle.arrayvec.specs.ArrayVec.{array_vec_len};
+    ghost use Rattle.alm_rings.specs.Ends.{SameConsole, sent_of, received_of, coming_to, room_of};
+    ghost use Rattle.alm_session.specs.Wires.{blocked_write, blocked_read, failed_call};
+    ghost use Rattle.alm_session.specs.Turns.{IsTurn, IsOwn, Side, Heard};
+    ghost use Rattle.alm_types.specs.declared.action.Action.{Action};
+    ghost use Rattle.alm_session.specs.Sides.{side_of, heard_by, least_of, IsQuiet, IsStuck, ReadTurns, GoneOn, Turns};
+    ghost use Rattle.std.specs.Prelude.{◌++◌, ◌==◌, if◌then◌else◌};
+    ghost use Rattle.alm_model.specs.Plant.{Condensed};
+    ghost use Rattle.alm_lines.specs.Reply.{no_text};
+    ghost use Rattle.alm_desk.specs.Answers.{verdict_reply};
+    ghost use Rattle.alm_session.specs.declared.turn.Turn.TheVariants as turn;
+    ghost use Rattle.alm_lines.specs.declared.ask.Ask.TheVariants as ask;
+
+    /// A connection on which nothing has come.
+    pub fn new(alloc: Global) -> Result<Self, AllocError>
+        ensures held { IfOk result (λ s. s.intake ≡ record { line = None; held = []; rest = [] }) }
+        ensures waiting { IfOk result (λ s. s.waiting.items ≡ []) }
+        ensures left { IfOk result (λ s. s.output.left ≡ []) }
+    {
+        Ok(Session {
+            intake: Intake::new(),
+            waiting: ArrayVec::new(),
+            output: Output::new(alloc)?,
+            answer: Answer::new(alloc),
+        })
+    }
+
+    /// Another connection, on which nothing has come. It keeps its buffers.
+    pub fn restart(&mut self)
+        ensures held { self.new.intake ≡ record { line = None; held = []; rest = [] } }
+        ensures waiting { self.new.waiting.items ≡ [] }
+        ensures left { self.new.output.left ≡ [] }
+        ensures refused { self.new.answer.refused ≡ self.old.answer.refused }
+    {
+        self.intake = Intake::new();
+        self.waiting.clear();
+        self.output.clear();
+    }
+
+    /// Prints the reply to the first action that waits, if there is one.
+    fn answer_first(&mut self, verdict: Verdict, number: u64)
+        ensures held { self.new.intake ≡ self.old.intake }
+        ensures answer { self.new.answer ≡ self.old.answer }
+        ensures none { self.old.waiting.items ≡ [] → (self.new.waiting.items ≡ []) × (self.new.output.left ≡ self.old.output.left) }
+        ensures some { (id : ℕ) (ids : List ℕ) → self.old.waiting.items ≡ id ∷ ids → (self.new.waiting.items ≡ ids) × (self.new.output.left ≡ self.old.output.left ++ verdict_reply id number verdict) }
+    {
+        if self.waiting.is_empty() {
+            return;
+        }
+        let id = self.waiting.remove(0);
+        match verdict {
+            Verdict::Accepted(_) => self.output.ok(id, number),
+            Verdict::Refused(refusal, _) => self.output.no(id, refusal),
+        }
+    }
+
+    /// Receives a receipt, where one is known to wait, learns what it tells and prints the reply.
+    fn receive<T: Told + Drop, L: FreeLook<Told = T>>(
+        &mut self,
+        console: &mut Console<T>,
+        look: &mut L,
+    ) -> bool
+        ensures base { L.Look.base look.new ≡ L.Look.base look.old }
+        ensures end { SameConsole console.old console.new }
+        ensures turn { (coming written : Option (List ℕ)) → IsTurn (L.Look.base look.old) (if result then 1 else 0) (side_of self.old (L.Look.knows look.old) coming written (sent_of console.old) (heard_by console.old)) (side_of self.new (L.Look.knows look.new) coming written (sent_of console.new) (heard_by console.new)) }
+        ensures quiet { result ≡ false → IsQuiet console.old }
+        ensures left { result ≡ false → self.new.output ≡ self.old.output }
+    {
+        let Some(receipt) = console.receive() else {
+            return false;
+        };
+        let number = receipt.number;
+        let verdict = receipt.verdict;
+        look.learn(receipt);
+        self.answer_first(verdict, number);
+        true
+    }
+
+    /// Sends the action of the line that is held.
+    fn send<T: Told + Drop>(&mut self, id: u32, want: Action, console: &mut Console<T>) -> Turn
+        requires line { self.old.intake.line ≡ Some (record { id = id; ask = ask.Act want }) }
+        requires empty { self.old.output.used ≡ 0 }
+        ensures end { SameConsole console.old console.new }
+        ensures turn { (base : Condensed) (known : List Action) (coming written : Option (List ℕ)) → IsTurn base (least_of result) (side_of self.old known coming written (sent_of console.old) (heard_by console.old)) (side_of self.new known coming written (sent_of console.new) (heard_by console.new)) }
+        ensures cases { (result ≡ turn.Went) ⊎ ((result ≡ turn.Idle) × IsStuck self.new console.new) }
+        ensures left { self.new.output ≡ self.old.output }
+    {
+        if self.waiting.is_full() {
+            return Turn::Idle;
+        }
+        match console.send(want) {
+            Ok(_) => {
+                self.waiting.push(id);
+                self.intake.pass();
+                Turn::Went
+            }
+            Err(Busy(_)) => Turn::Idle,
+        }
+    }
+
+    /// Answers the query of the line that is held, where no action waits.
+    fn ask<L: Look>(&mut self, id: u32, query: Query, look: &mut L)
+        requires line { self.old.intake.line ≡ Some (record { id = id; ask = ask.Look query }) }
+        requires empty { (self.old.output.left ≡ []) × (self.old.output.used ≡ 0) }
+        requires alone { self.old.waiting.items ≡ [] }
+        ensures base { L.base look.new ≡ L.base look.old }
+        ensures turn { (coming written : Option (List ℕ)) (sent : List Action) (heard : List Heard) → IsTurn (L.base look.old) 1 (side_of self.old (L.knows look.old) coming written sent heard) (side_of self.new (L.knows look.new) coming written sent heard) }
+    {
+        self.intake.pass();
+        match look.look(query, &mut self.answer) {
+            Ok(n) => {
+                if !self.output.told(id, n, query, &self.answer) {
+                    self.output.no(id, Refusal::OutOfMemory);
+                }
+            }
+            Err(refusal) => self.output.no(id, refusal),
+        }
+    }
+
+    /// Answers the bad line that is held, where no action waits.
+    fn refuse(&mut self, id: u32, refusal: Refusal)
+        requires line { self.old.intake.line ≡ Some (record { id = id; ask = ask.Bad refusal }) }
+        requires empty { (self.old.output.left ≡ []) × (self.old.output.used ≡ 0) }
+        requires alone { self.old.waiting.items ≡ [] }
+        ensures answer { self.new.answer ≡ self.old.answer }
+        ensures left { self.new.output.left ≡ no_text id refusal }
+        ensures held { self.new.intake ≡ record self.old.intake { line = None } }
+        ensures waiting { self.new.waiting.items ≡ [] }
+    {
+        self.intake.pass();
+        self.output.no(id, refusal);
+    }
+
+    /// Takes the line that is held, where nothing is to be written.
+    fn take<T: Told + Drop, L: FreeLook<Told = T>>(
+        &mut self,
+        line: Line,
+        console: &mut Console<T>,
+        look: &mut L,
+    ) -> Turn
+        requires line { self.old.intake.line ≡ Some line }
+        requires empty { (self.old.output.left ≡ []) × (self.old.output.used ≡ 0) }
+        ensures base { L.Look.base look.new ≡ L.Look.base look.old }
+        ensures end { SameConsole console.old console.new }
+        ensures turn { (coming written : Option (List ℕ)) → IsTurn (L.Look.base look.old) (least_of result) (side_of self.old (L.Look.knows look.old) coming written (sent_of console.old) (heard_by console.old)) (side_of self.new (L.Look.knows look.new) coming written (sent_of console.new) (heard_by console.new)) }
+        ensures cases { (result ≡ turn.Went) ⊎ ((result ≡ turn.Idle) × IsStuck self.new console.new × (self.new.output.left ≡ [])) }
+    {
+        let id = line.id;
+        match line.ask {
+            Ask::Act(want) => self.send(id, want, console),
+            Ask::Look(query) => {
+                if !self.waiting.is_empty() {
+                    return Turn::Idle;
+                }
+                self.ask(id, query, look);
+                Turn::Went
+            }
+            Ask::Bad(refusal) => {
+                if !self.waiting.is_empty() {
+                    return Turn::Idle;
+                }
+                self.refuse(id, refusal);
+                Turn::Went
+            }
+        }
+    }
+
+    /// Reads, where nothing is held and nothing is to be written.
+    fn read<W: Wire>(&mut self, wire: &mut W) -> Turn
+        requires held { (self.old.intake.line ≡ None) × (self.old.intake.rest ≡ []) }
+        requires empty { self.old.output.left ≡ [] }
+        ensures turn { (base : Condensed) (known sent : List Action) (heard : List Heard) → IsTurn base (least_of result) (side_of self.old known (W.coming wire.old) (W.written wire.old) sent heard) (side_of self.new known (W.coming wire.new) (W.written wire.new) sent heard) }
+        ensures answer { ReadTurns result self.old self.new (W.counts wire.old) (W.counts wire.new) (W.coming wire.new) }
+    {
+        match self.intake.read(wire) {
+            ReadGave::Got(_) => Turn::Went,
+            ReadGave::End => {
+                if self.waiting.is_empty() {
+                    return Turn::Ended;
+                }
+                Turn::Idle
+            }
+            ReadGave::Blocked => Turn::Idle,
+            ReadGave::Failed => Turn::Fault,
+        }
+    }
+
+    /// Takes a line, or reads, where nothing is to be written.
+    fn go_on<W: Wire, T: Told + Drop, L: FreeLook<Told = T>>(
+        &mut self,
+        wire: &mut W,
+        console: &mut Console<T>,
+        look: &mut L,
+    ) -> Turn
+        requires empty { (self.old.output.left ≡ []) × (self.old.output.used ≡ 0) }
+        ensures base { L.Look.base look.new ≡ L.Look.base look.old }
+        ensures end { SameConsole console.old console.new }
+        ensures turn { IsTurn (L.Look.base look.old) (least_of result) (side_of self.old (L.Look.knows look.old) (W.coming wire.old) (W.written wire.old) (sent_of console.old) (heard_by console.old)) (side_of self.new (L.Look.knows look.new) (W.coming wire.new) (W.written wire.new) (sent_of console.new) (heard_by console.new)) }
+        ensures answer { GoneOn result self.new console.new (W.counts wire.old) (W.counts wire.new) (W.coming wire.new) }
+    {
+        match self.intake.line() {
+            Some(line) => self.take(line, console, look),
+            None => self.read(wire),
+        }
+    }
+
+    /// One turn: what can be done without waiting.
+    pub fn turn<W: Wire, T: Told + Drop, L: FreeLook<Told = T>>(
+        &mut self,
+        wire: &mut W,
+        console: &mut Console<T>,
+        look: &mut L,
+    ) -> Turn
+        ensures base { L.Look.base look.new ≡ L.Look.base look.old }
+        ensures end { SameConsole console.old console.new }
+        ensures turn { IsTurn (L.Look.base look.old) (least_of result) (side_of self.old (L.Look.knows look.old) (W.coming wire.old) (W.written wire.old) (sent_of console.old) (heard_by console.old)) (side_of self.new (L.Look.knows look.new) (W.coming wire.new) (W.written wire.new) (sent_of console.new) (heard_by console.new)) }
+        ensures answer { Turns result self.new console.old console.new (W.counts wire.old) (W.counts wire.new) (W.coming wire.new) }
+    {
+        if self.receive(console, look) {
+            return Turn::Went;
+        }
+        match self.output.write(wire) {
+            Sent::Nothing => self.go_on(wire, console, look),
+            Sent::Some => Turn::Went,
+            Sent::Blocked => Turn::Idle,
+            Sent::Failed => Turn::Fault,
+        }
+    }
+}

@@ -1,0 +1,45 @@
+//! Wires.
+
+/// What a read gave.
+#[derive(Clone, Copy, Debug, PartialEq, Eq)]
+pub enum ReadGave {
+    Got(usize),
+    End,
+    Blocked,
+    Failed,
+}
+
+/// What a write took.
+#[derive(Clone, Copy, Debug, PartialEq, Eq)]
+pub enum WriteTook {
+    Wrote(usize),
+    Blocked,
+    Failed,
+}
+
+/// A connection that never waits: what can't be done at once is Blocked.
+pub trait Wire {
+    ghost use Rattle.std.specs.Prelude.{◌≡◌, ◌<◌, ℕ, length, List, Option};
+    ghost use Rattle.alm_session.specs.Wires.{ReadCounts, WriteCounts, ReadBytes, WriteBytes, Counts};
+
+    /// How many reads and writes were blocked, and how many calls failed.
+    ghost counts: { Self → Counts };
+
+    /// What reads will give, where that is known.
+    ghost coming: { Self → Option (List ℕ) };
+
+    /// What was written, where that is known.
+    ghost written: { Self → Option (List ℕ) };
+
+    fn read(&mut self, into: &mut [u8]) -> ReadGave
+        requires { 0 < length into.old }
+        ensures counts { ReadCounts result (length into.new) (counts self.old) (counts self.new) }
+        ensures coming { ReadBytes result into.new (coming self.old) (coming self.new) }
+        ensures written { written self.new ≡ written self.old };
+
+    fn write(&mut self, bytes: &[u8]) -> WriteTook
+        requires { 0 < length bytes.now }
+        ensures counts { WriteCounts result (length bytes.now) (counts self.old) (counts self.new) }
+        ensures written { WriteBytes result bytes.now (written self.old) (written self.new) }
+        ensures coming { coming self.new ≡ coming self.old };
+}

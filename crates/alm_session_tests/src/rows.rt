@@ -1,0 +1,197 @@
+//! Rows of a session.
+
+use crate::piece_wire::PieceWire;
+use crate::playing::{Course, answer, play, worked_look};
+use alm_rings::open_slot;
+use alm_session::{MemWire, Session, Turn, drain};
+use alm_types::{Action, AlarmId, Slot};
+use std::alloc::{AllocError, Global};
+use std::test::Fail;
+
+/// Lines of each kind, and what is answered where each action is refused.
+const LINES: &str =
+    "7 ACK 0\n8 ACK 1\n9 STATE 1\nx\n10 FLOOD 9\n11 LIST P 1\n12 ACK 0\n13 FLOOD 0\n";
+
+const REPLIES: &str =
+    "7 NO 2\n8 NO 2\n9 STATE 0 NORM 0 - -\n0 NO 13\n10 NO 17\n11 LIST 0 0\n12 NO 2\n13 FLOOD 0 0 0\n";
+
+fn bytes(alloc: Global, text: &str) -> Result<Vec<u8>, AllocError> {
+    Vec::from_slice(alloc, text.as_bytes())
+}
+
+/// Whether these lines at a slot have these replies, over a wire that gives and takes so many bytes at a time.
+fn is_answered(
+    alloc: Global,
+    slot: Slot,
+    lines: &str,
+    replies: &str,
+    piece: usize,
+    room: usize,
+) -> Result<bool, AllocError> {
+    let (mut console, mut inbox, mut outbox) = open_slot(alloc, slot)?;
+    let mut look = worked_look(alloc)?;
+    let mut session = Session::new(alloc)?;
+    let mut wire = PieceWire::new(bytes(alloc, lines)?, piece, Vec::new(alloc), room);
+    let course = play(
+        &mut session,
+        &mut wire,
+        &mut look,
+        &mut console,
+        &mut inbox,
+        &mut outbox,
+    );
+    Ok(course.last == Turn::Ended && wire.output() == replies.as_bytes())
+}
+
+/// `1 STATE 0` on a new worked plant: its reply and the end, with no idle turn.
+#[test]
+fn a_query_and_the_end(rt: HostRuntime) -> Result<(), Fail> {
+    let alloc = rt.alloc();
+    let slot = Slot::new(0).ok_or("slot")?;
+    let (mut console, mut inbox, mut outbox) = open_slot(alloc, slot)?;
+    let mut look = worked_look(alloc)?;
+    let mut session = Session::new(alloc)?;
+    let mut wire = MemWire::new(alloc, bytes(alloc, "1 STATE 0\n")?, 100)?;
+    let course = play(
+        &mut session,
+        &mut wire,
+        &mut look,
+        &mut console,
+        &mut inbox,
+        &mut outbox,
+    );
+    let ended = Course {
+        last: Turn::Ended,
+        idle: 0,
+        answers: 0,
+    };
+    assert_eq!(rt; course, ended);
+    assert_eq!(rt; wire.output(), b"1 STATE 0 NORM 0 - -\n".as_slice());
+    Ok(())
+}
+
+/// Replies stand in the order of the lines, however the stream is cut and however little is taken at a time.
+#[test]
+fn replies_in_order_for_each_cut(rt: HostRuntime) -> Result<(), Fail> {
+    let alloc = rt.alloc();
+    let slot = Slot::new(0).ok_or("slot")?;
+    for piece in 1..=LINES.len() {
+        for room in [1, 7, 200] {
+            let same = is_answered(alloc, slot, LINES, REPLIES, piece, room)?;
+            assert!(rt; same, "{piece} {room}");
+        }
+    }
+    Ok(())
+}
+
+/// A query waits for the two actions before it: two idle turns until they are answered, and one more for the third action.
+#[test]
+fn a_query_waits_for_actions(rt: HostRuntime) -> Result<(), Fail> {
+    let alloc = rt.alloc();
+    let slot = Slot::new(0).ok_or("slot")?;
+    let (mut console, mut inbox, mut outbox) = open_slot(alloc, slot)?;
+    let mut look = worked_look(alloc)?;
+    let mut session = Session::new(alloc)?;
+    let mut wire = MemWire::new(alloc, bytes(alloc, LINES)?, 1000)?;
+    let course = play(
+        &mut session,
+        &mut wire,
+        &mut look,
+        &mut console,
+        &mut inbox,
+        &mut outbox,
+    );
+    let ended = Course {
+        last: Turn::Ended,
+        idle: 3,
+        answers: 3,
+    };
+    assert_eq!(rt; course, ended);
+    assert_eq!(rt; wire.output(), REPLIES.as_bytes());
+    Ok(())
+}
+
+/// Three sends, a connection lost, and drained after three receipts: the next serial is 4, and the next connection's first line is its
+/// own.
+#[test]
+fn a_lost_connection(rt: HostRuntime) -> Result<(), Fail> {
+    let alloc = rt.alloc();
+    let slot = Slot::new(0).ok_or("slot")?;
+    let (mut console, mut inbox, mut outbox) = open_slot(alloc, slot)?;
+    let mut look = worked_look(alloc)?;
+    let mut session = Session::new(alloc)?;
+    let mut wire = MemWire::new(alloc, bytes(alloc, "7 ACK 0\n8 ACK 1\n9 ACK 1\n1 ST")?, 200)?;
+    assert_eq!(rt;
+        session.turn(&mut wire, &mut console, &mut look),
+        Turn::Went
+    );
+    assert_eq!(rt;
+        session.turn(&mut wire, &mut console, &mut look),
+        Turn::Went
+    );
+    assert_eq!(rt;
+        session.turn(&mut wire, &mut console, &mut look),
+        Turn::Went
+    );
+    assert_eq!(rt;
+        session.turn(&mut wire, &mut console, &mut look),
+        Turn::Went
+    );
+    assert_eq!(rt;
+        session.turn(&mut wire, &mut console, &mut look),
+        Turn::Idle
+    );
+    answer(&mut console, &mut inbox, &mut outbox, 1);
+    answer(&mut console, &mut inbox, &mut outbox, 2);
+    assert!(rt; !drain(&mut console, &mut look));
+    answer(&mut console, &mut inbox, &mut outbox, 3);
+    assert!(rt; drain(&mut console, &mut look));
+    session.restart();
+    let mut wire = MemWire::new(alloc, bytes(alloc, "1 STATE 0\n")?, 200)?;
+    let course = play(
+        &mut session,
+        &mut wire,
+        &mut look,
+        &mut console,
+        &mut inbox,
+        &mut outbox,
+    );
+    assert_eq!(rt; course.last, Turn::Ended);
+    assert_eq!(rt; wire.output(), b"1 STATE 0 NORM 0 - -\n".as_slice());
+    assert!(rt; console.send(Action::Ack(AlarmId(0))) == Ok(4));
+    Ok(())
+}
+
+/// The 65th action waits until one of the 64 before it is answered.
+#[test]
+fn as_many_as_the_slot_takes(rt: HostRuntime) -> Result<(), Fail> {
+    let alloc = rt.alloc();
+    let slot = Slot::new(3).ok_or("slot")?;
+    let mut lines = String::new(alloc);
+    let mut replies = String::new(alloc);
+    for _line in 0..200 {
+        lines.push_str("7 ACK 0\n")?;
+        replies.push_str("7 NO 2\n")?;
+    }
+    assert!(rt; is_answered(alloc, slot, &lines, &replies, 4096, 4096)?);
+    Ok(())
+}
+
+/// Bytes after the last line end are no line.
+#[test]
+fn no_line_without_its_end(rt: HostRuntime) -> Result<(), Fail> {
+    let slot = Slot::new(0).ok_or("slot")?;
+    assert!(rt; is_answered(rt.alloc(), slot, "", "", 1, 1)?);
+    assert!(rt; is_answered(rt.alloc(), slot, "5 ACK 0", "", 1, 1)?);
+    assert!(rt;
+        is_answered(
+            rt.alloc(),
+            slot,
+            "5 CHATTER\n5 ACK 0",
+            "5 CHATTER 0 0\n",
+            1,
+            1
+        )?
+    );
+    Ok(())
+}
