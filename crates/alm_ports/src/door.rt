@@ -22,10 +22,6 @@ const LISTENER: Token = Token(0);
 
 const STREAM: Token = Token(1);
 
-/// How many turns in a row find nothing, and only let others run, before the bell is to wake the thread: a few microseconds. More of them
-/// cost a processor what they save in waking, as soon as a sync takes its time.
-const TURNS: u32 = 8;
-
 /// How long a poll takes at most, in milliseconds.
 const NAP: u64 = 1000;
 
@@ -39,8 +35,6 @@ pub struct Door {
     visits: Arc<Visits>,
     session: Session,
     guest: Guest,
-    // How many turns in a row found nothing to do.
-    idle: u32,
 }
 
 impl Door {
@@ -69,7 +63,6 @@ impl Door {
             visits,
             session,
             guest: Guest::Nobody,
-            idle: 0,
         })
     }
 
@@ -118,12 +111,8 @@ impl Door {
         }
     }
 
-    /// Lets others run, then has the bell wake the thread, then waits for the sockets and the bell.
+    /// Has the bell wake the thread, then waits for the sockets and the bell.
     fn rest(&mut self) {
-        if self.idle < TURNS {
-            self.idle += 1;
-            return;
-        }
         if !self.bell.listens() {
             self.bell.listen();
             return;
@@ -141,7 +130,6 @@ impl<T: Told + Drop, L: FreeLook<Told = T>> Source<T, L> for Door {
             return Go::End;
         }
         if self.step(console, look) {
-            self.idle = 0;
             self.bell.attend();
             return Go::Go;
         }

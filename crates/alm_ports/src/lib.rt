@@ -8,7 +8,7 @@
 //! | with nobody connected | accepts the next connection |
 //! | with a connection | a turn of its session; where that has ended or failed, the connection is closed |
 //! | whose connection has ended | drops the receipts of its requests, until all are answered; then the connection counts as ended |
-//! | with nothing to do for 8 turns | has its [`SlotBell`] wake it, looks once more, and waits for its sockets and the bell, at most a second |
+//! | with nothing to do | has its [`SlotBell`] wake it, looks once more, and waits for its sockets and the bell, at most a second |
 //! | once so many connections have ended as there were to be | says that it has ended |
 //!
 //! A connection takes no memory beyond the buffers of its slot's session and those of the system: no more is read while a reply
@@ -17,8 +17,7 @@
 //! What is used above: a [`Door`] is a source whatever its clients do: it keeps the console's end. [`StreamWire`] makes a wire of any
 //! stream that never waits.
 //!
-//! Not promised: anything of what a socket gives or takes, nor that a wake comes. A door keeps no client waiting longer than a poll
-//! takes, also where a wake is lost.
+//! A poll ends after a second also where a wake is lost. Not promised: anything of what a socket gives or takes, nor that a wake comes.
 #![tactic(auto)]
 
 mod bound;

@@ -3,9 +3,9 @@
 use alm_run::Bell;
 use mio::{Registry, Token, Waker};
 use std::alloc::{AllocError, Global};
+use std::io;
 use std::sync::atomic::{AtomicBool, Ordering};
 use std::sync::{Arc, Wait};
-use std::{io, thread};
 
 /// What wakes the thread of a slot that waits for its sockets. It is rung by a load alone while that thread is awake.
 #[derive(Drop)]
@@ -57,7 +57,5 @@ impl Bell for SlotBell {
     }
 
     // The thread waits in its source, for its sockets too.
-    fn wait<R: Wait>(&self, _rt: &R, _idle: u32) {
-        thread::yield_now();
-    }
+    fn wait<R: Wait>(&self, _rt: &R, _idle: u32) {}
 }

@@ -1,20 +1,18 @@
 //! A bell that one thread sleeps by.
 
 use crate::bell::Bell;
+use crate::pause::Pause;
 use std::sync::Wait;
 use std::sync::atomic::{AtomicBool, Ordering};
 use std::thread;
 use std::thread::Parker;
 use std::time::Duration;
 
-/// How often a thread looks again, and only lets others run, before it sleeps: some 50 microseconds.
-pub const YIELDS: u32 = 64;
+/// How often a thread looks again, and only lets others run, before it sleeps: a few microseconds.
+pub const YIELDS: u32 = 8;
 
 /// How long it sleeps at most, in milliseconds.
 const NAP: u64 = 100;
-
-/// How long it dozes at most, in microseconds.
-const DOZE: u64 = 200;
 
 /// A bell that one thread sleeps by. It is rung by a load alone while that thread is busy.
 #[derive(Drop)]
@@ -33,11 +31,22 @@ impl Doorbell {
         }
     }
 
-    /// Sleeps until it is rung, for 200 microseconds at most. What came before it listens is found behind it.
-    pub fn doze<R: Wait>(&self, rt: &R) {
-        self.listens.store(true, Ordering::SeqCst);
-        self.parker.park_timeout(rt, Duration::from_micros(DOZE));
+    /// Rings bring nothing from now on, and one that came before is forgotten: its token, or this one, is taken without a sleep.
+    pub fn hush<R: Wait>(&self, rt: &R) {
         self.listens.store(false, Ordering::SeqCst);
+        self.parker.unpark();
+        self.parker.park_timeout(rt, Duration::from_micros(0));
+    }
+
+    /// Sleeps until it is woken, no longer than the pause that is given up for it.
+    pub fn doze<R: Wait>(&self, rt: &R, pause: Pause) {
+        self.parker
+            .park_timeout(rt, Duration::from_micros(pause.micros()));
+    }
+
+    /// Ends its sleep, or the next one, also where rings bring nothing.
+    pub fn wake(&self) {
+        self.parker.unpark();
     }
 }
 

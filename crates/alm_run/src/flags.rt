@@ -1,8 +1,10 @@
 //! What the threads tell each other beside the rings.
 
+use crate::awaited::Awaited;
 use crate::bell::Bell;
 use crate::bells::Bells;
 use crate::doorbell::Doorbell;
+use alm_types::Slot;
 use std::sync::atomic::{AtomicBool, AtomicUsize, Ordering};
 
 /// What the threads tell each other beside the rings: hints, on which no contract rests.
@@ -18,6 +20,8 @@ pub struct Flags<B: Bell + Drop> {
     pub ended: AtomicUsize,
     /// Wakes the sequencer's thread.
     pub sequencer: Doorbell,
+    /// Whom the sequencer's thread waits for.
+    pub awaited: Awaited,
     /// Wakes the flusher's thread.
     pub flusher: Doorbell,
     /// Wake the slots' threads.
@@ -33,8 +37,17 @@ impl<B: Bell + Drop> Flags<B> {
             sealed: AtomicBool::new(false),
             ended: AtomicUsize::new(0),
             sequencer: Doorbell::new(),
+            awaited: Awaited::new(),
             flusher: Doorbell::new(),
             slots,
+        }
+    }
+
+    /// A slot may have sent something: the sequencer's thread is woken where it waits for anybody, or for this one as the last.
+    pub fn send(&self, slot: Slot) {
+        self.sequencer.ring();
+        if self.awaited.come(slot) {
+            self.sequencer.wake();
         }
     }
 

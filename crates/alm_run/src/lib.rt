@@ -3,10 +3,10 @@
 //! | thread | runs | ends |
 //! |---|---|---|
 //! | of each slot | [`sit`]: one turn of its [`Source`] after another | after a turn that says [`Go::End`], or before one where `stop` is set |
-//! | the sequencer's | [`run_sequencer`]: takes one request of each slot in turn, and seals where no batch is out, once those who were just answered have asked again or nobody did for 200 microseconds, or where the open batch is full | where all sources had ended before a pass that took nothing, and the open batch is empty; or where `stop` is set |
+//! | the sequencer's | [`run_sequencer`]: takes one request of each slot in turn, and seals where no batch is out, once those whom the last one answered have asked again or half of the time that it took has passed, 500 microseconds at most, or where the open batch is full | where all sources had ended before a pass that took nothing, and the open batch is empty; or where `stop` is set |
 //! | the flusher's | [`run_flusher`]: commits, publishes and releases; each time its sleep ends and nothing is there, a piece of an open checkpoint | where nothing more was to be sealed before a fetch that gave nothing; at a failure of the device; after 1,000 refused publishes in a row |
 //!
-//! [`Flags`] are hints, each read before the step that it bounds. A thread that has nothing to do looks again some 64 times, and then sleeps by
+//! [`Flags`] are hints, each read before the step that it bounds. A thread that has nothing to do looks again some 8 times, and then sleeps by
 //! its [`Bell`]: whoever has something for it rings, and every 100 milliseconds it looks once by itself.
 //!
 //! What is used above: each thread gives back the ends that it was given, so that whoever joins them all has both ends of each ring
@@ -17,20 +17,23 @@
 //! Not promised: that a thread ever ends, that a request is ever answered, and any time.
 #![tactic(auto)]
 
+mod awaited;
 mod bell;
 mod bells;
 mod chair;
 mod closes;
-mod company;
+mod commit_time;
 mod console_back;
 mod doorbell;
 mod finishing;
 mod flags;
 mod flusher_parts;
 mod flushing;
+mod gathering;
 mod go;
 mod landed;
 mod parcel;
+mod pause;
 mod rings;
 mod sequencer_ends;
 mod sequencing;

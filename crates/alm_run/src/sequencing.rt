@@ -5,14 +5,17 @@ ghost use Rattle.alm_seq.specs.Sequences.{SameInboxes, base_of};
 ghost use Rattle.alm_run.specs.Serving.{Serves};
 
 use crate::bell::Bell;
-use crate::company::Company;
+use crate::commit_time::CommitTime;
 use crate::flags::Flags;
+use crate::gathering::Gathering;
+use crate::pause::Pause;
 use alm_disk::Hold;
 use alm_model::Alarms;
 use alm_seq::{Seal, Sequencer, Take};
 use alm_types::Slot;
 use std::sync::Wait;
 use std::sync::atomic::Ordering;
+use std::time::Clock;
 
 // What a pass over the slots found.
 #[derive(Clone, Copy, Debug, PartialEq, Eq)]
@@ -23,12 +26,12 @@ enum Found {
 }
 
 // What a pass left.
-#[derive(Clone, Copy, Debug, PartialEq, Eq)]
+#[derive(Debug, Drop, PartialEq, Eq)]
 enum Left {
     // Something was taken or sealed.
     Work,
-    // Others are to join the open batch.
-    Awaiting,
+    // Others are to join the open batch, which may wait for them.
+    Awaiting(Pause),
     // Nothing, and the open batch has entries.
     Waiting,
     // Nothing, and the open batch is empty.
@@ -40,7 +43,7 @@ fn go_round<P: Alarms + Drop, H: Hold>(
     sequencer: &mut Sequencer<P>,
     slots: &[Slot],
     hold: &H,
-    company: &mut Company,
+    gathering: &mut Gathering,
 ) -> Found
     requires { Serves slots.now sequencer.old.inboxes.items }
     ensures serves { Serves slots.now sequencer.new.inboxes.items }
@@ -53,7 +56,7 @@ fn go_round<P: Alarms + Drop, H: Hold>(
         match sequencer.take(*slot) {
             Take::Taken(_) => {
                 found = Found::Some;
-                company.take();
+                gathering.join(*slot);
                 hold.taken(*slot);
             }
             Take::Empty => {}
@@ -63,11 +66,39 @@ fn go_round<P: Alarms + Drop, H: Hold>(
     found
 }
 
-// Seals where no batch is out and nobody is awaited, or the open one is full.
-fn seal_some<P: Alarms + Drop, B: Bell + Drop>(
+// Waits until those have come whom the open batch awaits, for one pause at most.
+fn gather<P: Alarms + Drop, B: Bell + Drop, H: Hold, R: Wait>(
+    rt: &R,
     flags: &Flags<B>,
     sequencer: &mut Sequencer<P>,
-    company: &mut Company,
+    slots: &[Slot],
+    hold: &H,
+    gathering: &mut Gathering,
+    pause: Pause,
+)
+    requires { Serves slots.now sequencer.old.inboxes.items }
+    ensures serves { Serves slots.now sequencer.new.inboxes.items }
+    ensures inboxes { SameInboxes sequencer.old.inboxes.items sequencer.new.inboxes.items }
+    ensures ends { SameSealEnds sequencer.old.ends sequencer.new.ends }
+    ensures base { base_of sequencer.new ≡ base_of sequencer.old }
+{
+    flags.sequencer.hush(rt);
+    flags.awaited.begin(gathering);
+    // Who came before that woke nobody.
+    let found = go_round(sequencer, slots, hold, gathering);
+    if flags.awaited.narrow(gathering) && found != Found::Full {
+        flags.sequencer.doze(rt, pause);
+    }
+    flags.awaited.end();
+}
+
+// Seals where no batch is out and nobody is to be waited for, or the open one is full.
+fn seal_some<P: Alarms + Drop, B: Bell + Drop, C: Clock>(
+    clock: &C,
+    flags: &Flags<B>,
+    sequencer: &mut Sequencer<P>,
+    gathering: &mut Gathering,
+    commit: &mut CommitTime,
     found: Found,
 ) -> Left
     ensures inboxes { sequencer.new.inboxes ≡ sequencer.old.inboxes }
@@ -75,14 +106,17 @@ fn seal_some<P: Alarms + Drop, B: Bell + Drop>(
     ensures base { base_of sequencer.new ≡ base_of sequencer.old }
 {
     let mut left = Left::Waiting;
-    let out = flags.out.load(Ordering::SeqCst);
-    if company.is_awaited(out) && found != Found::Full {
-        return Left::Awaiting;
+    let is_back = !flags.out.load(Ordering::SeqCst);
+    if is_back && found != Found::Full {
+        if let Some(pause) = gathering.pause(commit.end(clock)) {
+            return Left::Awaiting(pause);
+        }
     }
-    if found == Found::Full || !out {
+    if is_back || found == Found::Full {
         match sequencer.seal() {
             Seal::Sealed => {
-                company.seal();
+                gathering.seal();
+                commit.begin(clock);
                 flags.out.store(true, Ordering::SeqCst);
                 flags.flusher.ring();
                 return Left::Work;
@@ -98,8 +132,9 @@ fn seal_some<P: Alarms + Drop, B: Bell + Drop>(
 }
 
 /// Takes, judges and seals until all sources have ended and nothing is left, or `stop` is set. It seals where no batch is out and those
-/// who were just answered have asked again or nobody did for 200 microseconds, or where the open batch is full. The hold is told of each request that is taken.
-pub fn sequence<P: Alarms + Drop, B: Bell + Drop, H: Hold, R: Wait>(
+/// whom the last one answered have asked again, or half of the time that it took has passed since it came back, and never more than
+/// 500 microseconds; or where the open batch is full. The hold is told of each request that is taken.
+pub fn sequence<P: Alarms + Drop, B: Bell + Drop, H: Hold, R: Wait + Clock>(
     rt: &R,
     flags: &Flags<B>,
     slots: &[Slot],
@@ -112,7 +147,8 @@ pub fn sequence<P: Alarms + Drop, B: Bell + Drop, H: Hold, R: Wait>(
     ensures base { base_of result ≡ base_of sequencer }
 {
     let mut sequencer = sequencer;
-    let mut company = Company::new();
+    let mut gathering = Gathering::new();
+    let mut commit = CommitTime::new();
     let mut idle: u32 = 0;
     for _ in rt.forever() {
         if flags.is_stopped() {
@@ -120,10 +156,27 @@ pub fn sequence<P: Alarms + Drop, B: Bell + Drop, H: Hold, R: Wait>(
         }
         // Before the pass: what was sent then is found by it.
         let last = flags.ended.load(Ordering::SeqCst) >= slots.len();
-        let found = go_round(&mut sequencer, slots, hold, &mut company);
-        match seal_some(flags, &mut sequencer, &mut company, found) {
+        let found = go_round(&mut sequencer, slots, hold, &mut gathering);
+        match seal_some(
+            rt,
+            flags,
+            &mut sequencer,
+            &mut gathering,
+            &mut commit,
+            found,
+        ) {
             Left::Work => idle = 0,
-            Left::Awaiting => flags.sequencer.doze(rt),
+            Left::Awaiting(pause) => {
+                gather(
+                    rt,
+                    flags,
+                    &mut sequencer,
+                    slots,
+                    hold,
+                    &mut gathering,
+                    pause,
+                );
+            }
             Left::Empty if last => break,
             Left::Empty | Left::Waiting => {
                 flags.sequencer.wait(rt, idle);

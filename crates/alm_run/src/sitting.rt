@@ -25,8 +25,8 @@ fn rest<T: Told + Drop, B: Bell + Drop, R: Wait>(
     }
 }
 
-/// Takes turns until the source ends or `stop` is set. The sequencer and the flusher are woken after each that may
-/// have something for them.
+/// Takes turns until the source ends or `stop` is set. The sequencer is woken after a turn that may have sent something, the flusher
+/// after one that may have received something.
 pub fn sit<
     T: Told + Drop,
     L: Look<Told = T> + Drop,
@@ -44,10 +44,15 @@ pub fn sit<
         if flags.is_stopped() {
             break;
         }
+        let before = console.unanswered();
         let go = source.turn(&mut console, &mut look);
-        // A slot with nothing on its way wakes nobody.
-        if go != Go::Rest || console.unanswered() > 0 {
-            flags.sequencer.ring();
+        let after = console.unanswered();
+        // A slot that rests wakes nobody.
+        let went = go != Go::Rest || after != before;
+        if went && after > 0 {
+            flags.send(console.slot());
+        }
+        if went && before > 0 {
             flags.flusher.ring();
         }
         match go {

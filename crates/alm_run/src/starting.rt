@@ -19,9 +19,10 @@ use alm_types::Slot;
 use std::snapshot::Snapshot;
 use std::sync::Wait;
 use std::thread::{PromisedHandle, Scope};
+use std::time::Clock;
 
 /// Runs a sequencer over these ends until all sources have ended and nothing is left, and gives them back.
-pub fn run_sequencer<P: Alarms + Drop, B: Bell + Drop, H: Hold, R: Wait>(
+pub fn run_sequencer<P: Alarms + Drop, B: Bell + Drop, H: Hold, R: Wait + Clock>(
     rt: &R,
     flags: &Flags<B>,
     slots: &[Slot],
@@ -54,7 +55,7 @@ pub fn start_rings<
     P: Alarms + Drop + Send,
     B: Bell + Drop + Sync,
     H: Hold + Sync,
-    R: Wait + Sync,
+    R: Wait + Clock + Sync,
 >(
     scope: &Scope<'s, E>,
     rt: &'s R,

@@ -23,6 +23,7 @@ use std::marker::Brand;
 use std::net::Net;
 use std::sync::Wait;
 use std::thread::Threads;
+use std::time::Clock;
 
 /// Writes that the ports are bound.
 fn print_serving<W: io::Write>(port: u16, writer: &mut W) -> io::Result<()>
@@ -73,7 +74,7 @@ fn run_parts<
     J: Naming + Send + Sync,
     P: Alarms + Drop + Send + Sync,
     K: Store,
-    R: Threads + Wait + Sync,
+    R: Threads + Wait + Clock + Sync,
 >(
     rt: &R,
     alloc: Global,
@@ -91,7 +92,7 @@ fn run_parts<
 }
 
 /// Runs the parts over a store behind these doors: how many actions are stored when all have ended, `None` where it has stopped.
-fn run_behind<J: Naming + Send + Sync, K: Store, R: Threads + Wait + Sync>(
+fn run_behind<J: Naming + Send + Sync, K: Store, R: Threads + Wait + Clock + Sync>(
     rt: &R,
     alloc: Global,
     history: NewHistory,
@@ -114,7 +115,12 @@ fn run_behind<J: Naming + Send + Sync, K: Store, R: Threads + Wait + Sync>(
 }
 
 /// Serves the slots of a store on 18 ports of loopback.
-fn serve_over<J: Naming + Send + Sync, K: Store, W: io::Write, R: Net + Threads + Wait + Sync>(
+fn serve_over<
+    J: Naming + Send + Sync,
+    K: Store,
+    W: io::Write,
+    R: Net + Threads + Wait + Clock + Sync,
+>(
     rt: &R,
     alloc: Global,
     history: NewHistory,
@@ -158,7 +164,7 @@ fn serve_over<J: Naming + Send + Sync, K: Store, W: io::Write, R: Net + Threads 
 ///
 /// It opens the device, binds the ports, writes `serving P` and starts the threads, in this order; and at the end writes `stopped
 /// N`: how many actions are stored.
-pub fn serve_run<D: Disk + Drop, W: io::Write, R: Net + Threads + Wait + Sync>(
+pub fn serve_run<D: Disk + Drop, W: io::Write, R: Net + Threads + Wait + Clock + Sync>(
     rt: &R,
     alloc: Global,
     disk: D,

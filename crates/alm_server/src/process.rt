@@ -12,11 +12,12 @@ use std::net::Net;
 use std::process::ExitCode;
 use std::sync::Wait;
 use std::thread::Threads;
+use std::time::Clock;
 
 /// Does what the process's words ask.
-fn run<R: Input + Print + Env + Files<File = File> + Net + Threads + Wait + Sync + AllocGlobal>(
-    rt: &R,
-) -> Result<(), Fault> {
+fn run<
+    R: Input + Print + Env + Files<File = File> + Net + Threads + Wait + Clock + Sync + AllocGlobal,
+>(rt: &R) -> Result<(), Fault> {
     match run_words(rt)? {
         Some(order) => serve_file(rt, order.device.as_str(), order.port, order.conns),
         None => Ok(()),
@@ -26,7 +27,7 @@ fn run<R: Input + Print + Env + Files<File = File> + Net + Threads + Wait + Sync
 /// Does what the process's words ask, over its standard streams, its files and its ports: status 0, or one line to `errors` and the
 /// status of the fault.
 pub fn run_in_process<
-    R: Input + Print + Env + Files<File = File> + Net + Threads + Wait + Sync + AllocGlobal,
+    R: Input + Print + Env + Files<File = File> + Net + Threads + Wait + Clock + Sync + AllocGlobal,
     E: io::Write,
 >(rt: &R, errors: &mut E) -> ExitCode
     ensures { IsEnd (E.contents errors.old) (E.contents errors.new) (exit_status result) }

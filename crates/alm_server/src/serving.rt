@@ -11,6 +11,7 @@ use std::io;
 use std::net::Net;
 use std::sync::Wait;
 use std::thread::Threads;
+use std::time::Clock;
 
 /// What a fault of serving is to the program.
 pub fn serve_fault(fault: ServeFault) -> Fault
@@ -26,12 +27,9 @@ pub fn serve_fault(fault: ServeFault) -> Fault
 }
 
 /// Serves the slots of a device's file over loopback, and says so on standard output.
-pub fn serve_file<R: Files<File = File> + Print + Net + Threads + Wait + Sync + AllocGlobal>(
-    rt: &R,
-    device: &str,
-    port: u16,
-    conns: u32,
-) -> Result<(), Fault>
+pub fn serve_file<
+    R: Files<File = File> + Print + Net + Threads + Wait + Clock + Sync + AllocGlobal,
+>(rt: &R, device: &str, port: u16, conns: u32) -> Result<(), Fault>
     requires { port ≤ 65518 }
 {
     let disk = FileDisk::open(rt, device).map_err(file_fault)?;

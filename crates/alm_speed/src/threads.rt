@@ -22,7 +22,7 @@ use std::rt::Clock;
 use std::sync::atomic::Ordering;
 use std::sync::{Arc, Wait};
 use std::thread::Threads;
-use std::time::Instant;
+use std::time::{Clock, Instant};
 
 /// The bytes of the device, with segments of 16 MiB.
 const DEVICE: u64 = 41_943_040;
@@ -46,7 +46,7 @@ fn table(alloc: Global) -> Result<Table> {
 }
 
 /// A run over a formatted file: how many actions are stored at its end.
-fn stored_after<R: Threads + Wait + Sync>(
+fn stored_after<R: Threads + Wait + Clock + Sync>(
     rt: &R,
     alloc: Global,
     disk: FileDisk,
@@ -63,7 +63,7 @@ fn stored_after<R: Threads + Wait + Sync>(
 }
 
 /// 18 slots ask each so many times, with so many requests out: how many actions are stored.
-fn ask<R: Threads + Wait + Sync>(
+fn ask<R: Threads + Wait + Clock + Sync>(
     rt: &R,
     alloc: Global,
     disk: FileDisk,
@@ -77,7 +77,7 @@ fn ask<R: Threads + Wait + Sync>(
 }
 
 /// So many consoles look each so many hundred times beside the feed: how many looks were shown.
-fn look<R: Threads + Wait + Sync>(
+fn look<R: Threads + Wait + Clock + Sync>(
     rt: &R,
     alloc: Global,
     disk: FileDisk,

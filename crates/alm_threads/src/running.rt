@@ -29,6 +29,7 @@ use std::alloc::{AllocError, Global};
 use std::sync::Wait;
 use std::thread;
 use std::thread::{Scope, Threads};
+use std::time::Clock;
 
 // Starts the threads of the sequencer and of the sources, is the flusher's thread, and joins the others.
 fn run_all<
@@ -41,7 +42,7 @@ fn run_all<
     B: Board<Told = T> + Publish<R> + Closes<R>,
     E: Bell + Drop + Sync,
     H: Hold + Sync,
-    R: Threads + Wait + Sync,
+    R: Threads + Wait + Clock + Sync,
 >(
     scope: &Scope<'s, Env>,
     rt: &'s R,
@@ -146,7 +147,7 @@ fn in_scope<
     B: Board<Told = T> + Publish<R> + Closes<R>,
     E: Bell + Drop + Sync,
     H: Hold + Sync,
-    R: Threads + Wait + Sync,
+    R: Threads + Wait + Clock + Sync,
 >(
     rt: &'s R,
     alloc: Global,
@@ -235,7 +236,7 @@ pub fn run_with_bells<
     B: Board<Told = T> + Publish<R> + Closes<R>,
     E: Bell + Drop + Sync,
     H: Hold + Sync,
-    R: Threads + Wait + Sync,
+    R: Threads + Wait + Clock + Sync,
 >(
     rt: &R,
     alloc: Global,
@@ -279,7 +280,7 @@ pub fn run_threads<
     S: Source<T, L> + Drop + Send,
     B: Board<Told = T> + Publish<R> + Closes<R>,
     H: Hold + Sync,
-    R: Threads + Wait + Sync,
+    R: Threads + Wait + Clock + Sync,
 >(
     rt: &R,
     alloc: Global,

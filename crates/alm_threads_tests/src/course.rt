@@ -18,6 +18,7 @@ use std::alloc::Global;
 use std::marker::Brand;
 use std::sync::Wait;
 use std::thread::Threads;
+use std::time::Clock;
 
 /// What is left of a run.
 #[derive(Drop)]
@@ -50,7 +51,7 @@ fn run_parts<
     P: Alarms + Drop + Send + Sync,
     K: Store,
     H: Hold + Sync,
-    R: Threads + Wait + Sync,
+    R: Threads + Wait + Clock + Sync,
 >(
     rt: &R,
     alloc: Global,
@@ -64,7 +65,7 @@ fn run_parts<
 }
 
 /// Runs these sources over a store. `None` where memory is short or no thread can be made.
-fn run_over<J: Naming + Send + Sync, K: Store, H: Hold + Sync, R: Threads + Wait + Sync>(
+fn run_over<J: Naming + Send + Sync, K: Store, H: Hold + Sync, R: Threads + Wait + Clock + Sync>(
     rt: &R,
     alloc: Global,
     history: NewHistory,
@@ -91,7 +92,7 @@ fn run_over<J: Naming + Send + Sync, K: Store, H: Hold + Sync, R: Threads + Wait
 }
 
 /// Opens a device and runs these sources over it. `None` where it isn't opened, memory is short or no thread can be made.
-pub fn run_on<K: Store, H: Hold + Sync, R: Threads + Wait + Sync>(
+pub fn run_on<K: Store, H: Hold + Sync, R: Threads + Wait + Clock + Sync>(
     rt: &R,
     alloc: Global,
     disk: K::Device,

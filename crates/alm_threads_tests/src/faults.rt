@@ -15,6 +15,7 @@ use std::sync::atomic::Ordering;
 use std::sync::{Arc, Wait};
 use std::test::Fail;
 use std::thread::Threads;
+use std::time::Clock;
 
 /// How many requests each source sends.
 const EACH: u64 = 1000;
@@ -34,7 +35,7 @@ struct Found {
 
 /// Runs 18 sources, or one of them, over a device that fails its call of a number. `None` where memory is short, no thread can be made
 /// or the device isn't opened again.
-fn run_failing<R: Threads + Wait + Sync>(
+fn run_failing<R: Threads + Wait + Clock + Sync>(
     rt: &R,
     alloc: Global,
     only: Option<Slot>,

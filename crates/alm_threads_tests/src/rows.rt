@@ -18,6 +18,7 @@ use std::sync::atomic::Ordering;
 use std::sync::{Arc, Wait};
 use std::test::Fail;
 use std::thread::Threads;
+use std::time::Clock;
 
 /// One request, and its receipt.
 const ONE: SlotReport = SlotReport {
@@ -69,7 +70,7 @@ fn reports(slots: &[Option<SlotReport>]) -> usize {
 }
 
 /// Runs a row's steps over a device.
-fn play_over<K: Store, R: Threads + Wait + Sync>(
+fn play_over<K: Store, R: Threads + Wait + Clock + Sync>(
     rt: &R,
     alloc: Global,
     disk: K::Device,
@@ -85,7 +86,7 @@ fn play_over<K: Store, R: Threads + Wait + Sync>(
 }
 
 /// What is left of it.
-fn found_over<K: Store, R: Threads + Wait + Sync>(
+fn found_over<K: Store, R: Threads + Wait + Clock + Sync>(
     rt: &R,
     alloc: Global,
     disk: K::Device,
@@ -113,7 +114,7 @@ fn found_over<K: Store, R: Threads + Wait + Sync>(
 }
 
 /// Runs a row over a device of the worked table.
-fn play<R: Threads + Wait + Sync>(rt: &R, alloc: Global, row: &Row<'_>) -> Option<Found> {
+fn play<R: Threads + Wait + Clock + Sync>(rt: &R, alloc: Global, row: &Row<'_>) -> Option<Found> {
     let notes = Arc::new(alloc, Notes::new(alloc, 0).ok()?).ok()?;
     let gate = Arc::new(alloc, Gate::new(row.is_held)).ok()?;
     let table = worked_table(alloc).ok()?;

@@ -17,6 +17,7 @@ use std::sync::atomic::Ordering;
 use std::sync::{Arc, Wait};
 use std::test::Fail;
 use std::thread::Threads;
+use std::time::Clock;
 
 /// How many requests each source sends.
 const EACH: u64 = 20_000;
@@ -49,7 +50,7 @@ fn is_answered(slots: &[Option<SlotReport>]) -> bool {
 }
 
 /// Runs a caller at each slot over a device.
-fn run_callers<K: Store, R: Threads + Wait + Sync>(
+fn run_callers<K: Store, R: Threads + Wait + Clock + Sync>(
     rt: &R,
     alloc: Global,
     disk: K::Device,
@@ -63,7 +64,7 @@ fn run_callers<K: Store, R: Threads + Wait + Sync>(
 }
 
 /// Runs them, and opens the device again.
-fn run_over<K: Store, R: Threads + Wait + Sync>(
+fn run_over<K: Store, R: Threads + Wait + Clock + Sync>(
     rt: &R,
     alloc: Global,
     disk: K::Device,
@@ -85,7 +86,7 @@ fn run_over<K: Store, R: Threads + Wait + Sync>(
 }
 
 /// The same over a device of the worked table.
-fn run_all<R: Threads + Wait + Sync>(
+fn run_all<R: Threads + Wait + Clock + Sync>(
     rt: &R,
     alloc: Global,
     notes: &Arc<Notes, Global>,

@@ -1,0 +1,38 @@
+//! How long the last batch was out.
+
+use std::time::{Clock, Instant};
+
+/// How long the last batch was out, from its sealing until it was seen to be back, in microseconds: 0 before the first is back, and where
+/// the clock can't be read.
+#[derive(Drop)]
+pub struct CommitTime {
+    // Since when a batch is out.
+    since: Option<Instant>,
+    micros: u64,
+}
+
+impl CommitTime {
+    /// None yet.
+    pub fn new() -> Self {
+        CommitTime {
+            since: None,
+            micros: 0,
+        }
+    }
+
+    /// A batch was sealed.
+    pub fn begin<C: Clock>(&mut self, clock: &C) {
+        self.since = Instant::now(clock).ok();
+    }
+
+    /// None is out: how long the last one was.
+    pub fn end<C: Clock>(&mut self, clock: &C) -> u64 {
+        if let Some(since) = self.since.take() {
+            self.micros = match since.elapsed(clock) {
+                Ok(time) => u64::try_from(time.as_micros()).unwrap_or(u64::MAX),
+                Err(_) => 0,
+            };
+        }
+        self.micros
+    }
+}
