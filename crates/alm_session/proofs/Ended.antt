@@ -7,7 +7,7 @@ use Rattle.std.proofs.lemmas.List.{append-nil}
 use Rattle.alm_model.specs.Plant.{Condensed}
 use Rattle.alm_lines.specs.declared.line.Line.{Line}
 use Rattle.alm_session.specs.Intakes.{Held, lines_from, lines_in, open_in}
-use Rattle.alm_session.specs.Turns.{action, met_text, slip_of, slips, strays, Side, IsTurn}
+use Rattle.alm_session.specs.Turns.{action, met_text, slip_of, slips, strays, Side, IsTurn, Looks}
 use Rattle.alm_session.specs.Ended.{IsFresh, IsFinished, IsAnswered}
 use Rattle.alm_session.proofs.Joins.{joined}
 
@@ -15,8 +15,8 @@ no_more : {X : Type 0} (xs : List X) → length xs ≡ 0 → xs ≡ []
 no_more [] e = refl
 no_more (x ∷ xs) e = (let bad : ◌≡◌ {A = ℕ} 1 0 = omega (arith, e) in cc)
 
-pub answered_all : (base : Condensed) (n : ℕ) (a b : Side) → IsTurn base n a b → IsFresh a → IsFinished b → IsAnswered base a b
-answered_all base n a b p fresh finished =
+pub answered_all : {looks : Looks} (base : Condensed) (n : ℕ) (a b : Side) → IsTurn looks base n a b → IsFresh a → IsFinished b → IsAnswered looks base a b
+answered_all {looks} base n a b p fresh finished =
     let taken : lines_from [] p.got ≡ p.taken =
     subst (λ (h : Held). lines_in h ++ lines_from (open_in h) p.got ≡ p.taken ++ lines_in b.held) fresh.0 p.lines
     ∙ ap (λ (l : List Line). p.taken ++ l) finished.0 ∙ append-nil p.taken in
@@ -37,5 +37,5 @@ answered_all base n a b p fresh finished =
       own = λ few. no_more (flat_map strays p.met) (omega (arith, p.balance, few, fresh.3, ap length fresh.1, ap length finished.1));
     }
 
-pub join : (base : Condensed) (m n : ℕ) (a b c : Side) → IsTurn base m a b → IsTurn base n b c → IsTurn base (m + n) a c
-join base m n a b c p q = joined p q
+pub join : {looks : Looks} (base : Condensed) (m n : ℕ) (a b c : Side) → IsTurn looks base m a b → IsTurn looks base n b c → IsTurn looks base (m + n) a c
+join {looks} base m n a b c p q = joined p q

@@ -1,18 +1,21 @@
 -- Turns, one after the other.
 use Rattle.std.proofs.Common.{◌≡◌, ℕ, ◌+◌, List, [], ◌∷◌, ◌++◌, length, take, refl, ap, sym, subst, ◌∙◌, arith, append_assoc, length-append}
-use Rattle.std.specs.Prelude.{map, if◌then◌else◌}
+use Rattle.std.specs.Prelude.{Result, map, if◌then◌else◌}
 use Rattle.std.specs.List.{flat_map}
 use Rattle.std.proofs.KnownBytes.{Appends-trans, Consumes-trans}
 use Rattle.std.proofs.lemmas.List.{map-append}
 use Rattle.std.proofs.lemmas.Grind.{flat_map-append}
 use Rattle.std.proofs.Common.{Bool, true, false}
 use Rattle.alm_types.specs.declared.action.Action.{Action}
+use Rattle.alm_types.specs.declared.query.Query.{Query}
+use Rattle.alm_types.specs.declared.refusal.Refusal.{Refusal}
 use Rattle.alm_model.specs.Plant.{Condensed}
 use Rattle.alm_lines.specs.declared.line.Line.{Line}
 use Rattle.alm_lines.specs.Line.{line_of}
 use Rattle.alm_lines.specs.Stream.{is_end, fed}
 use Rattle.alm_session.specs.Intakes.{lines_from, lines_in, open_in}
-use Rattle.alm_session.specs.Turns.{Heard, Met, met_text, Slip, action, slip_of, slips, heards, strays, wants, Knows, refused_next, refused_over, Side, IsTurn}
+use Rattle.alm_session.specs.Turns.{Heard, Met, acted, told, denied, cramped, gone, bad, stray, met_text, Slip, action, slip_of, slips, heards, strays, wants, Knows, refused_next, refused_over, Side, IsTurn, Looks, between, looks_of}
+use Rattle.alm_session.proofs.Steps.{with_looks}
 use Rattle.alm_session.proofs.Streams.{fed-append}
 
 with_end : (ends : Bool) (held next xs ys : List ℕ) → ((k : List ℕ) → lines_from k (xs ++ ys) ≡ lines_from k xs ++ lines_from (fed k xs) ys)
@@ -25,9 +28,9 @@ lines_from-append : (held xs ys : List ℕ) → lines_from held (xs ++ ys) ≡ l
 lines_from-append held [] ys = refl
 lines_from-append held (x ∷ xs) ys = with_end (is_end x) held (take 128 (held ++ x ∷ [])) xs ys (λ k. lines_from-append k xs ys)
 
-pub knows-append : (base : Condensed) (k l m : List Action) (xs ys : List Met) → Knows base k xs l → Knows base l ys m → Knows base k (xs ++ ys) m
-knows-append base k l m [] ys p q = rw (← p) q
-knows-append base k l m (x ∷ xs) ys (next, (step, rest)) q = (next, (step, knows-append base next l m xs ys rest q))
+pub knows-append : (looks : Looks) (base : Condensed) (k l m : List Action) (xs ys : List Met) → Knows looks base k xs l → Knows looks base l ys m → Knows looks base k (xs ++ ys) m
+knows-append looks base k l m [] ys p q = rw (← p) q
+knows-append looks base k l m (x ∷ xs) ys (next, (step, rest)) q = (next, (step, knows-append looks base next l m xs ys rest q))
 
 refused_over-append : (base : Condensed) (n : ℕ) (xs ys : List Met) → refused_over base n (xs ++ ys) ≡ refused_over base (refused_over base n xs) ys
 refused_over-append base n [] ys = refl
@@ -37,8 +40,8 @@ refused_over-append base n (x ∷ xs) ys = refused_over-append base (refused_nex
 across : {X : Type 0} (a b c s t u v : List X) → a ++ s ≡ u ++ b → b ++ t ≡ v ++ c → a ++ (s ++ t) ≡ (u ++ v) ++ c
 across a b c s t u v p q = sym (append_assoc a s t) ∙ ap (λ l. l ++ t) p ∙ append_assoc u b t ∙ ap (λ l. u ++ l) q ∙ sym (append_assoc u v c)
 
-pub joined : {base : Condensed} {m n : ℕ} {a b c : Side} → IsTurn base m a b → IsTurn base n b c → IsTurn base (m + n) a c
-joined {base} {m} {n} {a} {b} {c} p q = record {
+pub joined : {looks : Looks} {base : Condensed} {m n : ℕ} {a b c : Side} → IsTurn looks base m a b → IsTurn looks base n b c → IsTurn looks base (m + n) a c
+joined {looks} {base} {m} {n} {a} {b} {c} p q = record {
   got = p.got ++ q.got;
   wrote = p.wrote ++ q.wrote;
   taken = p.taken ++ q.taken;
@@ -55,15 +58,30 @@ joined {base} {m} {n} {a} {b} {c} p q = record {
   written = Appends-trans a.written b.written c.written p.wrote q.wrote p.written q.written;
   sent = q.sent ∙ ap (λ (l : List Action). l ++ flat_map wants q.taken) p.sent ∙ append_assoc a.sent (flat_map wants p.taken) (flat_map wants q.taken) ∙ ap (λ (l : List Action). a.sent ++ l) (sym (flat_map-append wants p.taken q.taken));
   heard = q.heard ∙ ap (λ (l : List Heard). l ++ flat_map heards q.met) p.heard ∙ append_assoc a.heard (flat_map heards p.met) (flat_map heards q.met) ∙ ap (λ (l : List Heard). a.heard ++ l) (sym (flat_map-append heards p.met q.met));
-  learnt = knows-append base a.known b.known c.known p.met q.met p.learnt q.learnt;
+  learnt = knows-append looks base a.known b.known c.known p.met q.met p.learnt q.learnt;
   refused = q.refused ∙ ap (λ (n : ℕ). refused_over base n q.met) p.refused ∙ sym (refused_over-append base a.refused p.met q.met);
   balance = omega (arith, p.balance, q.balance, ap length (flat_map-append strays p.met q.met), length-append (flat_map strays p.met) (flat_map strays q.met));
   moved = omega (arith, p.moved, q.moved, length-append p.got q.got, length-append p.wrote q.wrote, length-append p.taken q.taken, ap length (flat_map-append heards p.met q.met), length-append (flat_map heards p.met) (flat_map heards q.met));
 }
 
 -- something, after what did nothing that counts
-pub behind : {base : Condensed} {n : ℕ} {a b c : Side} → IsTurn base 0 a b → IsTurn base n b c → IsTurn base n a c
-behind {base} {n} {a} {b} {c} p q = subst (λ (k : ℕ). IsTurn base k a c) (none_more n) (joined p q)
+pub behind : {looks : Looks} {base : Condensed} {n : ℕ} {a b c : Side} → IsTurn looks base 0 a b → IsTurn looks base n b c → IsTurn looks base n a c
+behind {looks} {base} {n} {a} {b} {c} p q = subst (λ (k : ℕ). IsTurn looks base k a c) (none_more n) (joined p q)
   where
     none_more : (n : ℕ) → 0 + n ≡ n
     none_more n = omega arith
+
+-- the looks of some turns are among all
+module _ {L : Type 0} (looked : L → Query → Result ℕ Refusal → L → Type 0) (x y : L) where
+  knows_among : (base : Condensed) (known : List Action) (met : List Met) (later : List Action) → Knows (between looked x y) base known met later → Knows (looks_of looked) base known met later
+  knows_among base known [] later k = k
+  knows_among base known (acted id h ∷ ms) later (next, (k, ks)) = (next, (k, knows_among base next ms later ks))
+  knows_among base known (told id asked list ∷ ms) later (next, (k, ks)) = (next, (((x, (y, k.0)), k.1, k.2), knows_among base next ms later ks))
+  knows_among base known (denied id asked list hindrance ∷ ms) later (next, (k, ks)) = (next, (((k.0.0, (x, (y, k.0.1))), k.1, k.2), knows_among base next ms later ks))
+  knows_among base known (cramped id asked list ∷ ms) later (next, (k, ks)) = (next, (((x, (y, k.0)), k.1, k.2, k.3), knows_among base next ms later ks))
+  knows_among base known (gone id asked ∷ ms) later (next, (k, ks)) = (next, (((x, (y, k.0)), k.1), knows_among base next ms later ks))
+  knows_among base known (bad id refusal ∷ ms) later (next, (k, ks)) = (next, (k, knows_among base next ms later ks))
+  knows_among base known (stray h ∷ ms) later (next, (k, ks)) = (next, (k, knows_among base next ms later ks))
+
+  pub among : (base : Condensed) (n : ℕ) (a b : Side) → IsTurn (between looked x y) base n a b → IsTurn (looks_of looked) base n a b
+  among base n a b p = with_looks (looks_of looked) p (knows_among base a.known p.met b.known p.learnt)

@@ -12,7 +12,7 @@ use Rattle.alm_lines.specs.Stream.{fed}
 use Rattle.alm_desk.specs.Answers.{verdict_reply}
 use Rattle.alm_board.specs.Fronts.{IsFront}
 use Rattle.alm_session.specs.Intakes.{Held, lines_from, lines_in, open_in}
-use Rattle.alm_session.specs.Turns.{Heard, Met, acted, stray, met_text, Slip, action, slip_of, slips, heards, strays, wants, Knows, KnowsNext, refused_next, refused_over, Side, IsTurn}
+use Rattle.alm_session.specs.Turns.{Heard, Met, acted, told, denied, cramped, gone, bad, stray, met_text, Slip, action, slip_of, slips, heards, strays, wants, Knows, KnowsNext, refused_next, refused_over, Side, IsTurn, Looks, no_looks}
 
 pub consumes_nil : (o : Option (List ℕ)) → Consumes o o []
 consumes_nil None = tt
@@ -23,9 +23,9 @@ one_text : (base : Condensed) (left : List ℕ) (m : Met) → left ++ flat_map (
 one_text base left m = ap (λ (t : List ℕ). left ++ t) (append-nil (met_text base m))
 
 -- nothing happens but that bytes are taken up to the next line
-pub still : (base : Condensed) (a b : Side) → lines_in b.held ≡ lines_in a.held → open_in b.held ≡ open_in a.held → b.waiting ≡ a.waiting → b.left ≡ a.left → b.known ≡ a.known
-    → b.coming ≡ a.coming → b.written ≡ a.written → b.sent ≡ a.sent → b.heard ≡ a.heard → b.refused ≡ a.refused → IsTurn base 0 a b
-still base a b lines opens waiting left known coming written sent heard refused = record {
+pub still : {looks : Looks} (base : Condensed) (a b : Side) → lines_in b.held ≡ lines_in a.held → open_in b.held ≡ open_in a.held → b.waiting ≡ a.waiting → b.left ≡ a.left → b.known ≡ a.known
+    → b.coming ≡ a.coming → b.written ≡ a.written → b.sent ≡ a.sent → b.heard ≡ a.heard → b.refused ≡ a.refused → IsTurn looks base 0 a b
+still {looks} base a b lines opens waiting left known coming written sent heard refused = record {
   got = [];
   wrote = [];
   taken = [];
@@ -45,9 +45,9 @@ still base a b lines opens waiting left known coming written sent heard refused 
 }
 
 -- a receipt answers the first line that waits
-pub answered : (base : Condensed) (a b : Side) (id : ℕ) (h : Heard) → b.held ≡ a.held → a.waiting ≡ id ∷ b.waiting → b.left ≡ a.left ++ met_text base (acted id h) → IsFront a.known b.known → IsFront h.list b.known
-    → b.coming ≡ a.coming → b.written ≡ a.written → b.sent ≡ a.sent → b.heard ≡ a.heard ++ h ∷ [] → b.refused ≡ a.refused → IsTurn base 1 a b
-answered base a b id h held waiting left known learnt coming written sent heard refused = record {
+pub answered : {looks : Looks} (base : Condensed) (a b : Side) (id : ℕ) (h : Heard) → b.held ≡ a.held → a.waiting ≡ id ∷ b.waiting → b.left ≡ a.left ++ met_text base (acted id h) → IsFront a.known b.known → IsFront h.list b.known
+    → b.coming ≡ a.coming → b.written ≡ a.written → b.sent ≡ a.sent → b.heard ≡ a.heard ++ h ∷ [] → b.refused ≡ a.refused → IsTurn looks base 1 a b
+answered {looks} base a b id h held waiting left known learnt coming written sent heard refused = record {
   got = [];
   wrote = [];
   taken = [];
@@ -74,9 +74,9 @@ nothing_of [] e = refl
 nothing_of (x ∷ xs) e = (let bad : ◌≡◌ {A = ℕ} 1 0 = omega (arith, e) in no_one bad)
 
 -- a receipt comes while no line waits
-pub strayed : (base : Condensed) (a b : Side) (h : Heard) → b.held ≡ a.held → a.waiting ≡ [] → b.waiting ≡ [] → b.left ≡ a.left → IsFront a.known b.known → IsFront h.list b.known
-    → b.coming ≡ a.coming → b.written ≡ a.written → b.sent ≡ a.sent → b.heard ≡ a.heard ++ h ∷ [] → b.refused ≡ a.refused → IsTurn base 1 a b
-strayed base a b h held waiting waits left known learnt coming written sent heard refused = record {
+pub strayed : {looks : Looks} (base : Condensed) (a b : Side) (h : Heard) → b.held ≡ a.held → a.waiting ≡ [] → b.waiting ≡ [] → b.left ≡ a.left → IsFront a.known b.known → IsFront h.list b.known
+    → b.coming ≡ a.coming → b.written ≡ a.written → b.sent ≡ a.sent → b.heard ≡ a.heard ++ h ∷ [] → b.refused ≡ a.refused → IsTurn looks base 1 a b
+strayed {looks} base a b h held waiting waits left known learnt coming written sent heard refused = record {
   got = [];
   wrote = [];
   taken = [];
@@ -96,9 +96,9 @@ strayed base a b h held waiting waits left known learnt coming written sent hear
 }
 
 -- bytes are written
-pub wrote_some : (base : Condensed) (a b : Side) (n : ℕ) → 1 ≤ n → n ≤ length a.left → b.held ≡ a.held → b.waiting ≡ a.waiting → b.left ≡ drop n a.left → b.known ≡ a.known
-    → b.coming ≡ a.coming → Appends a.written b.written (take n a.left) → b.sent ≡ a.sent → b.heard ≡ a.heard → b.refused ≡ a.refused → IsTurn base 1 a b
-wrote_some base a b n some within held waiting left known coming written sent heard refused = record {
+pub wrote_some : {looks : Looks} (base : Condensed) (a b : Side) (n : ℕ) → 1 ≤ n → n ≤ length a.left → b.held ≡ a.held → b.waiting ≡ a.waiting → b.left ≡ drop n a.left → b.known ≡ a.known
+    → b.coming ≡ a.coming → Appends a.written b.written (take n a.left) → b.sent ≡ a.sent → b.heard ≡ a.heard → b.refused ≡ a.refused → IsTurn looks base 1 a b
+wrote_some {looks} base a b n some within held waiting left known coming written sent heard refused = record {
   got = [];
   wrote = take n a.left;
   taken = [];
@@ -121,9 +121,9 @@ wrote_some base a b n some within held waiting left known coming written sent he
     taken_length n xs h = length-take-le n xs h
 
 -- bytes are read, where no line was held
-pub read_some : (base : Condensed) (a b : Side) → a.held.line ≡ None → a.held.rest ≡ [] → b.held ≡ record a.held { rest = b.held.rest } → 1 ≤ length b.held.rest → b.waiting ≡ a.waiting → b.left ≡ a.left
-    → b.known ≡ a.known → Consumes a.coming b.coming b.held.rest → b.written ≡ a.written → b.sent ≡ a.sent → b.heard ≡ a.heard → b.refused ≡ a.refused → IsTurn base 1 a b
-read_some base a b none empty held some waiting left known coming written sent heard refused = record {
+pub read_some : {looks : Looks} (base : Condensed) (a b : Side) → a.held.line ≡ None → a.held.rest ≡ [] → b.held ≡ record a.held { rest = b.held.rest } → 1 ≤ length b.held.rest → b.waiting ≡ a.waiting → b.left ≡ a.left
+    → b.known ≡ a.known → Consumes a.coming b.coming b.held.rest → b.written ≡ a.written → b.sent ≡ a.sent → b.heard ≡ a.heard → b.refused ≡ a.refused → IsTurn looks base 1 a b
+read_some {looks} base a b none empty held some waiting left known coming written sent heard refused = record {
   got = b.held.rest;
   wrote = [];
   taken = [];
@@ -149,11 +149,11 @@ read_some base a b none empty held some waiting left known coming written sent h
     opened h rest empty = rw empty refl
 
 -- a line is taken and answered at once, or sent
-pub took : (base : Condensed) (a b : Side) (line : Line) (met : List Met) → a.held.line ≡ Some line → b.held ≡ record a.held { line = None }
+pub took : {looks : Looks} (base : Condensed) (a b : Side) (line : Line) (met : List Met) → a.held.line ≡ Some line → b.held ≡ record a.held { line = None }
     → map action a.waiting ++ slip_of line ∷ [] ≡ flat_map slips met ++ map action b.waiting → b.left ≡ a.left ++ flat_map (met_text base) met
-    → b.coming ≡ a.coming → b.written ≡ a.written → b.sent ≡ a.sent ++ wants line → b.heard ≡ a.heard → flat_map heards met ≡ [] → flat_map strays met ≡ [] → Knows base a.known met b.known
-    → b.refused ≡ refused_over base a.refused met → length (wants line) + length a.waiting ≡ length b.waiting → IsTurn base 1 a b
-took base a b line met held later order left coming written sent heard none plain learnt refused count = record {
+    → b.coming ≡ a.coming → b.written ≡ a.written → b.sent ≡ a.sent ++ wants line → b.heard ≡ a.heard → flat_map heards met ≡ [] → flat_map strays met ≡ [] → Knows looks base a.known met b.known
+    → b.refused ≡ refused_over base a.refused met → length (wants line) + length a.waiting ≡ length b.waiting → IsTurn looks base 1 a b
+took {looks} base a b line met held later order left coming written sent heard none plain learnt refused count = record {
   got = [];
   wrote = [];
   taken = line ∷ [];
@@ -182,19 +182,54 @@ alone_order : (w v : List ℕ) (s : Slip) (l : List Slip) → w ≡ [] → v ≡
 alone_order w v s l e f h = rw (e, f, h) refl
 
 -- a line is answered at once, where no action waits and nothing is to be written
-pub at_once : (base : Condensed) (a b : Side) (line : Line) (m : Met) → a.held.line ≡ Some line → b.held ≡ record a.held { line = None } → a.waiting ≡ [] → b.waiting ≡ [] → a.left ≡ [] → b.left ≡ met_text base m
-    → slips m ≡ slip_of line ∷ [] → wants line ≡ [] → heards m ≡ [] → strays m ≡ [] → KnowsNext base a.known m b.known → b.coming ≡ a.coming → b.written ≡ a.written → b.sent ≡ a.sent → b.heard ≡ a.heard → b.refused ≡ refused_next base a.refused m → IsTurn base 1 a b
-at_once base a b line m held later waiting waits empty left slip want none plain known coming written sent heard refused =
+pub at_once : {looks : Looks} (base : Condensed) (a b : Side) (line : Line) (m : Met) → a.held.line ≡ Some line → b.held ≡ record a.held { line = None } → a.waiting ≡ [] → b.waiting ≡ [] → a.left ≡ [] → b.left ≡ met_text base m
+    → slips m ≡ slip_of line ∷ [] → wants line ≡ [] → heards m ≡ [] → strays m ≡ [] → KnowsNext looks base a.known m b.known → b.coming ≡ a.coming → b.written ≡ a.written → b.sent ≡ a.sent → b.heard ≡ a.heard → b.refused ≡ refused_next base a.refused m → IsTurn looks base 1 a b
+at_once {looks} base a b line m held later waiting waits empty left slip want none plain known coming written sent heard refused =
     took base a b line (m ∷ []) held later (alone_order a.waiting b.waiting (slip_of line) (slips m) waiting waits slip) (at_end b.left a.left (met_text base m) left empty) coming written
     (sent ∙ sym (append-nil a.sent) ∙ ap (λ (l : List Action). a.sent ++ l) (sym want)) heard (append-nil (heards m) ∙ none) (append-nil (strays m) ∙ plain) (b.known, (known, refl))
     refused (omega (arith, ap length want, ap length waiting, ap length waits))
 
 -- a receipt is received
-pub received : (base : Condensed) (a b : Side) (h : Heard) → b.held ≡ a.held → (a.waiting ≡ [] → (b.waiting ≡ []) × (b.left ≡ a.left))
+pub received : {looks : Looks} (base : Condensed) (a b : Side) (h : Heard) → b.held ≡ a.held → (a.waiting ≡ [] → (b.waiting ≡ []) × (b.left ≡ a.left))
     → ((id : ℕ) (ids : List ℕ) → a.waiting ≡ id ∷ ids → (b.waiting ≡ ids) × (b.left ≡ a.left ++ verdict_reply id h.number h.verdict)) → IsFront a.known b.known → IsFront h.list b.known
-    → b.coming ≡ a.coming → b.written ≡ a.written → b.sent ≡ a.sent → b.heard ≡ a.heard ++ h ∷ [] → b.refused ≡ a.refused → IsTurn base 1 a b
-received base a b h held none some known learnt coming written sent heard refused = by_waiting a.waiting refl
+    → b.coming ≡ a.coming → b.written ≡ a.written → b.sent ≡ a.sent → b.heard ≡ a.heard ++ h ∷ [] → b.refused ≡ a.refused → IsTurn looks base 1 a b
+received {looks} base a b h held none some known learnt coming written sent heard refused = by_waiting a.waiting refl
   where
-    by_waiting : (w : List ℕ) → a.waiting ≡ w → IsTurn base 1 a b
+    by_waiting : (w : List ℕ) → a.waiting ≡ w → IsTurn looks base 1 a b
     by_waiting [] e = strayed base a b h held e (none e).0 (none e).1 known learnt coming written sent heard refused
     by_waiting (id ∷ ids) e = answered base a b id h held (e ∙ ap (λ (l : List ℕ). id ∷ l) (sym (some id ids e).0)) (some id ids e).1 known learnt coming written sent heard refused
+
+-- turns without a look are turns with any
+knows_more : (looks : Looks) (base : Condensed) (known : List Action) (met : List Met) (later : List Action) → Knows no_looks base known met later → Knows looks base known met later
+knows_more looks base known [] later k = k
+knows_more looks base known (acted id h ∷ ms) later (next, (k, ks)) = (next, (k, knows_more looks base next ms later ks))
+knows_more looks base known (told id asked list ∷ ms) later (next, (k, ks)) = absurd k.0
+knows_more looks base known (denied id asked list hindrance ∷ ms) later (next, (k, ks)) = absurd k.0.1
+knows_more looks base known (cramped id asked list ∷ ms) later (next, (k, ks)) = absurd k.0
+knows_more looks base known (gone id asked ∷ ms) later (next, (k, ks)) = absurd k.0
+knows_more looks base known (bad id refusal ∷ ms) later (next, (k, ks)) = (next, (k, knows_more looks base next ms later ks))
+knows_more looks base known (stray h ∷ ms) later (next, (k, ks)) = (next, (k, knows_more looks base next ms later ks))
+
+-- the same turns with other looks, where those were enough for what was learnt
+pub with_looks : {from : Looks} (looks : Looks) {base : Condensed} {n : ℕ} {a b : Side} → (p : IsTurn from base n a b) → Knows looks base a.known p.met b.known → IsTurn looks base n a b
+with_looks {from} looks {base} {n} {a} {b} p learnt = record {
+  got = p.got;
+  wrote = p.wrote;
+  taken = p.taken;
+  met = p.met;
+  read = p.read;
+  lines = p.lines;
+  open_line = p.open_line;
+  order = p.order;
+  text = p.text;
+  written = p.written;
+  sent = p.sent;
+  heard = p.heard;
+  learnt = learnt;
+  refused = p.refused;
+  balance = p.balance;
+  moved = p.moved;
+}
+
+pub unseen : {looks : Looks} {base : Condensed} {n : ℕ} {a b : Side} → IsTurn no_looks base n a b → IsTurn looks base n a b
+unseen {looks} {base} {n} {a} {b} p = with_looks looks p (knows_more looks base a.known p.met b.known p.learnt)

@@ -1,17 +1,12 @@
 -- What a turn comes to.
 use Rattle.std.proofs.Common.{◌≡◌, ℕ, List, Option, ◌∙◌, inr}
-use Rattle.alm_model.specs.Plant.{Condensed}
 use Rattle.alm_rings.specs.declared.told.Told.{Ghosts}
 use Rattle.alm_rings.specs.declared.console.Console.{Console}
 use Rattle.alm_session.specs.declared.session.Session.{Session}
 use Rattle.alm_session.specs.declared.turn.Turn.{Turn}
 use Rattle.alm_session.specs.declared.turn.Turn.TheVariants.{Went, Idle, Ended, Fault}
 use Rattle.alm_session.specs.Wires.{Counts}
-use Rattle.alm_session.specs.Turns.{IsTurn, Side}
 use Rattle.alm_session.specs.Sides.{IsQuiet, GoneOn, Turns}
-
-pub on_base : {base from : Condensed} {n : ℕ} {a b : Side} → base ≡ from → IsTurn from n a b → IsTurn base n a b
-on_base {base} {from} {n} {a} {b} e t = rw e t
 
 pub gone_turns : {T : Type 0} {g : Ghosts T} (r : Turn) (s : Session) (before console : Console T g) (old between new : Counts) (coming : Option (List ℕ))
     → between ≡ old → IsQuiet before → GoneOn r s console between new coming → Turns r s before console old new coming

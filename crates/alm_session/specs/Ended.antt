@@ -4,7 +4,7 @@ use Rattle.std.specs.List.{flat_map}
 use Rattle.std.specs.Io.KnownBytes.{Consumes, Appends}
 use Rattle.alm_model.specs.Plant.{Condensed}
 use Rattle.alm_session.specs.Intakes.{lines_from, lines_in}
-use Rattle.alm_session.specs.Turns.{Met, met_text, slip_of, slips, heards, strays, Knows, Side}
+use Rattle.alm_session.specs.Turns.{Met, met_text, slip_of, slips, heards, strays, Knows, Looks, Side}
 
 -- nothing has come, nothing stands to be written, and no request of the slot is unanswered
 abbrev pub IsFresh : Side → Type 0
@@ -15,12 +15,12 @@ abbrev pub IsFinished : Side → Type 0
 IsFinished s = (lines_in s.held ≡ []) × (s.waiting ≡ []) × (s.left ≡ [])
 
 -- each line of what was read is answered, and what was written is the replies in the order of the lines. Each receipt that came answers a line, where no more came than requests were sent
-pub record IsAnswered (base : Condensed) (a b : Side) : Type 0 where
+pub record IsAnswered (looks : Looks) (base : Condensed) (a b : Side) : Type 0 where
   pub got : List ℕ
   pub met : List Met
   pub read : Consumes a.coming b.coming got
   pub lines : map slip_of (lines_from [] got) ≡ flat_map slips met
   pub written : Appends a.written b.written (flat_map (met_text base) met)
   pub heard : b.heard ≡ a.heard ++ flat_map heards met
-  pub learnt : Knows base a.known met b.known
+  pub learnt : Knows looks base a.known met b.known
   pub own : length b.heard ≤ length b.sent → flat_map strays met ≡ []

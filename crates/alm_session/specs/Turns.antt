@@ -1,5 +1,5 @@
 -- What a session does in its turns.
-use Rattle.std.specs.Prelude.{◌≡◌, ℕ, ◌+◌, ◌≤◌, ◌<◌, List, [], ◌∷◌, ◌++◌, Option, length, map}
+use Rattle.std.specs.Prelude.{◌≡◌, ℕ, ◌+◌, ◌≤◌, ◌<◌, List, [], ◌∷◌, ◌++◌, Option, Result, Ok, Err, length, map}
 use Rattle.std.specs.List.{flat_map}
 use Rattle.std.specs.Io.KnownBytes.{Consumes, Appends}
 use Rattle.alm_types.specs.declared.action.Action.{Action}
@@ -20,6 +20,20 @@ use Rattle.alm_desk.specs.declared.hindrance.Hindrance.TheVariants.{Nothing}
 use Rattle.alm_board.specs.Fronts.{IsFront}
 use Rattle.alm_session.specs.Intakes.{Held, lines_from, lines_in, open_in}
 
+-- what looks were made: by the query, and what it gave
+abbrev pub Looks : Type 1
+Looks = Query → Result ℕ Refusal → Type 0
+
+abbrev pub no_looks : Looks
+no_looks asked result = ⊥
+
+-- those between two states, and those between any
+abbrev pub between : {L : Type 0} → (L → Query → Result ℕ Refusal → L → Type 0) → L → L → Looks
+between looked before after asked result = looked before asked result after
+
+abbrev pub looks_of : {L : Type 0} → (L → Query → Result ℕ Refusal → L → Type 0) → Looks
+looks_of {L} looked asked result = (before : L) × ((after : L) × looked before asked result after)
+
 -- a receipt, with the list that it told
 pub record Heard : Type 0 where
   pub serial : ℕ
@@ -27,7 +41,7 @@ pub record Heard : Type 0 where
   pub number : ℕ
   pub list : List Action
 
--- how a line was answered, by its id: an action by a receipt; a query by a look at a list, which the slot then knows, or which was refused; or, where the storage has stopped, by none;
+-- how a line was answered, by its id: an action by a receipt; a query by a look at a list, which the slot then knows, or which was refused; or by one that was told that the storage has stopped;
 -- a bad line by its refusal. A query whose reply is longer than the buffer is refused for want of memory. A receipt that came while no action waited answers no line
 pub data Met : Type 0 where
   acted : ℕ → Heard → Met
@@ -91,19 +105,20 @@ wants_at (ask.Bad refusal) = []
 abbrev pub wants : Line → List Action
 wants line = wants_at line.ask
 
--- what is known before and after: each look is at a list that begins with all that was known before, and so with every list told by an earlier receipt
-abbrev pub KnowsNext : Condensed → List Action → Met → List Action → Type 0
-KnowsNext base known (acted id heard) next = IsFront known next × IsFront heard.list next
-KnowsNext base known (told id asked list) next = IsFront known list × (next ≡ list)
-KnowsNext base known (denied id asked list hindrance) next = IsFront known list × (next ≡ known)
-KnowsNext base known (cramped id asked list) next = IsFront known list × (next ≡ list) × (131072 < length (look_reply (run base list) id asked Nothing))
-KnowsNext base known (gone id asked) next = next ≡ known
-KnowsNext base known (bad id refusal) next = next ≡ known
-KnowsNext base known (stray heard) next = IsFront known next × IsFront heard.list next
+-- what is known before and after, by the looks that were made: each is at a list that begins with all that was known before, and so with every list told by an earlier receipt
+abbrev pub KnowsNext : Looks → Condensed → List Action → Met → List Action → Type 0
+KnowsNext looks base known (acted id heard) next = IsFront known next × IsFront heard.list next
+KnowsNext looks base known (told id asked list) next = looks asked (Ok (run base list).panel.count) × IsFront known list × (next ≡ list)
+KnowsNext looks base known (denied id asked list hindrance) next = ((why : Refusal) × looks asked (Err why)) × IsFront known list × (next ≡ known)
+KnowsNext looks base known (cramped id asked list) next =
+    looks asked (Ok (run base list).panel.count) × IsFront known list × (next ≡ list) × (131072 < length (look_reply (run base list) id asked Nothing))
+KnowsNext looks base known (gone id asked) next = looks asked (Err refusal.Stopped) × (next ≡ known)
+KnowsNext looks base known (bad id refusal) next = next ≡ known
+KnowsNext looks base known (stray heard) next = IsFront known next × IsFront heard.list next
 
-abbrev pub Knows : Condensed → List Action → List Met → List Action → Type 0
-Knows base known [] later = later ≡ known
-Knows base known (m ∷ ms) later = (next : List Action) × (KnowsNext base known m next × Knows base next ms later)
+abbrev pub Knows : Looks → Condensed → List Action → List Met → List Action → Type 0
+Knows looks base known [] later = later ≡ known
+Knows looks base known (m ∷ ms) later = (next : List Action) × (KnowsNext looks base known m next × Knows looks base next ms later)
 
 -- how many growths of the answer's list were refused: one more where a query was refused for want of memory
 abbrev pub refused_next : Condensed → ℕ → Met → ℕ
@@ -131,10 +146,10 @@ pub record Side : Type 0 where
 abbrev pub IsOwn : Side → Type 0
 IsOwn s = length s.sent ≡ length s.heard + length s.waiting
 
--- some turns: bytes are read, lines are taken, replies are written. The lines that waited and those that are taken are the ones that are answered and those that wait, in this order; what
+-- some turns, with these looks: bytes are read, lines are taken, replies are written. The lines that waited and those that are taken are the ones that are answered and those that wait, in this order; what
 -- stood to be written and the replies to the answered lines are what is written and what stands to be written. What isn't sent and not received and doesn't wait is as much as before, but
 -- for receipts that answer no line. At least so many bytes, lines and receipts went
-pub record IsTurn (base : Condensed) (least : ℕ) (a b : Side) : Type 0 where
+pub record IsTurn (looks : Looks) (base : Condensed) (least : ℕ) (a b : Side) : Type 0 where
   pub got : List ℕ
   pub wrote : List ℕ
   pub taken : List Line
@@ -147,7 +162,7 @@ pub record IsTurn (base : Condensed) (least : ℕ) (a b : Side) : Type 0 where
   pub written : Appends a.written b.written wrote
   pub sent : b.sent ≡ a.sent ++ flat_map wants taken
   pub heard : b.heard ≡ a.heard ++ flat_map heards met
-  pub learnt : Knows base a.known met b.known
+  pub learnt : Knows looks base a.known met b.known
   pub refused : b.refused ≡ refused_over base a.refused met
   pub balance : length b.sent + (length a.heard + length a.waiting) + length (flat_map strays met) ≡ length a.sent + (length b.heard + length b.waiting)
   pub moved : least ≤ length got + length wrote + length taken + length (flat_map heards met)

@@ -1,6 +1,6 @@
 //! What a lost connection leaves behind.
 
-ghost use Rattle.std.specs.Prelude.{◌≡◌, ◌↔◌, ◌≤◌, IsTrue, length, false};
+ghost use Rattle.std.specs.Prelude.{◌≡◌, ◌↔◌, ◌≤◌, ◌+◌, ◌⊎◌, IsTrue, length, false, true};
 ghost use Rattle.alm_rings.specs.Ends.{SameConsole, sent_of, received_of, coming_to};
 ghost use Rattle.alm_session.specs.Draining.{IsDrained};
 ghost use Rattle.alm_session.specs.Sides.{heard_by, IsQuiet};
@@ -15,6 +15,7 @@ fn drop_one<T: Told + Drop, L: FreeLook<Told = T>>(console: &mut Console<T>, loo
     ensures sent { sent_of console.new ≡ sent_of console.old }
     ensures drained { IsDrained (L.Look.base look.old) (L.Look.knows look.old) (heard_by console.old) (L.Look.knows look.new) (heard_by console.new) }
     ensures quiet { result ≡ false → IsQuiet console.new }
+    ensures one { result ≡ true → length (received_of console.new) ≡ length (received_of console.old) + 1 }
 {
     match console.receive() {
         Some(receipt) => {
@@ -25,12 +26,14 @@ fn drop_one<T: Told + Drop, L: FreeLook<Told = T>>(console: &mut Console<T>, loo
     }
 }
 
-/// Receives, learns and drops the receipts that are known to wait, up to 64: whether no request of the slot is unanswered.
+/// Receives, learns and drops all receipts that are known to wait, of which there are at most 64: whether no request of the slot is
+/// unanswered.
 pub fn drain<T: Told + Drop, L: FreeLook<Told = T>>(console: &mut Console<T>, look: &mut L) -> bool
     ensures base { L.Look.base look.new ≡ L.Look.base look.old }
     ensures end { SameConsole console.old console.new }
     ensures sent { sent_of console.new ≡ sent_of console.old }
     ensures drained { IsDrained (L.Look.base look.old) (L.Look.knows look.old) (heard_by console.old) (L.Look.knows look.new) (heard_by console.new) }
+    ensures all { IsQuiet console.new ⊎ (length (received_of console.old) + 64 ≤ length (received_of console.new)) }
     ensures settled { IsTrue result ↔ (length (sent_of console.new) ≤ length (received_of console.new)) }
 {
     for _receipt in 0..64_usize {

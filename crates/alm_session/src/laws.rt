@@ -7,13 +7,19 @@ ghost use Rattle.alm_model.specs.Rules.{KeepsRules};
 ghost use Rattle.alm_desk.specs.Answers.{look_reply};
 ghost use Rattle.alm_desk.specs.declared.hindrance.Hindrance.TheVariants.{Nothing};
 ghost use Rattle.alm_session.specs.Ended.{IsFresh, IsFinished, IsAnswered};
-ghost use Rattle.alm_session.specs.Turns.{IsTurn, Side};
+ghost use Rattle.alm_session.specs.Turns.{IsTurn, Side, between, looks_of};
 
-/// What single turns do, they do one after the other; and of a connection that was new and has ended, each line was answered, and what
-/// was written is the replies in the order of the lines.
-pub fn turns_answer_all_lines()
-    ensures join { (base : Condensed) (m n : ℕ) (a b c : Side) → IsTurn base m a b → IsTurn base n b c → IsTurn base (m + n) a c }
-    ensures ended { (base : Condensed) (n : ℕ) (a b : Side) → IsTurn base n a b → IsFresh a → IsFinished b → IsAnswered base a b }
+use alm_board::Look;
+
+/// What single turns do, they do one after the other; and of a connection that was new and has ended, each line was answered, each query by
+/// a look, and what was written is the replies in the order of the lines.
+pub fn turns_answer_all_lines<L: Look>()
+    ensures among { (x y : L) (base : Condensed) (n : ℕ) (a b : Side) →
+        IsTurn (between L.looked x y) base n a b → IsTurn (looks_of L.looked) base n a b }
+    ensures join { (base : Condensed) (m n : ℕ) (a b c : Side) → IsTurn (looks_of L.looked) base m a b →
+        IsTurn (looks_of L.looked) base n b c → IsTurn (looks_of L.looked) base (m + n) a c }
+    ensures ended { (base : Condensed) (n : ℕ) (a b : Side) → IsTurn (looks_of L.looked) base n a b →
+        IsFresh a → IsFinished b → IsAnswered (looks_of L.looked) base a b }
 {}
 
 /// Of a plant that keeps its rules, and so has 16,384 alarms at most, no reply to a query is longer than the room for replies: such a

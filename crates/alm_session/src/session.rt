@@ -30,7 +30,7 @@ impl Session {
     ghost use Rattle.arrayvec.specs.ArrayVec.{array_vec_len};
     ghost use Rattle.alm_rings.specs.Ends.{SameConsole, sent_of, received_of, coming_to, room_of};
     ghost use Rattle.alm_session.specs.Wires.{blocked_write, blocked_read, failed_call};
-    ghost use Rattle.alm_session.specs.Turns.{IsTurn, IsOwn, Side, Heard};
+    ghost use Rattle.alm_session.specs.Turns.{IsTurn, IsOwn, Side, Heard, between, no_looks};
     ghost use Rattle.alm_types.specs.declared.action.Action.{Action};
     ghost use Rattle.alm_session.specs.Sides.{side_of, heard_by, least_of, IsQuiet, IsStuck, ReadTurns, GoneOn, Turns};
     ghost use Rattle.std.specs.Prelude.{◌++◌, ◌==◌, if◌then◌else◌};
@@ -91,8 +91,9 @@ impl Session {
     ) -> bool
         ensures base { L.Look.base look.new ≡ L.Look.base look.old }
         ensures end { SameConsole console.old console.new }
-        ensures turn { (coming written : Option (List ℕ)) → IsTurn (L.Look.base look.old) (if result then 1 else 0) (side_of self.old (L.Look.knows look.old) coming written (sent_of console.old) (heard_by console.old)) (side_of self.new (L.Look.knows look.new) coming written (sent_of console.new) (heard_by console.new)) }
+        ensures turn { (coming written : Option (List ℕ)) → IsTurn no_looks (L.Look.base look.old) (if result then 1 else 0) (side_of self.old (L.Look.knows look.old) coming written (sent_of console.old) (heard_by console.old)) (side_of self.new (L.Look.knows look.new) coming written (sent_of console.new) (heard_by console.new)) }
         ensures quiet { result ≡ false → IsQuiet console.old }
+        ensures unseen { result ≡ false → look.new ≡ look.old }
         ensures left { result ≡ false → self.new.output ≡ self.old.output }
     {
         let Some(receipt) = console.receive() else {
@@ -110,7 +111,7 @@ impl Session {
         requires line { self.old.intake.line ≡ Some (record { id = id; ask = ask.Act want }) }
         requires empty { self.old.output.used ≡ 0 }
         ensures end { SameConsole console.old console.new }
-        ensures turn { (base : Condensed) (known : List Action) (coming written : Option (List ℕ)) → IsTurn base (least_of result) (side_of self.old known coming written (sent_of console.old) (heard_by console.old)) (side_of self.new known coming written (sent_of console.new) (heard_by console.new)) }
+        ensures turn { (base : Condensed) (known : List Action) (coming written : Option (List ℕ)) → IsTurn no_looks base (least_of result) (side_of self.old known coming written (sent_of console.old) (heard_by console.old)) (side_of self.new known coming written (sent_of console.new) (heard_by console.new)) }
         ensures cases { (result ≡ turn.Went) ⊎ ((result ≡ turn.Idle) × IsStuck self.new console.new) }
         ensures left { self.new.output ≡ self.old.output }
     {
@@ -133,7 +134,7 @@ impl Session {
         requires empty { (self.old.output.left ≡ []) × (self.old.output.used ≡ 0) }
         requires alone { self.old.waiting.items ≡ [] }
         ensures base { L.base look.new ≡ L.base look.old }
-        ensures turn { (coming written : Option (List ℕ)) (sent : List Action) (heard : List Heard) → IsTurn (L.base look.old) 1 (side_of self.old (L.knows look.old) coming written sent heard) (side_of self.new (L.knows look.new) coming written sent heard) }
+        ensures turn { (coming written : Option (List ℕ)) (sent : List Action) (heard : List Heard) → IsTurn (between L.looked look.old look.new) (L.base look.old) 1 (side_of self.old (L.knows look.old) coming written sent heard) (side_of self.new (L.knows look.new) coming written sent heard) }
     {
         self.intake.pass();
         match look.look(query, &mut self.answer) {
@@ -171,7 +172,7 @@ impl Session {
         requires empty { (self.old.output.left ≡ []) × (self.old.output.used ≡ 0) }
         ensures base { L.Look.base look.new ≡ L.Look.base look.old }
         ensures end { SameConsole console.old console.new }
-        ensures turn { (coming written : Option (List ℕ)) → IsTurn (L.Look.base look.old) (least_of result) (side_of self.old (L.Look.knows look.old) coming written (sent_of console.old) (heard_by console.old)) (side_of self.new (L.Look.knows look.new) coming written (sent_of console.new) (heard_by console.new)) }
+        ensures turn { (coming written : Option (List ℕ)) → IsTurn (between L.Look.looked look.old look.new) (L.Look.base look.old) (least_of result) (side_of self.old (L.Look.knows look.old) coming written (sent_of console.old) (heard_by console.old)) (side_of self.new (L.Look.knows look.new) coming written (sent_of console.new) (heard_by console.new)) }
         ensures cases { (result ≡ turn.Went) ⊎ ((result ≡ turn.Idle) × IsStuck self.new console.new × (self.new.output.left ≡ [])) }
     {
         let id = line.id;
@@ -198,7 +199,7 @@ impl Session {
     fn read<W: Wire>(&mut self, wire: &mut W) -> Turn
         requires held { (self.old.intake.line ≡ None) × (self.old.intake.rest ≡ []) }
         requires empty { self.old.output.left ≡ [] }
-        ensures turn { (base : Condensed) (known sent : List Action) (heard : List Heard) → IsTurn base (least_of result) (side_of self.old known (W.coming wire.old) (W.written wire.old) sent heard) (side_of self.new known (W.coming wire.new) (W.written wire.new) sent heard) }
+        ensures turn { (base : Condensed) (known sent : List Action) (heard : List Heard) → IsTurn no_looks base (least_of result) (side_of self.old known (W.coming wire.old) (W.written wire.old) sent heard) (side_of self.new known (W.coming wire.new) (W.written wire.new) sent heard) }
         ensures answer { ReadTurns result self.old self.new (W.counts wire.old) (W.counts wire.new) (W.coming wire.new) }
     {
         match self.intake.read(wire) {
@@ -224,7 +225,7 @@ impl Session {
         requires empty { (self.old.output.left ≡ []) × (self.old.output.used ≡ 0) }
         ensures base { L.Look.base look.new ≡ L.Look.base look.old }
         ensures end { SameConsole console.old console.new }
-        ensures turn { IsTurn (L.Look.base look.old) (least_of result) (side_of self.old (L.Look.knows look.old) (W.coming wire.old) (W.written wire.old) (sent_of console.old) (heard_by console.old)) (side_of self.new (L.Look.knows look.new) (W.coming wire.new) (W.written wire.new) (sent_of console.new) (heard_by console.new)) }
+        ensures turn { IsTurn (between L.Look.looked look.old look.new) (L.Look.base look.old) (least_of result) (side_of self.old (L.Look.knows look.old) (W.coming wire.old) (W.written wire.old) (sent_of console.old) (heard_by console.old)) (side_of self.new (L.Look.knows look.new) (W.coming wire.new) (W.written wire.new) (sent_of console.new) (heard_by console.new)) }
         ensures answer { GoneOn result self.new console.new (W.counts wire.old) (W.counts wire.new) (W.coming wire.new) }
     {
         match self.intake.line() {
@@ -242,7 +243,7 @@ impl Session {
     ) -> Turn
         ensures base { L.Look.base look.new ≡ L.Look.base look.old }
         ensures end { SameConsole console.old console.new }
-        ensures turn { IsTurn (L.Look.base look.old) (least_of result) (side_of self.old (L.Look.knows look.old) (W.coming wire.old) (W.written wire.old) (sent_of console.old) (heard_by console.old)) (side_of self.new (L.Look.knows look.new) (W.coming wire.new) (W.written wire.new) (sent_of console.new) (heard_by console.new)) }
+        ensures turn { IsTurn (between L.Look.looked look.old look.new) (L.Look.base look.old) (least_of result) (side_of self.old (L.Look.knows look.old) (W.coming wire.old) (W.written wire.old) (sent_of console.old) (heard_by console.old)) (side_of self.new (L.Look.knows look.new) (W.coming wire.new) (W.written wire.new) (sent_of console.new) (heard_by console.new)) }
         ensures answer { Turns result self.new console.old console.new (W.counts wire.old) (W.counts wire.new) (W.coming wire.new) }
     {
         if self.receive(console, look) {

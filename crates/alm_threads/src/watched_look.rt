@@ -24,6 +24,8 @@ impl<L: Look, H: Hold> Look for WatchedLook<'_, L, H> {
 
     ghost may_take = { λ watched told. L.may_take watched.look told };
 
+    ghost looked = { λ watched query result later. L.looked watched.look query result later.look };
+
     fn look(&mut self, query: Query, answer: &mut Answer) -> Result<u64, Refusal> {
         let result = self.look.look(query, answer);
         if result.is_ok() {

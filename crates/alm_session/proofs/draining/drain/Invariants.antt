@@ -1,5 +1,5 @@
-use Rattle.std.proofs.Common.{◌≡◌}
-use Rattle.alm_rings.specs.Ends.{SameConsole, sent_of}
+use Rattle.std.proofs.Common.{◌≡◌, ◌+◌, length}
+use Rattle.alm_rings.specs.Ends.{SameConsole, sent_of, received_of}
 use Rattle.alm_session.specs.Draining.{IsDrained}
 use Rattle.alm_session.specs.Sides.{heard_by}
 use Rattle.alm_session.proofs.draining.drain.Given as goal
@@ -11,4 +11,5 @@ invariant-loop-receipt g l = record {
   end : SameConsole l.fn.console l.console;
   sent : sent_of l.console ≡ sent_of l.fn.console;
   drained : IsDrained (g.L.Look.base l.fn.look) (g.L.Look.knows l.fn.look) (heard_by l.fn.console) (g.L.Look.knows l.look) (heard_by l.console);
+  many : length (received_of l.console) ≡ length (received_of l.fn.console) + l._receipt;
 }

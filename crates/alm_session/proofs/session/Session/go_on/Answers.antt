@@ -1,7 +1,7 @@
 use Rattle.std.proofs.Common.{refl}
 use Rattle.alm_session.specs.Sides.{heard_by}
 use Rattle.alm_rings.specs.Ends.{sent_of}
-use Rattle.alm_session.proofs.Steps.{still}
+use Rattle.alm_session.proofs.Steps.{still, unseen}
 use Rattle.alm_session.proofs.Joins.{behind}
 use Rattle.alm_session.proofs.session.Session.go_on.Goals as goal
 
@@ -12,4 +12,4 @@ returns-in-Some-clause-turn g c =
 pub returns-in-None-clause-turn : goal.returns-in-None-clause-turn
 returns-in-None-clause-turn g c =
     behind (still _ _ _ c.line.ensures.lines c.line.ensures.open refl refl refl refl refl refl refl refl)
-    (c.read.ensures.turn (g.L.Look.base c.args.look.now) (g.L.Look.knows c.args.look.now) (sent_of c.args.console.now) (heard_by c.args.console.now))
+    (unseen (c.read.ensures.turn (g.L.Look.base c.args.look.now) (g.L.Look.knows c.args.look.now) (sent_of c.args.console.now) (heard_by c.args.console.now)))

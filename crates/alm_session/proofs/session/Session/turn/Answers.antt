@@ -1,14 +1,20 @@
-use Rattle.std.proofs.Common.{refl, sym, ◌∙◌}
-use Rattle.alm_session.proofs.Steps.{still, wrote_some}
+use Rattle.std.proofs.Common.{refl, ap, sym, ◌∙◌}
+use Rattle.alm_session.specs.Outputs.{Left}
+use Rattle.alm_session.proofs.Steps.{still, unseen, wrote_some}
 use Rattle.alm_session.proofs.Joins.{behind}
-use Rattle.alm_session.proofs.Turning.{on_base, gone_turns}
+use Rattle.alm_session.proofs.Turning.{gone_turns}
 use Rattle.alm_session.proofs.session.Session.turn.Goals as goal
+
+pub returns-then-receive-clause-turn : goal.returns-then-receive-clause-turn
+returns-then-receive-clause-turn g c = unseen (c.if-receive.ensures.turn (g.W.Wire.coming c.args.wire.now) (g.W.Wire.written c.args.wire.now))
 
 pub returns-in-Nothing-clause-turn : goal.returns-in-Nothing-clause-turn
 returns-in-Nothing-clause-turn g c =
-    behind (c.if-receive.ensures.turn (g.W.Wire.coming c.args.wire.now) (g.W.Wire.written c.args.wire.now))
+    let same = c.if-receive.ensures.unseen refl in
+    let first = rw same at (c.if-receive.ensures.turn (g.W.Wire.coming c.args.wire.now) (g.W.Wire.written c.args.wire.now)) in
+    behind (unseen first)
     (behind (still _ _ _ refl refl refl (c.in-Nothing.ensures.sends.1 ∙ sym c.in-Nothing.ensures.sends.0) refl c.write.ensures.coming c.in-Nothing.ensures.sends.3 refl refl refl)
-    (on_base (sym c.receive.ensures.base) c.go_on.ensures.turn))
+    (rw same at c.go_on.ensures.turn))
 
 pub returns-in-Nothing-clause-answer : goal.returns-in-Nothing-clause-answer
 returns-in-Nothing-clause-answer g c =
@@ -17,5 +23,17 @@ returns-in-Nothing-clause-answer g c =
 pub returns-in-Some-clause-turn : goal.returns-in-Some-clause-turn
 returns-in-Some-clause-turn g c =
     let sends = c.in-Some.ensures.sends.1 in
-    behind (c.if-receive.ensures.turn (g.W.Wire.coming c.args.wire.now) (g.W.Wire.written c.args.wire.now))
+    behind (unseen (c.if-receive.ensures.turn (g.W.Wire.coming c.args.wire.now) (g.W.Wire.written c.args.wire.now)))
     (wrote_some _ _ _ sends.0 sends.1 sends.2 refl refl sends.3 refl c.write.ensures.coming sends.4 refl refl refl)
+
+pub returns-in-Blocked-clause-turn : goal.returns-in-Blocked-clause-turn
+returns-in-Blocked-clause-turn g c =
+    let sends = c.in-Blocked.ensures.sends in
+    behind (unseen (c.if-receive.ensures.turn (g.W.Wire.coming c.args.wire.now) (g.W.Wire.written c.args.wire.now)))
+    (still _ _ _ refl refl refl (ap (λ (o : Left). o.left) sends.0) refl c.write.ensures.coming sends.1 refl refl refl)
+
+pub returns-in-Failed-clause-turn : goal.returns-in-Failed-clause-turn
+returns-in-Failed-clause-turn g c =
+    let sends = c.in-Failed.ensures.sends in
+    behind (unseen (c.if-receive.ensures.turn (g.W.Wire.coming c.args.wire.now) (g.W.Wire.written c.args.wire.now)))
+    (still _ _ _ refl refl refl (ap (λ (o : Left). o.left) sends.0) refl c.write.ensures.coming sends.1 refl refl refl)
