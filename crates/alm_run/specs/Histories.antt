@@ -1,8 +1,9 @@
 -- What a run's threads leave behind, as parts of one history.
-use Rattle.std.specs.Prelude.{◌≡◌, ◌≤◌, ℕ, List, length, slice_get, Some}
+use Rattle.std.specs.Prelude.{◌≡◌, ◌≤◌, ◌↔◌, ◌⊎◌, ◌++◌, ℕ, List, length, slice_get, Some}
 use Rattle.std.specs.List.{range_with_len}
 use mathlib.Core.List.{IsPrefix}
 use Rattle.alm_types.specs.declared.entry.Entry.{Entry}
+use Rattle.alm_disk.specs.Device.{DeviceState, IsImage}
 use Rattle.alm_model.specs.Plant.{Condensed}
 use Rattle.alm_model.specs.Judging.{IsLegal, accepted_of, entries_in, of_slot, serials_of, wants_of}
 use Rattle.alm_model.specs.Step.{run}
@@ -24,12 +25,20 @@ pub record Judged (base : Condensed) (inboxes : List Inbox) (ends : SealEnds) : 
   pub wants : (s : ℕ) → wants_of (of_slot s entries) ≡ taken_by s inboxes
   pub serials : (s : ℕ) → serials_of (of_slot s entries) ≡ range_with_len 1 (length (taken_by s inboxes))
 
+-- a device that does what its trait says still does, and each image that a crash may leave of it stands for one of these two plants
+abbrev pub LeavesOneOf : Type 0 → Type 0 → (List ℕ → Condensed → Type 0) → DeviceState → Condensed → Condensed → Type 0
+LeavesOneOf before after recovers device p q = (before ↔ after) × (after → (b : List ℕ) → IsImage device b → ∥ recovers b p ⊎ recovers b q ∥₁)
+
 module _ {T : Type 0} {g : Ghosts T} where
-  -- from this base: what is stored is a front of the fetched entries, what was released a front of those that are stored; of each slot the receipts have the serials and verdicts of its entries, in order, and no number above what is stored
-  pub record Flushed (base stored : Condensed) (outboxes : List (Outbox T g)) (fetch : FetchEnds) : Type 0 where
+  -- from this base: what is stored is a front of the fetched entries, what was released a front of those that are stored; of each slot the receipts have the serials and verdicts of its entries, in order, and no number above what is stored.
+  -- The device is left with the stored plant, or with that and the entries that come next, of the batch whose commit wasn't done
+  pub record Flushed (leaves : Condensed → Condensed → Type 0) (base stored : Condensed) (outboxes : List (Outbox T g)) (fetch : FetchEnds) : Type 0 where
     pub kept : List Entry
     pub fetched : IsPrefix kept (entries_in (fetched_of fetch))
     pub stored_is : stored ≡ run base (accepted_of kept)
+    pub waiting : List Entry
+    pub ahead : IsPrefix (kept ++ waiting) (entries_in (fetched_of fetch))
+    pub device : leaves stored (run stored (accepted_of waiting))
     pub told : List Entry
     pub within : IsPrefix told kept
     pub released : (s : ℕ) → replies_in (released_by s outboxes) ≡ replies_to (of_slot s told)

@@ -2,7 +2,7 @@
 ghost use Rattle.std.specs.Prelude.{◌≡◌, ◌≢◌, ℕ, [], None};
 ghost use Rattle.alm_rings.specs.Batches.{SameFetchEnds, fetched_of};
 ghost use Rattle.alm_rings.specs.Placed.{AreApart, SameOutboxAt, outbox_at, released_by};
-ghost use Rattle.alm_run.specs.Histories.{Flushed};
+ghost use Rattle.alm_run.specs.Histories.{Flushed, LeavesOneOf};
 
 use crate::bell::Bell;
 use crate::closes::Closes;
@@ -16,7 +16,8 @@ use alm_rings::Told;
 use alm_store::{Phase, Store};
 use std::sync::Wait;
 
-/// Runs a flusher over these ends until nothing is left, and gives them back. The board is closed.
+/// Runs a flusher over these ends until nothing is left, and gives them back. The board is closed. Whatever a crash leaves of the device
+/// then stands for what is stored, or for that with the batch whose commit wasn't done.
 pub fn run_flusher<
     K: Store,
     T: Told + Drop,
@@ -33,7 +34,8 @@ pub fn run_flusher<
     requires pending { B.Board.pending board ≡ [] }
     ensures outboxes { (s : ℕ) → SameOutboxAt (outbox_at s parts.outboxes.items) (outbox_at s result.outboxes.items) }
     ensures fetch { SameFetchEnds parts.fetch result.fetch }
-    ensures flushed { Flushed (K.stored parts.store) (K.stored result.store) result.outboxes.items result.fetch }
+    ensures flushed { Flushed (LeavesOneOf (K.honest parts.store) (K.honest result.store) K.recovers (K.device result.store))
+        (K.stored parts.store) (K.stored result.store) result.outboxes.items result.fetch }
 {
     let FlusherParts {
         store,
@@ -42,7 +44,8 @@ pub fn run_flusher<
     } = parts;
     let mut flusher = Flusher::new(store, board, outboxes, fetch);
     let storage = flush(rt, flags, &mut flusher);
-    let _stored = flusher.keeper();
+    let stored = flusher.keeper();
+    stored.images();
     let (store, board, outboxes, fetch) = flusher.into_ends();
     board.close(rt);
     Landed {

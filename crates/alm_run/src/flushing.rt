@@ -1,5 +1,5 @@
 //! The flusher's thread.
-ghost use Rattle.std.specs.Prelude.{◌≡◌, ◌≢◌, ℕ};
+ghost use Rattle.std.specs.Prelude.{◌≡◌, ◌≢◌, ◌↔◌, ℕ};
 ghost use Rattle.alm_rings.specs.Batches.{SameFetchEnds};
 ghost use Rattle.alm_rings.specs.Placed.{SameOutboxAt, outbox_at};
 
@@ -41,6 +41,7 @@ fn commit<K: Store, T: Told + Drop, B: Board<Told = T> + Publish<R>, R: Wait>(
     ensures fetch { SameFetchEnds flusher.old.fetch flusher.new.fetch }
     ensures outboxes { flusher.new.outboxes ≡ flusher.old.outboxes }
     ensures base { B.Board.base flusher.new.board ≡ B.Board.base flusher.old.board }
+    ensures honest { K.honest flusher.old.store ↔ K.honest flusher.new.store }
 {
     if flusher.advance() == Advance::Failed {
         return Pass::Stopped;
@@ -66,6 +67,7 @@ fn answer<K: Store, T: Told + Drop, B: Board<Told = T>, E: Bell + Drop>(
     ensures fetch { SameFetchEnds flusher.old.fetch flusher.new.fetch }
     ensures outboxes { (s : ℕ) → SameOutboxAt (outbox_at s flusher.old.outboxes.items) (outbox_at s flusher.new.outboxes.items) }
     ensures base { B.base flusher.new.board ≡ B.base flusher.old.board }
+    ensures store { flusher.new.store ≡ flusher.old.store }
 {
     match flusher.release() {
         Release::Released(slot) => flags.slots.ring(slot),
@@ -92,6 +94,7 @@ fn step<K: Store, T: Told + Drop, B: Board<Told = T> + Publish<R>, E: Bell + Dro
     ensures fetch { SameFetchEnds flusher.old.fetch flusher.new.fetch }
     ensures outboxes { (s : ℕ) → SameOutboxAt (outbox_at s flusher.old.outboxes.items) (outbox_at s flusher.new.outboxes.items) }
     ensures base { B.Board.base flusher.new.board ≡ B.Board.base flusher.old.board }
+    ensures honest { K.honest flusher.old.store ↔ K.honest flusher.new.store }
 {
     if flusher.fetch() == Fetch::Empty {
         if idle >= REST && flusher.advance() == Advance::Failed {
@@ -116,6 +119,7 @@ pub fn flush<K: Store, T: Told + Drop, B: Board<Told = T> + Publish<R>, E: Bell 
     ensures fetch { SameFetchEnds flusher.old.fetch flusher.new.fetch }
     ensures outboxes { (s : ℕ) → SameOutboxAt (outbox_at s flusher.old.outboxes.items) (outbox_at s flusher.new.outboxes.items) }
     ensures base { B.Board.base flusher.new.board ≡ B.Board.base flusher.old.board }
+    ensures honest { K.honest flusher.old.store ↔ K.honest flusher.new.store }
     ensures storage { result ≡ Storage.Whole → K.phase flusher.new.store ≢ Phase.Stopped }
 {
     let mut refused: u64 = 0;

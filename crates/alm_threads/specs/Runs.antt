@@ -1,5 +1,5 @@
 -- What a run leaves of its slots and its device.
-use Rattle.std.specs.Prelude.{◌≡◌, ◌≤◌, ◌-◌, ◌^◌, ℕ, List, Option, Some, length, min, slice_get}
+use Rattle.std.specs.Prelude.{◌≡◌, ◌≤◌, ◌-◌, ◌^◌, ◌++◌, ℕ, List, Option, Some, length, min, slice_get}
 use mathlib.Core.List.{IsPrefix}
 use Rattle.alm_types.specs.declared.entry.Entry.{Entry}
 use Rattle.alm_model.specs.Plant.{Condensed}
@@ -30,13 +30,17 @@ module _ {T : Type 0} {g : Ghosts T} where
   abbrev pub AreClosed : List (Console T g) → List Inbox → List (Outbox T g) → List (Option SlotReport) → Type 0
   AreClosed consoles inboxes outboxes reports = (length reports ≡ length consoles) × ((k : ℕ) (c : Console T g) → slice_get consoles k ≡ Some c → Closes reports k (length (taken_by c.slot inboxes)) (length (released_by c.slot outboxes)))
 
--- from this base: what was taken of all slots is one legal history of one thread; the store holds a front of it, and what was released is a front of that; each slot's report, in the order of the slots, counts its entries in these lists
-pub record IsRun (base : Condensed) (slots : List ℕ) (stored : Condensed) (reports : List (Option SlotReport)) : Type 0 where
+-- from this base: what was taken of all slots is one legal history of one thread; the store holds a front of it, and what was released is a front of that; each slot's report, in the order of the slots, counts its entries in these lists.
+-- The device is left with the stored plant, or with that and the next entries of the history, of the one batch whose commit wasn't done
+pub record IsRun (leaves : Condensed → Condensed → Type 0) (base : Condensed) (slots : List ℕ) (stored : Condensed) (reports : List (Option SlotReport)) : Type 0 where
   pub entries : List Entry
   pub legal : IsLegal base entries
   pub kept : List Entry
   pub front : IsPrefix kept entries
   pub stored_is : stored ≡ run base (accepted_of kept)
+  pub waiting : List Entry
+  pub ahead : IsPrefix (kept ++ waiting) entries
+  pub device : leaves stored (run stored (accepted_of waiting))
   pub told : List Entry
   pub within : IsPrefix told kept
   pub count : length reports ≡ length slots

@@ -4,7 +4,7 @@ ghost use mathlib.Core.List.{IsPrefix};
 ghost use Rattle.alm_rings.specs.Batches.{AreBatchEnds, SameSealEnds, SameFetchEnds, fetched_of, sealed_of};
 ghost use Rattle.alm_rings.specs.Placed.{AreApart, SameOutboxAt, outbox_at};
 ghost use Rattle.alm_seq.specs.Sequences.{SameInboxes};
-ghost use Rattle.alm_run.specs.Histories.{Judged, Flushed};
+ghost use Rattle.alm_run.specs.Histories.{Judged, Flushed, LeavesOneOf};
 ghost use Rattle.alm_run.specs.Same.{AllSame};
 ghost use Rattle.alm_run.specs.Serving.{Serves};
 ghost use Rattle.alm_threads.specs.Runs.{AreClosed, IsRun};
@@ -72,7 +72,7 @@ where
     ensures outboxes { IfOk result (λ e. (s : ℕ) → SameOutboxAt (outbox_at s middle.flusher.outboxes.items) (outbox_at s e.landed.outboxes.items)) }
     ensures fetches { IfOk result (λ e. SameFetchEnds middle.flusher.fetch e.landed.fetch) }
     ensures judged { IfOk result (λ e. Judged (K.stored middle.flusher.store) e.rings.inboxes.items e.rings.ends) }
-    ensures flushed { IfOk result (λ e. Flushed (K.stored middle.flusher.store) (K.stored e.landed.store) e.landed.outboxes.items e.landed.fetch) }
+    ensures flushed { IfOk result (λ e. Flushed (LeavesOneOf (K.honest middle.flusher.store) (K.honest e.landed.store) K.recovers (K.device e.landed.store)) (K.stored middle.flusher.store) (K.stored e.landed.store) e.landed.outboxes.items e.landed.fetch) }
 {
     let Middle {
         plant,
@@ -170,7 +170,7 @@ fn in_scope<
     ensures outboxes { IfOk result (λ e. (s : ℕ) → SameOutboxAt (outbox_at s middle.flusher.outboxes.items) (outbox_at s e.landed.outboxes.items)) }
     ensures fetches { IfOk result (λ e. SameFetchEnds middle.flusher.fetch e.landed.fetch) }
     ensures judged { IfOk result (λ e. Judged (K.stored middle.flusher.store) e.rings.inboxes.items e.rings.ends) }
-    ensures flushed { IfOk result (λ e. Flushed (K.stored middle.flusher.store) (K.stored e.landed.store) e.landed.outboxes.items e.landed.fetch) }
+    ensures flushed { IfOk result (λ e. Flushed (LeavesOneOf (K.honest middle.flusher.store) (K.honest e.landed.store) K.recovers (K.device e.landed.store)) (K.stored middle.flusher.store) (K.stored e.landed.store) e.landed.outboxes.items e.landed.fetch) }
 {
     let parcel = Parcel::new(board, rt);
     thread::scope(
@@ -178,7 +178,7 @@ fn in_scope<
         rt,
         |scope| -> Result<Ends<K, T>, StartFault>
             requires { Serves slots.now.items middle.rings.inboxes.items × (K.stored middle.flusher.store ≡ B.Board.base parcel.board) × (B.Board.published parcel.board ≡ []) × (B.Board.pending parcel.board ≡ []) × (room.items ≡ []) × (vec_len chairs ≤ vec_capacity room) }
-            ensures { IfOk result (λ e. AllSame (map (λ chair. chair.console) chairs.items) e.consoles.items × SameInboxes middle.rings.inboxes.items e.rings.inboxes.items × SameSealEnds middle.rings.ends e.rings.ends × ((s : ℕ) → SameOutboxAt (outbox_at s middle.flusher.outboxes.items) (outbox_at s e.landed.outboxes.items)) × SameFetchEnds middle.flusher.fetch e.landed.fetch × Judged (K.stored middle.flusher.store) e.rings.inboxes.items e.rings.ends × Flushed (K.stored middle.flusher.store) (K.stored e.landed.store) e.landed.outboxes.items e.landed.fetch) }
+            ensures { IfOk result (λ e. AllSame (map (λ chair. chair.console) chairs.items) e.consoles.items × SameInboxes middle.rings.inboxes.items e.rings.inboxes.items × SameSealEnds middle.rings.ends e.rings.ends × ((s : ℕ) → SameOutboxAt (outbox_at s middle.flusher.outboxes.items) (outbox_at s e.landed.outboxes.items)) × SameFetchEnds middle.flusher.fetch e.landed.fetch × Judged (K.stored middle.flusher.store) e.rings.inboxes.items e.rings.ends × Flushed (LeavesOneOf (K.honest middle.flusher.store) (K.honest e.landed.store) K.recovers (K.device e.landed.store)) (K.stored middle.flusher.store) (K.stored e.landed.store) e.landed.outboxes.items e.landed.fetch) }
         {
             run_all(
                 scope,
@@ -246,7 +246,9 @@ pub fn run_with_bells<
     sources: Vec<S>,
 ) -> Result<RunReport<K>, StartFault>
     requires sources { length sources.items ≡ length parts.slots.items }
-    ensures run { IfOk result (λ report. IsRun (K.stored parts.middle.flusher.store) parts.slots.items (K.stored report.keeper) report.slots.items) }
+    ensures run { IfOk result (λ report.
+        IsRun (LeavesOneOf (K.honest parts.middle.flusher.store) (K.honest report.keeper) K.recovers (K.device report.keeper))
+        (K.stored parts.middle.flusher.store) parts.slots.items (K.stored report.keeper) report.slots.items) }
 {
     let Ok(
         Room {
@@ -289,7 +291,9 @@ pub fn run_threads<
     sources: Vec<S>,
 ) -> Result<RunReport<K>, StartFault>
     requires sources { length sources.items ≡ length parts.slots.items }
-    ensures run { IfOk result (λ report. IsRun (K.stored parts.middle.flusher.store) parts.slots.items (K.stored report.keeper) report.slots.items) }
+    ensures run { IfOk result (λ report.
+        IsRun (LeavesOneOf (K.honest parts.middle.flusher.store) (K.honest report.keeper) K.recovers (K.device report.keeper))
+        (K.stored parts.middle.flusher.store) parts.slots.items (K.stored report.keeper) report.slots.items) }
 {
     let Ok(mut bells) = Vec::with_capacity(alloc, sources.len()) else {
         drop(parts.close(rt));

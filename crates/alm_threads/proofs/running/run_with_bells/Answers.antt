@@ -1,9 +1,11 @@
-use Rattle.std.proofs.Common.{◌≡◌, ◌∙◌, length, ap, sym, subst, arith}
+use Rattle.std.proofs.Common.{◌≡◌, ◌∙◌, ◌++◌, length, ap, sym, subst, arith}
 use Rattle.std.specs.Prelude.{IsSome}
-use Rattle.alm_model.specs.Judging.{entries_in, of_slot}
+use Rattle.alm_model.specs.Judging.{accepted_of, entries_in, of_slot}
+use Rattle.alm_model.specs.Step.{run}
 use Rattle.alm_rings.specs.declared.console.Console.{Console}
 use Rattle.alm_rings.specs.Batches.{fetched_of, sealed_of}
 use Rattle.alm_rings.specs.Placed.{inbox_at, taken_by, released_by}
+use Rattle.alm_run.specs.Histories.{LeavesOneOf}
 use Rattle.alm_run.specs.Same.{AllSame}
 use Rattle.alm_threads.specs.Runs.{Closes}
 use Rattle.alm_threads.proofs.Tied.{stands_at, apart_by, map_count, wants_count, replies_count, received_count, front_on, entries_front, same_slots, tied_still}
@@ -58,6 +60,10 @@ returns g c =
         kept = f.flushed.kept;
         front = front_on f.flushed.kept (entries_in fetched) entries f.flushed.fetched (front_on (entries_in fetched) (entries_in sealed) entries (entries_front fetched sealed c.report_of.ensures.fetched) f.judged.sealed);
         stored_is = ap (λ k. g.K.Store.stored k) c.report_of.ensures.keeper ∙ f.flushed.stored_is;
+        waiting = f.flushed.waiting;
+        ahead = front_on (f.flushed.kept ++ f.flushed.waiting) (entries_in fetched) entries f.flushed.ahead (front_on (entries_in fetched) (entries_in sealed) entries (entries_front fetched sealed c.report_of.ensures.fetched) f.judged.sealed);
+        device = subst (λ (k : _). LeavesOneOf (g.K.Store.honest p.middle.flusher.store) (g.K.Store.honest k) g.K.Store.recovers (g.K.Store.device k) (g.K.Store.stored k) (run (g.K.Store.stored k) (accepted_of f.flushed.waiting)))
+            (sym c.report_of.ensures.keeper) f.flushed.device;
         told = f.flushed.told;
         within = f.flushed.within;
         count = c.report_of.ensures.closed.0 ∙ (sym (map_count (λ (x : Console _ _). x.slot) e.consoles.items) ∙ ap length order);
