@@ -84,6 +84,72 @@ fn a_million_bytes_without_an_end(rt: HostRuntime) -> Result<(), Fail> {
     Ok(())
 }
 
+/// What a slot's stream is answered, fed in two pieces.
+fn fed_in_two(alloc: Global, (front, back): (&[u8], &[u8])) -> Result<Vec<u8>, Fail> {
+    let mut desk = new_desk(alloc)?;
+    let mut writer = CountedWriter::new(Vec::new(alloc));
+    let console = Slot::new(0).ok_or("slot")?;
+    desk.feed(console, front, &mut writer)?;
+    desk.feed(console, back, &mut writer)?;
+    Ok(writer.into_inner())
+}
+
+/// A line that begins so and has so many bytes with its end.
+fn line_of(alloc: Global, front: &str, len: usize) -> Result<Vec<u8>, Fail> {
+    let mut line = Vec::new(alloc);
+    line.extend_from_slice(front.as_bytes())?;
+    for _ in front.len().saturating_add(1)..len {
+        line.push(b'A')?;
+    }
+    line.push(b'\n')?;
+    Ok(line)
+}
+
+/// Lines of a slot about the longest that there are, their lengths and what they are answered.
+const LONG_LINES: [(usize, &str); 4] = [
+    (127, "7 NO 13\n"),
+    (128, "7 NO 13\n"),
+    (129, "0 NO 14\n"),
+    (130, "0 NO 14\n"),
+];
+
+#[test]
+fn the_longest_lines_of_a_slot(rt: HostRuntime) -> Result<(), Fail> {
+    let alloc = rt.alloc();
+    for (len, wanted) in LONG_LINES {
+        let line = line_of(alloc, "7 ", len)?;
+        for cut in 0..=line.len() {
+            let got = fed_in_two(alloc, (&line[..cut], &line[cut..]))?;
+            assert_eq!(rt;
+                got.as_slice(),
+                wanted.as_bytes(),
+                "{len} bytes, cut at {cut}"
+            );
+        }
+    }
+    Ok(())
+}
+
+/// The same of a desk, whose lines begin with a slot.
+const LONG_DESK_LINES: [(&str, usize, &str); 4] = [
+    ("16 7 ", 131, "16 7 NO 13\n"),
+    ("16 7 ", 132, "? NO 14\n"),
+    ("0 7 ", 130, "0 7 NO 13\n"),
+    ("0 7 ", 131, "0 0 NO 14\n"),
+];
+
+#[test]
+fn the_longest_lines_of_a_desk(rt: HostRuntime) -> Result<(), Fail> {
+    let alloc = rt.alloc();
+    for (front, len, wanted) in LONG_DESK_LINES {
+        let line = line_of(alloc, front, len)?;
+        let mut desk = new_desk(alloc)?;
+        let got = printed(alloc, &mut desk, line.as_slice())?;
+        assert_eq!(rt; got.as_slice(), wanted.as_bytes(), "{len} bytes");
+    }
+    Ok(())
+}
+
 #[test]
 fn a_failed_write_closes_the_desk(rt: HostRuntime) -> Result<(), Fail> {
     let alloc = rt.alloc();

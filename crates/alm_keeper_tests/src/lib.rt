@@ -15,6 +15,8 @@ mod every_call;
 #[cfg(test)]
 mod formats;
 #[cfg(test)]
+mod largest;
+#[cfg(test)]
 mod pieces;
 #[cfg(test)]
 mod refused;

@@ -38,36 +38,36 @@ fn alarm(area: u8) -> Option<Attr> {
     Attr::new(settings, b"TI-101", b"").ok()
 }
 
-/// A table of so many alarms.
-fn table(alloc: Global, rows: u32) -> Result<Table, Fail> {
+/// A table of so many alarms in so many areas.
+pub fn table_in(alloc: Global, rows: u32, areas: u8) -> Result<Table, Fail> {
     let mut alarms = Vec::new(alloc);
     for number in 0..rows {
-        match alarm((number % 2) as u8) {
+        match alarm((number % u32::from(areas.max(1))) as u8) {
             Some(alarm) => alarms.push(alarm)?,
             None => return Err(Fail::new("an alarm")),
         }
     }
-    match Table::new(alarms, 2) {
+    match Table::new(alarms, areas) {
         Ok(table) => Ok(table),
         Err(_) => Err(Fail::new("a table")),
     }
 }
 
 /// A device of so many bytes.
-fn zeros(alloc: Global, size: usize) -> Result<MemDisk, Fail> {
+pub fn zeros(alloc: Global, size: usize) -> Result<MemDisk, Fail> {
     Ok(MemDisk::new(alloc, vec![in alloc; 0u8; size]?, 200)?)
 }
 
 /// A keeper of a new device.
 fn fresh<D: Disk + Drop>(alloc: Global, disk: D, rows: u32) -> Result<Keeper<D>, Fail> {
-    match format(alloc, disk, &table(alloc, rows)?) {
+    match format(alloc, disk, &table_in(alloc, rows, 2)?) {
         Ok(disk) => open(alloc, disk),
         Err(_) => Err(Fail::new("not formatted")),
     }
 }
 
 /// Whether a batch of one action is stored, the next one.
-fn stores_next<D: Disk + Drop>(alloc: Global, keeper: &mut Keeper<D>) -> Result<bool, Fail> {
+pub fn stores_next<D: Disk + Drop>(alloc: Global, keeper: &mut Keeper<D>) -> Result<bool, Fail> {
     let first = keeper.count().saturating_add(1);
     let batch = batch(alloc, first, &[clock(first.saturating_mul(1000))])?;
     Ok(stores(keeper, &batch))

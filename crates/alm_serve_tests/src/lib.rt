@@ -8,4 +8,6 @@ mod drawn_client;
 #[cfg(test)]
 mod drawn_lines;
 #[cfg(test)]
+mod one_sync;
+#[cfg(test)]
 mod rows;

@@ -1,7 +1,8 @@
 //! Rows of the server.
 
 use crate::client::{asks, connect, gives};
-use alm_disk::MemDisk;
+use crate::one_sync::OneSync;
+use alm_disk::{HeldDisk, MemDisk};
 use alm_keeper::{OpenFault, format};
 use alm_serve::{ServeFault, serve_run};
 use alm_service::worked_table;
@@ -110,6 +111,28 @@ fn clients_that_mean_no_good(rt: HostRuntime) -> Result<(), Fail> {
     let served = serve_run(&rt, rt.alloc(), disk, port, 3, &mut output);
     assert!(rt; served == Ok(0));
     assert_eq!(rt; output.as_slice(), b"serving 20400\nstopped 0\n".as_slice());
+    assert!(rt; clients.join(&rt)?);
+    Ok(())
+}
+
+/// The feed sends a value, and its connection ends without an answer.
+fn unanswered_client(rt: &HostRuntime, port: u16) -> io::Result<bool> {
+    let mut feed = connect(rt, port.saturating_add(16))?;
+    feed.write_all(b"1 VAL 0 800\n")?;
+    Ok(matches!(feed.read(&mut [0_u8; 1]), Ok(0) | Err(_)))
+}
+
+/// A device that fails once it is served ends the server, and answers nobody.
+#[test]
+fn a_device_that_fails_while_it_is_served(rt: HostRuntime) -> Result<(), Fail> {
+    let port = 20_500;
+    let disk = worked_disk(rt.alloc())?.ok_or("format")?;
+    let disk = HeldDisk::new(disk, OneSync::new());
+    let clients = thread::spawn(&rt, move || unanswered_client(&rt, port))?;
+    let mut output = Vec::new(rt.alloc());
+    let served = serve_run(&rt, rt.alloc(), disk, port, 1, &mut output);
+    assert!(rt; served == Err(ServeFault::Storage));
+    assert_eq!(rt; output.as_slice(), b"serving 20500\n".as_slice());
     assert!(rt; clients.join(&rt)?);
     Ok(())
 }

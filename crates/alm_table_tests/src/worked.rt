@@ -1,6 +1,7 @@
 //! A file of four alarms.
 
 use crate::outcome::joined;
+use alm_service::worked_table;
 use alm_table::table_of;
 use alm_types::{Attr, Kind};
 use std::test::Fail;
@@ -18,6 +19,27 @@ const SWITCH: &str =
 
 const LEVEL: &str =
     "[[alarm]]\ntag = \"LI-202\"\narea = 1\npriority = 3\nsetpoint = -50\nkind = \"high\"\n";
+
+/// The table that stands where none is read, as a file.
+const WORKED: [&str; 5] = [
+    SIZES,
+    "[[alarm]]\nkind = \"high\"\nsetpoint = 800\ndeadband = 10\npriority = 1\narea = 0\nmax_shelve = 3600\ntag = \"TI-101\"\n",
+    PRESSURE,
+    SWITCH,
+    "[[alarm]]\nkind = \"high\"\nsetpoint = 50\npriority = 3\narea = 1\ntag = \"LI-202\"\n",
+];
+
+#[test]
+fn the_worked_table_as_a_file(rt: HostRuntime) -> Result<(), Fail> {
+    let alloc = rt.alloc();
+    let text = joined(alloc, &WORKED)?;
+    let (size, table) = table_of(alloc, text.as_str().as_bytes()).map_err(|_| "refused")?;
+    let worked = worked_table(alloc)?;
+    assert_eq!(rt; size, 28_997);
+    assert_eq!(rt; table.areas(), worked.areas());
+    assert_eq!(rt; table.alarms(), worked.alarms());
+    Ok(())
+}
 
 /// An alarm in one row: setpoint, deadband, priority, area, latching, longest shelving.
 fn row(attr: &Attr) -> (Kind, i64, u64, u8, u8, bool, u32) {
