@@ -15,6 +15,7 @@ import subprocess
 import sys
 import time
 import urllib.request
+from dataclasses import replace
 from typing import Callable, Iterator
 
 EXAMPLES = pathlib.Path(__file__).resolve().parent.parent / "examples"
@@ -62,6 +63,11 @@ def toml(table: Table, dice: random.Random | None = None) -> str:
             if dice is None or value != defaults.get(key) or dice.random() < 0.5:
                 lines.append(f"{key} = {written(value)}")
     return "\n".join(lines) + "\n"
+
+
+def replace_text(table: Table, text: str) -> Table:
+    """The table with another text of its first alarm."""
+    return Table(table.size, table.areas, [replace(table.alarms[0], text=text), *table.alarms[1:]])
 
 
 def draw_string(dice: random.Random, letters: str, least: int, most: int) -> str:
@@ -303,6 +309,12 @@ class Clients:
         for row, told in faults.items():
             run = tool("csv2toml.py", self.write("table.csv", head + row))
             check(run.returncode == 1 and told in run.stderr and not run.stdout, row, run.stderr)
+        run = tool("csv2toml.py", self.write("table.csv", rows.replace("Hot,", "Hot").replace(",", ";")))
+        check(read_table(run.stdout) == replace_text(wanted, 'Hot \\ "very"'), run.stdout, run.stderr)
+        with open(self.path("latin.csv"), "wb") as file:
+            file.write((head + "TI-1,high,1,1,0,,,,\nTI-2,high,1,1,0,,,,in °C\n").encode("latin-1"))
+        run = tool("csv2toml.py", self.path("latin.csv"))
+        check(run.returncode == 1 and "row 3, text: " in run.stderr and "isn't allowed" in run.stderr and not run.stdout, run.stderr)
         run = tool("csv2toml.py", self.write("table.csv", "tag,prio\n"))
         check(run.returncode == 1 and "unknown columns ['prio']" in run.stderr, run.stderr)
         return "csv2toml.py"
