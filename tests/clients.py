@@ -29,6 +29,7 @@ from table_file import (CALM_SEGMENT, KINDS, LEAST_SEGMENT, READING_LIMIT, SHELV
                         read_table, written)
 
 VERSION = (EXAMPLES.parent / "VERSION").read_text(encoding="ascii").strip()
+OPERATING = EXAMPLES.parent / "docs" / "OPERATING.md"
 PLANT, REFINERY = str(EXAMPLES / "plant.toml"), str(EXAMPLES / "refinery.toml")
 TAG_BYTES, TEXT_BYTES = bytes(range(0x21, 0x7F)).decode(), bytes(range(0x20, 0x7F)).decode()
 TEXT_LIMIT = 80
@@ -441,7 +442,9 @@ class Clients:
 
 
     def units(self) -> str:
-        """systemd takes the units, with programs that are there."""
+        """The page installs this version. systemd takes the units, with programs that are there."""
+        installed = set(re.findall(r"/opt/alarms-([0-9.]+[0-9])", OPERATING.read_text(encoding="utf-8")))
+        check(installed == {VERSION}, OPERATING.name, "installs", installed, "and this is", VERSION)
         if not shutil.which("systemd-analyze"):
             return "no systemd: units left out"
         places = {f"/opt/alarms-{VERSION}/alm_server": self.program, f"/opt/alarms-{VERSION}/examples": str(EXAMPLES), "/usr/bin/python3": sys.executable}
