@@ -12,8 +12,8 @@ Loads (--loads takes names, and beginnings of names): closed_1, closed_4, closed
 and _random, requests at their own times, so many a second in all; idle, 18 connections that say nothing, whose cpu is per cent of a core.
 --largest: 16,384 alarms in 64 areas and segments of 452,651 bytes, else 16 alarms and segments of 16 MiB.
 
-A line for each load and server: medians of the turns; beside the last server's, requests a second, p50 and p99; beside p50 of its own closed_1, p50 and
-p99. Each turn stands on standard error.
+A line for each load and server: medians of the turns (the memory and the steal too); beside the last server's, requests a second, p50, p99 and the
+processor's time a request; beside p50 of its own closed_1, p50 and p99. Each turn stands on standard error.
 """
 import argparse
 import collections
@@ -145,12 +145,12 @@ def print_table(names: list[str], turns: dict[tuple[str, str], list[dict[str, fl
     """The medians, and what they are beside others."""
     medians = {key: {figure: statistics.median(made[figure] for made in all_made) for figure in all_made[0]} for key, all_made in turns.items()}
     print(f"{'load':26} {'server':8} {'a second':>9} {'p50 us':>7} {'p99 us':>7} {'greatest':>8} {'late99':>6} {'cpu us':>7} {'a batch':>7} {'MB':>5} "
-          f"{'steal%':>6} | {'rate':>5} {'p50':>5} {'p99':>5} beside {names[-1]} | {'p50':>5} {'p99':>6} beside a lone p50")
+          f"{'steal%':>6} | {'rate':>5} {'p50':>5} {'p99':>5} {'cpu':>5} beside {names[-1]} | {'p50':>5} {'p99':>6} beside a lone p50")
     for (load, name), figures in medians.items():
         cells = [f"{figures[figure]:{width}.{places}f}" if figure in figures else "-".rjust(width)
                  for figure, width, places in zip(FIGURES, (9, 7, 7, 8, 6, 7, 7, 5, 6), (0, 0, 0, 0, 0, 2, 1, 1, 1))]
         other, lone = medians[load, names[-1]], medians.get(("closed_1", name))
-        cells += ["|", *(ratio(figures, figure, other, figure, 5) for figure in ("rate", "p50", "p99")), " " * (7 + len(names[-1])), "|"]
+        cells += ["|", *(ratio(figures, figure, other, figure, 5) for figure in ("rate", "p50", "p99", "cpu")), " " * (7 + len(names[-1])), "|"]
         cells += [ratio(figures, "p50", lone, "p50", 5), ratio(figures, "p99", lone, "p50", 6)]
         print(f"{load:26} {name:8}", *cells)
 
