@@ -83,23 +83,35 @@ class Bench:
     def syncs(self) -> int:
         return int.from_bytes((self.folder / "count").read_bytes(), "little")
 
+    def client(self, verb: str, seconds: float, *words: str) -> list[str]:
+        return [*CLASS, str(self.folder / "client"), str(self.port), verb, str(seconds), *words]
+
     def measure(self, program: str, load: str, seconds: float) -> dict[str, float]:
         """A turn of a load."""
         (self.folder / "count").unlink(missing_ok=True)
         with Server(self, self.words(program)) as server:
-            verb, *words = load.split()
-            before, syncs, cpu = stolen(), self.syncs(), server.cpu()
-            run = subprocess.run([*CLASS, self.folder / "client", str(self.port), verb, str(seconds), *words], check=True, capture_output=True, text=True)
-            cpu, syncs, after = server.cpu() - cpu, self.syncs() - syncs, stolen()
-            steal = 100 * (after[0] - before[0]) / max(1, after[1] - before[1])
-            figures = {"memory": server.memory(), "steal": steal}
-            if not run.stdout:
-                return {**figures, "cpu": 100 * cpu / seconds}
-            rate, p50, p99, greatest, late, requests, accepted = map(float, run.stdout.split())
-            if accepted != requests:
-                sys.exit(f"{load}: {accepted} of {requests} accepted")
-            return {**figures, "rate": rate, "p50": p50, "p99": p99, "greatest": greatest, "late": late, "cpu": 1e6 * cpu / requests,
-                    "batch": 2 * accepted / max(1, syncs)}
+            before, took = stolen(), self.idle if load == "idle" else self.load
+            figures = took(server, load.split(), seconds)
+            after = stolen()
+            return {**figures, "memory": server.memory(), "steal": 100 * (after[0] - before[0]) / max(1, after[1] - before[1])}
+
+    def idle(self, server: "Server", _: list[str], seconds: float) -> dict[str, float]:
+        """Per cent of a core, from a second behind the connections on."""
+        with subprocess.Popen(self.client("idle", seconds + 3)):
+            time.sleep(1)
+            before = server.cpu()
+            time.sleep(seconds)
+            return {"cpu": 100 * (server.cpu() - before) / seconds}
+
+    def load(self, server: "Server", load: list[str], seconds: float) -> dict[str, float]:
+        """What the client prints, and microseconds of the processor and actions a batch."""
+        syncs, cpu = self.syncs(), server.cpu()
+        run = subprocess.run(self.client(load[0], seconds, *load[1:]), check=True, stdout=subprocess.PIPE, text=True)
+        cpu, syncs = server.cpu() - cpu, self.syncs() - syncs
+        rate, p50, p99, greatest, late, requests, accepted = map(float, run.stdout.split())
+        if accepted != requests:
+            sys.exit(f"{load}: {accepted} of {requests} accepted")
+        return {"rate": rate, "p50": p50, "p99": p99, "greatest": greatest, "late": late, "cpu": 1e6 * cpu / requests, "batch": 2 * accepted / max(1, syncs)}
 
 
 class Server:
