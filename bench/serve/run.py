@@ -17,6 +17,7 @@ processor's time a request; beside p50 of its own closed_1, p50 and p99. Each tu
 """
 import argparse
 import collections
+import math
 import os
 import pathlib
 import shutil
@@ -106,7 +107,9 @@ class Bench:
     def load(self, server: "Server", load: list[str], seconds: float) -> dict[str, float]:
         """What the client prints, and microseconds of the processor and actions a batch."""
         syncs, cpu = self.syncs(), server.cpu()
-        run = subprocess.run(self.client(load[0], seconds, *load[1:]), check=True, stdout=subprocess.PIPE, text=True)
+        run = subprocess.run(self.client(load[0], seconds, *load[1:]), stdout=subprocess.PIPE, text=True)
+        if run.returncode:  # the server can't keep up, and the client has said so
+            return {"rate": 0.0, **dict.fromkeys(("p50", "p99", "greatest", "late", "cpu", "batch"), math.inf)}
         cpu, syncs = server.cpu() - cpu, self.syncs() - syncs
         rate, p50, p99, greatest, late, requests, accepted = map(float, run.stdout.split())
         if accepted != requests:
