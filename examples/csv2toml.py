@@ -4,15 +4,17 @@
     examples/csv2toml.py TABLE.csv [--segment BYTES] > TABLE.toml
 
 The first row names the columns, by the keys of docs/TABLE.md: tag, kind, setpoint, priority and area have to be there; deadband, max_shelve,
-latching (true or false) and text may be. An empty cell stands for a key that is left out. The number of areas is one more than the greatest,
-and `size` is worked out: 926,067 bytes for four alarms in two areas, more with a longer segment.
+latching (true or false) and text may be. Cells are separated by commas, or by semicolons where row 1 has one. An empty cell stands for a key
+that is left out. The number of areas is one more than the greatest, and `size` is worked out: 926,067 bytes for four alarms in two areas, more
+with a longer segment.
 
 A fault is told with its row, as the spreadsheet counts them, and its column; nothing is printed then, and the status is 1.
 """
 import argparse
 import csv
+import io
 import sys
-from typing import Callable, Iterable
+from typing import Callable
 
 from table_file import ALARM_LIMIT, AREA_LIMIT, CALM_SEGMENT, KINDS, READING_LIMIT, SHELVE_LIMIT, device_size, written
 
@@ -79,9 +81,10 @@ def read_row(cells: dict[str, str]) -> dict[str, object]:
     return alarm
 
 
-def read_rows(lines: Iterable[str]) -> list[dict[str, object]]:
+def read_rows(text: str) -> list[dict[str, object]]:
     """The alarms of a CSV text."""
-    rows = csv.DictReader(lines, skipinitialspace=True)
+    separator = ";" if ";" in text.partition("\n")[0] else ","
+    rows = csv.DictReader(io.StringIO(text, newline=""), delimiter=separator, skipinitialspace=True)
     columns = rows.fieldnames or []
     unknown = [name for name in columns if name not in READERS]
     missing = [name for name in REQUIRED if name not in columns]
@@ -115,8 +118,9 @@ def main() -> None:
     words.add_argument("--segment", type=int, default=CALM_SEGMENT, help="bytes of a segment of the device")
     chosen = words.parse_args()
     try:
-        with open(chosen.table, encoding="utf-8-sig", newline="") as file:
-            alarms = read_rows(file)
+        # a byte that is no UTF-8 becomes a character that no cell may have, and so is told with its row
+        with open(chosen.table, encoding="utf-8-sig", errors="surrogateescape", newline="") as file:
+            alarms = read_rows(file.read())
     except (Fault, OSError) as fault:
         sys.exit(f"csv2toml: {fault}")
     print_table(alarms, chosen.segment)

@@ -15,6 +15,7 @@ import subprocess
 import sys
 import time
 import urllib.request
+from dataclasses import replace
 from typing import Callable, Iterator
 
 EXAMPLES = pathlib.Path(__file__).resolve().parent.parent / "examples"
@@ -28,6 +29,7 @@ from table_file import (CALM_SEGMENT, KINDS, LEAST_SEGMENT, READING_LIMIT, SHELV
                         read_table, written)
 
 VERSION = (EXAMPLES.parent / "VERSION").read_text(encoding="ascii").strip()
+OPERATING = EXAMPLES.parent / "docs" / "OPERATING.md"
 PLANT, REFINERY = str(EXAMPLES / "plant.toml"), str(EXAMPLES / "refinery.toml")
 TAG_BYTES, TEXT_BYTES = bytes(range(0x21, 0x7F)).decode(), bytes(range(0x20, 0x7F)).decode()
 TEXT_LIMIT = 80
@@ -62,6 +64,11 @@ def toml(table: Table, dice: random.Random | None = None) -> str:
             if dice is None or value != defaults.get(key) or dice.random() < 0.5:
                 lines.append(f"{key} = {written(value)}")
     return "\n".join(lines) + "\n"
+
+
+def replace_text(table: Table, text: str) -> Table:
+    """The table with another text of its first alarm."""
+    return Table(table.size, table.areas, [replace(table.alarms[0], text=text), *table.alarms[1:]])
 
 
 def draw_string(dice: random.Random, letters: str, least: int, most: int) -> str:
@@ -303,6 +310,12 @@ class Clients:
         for row, told in faults.items():
             run = tool("csv2toml.py", self.write("table.csv", head + row))
             check(run.returncode == 1 and told in run.stderr and not run.stdout, row, run.stderr)
+        run = tool("csv2toml.py", self.write("table.csv", rows.replace("Hot,", "Hot").replace(",", ";")))
+        check(read_table(run.stdout) == replace_text(wanted, 'Hot \\ "very"'), run.stdout, run.stderr)
+        with open(self.path("latin.csv"), "wb") as file:
+            file.write((head + "TI-1,high,1,1,0,,,,\nTI-2,high,1,1,0,,,,in °C\n").encode("latin-1"))
+        run = tool("csv2toml.py", self.path("latin.csv"))
+        check(run.returncode == 1 and "row 3, text: " in run.stderr and "isn't allowed" in run.stderr and not run.stdout, run.stderr)
         run = tool("csv2toml.py", self.write("table.csv", "tag,prio\n"))
         check(run.returncode == 1 and "unknown columns ['prio']" in run.stderr, run.stderr)
         return "csv2toml.py"
@@ -429,7 +442,9 @@ class Clients:
 
 
     def units(self) -> str:
-        """systemd takes the units, with programs that are there."""
+        """The page installs this version. systemd takes the units, with programs that are there."""
+        installed = set(re.findall(r"/opt/alarms-([0-9.]+[0-9])", OPERATING.read_text(encoding="utf-8")))
+        check(installed == {VERSION}, OPERATING.name, "installs", installed, "and this is", VERSION)
         if not shutil.which("systemd-analyze"):
             return "no systemd: units left out"
         places = {f"/opt/alarms-{VERSION}/alm_server": self.program, f"/opt/alarms-{VERSION}/examples": str(EXAMPLES), "/usr/bin/python3": sys.executable}

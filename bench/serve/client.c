@@ -1,14 +1,17 @@
 /* The clients of the bench, in one thread: the same lines for either server.
-     client PORT load LINES WINDOW MOMENT   18 connections with so many lines each, so many of them unanswered at a time:
-                                            prints seconds, requests, accepted; with one at a time also the 99th latency of a
-                                            request and the greatest, in microseconds
-     client PORT lone LINES                 the feed alone, one line at a time: prints p50, p99 and the greatest in microseconds,
-                                            accepted
-     client PORT idle SECONDS               18 connections that say nothing
-   Each line is accepted in whatever order the slots come, so that either server has the same to do: the clock moves, the feed's
-   alarm comes and goes, and each console takes an alarm of its own out of service and back. An even number of lines leaves the
-   alarms as they were. Replies have to come in the order of the lines. */
+     client PORT closed SECONDS CLIENTS WINDOW           each asks again as soon as fewer than so many of its requests are unanswered
+     client PORT open SECONDS CLIENTS RATE regular       requests come at their own times, so many a second in all, at the same distance
+     client PORT open SECONDS CLIENTS RATE random        the same, each at a drawn moment of a drawn client
+     client PORT idle SECONDS                            18 connections that say nothing
+   One client is the feed, four are the feed and three consoles, 18 all slots. The first tenth of the seconds isn't counted. closed and open
+   print: requests a second; their 50th and 99th latency and the greatest, in microseconds; how late the client itself was for 99 of 100;
+   how many requests there were, and how many were accepted. A request's latency begins where it was due, so that one who waits to be sent
+   counts as one who waits for its reply.
+   Each line is accepted in whatever order the slots come, so that either server has the same to do: the clock moves, the feed's alarm comes
+   and goes, and each console takes an alarm of its own out of service and back. Replies have to come in the order of the lines. */
+#define _GNU_SOURCE
 #include <arpa/inet.h>
+#include <math.h>
 #include <netinet/tcp.h>
 #include <poll.h>
 #include <stdio.h>
@@ -18,16 +21,25 @@
 #include <time.h>
 #include <unistd.h>
 
-enum { SLOTS = 18, FEED = 16, CLOCK = 17, ROOM = 16384 };
+enum { SLOTS = 18, FEED = 16, CLOCK = 17, ROOM = 16384, LINE = 64, OUT = 1 << 16 };
 
 struct client {
-    int socket;
-    long sent, answered, accepted;
-    int held; /* bytes of a reply that hasn't ended yet */
+    int slot, socket;
+    long due, sent, answered, accepted; /* requests so far */
+    int held;                           /* bytes of a reply that hasn't ended yet */
     char reply[ROOM];
+    double at[OUT]; /* when request i was due, at i modulo OUT */
+};
+
+struct times {
+    double *took;
+    long count, room;
 };
 
 static struct client clients[SLOTS];
+static int count;
+static double counted; /* the moment from which on requests are counted */
+static struct times latency, lateness;
 
 static void fail(const char *what) {
     perror(what);
@@ -48,37 +60,23 @@ static int dial(int port) {
     return made;
 }
 
-/* Writes line `i` of a slot, and tells its length. */
-static int put_line(char *line, int slot, long i, long moment) {
-    if (slot == CLOCK) return sprintf(line, "%ld CLOCK %ld\n", i, moment + i);
-    if (slot == FEED) return sprintf(line, "%ld VAL 0 %d\n", i, i % 2 ? 700 : 800);
-    return sprintf(line, "%ld OOS %d %s\n", i, slot, i % 2 ? "OFF" : "ON");
-}
-
-/* Sends lines until so many are unanswered, in one write. */
-static void send_up_to(int slot, long lines, long window, long moment) {
-    struct client *client = &clients[slot];
-    char text[ROOM];
-    int length = 0;
-    while (client->sent < lines && client->sent - client->answered < window && length < ROOM - 64)
-        length += put_line(text + length, slot, client->sent++, moment);
-    if (length && write(client->socket, text, length) != length) fail("write");
-}
-
-/* Reads what has come and judges each whole reply. */
-static void take_replies(struct client *client) {
-    int got = read(client->socket, client->reply + client->held, ROOM - client->held);
-    if (got <= 0) fail("read");
-    char *from = client->reply, *to = from + client->held + got, *end;
-    while ((end = memchr(from, '\n', to - from))) {
-        char *word;
-        if (strtol(from, &word, 10) != client->answered) fail("a reply out of order");
-        client->answered++;
-        client->accepted += !strncmp(word, " OK ", 4);
-        from = end + 1;
+static void dial_all(int port, int wanted) {
+    count = wanted;
+    for (int i = 0; i < count; i++) {
+        clients[i].slot = i == 0 ? FEED : i == SLOTS - 1 ? CLOCK : i - 1;
+        clients[i].socket = dial(port + clients[i].slot);
     }
-    client->held = to - from;
-    memmove(client->reply, from, client->held);
+}
+
+/* Notes a time, where its request is one that counts. */
+static void note(struct times *times, double due, double took) {
+    if (due < counted) return;
+    if (times->count == times->room) {
+        times->room = times->room ? 2 * times->room : 1 << 16;
+        times->took = realloc(times->took, times->room * sizeof *times->took);
+        if (!times->took) fail("realloc");
+    }
+    times->took[times->count++] = took * 1e6;
 }
 
 static int by_size(const void *one, const void *other) {
@@ -86,64 +84,120 @@ static int by_size(const void *one, const void *other) {
     return (a > b) - (a < b);
 }
 
-/* Room for so many latencies. */
-static double *latencies(long lines) {
-    double *took = malloc(lines * sizeof *took);
-    if (!took) fail("malloc");
-    return took;
+/* The time that so many of a hundred don't exceed. The times are in order. */
+static double hundredth(struct times *times, int of_hundred) {
+    long at = times->count * of_hundred / 100;
+    return times->count ? times->took[at < times->count ? at : times->count - 1] : 0;
 }
 
-static void load(long lines, long window, long moment) {
-    struct pollfd polls[SLOTS];
-    double sent[SLOTS], *took = latencies(SLOTS * lines);
-    long accepted = 0, open = SLOTS, done = 0;
-    double begin = now();
-    for (int slot = 0; slot < SLOTS; slot++) {
-        polls[slot] = (struct pollfd){.fd = clients[slot].socket, .events = POLLIN};
-        sent[slot] = now();
-        send_up_to(slot, lines, window, moment);
-    }
-    while (open) {
-        if (poll(polls, SLOTS, 10000) <= 0) fail("no reply in ten seconds");
-        for (int slot = 0; slot < SLOTS; slot++) {
-            if (!polls[slot].revents) continue;
-            take_replies(&clients[slot]);
-            if (window == 1) took[done++] = (now() - sent[slot]) * 1e6;
-            sent[slot] = now();
-            send_up_to(slot, lines, window, moment);
-            if (clients[slot].answered < lines) continue;
-            polls[slot].fd = -1;
-            open--;
+/* Writes line `i` of a slot, and tells its length. */
+static int put_line(char *line, int slot, long i) {
+    if (slot == CLOCK) return sprintf(line, "%ld CLOCK %ld\n", i, i + 1);
+    if (slot == FEED) return sprintf(line, "%ld VAL 0 %d\n", i, i % 2 ? 700 : 800);
+    return sprintf(line, "%ld OOS %d %s\n", i, slot, i % 2 ? "OFF" : "ON");
+}
+
+static void make_due(struct client *client, double at) {
+    if (client->due - client->answered == OUT) fail("so many requests are unanswered that the load can't be kept up");
+    client->at[client->due++ % OUT] = at;
+}
+
+/* Sends what is due, in as few writes as there is room for. */
+static void send_due(struct client *client) {
+    char text[ROOM];
+    while (client->sent < client->due) {
+        double time = now();
+        int length = 0;
+        while (client->sent < client->due && length < ROOM - LINE) {
+            double due = client->at[client->sent % OUT];
+            note(&lateness, due, time - due);
+            length += put_line(text + length, client->slot, client->sent++);
         }
+        if (write(client->socket, text, length) != length) fail("write");
     }
-    double seconds = now() - begin;
-    for (int slot = 0; slot < SLOTS; slot++) accepted += clients[slot].accepted;
-    printf("%.6f %ld %ld", seconds, SLOTS * lines, accepted);
-    qsort(took, done, sizeof *took, by_size);
-    if (done) printf(" %.0f %.0f", took[done * 99 / 100], took[done - 1]);
-    printf("\n");
 }
 
-static void lone(long lines) {
-    double *took = latencies(lines);
-    for (long i = 0; i < lines; i++) {
-        double begin = now();
-        send_up_to(FEED, lines, 1, 0);
-        while (clients[FEED].answered <= i) take_replies(&clients[FEED]);
-        took[i] = (now() - begin) * 1e6;
+/* Reads what has come and judges each whole reply. */
+static void take_replies(struct client *client) {
+    int got = read(client->socket, client->reply + client->held, ROOM - client->held);
+    if (got <= 0) fail("read");
+    double time = now();
+    char *from = client->reply, *to = from + client->held + got, *end;
+    while ((end = memchr(from, '\n', to - from))) {
+        char *word;
+        if (strtol(from, &word, 10) != client->answered) fail("a reply out of order");
+        double due = client->at[client->answered++ % OUT];
+        note(&latency, due, time - due);
+        client->accepted += !strncmp(word, " OK ", 4);
+        from = end + 1;
     }
-    qsort(took, lines, sizeof *took, by_size);
-    printf("%.0f %.0f %.0f %ld\n", took[lines / 2], took[lines * 99 / 100], took[lines - 1], clients[FEED].accepted);
+    client->held = to - from;
+    memmove(client->reply, from, client->held);
 }
 
-int main(int count, char **words) {
-    if (count < 4) return 1;
-    int port = atoi(words[1]);
-    long number = atol(words[3]);
-    int alone = !strcmp(words[2], "lone");
-    for (int slot = alone ? FEED : 0; slot < (alone ? FEED + 1 : SLOTS); slot++) clients[slot].socket = dial(port + slot);
-    if (alone) lone(number);
-    else if (!strcmp(words[2], "load") && count == 6) load(number, atol(words[4]), atol(words[5]));
-    else sleep(number);
+/* Waits for a reply, at most until a moment. */
+static void wait_until(double moment) {
+    struct pollfd polls[SLOTS];
+    double rest = fmax(moment - now(), 0);
+    struct timespec time = {rest, (rest - floor(rest)) * 1e9};
+    for (int i = 0; i < count; i++) polls[i] = (struct pollfd){.fd = clients[i].socket, .events = POLLIN};
+    if (ppoll(polls, count, &time, NULL) < 0) fail("ppoll");
+    for (int i = 0; i < count; i++)
+        if (polls[i].revents) take_replies(&clients[i]);
+}
+
+static int all_answered(void) {
+    for (int i = 0; i < count; i++)
+        if (clients[i].answered < clients[i].due) return 0;
+    return 1;
+}
+
+static void closed(double end, long window) {
+    for (double time = now(); time < end || !all_answered(); time = now()) {
+        if (time > end + 10) fail("no reply in ten seconds");
+        for (int i = 0; i < count; i++) {
+            double at = now();
+            while (at < end && clients[i].due - clients[i].answered < window) make_due(&clients[i], at);
+            send_due(&clients[i]);
+        }
+        wait_until(time + 10);
+    }
+}
+
+static void open_loop(double begin, double end, double rate, int drawn) {
+    double next = begin;
+    long turn = 0;
+    srand48(1);
+    for (double time = now(); time < end || !all_answered(); time = now()) {
+        if (time > end + 10) fail("no reply in ten seconds");
+        while (next <= time && next < end) {
+            make_due(&clients[(drawn ? lrand48() : turn++) % count], next);
+            next += drawn ? -log(1 - drand48()) / rate : 1 / rate;
+        }
+        for (int i = 0; i < count; i++) send_due(&clients[i]);
+        wait_until(next < end ? next : time + 10);
+    }
+}
+
+static void print_figures(double end) {
+    long all = 0, accepted = 0;
+    for (int i = 0; i < count; i++) all += clients[i].due, accepted += clients[i].accepted;
+    qsort(latency.took, latency.count, sizeof(double), by_size);
+    qsort(lateness.took, lateness.count, sizeof(double), by_size);
+    printf("%.0f %.0f %.0f %.0f %.0f %ld %ld\n", latency.count / (end - counted), hundredth(&latency, 50), hundredth(&latency, 99),
+           hundredth(&latency, 100), hundredth(&lateness, 99), all, accepted);
+}
+
+int main(int words, char **word) {
+    if (words < 4) return 1;
+    double seconds = atof(word[3]);
+    int is_open = words == 7 && !strcmp(word[2], "open"), is_closed = words == 6 && !strcmp(word[2], "closed");
+    dial_all(atoi(word[1]), is_open || is_closed ? atoi(word[4]) : SLOTS);
+    double begin = now(), end = begin + seconds;
+    counted = begin + seconds / 10;
+    if (is_closed) closed(end, atol(word[5]));
+    else if (is_open) open_loop(begin, end, atof(word[5]), !strcmp(word[6], "random"));
+    else sleep(seconds);
+    if (is_open || is_closed) print_figures(end);
     return 0;
 }

@@ -5,7 +5,7 @@ use Rattle.std.specs.Ordering.{match_ordering}
 use Rattle.std.specs.BTreeMap.{insert_entry}
 use Rattle.toml.specs.declared.value.Value.{Value}
 use Rattle.toml.specs.View.{view, members_view}
-use Rattle.toml.specs.Data.{Data, push_item, no_items, item, table}
+use Rattle.toml.specs.Data.{push_item, no_items, item, table}
 use Rattle.alm_types.specs.declared.attr.Attr.{Attr}
 use Rattle.alm_export.specs.Tree.{with_member, alarm_members, alarm_items}
 

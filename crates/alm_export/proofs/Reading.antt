@@ -1,8 +1,7 @@
 -- The tree of a plant's table reads as that table.
-use Rattle.std.proofs.Common.{◌≡◌, ℕ, ◌+◌, ◌≤◌, ◌<◌, ◌-◌, suc, max, List, [], ◌∷◌, map, length, All, Some, None, Ok, true, ◌&&◌, nat_le, le-leb, IsTrue, refl, ap, rules, arith}
+use Rattle.std.proofs.Common.{◌≡◌, ℕ, ◌+◌, ◌≤◌, ◌<◌, ◌-◌, suc, List, [], ◌∷◌, map, length, All, Some, Ok, true, ◌&&◌, nat_le, le-leb, refl, ap, rules, arith}
 use Rattle.std.proofs.lemmas.List.Elements.{All-head, All-tail}
 use Rattle.toml.specs.Data.{items_depth, members_depth}
-use Rattle.toml.specs.View.{items_of}
 use Rattle.alm_types.specs.declared.attr.Attr.{Attr}
 use Rattle.alm_types.specs.declared.kind.Kind.{Kind}
 use Rattle.alm_types.specs.declared.kind.Kind.TheVariants.{High, Low, Discrete}
