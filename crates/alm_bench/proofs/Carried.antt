@@ -9,13 +9,13 @@ use Rattle.alm_keeper.specs.AsStore.{StandsFor, IsSpent}
 use Rattle.alm_model.specs.Plant.{Condensed}
 use Rattle.alm_bench.specs.declared.setup.Setup as T
 use Rattle.alm_bench.specs.declared.setup.Setup.TheVariants.{Open, Shut, Gone}
-use Rattle.alm_bench.specs.declared.step.Step.{Step}
-use Rattle.alm_bench.specs.declared.step.Step.TheVariants.{Send, Take, Seal, Fetch, Call, Publish, Release, GiveBack, Receive, Look, Crash, Reopen}
-use Rattle.alm_bench.specs.declared.event.Event.{Event}
-use Rattle.alm_bench.specs.declared.event.Event.TheVariants.{Skipped}
-use Rattle.alm_bench.specs.World.{World, Answers, after}
-use Rattle.alm_bench.specs.Headline.{Sight, Moves}
-use Rattle.alm_bench.specs.Matches.{IsInner}
+use Rattle.alm_pipeline.specs.declared.step.Step.{Step}
+use Rattle.alm_pipeline.specs.declared.step.Step.TheVariants.{Send, Take, Seal, Fetch, Call, Publish, Release, GiveBack, Receive, Look, Crash, Reopen}
+use Rattle.alm_pipeline.specs.declared.event.Event.{Event}
+use Rattle.alm_pipeline.specs.declared.event.Event.TheVariants.{Skipped}
+use Rattle.alm_pipeline.specs.World.{World, Answers, after}
+use Rattle.alm_pipeline.specs.Headline.{Sight, Moves}
+use Rattle.alm_pipeline.specs.Matches.{IsInner}
 use Rattle.alm_bench.specs.Stands.{IsSetup, sight, IsThere, serves_well}
 
 module _ {D : Type 0} {g : Ghosts (Keeper D) D} {d : Disk.Ghosts D} where
@@ -32,7 +32,7 @@ module _ {D : Type 0} {g : Ghosts (Keeper D) D} {d : Disk.Ghosts D} where
 
   -- a bench that stands for a world has an honest device
   pub stands_honest : (w : World) (s : T.Setup D D g d) → IsSetup w s → serves_well s
-  stands_honest w (Open parts) is = is.fits.honest
+  stands_honest w (Open pipeline) is = is.1
   stands_honest w (Shut disk) is = is.1
   stands_honest w Gone is = is
 

@@ -1,15 +1,5 @@
 pub mod Crashes
-pub mod Lists
-pub mod Headed
 pub mod Reopened
-pub mod Runs
-pub mod Moved
-pub mod Calls
-pub mod Ready
-pub mod Results
-pub mod Shown
-pub mod Placing
-pub mod Counts
 pub mod Carried
 pub mod Order
 pub mod Told

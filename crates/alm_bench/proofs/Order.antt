@@ -7,11 +7,11 @@ use Rattle.alm_types.specs.declared.entry.Entry.{Entry}
 use Rattle.alm_model.specs.Plant.{Condensed}
 use Rattle.alm_model.specs.Judging.{accepted_of}
 use Rattle.alm_model.proofs.Legal.{accepted_append}
-use Rattle.alm_bench.specs.declared.step.Step.{Step}
-use Rattle.alm_bench.specs.declared.step.Step.TheVariants.{Send, Take, Seal, Fetch, Call, Publish, Release, GiveBack, Receive, Look, Crash, Reopen}
-use Rattle.alm_bench.specs.declared.event.Event.{Event}
-use Rattle.alm_bench.specs.declared.event.Event.TheVariants.{Sent, Took, Sealed, Fetched, Committed, Failed, Published, Released, GaveBack, Received, Looked, Crashed, Opened}
-use Rattle.alm_bench.specs.World.{World, Stage, Nothing, Held, Stored, Shown, Answers, IsSpent, after, entry_of, fetches, fresh, next_notes, shows, shut, stores, tells, told_more, with_entry}
+use Rattle.alm_pipeline.specs.declared.step.Step.{Step}
+use Rattle.alm_pipeline.specs.declared.step.Step.TheVariants.{Send, Take, Seal, Fetch, Call, Publish, Release, GiveBack, Receive, Look, Crash, Reopen}
+use Rattle.alm_pipeline.specs.declared.event.Event.{Event}
+use Rattle.alm_pipeline.specs.declared.event.Event.TheVariants.{Sent, Took, Sealed, Fetched, Committed, Failed, Published, Released, GaveBack, Received, Looked, Crashed, Opened}
+use Rattle.alm_pipeline.specs.World.{World, Stage, Nothing, Held, Stored, Shown, Answers, IsSpent, after, entry_of, fetches, fresh, next_notes, shows, shut, stores, tells, told_more, with_entry}
 
 abbrev pub waiting_at : Stage → List Entry
 waiting_at (Held entries) = entries

@@ -11,9 +11,9 @@ use Rattle.alm_store.specs.Opening.{HasCause}
 use Rattle.alm_store.specs.declared.open_fault.OpenFault.{OpenFault}
 use Rattle.alm_store.specs.declared.open_fault.OpenFault.TheVariants.{Unformatted, Damaged, Disk, OutOfMemory}
 use Rattle.alm_types.specs.declared.action.Action.{Action}
-use Rattle.alm_bench.specs.World.{IsStorageFault}
+use Rattle.alm_pipeline.specs.World.{IsStorageFault}
 use Rattle.alm_model.proofs.ByStamp.{by-stamp-permutation, by-stamp-rises}
-use Rattle.alm_bench.specs.Headline.{IsFrontPlant, IsSafe}
+use Rattle.alm_pipeline.specs.Headline.{IsFrontPlant, IsSafe}
 
 pub storage_fault : (recovers : List ℕ → Condensed → Type 0) (base : Condensed) (accepted : List Action) (floor : ℕ) (state : DeviceState) (fault : OpenFault) (n n' : ℕ) → ((image : List ℕ) → IsImage state image → IsSafe recovers base accepted floor image) → HasCause recovers state fault n n' → IsStorageFault fault
 storage_fault recovers base accepted floor state Unformatted n n' headline cause = ∥∥₁_elim cause (hlevel props) (λ f. ∥∥₁_elim (headline f.image f.is_image).some (hlevel props) (λ s. f.faulty s.0 s.1))

@@ -13,15 +13,15 @@ use Rattle.alm_board.specs.Fronts.{IsFront}
 use Rattle.alm_board.proofs.FrontLaws.{front_more, front_of, front_self, front_shorter, front_trans}
 use Rattle.alm_flush.specs.declared.held.Held.TheVariants as V
 use Rattle.alm_flush.proofs.HeldLaws.{published_split}
-use Rattle.alm_bench.specs.declared.step.Step.{Step}
-use Rattle.alm_bench.specs.declared.step.Step.TheVariants.{Send, Take, Seal, Fetch, Call, Publish, Release, GiveBack, Receive, Look, Crash, Reopen}
-use Rattle.alm_bench.specs.declared.event.Event.{Event}
-use Rattle.alm_bench.specs.declared.event.Event.TheVariants.{Sent, Took, Sealed, Fetched, Committed, Failed, Published, Released, GaveBack, Received, Looked, Crashed, Opened}
-use Rattle.alm_bench.specs.World.{World, Note, Stage, Nothing, Held, Stored, Shown, Answers, after, entry_of, fetches, goes_to, next_at, next_notes, note_of, raised, shows, stores}
-use Rattle.alm_bench.specs.Headline.{Sight, Headline, IsRun, after_all}
+use Rattle.alm_pipeline.specs.declared.step.Step.{Step}
+use Rattle.alm_pipeline.specs.declared.step.Step.TheVariants.{Send, Take, Seal, Fetch, Call, Publish, Release, GiveBack, Receive, Look, Crash, Reopen}
+use Rattle.alm_pipeline.specs.declared.event.Event.{Event}
+use Rattle.alm_pipeline.specs.declared.event.Event.TheVariants.{Sent, Took, Sealed, Fetched, Committed, Failed, Published, Released, GaveBack, Received, Looked, Crashed, Opened}
+use Rattle.alm_pipeline.specs.World.{World, Note, Stage, Nothing, Held, Stored, Shown, Answers, after, entry_of, fetches, goes_to, next_at, next_notes, note_of, raised, shows, stores}
+use Rattle.alm_pipeline.specs.Headline.{Sight, Headline, IsRun, after_all}
 use Rattle.alm_bench.specs.Told.{EndsWith, Tells, TellsUpTo}
 use Rattle.alm_bench.proofs.Order.{InOrder, in_order, shown_at, ready_at, waiting_at, flat_of}
-use Rattle.alm_bench.proofs.Runs.{at_end}
+use Rattle.alm_pipeline.proofs.Runs.{at_end}
 
 -- a list of actions that every later plant begins with
 pub record Holds (w : World) (list : List Action) : Type 0 where

@@ -7,14 +7,14 @@ use Rattle.alm_keeper.specs.AsStore.{StandsFor, IsSpent}
 use Rattle.alm_bench.specs.declared.setup.Setup as T
 use Rattle.alm_bench.specs.declared.setup.Setup.TheVariants.{Open, Shut, Gone}
 use Rattle.alm_bench.specs.declared.bench.Bench.{Bench}
-use Rattle.alm_bench.specs.World.{World}
-use Rattle.alm_bench.specs.Headline.{Headline, Sight}
-use Rattle.alm_bench.specs.Matches.{IsOpen}
+use Rattle.alm_pipeline.specs.World.{World}
+use Rattle.alm_pipeline.specs.Headline.{Headline, Sight}
+use Rattle.alm_pipeline.specs.Matches.{IsOpen}
 
 module _ {D : Type 0} {g : Ghosts (Keeper D) D} {d : Disk.Ghosts D} where
-  -- an open bench has the parts of the world; a closed one has an honest device, of which each image stands for what the world has
+  -- its device is honest: an open bench has the world's pipeline; of a closed one each image stands for what the world has
   abbrev pub IsSetup : World → T.Setup D D g d → Type 0
-  IsSetup w (Open parts) = IsOpen w parts
+  IsSetup w (Open pipeline) = IsOpen w pipeline × g.honest pipeline.flusher.store
   IsSetup w (Shut disk) = (w.closed ≡ true) × d.honest disk × Headline StandsFor IsSpent w (d.state disk)
   IsSetup w Gone = ⊥
 
@@ -23,7 +23,7 @@ module _ {D : Type 0} {g : Ghosts (Keeper D) D} {d : Disk.Ghosts D} where
 
   -- its device
   abbrev pub sight : T.Setup D D g d → Sight
-  sight (Open parts) = record { state = g.device parts.flusher.store; failures = g.failures parts.flusher.store }
+  sight (Open pipeline) = record { state = g.device pipeline.flusher.store; failures = g.failures pipeline.flusher.store }
   sight (Shut disk) = record { state = d.state disk; failures = d.failures disk }
   sight Gone = record { state = record { bytes = []; pending = λ _. false; faulted = false }; failures = 0 }
 
@@ -32,7 +32,7 @@ module _ {D : Type 0} {g : Ghosts (Keeper D) D} {d : Disk.Ghosts D} where
 
   -- it has its device: it isn't in the middle of a step
   abbrev pub IsThere : T.Setup D D g d → Type 0
-  IsThere (Open parts) = Unit {0}
+  IsThere (Open pipeline) = Unit {0}
   IsThere (Shut disk) = Unit {0}
   IsThere Gone = ⊥
 
@@ -41,7 +41,7 @@ module _ {D : Type 0} {g : Ghosts (Keeper D) D} {d : Disk.Ghosts D} where
 
   -- that device does what its trait says
   abbrev pub serves_well : T.Setup D D g d → Type 0
-  serves_well (Open parts) = g.honest parts.flusher.store
+  serves_well (Open pipeline) = g.honest pipeline.flusher.store
   serves_well (Shut disk) = d.honest disk
   serves_well Gone = ⊥
 

@@ -4,11 +4,11 @@ use Rattle.alm_types.specs.declared.action.Action.{Action}
 use Rattle.alm_types.specs.declared.verdict.Verdict.{Verdict}
 use Rattle.alm_types.specs.declared.verdict.Verdict.TheVariants.{Accepted, Refused}
 use Rattle.alm_board.specs.Fronts.{IsFront}
-use Rattle.alm_bench.specs.declared.step.Step.{Step}
-use Rattle.alm_bench.specs.declared.step.Step.TheVariants.{Release, Look}
-use Rattle.alm_bench.specs.declared.event.Event.{Event}
-use Rattle.alm_bench.specs.declared.event.Event.TheVariants.{Released, Looked}
-use Rattle.alm_bench.specs.World.{World, Note, next_notes}
+use Rattle.alm_pipeline.specs.declared.step.Step.{Step}
+use Rattle.alm_pipeline.specs.declared.step.Step.TheVariants.{Release, Look}
+use Rattle.alm_pipeline.specs.declared.event.Event.{Event}
+use Rattle.alm_pipeline.specs.declared.event.Event.TheVariants.{Released, Looked}
+use Rattle.alm_pipeline.specs.World.{World, Note, next_notes}
 
 -- the last action of the list is the one that was accepted
 abbrev pub EndsWith : Verdict → List Action → Type 0

@@ -5,18 +5,15 @@ ghost use Rattle.alm_disk.specs.Device.{IsImage};
 ghost use Rattle.alm_model.specs.Plant.{Condensed};
 ghost use Rattle.alm_keeper.specs.AsStore.{StandsFor, IsSpent};
 ghost use Rattle.alm_store.specs.Opening.{HasCause};
-ghost use Rattle.alm_bench.specs.World.{World, Answers, after, first, shut};
-ghost use Rattle.alm_bench.specs.declared.step.Step.TheVariants as S;
+ghost use Rattle.alm_pipeline.specs.World.{World, Answers, after, first, shut};
+ghost use Rattle.alm_pipeline.specs.declared.step.Step.TheVariants as S;
 
-use crate::event::Event;
 use crate::named::crashed;
-use crate::opened::open_parts;
-use crate::parts::Parts;
 use crate::setup::Setup;
-use crate::step::Step;
 use alm_disk::Crashable;
 use alm_flush::Advance;
 use alm_keeper::{Keeper, OpenFault};
+use alm_pipeline::{Event, Pipeline, Step};
 use alm_store::Store;
 use std::alloc::{AllocError, Global};
 use std::mem::replace;
@@ -31,10 +28,11 @@ where
 }
 
 impl<D: Crashable + Drop> Bench<D> {
-    ghost use Rattle.alm_bench.specs.Matches.{IsInner};
+    ghost use Rattle.alm_pipeline.specs.Matches.{IsInner};
     ghost use Rattle.alm_bench.specs.Stands.{Stands, sight_of, HasDevice, IsHonest};
-    ghost use Rattle.alm_bench.specs.Headline.{Headline, Moves, IsRun, StandOnly, after_all};
-    ghost use Rattle.alm_bench.specs.declared.step.Step.TheVariants as S;
+    ghost use Rattle.alm_pipeline.specs.Headline.{Headline, Moves, IsRun, after_all};
+    ghost use Rattle.alm_bench.specs.StandOnly.{StandOnly};
+    ghost use Rattle.alm_pipeline.specs.declared.step.Step.TheVariants as S;
 
     /// A closed bench.
     pub fn closed(disk: D) -> Bench<D>
@@ -60,9 +58,9 @@ impl<D: Crashable + Drop> Bench<D> {
         ensures no_new_image { D.honest disk → IfErr result (λ e. (image : List ℕ) → IsImage (D.state e.1) image → IsImage (D.state disk) image) }
         ensures cause { D.honest disk → IfErr result (λ e. HasCause StandsFor (D.state disk) e.0 (D.failures disk) (D.failures e.1)) }
     {
-        match open_parts::<Keeper<D>>(alloc, disk) {
-            Ok(parts) => Ok(Bench {
-                setup: Setup::Open(parts),
+        match Pipeline::<Keeper<D>>::open(alloc, disk) {
+            Ok(pipeline) => Ok(Bench {
+                setup: Setup::Open(pipeline),
             }),
             Err(refused) => Err(refused),
         }
@@ -76,7 +74,7 @@ impl<D: Crashable + Drop> Bench<D> {
         ensures failures { D.failures result ≡ (sight_of self).failures }
     {
         match self.setup {
-            Setup::Open(parts) => parts.into_device(),
+            Setup::Open(pipeline) => pipeline.into_device(),
             Setup::Shut(disk) => disk,
             Setup::Gone => unreachable!(),
         }
@@ -87,7 +85,7 @@ impl<D: Crashable + Drop> Bench<D> {
         ensures headline { (w : World) → Stands w self.now → Headline StandsFor IsSpent w (sight_of self.now).state }
     {
         match &self.setup {
-            Setup::Open(parts) => parts.images(),
+            Setup::Open(pipeline) => pipeline.images(),
             Setup::Shut(_) => {}
             Setup::Gone => {}
         }
@@ -115,8 +113,8 @@ impl<D: Crashable + Drop> Bench<D> {
         ensures there { HasDevice self.old → HasDevice self.new }
     {
         match self.take() {
-            Setup::Open(parts) => {
-                let disk = crashed(parts.into_device(), bytes);
+            Setup::Open(pipeline) => {
+                let disk = crashed(pipeline.into_device(), bytes);
                 self.put(Setup::Shut(disk));
                 Event::Crashed
             }
@@ -137,10 +135,10 @@ impl<D: Crashable + Drop> Bench<D> {
         ensures there { HasDevice self.old → HasDevice self.new }
     {
         match self.take() {
-            Setup::Shut(disk) => match open_parts::<Keeper<D>>(alloc, disk) {
-                Ok(parts) => {
-                    let count = parts.count();
-                    self.put(Setup::Open(parts));
+            Setup::Shut(disk) => match Pipeline::<Keeper<D>>::open(alloc, disk) {
+                Ok(pipeline) => {
+                    let count = pipeline.count();
+                    self.put(Setup::Open(pipeline));
                     Event::Opened(count)
                 }
                 Err((fault, disk)) => {
@@ -148,8 +146,8 @@ impl<D: Crashable + Drop> Bench<D> {
                     Event::Unopened(fault)
                 }
             },
-            Setup::Open(parts) => {
-                self.put(Setup::Open(parts));
+            Setup::Open(pipeline) => {
+                self.put(Setup::Open(pipeline));
                 Event::Skipped
             }
             Setup::Gone => Event::Skipped,
@@ -164,21 +162,21 @@ impl<D: Crashable + Drop> Bench<D> {
         ensures there { HasDevice self.old → HasDevice self.new }
     {
         match self.take() {
-            Setup::Open(mut parts) => match parts.call() {
+            Setup::Open(mut pipeline) => match pipeline.call() {
                 Advance::More => {
-                    self.put(Setup::Open(parts));
+                    self.put(Setup::Open(pipeline));
                     Event::More
                 }
                 Advance::Committed => {
-                    self.put(Setup::Open(parts));
+                    self.put(Setup::Open(pipeline));
                     Event::Committed
                 }
                 Advance::Nothing => {
-                    self.put(Setup::Open(parts));
+                    self.put(Setup::Open(pipeline));
                     Event::Skipped
                 }
                 Advance::Failed => {
-                    let disk = parts.into_device();
+                    let disk = pipeline.into_device();
                     self.put(Setup::Shut(disk));
                     Event::Failed
                 }
@@ -200,9 +198,9 @@ impl<D: Crashable + Drop> Bench<D> {
         ensures there { HasDevice self.old → HasDevice self.new }
     {
         match self.take() {
-            Setup::Open(mut parts) => {
-                let event = parts.go(alloc, step);
-                self.put(Setup::Open(parts));
+            Setup::Open(mut pipeline) => {
+                let event = pipeline.go(alloc, step);
+                self.put(Setup::Open(pipeline));
                 event
             }
             Setup::Shut(disk) => {

@@ -7,13 +7,13 @@ ghost use Rattle.alm_model.specs.Plant.{Condensed};
 ghost use Rattle.alm_model.specs.Step.{run};
 ghost use Rattle.alm_board.specs.Fronts.{IsFront};
 ghost use Rattle.alm_keeper.specs.AsStore.{StandsFor, IsSpent};
-ghost use Rattle.alm_bench.specs.World.{first, shut};
-ghost use Rattle.alm_bench.specs.Headline.{Sight, IsRun, after_all};
+ghost use Rattle.alm_pipeline.specs.World.{first, shut};
+ghost use Rattle.alm_pipeline.specs.Headline.{Sight, IsRun, after_all};
 ghost use Rattle.alm_bench.specs.Told.{Tells};
-ghost use Rattle.alm_bench.specs.declared.step.Step.{Step};
-ghost use Rattle.alm_bench.specs.declared.step.Step.TheVariants.{Release};
-ghost use Rattle.alm_bench.specs.declared.event.Event.{Event};
-ghost use Rattle.alm_bench.specs.declared.event.Event.TheVariants.{Released};
+ghost use Rattle.alm_pipeline.specs.declared.step.Step.{Step};
+ghost use Rattle.alm_pipeline.specs.declared.step.Step.TheVariants.{Release};
+ghost use Rattle.alm_pipeline.specs.declared.event.Event.{Event};
+ghost use Rattle.alm_pipeline.specs.declared.event.Event.TheVariants.{Released};
 
 /// In any run, what a step told of the accepted actions is recovered ever after: whatever a crash leaves at the end of the run, it stands for
 /// the plant of a list of actions that begins with those. A reply that is released tells the actions up to its own, a look those that it shows.

@@ -11,26 +11,21 @@
 //! | [`laws`] | what was told or shown in a run is recovered ever after |
 //!
 //! The one contract that is used above is that of [`Bench::run`], and [`life`] says it in one call. The trace is that of a world
-//! of plain lists (specs/World.antt): each event is the answer of its step, and Skipped stands only where the step isn't possible or
+//! of plain lists (alm_pipeline, specs/World.antt): each event is the answer of its step, and Skipped stands only where the step isn't possible or
 //! a look is refused. Before the first step and after each, every image that a crash may leave of the device stands for the plant of
 //! a front of the accepted actions, which holds every action whose reply was released or that a look showed; and each of its lists
-//! is the filter of its alarms, in the order of their stamps (specs/Headline.antt).
+//! is the filter of its alarms, in the order of their stamps (alm_pipeline, specs/Headline.antt).
 //!
 //! The premise is that the device does what its trait says of it, and that it was formatted. Not promised: that any step is possible
 //! again after a failure, that memory suffices, and anything of threads that run beside each other.
 #![tactic(auto)]
 
 mod bench;
-mod event;
 pub mod laws;
 mod named;
-mod opened;
-mod parts;
 mod setup;
-mod step;
 mod whole;
 
+pub use alm_pipeline::{Event, Step};
 pub use bench::Bench;
-pub use event::Event;
-pub use step::Step;
 pub use whole::{life, whole_life};

@@ -1,17 +1,17 @@
 //! What a bench is made of.
 
-use crate::parts::Parts;
 use alm_disk::Crashable;
 use alm_keeper::Keeper;
+use alm_pipeline::Pipeline;
 use alm_store::Store;
 
-/// What a bench is made of: all parts over an open device, or a closed device alone.
+/// What a bench is made of: a pipeline over an open device, or a closed device alone.
 #[derive(Drop)]
 pub enum Setup<D: Crashable + Drop>
 where
     Keeper<D>: Store,
 {
-    Open(Parts<Keeper<D>>),
+    Open(Pipeline<Keeper<D>>),
     Shut(D),
     /// In the middle of a step alone.
     Gone,

@@ -7,14 +7,14 @@ ghost use Rattle.alm_keeper.specs.Moments.{Formats, Goes, FailsIn};
 ghost use Rattle.alm_model.specs.New.{new_plant};
 ghost use Rattle.alm_model.specs.Plant.{Condensed};
 ghost use Rattle.alm_keeper.specs.AsStore.{StandsFor, IsSpent};
-ghost use Rattle.alm_bench.specs.World.{first, shut};
-ghost use Rattle.alm_bench.specs.Headline.{Sight, IsRun, StandOnly};
+ghost use Rattle.alm_pipeline.specs.World.{first, shut};
+ghost use Rattle.alm_pipeline.specs.Headline.{Sight, IsRun};
+ghost use Rattle.alm_bench.specs.StandOnly.{StandOnly};
 
 use crate::bench::Bench;
-use crate::event::Event;
-use crate::step::Step;
 use alm_disk::Crashable;
 use alm_keeper::{FormatFault, format};
+use alm_pipeline::{Event, Step};
 use alm_types::Table;
 use std::alloc::{AllocError, Global};
 

@@ -1,5 +1,5 @@
 use Rattle.alm_keeper.specs.AsStore.{StandsFor, IsSpent}
-use Rattle.alm_bench.specs.World.{first, shut}
+use Rattle.alm_pipeline.specs.World.{first, shut}
 use Rattle.alm_bench.proofs.Order.{shut_order}
 use Rattle.alm_bench.proofs.Told.{each_release_tells}
 use Rattle.alm_bench.proofs.laws.each_reply_tells_its_action.Goals as goal

@@ -1,5 +1,5 @@
 use Rattle.alm_keeper.specs.AsStore.{StandsFor, IsSpent}
-use Rattle.alm_bench.specs.World.{first, shut}
+use Rattle.alm_pipeline.specs.World.{first, shut}
 use Rattle.alm_bench.proofs.Order.{shut_order}
 use Rattle.alm_bench.proofs.Told.{told_is_recovered}
 use Rattle.alm_bench.proofs.laws.what_was_told_is_recovered.Goals as goal

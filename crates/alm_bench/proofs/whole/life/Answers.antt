@@ -1,7 +1,7 @@
 use Rattle.std.proofs.Common.{◌≡◌, subst, sym}
 use Rattle.alm_keeper.specs.AsStore.{StandsFor, IsSpent}
-use Rattle.alm_bench.specs.World.{shut, first}
-use Rattle.alm_bench.specs.Headline.{Sight, IsRun, after_all}
+use Rattle.alm_pipeline.specs.World.{shut, first}
+use Rattle.alm_pipeline.specs.Headline.{Sight, IsRun, after_all}
 use Rattle.alm_bench.specs.Stands.{sight_of}
 use Rattle.alm_bench.proofs.Carried.{stands_honest}
 use Rattle.alm_bench.proofs.whole.life.Goals as goal

@@ -2,7 +2,7 @@ use Rattle.std.proofs.Common.{List, ℕ, sym, subst}
 use Rattle.alm_disk.proofs.Images.{settled_image}
 use Rattle.alm_model.specs.New.{new_plant}
 use Rattle.alm_keeper.specs.AsStore.{StandsFor}
-use Rattle.alm_bench.specs.Headline.{StandOnly}
+use Rattle.alm_bench.specs.StandOnly.{StandOnly}
 use Rattle.alm_bench.proofs.whole.whole_life.Goals as goal
 
 pub returns-in-Ok-life-clause-run : goal.returns-in-Ok-life-clause-run

@@ -1,8 +1,8 @@
 use Rattle.alm_keeper.specs.AsStore.{StandsFor, IsSpent}
 use Rattle.std.proofs.Common.{sym, subst}
-use Rattle.alm_bench.specs.declared.step.Step.{Step}
-use Rattle.alm_bench.specs.World.{Answers, after}
-use Rattle.alm_bench.specs.Headline.{Moves}
+use Rattle.alm_pipeline.specs.declared.step.Step.{Step}
+use Rattle.alm_pipeline.specs.World.{Answers, after}
+use Rattle.alm_pipeline.specs.Headline.{Moves}
 use Rattle.alm_bench.specs.Stands.{Stands, sight_of}
 use Rattle.alm_bench.proofs.bench.Bench.act.Goals as goal
 

@@ -1,61 +1,67 @@
 use Rattle.std.proofs.Common.{◌≡◌, sym, refl, subst}
 use Rattle.alm_keeper.specs.AsStore.{StandsFor, IsSpent}
-use Rattle.alm_bench.specs.World.{after, shut}
-use Rattle.alm_bench.specs.Headline.{Moves, Sight}
-use Rattle.alm_bench.specs.declared.step.Step.TheVariants as S
-use Rattle.alm_bench.specs.declared.event.Event.TheVariants as E
+use Rattle.alm_pipeline.specs.World.{after, shut}
+use Rattle.alm_pipeline.specs.Headline.{Moves, Sight}
+use Rattle.alm_pipeline.specs.declared.step.Step.TheVariants as S
+use Rattle.alm_pipeline.specs.declared.event.Event.TheVariants as E
 use Rattle.alm_bench.proofs.Carried.{carried, still, there, shut_not_open}
 use Rattle.alm_bench.proofs.bench.Bench.call.Goals as goal
 
 pub returns-in-More-clause-answer : goal.returns-in-More-clause-answer
-returns-in-More-clause-answer g c = λ w m. c.in-More.ensures.answer w (still w _ _ (sym c.in-Open.ensures) m)
+returns-in-More-clause-answer g c = λ w m. c.in-More.ensures.answer w (still w _ _ (sym c.in-Open.ensures) m).0
 
 pub returns-in-More-clause-stands : goal.returns-in-More-clause-stands
-returns-in-More-clause-stands g c = λ w m. still (after w S.Call E.More) _ _ (sym c.put.ensures) (c.in-More.ensures.fits w (still w _ _ (sym c.in-Open.ensures) m))
+returns-in-More-clause-stands g c = λ w m. let is = still w _ _ (sym c.in-Open.ensures) m in still (after w S.Call E.More) _ _ (sym c.put.ensures) (c.in-More.ensures.fits w is.0, c.in-More.ensures.honest.0 is.1)
 
 pub returns-in-More-clause-moves : goal.returns-in-More-clause-moves
 returns-in-More-clause-moves g c = λ w m.
-    carried w S.Call E.More _ _ _ _ c.in-Open.ensures (sym c.put.ensures) (c.in-More.ensures.moves w (still w _ _ (sym c.in-Open.ensures) m))
+    let is = still w _ _ (sym c.in-Open.ensures) m in
+    carried w S.Call E.More _ _ _ _ c.in-Open.ensures (sym c.put.ensures) (c.in-More.ensures.moves is.1 w is.0)
 
 pub returns-in-Committed-clause-answer : goal.returns-in-Committed-clause-answer
-returns-in-Committed-clause-answer g c = λ w m. c.in-Committed.ensures.answer w (still w _ _ (sym c.in-Open.ensures) m)
+returns-in-Committed-clause-answer g c = λ w m. c.in-Committed.ensures.answer w (still w _ _ (sym c.in-Open.ensures) m).0
 
 pub returns-in-Committed-clause-stands : goal.returns-in-Committed-clause-stands
-returns-in-Committed-clause-stands g c = λ w m. still (after w S.Call E.Committed) _ _ (sym c.put-in-Committed.ensures) (c.in-Committed.ensures.fits w (still w _ _ (sym c.in-Open.ensures) m))
+returns-in-Committed-clause-stands g c = λ w m. let is = still w _ _ (sym c.in-Open.ensures) m in still (after w S.Call E.Committed) _ _ (sym c.put-in-Committed.ensures) (c.in-Committed.ensures.fits w is.0, c.in-Committed.ensures.honest.0 is.1)
 
 pub returns-in-Committed-clause-moves : goal.returns-in-Committed-clause-moves
 returns-in-Committed-clause-moves g c = λ w m.
-    carried w S.Call E.Committed _ _ _ _ c.in-Open.ensures (sym c.put-in-Committed.ensures) (c.in-Committed.ensures.moves w (still w _ _ (sym c.in-Open.ensures) m))
+    let is = still w _ _ (sym c.in-Open.ensures) m in
+    carried w S.Call E.Committed _ _ _ _ c.in-Open.ensures (sym c.put-in-Committed.ensures) (c.in-Committed.ensures.moves is.1 w is.0)
 
 pub returns-in-Nothing-clause-answer : goal.returns-in-Nothing-clause-answer
-returns-in-Nothing-clause-answer g c = λ w m. c.in-Nothing.ensures.answer w (still w _ _ (sym c.in-Open.ensures) m)
+returns-in-Nothing-clause-answer g c = λ w m. c.in-Nothing.ensures.answer w (still w _ _ (sym c.in-Open.ensures) m).0
 
 pub returns-in-Nothing-clause-stands : goal.returns-in-Nothing-clause-stands
-returns-in-Nothing-clause-stands g c = λ w m. still (after w S.Call E.Skipped) _ _ (sym c.put-in-Nothing.ensures) (c.in-Nothing.ensures.fits w (still w _ _ (sym c.in-Open.ensures) m))
+returns-in-Nothing-clause-stands g c = λ w m. let is = still w _ _ (sym c.in-Open.ensures) m in still (after w S.Call E.Skipped) _ _ (sym c.put-in-Nothing.ensures) (c.in-Nothing.ensures.fits w is.0, c.in-Nothing.ensures.honest.0 is.1)
 
 pub returns-in-Nothing-clause-moves : goal.returns-in-Nothing-clause-moves
 returns-in-Nothing-clause-moves g c = λ w m.
-    carried w S.Call E.Skipped _ _ _ _ c.in-Open.ensures (sym c.put-in-Nothing.ensures) (c.in-Nothing.ensures.moves w (still w _ _ (sym c.in-Open.ensures) m))
+    let is = still w _ _ (sym c.in-Open.ensures) m in
+    carried w S.Call E.Skipped _ _ _ _ c.in-Open.ensures (sym c.put-in-Nothing.ensures) (c.in-Nothing.ensures.moves is.1 w is.0)
 
 pub returns-in-Failed-clause-answer : goal.returns-in-Failed-clause-answer
-returns-in-Failed-clause-answer g c = λ w m. c.in-Failed.ensures.answer w (still w _ _ (sym c.in-Open.ensures) m)
+returns-in-Failed-clause-answer g c = λ w m. c.in-Failed.ensures.answer w (still w _ _ (sym c.in-Open.ensures) m).0
 
 pub returns-in-Failed-clause-stands : goal.returns-in-Failed-clause-stands
 returns-in-Failed-clause-stands g c = λ w m.
-    let fits = c.in-Failed.ensures.fits w (still w _ _ (sym c.in-Open.ensures) m) in
+    let is = still w _ _ (sym c.in-Open.ensures) m in
+    let fits = c.in-Failed.ensures.fits w is.0 in
+    let honest = c.in-Failed.ensures.honest.0 is.1 in
     let disk = c.into_device-disk.ensures in
-    still (shut w) _ _ (sym c.put-in-Failed.ensures) (refl, disk.honest.0 fits.honest, disk.headline w fits)
+    still (shut w) _ _ (sym c.put-in-Failed.ensures) (refl, disk.honest.0 honest, disk.headline honest w fits)
 
 pub returns-in-Failed-clause-moves : goal.returns-in-Failed-clause-moves
 returns-in-Failed-clause-moves g c = λ w m.
-    let was = c.in-Open.parts.flusher.store in
+    let is = still w _ _ (sym c.in-Open.ensures) m in
+    let was = c.in-Open.pipeline.flusher.store in
     let now = c.call.new.self.flusher.store in
     let disk = c.into_device-disk in
     let same : record { state = g.D.Disk.state now.disk; failures = g.D.Disk.failures now.disk } ≡ record { state = g.D.Disk.state disk.result; failures = g.D.Disk.failures disk.result } =
     (λ i. record { state = sym disk.ensures.device i; failures = sym disk.ensures.failures i }) in
     carried w S.Call E.Failed _ _ _ _ c.in-Open.ensures (sym c.put-in-Failed.ensures)
     (subst (λ (d : Sight). Moves StandsFor IsSpent w S.Call E.Failed (record { state = g.D.Disk.state was.disk; failures = g.D.Disk.failures was.disk }) d) same
-    (c.in-Failed.ensures.moves w (still w _ _ (sym c.in-Open.ensures) m)))
+    (c.in-Failed.ensures.moves is.1 w is.0))
 
 pub returns-in-Shut-clause-answer : goal.returns-in-Shut-clause-answer
 returns-in-Shut-clause-answer g c = λ w m possible. shut_not_open w.closed (still w _ _ (sym c.in-Shut.ensures) m).0 possible.0

@@ -1,9 +1,9 @@
 use Rattle.std.proofs.Common.{◌≡◌, sym, subst}
 use Rattle.alm_keeper.specs.AsStore.{StandsFor, IsSpent}
-use Rattle.alm_bench.specs.World.{World, after}
-use Rattle.alm_bench.specs.Headline.{Moves, Sight}
+use Rattle.alm_pipeline.specs.World.{World, after}
+use Rattle.alm_pipeline.specs.Headline.{Moves, Sight}
 use Rattle.alm_bench.specs.Stands.{IsSetup}
-use Rattle.alm_bench.specs.declared.event.Event.TheVariants.{Skipped}
+use Rattle.alm_pipeline.specs.declared.event.Event.TheVariants.{Skipped}
 use Rattle.alm_bench.proofs.Carried.{carried, still, there, inner_skips, after_skipped, inner_moves}
 use Rattle.alm_bench.proofs.bench.Bench.go.Goals as goal
 
@@ -11,15 +11,16 @@ pub go-event-requires : goal.go-event-requires
 go-event-requires g c = c.requires
 
 pub returns-in-Open-clause-answer : goal.returns-in-Open-clause-answer
-returns-in-Open-clause-answer g c = λ w m. c.go-event.ensures.answer w (still w _ _ (sym c.in-Open.ensures) m)
+returns-in-Open-clause-answer g c = λ w m. c.go-event.ensures.answer w (still w _ _ (sym c.in-Open.ensures) m).0
 
 pub returns-in-Open-clause-stands : goal.returns-in-Open-clause-stands
 returns-in-Open-clause-stands g c = λ w m.
-    still (after w c.args.step.now c.go-event.result) _ _ (sym c.put.ensures) (c.go-event.ensures.fits w (still w _ _ (sym c.in-Open.ensures) m))
+    let is = still w _ _ (sym c.in-Open.ensures) m in
+    still (after w c.args.step.now c.go-event.result) _ _ (sym c.put.ensures) (c.go-event.ensures.fits w is.0, c.go-event.ensures.honest.0 is.1)
 
 pub returns-in-Open-clause-moves : goal.returns-in-Open-clause-moves
 returns-in-Open-clause-moves g c = λ w m.
-    let was = c.in-Open.parts.flusher.store in
+    let was = c.in-Open.pipeline.flusher.store in
     let same : record { state = g.D.Disk.state was.disk; failures = g.D.Disk.failures was.disk } ≡ record { state = g.D.Disk.state c.go-event.new.self.flusher.store.disk; failures = g.D.Disk.failures c.go-event.new.self.flusher.store.disk } =
     (λ i. record { state = sym c.go-event.ensures.store.0 i; failures = sym c.go-event.ensures.store.1 i }) in
     carried w c.args.step.now c.go-event.result _ _ _ _ c.in-Open.ensures (sym c.put.ensures)

@@ -6,10 +6,10 @@ pub returns-in-Ok-clause-stands : goal.returns-in-Ok-clause-stands
 returns-in-Ok-clause-stands g c = λ honest plant all.
     let e = c.in-Ok.ensures in
     let opened = e.opened honest in
-    let store = c.in-Ok.parts.flusher.store in
+    let store = c.in-Ok.pipeline.flusher.store in
     let bytes = (g.D.Disk.state store.disk).bytes in
     let is : store.stored.plant ≡ plant = stands_for_one bytes store.stored.plant plant opened.1 (all bytes opened.0) in
-    e.open honest plant [] plant.panel.count is (omega arith)
+    (e.«open» plant [] plant.panel.count is (omega arith), e.honest.0 honest)
 
 pub returns-in-Ok-clause-device : goal.returns-in-Ok-clause-device
 returns-in-Ok-clause-device g c = λ honest. let opened = c.in-Ok.ensures.opened honest in (opened.0, c.in-Ok.ensures.settled honest)

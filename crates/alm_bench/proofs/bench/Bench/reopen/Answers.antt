@@ -1,10 +1,10 @@
 use Rattle.std.proofs.Common.{◌-◌, take, sym, refl, subst, arith}
 use Rattle.alm_model.specs.Plant.{Condensed}
 use Rattle.alm_keeper.specs.AsStore.{StandsFor}
-use Rattle.alm_bench.specs.World.{after}
-use Rattle.alm_bench.specs.Headline.{IsFrontPlant}
-use Rattle.alm_bench.specs.declared.step.Step.TheVariants as S
-use Rattle.alm_bench.specs.declared.event.Event.TheVariants as E
+use Rattle.alm_pipeline.specs.World.{after}
+use Rattle.alm_pipeline.specs.Headline.{IsFrontPlant}
+use Rattle.alm_pipeline.specs.declared.step.Step.TheVariants as S
+use Rattle.alm_pipeline.specs.declared.event.Event.TheVariants as E
 use Rattle.alm_bench.proofs.Carried.{carried, still, there, shut_not_open}
 use Rattle.alm_bench.proofs.Reopened.{storage_fault, found, reaches}
 use Rattle.alm_bench.proofs.bench.Bench.reopen.Goals as goal
@@ -12,7 +12,7 @@ use Rattle.alm_bench.proofs.bench.Bench.reopen.Goals as goal
 pub returns-in-Ok-clause-answer : goal.returns-in-Ok-clause-answer
 returns-in-Ok-clause-answer g c = λ w m.
     let shut = still w _ _ (sym c.in-Shut.ensures) m in
-    let store = c.in-Ok.parts.flusher.store in
+    let store = c.in-Ok.pipeline.flusher.store in
     let opened = c.in-Ok.ensures.opened shut.1 in
     let front : IsFrontPlant w.base w.accepted w.floor store.stored.plant = (shut.2 (g.D.Disk.state store.disk).bytes opened.0).each store.stored.plant opened.1 in
     (shut.0, omega (arith, front.enough, c.count-count.ensures), omega (arith, front.no_more, c.count-count.ensures))
@@ -20,18 +20,20 @@ returns-in-Ok-clause-answer g c = λ w m.
 pub returns-in-Ok-clause-stands : goal.returns-in-Ok-clause-stands
 returns-in-Ok-clause-stands g c = λ w m.
     let shut = still w _ _ (sym c.in-Shut.ensures) m in
-    let store = c.in-Ok.parts.flusher.store in
+    let store = c.in-Ok.pipeline.flusher.store in
     let n = c.count-count.result in
     let opened = c.in-Ok.ensures.opened shut.1 in
     let front : IsFrontPlant w.base w.accepted w.floor store.stored.plant = (shut.2 (g.D.Disk.state store.disk).bytes opened.0).each store.stored.plant opened.1 in
-    still (after w S.Reopen (E.Opened n)) _ _ (sym c.put.ensures)
-    (c.in-Ok.ensures.«open» shut.1 w.base (take (n - w.base.panel.count) w.accepted) w.floor
-    (found w.base w.accepted w.floor store.stored.plant n c.count-count.ensures front) (reaches w.base w.accepted w.floor store.stored.plant n c.count-count.ensures front))
+    still (after w S.Reopen (E.Opened n)) _ _ (sym c.put.ensures) (
+      c.in-Ok.ensures.«open» w.base (take (n - w.base.panel.count) w.accepted) w.floor
+          (found w.base w.accepted w.floor store.stored.plant n c.count-count.ensures front) (reaches w.base w.accepted w.floor store.stored.plant n c.count-count.ensures front),
+      c.in-Ok.ensures.honest.0 shut.1,
+    )
 
 pub returns-in-Ok-clause-moves : goal.returns-in-Ok-clause-moves
 returns-in-Ok-clause-moves g c = λ w m.
     let shut = still w _ _ (sym c.in-Shut.ensures) m in
-    let store = c.in-Ok.parts.flusher.store in
+    let store = c.in-Ok.pipeline.flusher.store in
     let bytes = (g.D.Disk.state store.disk).bytes in
     let n = c.count-count.result in
     let opened = c.in-Ok.ensures.opened shut.1 in
@@ -47,7 +49,7 @@ returns-in-Err-clause-answer g c = λ w m.
 pub returns-in-Err-clause-stands : goal.returns-in-Err-clause-stands
 returns-in-Err-clause-stands g c = λ w m.
     let shut = still w _ _ (sym c.in-Shut.ensures) m in
-    still w _ _ (sym c.put-in-Err.ensures) (shut.0, c.in-Err.ensures.honest.0 shut.1, λ image is. shut.2 image (c.in-Err.ensures.no_new_image shut.1 image is))
+    still w _ _ (sym c.put-in-Err.ensures) (shut.0, c.in-Err.ensures.honest_back.0 shut.1, λ image is. shut.2 image (c.in-Err.ensures.no_new_image shut.1 image is))
 
 pub returns-in-Err-clause-moves : goal.returns-in-Err-clause-moves
 returns-in-Err-clause-moves g c = λ w m.
@@ -55,7 +57,7 @@ returns-in-Err-clause-moves g c = λ w m.
     carried w S.Reopen (E.Unopened c.in-Err.fault) _ _ _ _ c.in-Shut.ensures (sym c.put-in-Err.ensures) (c.in-Err.ensures.no_new_image shut.1, c.in-Err.ensures.cause shut.1)
 
 pub returns-in-Open-clause-answer : goal.returns-in-Open-clause-answer
-returns-in-Open-clause-answer g c = λ w m possible. shut_not_open w.closed possible (still w _ _ (sym c.in-Open.ensures) m).opened
+returns-in-Open-clause-answer g c = λ w m possible. shut_not_open w.closed possible (still w _ _ (sym c.in-Open.ensures) m).0.opened
 
 pub returns-in-Open-clause-stands : goal.returns-in-Open-clause-stands
 returns-in-Open-clause-stands g c = λ w m. still w _ _ (sym c.put-in-Open.ensures) (still w _ _ (sym c.in-Open.ensures) m)

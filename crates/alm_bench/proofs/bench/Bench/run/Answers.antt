@@ -1,12 +1,12 @@
 use Rattle.alm_keeper.specs.AsStore.{StandsFor, IsSpent}
 use Rattle.std.proofs.Common.{rules, refl, ◌≡◌, ◌+◌, ◌∙◌, ◌++◌, ◌∷◌, [], List, take, length, ap, sym, subst, arith, length-append}
 use Rattle.std.proofs.lemmas.List.{take_more, take_all}
-use Rattle.alm_bench.specs.declared.step.Step.{Step}
-use Rattle.alm_bench.specs.declared.event.Event.{Event}
-use Rattle.alm_bench.specs.World.{World}
-use Rattle.alm_bench.specs.Headline.{IsRun, after_all}
+use Rattle.alm_pipeline.specs.declared.step.Step.{Step}
+use Rattle.alm_pipeline.specs.declared.event.Event.{Event}
+use Rattle.alm_pipeline.specs.World.{World}
+use Rattle.alm_pipeline.specs.Headline.{IsRun, after_all}
 use Rattle.alm_bench.specs.Stands.{Stands, sight_of}
-use Rattle.alm_bench.proofs.Runs.{run_more, after_more}
+use Rattle.alm_pipeline.proofs.Runs.{run_more, after_more}
 use Rattle.alm_bench.proofs.bench.Bench.run.Goals as goal
 
 pub loop-step-preserved : goal.loop-step-preserved

@@ -1,7 +1,7 @@
 use Rattle.alm_keeper.specs.AsStore.{StandsFor, IsSpent}
 use Rattle.std.proofs.Common.{◌≡◌, length, take, vec_capacity}
-use Rattle.alm_bench.specs.World.{World}
-use Rattle.alm_bench.specs.Headline.{IsRun, after_all}
+use Rattle.alm_pipeline.specs.World.{World}
+use Rattle.alm_pipeline.specs.Headline.{IsRun, after_all}
 use Rattle.alm_bench.specs.Stands.{Stands, sight_of, HasDevice}
 use Rattle.alm_bench.proofs.bench.Bench.run.Given as goal
 

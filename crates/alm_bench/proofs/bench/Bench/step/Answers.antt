@@ -1,4 +1,4 @@
-use Rattle.alm_bench.specs.World.{after}
+use Rattle.alm_pipeline.specs.World.{after}
 use Rattle.alm_bench.proofs.bench.Bench.step.Goals as goal
 
 pub returns-clause-headline : goal.returns-clause-headline

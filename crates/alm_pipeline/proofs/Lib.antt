@@ -1,0 +1,9 @@
+pub mod Lists
+pub mod Headed
+pub mod Runs
+pub mod Moved
+pub mod Calls
+pub mod Ready
+pub mod Shown
+pub mod Placing
+pub mod Counts

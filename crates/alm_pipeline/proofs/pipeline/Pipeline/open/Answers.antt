@@ -1,0 +1,6 @@
+use Rattle.std.proofs.Common.{◌∙◌, ap, sym}
+use Rattle.alm_pipeline.proofs.pipeline.Pipeline.open.Goals as goal
+
+pub returns-in-Ok-new-clause-open : goal.returns-in-Ok-new-clause-open
+returns-in-Ok-new-clause-open g c = λ base kept floor is enough.
+    c.in-Ok-new.ensures.open base kept floor (ap g.K.Store.stored (sym c.in-Ok-new.ensures.store) ∙ is) enough

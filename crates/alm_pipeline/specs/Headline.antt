@@ -1,0 +1,80 @@
+-- The headline: after a crash at any moment the device stands for the plant of a front of the accepted actions, which holds all that
+-- was told or shown. And the runs of a world beside its device, at each point of which it holds.
+use Rattle.std.specs.Prelude.{◌≡◌, ◌<◌, ◌≤◌, ◌+◌, ◌-◌, IsPermutation, true, ℕ, false, List, [], ◌∷◌, length, take}
+use Rattle.alm_disk.specs.Device.{DeviceState, IsImage, Crashes}
+use Rattle.alm_disk.specs.Failures.{HasFailed}
+use Rattle.alm_types.specs.declared.action.Action.{Action}
+use Rattle.alm_model.specs.Plant.{Condensed}
+use Rattle.alm_model.specs.Lists.{alarms, stands_in, list_of}
+use Rattle.alm_model.specs.Rising.{RisesByStamp, is_by_stamp}
+use Rattle.alm_model.specs.declared.list.List.{List as Choice}
+use Rattle.alm_model.specs.Step.{run}
+use Rattle.alm_model.specs.Judging.{accepted_of}
+use Rattle.alm_store.specs.Calls.{IsCall}
+use Rattle.alm_store.specs.Advancing.{IsCalls}
+use Rattle.alm_store.specs.Opening.{HasCause}
+use Rattle.alm_pipeline.specs.Named.{names}
+use Rattle.alm_pipeline.specs.World.{World, Answers, after, entries_at}
+use Rattle.alm_pipeline.specs.declared.step.Step.{Step}
+use Rattle.alm_pipeline.specs.declared.step.Step.TheVariants.{Call, Crash, Reopen}
+use Rattle.alm_pipeline.specs.declared.event.Event.{Event}
+use Rattle.alm_pipeline.specs.declared.event.Event.TheVariants.{More, Committed, Failed, Crashed, Opened, Unopened}
+
+-- ---- what a crash may leave
+
+-- this is the plant of a front of the accepted actions, and its count reaches the floor
+pub record IsFrontPlant (base : Condensed) (accepted : List Action) (floor : ℕ) (q : Condensed) : Type 0 where
+  pub enough : floor ≤ q.panel.count
+  pub no_more : q.panel.count ≤ base.panel.count + length accepted
+  pub plant : q ≡ run base (take (q.panel.count - base.panel.count) accepted)
+
+-- the list is the filter of its alarms, in the order of their stamps
+pub record IsFilter (q : Condensed) (list : Choice) : Type 0 where
+  pub filter : IsPermutation (alarms (stands_in list) q.panel.attrs q.panel.rows) (list_of list q)
+  pub rises : RisesByStamp q.panel (list_of list q)
+
+-- an image stands for a plant; this is such a plant, and each of its lists that goes by stamp is the filter of its alarms
+pub record IsSafe (recovers : List ℕ → Condensed → Type 0) (base : Condensed) (accepted : List Action) (floor : ℕ) (image : List ℕ) : Type 0 where
+  pub some : ∥ ((plant : Condensed) × recovers image plant) ∥₁
+  pub each : (plant : Condensed) → recovers image plant → IsFrontPlant base accepted floor plant
+  pub lists : (plant : Condensed) → recovers image plant → (list : Choice) → is_by_stamp list ≡ true → IsFilter plant list
+
+-- ---- runs
+
+-- what contracts see of a device: its state, and how often a call of it has failed
+pub record Sight : Type 0 where
+  pub state : DeviceState
+  pub failures : ℕ
+
+-- which bytes stand for which plant, and which device stands at the last epoch
+module _ (recovers : List ℕ → Condensed → Type 0) (spent : DeviceState → Type 0) where
+  -- each image that a crash may leave of the device is safe
+  abbrev pub Headline : World → DeviceState → Type 0
+  Headline w state = (image : List ℕ) → IsImage state image → IsSafe recovers w.base w.accepted w.floor image
+
+  -- What a step that was answered so does to the device. A Call is one write or one sync, done or failed, or nothing for a batch
+  -- without actions; it fails only where the device failed in it, or where a checkpoint was due in the last epoch. A crash leaves
+  -- the bytes that it names. A reopening reads an image, and answers what it stands for, or a fault with its cause. No other step
+  -- touches the device.
+  abbrev pub Moves : World → Step → Event → Sight → Sight → Type 0
+  Moves w Call More d d' = IsCall d.state d'.state
+  Moves w Call Committed d d' = (0 < length (accepted_of (entries_at w.stage)) → IsCall d.state d'.state) × (accepted_of (entries_at w.stage) ≡ [] → d' ≡ d)
+  Moves w Call Failed d d' = IsCalls d.state d'.state × (¬ (spent d.state) → HasFailed d.failures d'.failures)
+  Moves w (Crash bytes) Crashed d d' = Crashes (names bytes.items) d.state d'.state × (d'.failures ≡ d.failures)
+  Moves w Reopen (Opened n) d d' = IsImage d.state d'.state.bytes × ((place : ℕ) → d'.state.pending place ≡ false) × recovers d'.state.bytes (run w.base (take (n - w.base.panel.count) w.accepted))
+  Moves w Reopen (Unopened fault) d d' = ((image : List ℕ) → IsImage d'.state image → IsImage d.state image) × HasCause recovers d.state fault d.failures d'.failures
+  Moves w step event d d' = d' ≡ d
+
+  -- the world's run of these steps, from a device to a device: each entry answers its step, the device moves as the step lets it,
+  -- and the headline holds before the first step and after each
+  abbrev pub IsRun : World → Sight → List Step → List Event → Sight → Type 0
+  IsRun w d [] [] d' = Headline w d.state × (d' ≡ d)
+  IsRun w d (step ∷ steps) (event ∷ trace) d' = Headline w d.state × ((m : Sight) × Answers w step event × Moves w step event d m × IsRun (after w step event) m steps trace d')
+  IsRun w d [] (event ∷ trace) d' = ⊥
+  IsRun w d (step ∷ steps) [] d' = ⊥
+
+-- the world after these steps
+abbrev pub after_all : World → List Step → List Event → World
+after_all w [] trace = w
+after_all w (step ∷ steps) [] = w
+after_all w (step ∷ steps) (event ∷ trace) = after_all (after w step event) steps trace

@@ -1,0 +1,4 @@
+pub mod Named
+pub mod World
+pub mod Matches
+pub mod Headline

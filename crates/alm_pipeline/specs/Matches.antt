@@ -1,0 +1,152 @@
+-- The parts of a bench are those of a world. For the proofs: no public call's reader needs it.
+use Rattle.std.specs.Prelude.{◌≡◌, ◌≢◌, ◌<◌, ◌≤◌, ◌+◌, ◌^◌, ℕ, false, List, [], ◌∷◌, ◌++◌, length, slice_get, Some}
+use Rattle.alm_types.specs.declared.action.Action.{Action}
+use Rattle.alm_types.specs.declared.entry.Entry.{Entry}
+use Rattle.alm_types.specs.Batches.{Judged}
+use Rattle.alm_model.specs.Plant.{Condensed}
+use Rattle.alm_model.specs.Step.{run}
+use Rattle.alm_model.specs.Judging.{accepted_of, entries_in}
+use Rattle.alm_rings.specs.declared.receipt.Receipt.{Receipt}
+use Rattle.alm_rings.specs.declared.told.Told.{Ghosts as ToldGhosts}
+use Rattle.alm_rings.specs.declared.console.Console.{Console}
+use Rattle.alm_rings.specs.declared.inbox.Inbox.{Inbox}
+use Rattle.alm_rings.specs.declared.outbox.Outbox.{Outbox}
+use Rattle.alm_rings.specs.declared.fetch_ends.FetchEnds.{FetchEnds}
+use Rattle.alm_rings.specs.declared.seal_ends.SealEnds.{SealEnds}
+use Rattle.alm_rings.specs.Ends.{sent_of, received_of, coming_to, room_of}
+use Rattle.alm_rings.specs.Placed.{taken_by, waiting_by, released_by, room_by}
+use Rattle.alm_rings.specs.Batches.{sealed_of, fetched_of, emptied_of, given_of, coming_in, empties_in, places_of, places_in}
+use Rattle.alm_flush.specs.declared.held.Held as H
+use Rattle.alm_flush.specs.declared.held.Held.TheVariants as V
+use Rattle.alm_flush.specs.Advances.{Within}
+use Rattle.alm_flush.specs.HeldBatch.{stored_of, shown_of, to_commit}
+use Rattle.alm_seq.specs.Spares.{spares}
+use Rattle.alm_store.specs.declared.store.Store.{Ghosts}
+use Rattle.alm_disk.specs.declared.disk.Disk
+use Rattle.alm_store.specs.declared.phase.Phase.TheVariants.{Stopped}
+use Rattle.alm_pipeline.specs.declared.pipeline.Pipeline.{Pipeline}
+use Rattle.alm_flush.specs.declared.advance.Advance as A
+use Rattle.alm_pipeline.specs.declared.step.Step.{Step}
+use Rattle.alm_pipeline.specs.declared.step.Step.TheVariants.{Call, Crash, Reopen}
+use Rattle.alm_pipeline.specs.declared.event.Event.{Event}
+use Rattle.alm_pipeline.specs.declared.event.Event.TheVariants.{More, Committed, Failed, Skipped}
+use Rattle.alm_pipeline.specs.World.{World, Stage, Nothing, Held, Stored, Shown, Note, after}
+
+-- how far the flusher's batch is
+abbrev pub stage_of : H.Held → Stage
+stage_of V.Nothing = Nothing
+stage_of (V.Fetched b) = Held b.entries
+stage_of (V.Failed b) = Held b.entries
+stage_of (V.Committed b) = Stored b.entries
+stage_of (V.Published b n) = Shown b.entries n
+
+-- its commit was given up
+abbrev pub IsGivenUp : H.Held → Type 0
+IsGivenUp (V.Failed b) = Unit {0}
+IsGivenUp held = ⊥
+
+-- the entries of each batch
+abbrev pub lists_of : List Judged → List (List Entry)
+lists_of [] = []
+lists_of (b ∷ batches) = b.entries ∷ lists_of batches
+
+-- how many batches are held
+abbrev pub held_at : Stage → ℕ
+held_at Nothing = 0
+held_at stage = 1
+
+-- the parts have these batches
+pub record Batches (taking : List Entry) (sealed : List (List Entry)) (free : ℕ) (stage : Stage) (open' : Judged) (spare : ℕ) (s : SealEnds) (f : FetchEnds) (h : H.Held) : Type 0 where
+  pub entries : open'.entries ≡ taking
+  pub waiting : lists_of (sealed_of s) ≡ lists_of (fetched_of f) ++ sealed
+  pub held : stage_of h ≡ stage
+  pub spared : free + length (emptied_of s) ≡ length (given_of f) + spare
+  pub eight : free + length sealed + held_at stage + 1 ≡ 8
+
+module _ {T : Type 0} {g : ToldGhosts T} where
+  -- what a receipt says
+  abbrev pub note : Receipt T g → Note
+  note r = record { serial = r.serial; verdict = r.verdict; number = r.number }
+
+  abbrev pub notes_of : List (Receipt T g) → List Note
+  notes_of [] = []
+  notes_of (r ∷ receipts) = note r ∷ notes_of receipts
+
+  -- the ends of the slots have these lists
+  pub record Slots (sent : ℕ → List Action) (taken : ℕ → ℕ) (released : ℕ → List Note) (received : ℕ → ℕ) (consoles : List (Console T g)) (inboxes : List Inbox) (outboxes : List (Outbox T g)) : Type 0 where
+    pub requests : (s : ℕ) (c : Console T g) → slice_get consoles s ≡ Some c → sent_of c ≡ sent s
+    pub judged : (s : ℕ) → length (taken_by s inboxes) ≡ taken s
+    pub notes : (s : ℕ) → notes_of (released_by s outboxes) ≡ released s
+    pub receipts : (s : ℕ) (c : Console T g) → slice_get consoles s ≡ Some c → length (received_of c) ≡ received s
+    pub few : (s : ℕ) → length (sent s) ≤ 64 + received s
+
+  -- a slot's ends know what the others did
+  pub record KnowsEnds (s : ℕ) (console : Console T g) (inboxes : List Inbox) (outboxes : List (Outbox T g)) : Type 0 where
+    pub requests : taken_by s inboxes ++ waiting_by s inboxes ≡ sent_of console
+    pub replies : received_of console ++ coming_to console ≡ released_by s outboxes
+    pub serials : length (sent_of console) < 2 ^ 64
+    pub room : 64 + length (taken_by s inboxes) ≤ room_of console + length (sent_of console)
+    pub reply_room : 64 + length (received_of console) ≤ room_by s outboxes + length (released_by s outboxes)
+
+  abbrev pub KnowsSlot : ℕ → List (Console T g) → List Inbox → List (Outbox T g) → Type 0
+  KnowsSlot s consoles inboxes outboxes = (c : Console T g) → slice_get consoles s ≡ Some c → KnowsEnds s c inboxes outboxes
+
+-- the ends of the batch rings know what the others did
+pub record KnowsBatches (s : SealEnds) (f : FetchEnds) : Type 0 where
+  pub batches : fetched_of f ++ coming_in f ≡ sealed_of s
+  pub empties : emptied_of s ++ empties_in s ≡ given_of f
+  pub places : 8 + length (fetched_of f) ≤ places_of s + length (sealed_of s)
+  pub back : 8 + length (emptied_of s) ≤ places_in f + length (given_of f)
+
+-- the parts keep these lists, relative to the plant with which they began
+pub record Lists (plant : Condensed) (accepted stored published : List Action) (floor : ℕ) (base base' : Condensed) (sealed : List Entry) (open' : List Entry) (before : List Entry) (h : H.Held) : Type 0 where
+  pub opened : List Action
+  pub judged_from : base ≡ run plant opened
+  pub stored_from : base' ≡ run plant opened
+  pub all : accepted ≡ opened ++ accepted_of (sealed ++ open')
+  pub kept : stored ≡ opened ++ accepted_of (before ++ stored_of h)
+  pub shown : published ≡ opened ++ accepted_of (before ++ shown_of h)
+  pub enough : floor ≤ plant.panel.count + length published
+
+-- the event of a device call
+abbrev pub called : A.Advance → Event
+called A.TheVariants.More = More
+called A.TheVariants.Committed = Committed
+called A.TheVariants.Failed = Failed
+called A.TheVariants.Nothing = Skipped
+
+-- the step leaves the device alone
+abbrev pub IsInner : Step → Type 0
+IsInner Call = ⊥
+IsInner (Crash bytes) = ⊥
+IsInner Reopen = ⊥
+IsInner step = Unit {0}
+
+module _ {K D : Type 0} {g : Ghosts K D} {d : Disk.Ghosts D} where
+  pub record Fits (w : World) (p : Pipeline K D g d) : Type 0 where
+    pub slots : Slots w.sent w.taken w.released w.received p.consoles.items p.sequencer.inboxes.items p.flusher.outboxes.items
+    pub batches : Batches w.taking w.sealed w.free w.stage p.sequencer.batch (spares p.sequencer.spare) p.sequencer.ends p.flusher.fetch p.flusher.held
+    pub lists : Lists w.base w.accepted w.stored w.published w.floor p.sequencer.base.value p.flusher.board.base.value (entries_in (sealed_of p.sequencer.ends)) p.sequencer.batch.entries (entries_in (fetched_of p.flusher.before.value)) p.flusher.held
+
+  -- the parts are those of an open world
+  pub record IsOpen (w : World) (p : Pipeline K D g d) : Type 0 where
+    pub opened : w.closed ≡ false
+    pub fits : Fits w p
+    pub going : g.phase p.flusher.store ≢ Stopped
+    pub trying : ¬ (IsGivenUp p.flusher.held)
+
+  -- after a call that failed the parts still fit the world that the failure shuts
+  abbrev pub CallFits : World → Event → Pipeline K D g d → Type 0
+  CallFits w Failed p = Fits w p
+  CallFits w event p = IsOpen (after w Call event) p
+
+  -- the commit of the fetched batch is done in at most so many calls
+  abbrev pub EndsIn : ℕ → Pipeline K D g d → Type 0
+  EndsIn m p = let actions = to_commit p.flusher.held in let s = p.flusher.store in Within m (g.phase s) (g.left s) (g.takes s actions) (g.will_take s actions) (length actions)
+
+  -- the ends of a slot, and those of the batch rings, know what the others did
+  abbrev pub Knows : ℕ → Pipeline K D g d → Type 0
+  Knows s p = KnowsSlot s p.consoles.items p.sequencer.inboxes.items p.flusher.outboxes.items
+
+  abbrev pub KnowsAll : Pipeline K D g d → Type 0
+  KnowsAll p = KnowsBatches p.sequencer.ends p.flusher.fetch

@@ -1,0 +1,84 @@
+//! The one maker of a pipeline.
+
+use crate::pipeline::Pipeline;
+use alm_board::PlainBoard;
+use alm_flush::Flusher;
+use alm_model::Alarms;
+use alm_rings::{SlotEnds, batches_beside, open_batches, open_slots};
+use alm_seq::Sequencer;
+use alm_store::{OpenFault, Phase, Store};
+use std::alloc::Global;
+
+impl<K: Store> Pipeline<K> {
+    ghost use Rattle.std.specs.Prelude.{◌≡◌, ◌↔◌, ◌≤◌, ◌+◌, ◌^◌, ℕ, List, false, length, IfOk, IfErr};
+    ghost use Rattle.alm_disk.specs.Device.{IsImage};
+    ghost use Rattle.alm_store.specs.Opening.{HasCause};
+    ghost use Rattle.alm_types.specs.declared.action.Action.{Action};
+    ghost use Rattle.alm_model.specs.Plant.{Condensed};
+    ghost use Rattle.alm_model.specs.Step.{run};
+    ghost use Rattle.alm_pipeline.specs.World.{fresh};
+    ghost use Rattle.alm_pipeline.specs.Matches.{IsOpen};
+
+    /// Rings, consoles, board, sequencer and flusher over an idle store; the store comes back where memory is short.
+    pub fn new(alloc: Global, store: K) -> Result<Pipeline<K>, K>
+        requires idle { K.phase store ≡ Phase.Idle }
+        requires limit { (K.stored store).panel.count ≤ 2 ^ 48 }
+        ensures open { IfOk result (λ pipeline. (base : Condensed) (kept : List Action) (floor : ℕ) →
+            K.stored store ≡ run base kept → floor ≤ base.panel.count + length kept → IsOpen (fresh base kept floor) pipeline) }
+        ensures store { IfOk result (λ pipeline. pipeline.flusher.store ≡ store) }
+        ensures refused { IfErr result (λ back. back ≡ store) }
+    {
+        let Ok(
+            SlotEnds {
+                consoles,
+                inboxes,
+                outboxes,
+            },
+        ) = open_slots(alloc)
+        else {
+            return Err(store);
+        };
+        let Ok((ends, fetch)) = open_batches(alloc) else {
+            return Err(store);
+        };
+        let Ok(live) = store.stored().copy(alloc) else {
+            return Err(store);
+        };
+        let Ok(shown) = store.stored().copy(alloc) else {
+            return Err(store);
+        };
+        let (mut ends, mut fetch) = (ends, fetch);
+        batches_beside(&mut ends, &mut fetch);
+        let sequencer = Sequencer::new(live, inboxes, ends);
+        let flusher = Flusher::new(store, PlainBoard::new(shown), outboxes, fetch);
+        Ok(Pipeline {
+            consoles,
+            sequencer,
+            flusher,
+        })
+    }
+
+    /// Opens what a device stands for, and puts all parts over it.
+    ///
+    /// The device comes back where it stands for nothing, where it failed, or for want of memory.
+    pub fn open(alloc: Global, disk: K::Device) -> Result<Pipeline<K>, (OpenFault, K::Device)>
+        ensures open { IfOk result (λ pipeline. (base : Condensed) (kept : List Action) (floor : ℕ) →
+            K.stored pipeline.flusher.store ≡ run base kept → floor ≤ base.panel.count + length kept → IsOpen (fresh base kept floor) pipeline) }
+        ensures opened { K.Device.honest disk → IfOk result (λ pipeline. IsImage (K.Device.state disk) (K.device pipeline.flusher.store).bytes ×
+            K.recovers (K.device pipeline.flusher.store).bytes (K.stored pipeline.flusher.store)) }
+        ensures settled { K.Device.honest disk → IfOk result (λ pipeline. (place : ℕ) → (K.device pipeline.flusher.store).pending place ≡ false) }
+        ensures counted { IfOk result (λ pipeline. K.Device.failures disk ≤ K.failures pipeline.flusher.store) }
+        ensures honest { IfOk result (λ pipeline. K.Device.honest disk ↔ K.honest pipeline.flusher.store) }
+        ensures honest_back { IfErr result (λ e. K.Device.honest disk ↔ K.Device.honest e.1) }
+        ensures no_new_image { K.Device.honest disk → IfErr result (λ e. (image : List ℕ) → IsImage (K.Device.state e.1) image → IsImage (K.Device.state disk) image) }
+        ensures cause { K.Device.honest disk → IfErr result (λ e. HasCause K.recovers (K.Device.state disk) e.0 (K.Device.failures disk) (K.Device.failures e.1)) }
+    {
+        match K::open(alloc, disk) {
+            Ok(store) => match Pipeline::new(alloc, store) {
+                Ok(pipeline) => Ok(pipeline),
+                Err(store) => Err((OpenFault::OutOfMemory, store.into_device())),
+            },
+            Err(refused) => Err(refused),
+        }
+    }
+}

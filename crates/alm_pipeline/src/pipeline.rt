@@ -1,0 +1,309 @@
+//! All parts from request to receipt in one thread, and what each step does with them.
+
+ghost use Rattle.std.specs.Prelude.{◌≡◌, ◌<◌, ℕ, length, slice_get, Some, IsSome};
+ghost use Rattle.rtrb.specs.Ring.{IsPair};
+ghost use Rattle.alm_rings.specs.declared.console.Console.{Console};
+ghost use Rattle.alm_rings.specs.declared.inbox.Inbox.{Inbox};
+ghost use Rattle.alm_rings.specs.declared.outbox.Outbox.{Outbox};
+ghost use Rattle.alm_rings.specs.Placed.{inbox_at, outbox_at};
+ghost use Rattle.alm_rings.specs.Batches.{AreBatchEnds};
+ghost use Rattle.alm_pipeline.specs.World.{World, Answers, after};
+ghost use Rattle.alm_pipeline.specs.declared.step.Step.TheVariants as S;
+
+use crate::event::Event;
+use crate::step::Step;
+use alm_board::{Look, PlainBoard, PlainTold, Seen};
+use alm_flush::{Advance, Fetch, Flusher, Publishes, Release};
+use alm_plant::Plant;
+use alm_rings::{Console, Receipt};
+use alm_seq::{Seal, Sequencer, Take};
+use alm_store::Store;
+use alm_types::{Action, Answer, Query, Slot};
+use std::alloc::Global;
+
+/// All parts from request to receipt over a store: the consoles of all slots, the sequencer and the flusher with its board.
+#[derive(Drop)]
+pub struct Pipeline<K: Store> {
+    pub consoles: Vec<Console<PlainTold>>,
+    pub sequencer: Sequencer<Plant>,
+    pub flusher: Flusher<K, PlainTold, PlainBoard<Plant>>,
+    pub ghost count: { length consoles.items ≡ 18 },
+    pub ghost inboxes: { (s : ℕ) → s < 18 → IsSome (inbox_at s sequencer.inboxes.items) },
+    pub ghost outboxes: { (s : ℕ) → s < 18 → IsSome (outbox_at s flusher.outboxes.items) },
+    pub ghost requests: { (s : ℕ) (c : Console _ _) (i : Inbox) → slice_get consoles.items s ≡ Some c → inbox_at s sequencer.inboxes.items ≡ Some i → IsPair c.requests i.requests },
+    pub ghost replies: { (s : ℕ) (c : Console _ _) (o : Outbox _ _) → slice_get consoles.items s ≡ Some c → outbox_at s flusher.outboxes.items ≡ Some o → IsPair o.replies c.replies },
+    pub ghost batches: { AreBatchEnds sequencer.ends flusher.fetch },
+    pub ghost bases: { sequencer.base.value ≡ flusher.board.base.value },
+}
+
+impl<K: Store> Pipeline<K> {
+    ghost use Rattle.std.specs.Prelude.{◌≡◌, ◌↔◌, ◌≤◌, ◌<◌, ◌+◌, ℕ, length, slice_get, IsSome};
+    ghost use Rattle.alm_disk.specs.Failures.{HasFailed};
+    ghost use Rattle.alm_flush.specs.HeldBatch.{to_commit};
+    ghost use Rattle.alm_pipeline.specs.Matches.{Fits, IsOpen, Knows, KnowsAll, CallFits, EndsIn, called, IsInner};
+    ghost use Rattle.alm_pipeline.specs.declared.step.Step.TheVariants as S;
+    ghost use Rattle.alm_pipeline.specs.Headline.{Moves, Headline};
+    ghost use Rattle.alm_rings.specs.Batches.{emptied_of, given_of};
+
+    // Tells the ends of the batch rings what the others did.
+    fn tell_batches(&mut self)
+        ensures open { (w : World) → IsOpen w self.old → IsOpen w self.new }
+        ensures knows { KnowsAll self.new }
+        ensures same { (self.new.consoles ≡ self.old.consoles) × (self.new.sequencer.inboxes ≡ self.old.sequencer.inboxes) × (self.new.flusher.outboxes ≡ self.old.flusher.outboxes) × (self.new.flusher.held ≡ self.old.flusher.held) }
+        ensures empties { (emptied_of self.new.sequencer.ends ≡ emptied_of self.old.sequencer.ends) × (given_of self.new.flusher.fetch ≡ given_of self.old.flusher.fetch) }
+        ensures store { self.new.flusher.store ≡ self.old.flusher.store }
+    {
+        self.flusher.batches_beside(&mut self.sequencer.ends);
+    }
+
+    // Tells the ends of a slot what the others did.
+    fn tell(&mut self, slot: Slot)
+        ensures open { (w : World) → IsOpen w self.old → IsOpen w self.new }
+        ensures knows { Knows slot self.new }
+        ensures there { IsSome (slice_get self.new.consoles.items slot) }
+        ensures held { self.new.flusher.held ≡ self.old.flusher.held }
+        ensures store { self.new.flusher.store ≡ self.old.flusher.store }
+    {
+        let console = &mut self.consoles[slot.number() as usize];
+        self.sequencer.requests_beside(slot, console);
+        self.flusher.replies_beside(slot, console);
+    }
+
+    // Tells all of them.
+    fn tell_all(&mut self, slot: Slot)
+        ensures open { (w : World) → IsOpen w self.old → IsOpen w self.new }
+        ensures knows { Knows slot self.new × KnowsAll self.new }
+        ensures there { IsSome (slice_get self.new.consoles.items slot) }
+        ensures held { self.new.flusher.held ≡ self.old.flusher.held }
+        ensures store { self.new.flusher.store ≡ self.old.flusher.store }
+    {
+        self.tell(slot);
+        self.tell_batches();
+    }
+
+    /// A slot sends a request.
+    pub fn send(&mut self, slot: Slot, action: Action) -> Event
+        ensures answer { (w : World) → IsOpen w self.old → Answers w (S.Send slot action) result }
+        ensures fits { (w : World) → IsOpen w self.old → IsOpen (after w (S.Send slot action) result) self.new }
+        ensures store { self.new.flusher.store ≡ self.old.flusher.store }
+    {
+        self.tell_all(slot);
+        let console = &mut self.consoles[slot.number() as usize];
+        match console.send(action) {
+            Ok(serial) => Event::Sent(serial),
+            Err(_) => Event::Busy,
+        }
+    }
+
+    /// The next request of a slot is judged and joins the open batch. It is asked first whether one waits, so that Skipped means that none does.
+    pub fn take(&mut self, slot: Slot) -> Event
+        ensures answer { (w : World) → IsOpen w self.old → Answers w (S.Take slot) result }
+        ensures fits { (w : World) → IsOpen w self.old → IsOpen (after w (S.Take slot) result) self.new }
+        ensures store { self.new.flusher.store ≡ self.old.flusher.store }
+    {
+        self.tell_all(slot);
+        if !self.sequencer.waits(slot) {
+            return Event::Skipped;
+        }
+        match self.sequencer.take(slot) {
+            Take::Taken(verdict) => Event::Took(verdict),
+            Take::Empty => Event::Skipped,
+            Take::BatchFull => Event::Skipped,
+        }
+    }
+
+    /// The open batch is sealed. Its ends are told once more, so that the batch that was opened is known to have been free.
+    pub fn seal(&mut self) -> Event
+        ensures answer { (w : World) → IsOpen w self.old → Answers w S.Seal result }
+        ensures fits { (w : World) → IsOpen w self.old → IsOpen (after w S.Seal result) self.new }
+        ensures store { self.new.flusher.store ≡ self.old.flusher.store }
+    {
+        self.tell_batches();
+        match self.sequencer.seal() {
+            Seal::Sealed => {
+                self.tell_batches();
+                Event::Sealed
+            }
+            Seal::NothingToSeal => Event::Skipped,
+            Seal::NoRoom => Event::Skipped,
+        }
+    }
+
+    /// The next sealed batch is fetched.
+    pub fn fetch(&mut self) -> Event
+        ensures answer { (w : World) → IsOpen w self.old → Answers w S.Fetch result }
+        ensures fits { (w : World) → IsOpen w self.old → IsOpen (after w S.Fetch result) self.new }
+        ensures honest { K.honest self.old.flusher.store ↔ K.honest self.new.flusher.store }
+        ensures store { (K.device self.new.flusher.store ≡ K.device self.old.flusher.store) × (K.failures self.new.flusher.store ≡ K.failures self.old.flusher.store) }
+    {
+        self.tell_batches();
+        if !self.flusher.waits() {
+            return Event::Skipped;
+        }
+        match self.flusher.fetch() {
+            Fetch::Got => Event::Fetched,
+            Fetch::Empty => Event::Skipped,
+            Fetch::Held => Event::Skipped,
+        }
+    }
+
+    /// The one device call that is next.
+    pub fn call(&mut self) -> Advance
+        ensures answer { (w : World) → IsOpen w self.old → Answers w S.Call (called result) }
+        ensures fits { (w : World) → IsOpen w self.old → CallFits w (called result) self.new }
+        ensures honest { K.honest self.old.flusher.store ↔ K.honest self.new.flusher.store }
+        ensures moves { K.honest self.old.flusher.store → (w : World) → IsOpen w self.old → Moves K.recovers K.spent w S.Call (called result) (record { state = K.device self.old.flusher.store; failures = K.failures self.old.flusher.store }) (record { state = K.device self.new.flusher.store; failures = K.failures self.new.flusher.store }) }
+        // It fails only where the device failed in it, or where a checkpoint was due in the last epoch.
+        ensures late { result ≡ Advance.Failed → K.honest self.old.flusher.store → ¬ (K.spent (K.device self.new.flusher.store)) →
+            (w : World) → IsOpen w self.old → HasFailed (K.failures self.old.flusher.store) (K.failures self.new.flusher.store) }
+        ensures count { K.failures self.old.flusher.store ≤ K.failures self.new.flusher.store }
+        // A batch is committed in a bounded number of calls.
+        ensures ends { (m : ℕ) → result ≡ Advance.More → 0 < length (to_commit self.old.flusher.held) → EndsIn (m + 1) self.old → EndsIn m self.new }
+    {
+        self.tell_batches();
+        match self.flusher.advance() {
+            Advance::More => Advance::More,
+            Advance::Committed => Advance::Committed,
+            Advance::Failed => Advance::Failed,
+            Advance::Nothing => Advance::Nothing,
+        }
+    }
+
+    /// The committed batch is shown.
+    pub fn publish(&mut self) -> Event
+        ensures answer { (w : World) → IsOpen w self.old → Answers w S.Publish result }
+        ensures fits { (w : World) → IsOpen w self.old → IsOpen (after w S.Publish result) self.new }
+        ensures store { self.new.flusher.store ≡ self.old.flusher.store }
+    {
+        self.tell_batches();
+        match self.flusher.publish(&()) {
+            Publishes::Published => Event::Published,
+            Publishes::OutOfMemory => Event::Skipped,
+            Publishes::NotYet => Event::Skipped,
+        }
+    }
+
+    /// The next verdict is released to its slot.
+    pub fn release(&mut self) -> Event
+        ensures answer { (w : World) → IsOpen w self.old → Answers w S.Release result }
+        ensures fits { (w : World) → IsOpen w self.old → IsOpen (after w S.Release result) self.new }
+        ensures store { self.new.flusher.store ≡ self.old.flusher.store }
+    {
+        let Some(entry) = self.flusher.next() else {
+            return Event::Skipped;
+        };
+        self.tell_all(entry.slot);
+        match self.flusher.release() {
+            Release::Released(slot) => Event::Released(slot),
+            Release::Full(_) => Event::Skipped,
+            Release::Nothing => Event::Skipped,
+        }
+    }
+
+    /// The batch goes back once its verdicts are released.
+    pub fn give_back(&mut self) -> Event
+        ensures answer { (w : World) → IsOpen w self.old → Answers w S.GiveBack result }
+        ensures fits { (w : World) → IsOpen w self.old → IsOpen (after w S.GiveBack result) self.new }
+        ensures store { self.new.flusher.store ≡ self.old.flusher.store }
+    {
+        self.tell_batches();
+        if self.flusher.give_back() {
+            Event::GaveBack
+        } else {
+            Event::Skipped
+        }
+    }
+
+    /// A slot receives its next receipt.
+    pub fn receive(&mut self, slot: Slot) -> Event
+        ensures answer { (w : World) → IsOpen w self.old → Answers w (S.Receive slot) result }
+        ensures fits { (w : World) → IsOpen w self.old → IsOpen (after w (S.Receive slot) result) self.new }
+        ensures store { self.new.flusher.store ≡ self.old.flusher.store }
+    {
+        self.tell_all(slot);
+        let place = slot.number() as usize;
+        if !self.consoles[place].waits() {
+            return Event::Skipped;
+        }
+        let console = &mut self.consoles[place];
+        match console.receive() {
+            Some(receipt) => {
+                let Receipt {
+                    serial,
+                    verdict,
+                    number,
+                    told: _,
+                } = receipt;
+                Event::Received(serial, verdict, number)
+            }
+            None => Event::Skipped,
+        }
+    }
+
+    /// Asks the published plant, for any slot.
+    pub fn look(&self, alloc: Global, query: Query) -> Event
+        ensures answer { (w : World) (slot : ℕ) → IsOpen w self.now → Answers w (S.Look slot query) result }
+        ensures fits { (w : World) (slot : ℕ) → IsOpen w self.now → IsOpen (after w (S.Look slot query) result) self.now }
+    {
+        let mut look = self.flusher.board().looker(Seen::new());
+        let mut answer = Answer::new(alloc);
+        match look.look(query, &mut answer) {
+            Ok(count) => Event::Looked(count),
+            Err(_) => Event::Skipped,
+        }
+    }
+
+    /// One of the steps that leave the device alone.
+    pub fn go(&mut self, alloc: Global, step: &Step) -> Event
+        requires { IsInner step.now }
+        ensures answer { (w : World) → IsOpen w self.old → Answers w step.now result }
+        ensures fits { (w : World) → IsOpen w self.old → IsOpen (after w step.now result) self.new }
+        ensures honest { K.honest self.old.flusher.store ↔ K.honest self.new.flusher.store }
+        ensures store { (K.device self.new.flusher.store ≡ K.device self.old.flusher.store) × (K.failures self.new.flusher.store ≡ K.failures self.old.flusher.store) }
+    {
+        match step {
+            Step::Send(slot, action) => self.send(*slot, *action),
+            Step::Take(slot) => self.take(*slot),
+            Step::Seal => self.seal(),
+            Step::Fetch => self.fetch(),
+            Step::Publish => self.publish(),
+            Step::Release => self.release(),
+            Step::GiveBack => self.give_back(),
+            Step::Receive(slot) => self.receive(*slot),
+            Step::Look(_, query) => self.look(alloc, *query),
+            Step::Call => unreachable!(),
+            Step::Crash(_) => unreachable!(),
+            Step::Reopen => unreachable!(),
+        }
+    }
+
+    /// The count of what is stored.
+    pub fn count(&self) -> u64
+        ensures { result ≡ (K.stored self.now.flusher.store).panel.count }
+    {
+        self.flusher.keeper().count()
+    }
+
+    /// Does nothing: it says what a crash leaves.
+    pub fn images(&self)
+        ensures headline { K.honest self.now.flusher.store → (w : World) → Fits w self.now → Headline K.recovers K.spent w (K.device self.now.flusher.store) }
+    {
+        self.flusher.keeper().images();
+    }
+
+    /// The device alone.
+    pub fn into_device(self) -> K::Device
+        ensures honest { K.honest self.flusher.store ↔ K.Device.honest result }
+        ensures device { K.Device.state result ≡ K.device self.flusher.store }
+        ensures failures { K.Device.failures result ≡ K.failures self.flusher.store }
+        ensures headline { K.honest self.flusher.store → (w : World) → Fits w self → Headline K.recovers K.spent w (K.Device.state result) }
+    {
+        self.images();
+        let Pipeline {
+            consoles: _,
+            sequencer: _,
+            flusher,
+        } = self;
+        flusher.into_keeper().into_device()
+    }
+}
