@@ -1,5 +1,5 @@
 //! A run.
-ghost use Rattle.std.specs.Prelude.{◌≡◌, ◌≤◌, ℕ, [], length, map, vec_len, vec_capacity, IfOk};
+ghost use Rattle.std.specs.Prelude.{◌≡◌, ◌≤◌, ℕ, [], length, map, vec_len, vec_capacity, IfOk, IsTrue};
 ghost use mathlib.Core.List.{IsPrefix};
 ghost use Rattle.alm_rings.specs.Batches.{AreBatchEnds, SameSealEnds, SameFetchEnds, fetched_of, sealed_of};
 ghost use Rattle.alm_rings.specs.Placed.{AreApart, SameOutboxAt, outbox_at};
@@ -7,6 +7,7 @@ ghost use Rattle.alm_seq.specs.Sequences.{SameInboxes};
 ghost use Rattle.alm_run.specs.Histories.{Judged, Flushed, LeavesOneOf};
 ghost use Rattle.alm_run.specs.Same.{AllSame};
 ghost use Rattle.alm_run.specs.Serving.{Serves};
+ghost use Rattle.alm_threads.specs.Answered.{AllAnswered};
 ghost use Rattle.alm_threads.specs.Runs.{AreClosed, IsRun};
 ghost use Rattle.alm_threads.specs.Slots.{AreTied};
 
@@ -21,7 +22,7 @@ use alm_disk::Hold;
 use alm_rings::{Console, SlotReport, Told, batches_beside};
 use alm_run::{
     Bell, Bells, Chair, Closes, Doorbell, Flags, Landed, Parcel, Rings, Source, StartFault,
-    join_all, run_flusher, start_all, start_rings,
+    Storage, join_all, run_flusher, start_all, start_rings,
 };
 use alm_store::Store;
 use alm_types::Slot;
@@ -103,7 +104,24 @@ where
     })
 }
 
-// Closes all rings, and says what went through them.
+// Whether all that was sent was taken, and all that was taken was answered.
+fn are_answered(slots: &[Option<SlotReport>]) -> bool
+    ensures { IsTrue result → AllAnswered slots.now }
+{
+    for slot in slots {
+        match slot {
+            Some(report) => {
+                if report.sent != report.taken || report.taken != report.released {
+                    return false;
+                }
+            }
+            None => return false,
+        }
+    }
+    true
+}
+
+// Closes all rings, and says what went through them. Where a slot was left with something the run isn't whole.
 fn report_of<K: Store, T: Told + Drop>(
     ends: Ends<K, T>,
     room: Vec<Option<SlotReport>>,
@@ -130,6 +148,11 @@ fn report_of<K: Store, T: Told + Drop>(
     } = landed;
     batches_beside(&mut ends, &mut fetch);
     let slots = close_all(consoles, inboxes, outboxes, room);
+    let storage = if are_answered(&slots) {
+        storage
+    } else {
+        Storage::Stopped
+    };
     RunReport {
         keeper: store,
         storage,
