@@ -3,22 +3,16 @@ use Rattle.std.proofs.Common.{◌≡◌, ◌⊎◌, ⊎_elim, ◌∙◌, ℕ, Li
 use Rattle.std.specs.List.{Contains}
 use mathlib.Core.Logic.{∥∥₁_elim, ∥∥₁_prop}
 use Rattle.alm_types.specs.declared.request.Request.{Request}
-use Rattle.alm_types.specs.declared.verdict.Verdict.{Verdict}
-use Rattle.alm_types.specs.declared.verdict.Verdict.TheVariants.{Accepted, Refused}
 use Rattle.alm_model.specs.Accept.{accept}
 use Rattle.alm_model.specs.Plant.{Condensed}
 use Rattle.alm_model.specs.Step.{run}
-use Rattle.alm_model.specs.Judging.{accepted_of, after_verdict, verdict_of, when_accepted}
+use Rattle.alm_model.specs.Judging.{accepted_of, verdict_of, when_accepted}
 use Rattle.alm_flush.specs.declared.held.Held.{Held}
 use Rattle.alm_flush.specs.HeldBatch.{waiting_of}
 use Rattle.alm_desk.specs.Backends.{if_accepted}
-use Rattle.alm_stack.specs.Passing.{MayWait}
+use Rattle.alm_stack.specs.Exchanges.{MayWait}
 use Rattle.alm_stack.specs.Stacks.{kept_at}
-use Rattle.alm_stack.proofs.Verdicts.{after_is}
-
-run_one : (q : Condensed) (v : Verdict) → run q (when_accepted v) ≡ after_verdict q v
-run_one q (Accepted a) = refl
-run_one q (Refused why n) = refl
+use Rattle.alm_stack.proofs.Verdicts.{after_is, run_one}
 
 module _ (R : List ℕ → Condensed → Type 0) where
   only : (p : Condensed) (b : List ℕ) → R b p → ∥ ((plant : Condensed) × Contains (p ∷ []) plant × R b plant) ∥₁

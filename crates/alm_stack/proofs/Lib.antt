@@ -1,6 +1,6 @@
-pub mod Coming
-pub mod Kept
-pub mod Resting
-pub mod Rings
-pub mod Stored
 pub mod Verdicts
+pub mod Kept
+pub mod Worlds
+pub mod Leading
+pub mod Rests
+pub mod Looking

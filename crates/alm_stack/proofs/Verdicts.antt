@@ -1,5 +1,6 @@
 -- What becomes of a request, in the words of a backend.
-use Rattle.std.proofs.Common.{◌≡◌, ◌≤◌, ℕ, length, Result, Ok, Err, refl, ap, arith}
+use Rattle.std.proofs.Common.{◌≡◌, ◌≤◌, ◌∙◌, ◌++◌, [], ℕ, length, Result, Ok, Err, refl, ap, arith}
+use Rattle.std.proofs.lemmas.List.{append-nil}
 use Rattle.alm_types.specs.declared.action.Action.{Action}
 use Rattle.alm_types.specs.declared.refusal.Refusal.{Refusal}
 use Rattle.alm_types.specs.declared.request.Request.{Request}
@@ -8,9 +9,12 @@ use Rattle.alm_types.specs.declared.verdict.Verdict.TheVariants.{Accepted, Refus
 use Rattle.alm_model.specs.Accept.{accept}
 use Rattle.alm_model.specs.Plant.{Condensed}
 use Rattle.alm_model.specs.Judging.{verdict_from, verdict_of, after_verdict, when_accepted}
-use Rattle.alm_model.proofs.Runs.{step_count}
+use Rattle.alm_model.specs.Step.{run}
+use Rattle.alm_model.proofs.Runs.{run_append, step_count}
 use Rattle.alm_desk.specs.Backends.{judged, judged_by, if_accepted}
 use Rattle.alm_desk.specs.declared.judged.Judged.{Judged}
+use Rattle.alm_pipeline.specs.World.{World, live}
+use Rattle.alm_stack.specs.Exchanges.{handed_in}
 
 after_from : (q : Condensed) (n : ℕ) (r : Result Action Refusal) → after_verdict q (verdict_from n r) ≡ if_accepted q r
 after_from q n (Ok a) = refl
@@ -33,3 +37,14 @@ judged_is q r = judged_from q (accept q.panel r)
 pub few_accepted : (v : Verdict) → length (when_accepted v) ≤ 256
 few_accepted (Accepted a) = omega arith
 few_accepted (Refused why n) = omega arith
+
+pub few_entry : (v : Verdict) → length (when_accepted v ++ []) ≤ 256
+few_entry v = omega (arith, ap length (append-nil (when_accepted v)), few_accepted v)
+
+pub run_one : (q : Condensed) (v : Verdict) → run q (when_accepted v) ≡ after_verdict q v
+run_one q (Accepted a) = refl
+run_one q (Refused why n) = refl
+
+-- the plant with a request's action, where it was accepted
+pub live_after : (w : World) (slot : ℕ) (want : Action) (v : Verdict) → live (handed_in w slot want v) ≡ after_verdict (live w) v
+live_after w slot want v = run_append w.base w.accepted (when_accepted v ++ []) ∙ (ap (run (live w)) (append-nil (when_accepted v)) ∙ run_one (live w) v)

@@ -1,2 +1,2 @@
-pub mod Passing
+pub mod Exchanges
 pub mod Stacks

@@ -1,5 +1,5 @@
 -- A stack, and for which plants its device stands.
-use Rattle.std.specs.Prelude.{ℕ, List, [], ◌∷◌, length, Option, Some, None, slice_get}
+use Rattle.std.specs.Prelude.{◌≡◌, ℕ, List, [], ◌∷◌, length, Option, Some, None, Result, Ok, Err, slice_get}
 use Rattle.alm_types.specs.declared.request.Request.{Request}
 use Rattle.alm_model.specs.Accept.{accept}
 use Rattle.alm_model.specs.Plant.{Condensed}
@@ -10,6 +10,14 @@ use Rattle.alm_rings.specs.Ends.{sent_of}
 use Rattle.alm_store.specs.declared.store.Store.{Ghosts}
 use Rattle.alm_seq.specs.Sequences.{live_of}
 use Rattle.alm_desk.specs.Backends.{if_accepted}
+use Rattle.alm_desk.specs.declared.judged.Judged.{Judged}
+use Rattle.alm_desk.specs.declared.stopped.Stopped.{Stopped}
+use Rattle.alm_types.specs.declared.query.Query.{Query}
+use Rattle.alm_types.specs.declared.refusal.Refusal.{Refusal}
+use Rattle.alm_pipeline.specs.declared.step.Step.TheVariants.{Look}
+use Rattle.alm_pipeline.specs.declared.event.Event.TheVariants.{Looked}
+use Rattle.alm_pipeline.specs.World.{World, Answers, after}
+use Rattle.alm_stack.specs.Exchanges.{IsExchange, Rests}
 use Rattle.alm_stack.specs.declared.stack.StackOver.{StackOver}
 
 -- none from the request on at which the storage stopped
@@ -40,4 +48,17 @@ module _ {K D : Type 0} {g : Ghosts K D} {d : Disk.Ghosts D} where
 
   -- how many requests of a slot were sent
   abbrev pub serial_of : ℕ → StackOver K D g d → ℕ
-  serial_of slot s = sent_to (slice_get s.consoles.items slot)
+  serial_of slot s = sent_to (slice_get s.pipeline.consoles.items slot)
+
+  -- a stack that runs has a world's pipeline, with no request under way
+  abbrev pub RunsIn : World → StackOver K D g d → Type 0
+  RunsIn w s = (s.halted ≡ None) × Rests w s.pipeline
+
+  -- a request is a run of that world's steps, of which the answer is the reply
+  abbrev pub RunsThrough : World → Request → (old new : StackOver K D g d) → Result Judged Stopped → Type 0
+  RunsThrough w r old new result = IsExchange w r.slot r.want old.pipeline new.pipeline result
+
+  -- a query is a look of that world, under the count that it shows; a refused one changes nothing
+  abbrev pub LooksThrough : World → Query → StackOver K D g d → Result ℕ Refusal → Type 0
+  LooksThrough w query s (Ok count) = (slot : ℕ) → Answers w (Look slot query) (Looked count) × RunsIn (after w (Look slot query) (Looked count)) s
+  LooksThrough w query s (Err why) = RunsIn w s

@@ -1,17 +1,16 @@
 //! The whole stack.
 
-ghost use Rattle.std.specs.Prelude.{◌≡◌, ℕ, None, Some, length, slice_get};
+ghost use Rattle.std.specs.Prelude.{◌≡◌, None, Some};
 ghost use Rattle.alm_types.specs.declared.request.Request.{Request};
 ghost use Rattle.alm_model.specs.Judging.{verdict_of};
-ghost use Rattle.alm_rings.specs.declared.console.Console.{Console};
-ghost use Rattle.alm_stack.specs.Passing.{AreLinked, RestsAt, MayWait};
+ghost use Rattle.alm_pipeline.specs.World.{World};
+ghost use Rattle.alm_stack.specs.Exchanges.{MayWait, Rests};
 
-use crate::opening::{Furnished, furnish};
-use crate::pipeline::Pipeline;
-use alm_board::{Look, PlainTold, Seen};
+use crate::exchange::exchange;
+use alm_board::{Look, Seen};
 use alm_desk::{Backend, Judged, Stopped};
 use alm_keeper::{Keeper, OpenFault};
-use alm_rings::Console;
+use alm_pipeline::Pipeline;
 use alm_store::Store;
 use alm_types::{Answer, Query, Refusal, Request};
 use std::alloc::Global;
@@ -22,15 +21,12 @@ pub type Stack<D> = StackOver<Keeper<D>>;
 /// The parts of a server over a store, one request at a time.
 #[derive(Drop)]
 pub struct StackOver<K: Store> {
-    consoles: Vec<Console<PlainTold>>,
     pipeline: Pipeline<K>,
     // The request at which the storage stopped.
     halted: Option<Request>,
     failures: u64,
-    pub ghost count: { length consoles.items ≡ 18 },
-    /// While it runs, nothing is under way between two requests,
-    pub ghost linked: { halted ≡ None → (s : ℕ) (c : Console _ _) → slice_get consoles.items s ≡ Some c → AreLinked s c pipeline.sequencer.inboxes.items pipeline.flusher.outboxes.items pipeline.sequencer.ends pipeline.flusher.fetch },
-    pub ghost rests: { halted ≡ None → (s : ℕ) (c : Console _ _) → slice_get consoles.items s ≡ Some c → RestsAt s c pipeline },
+    /// While it runs, it has a world's pipeline, and nothing is under way between two requests,
+    pub ghost rests: { halted ≡ None → ∥ ((w : World) × Rests w pipeline) ∥₁ },
     /// and once it has stopped, at most the action that met it.
     pub ghost halts: { (r : Request) → halted ≡ Some r → ∥ MayWait pipeline.flusher.held (verdict_of (K.stored pipeline.flusher.store) r) ∥₁ },
 }
@@ -40,7 +36,8 @@ impl<K: Store> StackOver<K> {
     ghost use Rattle.alm_model.specs.Plant.{Condensed};
     ghost use Rattle.alm_disk.specs.Device.{IsImage};
     ghost use Rattle.alm_store.specs.Opening.{HasCause};
-    ghost use Rattle.alm_stack.specs.Stacks.{stands_of, kept_of, store_of};
+    ghost use Rattle.alm_pipeline.specs.World.{first};
+    ghost use Rattle.alm_stack.specs.Stacks.{stands_of, kept_of, store_of, RunsIn};
 
     /// Opens what a device stands for: it is synced and read, and nothing is written. All memory is taken here.
     ///
@@ -50,6 +47,8 @@ impl<K: Store> StackOver<K> {
         ensures opened { K.Device.honest disk → IfOk result (λ s. IsImage (K.Device.state disk) (K.device (store_of s)).bytes × K.recovers (K.device (store_of s)).bytes (K.stored (store_of s))) }
         ensures settled { K.Device.honest disk → IfOk result (λ s. (place : ℕ) → (K.device (store_of s)).pending place ≡ false) }
         ensures stands { IfOk result (λ s. (stands_of s ≡ Some (K.stored (store_of s))) × (kept_of s ≡ K.stored (store_of s) ∷ [])) }
+        // It begins in the first world of that plant.
+        ensures world { IfOk result (λ s. RunsIn (first (K.stored (store_of s))) s) }
         ensures failures { IfOk result (λ s. s.failures ≡ 0) }
         ensures counted { IfOk result (λ s. K.Device.failures disk ≤ K.failures (store_of s)) }
         ensures honest { IfOk result (λ s. K.Device.honest disk ↔ K.honest (store_of s)) }
@@ -57,16 +56,12 @@ impl<K: Store> StackOver<K> {
         ensures unwritten_back { K.Device.honest disk → IfErr result (λ x. (b : List ℕ) → IsImage (K.Device.state x.1) b → IsImage (K.Device.state disk) b) }
         ensures cause { K.Device.honest disk → IfErr result (λ x. HasCause K.recovers (K.Device.state disk) x.0 (K.Device.failures disk) (K.Device.failures x.1)) }
     {
-        match K::open(alloc, disk) {
-            Ok(store) => match furnish(alloc, store) {
-                Ok(Furnished { consoles, pipeline }) => Ok(StackOver {
-                    consoles,
-                    pipeline,
-                    halted: None,
-                    failures: 0,
-                }),
-                Err(store) => Err((OpenFault::OutOfMemory, store.into_device())),
-            },
+        match Pipeline::<K>::open(alloc, disk) {
+            Ok(pipeline) => Ok(StackOver {
+                pipeline,
+                halted: None,
+                failures: 0,
+            }),
             Err(refused) => Err(refused),
         }
     }
@@ -86,24 +81,20 @@ impl<K: Store> StackOver<K> {
         ensures failures { K.Device.failures result ≡ K.failures (store_of self) }
     {
         let StackOver {
-            consoles: _,
             pipeline,
             halted: _,
             failures: _,
         } = self;
-        let Pipeline {
-            sequencer: _,
-            flusher,
-        } = pipeline;
-        flusher.into_keeper().into_device()
+        pipeline.into_device()
     }
 }
 
 impl<K: Store> Backend for StackOver<K> {
     ghost use Rattle.std.specs.Prelude.{◌≡◌, ◌↔◌, ◌<◌, ◌+◌, ◌^◌, IsSome, OnErr};
     ghost use Rattle.alm_disk.specs.Failures.{HasFailed};
-    ghost use Rattle.alm_desk.specs.Backends.{IsJudged, CountsStop, kept_by};
-    ghost use Rattle.alm_stack.specs.Stacks.{stands_of, kept_of, store_of, serial_of};
+    ghost use Rattle.alm_desk.specs.Backends.{IsJudged, CountsStop, IsAsked, kept_by};
+    ghost use Rattle.alm_pipeline.specs.World.{World};
+    ghost use Rattle.alm_stack.specs.Stacks.{stands_of, kept_of, store_of, serial_of, LooksThrough, RunsIn, RunsThrough};
 
     ghost stands = { stands_of };
 
@@ -118,16 +109,18 @@ impl<K: Store> Backend for StackOver<K> {
         // It stops only where the device failed in this call, where the last epoch is spent, or where the slot's serials are.
         ensures cause { IsSome (stands_of self.old) → K.honest (store_of self.old) → ¬ (K.spent (K.device (store_of self.new))) → serial_of request.now.slot self.old + 1 < 2 ^ 64 → OnErr result (HasFailed (K.failures (store_of self.old)) (K.failures (store_of self.new))) }
         ensures honest { K.honest (store_of self.old) ↔ K.honest (store_of self.new) }
+        // It is a run of the world's steps, of which the answer is the reply; with an honest device it is one of the headline's.
+        ensures run { (w : World) → RunsIn w self.old → RunsThrough w request.now self.old self.new result }
     {
         match self.halted {
             Some(_) => return Err(Stopped),
             None => {}
         }
-        let slot = request.slot;
-        let console = &mut self.consoles[slot.number() as usize];
-        match self.pipeline.exchange(slot, console, request.want) {
-            Some(judged) => Ok(judged),
-            None => {
+        // for the proof: the slot has a console
+        let _place = request.slot.number();
+        match exchange(&mut self.pipeline, request.slot, request.want) {
+            Ok(judged) => Ok(judged),
+            Err(Stopped) => {
                 self.halted = Some(*request);
                 self.failures = self.failures.saturating_add(1);
                 Err(Stopped)
@@ -135,7 +128,13 @@ impl<K: Store> Backend for StackOver<K> {
         }
     }
 
-    fn ask(&mut self, query: Query, answer: &mut Answer) -> Result<u64, Refusal> {
+    fn ask(&mut self, query: Query, answer: &mut Answer) -> Result<u64, Refusal>
+        ensures asked { IsAsked (stands_of self.old) query answer.old answer.new result }
+        ensures same { (stands_of self.new ≡ stands_of self.old) × (kept_of self.new ≡ kept_of self.old) }
+        ensures count { self.new.failures ≡ self.old.failures }
+        // It is a look of the world.
+        ensures run { (w : World) → RunsIn w self.old → LooksThrough w query self.new result }
+    {
         match self.halted {
             Some(_) => return Err(Refusal::Stopped),
             None => {}

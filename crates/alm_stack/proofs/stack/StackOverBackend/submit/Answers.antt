@@ -1,176 +1,83 @@
-use Rattle.std.proofs.Common.{◌≡◌, ◌∙◌, inl, inr, ℕ, [], ◌∷◌, Option, Some, Ok, Err, refl, sym, ap, subst, arith}
-use Rattle.std.specs.Prelude.{slice_get}
-use Rattle.std.proofs.lemmas.List.{length-set}
-use Rattle.std.proofs.lemmas.Option.{slice_get_read, same_Some}
+use Rattle.std.proofs.Common.{◌≡◌, ◌∙◌, ◌<◌, ℕ, [], ◌∷◌, Option, Some, Ok, Err, sym, ap, subst, arith}
+use Rattle.std.proofs.Props.{props}
+use Rattle.std.proofs.Math.Logic.{∥∥₁_elim, ∥∥₁_prop}
+use Rattle.std.proofs.lemmas.Option.{same_Some}
 use Rattle.alm_types.specs.declared.request.Request.{Request}
 use Rattle.alm_model.specs.Accept.{accept}
 use Rattle.alm_model.specs.Plant.{Condensed}
 use Rattle.alm_model.specs.Judging.{verdict_of}
-use Rattle.alm_rings.specs.declared.console.Console.{Console}
 use Rattle.alm_seq.specs.Sequences.{live_of}
-use Rattle.alm_desk.specs.Backends.{IsJudged, if_accepted, kept_by}
-use Rattle.alm_stack.specs.Passing.{AreLinked, MayWait, RestsAt}
-use Rattle.alm_stack.specs.Stacks.{running, kept_at, kept_of, sent_to}
-use Rattle.alm_stack.proofs.Resting.{set_cases, still_linked, others_rest, at_rest, lives}
+use Rattle.alm_desk.specs.Backends.{IsJudged, if_accepted, judged, kept_by}
+use Rattle.alm_stack.specs.Exchanges.{MayWait}
+use Rattle.alm_stack.specs.Stacks.{running, kept_at, kept_of}
+use Rattle.alm_stack.proofs.Rests.{failed_is, lives, sent_by}
 use Rattle.alm_stack.proofs.stack.StackOverBackend.submit.Goals as goal
-
-pub exchange-requires : goal.exchange-requires
-exchange-requires g c =
-    let s = c.args.self.now in
-    let slot = c.args.request.now.slot in
-    let cs = s.consoles.items in
-    let at = c.number.result in
-    let number : at ≡ slot = c.number.ensures.number in
-    let old = c.index_mut-console.result.now in
-    let was = slice_get_read cs _ at old refl (omega (arith, c.number.ensures.limit, s.count)) c.index_mut-console.ensures.value in
-    let here : slice_get cs slot ≡ Some old = ap (slice_get cs) (sym number) ∙ was in
-    let none = c.in-None.is in
-    s.linked none slot old here
 
 pub invariant_of-self : goal.invariant_of-self
 invariant_of-self g c =
     let s = c.args.self.now in
-    let slot = c.args.request.now.slot in
-    let cs = s.consoles.items in
-    let at = c.number.result in
-    let number : at ≡ slot = c.number.ensures.number in
-    let old = c.index_mut-console.result.now in
-    let was = slice_get_read cs _ at old refl (omega (arith, c.number.ensures.limit, s.count)) c.index_mut-console.ensures.value in
-    let here : slice_get cs slot ≡ Some old = ap (slice_get cs) (sym number) ∙ was in
-    let none = c.in-None.is in
-    let base = s.pipeline.sequencer.base.value in
-    let live = live_of s.pipeline.sequencer in
-    let m = s.rests none slot old here in
-    let p = s.pipeline in
-    let q = c.exchange.new.self in
-    let new = c.exchange.new.console in
-    let a = c.in-Some-exchange.ensures.answered base live m in
-    let plant = if_accepted live (accept live.panel c.args.request.now) in
-    let ins = q.sequencer.inboxes.items in
-    let outs = q.flusher.outboxes.items in
-    let ends = q.sequencer.ends in
-    let fetch = q.flusher.fetch in
     record {
-      count = length-set cs at new ∙ s.count;
-      linked = λ _ x k there. elim (set_cases cs x at new k there) [
-        | inl h ↦ subst (λ (y : Console _ _). AreLinked x y ins outs ends fetch) h.1 (subst (λ (n : ℕ). AreLinked n new ins outs ends fetch) (sym (h.0 ∙ number)) c.exchange.ensures.linked)
-        | inr o ↦ (let others = a.2 x (λ e. o.0 (e ∙ sym number)) in
-            still_linked x slot k new p.sequencer.inboxes.items ins p.flusher.outboxes.items outs p.sequencer.ends ends p.flusher.fetch fetch others.0 others.1 (s.linked none x k o.1) c.exchange.ensures.linked)
-      ];
-      rests = λ _ x k there. elim (set_cases cs x at new k there) [
-        | inl h ↦ subst (λ (y : Console _ _). RestsAt x y q) h.1 (subst (λ (n : ℕ). RestsAt n new q) (sym (h.0 ∙ number)) (at_rest slot base plant new q a.1))
-        | inr o ↦ (let others = a.2 x (λ e. o.0 (e ∙ sym number)) in
-            others_rest x slot base plant k new p q others.0 others.1 (s.rests none x k o.1) a.1)
-      ];
-      halts = λ r is. absurd (cc (sym none ∙ is));
+      rests = λ _. ∥∥₁_elim (s.rests c.in-None.is) ∥∥₁_prop (λ r. let a = c.in-Ok.ensures.judged r.0 r.1 in ∣ (a.1, a.2) ∣₁);
+      halts = λ r is. absurd (cc (sym c.in-None.is ∙ is));
     }
 
-pub invariant_of-self-in-None-exchange : goal.invariant_of-self-in-None-exchange
-invariant_of-self-in-None-exchange g c =
+pub invariant_of-self-in-Err : goal.invariant_of-self-in-Err
+invariant_of-self-in-Err g c =
     let s = c.args.self.now in
-    let slot = c.args.request.now.slot in
-    let cs = s.consoles.items in
-    let at = c.number.result in
-    let number : at ≡ slot = c.number.ensures.number in
-    let old = c.index_mut-console.result.now in
-    let was = slice_get_read cs _ at old refl (omega (arith, c.number.ensures.limit, s.count)) c.index_mut-console.ensures.value in
-    let here : slice_get cs slot ≡ Some old = ap (slice_get cs) (sym number) ∙ was in
-    let none = c.in-None.is in
-    let base = s.pipeline.sequencer.base.value in
-    let live = live_of s.pipeline.sequencer in
-    let m = s.rests none slot old here in
-    let p = s.pipeline in
-    let q = c.exchange.new.self in
-    let new = c.exchange.new.console in
-    let left = c.in-None-exchange.ensures.left refl base live m in
-    let stored : (g.K.Store.stored q.flusher.store) ≡ live = left.0 in
+    let q = c.exchange.new.pipeline in
     record {
-      count = length-set cs at new ∙ s.count;
-      linked = λ is. absurd (cc is);
       rests = λ is. absurd (cc is);
-      halts = λ r is. ∣ subst (λ (y : Request). MayWait q.flusher.held (verdict_of (g.K.Store.stored q.flusher.store) y)) (same_Some c.args.request.now r is)
-          (subst (λ (x : Condensed). MayWait q.flusher.held (verdict_of x c.args.request.now)) (sym stored) left.1) ∣₁;
+      halts = λ r is. ∥∥₁_elim (s.rests c.in-None.is) ∥∥₁_prop (λ m.
+          let left = c.in-Err.ensures.left m.0 m.1 in
+          ∣ subst (λ (y : Request). MayWait q.flusher.held (verdict_of (g.K.Store.stored q.flusher.store) y)) (same_Some c.args.request.now r is)
+          (subst (λ (x : Condensed). MayWait q.flusher.held (verdict_of x c.args.request.now)) (sym left.0) left.1) ∣₁);
     }
 
-pub returns-in-Some-exchange-clause-judged : goal.returns-in-Some-exchange-clause-judged
-returns-in-Some-exchange-clause-judged g c =
+pub returns-in-Ok-clause-judged : goal.returns-in-Ok-clause-judged
+returns-in-Ok-clause-judged g c =
     let s = c.args.self.now in
-    let slot = c.args.request.now.slot in
-    let cs = s.consoles.items in
-    let at = c.number.result in
-    let number : at ≡ slot = c.number.ensures.number in
-    let old = c.index_mut-console.result.now in
-    let was = slice_get_read cs _ at old refl (omega (arith, c.number.ensures.limit, s.count)) c.index_mut-console.ensures.value in
-    let here : slice_get cs slot ≡ Some old = ap (slice_get cs) (sym number) ∙ was in
     let none = c.in-None.is in
-    let base = s.pipeline.sequencer.base.value in
+    let r = c.args.request.now in
+    let q = c.exchange.new.pipeline in
     let live = live_of s.pipeline.sequencer in
-    let m = s.rests none slot old here in
-    let p = s.pipeline in
-    let q = c.exchange.new.self in
-    let a = c.in-Some-exchange.ensures.answered base live m in
-    let plant = if_accepted live (accept live.panel c.args.request.now) in
     let later = live_of q.sequencer in
-    let stands : running s.halted later ≡ Some plant = ap (λ h. running h later) none ∙ ap Some (lives slot base plant c.exchange.new.console q a.1) in
-    subst (λ (o : Option Condensed). IsJudged o c.args.request.now (Ok c.in-Some-exchange.judged) (running s.halted later)) (sym (ap (λ h. running h live) none)) (a.0, stands)
+    let is : (c.in-Ok.judged ≡ judged live r) × (later ≡ if_accepted live (accept live.panel r)) = ∥∥₁_elim (s.rests none) (hlevel props) (λ m.
+    let a = c.in-Ok.ensures.judged m.0 m.1 in
+    let at = sym (lives m.0 s.pipeline m.1.0.fits) in
+    (a.0 ∙ ap (λ (x : Condensed). judged x r) at, lives a.1 q a.2.0.fits ∙ (a.3 ∙ ap (λ (x : Condensed). if_accepted x (accept x.panel r)) at))) in
+    subst (λ (o : Option Condensed). IsJudged o r (Ok c.in-Ok.judged) (running s.halted later)) (sym (ap (λ h. running h live) none))
+    (is.0, ap (λ h. running h later) none ∙ ap Some is.1)
 
-pub returns-in-Some-exchange-clause-stored : goal.returns-in-Some-exchange-clause-stored
-returns-in-Some-exchange-clause-stored g c =
+pub returns-in-Ok-clause-stored : goal.returns-in-Ok-clause-stored
+returns-in-Ok-clause-stored g c =
     let s = c.args.self.now in
-    let slot = c.args.request.now.slot in
-    let cs = s.consoles.items in
-    let at = c.number.result in
-    let number : at ≡ slot = c.number.ensures.number in
-    let old = c.index_mut-console.result.now in
-    let was = slice_get_read cs _ at old refl (omega (arith, c.number.ensures.limit, s.count)) c.index_mut-console.ensures.value in
-    let here : slice_get cs slot ≡ Some old = ap (slice_get cs) (sym number) ∙ was in
     let none = c.in-None.is in
-    let base = s.pipeline.sequencer.base.value in
+    let r = c.args.request.now in
+    let q = c.exchange.new.pipeline in
     let live = live_of s.pipeline.sequencer in
-    let m = s.rests none slot old here in
-    let p = s.pipeline in
-    let q = c.exchange.new.self in
-    let a = c.in-Some-exchange.ensures.answered base live m in
-    let plant = if_accepted live (accept live.panel c.args.request.now) in
     let later = live_of q.sequencer in
-    ap (λ h. kept_at h later (g.K.Store.stored q.flusher.store)) none ∙ (ap (λ (x : Condensed). x ∷ []) (lives slot base plant c.exchange.new.console q a.1)
-    ∙ sym (ap (λ h. kept_by (running h live) (kept_of s) c.args.request.now (Ok c.in-Some-exchange.judged)) none))
+    let is : later ≡ if_accepted live (accept live.panel r) = ∥∥₁_elim (s.rests none) (hlevel props) (λ m.
+    let a = c.in-Ok.ensures.judged m.0 m.1 in
+    lives a.1 q a.2.0.fits ∙ (a.3 ∙ ap (λ (x : Condensed). if_accepted x (accept x.panel r)) (sym (lives m.0 s.pipeline m.1.0.fits)))) in
+    ap (λ h. kept_at h later (g.K.Store.stored q.flusher.store)) none ∙ (ap (λ (x : Condensed). x ∷ []) is
+    ∙ sym (ap (λ h. kept_by (running h live) (kept_of s) r (Ok c.in-Ok.judged)) none))
 
-pub returns-in-None-exchange-clause-stored : goal.returns-in-None-exchange-clause-stored
-returns-in-None-exchange-clause-stored g c =
+pub returns-in-Err-clause-stored : goal.returns-in-Err-clause-stored
+returns-in-Err-clause-stored g c =
     let s = c.args.self.now in
-    let slot = c.args.request.now.slot in
-    let cs = s.consoles.items in
-    let at = c.number.result in
-    let number : at ≡ slot = c.number.ensures.number in
-    let old = c.index_mut-console.result.now in
-    let was = slice_get_read cs _ at old refl (omega (arith, c.number.ensures.limit, s.count)) c.index_mut-console.ensures.value in
-    let here : slice_get cs slot ≡ Some old = ap (slice_get cs) (sym number) ∙ was in
     let none = c.in-None.is in
-    let base = s.pipeline.sequencer.base.value in
+    let r = c.args.request.now in
+    let q = c.exchange.new.pipeline in
     let live = live_of s.pipeline.sequencer in
-    let m = s.rests none slot old here in
-    let p = s.pipeline in
-    let q = c.exchange.new.self in
-    let left = c.in-None-exchange.ensures.left refl base live m in
-    let stored : (g.K.Store.stored q.flusher.store) ≡ live = left.0 in
-    ap (λ (x : Condensed). x ∷ if_accepted x (accept x.panel c.args.request.now) ∷ []) stored
-    ∙ sym (ap (λ h. kept_by (running h live) (kept_of s) c.args.request.now (Err (record {}))) none)
+    let stored : g.K.Store.stored q.flusher.store ≡ live = ∥∥₁_elim (s.rests none) (hlevel props) (λ m. (c.in-Err.ensures.left m.0 m.1).0 ∙ sym (lives m.0 s.pipeline m.1.0.fits)) in
+    ap (λ (x : Condensed). x ∷ if_accepted x (accept x.panel r) ∷ []) stored
+    ∙ sym (ap (λ h. kept_by (running h live) (kept_of s) r (Err (record {}))) none)
 
-pub returns-in-None-exchange-clause-cause : goal.returns-in-None-exchange-clause-cause
-returns-in-None-exchange-clause-cause g c = λ some honest unspent more.
+pub returns-in-Err-clause-cause : goal.returns-in-Err-clause-cause
+returns-in-Err-clause-cause g c = λ some honest unspent more.
+    let few : c.args.request.now.slot < 18 = subst (λ (n : ℕ). n < 18) c.number-place.ensures.number c.number-place.ensures.limit in
     let s = c.args.self.now in
-    let slot = c.args.request.now.slot in
-    let cs = s.consoles.items in
-    let at = c.number.result in
-    let number : at ≡ slot = c.number.ensures.number in
-    let old = c.index_mut-console.result.now in
-    let was = slice_get_read cs _ at old refl (omega (arith, c.number.ensures.limit, s.count)) c.index_mut-console.ensures.value in
-    let here : slice_get cs slot ≡ Some old = ap (slice_get cs) (sym number) ∙ was in
-    let none = c.in-None.is in
-    let base = s.pipeline.sequencer.base.value in
-    let live = live_of s.pipeline.sequencer in
-    let m = s.rests none slot old here in
-    let p = s.pipeline in
-    let q = c.exchange.new.self in
-    c.in-None-exchange.ensures.cause refl base live m honest unspent (omega (arith, more, ap sent_to here))
+    let q = c.exchange.new.pipeline in
+    failed_is (g.K.Store.failures s.pipeline.flusher.store) (g.K.Store.failures q.flusher.store) c.exchange.ensures.count
+    (∥∥₁_elim (s.rests c.in-None.is) ∥∥₁_prop (λ m.
+    ∣ c.in-Err.ensures.cause m.0 m.1 honest unspent (omega (arith, more, sent_by m.0 s.pipeline c.args.request.now.slot few m.1.0.fits)) ∣₁))

@@ -1,0 +1,134 @@
+-- One request as a run of the world's steps.
+use Rattle.std.specs.Prelude.{zero, suc, ◌≡◌, ◌⊎◌, ◌+◌, false, ℕ, List, [], ◌∷◌, ◌++◌, length, Result, Ok, Err, OnOk}
+use Rattle.alm_types.specs.declared.action.Action.{Action}
+use Rattle.alm_types.specs.declared.entry.Entry.{Entry}
+use Rattle.alm_types.specs.declared.verdict.Verdict.{Verdict}
+use Rattle.alm_model.specs.Plant.{Condensed}
+use Rattle.alm_model.specs.Judging.{accepted_of, when_accepted}
+use Rattle.alm_disk.specs.Device.{DeviceState}
+use Rattle.alm_disk.specs.declared.disk.Disk
+use Rattle.alm_store.specs.declared.store.Store.{Ghosts}
+use Rattle.alm_flush.specs.declared.held.Held as H
+use Rattle.alm_flush.specs.HeldBatch.{waiting_of}
+use Rattle.alm_desk.specs.declared.judged.Judged.{Judged}
+use Rattle.alm_desk.specs.declared.stopped.Stopped.{Stopped}
+use Rattle.alm_pipeline.specs.declared.step.Step.{Step}
+use Rattle.alm_pipeline.specs.declared.step.Step.TheVariants.{Send, Take, Seal, Fetch, Call, Publish, Release, GiveBack, Receive}
+use Rattle.alm_pipeline.specs.declared.event.Event.{Event}
+use Rattle.alm_pipeline.specs.declared.event.Event.TheVariants.{Sent, Busy, Took, Sealed, Fetched, More, Committed, Failed, Published, Released, GaveBack, Received}
+use Rattle.alm_pipeline.specs.declared.pipeline.Pipeline.{Pipeline}
+use Rattle.alm_pipeline.specs.World.{World, Nothing, Held, Answers, after, with_at}
+use Rattle.alm_pipeline.specs.Headline.{Sight, Headline, Moves, IsRun, after_all}
+use Rattle.alm_pipeline.specs.Matches.{IsOpen}
+
+-- no request is under way: all that was sent is taken and answered, and all that was accepted is stored and shown
+pub record IsIdle (w : World) : Type 0 where
+  pub opened : w.closed ≡ false
+  pub taking : w.taking ≡ []
+  pub sealed : w.sealed ≡ []
+  pub free : w.free ≡ 7
+  pub stage : w.stage ≡ Nothing
+  pub stored : w.stored ≡ w.accepted
+  pub published : w.published ≡ w.accepted
+  pub taken : (s : ℕ) → w.taken s ≡ length (w.sent s)
+  pub released : (s : ℕ) → length (w.released s) ≡ length (w.sent s)
+  pub received : (s : ℕ) → w.received s ≡ length (w.sent s)
+
+-- ---- the steps of a request, and their answers
+
+-- so many device calls that go on
+abbrev pub calls : ℕ → List Step
+calls zero = []
+calls (suc n) = Call ∷ calls n
+
+abbrev pub went_on : ℕ → List Event
+went_on zero = []
+went_on (suc n) = More ∷ went_on n
+
+-- a request is sent, judged, sealed and fetched
+abbrev pub handing : ℕ → Action → List Step
+handing slot want = Send slot want ∷ Take slot ∷ Seal ∷ Fetch ∷ []
+
+abbrev pub handed : (serial : ℕ) → Verdict → List Event
+handed serial v = Sent serial ∷ Took v ∷ Sealed ∷ Fetched ∷ []
+
+-- it is shown, and its reply released and received
+abbrev pub answering : ℕ → List Step
+answering slot = Publish ∷ Release ∷ GiveBack ∷ Receive slot ∷ []
+
+abbrev pub answered : (slot serial : ℕ) → Verdict → (number : ℕ) → List Event
+answered slot serial v number = Published ∷ Released slot ∷ GaveBack ∷ Received serial v number ∷ []
+
+-- what a slot's request came to, by which steps: the reply that was received; or it wasn't sent, or a call failed
+abbrev pub ComesTo : ℕ → Action → Result Judged Stopped → List Step → List Event → Type 0
+ComesTo slot want (Ok j) steps trace =
+    (n serial : ℕ) × (steps ≡ handing slot want ++ (calls n ++ (Call ∷ answering slot))) × (trace ≡ handed serial j.verdict ++ (went_on n ++ (Committed ∷ answered slot serial j.verdict j.number)))
+ComesTo slot want (Err e) steps trace =
+    ((steps ≡ Send slot want ∷ []) × (trace ≡ Busy ∷ [])) ⊎ ((n serial : ℕ) × (v : Verdict) × (steps ≡ handing slot want ++ (calls n ++ (Call ∷ []))) × (trace ≡ handed serial v ++ (went_on n ++ (Failed ∷ []))))
+
+-- each entry answers its step
+abbrev pub IsTrace : World → List Step → List Event → Type 0
+IsTrace w [] [] = Unit {0}
+IsTrace w (step ∷ steps) (event ∷ trace) = Answers w step event × IsTrace (after w step event) steps trace
+IsTrace w [] (event ∷ trace) = ⊥
+IsTrace w (step ∷ steps) [] = ⊥
+
+-- no action waits at the flusher, or the one of this verdict
+abbrev pub MayWait : H.Held → Verdict → Type 0
+MayWait held verdict = (accepted_of (waiting_of held) ≡ []) ⊎ (accepted_of (waiting_of held) ≡ when_accepted verdict)
+
+-- ---- for the proofs: worlds on the way
+
+-- a slot's next entry
+abbrev pub entry_at : World → ℕ → Action → Verdict → Entry
+entry_at w slot want v = record { slot = slot; serial = w.taken slot + 1; want = want; verdict = v }
+
+-- an idle world in which one request was handed in
+abbrev pub handed_in : World → ℕ → Action → Verdict → World
+handed_in w slot want v = let entries = entry_at w slot want v ∷ [] in record w {
+  sent = with_at w.sent slot (w.sent slot ++ want ∷ []);
+  taken = with_at w.taken slot (w.taken slot + 1);
+  accepted = w.accepted ++ accepted_of entries;
+  taking = [];
+  sealed = [];
+  free = 6;
+  stage = Held entries;
+  stored = w.accepted;
+  published = w.accepted;
+  closed = false;
+}
+
+-- .. and stored
+abbrev pub stored_in : World → ℕ → Action → Verdict → World
+stored_in w slot want v = after (handed_in w slot want v) Call Committed
+
+module _ (recovers : List ℕ → Condensed → Type 0) (spent : DeviceState → Type 0) (honest : Type 0) where
+  -- these steps, answered so, lead from a world and its device to another; with an honest device the headline holds before each
+  abbrev pub Leads : World → Sight → List Step → List Event → World → Sight → Type 0
+  Leads w d [] [] w' d' = (w' ≡ w) × (d' ≡ d)
+  Leads w d (step ∷ steps) (event ∷ trace) w' d' =
+      (m : Sight) × Answers w step event × (honest → Headline recovers spent w d.state × Moves recovers spent w step event d m) × Leads (after w step event) m steps trace w' d'
+  Leads w d [] (event ∷ trace) w' d' = ⊥
+  Leads w d (step ∷ steps) [] w' d' = ⊥
+
+module _ {K D : Type 0} {g : Ghosts K D} {d : Disk.Ghosts D} where
+  -- what contracts see of its device
+  abbrev pub sight_of : Pipeline K D g d → Sight
+  sight_of p = record { state = g.device p.flusher.store; failures = g.failures p.flusher.store }
+
+  -- a world's pipeline, with no request under way
+  abbrev pub Rests : World → Pipeline K D g d → Type 0
+  Rests w p = IsOpen w p × IsIdle w
+
+  -- for the proofs: these steps, answered so, lead through a pipeline from one world to another
+  abbrev pub IsWay : World → List Step → List Event → World → (old new : Pipeline K D g d) → Type 0
+  IsWay w steps trace w' old new = Leads g.recovers g.spent (g.honest old.flusher.store) w (sight_of old) steps trace w' (sight_of new)
+
+  -- a slot's request went through it as a run of the world's steps, and with an honest device as one of the headline's
+  pub record IsExchange (w : World) (slot : ℕ) (want : Action) (old new : Pipeline K D g d) (result : Result Judged Stopped) : Type 0 where
+    pub steps : List Step
+    pub trace : List Event
+    pub comes : ComesTo slot want result steps trace
+    pub answers : IsTrace w steps trace
+    pub run : g.honest old.flusher.store → IsRun g.recovers g.spent w (sight_of old) steps trace (sight_of new)
+    pub rests : OnOk result (Rests (after_all w steps trace) new)

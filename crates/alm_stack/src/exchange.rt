@@ -1,0 +1,159 @@
+//! One request through a pipeline: a run of the world's steps.
+
+ghost use Rattle.std.specs.Prelude.{◌≡◌, ◌↔◌, ◌<◌, ◌≤◌, ◌+◌, ◌^◌, ◌∷◌, ◌++◌, [], ℕ, List};
+ghost use Rattle.std.specs.Prelude.{false, length, IsTrue, IfSome, IsNone, IfOk, IfErr};
+ghost use Rattle.alm_types.specs.declared.entry.Entry.{Entry};
+ghost use Rattle.alm_types.specs.declared.verdict.Verdict.{Verdict};
+ghost use Rattle.alm_model.specs.Accept.{accept};
+ghost use Rattle.alm_model.specs.Judging.{accepted_of, verdict_of};
+ghost use Rattle.alm_disk.specs.Failures.{HasFailed};
+ghost use Rattle.alm_desk.specs.Answers.{request};
+ghost use Rattle.alm_desk.specs.Backends.{judged, if_accepted};
+ghost use Rattle.alm_pipeline.specs.declared.step.Step.TheVariants as S;
+ghost use Rattle.alm_pipeline.specs.declared.event.Event.TheVariants as E;
+ghost use Rattle.alm_pipeline.specs.World.{World, Held, after, live, shut};
+ghost use Rattle.alm_pipeline.specs.Matches.{Fits, IsOpen};
+ghost use Rattle.alm_stack.specs.Exchanges.{IsIdle, IsExchange, IsWay, Rests, MayWait};
+ghost use Rattle.alm_stack.specs.Exchanges.{calls, went_on, handing, handed, answering, answered, handed_in, stored_in};
+
+use alm_desk::{Judged, Stopped};
+use alm_flush::Advance;
+use alm_pipeline::{Event, Pipeline};
+use alm_store::Store;
+use alm_types::{Action, Slot};
+
+/// A commit is done in as many calls: where a checkpoint is open, and another one has to make the room.
+const MOST_CALLS: u32 = 647;
+
+/// Sends a request, and has it judged, sealed and fetched: whether it was sent. None is where the slot's serials are spent.
+///
+/// Before each step it is said what a crash leaves.
+fn hand_in<K: Store>(pipeline: &mut Pipeline<K>, slot: Slot, want: Action) -> bool
+    ensures honest { K.honest pipeline.old.flusher.store ↔ K.honest pipeline.new.flusher.store }
+    ensures failures { K.failures pipeline.new.flusher.store ≡ K.failures pipeline.old.flusher.store }
+    ensures handed { IsTrue result → (w : World) → Rests w pipeline.old →
+        (serial : ℕ) × (v : Verdict) × (v ≡ verdict_of (live w) (request slot want)) ×
+        (serial ≡ length (w.sent slot) + 1) × IsOpen (handed_in w slot want v) pipeline.new ×
+        IsWay w (handing slot want) (handed serial v) (handed_in w slot want v) pipeline.old pipeline.new }
+    ensures spent { result ≡ false → (w : World) → Rests w pipeline.old →
+        (2 ^ 64 ≤ length (w.sent slot) + 1) × IsOpen w pipeline.new ×
+        IsWay w (S.Send slot want ∷ []) (E.Busy ∷ []) w pipeline.old pipeline.new }
+{
+    pipeline.images();
+    let Event::Sent(_) = pipeline.send(slot, want) else {
+        return false;
+    };
+    pipeline.images();
+    let Event::Took(_) = pipeline.take(slot) else {
+        return false;
+    };
+    pipeline.images();
+    let Event::Sealed = pipeline.seal() else {
+        return false;
+    };
+    pipeline.images();
+    let Event::Fetched = pipeline.fetch() else {
+        return false;
+    };
+    true
+}
+
+/// Makes device calls until the fetched batch is committed: whether that was done.
+fn commit<K: Store>(pipeline: &mut Pipeline<K>) -> bool
+    ensures honest { K.honest pipeline.old.flusher.store ↔ K.honest pipeline.new.flusher.store }
+    ensures count { K.failures pipeline.old.flusher.store ≤ K.failures pipeline.new.flusher.store }
+    ensures done { IsTrue result → (w : World) (entries : List Entry) → IsOpen w pipeline.old →
+        w.stage ≡ Held entries → length (accepted_of entries) ≤ 256 →
+        IsOpen (after w S.Call E.Committed) pipeline.new × ((n : ℕ) ×
+        IsWay w (calls n ++ (S.Call ∷ [])) (went_on n ++ (E.Committed ∷ [])) (after w S.Call E.Committed) pipeline.old pipeline.new) }
+    ensures failed { result ≡ false → (w : World) (entries : List Entry) → IsOpen w pipeline.old →
+        w.stage ≡ Held entries → length (accepted_of entries) ≤ 256 →
+        Fits w pipeline.new × ((n : ℕ) ×
+        IsWay w (calls n ++ (S.Call ∷ [])) (went_on n ++ (E.Failed ∷ [])) (shut w) pipeline.old pipeline.new) }
+    ensures cause { result ≡ false → (w : World) (entries : List Entry) → IsOpen w pipeline.old →
+        w.stage ≡ Held entries → length (accepted_of entries) ≤ 256 →
+        K.honest pipeline.old.flusher.store → ¬ (K.spent (K.device pipeline.new.flusher.store)) →
+        HasFailed (K.failures pipeline.old.flusher.store) (K.failures pipeline.new.flusher.store) }
+{
+    pipeline.flusher.keeper().images();
+    for _step in 0..MOST_CALLS {
+        pipeline.images();
+        match pipeline.call() {
+            Advance::More => {}
+            Advance::Committed => return true,
+            Advance::Failed => return false,
+            Advance::Nothing => return false,
+        }
+    }
+    false
+}
+
+/// Shows the batch that was committed, and hands out the reply.
+fn hand_out<K: Store>(pipeline: &mut Pipeline<K>, slot: Slot) -> Option<Judged>
+    ensures store { pipeline.new.flusher.store ≡ pipeline.old.flusher.store }
+    ensures answered { IfSome result (λ j. (w : World) (want : Action) (v : Verdict) → IsIdle w →
+        IsOpen (stored_in w slot want v) pipeline.old →
+        (j.verdict ≡ v) × (w' : World) × Rests w' pipeline.new ×
+        (live w' ≡ live (handed_in w slot want v)) × (j.number ≡ (live w').panel.count) ×
+        IsWay (stored_in w slot want v) (answering slot) (answered slot (length (w.sent slot) + 1) v j.number) w' pipeline.old pipeline.new) }
+    ensures sure { IsNone result → (w : World) (want : Action) (v : Verdict) → IsIdle w →
+        IsOpen (stored_in w slot want v) pipeline.old → ⊥ }
+{
+    pipeline.images();
+    let Event::Published = pipeline.publish() else {
+        return None;
+    };
+    pipeline.images();
+    let Event::Released(_) = pipeline.release() else {
+        return None;
+    };
+    pipeline.images();
+    let Event::GaveBack = pipeline.give_back() else {
+        return None;
+    };
+    pipeline.images();
+    let Event::Received(_, verdict, number) = pipeline.receive(slot) else {
+        return None;
+    };
+    Some(Judged { verdict, number })
+}
+
+/// Does what a slot asks: what became of it, once that is stored and published.
+///
+/// It stops only where the device failed, where the last epoch is spent, or where the slot's serials are.
+pub fn exchange<K: Store>(
+    pipeline: &mut Pipeline<K>,
+    slot: Slot,
+    want: Action,
+) -> Result<Judged, Stopped>
+    ensures honest { K.honest pipeline.old.flusher.store ↔ K.honest pipeline.new.flusher.store }
+    ensures count { K.failures pipeline.old.flusher.store ≤ K.failures pipeline.new.flusher.store }
+    ensures judged { IfOk result (λ j. (w : World) → Rests w pipeline.old →
+        (j ≡ judged (live w) (request slot want)) × (w' : World) × Rests w' pipeline.new ×
+        (live w' ≡ if_accepted (live w) (accept (live w).panel (request slot want)))) }
+    ensures left { IfErr result (λ _. (w : World) → Rests w pipeline.old →
+        (K.stored pipeline.new.flusher.store ≡ live w) ×
+        MayWait pipeline.new.flusher.held (verdict_of (live w) (request slot want))) }
+    ensures cause { IfErr result (λ _. (w : World) → Rests w pipeline.old →
+        K.honest pipeline.old.flusher.store → ¬ (K.spent (K.device pipeline.new.flusher.store)) →
+        length (w.sent slot) + 1 < 2 ^ 64 →
+        HasFailed (K.failures pipeline.old.flusher.store) (K.failures pipeline.new.flusher.store)) }
+    // A run of the world's steps, of which the answer is the reply.
+    ensures run { (w : World) → Rests w pipeline.old → IsExchange w slot want pipeline.old pipeline.new result }
+{
+    if !hand_in(pipeline, slot, want) {
+        pipeline.images();
+        return Err(Stopped);
+    }
+    if !commit(pipeline) {
+        pipeline.images();
+        return Err(Stopped);
+    }
+    match hand_out(pipeline, slot) {
+        Some(judged) => {
+            pipeline.images();
+            Ok(judged)
+        }
+        None => Err(Stopped),
+    }
+}
