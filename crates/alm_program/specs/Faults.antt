@@ -2,7 +2,12 @@
 use Rattle.std.specs.Prelude.{◌≡◌, ℕ, List, [], ◌∷◌, ◌++◌, Option, Some, None, Result, Ok, Err, codes, decimal, string_bytes, nat_lt, ◌==◌, ◌||◌, if◌then◌else◌, ◌⊎◌}
 use Rattle.std.specs.List.{flat_map}
 use Rattle.std.specs.Io.KnownBytes.{Appends}
+use Rattle.std.specs.IoError.{error_kind}
+use Rattle.std.specs.declared.io.ErrorKind.{ErrorKind}
+use Rattle.std.specs.declared.io.ErrorKind.TheVariants as kind
 use Rattle.alm_lines.specs.Written.{IsCutShort}
+use Rattle.alm_file.specs.declared.file_fault.FileFault.{FileFault}
+use Rattle.alm_file.specs.declared.file_fault.FileFault.TheVariants as file
 use Rattle.alm_table.specs.declared.load_fault.LoadFault.{LoadFault}
 use Rattle.alm_table.specs.declared.load_fault.LoadFault.TheVariants as load
 use Rattle.alm_words.specs.declared.words_fault.WordsFault.{WordsFault}
@@ -73,6 +78,16 @@ abbrev pub fault_of_format : FormatFault → Fault
 fault_of_format format.TooSmall = TooSmall
 fault_of_format format.Disk = Disk
 fault_of_format format.OutOfMemory = OutOfMemory
+
+-- .. of a refused call of a file or a stream
+abbrev pub fault_of_kind : ErrorKind → Fault
+fault_of_kind kind.OutOfMemory = OutOfMemory
+fault_of_kind _ = Io
+
+-- .. of a device's file that isn't opened: one that is a standard stream's is named wrongly
+abbrev pub fault_of_file : FileFault → Fault
+fault_of_file file.Stream = Usage
+fault_of_file (file.Io error) = fault_of_kind (error_kind error)
 
 -- the line on standard error
 abbrev pub line_of : Fault → List ℕ

@@ -1,20 +1,27 @@
 //! Faults of files and streams.
 
+ghost use Rattle.std.specs.Prelude.{◌≡◌};
+ghost use Rattle.std.specs.IoError.{error_kind};
+ghost use Rattle.alm_program.specs.Faults.{fault_of_kind, fault_of_file};
+
 use crate::fault::Fault;
 use alm_file::FileFault;
 use std::io::{self, ErrorKind};
 
 /// What a refused call of a file or a stream is to the program.
-pub fn io_fault(error: io::Error) -> Fault {
-    if error.kind() == ErrorKind::OutOfMemory {
-        Fault::OutOfMemory
-    } else {
-        Fault::Io
+pub fn io_fault(error: io::Error) -> Fault
+    ensures { result ≡ fault_of_kind (error_kind error) }
+{
+    match error.kind() {
+        ErrorKind::OutOfMemory => Fault::OutOfMemory,
+        _ => Fault::Io,
     }
 }
 
 /// What a device's file that isn't opened is to the program. One that is a standard stream's is named wrongly.
-pub fn file_fault(fault: FileFault) -> Fault {
+pub fn file_fault(fault: FileFault) -> Fault
+    ensures { result ≡ fault_of_file fault }
+{
     match fault {
         FileFault::Stream => Fault::Usage,
         FileFault::Io(error) => io_fault(error),

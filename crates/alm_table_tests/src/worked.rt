@@ -37,7 +37,12 @@ fn the_worked_table_as_a_file(rt: HostRuntime) -> Result<(), Fail> {
     let worked = worked_table(alloc)?;
     assert_eq!(rt; size, 28_997);
     assert_eq!(rt; table.areas(), worked.areas());
-    assert_eq!(rt; table.alarms(), worked.alarms());
+    assert_eq!(rt; table.alarms().len(), worked.alarms().len());
+    for (found, wanted) in table.alarms().iter().zip(worked.alarms()) {
+        assert_eq!(rt; row(found), row(wanted));
+        assert_eq!(rt; found.tag.as_bytes(), wanted.tag.as_bytes());
+        assert_eq!(rt; found.text.as_bytes(), wanted.text.as_bytes());
+    }
     Ok(())
 }
 
