@@ -4,10 +4,11 @@
     examples/journal.py DEVICE              how full the journal is, actions a frame, epoch, count, clock
     examples/journal.py DEVICE --follow     prints each accepted action as it is stored: its number, its words, the alarm's tag
 
-A frame holds the actions of one commit. Which slot asked isn't kept. With --follow nothing is left out as long as it looks once between two
+A frame holds the actions of one commit. Which slot asked isn't kept. With --follow it says on standard error with which action it begins; nothing is left out as long as it looks once between two
 checkpoints, ten times a second; where more went by it says how many.
 """
 import argparse
+import sys
 import time
 from typing import Iterator, Optional
 
@@ -74,6 +75,7 @@ class Follower:
 def follow(device: DeviceFile, seconds: Optional[float]) -> None:
     """Prints actions as they come, for so many seconds or without end."""
     tags, follower = device.tags(), Follower(device)
+    print(f"journal: from action {follower.next} on", file=sys.stderr, flush=True)
     ends = None if seconds is None else time.monotonic() + seconds
     while ends is None or time.monotonic() < ends:
         for new in follower.news():

@@ -272,9 +272,10 @@ class Clients:
         text = toml(Table(device_size(4, 2, 60_000), 2, plant.alarms))
         device = self.format("journal.device", self.write("journal.toml", text))
         server = self.serve(device)
-        running = start("journal.py", device, "--follow")
-        time.sleep(1)
-        wanted = []
+        wanted, followed = [], self.path("followed")
+        with open(followed, "w", encoding="ascii") as file:
+            running = subprocess.Popen([sys.executable, EXAMPLES / "journal.py", device, "--follow"], stdout=file, stderr=subprocess.PIPE, text=True)
+        check(running.stderr.readline() == "journal: from action 1 on\n", "journal.py doesn't begin")
         with Client.connect(server.port, CLOCK) as clock, Client.connect(server.port, 3) as console:
             for moment in range(1, count + 1):
                 wanted.append(f"{clock.clock(moment)} CLOCK {moment}")
@@ -282,10 +283,11 @@ class Clients:
             wanted.append(f"{console.act('OOS 2 ON')} OOS XS-201 ON")
             wanted.append(f"{console.shelve(1, 60)} SHELVE PI-102 60")
             wanted.append(f"{console.act('SETP 3 -7')} SETP LI-202 -7")
-        time.sleep(1)
+        await_true("the last action", lambda: pathlib.Path(followed).read_text(encoding="ascii").endswith(wanted[-1] + "\n"))
         running.send_signal(2)
-        followed, said = running.communicate(timeout=20)
-        check(followed.splitlines() == wanted, "followed", followed[-300:], said)
+        _, said = running.communicate(timeout=20)
+        lines = pathlib.Path(followed).read_text(encoding="ascii").splitlines()
+        check(lines == wanted, "followed", lines[:3], "..", lines[-3:], said)
         summary = tool("journal.py", device).stdout
         server.end()
         shown = self.run("show", device).splitlines()[0].split()
