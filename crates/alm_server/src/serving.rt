@@ -32,7 +32,10 @@ pub fn serve_file<
 >(rt: &R, device: &str, port: u16, conns: u32) -> Result<(), Fault>
     requires { port ≤ 65518 }
 {
-    let disk = FileDisk::open(rt, device).map_err(file_fault)?;
+    let disk = match FileDisk::open(rt, device) {
+        Ok(disk) => disk,
+        Err(fault) => return Err(file_fault(fault)),
+    };
     match serve_run(rt, rt.alloc(), disk, port, conns, &mut io::writer(rt)) {
         Ok(_) => Ok(()),
         Err(fault) => Err(serve_fault(fault)),

@@ -22,7 +22,7 @@ use std::rt::Clock;
 use std::sync::atomic::Ordering;
 use std::sync::{Arc, Wait};
 use std::thread::Threads;
-use std::time::{Clock, Instant};
+use std::time::Instant;
 
 /// The bytes of the device, with segments of 16 MiB.
 const DEVICE: u64 = 41_943_040;
