@@ -13,7 +13,7 @@ use Rattle.alm_store.specs.declared.open_fault.OpenFault.TheVariants.{Unformatte
 use Rattle.alm_types.specs.declared.action.Action.{Action}
 use Rattle.alm_pipeline.specs.World.{IsStorageFault}
 use Rattle.alm_model.proofs.ByStamp.{by-stamp-permutation, by-stamp-rises}
-use Rattle.alm_pipeline.specs.Headline.{IsFrontPlant, IsSafe}
+use Rattle.alm_store.specs.Recovery.{IsFrontPlant, IsSafe}
 
 pub storage_fault : (recovers : List ℕ → Condensed → Type 0) (base : Condensed) (accepted : List Action) (floor : ℕ) (state : DeviceState) (fault : OpenFault) (n n' : ℕ) → ((image : List ℕ) → IsImage state image → IsSafe recovers base accepted floor image) → HasCause recovers state fault n n' → IsStorageFault fault
 storage_fault recovers base accepted floor state Unformatted n n' headline cause = ∥∥₁_elim cause (hlevel props) (λ f. ∥∥₁_elim (headline f.image f.is_image).some (hlevel props) (λ s. f.faulty s.0 s.1))

@@ -23,7 +23,9 @@ use Rattle.alm_flush.specs.declared.held.Held.TheVariants.{Nothing, Fetched, Fai
 use Rattle.alm_pipeline.specs.declared.pipeline.Pipeline.{Pipeline}
 use Rattle.alm_pipeline.specs.World.{World}
 use Rattle.alm_model.proofs.ByStamp.{by-stamp-permutation, by-stamp-rises}
-use Rattle.alm_pipeline.specs.Headline.{Headline, IsFrontPlant}
+use Rattle.alm_store.specs.Recovery.{IsFrontPlant}
+use Rattle.alm_store.proofs.Recovery.{front_prop, front_is, safe_by}
+use Rattle.alm_pipeline.specs.Headline.{Headline}
 use Rattle.alm_pipeline.specs.Matches.{lists_of, Fits}
 
 flat : List (List Entry) → List Entry
@@ -79,26 +81,6 @@ history_split before fetched sealed h waiting taking held is =
       ap accepted_of whole ∙ (accepted_append (entries_in before ++ entries_in (batches_of h)) (flat waiting ++ taking) ∙ ap (λ l. l ++ accepted_of (flat waiting ++ taking)) first),
     )
 
-pub front_prop : (base : Condensed) (accepted : List Action) (floor : ℕ) (q : Condensed) → IsProp (IsFrontPlant base accepted floor q)
-front_prop base accepted floor q = hlevel props
-
--- a plant of a front of the accepted list that reaches the floor
-pub front_is : (base : Condensed) (accepted : List Action) (floor : ℕ) (list rest : List Action) → list ++ rest ≡ accepted → floor ≤ base.panel.count + length list → IsFrontPlant base accepted floor (run base list)
-front_is base accepted floor list rest front enough = record {
-  enough = omega (arith, enough, count);
-  no_more = omega (arith, ap length front, length-append list rest, count);
-  plant = ap (run base) (sym same);
-}
-  where
-    count : (run base list).panel.count ≡ base.panel.count + length list
-    count = run_count base list
-
-    size : (run base list).panel.count - base.panel.count ≡ length list
-    size = omega (arith, count)
-
-    same : take ((run base list).panel.count - base.panel.count) accepted ≡ list
-    same = (λ i. take (size i) ((sym front) i)) ∙ take_at list rest (length list) refl
-
 module _ {K D : Type 0} {g : Ghosts K D} {d : Disk.Ghosts D} where
   -- the stored plant, and the one of the commit
   pub stored_front : (w : World) (p : Pipeline K D g d) → Fits w p → IsFrontPlant w.base w.accepted w.floor (g.stored p.flusher.store) × IsFrontPlant w.base w.accepted w.floor (run (g.stored p.flusher.store) (accepted_of (waiting_of p.flusher.held)))
@@ -130,15 +112,7 @@ module _ {K D : Type 0} {g : Ghosts K D} {d : Disk.Ghosts D} where
       let both = stored_front w p f in
       let waiting = accepted_of (waiting_of p.flusher.held) in
       let Front = IsFrontPlant w.base w.accepted w.floor in
-      record {
-        lists = λ q r list by. record { filter = by-stamp-permutation q list by; rises = by-stamp-rises q list (rules image q is.bytes r) by };
-        some = ∥∥₁_elim (stands image is) (hlevel props) (⊎_elim (λ (r : g.recovers image (g.stored st)). ∣ (g.stored st, r) ∣₁) (λ (r : g.recovers image (g.next st)). ∣ (g.next st, r) ∣₁));
-        each = λ q r.
-            let prop = front_prop w.base w.accepted w.floor q in
-            ∥∥₁_elim (stands image is) prop (⊎_elim
-            (λ (old : g.recovers image (g.stored st)). subst Front (one image (g.stored st) q old r) both.0)
-            (λ (new : g.recovers image (g.next st)).
-            ∥∥₁_elim p.flusher.either prop (⊎_elim
-            (λ (same : g.next st ≡ g.stored st). subst Front (sym same ∙ one image (g.next st) q new r) both.0)
-            (λ (more : g.next st ≡ run (g.stored st) waiting). subst Front (sym more ∙ one image (g.next st) q new r) both.1))));
-      }
+      let next : Front (g.next st) = ∥∥₁_elim p.flusher.either (front_prop w.base w.accepted w.floor (g.next st)) (⊎_elim
+      (λ (same : g.next st ≡ g.stored st). subst Front (sym same) both.0)
+      (λ (more : g.next st ≡ run (g.stored st) waiting). subst Front (sym more) both.1)) in
+      safe_by g.recovers w.base w.accepted w.floor (g.stored st) (g.next st) image is.bytes both.0 next (stands image is) one rules

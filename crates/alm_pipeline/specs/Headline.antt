@@ -1,43 +1,21 @@
 -- The headline: after a crash at any moment the device stands for the plant of a front of the accepted actions, which holds all that
 -- was told or shown. And the runs of a world beside its device, at each point of which it holds.
-use Rattle.std.specs.Prelude.{◌≡◌, ◌<◌, ◌≤◌, ◌+◌, ◌-◌, IsPermutation, true, ℕ, false, List, [], ◌∷◌, length, take}
+use Rattle.std.specs.Prelude.{◌≡◌, ◌<◌, ◌-◌, ℕ, false, List, [], ◌∷◌, length, take}
 use Rattle.alm_disk.specs.Device.{DeviceState, IsImage, Crashes}
 use Rattle.alm_disk.specs.Failures.{HasFailed}
-use Rattle.alm_types.specs.declared.action.Action.{Action}
 use Rattle.alm_model.specs.Plant.{Condensed}
-use Rattle.alm_model.specs.Lists.{alarms, stands_in, list_of}
-use Rattle.alm_model.specs.Rising.{RisesByStamp, is_by_stamp}
-use Rattle.alm_model.specs.declared.list.List.{List as Choice}
 use Rattle.alm_model.specs.Step.{run}
 use Rattle.alm_model.specs.Judging.{accepted_of}
 use Rattle.alm_store.specs.Calls.{IsCall}
 use Rattle.alm_store.specs.Advancing.{IsCalls}
 use Rattle.alm_store.specs.Opening.{HasCause}
+use Rattle.alm_store.specs.Recovery.{IsSafe}
 use Rattle.alm_pipeline.specs.Named.{names}
 use Rattle.alm_pipeline.specs.World.{World, Answers, after, entries_at}
 use Rattle.alm_pipeline.specs.declared.step.Step.{Step}
 use Rattle.alm_pipeline.specs.declared.step.Step.TheVariants.{Call, Crash, Reopen}
 use Rattle.alm_pipeline.specs.declared.event.Event.{Event}
 use Rattle.alm_pipeline.specs.declared.event.Event.TheVariants.{More, Committed, Failed, Crashed, Opened, Unopened}
-
--- ---- what a crash may leave
-
--- this is the plant of a front of the accepted actions, and its count reaches the floor
-pub record IsFrontPlant (base : Condensed) (accepted : List Action) (floor : ℕ) (q : Condensed) : Type 0 where
-  pub enough : floor ≤ q.panel.count
-  pub no_more : q.panel.count ≤ base.panel.count + length accepted
-  pub plant : q ≡ run base (take (q.panel.count - base.panel.count) accepted)
-
--- the list is the filter of its alarms, in the order of their stamps
-pub record IsFilter (q : Condensed) (list : Choice) : Type 0 where
-  pub filter : IsPermutation (alarms (stands_in list) q.panel.attrs q.panel.rows) (list_of list q)
-  pub rises : RisesByStamp q.panel (list_of list q)
-
--- an image stands for a plant; this is such a plant, and each of its lists that goes by stamp is the filter of its alarms
-pub record IsSafe (recovers : List ℕ → Condensed → Type 0) (base : Condensed) (accepted : List Action) (floor : ℕ) (image : List ℕ) : Type 0 where
-  pub some : ∥ ((plant : Condensed) × recovers image plant) ∥₁
-  pub each : (plant : Condensed) → recovers image plant → IsFrontPlant base accepted floor plant
-  pub lists : (plant : Condensed) → recovers image plant → (list : Choice) → is_by_stamp list ≡ true → IsFilter plant list
 
 -- ---- runs
 

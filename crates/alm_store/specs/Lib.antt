@@ -3,3 +3,4 @@ pub mod Calls
 pub mod Opening
 pub mod Pace
 pub mod Pacing
+pub mod Recovery

@@ -2,7 +2,7 @@ use Rattle.std.proofs.Common.{◌-◌, take, sym, refl, subst, arith}
 use Rattle.alm_model.specs.Plant.{Condensed}
 use Rattle.alm_keeper.specs.AsStore.{StandsFor}
 use Rattle.alm_pipeline.specs.World.{after}
-use Rattle.alm_pipeline.specs.Headline.{IsFrontPlant}
+use Rattle.alm_store.specs.Recovery.{IsFrontPlant}
 use Rattle.alm_pipeline.specs.declared.step.Step.TheVariants as S
 use Rattle.alm_pipeline.specs.declared.event.Event.TheVariants as E
 use Rattle.alm_bench.proofs.Carried.{carried, still, there, shut_not_open}
