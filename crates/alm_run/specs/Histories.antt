@@ -1,7 +1,8 @@
 -- What a run's threads leave behind, as parts of one history.
-use Rattle.std.specs.Prelude.{◌≡◌, ◌≤◌, ◌↔◌, ◌⊎◌, ◌++◌, ℕ, List, length, slice_get, Some}
+use Rattle.std.specs.Prelude.{◌≡◌, ◌≤◌, ◌+◌, ◌↔◌, ◌⊎◌, ◌++◌, ℕ, List, length, slice_get, Some}
 use Rattle.std.specs.List.{range_with_len}
 use mathlib.Core.List.{IsPrefix}
+use Rattle.alm_types.specs.declared.action.Action.{Action}
 use Rattle.alm_types.specs.declared.entry.Entry.{Entry}
 use Rattle.alm_disk.specs.Device.{DeviceState, IsImage}
 use Rattle.alm_model.specs.Plant.{Condensed}
@@ -31,8 +32,8 @@ LeavesOneOf before after recovers device p q = (before ↔ after) × (after → 
 
 module _ {T : Type 0} {g : Ghosts T} where
   -- from this base: what is stored is a front of the fetched entries, what was released a front of those that are stored; of each slot the receipts have the serials and verdicts of its entries, in order, and no number above what is stored.
-  -- The device is left with the stored plant, or with that and the entries that come next, of the batch whose commit wasn't done
-  pub record Flushed (leaves : Condensed → Condensed → Type 0) (base stored : Condensed) (outboxes : List (Outbox T g)) (fetch : FetchEnds) : Type 0 where
+  -- The device is left with the stored plant, or with that and the entries that come next, of the batch whose commit wasn't done; and it came there by moments at each of which a front of the fetched actions stands that holds all that was released
+  pub record Flushed (leaves : Condensed → Condensed → Type 0) (endures : List Action → ℕ → Type 0) (base stored : Condensed) (outboxes : List (Outbox T g)) (fetch : FetchEnds) : Type 0 where
     pub kept : List Entry
     pub fetched : IsPrefix kept (entries_in (fetched_of fetch))
     pub stored_is : stored ≡ run base (accepted_of kept)
@@ -41,5 +42,6 @@ module _ {T : Type 0} {g : Ghosts T} where
     pub device : leaves stored (run stored (accepted_of waiting))
     pub told : List Entry
     pub within : IsPrefix told kept
+    pub course : endures (accepted_of (entries_in (fetched_of fetch))) (base.panel.count + length (accepted_of told))
     pub released : (s : ℕ) → replies_in (released_by s outboxes) ≡ replies_to (of_slot s told)
     pub numbers : (s k : ℕ) (r : Receipt T g) → slice_get (released_by s outboxes) k ≡ Some r → r.number ≤ stored.panel.count

@@ -3,6 +3,7 @@ ghost use Rattle.std.specs.Prelude.{◌≡◌, ◌≢◌, ℕ, [], None};
 ghost use Rattle.alm_rings.specs.Batches.{SameFetchEnds, fetched_of};
 ghost use Rattle.alm_rings.specs.Placed.{AreApart, SameOutboxAt, outbox_at, released_by};
 ghost use Rattle.alm_run.specs.Histories.{Flushed, LeavesOneOf};
+ghost use Rattle.alm_run.specs.Moments.{Endures};
 
 use crate::bell::Bell;
 use crate::closes::Closes;
@@ -10,14 +11,15 @@ use crate::flags::Flags;
 use crate::flusher_parts::FlusherParts;
 use crate::flushing::flush;
 use crate::landed::Landed;
+use crate::recorded_flusher::RecordedFlusher;
 use alm_board::{Board, Publish};
-use alm_flush::Flusher;
 use alm_rings::Told;
 use alm_store::{Phase, Store};
 use std::sync::Wait;
 
 /// Runs a flusher over these ends until nothing is left, and gives them back. The board is closed. Whatever a crash leaves of the device
-/// then stands for what is stored, or for that with the batch whose commit wasn't done.
+/// then stands for what is stored, or for that with the batch whose commit wasn't done; and before and after each of its calls, for a front of what was
+/// fetched that holds all that had been released or published by then.
 pub fn run_flusher<
     K: Store,
     T: Told + Drop,
@@ -35,6 +37,7 @@ pub fn run_flusher<
     ensures outboxes { (s : ℕ) → SameOutboxAt (outbox_at s parts.outboxes.items) (outbox_at s result.outboxes.items) }
     ensures fetch { SameFetchEnds parts.fetch result.fetch }
     ensures flushed { Flushed (LeavesOneOf (K.honest parts.store) (K.honest result.store) K.recovers (K.device result.store))
+        (Endures (K.honest parts.store) K.recovers (K.stored parts.store) (K.device parts.store) (K.device result.store))
         (K.stored parts.store) (K.stored result.store) result.outboxes.items result.fetch }
 {
     let FlusherParts {
@@ -42,8 +45,8 @@ pub fn run_flusher<
         outboxes,
         fetch,
     } = parts;
-    let mut flusher = Flusher::new(store, board, outboxes, fetch);
-    let storage = flush(rt, flags, &mut flusher);
+    let mut flusher = RecordedFlusher::new(store, board, outboxes, fetch);
+    flush(rt, flags, &mut flusher);
     let stored = flusher.keeper();
     stored.images();
     let (store, board, outboxes, fetch) = flusher.into_ends();
@@ -52,6 +55,5 @@ pub fn run_flusher<
         store,
         outboxes,
         fetch,
-        storage,
     }
 }

@@ -6,11 +6,11 @@ ghost use Rattle.alm_rings.specs.Placed.{SameOutboxAt, outbox_at};
 use crate::bell::Bell;
 use crate::doorbell::YIELDS;
 use crate::flags::Flags;
-use crate::storage::Storage;
+use crate::recorded_flusher::RecordedFlusher;
 use alm_board::{Board, Publish};
-use alm_flush::{Advance, Fetch, Flusher, Publishes, Release};
+use alm_flush::{Advance, Fetch, Publishes, Release};
 use alm_rings::Told;
-use alm_store::{Phase, Store};
+use alm_store::Store;
 use std::sync::Wait;
 use std::sync::atomic::Ordering;
 
@@ -35,13 +35,14 @@ enum Pass {
 // Commits a step of the held batch and publishes it, where that is next.
 fn commit<K: Store, T: Told + Drop, B: Board<Told = T> + Publish<R>, R: Wait>(
     rt: &R,
-    flusher: &mut Flusher<K, T, B>,
+    flusher: &mut RecordedFlusher<K, T, B>,
     refused: &mut u64,
 ) -> Pass
-    ensures fetch { SameFetchEnds flusher.old.fetch flusher.new.fetch }
-    ensures outboxes { flusher.new.outboxes ≡ flusher.old.outboxes }
-    ensures base { B.Board.base flusher.new.board ≡ B.Board.base flusher.old.board }
-    ensures honest { K.honest flusher.old.store ↔ K.honest flusher.new.store }
+    ensures fetch { SameFetchEnds flusher.old.flusher.fetch flusher.new.flusher.fetch }
+    ensures outboxes { flusher.new.flusher.outboxes ≡ flusher.old.flusher.outboxes }
+    ensures base { B.Board.base flusher.new.flusher.board ≡ B.Board.base flusher.old.flusher.board }
+    ensures honest { K.honest flusher.old.flusher.store ↔ K.honest flusher.new.flusher.store }
+    ensures first { flusher.new.first ≡ flusher.old.first }
 {
     if flusher.advance() == Advance::Failed {
         return Pass::Stopped;
@@ -62,12 +63,13 @@ fn commit<K: Store, T: Told + Drop, B: Board<Told = T> + Publish<R>, R: Wait>(
 // Releases the next receipt and wakes its slot, or gives the batch back.
 fn answer<K: Store, T: Told + Drop, B: Board<Told = T>, E: Bell + Drop>(
     flags: &Flags<E>,
-    flusher: &mut Flusher<K, T, B>,
+    flusher: &mut RecordedFlusher<K, T, B>,
 ) -> Pass
-    ensures fetch { SameFetchEnds flusher.old.fetch flusher.new.fetch }
-    ensures outboxes { (s : ℕ) → SameOutboxAt (outbox_at s flusher.old.outboxes.items) (outbox_at s flusher.new.outboxes.items) }
-    ensures base { B.base flusher.new.board ≡ B.base flusher.old.board }
-    ensures store { flusher.new.store ≡ flusher.old.store }
+    ensures fetch { SameFetchEnds flusher.old.flusher.fetch flusher.new.flusher.fetch }
+    ensures outboxes { (s : ℕ) → SameOutboxAt (outbox_at s flusher.old.flusher.outboxes.items) (outbox_at s flusher.new.flusher.outboxes.items) }
+    ensures base { B.base flusher.new.flusher.board ≡ B.base flusher.old.flusher.board }
+    ensures store { flusher.new.flusher.store ≡ flusher.old.flusher.store }
+    ensures first { flusher.new.first ≡ flusher.old.first }
 {
     match flusher.release() {
         Release::Released(slot) => flags.slots.ring(slot),
@@ -87,14 +89,15 @@ fn answer<K: Store, T: Told + Drop, B: Board<Told = T>, E: Bell + Drop>(
 fn step<K: Store, T: Told + Drop, B: Board<Told = T> + Publish<R>, E: Bell + Drop, R: Wait>(
     rt: &R,
     flags: &Flags<E>,
-    flusher: &mut Flusher<K, T, B>,
+    flusher: &mut RecordedFlusher<K, T, B>,
     refused: &mut u64,
     idle: u32,
 ) -> Pass
-    ensures fetch { SameFetchEnds flusher.old.fetch flusher.new.fetch }
-    ensures outboxes { (s : ℕ) → SameOutboxAt (outbox_at s flusher.old.outboxes.items) (outbox_at s flusher.new.outboxes.items) }
-    ensures base { B.Board.base flusher.new.board ≡ B.Board.base flusher.old.board }
-    ensures honest { K.honest flusher.old.store ↔ K.honest flusher.new.store }
+    ensures fetch { SameFetchEnds flusher.old.flusher.fetch flusher.new.flusher.fetch }
+    ensures outboxes { (s : ℕ) → SameOutboxAt (outbox_at s flusher.old.flusher.outboxes.items) (outbox_at s flusher.new.flusher.outboxes.items) }
+    ensures base { B.Board.base flusher.new.flusher.board ≡ B.Board.base flusher.old.flusher.board }
+    ensures honest { K.honest flusher.old.flusher.store ↔ K.honest flusher.new.flusher.store }
+    ensures first { flusher.new.first ≡ flusher.old.first }
 {
     if flusher.fetch() == Fetch::Empty {
         if idle >= REST && flusher.advance() == Advance::Failed {
@@ -114,13 +117,13 @@ fn step<K: Store, T: Told + Drop, B: Board<Told = T> + Publish<R>, E: Bell + Dro
 pub fn flush<K: Store, T: Told + Drop, B: Board<Told = T> + Publish<R>, E: Bell + Drop, R: Wait>(
     rt: &R,
     flags: &Flags<E>,
-    flusher: &mut Flusher<K, T, B>,
-) -> Storage
-    ensures fetch { SameFetchEnds flusher.old.fetch flusher.new.fetch }
-    ensures outboxes { (s : ℕ) → SameOutboxAt (outbox_at s flusher.old.outboxes.items) (outbox_at s flusher.new.outboxes.items) }
-    ensures base { B.Board.base flusher.new.board ≡ B.Board.base flusher.old.board }
-    ensures honest { K.honest flusher.old.store ↔ K.honest flusher.new.store }
-    ensures storage { result ≡ Storage.Whole → K.phase flusher.new.store ≢ Phase.Stopped }
+    flusher: &mut RecordedFlusher<K, T, B>,
+)
+    ensures fetch { SameFetchEnds flusher.old.flusher.fetch flusher.new.flusher.fetch }
+    ensures outboxes { (s : ℕ) → SameOutboxAt (outbox_at s flusher.old.flusher.outboxes.items) (outbox_at s flusher.new.flusher.outboxes.items) }
+    ensures base { B.Board.base flusher.new.flusher.board ≡ B.Board.base flusher.old.flusher.board }
+    ensures honest { K.honest flusher.old.flusher.store ↔ K.honest flusher.new.flusher.store }
+    ensures first { flusher.new.first ≡ flusher.old.first }
 {
     let mut refused: u64 = 0;
     let mut idle: u32 = 0;
@@ -146,14 +149,10 @@ pub fn flush<K: Store, T: Told + Drop, B: Board<Told = T> + Publish<R>, E: Bell 
             Pass::Full => {}
             Pass::Stopped => {
                 flags.stop_all();
-                return Storage::Stopped;
+                break;
             }
         }
         flags.flusher.wait(rt, idle);
         idle = idle.saturating_add(1);
     }
-    if flusher.keeper().phase() == Phase::Stopped {
-        return Storage::Stopped;
-    }
-    Storage::Whole
 }

@@ -10,9 +10,10 @@
 //! its [`Bell`]: whoever has something for it rings, and every 100 milliseconds it looks once by itself.
 //!
 //! What is used above: each thread gives back the ends that it was given, so that whoever joins them all has both ends of each ring
-//! again and may close the slots; a sequencer and a flusher are made in their threads, and what their types say holds throughout. Where the
-//! flusher's thread answers [`Storage::Whole`], the store has not stopped. What went through the ends is one history: what was taken is
-//! judged as by one thread, what is stored is a front of it, and what was released a front of that.
+//! again and may close the slots; a sequencer and a flusher are made in their threads, and what their types say holds throughout. What went
+//! through the ends is one history: what was taken is judged as by one thread, what is stored is a front of it, and what was released a
+//! front of that. Before and after each device call of the run, whatever a crash leaves of an honest device stands for a front of that history
+//! which holds all that had been released or published by then ([`RecordedFlusher`]).
 //!
 //! Not promised: that a thread ever ends, that a request is ever answered, and any time.
 #![tactic(auto)]
@@ -34,6 +35,7 @@ mod go;
 mod landed;
 mod parcel;
 mod pause;
+mod recorded_flusher;
 mod rings;
 mod sequencer_ends;
 mod sequencing;
@@ -42,7 +44,6 @@ mod source;
 mod start;
 mod start_fault;
 mod starting;
-mod storage;
 
 pub use bell::Bell;
 pub use bells::Bells;
@@ -57,6 +58,7 @@ pub use flushing::flush;
 pub use go::Go;
 pub use landed::Landed;
 pub use parcel::Parcel;
+pub use recorded_flusher::RecordedFlusher;
 pub use rings::Rings;
 pub use sequencer_ends::SequencerEnds;
 pub use sequencing::sequence;
@@ -65,4 +67,3 @@ pub use source::Source;
 pub use start::{join_all, start_all, start_one};
 pub use start_fault::StartFault;
 pub use starting::{run_sequencer, start_rings};
-pub use storage::Storage;

@@ -9,7 +9,7 @@ use crate::report::report;
 use alm_disk::Free;
 use alm_file::FileDisk;
 use alm_keeper::{Keeper, format};
-use alm_run::Storage;
+use alm_threads::Storage;
 use alm_threads_tests::course::{Left, run_on};
 use alm_threads_tests::crews::{all_slots, askers, lookers};
 use alm_threads_tests::notes::Notes;

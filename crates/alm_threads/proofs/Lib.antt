@@ -1,4 +1,5 @@
 pub mod Closed
 pub mod Opened
+pub mod Outages
 pub mod Removed
 pub mod Tied

@@ -1,3 +1,4 @@
 pub mod Answered
+pub mod Outages
 pub mod Runs
 pub mod Slots

@@ -1,6 +1,7 @@
 -- What a run leaves of its slots and its device.
-use Rattle.std.specs.Prelude.{◌≡◌, ◌≤◌, ◌-◌, ◌^◌, ◌++◌, ℕ, List, Option, Some, length, min, slice_get}
+use Rattle.std.specs.Prelude.{◌≡◌, ◌≤◌, ◌+◌, ◌-◌, ◌^◌, ◌++◌, ℕ, List, Option, Some, length, min, slice_get}
 use mathlib.Core.List.{IsPrefix}
+use Rattle.alm_types.specs.declared.action.Action.{Action}
 use Rattle.alm_types.specs.declared.entry.Entry.{Entry}
 use Rattle.alm_model.specs.Plant.{Condensed}
 use Rattle.alm_model.specs.Judging.{IsLegal, accepted_of, of_slot}
@@ -10,29 +11,32 @@ use Rattle.alm_rings.specs.declared.inbox.Inbox.{Inbox}
 use Rattle.alm_rings.specs.declared.outbox.Outbox.{Outbox}
 use Rattle.alm_rings.specs.declared.slot_report.SlotReport.{SlotReport}
 use Rattle.alm_rings.specs.declared.told.Told.{Ghosts}
+use Rattle.alm_rings.specs.Ends.{sent_of, received_of}
 use Rattle.alm_rings.specs.Placed.{taken_by, released_by}
 
--- so many requests of a slot were taken, of those that were sent; so many receipts were released, and of these some received
-pub record IsClosed (taken released : ℕ) (r : SlotReport) : Type 0 where
+-- so many requests of a slot were sent, and so many of them taken; so many receipts were released, and so many of them received
+pub record IsClosed (sent taken released received : ℕ) (r : SlotReport) : Type 0 where
+  pub sent_is : r.sent ≡ sent
   pub taken_is : r.taken ≡ taken
   pub released_is : r.released ≡ min released (2 ^ 64 - 1)
-  pub sent : r.taken ≤ r.sent
-  pub received : r.received ≤ r.released
+  pub received_is : r.received ≡ min received (2 ^ 64 - 1)
+  pub no_more_taken : taken ≤ sent
+  pub no_more_received : received ≤ released
 
 -- a report that is there, of so many
-pub record Closes (reports : List (Option SlotReport)) (k taken released : ℕ) : Type 0 where
+pub record Closes (reports : List (Option SlotReport)) (k sent taken released received : ℕ) : Type 0 where
   pub report : SlotReport
   pub at : slice_get reports k ≡ Some (Some report)
-  pub is : IsClosed taken released report
+  pub is : IsClosed sent taken released received report
 
 module _ {T : Type 0} {g : Ghosts T} where
   -- the reports stand in the order of the consoles, each of what went through its slot
   abbrev pub AreClosed : List (Console T g) → List Inbox → List (Outbox T g) → List (Option SlotReport) → Type 0
-  AreClosed consoles inboxes outboxes reports = (length reports ≡ length consoles) × ((k : ℕ) (c : Console T g) → slice_get consoles k ≡ Some c → Closes reports k (length (taken_by c.slot inboxes)) (length (released_by c.slot outboxes)))
+  AreClosed consoles inboxes outboxes reports = (length reports ≡ length consoles) × ((k : ℕ) (c : Console T g) → slice_get consoles k ≡ Some c → Closes reports k (length (sent_of c)) (length (taken_by c.slot inboxes)) (length (released_by c.slot outboxes)) (length (received_of c)))
 
 -- from this base: what was taken of all slots is one legal history of one thread; the store holds a front of it, and what was released is a front of that; each slot's report, in the order of the slots, counts its entries in these lists.
--- The device is left with the stored plant, or with that and the next entries of the history, of the one batch whose commit wasn't done
-pub record IsRun (leaves : Condensed → Condensed → Type 0) (base : Condensed) (slots : List ℕ) (stored : Condensed) (reports : List (Option SlotReport)) : Type 0 where
+-- The device is left with the stored plant, or with that and the next entries of the history, of the one batch whose commit wasn't done; and it came there by moments at each of which a front of the history stands that holds all that was released or published by then
+pub record IsRun (leaves : Condensed → Condensed → Type 0) (endures : List Action → ℕ → Type 0) (base : Condensed) (slots : List ℕ) (stored : Condensed) (reports : List (Option SlotReport)) : Type 0 where
   pub entries : List Entry
   pub legal : IsLegal base entries
   pub kept : List Entry
@@ -43,5 +47,6 @@ pub record IsRun (leaves : Condensed → Condensed → Type 0) (base : Condensed
   pub device : leaves stored (run stored (accepted_of waiting))
   pub told : List Entry
   pub within : IsPrefix told kept
+  pub course : endures (accepted_of entries) (base.panel.count + length (accepted_of told))
   pub count : length reports ≡ length slots
-  pub each : (k s : ℕ) → slice_get slots k ≡ Some s → Closes reports k (length (of_slot s entries)) (length (of_slot s told))
+  pub each : (k s : ℕ) → slice_get slots k ≡ Some s → (sent received : ℕ) × Closes reports k sent (length (of_slot s entries)) (length (of_slot s told)) received

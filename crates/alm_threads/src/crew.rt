@@ -16,6 +16,8 @@ pub fn seat<T: Told + Drop, L: Look<Told = T> + Drop, S: Source<T, L> + Drop>(
     requires looks { length looks.items ≡ length consoles.items }
     requires sources { length sources.items ≡ length consoles.items }
     ensures consoles { map (λ chair. chair.console) result.items ≡ consoles.items }
+    ensures looks { map (λ chair. chair.look) result.items ≡ looks.items }
+    ensures sources { map (λ chair. chair.source) result.items ≡ sources.items }
 {
     let mut looks = looks.into_iter();
     let mut sources = sources.into_iter();

@@ -8,7 +8,9 @@
 //!
 //! What is used above is the contract of a run: all that was taken of the slots is one legal history of one thread from the plant that was
 //! stored at first; what the store holds at the end is a front of it, and what was released is a front of that; and each slot's
-//! report, in the order of the slots, counts its entries in them. `Whole` is answered only where the store hasn't stopped.
+//! report, in the order of the slots, counts its entries in them. [`Storage::Whole`] is answered just where the store hasn't stopped and nothing is
+//! left. At each moment of the run whatever a crash leaves of an honest device stands for a front of that history which holds all that had been
+//! released or published by then.
 //!
 //! Not promised: that a run ever ends, that a request is ever answered, and any time. After a fault the parts are gone, and the device is to be
 //! opened again.
@@ -17,12 +19,14 @@
 mod closing;
 mod crew;
 mod ends;
+pub mod laws;
 mod middle;
 mod opening;
 mod parts;
 mod report;
 mod running;
 mod slots;
+mod storage;
 mod watched_look;
 
 pub use ends::Ends;
@@ -31,4 +35,5 @@ pub use opening::parts_of;
 pub use parts::Parts;
 pub use report::RunReport;
 pub use running::{run_threads, run_with_bells};
+pub use storage::Storage;
 pub use watched_look::WatchedLook;

@@ -1,14 +1,14 @@
 //! What a run leaves.
 ghost use Rattle.std.specs.Prelude.{◌≡◌, ◌≢◌};
 ghost use Rattle.alm_store.specs.declared.phase.Phase.TheVariants.{Stopped};
-ghost use Rattle.alm_run.specs.declared.storage.Storage.TheVariants.{Whole};
+ghost use Rattle.alm_threads.specs.declared.storage.Storage.TheVariants.{Whole};
 ghost use Rattle.alm_threads.specs.Answered.{AllAnswered};
 
+use crate::storage::Storage;
 use alm_rings::SlotReport;
-use alm_run::Storage;
 use alm_store::Store;
 
-/// What a run leaves. Its storage is whole only where the store has not stopped, and all that was sent was taken and answered.
+/// What a run leaves. Its storage is whole just where the store has not stopped, and all that was sent was taken and answered.
 #[derive(Drop)]
 pub struct RunReport<K: Store> {
     /// The flusher's store.
@@ -17,5 +17,6 @@ pub struct RunReport<K: Store> {
     /// What went through each slot, in the order of the slots.
     pub slots: Vec<Option<SlotReport>>,
     pub ghost goes_on: { storage ≡ Whole → K.phase keeper ≢ Stopped },
-    pub ghost answered: { storage ≡ Whole → AllAnswered slots.items },
+    pub ghost answered: { storage ≡ Whole → ∥ AllAnswered slots.items ∥₁ },
+    pub ghost whole: { K.phase keeper ≢ Stopped → AllAnswered slots.items → storage ≡ Whole },
 }

@@ -1,13 +1,14 @@
 //! A run.
-ghost use Rattle.std.specs.Prelude.{◌≡◌, ◌≤◌, ℕ, [], length, map, vec_len, vec_capacity, IfOk, IsTrue};
+ghost use Rattle.std.specs.Prelude.{◌≡◌, ◌≢◌, ◌↔◌, ◌≤◌, ℕ, [], length, map, vec_len, vec_capacity, IfOk, IsTrue};
 ghost use mathlib.Core.List.{IsPrefix};
 ghost use Rattle.alm_rings.specs.Batches.{AreBatchEnds, SameSealEnds, SameFetchEnds, fetched_of, sealed_of};
 ghost use Rattle.alm_rings.specs.Placed.{AreApart, SameOutboxAt, outbox_at};
 ghost use Rattle.alm_seq.specs.Sequences.{SameInboxes};
 ghost use Rattle.alm_run.specs.Histories.{Judged, Flushed, LeavesOneOf};
+ghost use Rattle.alm_run.specs.Moments.{Endures};
 ghost use Rattle.alm_run.specs.Same.{AllSame};
 ghost use Rattle.alm_run.specs.Serving.{Serves};
-ghost use Rattle.alm_threads.specs.Answered.{AllAnswered};
+ghost use Rattle.alm_threads.specs.Answered.{AllAnswered, IsAnswered};
 ghost use Rattle.alm_threads.specs.Runs.{AreClosed, IsRun};
 ghost use Rattle.alm_threads.specs.Slots.{AreTied};
 
@@ -17,14 +18,15 @@ use crate::ends::Ends;
 use crate::middle::Middle;
 use crate::parts::Parts;
 use crate::report::RunReport;
+use crate::storage::Storage;
 use alm_board::{Board, Look, Publish};
 use alm_disk::Hold;
 use alm_rings::{Console, SlotReport, Told, batches_beside};
 use alm_run::{
     Bell, Bells, Chair, Closes, Doorbell, Flags, Landed, Parcel, Rings, Source, StartFault,
-    Storage, join_all, run_flusher, start_all, start_rings,
+    join_all, run_flusher, start_all, start_rings,
 };
-use alm_store::Store;
+use alm_store::{Phase, Store};
 use alm_types::Slot;
 use std::alloc::{AllocError, Global};
 use std::sync::Wait;
@@ -73,7 +75,7 @@ where
     ensures outboxes { IfOk result (λ e. (s : ℕ) → SameOutboxAt (outbox_at s middle.flusher.outboxes.items) (outbox_at s e.landed.outboxes.items)) }
     ensures fetches { IfOk result (λ e. SameFetchEnds middle.flusher.fetch e.landed.fetch) }
     ensures judged { IfOk result (λ e. Judged (K.stored middle.flusher.store) e.rings.inboxes.items e.rings.ends) }
-    ensures flushed { IfOk result (λ e. Flushed (LeavesOneOf (K.honest middle.flusher.store) (K.honest e.landed.store) K.recovers (K.device e.landed.store)) (K.stored middle.flusher.store) (K.stored e.landed.store) e.landed.outboxes.items e.landed.fetch) }
+    ensures flushed { IfOk result (λ e. Flushed (LeavesOneOf (K.honest middle.flusher.store) (K.honest e.landed.store) K.recovers (K.device e.landed.store)) (Endures (K.honest middle.flusher.store) K.recovers (K.stored middle.flusher.store) (K.device middle.flusher.store) (K.device e.landed.store)) (K.stored middle.flusher.store) (K.stored e.landed.store) e.landed.outboxes.items e.landed.fetch) }
 {
     let Middle {
         plant,
@@ -105,23 +107,40 @@ where
 }
 
 // Whether all that was sent was taken, and all that was taken was answered.
+fn is_answered(slot: &Option<SlotReport>) -> bool
+    ensures { IsTrue result ↔ IsAnswered slot.now }
+{
+    match slot {
+        Some(report) => report.sent == report.taken && report.taken == report.released,
+        None => false,
+    }
+}
+
+// Whether that is so of each slot.
 fn are_answered(slots: &[Option<SlotReport>]) -> bool
-    ensures { IsTrue result → AllAnswered slots.now }
+    ensures { IsTrue result ↔ AllAnswered slots.now }
 {
     for slot in slots {
-        match slot {
-            Some(report) => {
-                if report.sent != report.taken || report.taken != report.released {
-                    return false;
-                }
-            }
-            None => return false,
+        if !is_answered(slot) {
+            return false;
         }
     }
     true
 }
 
-// Closes all rings, and says what went through them. Where a slot was left with something the run isn't whole.
+// The run is whole just where the store has not stopped and nothing is left.
+fn storage_of(phase: Phase, is_answered: bool) -> Storage
+    ensures whole { result ≡ Storage.Whole → (phase ≢ Phase.Stopped) × IsTrue is_answered }
+    ensures stopped { phase ≢ Phase.Stopped → IsTrue is_answered → result ≡ Storage.Whole }
+{
+    if is_answered && phase != Phase::Stopped {
+        Storage::Whole
+    } else {
+        Storage::Stopped
+    }
+}
+
+// Closes all rings, and says what went through them.
 fn report_of<K: Store, T: Told + Drop>(
     ends: Ends<K, T>,
     room: Vec<Option<SlotReport>>,
@@ -144,15 +163,10 @@ fn report_of<K: Store, T: Told + Drop>(
         store,
         outboxes,
         mut fetch,
-        storage,
     } = landed;
     batches_beside(&mut ends, &mut fetch);
     let slots = close_all(consoles, inboxes, outboxes, room);
-    let storage = if are_answered(&slots) {
-        storage
-    } else {
-        Storage::Stopped
-    };
+    let storage = storage_of(store.phase(), are_answered(&slots));
     RunReport {
         keeper: store,
         storage,
@@ -193,7 +207,7 @@ fn in_scope<
     ensures outboxes { IfOk result (λ e. (s : ℕ) → SameOutboxAt (outbox_at s middle.flusher.outboxes.items) (outbox_at s e.landed.outboxes.items)) }
     ensures fetches { IfOk result (λ e. SameFetchEnds middle.flusher.fetch e.landed.fetch) }
     ensures judged { IfOk result (λ e. Judged (K.stored middle.flusher.store) e.rings.inboxes.items e.rings.ends) }
-    ensures flushed { IfOk result (λ e. Flushed (LeavesOneOf (K.honest middle.flusher.store) (K.honest e.landed.store) K.recovers (K.device e.landed.store)) (K.stored middle.flusher.store) (K.stored e.landed.store) e.landed.outboxes.items e.landed.fetch) }
+    ensures flushed { IfOk result (λ e. Flushed (LeavesOneOf (K.honest middle.flusher.store) (K.honest e.landed.store) K.recovers (K.device e.landed.store)) (Endures (K.honest middle.flusher.store) K.recovers (K.stored middle.flusher.store) (K.device middle.flusher.store) (K.device e.landed.store)) (K.stored middle.flusher.store) (K.stored e.landed.store) e.landed.outboxes.items e.landed.fetch) }
 {
     let parcel = Parcel::new(board, rt);
     thread::scope(
@@ -201,7 +215,7 @@ fn in_scope<
         rt,
         |scope| -> Result<Ends<K, T>, StartFault>
             requires { Serves slots.now.items middle.rings.inboxes.items × (K.stored middle.flusher.store ≡ B.Board.base parcel.board) × (B.Board.published parcel.board ≡ []) × (B.Board.pending parcel.board ≡ []) × (room.items ≡ []) × (vec_len chairs ≤ vec_capacity room) }
-            ensures { IfOk result (λ e. AllSame (map (λ chair. chair.console) chairs.items) e.consoles.items × SameInboxes middle.rings.inboxes.items e.rings.inboxes.items × SameSealEnds middle.rings.ends e.rings.ends × ((s : ℕ) → SameOutboxAt (outbox_at s middle.flusher.outboxes.items) (outbox_at s e.landed.outboxes.items)) × SameFetchEnds middle.flusher.fetch e.landed.fetch × Judged (K.stored middle.flusher.store) e.rings.inboxes.items e.rings.ends × Flushed (LeavesOneOf (K.honest middle.flusher.store) (K.honest e.landed.store) K.recovers (K.device e.landed.store)) (K.stored middle.flusher.store) (K.stored e.landed.store) e.landed.outboxes.items e.landed.fetch) }
+            ensures { IfOk result (λ e. AllSame (map (λ chair. chair.console) chairs.items) e.consoles.items × SameInboxes middle.rings.inboxes.items e.rings.inboxes.items × SameSealEnds middle.rings.ends e.rings.ends × ((s : ℕ) → SameOutboxAt (outbox_at s middle.flusher.outboxes.items) (outbox_at s e.landed.outboxes.items)) × SameFetchEnds middle.flusher.fetch e.landed.fetch × Judged (K.stored middle.flusher.store) e.rings.inboxes.items e.rings.ends × Flushed (LeavesOneOf (K.honest middle.flusher.store) (K.honest e.landed.store) K.recovers (K.device e.landed.store)) (Endures (K.honest middle.flusher.store) K.recovers (K.stored middle.flusher.store) (K.device middle.flusher.store) (K.device e.landed.store)) (K.stored middle.flusher.store) (K.stored e.landed.store) e.landed.outboxes.items e.landed.fetch) }
         {
             run_all(
                 scope,
@@ -271,6 +285,7 @@ pub fn run_with_bells<
     requires sources { length sources.items ≡ length parts.slots.items }
     ensures run { IfOk result (λ report.
         IsRun (LeavesOneOf (K.honest parts.middle.flusher.store) (K.honest report.keeper) K.recovers (K.device report.keeper))
+        (Endures (K.honest parts.middle.flusher.store) K.recovers (K.stored parts.middle.flusher.store) (K.device parts.middle.flusher.store) (K.device report.keeper))
         (K.stored parts.middle.flusher.store) parts.slots.items (K.stored report.keeper) report.slots.items) }
 {
     let Ok(
@@ -316,6 +331,7 @@ pub fn run_threads<
     requires sources { length sources.items ≡ length parts.slots.items }
     ensures run { IfOk result (λ report.
         IsRun (LeavesOneOf (K.honest parts.middle.flusher.store) (K.honest report.keeper) K.recovers (K.device report.keeper))
+        (Endures (K.honest parts.middle.flusher.store) K.recovers (K.stored parts.middle.flusher.store) (K.device parts.middle.flusher.store) (K.device report.keeper))
         (K.stored parts.middle.flusher.store) parts.slots.items (K.stored report.keeper) report.slots.items) }
 {
     let Ok(mut bells) = Vec::with_capacity(alloc, sources.len()) else {

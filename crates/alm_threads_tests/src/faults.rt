@@ -7,7 +7,7 @@ use crate::folds::{Accepted, reopened};
 use crate::notes::Notes;
 use alm_disk::{Free, MemDisk, OnceDisk};
 use alm_keeper::Keeper;
-use alm_run::Storage;
+use alm_threads::Storage;
 use alm_service::worked_table;
 use alm_types::Slot;
 use std::alloc::Global;

@@ -9,7 +9,7 @@ use crate::script::Step;
 use alm_disk::{HeldDisk, MemDisk};
 use alm_keeper::Keeper;
 use alm_rings::SlotReport;
-use alm_run::Storage;
+use alm_threads::Storage;
 use alm_service::worked_table;
 use alm_store::Store;
 use alm_types::{Action, AlarmId, Moment, Reading, Shown};

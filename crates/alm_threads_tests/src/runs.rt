@@ -8,7 +8,7 @@ use crate::notes::Notes;
 use alm_disk::{Free, MemDisk};
 use alm_keeper::Keeper;
 use alm_rings::SlotReport;
-use alm_run::Storage;
+use alm_threads::Storage;
 use alm_service::worked_table;
 use alm_store::Store;
 use alm_types::Table;

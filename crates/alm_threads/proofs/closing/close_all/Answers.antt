@@ -6,7 +6,7 @@ use Rattle.alm_rings.specs.declared.inbox.Inbox.{Inbox}
 use Rattle.alm_rings.specs.declared.outbox.Outbox.{Outbox}
 use Rattle.alm_rings.specs.declared.slot_report.SlotReport.{SlotReport}
 use Rattle.alm_rings.specs.Ends.{sent_of, received_of, taken_of, released_of}
-use Rattle.alm_rings.specs.Placed.{inbox_at, outbox_at, taken_in, released_in}
+use Rattle.alm_rings.specs.Placed.{inbox_at, outbox_at, taken_in, released_in, taken_by, released_by}
 use Rattle.alm_rings.proofs.Ordered.{push_cases}
 use Rattle.alm_rings.proofs.Slots.{place_of}
 use Rattle.alm_threads.proofs.Closed.{here, before, others, prefix_length, is_there, there_is, later}
@@ -53,16 +53,23 @@ loop-console-preserved g c =
           at = ap (λ l. slice_get l k) c.push_reserved.ensures.items ∙ before l.reports.items (c.close_slot.result ∷ []) k (Some was.report) was.at;
           is = was.is;
         })
-        | inr new ↦ record {
-          report = r.0;
-          at = ap (λ l. slice_get l k) c.push_reserved.ensures.items ∙ (ap (λ n. slice_get (l.reports.items ++ c.close_slot.result ∷ []) n) (new.0 ∙ sym inv.count) ∙ (here l.reports.items [] c.close_slot.result ∙ ap Some r.1));
-          is = record {
-            taken_is = requests.1 ∙ ap length (sym (ap (λ (z : Console _ _). taken_in (inbox_at z.slot c.args.inboxes.items)) (sym new.1) ∙ ap taken_in inbox));
-            released_is = receipts.0 ∙ ap (λ n. min n (2 ^ 64 - 1)) (ap length (sym (ap (λ (z : Console _ _). released_in (outbox_at z.slot c.args.outboxes.items)) (sym new.1) ∙ ap released_in outbox)));
-            sent = omega (arith, requests.0, requests.1, prefix_length (taken_of c.in-Some-take_inbox.inbox) (sent_of x) c.close_slot.ensures.taken);
-            received = later _ _ (2 ^ 64 - 1) _ _ (prefix_length (received_of x) (released_of c.in-Some-take_outbox.outbox) c.close_slot.ensures.received) receipts.1 receipts.0;
-          };
-        }
+        | inr new ↦ (let same_sent : length (sent_of x) ≡ length (sent_of y) = ap (λ (z : Console _ _). length (sent_of z)) new.1 in
+            let same_received : length (received_of x) ≡ length (received_of y) = ap (λ (z : Console _ _). length (received_of z)) new.1 in
+            let same_taken : length (taken_of c.in-Some-take_inbox.inbox) ≡ length (taken_by y.slot c.args.inboxes.items) =
+            ap length (sym (ap (λ (z : Console _ _). taken_in (inbox_at z.slot c.args.inboxes.items)) (sym new.1) ∙ ap taken_in inbox)) in
+            let same_released : length (released_of c.in-Some-take_outbox.outbox) ≡ length (released_by y.slot c.args.outboxes.items) =
+            ap length (sym (ap (λ (z : Console _ _). released_in (outbox_at z.slot c.args.outboxes.items)) (sym new.1) ∙ ap released_in outbox)) in record {
+              report = r.0;
+              at = ap (λ l. slice_get l k) c.push_reserved.ensures.items ∙ (ap (λ n. slice_get (l.reports.items ++ c.close_slot.result ∷ []) n) (new.0 ∙ sym inv.count) ∙ (here l.reports.items [] c.close_slot.result ∙ ap Some r.1));
+              is = record {
+                sent_is = requests.0 ∙ same_sent;
+                taken_is = requests.1 ∙ same_taken;
+                released_is = receipts.0 ∙ ap (λ n. min n (2 ^ 64 - 1)) same_released;
+                received_is = receipts.1 ∙ ap (λ n. min n (2 ^ 64 - 1)) same_received;
+                no_more_taken = omega (arith, same_sent, same_taken, prefix_length (taken_of c.in-Some-take_inbox.inbox) (sent_of x) c.close_slot.ensures.taken);
+                no_more_received = omega (arith, same_released, same_received, prefix_length (received_of x) (released_of c.in-Some-take_outbox.outbox) c.close_slot.ensures.received);
+              };
+            })
       ];
     }
 

@@ -5,7 +5,9 @@ use Rattle.alm_model.specs.Step.{run}
 use Rattle.alm_rings.specs.declared.console.Console.{Console}
 use Rattle.alm_rings.specs.Batches.{fetched_of, sealed_of}
 use Rattle.alm_rings.specs.Placed.{inbox_at, taken_by, released_by}
+use Rattle.alm_rings.specs.Ends.{sent_of, received_of}
 use Rattle.alm_run.specs.Histories.{LeavesOneOf}
+use Rattle.alm_run.proofs.Moments.{accepted_prefix, endures_on}
 use Rattle.alm_run.specs.Same.{AllSame}
 use Rattle.alm_threads.specs.Runs.{Closes}
 use Rattle.alm_threads.proofs.Tied.{stands_at, apart_by, map_count, wants_count, replies_count, received_count, front_on, entries_front, same_slots, tied_still}
@@ -66,11 +68,18 @@ returns g c =
             (sym c.report_of.ensures.keeper) f.flushed.device;
         told = f.flushed.told;
         within = f.flushed.within;
+        course = endures_on g.K.Store.recovers (g.K.Store.stored p.middle.flusher.store) (g.K.Store.honest p.middle.flusher.store) (g.K.Store.device p.middle.flusher.store) (g.K.Store.device e.landed.store) (g.K.Store.device c.report_of.result.keeper) (accepted_of (entries_in fetched)) (accepted_of entries) _
+            (ap g.K.Store.device (sym c.report_of.ensures.keeper)) (accepted_prefix (entries_in fetched) entries (front_on (entries_in fetched) (entries_in sealed) entries (entries_front fetched sealed c.report_of.ensures.fetched) f.judged.sealed)) f.flushed.course;
         count = c.report_of.ensures.closed.0 ∙ (sym (map_count (λ (x : Console _ _). x.slot) e.consoles.items) ∙ ap length order);
         each = λ k s at. (
             let d = stands_at (λ (x : Console _ _). x.slot) e.consoles.items p.slots.items k s order at in
             let taken : length (taken_by d.0.slot e.rings.inboxes.items) ≡ length (of_slot s entries) = ap (λ n. length (taken_by n e.rings.inboxes.items)) d.1.1 ∙ (ap length (sym (f.judged.wants s)) ∙ wants_count (of_slot s entries)) in
             let told : length (released_by d.0.slot e.landed.outboxes.items) ≡ length (of_slot s f.flushed.told) = ap (λ n. length (released_by n e.landed.outboxes.items)) d.1.1 ∙ (sym (received_count (released_by s e.landed.outboxes.items)) ∙ (ap length (f.flushed.released s) ∙ replies_count (of_slot s f.flushed.told))) in
-            subst (λ n. Closes reports k (length (of_slot s entries)) n) told (subst (λ n. Closes reports k n (length (released_by d.0.slot e.landed.outboxes.items))) taken (c.report_of.ensures.closed.1 k d.0 d.1.0)));
+            let closes = c.report_of.ensures.closed.1 k d.0 d.1.0 in (
+              length (sent_of d.0),
+              length (received_of d.0),
+              subst (λ n. Closes reports k (length (sent_of d.0)) (length (of_slot s entries)) n (length (received_of d.0))) told
+                  (subst (λ n. Closes reports k (length (sent_of d.0)) n (length (released_by d.0.slot e.landed.outboxes.items)) (length (received_of d.0))) taken closes),
+            ));
       };
     }
