@@ -48,7 +48,7 @@
 //!
 //! What is asked of a device: that it is honest, as alm_disk says it. Safety, the answers of `begin`, and that `Failed` and
 //! `Disk` are told only where the device failed in that call, hold of every device. Only `format` and `open_store` take memory:
-//! no contract says that it suffices, tests do. Not promised: any time, and that damaged bytes are found out (there is no
+//! the room of each vector of a book stays as it was taken. No contract says that it suffices, tests do. Not promised: any time, and that damaged bytes are found out (there is no
 //! checksum).
 #![tactic(auto)]
 
@@ -56,6 +56,7 @@ mod advancing;
 mod as_store;
 mod bearing;
 mod book;
+mod filling;
 mod format_fault;
 mod formatting;
 mod frame;

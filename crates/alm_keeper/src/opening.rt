@@ -11,6 +11,7 @@ ghost use Rattle.alm_keeper.specs.Opening.{Counts, IsReadOf, AreMarks, MarksFrom
 ghost use Rattle.alm_keeper.specs.Keeping.{InOrder, FitsDevice};
 
 use crate::book::Book;
+use crate::filling::fill_to;
 use crate::frame::FRAME_ROOM;
 use crate::open_fault::open_fault;
 use crate::stage::{Stage, Work};
@@ -238,12 +239,14 @@ fn book_of(
     let Ok(actions) = Vec::with_capacity(alloc, MOST_ACTIONS) else {
         return Err(OpenFault::OutOfMemory);
     };
-    let Ok(buffer) = vec![in alloc; 0u8; HEAD_LEN + layout.image_len() + layout.segment()] else {
+    let Ok(buffer) = Vec::with_capacity(alloc, HEAD_LEN + layout.image_len() + layout.segment())
+    else {
         return Err(OpenFault::OutOfMemory);
     };
-    let Ok(frame) = vec![in alloc; 0u8; FRAME_ROOM] else {
+    let Ok(mut frame) = Vec::with_capacity(alloc, FRAME_ROOM) else {
         return Err(OpenFault::OutOfMemory);
     };
+    fill_to(&mut frame, FRAME_ROOM);
     let (stored, gate) = match layout.restore::<Plant>(
         alloc,
         marks.half,
