@@ -39,7 +39,7 @@
 //! | Batch | the accepted actions of a batch, and how they are tried one after the other |
 //! | Formatting, Moments | what formatting makes: ten device calls in their order, and what a crash leaves at any moment of each |
 //! | Opening | what opening answers to the bytes |
-//! | Calls | which device call is that of a stage |
+//! | Calls | which device call is that of a stage, and which are those of an opening |
 //! | Stand, Resting, Piecewise, Phases, Keeping | what a keeper knows of its device: for the proofs |
 //!
 //! What is used above: `any_moment` of [`Keeper::advance`], where "stands for" is the relation `Stands` between bytes, an epoch and
