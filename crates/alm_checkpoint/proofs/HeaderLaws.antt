@@ -94,7 +94,7 @@ segment_small size rows areas n e =
     let in_limits : is_segment n ≡ true = (and_parts (is_segment n) (leb (device_len (of_rows rows areas n V02)) size) e).0 in
     omega (arith, leb-true n 16777216 (and_parts (leb 4116 n) (leb n 16777216) in_limits).1)
 
-header_keeps : (size : ℕ) (l : Layout) → SuitsDevice size l → (header size).Keeps l
+pub header_keeps : (size : ℕ) (l : Layout) → SuitsDevice size l → (header size).Keeps l
 header_keeps size l s = (
   (
     name_keeps l.version,
@@ -202,20 +202,23 @@ head_is_of header image p t h e =
 pub half_head_lawful : (header : Version) (image : ℕ) → Lawful (half_head header image)
 half_head_lawful header image = coded_lawful (head_in header image) (λ p. Some (told_of p.0 p.1.0)) (λ t. (t.epoch, ((t.version, t.count), image))) (head_in_lawful header image) (head_is_of header image)
 
+pub head_keeps : (l : Layout) (t : HalfHead) → t.epoch < 2 ^ 64 → allows l.version t.version ≡ true → t.count ≤ 2 ^ 48 → image_size l < 2 ^ 64 → (half_head l.version (image_size l)).Keeps t
+head_keeps l t e a c i = (
+  (
+    e,
+    (
+      mark_keeps l.version t.version t.count a c,
+      passing (number w64 (2 ^ 64)) (is_size (image_size l)) (image_size l) i (eq-eqb (image_size l) (image_size l) refl),
+    ),
+  ),
+  refl,
+)
+
 -- the text of a head is read
 pub head_reads : (l : Layout) (t : HalfHead) → t.epoch < 2 ^ 64 → allows l.version t.version ≡ true → t.count ≤ 2 ^ 48 → image_size l < 2 ^ 64 → (half_head l.version (image_size l)).read (half_head_text l t.version t.epoch t.count) ≡ Ok (t, [])
 head_reads l t e a c i =
     ap (half_head l.version (image_size l)).read (sym (append-nil (half_head_text l t.version t.epoch t.count)))
-    ∙ (half_head_lawful l.version (image_size l)).again t [] (
-      (
-        e,
-        (
-          mark_keeps l.version t.version t.count a c,
-          passing (number w64 (2 ^ 64)) (is_size (image_size l)) (image_size l) i (eq-eqb (image_size l) (image_size l) refl),
-        ),
-      ),
-      refl,
-    )
+    ∙ (half_head_lawful l.version (image_size l)).again t [] (head_keeps l t e a c i)
 
 -- what is read is the text of a head
 pub record IsHead (l : Layout) (bytes : List ℕ) (x : HalfHead × List ℕ) : Type 0 where

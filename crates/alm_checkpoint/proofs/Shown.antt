@@ -150,19 +150,22 @@ chosen device l Second version epoch count image segment beside d lt below =
     ∙ ap (λ (e : ℕ). or_fault l (choice (gate_in beside) true e epoch)) (epoch_beside device beside l First d.next)
     ∙ ap (or_fault l) (chosen_second (gate_in beside) (epoch_in beside) epoch below)
 
+pub suited : (size : ℕ) (l : Layout) → IsLayout l → device_len l ≤ size → SuitsDevice size l
+suited size l limits long = record {
+  rows = limits.rows;
+  areas = limits.areas;
+  segment = and_from (is_segment l.segment) (leb (device_len l) size) limits.segment (le-leb (device_len l) size long);
+}
+
 -- the header of a device that is long enough
 layout_again : (device : List ℕ) (l : Layout) → IsLayout l → device_len l ≤ length device → part 0 header_len device ≡ start_text l → layout_in device ≡ Ok l
 unfolding layout_from
 layout_again device l limits long start =
-    let fits : SuitsDevice (length device) l = record {
-      rows = limits.rows;
-      areas = limits.areas;
-      segment = and_from (is_segment l.segment) (leb (device_len l) (length device)) limits.segment (le-leb (device_len l) (length device) long);
-    } in
+    let fits = suited (length device) l limits long in
     ap (layout_from (length device)) start
     ∙ ap (λ r. read_to 2 header_len r >>= λ x. Ok x.0) (header_reads (length device) l fits)
 
-image_small : (l : Layout) → IsLayout l → image_size l < 2 ^ 64
+pub image_small : (l : Layout) → IsLayout l → image_size l < 2 ^ 64
 image_small l limits =
     let rows = leb-true l.rows 16384 (and_parts (leb 1 l.rows) (leb l.rows 16384) limits.rows).1 in
     let areas = leb-true l.areas 64 (and_parts (leb 1 l.areas) (leb l.areas 64) limits.areas).1 in

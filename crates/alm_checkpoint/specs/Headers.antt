@@ -1,5 +1,5 @@
 -- The fields of the header and of the head of a half, each behind its gate.
-use Rattle.std.specs.Prelude.{ℕ, ◌+◌, ◌-◌, ◌*◌, ◌^◌, ◌&&◌, Bool, true, false, List, [], ◌∷◌, ◌++◌, Option, Some, None, bytes_eq, nat_le, ◌==◌, if◌then◌else◌}
+use Rattle.std.specs.Prelude.{◌≡◌, ℕ, ◌+◌, ◌-◌, ◌*◌, ◌^◌, ◌<◌, ◌≤◌, ◌&&◌, Bool, true, false, List, [], ◌∷◌, ◌++◌, Option, Some, None, bytes_eq, nat_le, ◌==◌, if◌then◌else◌}
 use Rattle.std.specs.Int.{w16, w32, w64, to_be_bytes}
 use Rattle.alm_codec.specs.declared.version.Version.{Version}
 use Rattle.alm_codec.specs.declared.version.Version.TheVariants.{V01, V02}
@@ -76,6 +76,12 @@ mark header = coded (number w64 (2 ^ 64)) (unmarked header) (λ m. marked m.0 m.
 -- the text of a half's head
 abbrev pub half_head_text : Layout → Version → (epoch count : ℕ) → List ℕ
 half_head_text l version epoch count = to_be_bytes w64 epoch ++ (to_be_bytes w64 (marked version count) ++ to_be_bytes w64 (image_size l))
+
+-- a head that a half of a layout may have
+pub record IsHeadOf (l : Layout) (t : HalfHead) : Type 0 where
+  pub epoch : t.epoch < 2 ^ 64
+  pub allowed : allows l.version t.version ≡ true
+  pub count : t.count ≤ 2 ^ 48
 
 -- the head of a half under a header, whose image has so many bytes
 abbrev pub half_head : (header : Version) (image : ℕ) → Format HalfHead

@@ -1,6 +1,6 @@
 //! Laws of what a device stands for: each function does nothing, and its contract is the law.
 
-ghost use Rattle.std.specs.Prelude.{◌≡◌, ◌+◌, ◌<◌, ◌^◌, ℕ, false, List, [], ◌∷◌, ◌++◌, length};
+ghost use Rattle.std.specs.Prelude.{◌≡◌, ◌+◌, ◌<◌, ◌≤◌, ◌^◌, ℕ, false, List, [], ◌∷◌, ◌++◌, length, Ok};
 ghost use Rattle.alm_types.specs.declared.action.Action.{Action};
 ghost use Rattle.alm_model.specs.Plant.{Condensed};
 ghost use Rattle.alm_model.specs.Step.{run};
@@ -11,9 +11,29 @@ ghost use Rattle.alm_codec.specs.declared.version.Version.TheVariants.{V02};
 ghost use Rattle.alm_codec.specs.Versions.{AreBorne};
 ghost use Rattle.alm_segment.specs.Course.{is_open};
 ghost use Rattle.alm_checkpoint.specs.declared.fault.Fault.{Fault};
-ghost use Rattle.alm_checkpoint.specs.Layouts.{half_len};
+ghost use Rattle.alm_checkpoint.specs.declared.half_head.HalfHead.{HalfHead};
+ghost use Rattle.alm_checkpoint.specs.declared.layout.Layout.{Layout};
+ghost use Rattle.alm_checkpoint.specs.Layouts.{device_len, half_len};
+ghost use Rattle.alm_checkpoint.specs.Headers.{header_text, half_head_text, IsHeadOf};
+ghost use Rattle.alm_checkpoint.specs.Opening.{layout_from};
 ghost use Rattle.alm_checkpoint.specs.Standing.{Stands, HasFault, Meaning, gate_place};
-ghost use Rattle.alm_checkpoint.specs.Cut.{Cut, Stores, Reaches, IsBelow, IsCut, half_text, device_of, with_frame, with_other, turned};
+ghost use Rattle.alm_checkpoint.specs.Cut.{Cut, IsLayout, Stores, Reaches, IsBelow, IsCut, half_text, device_of, with_frame, with_other, turned};
+
+/// No text of a header begins another's.
+pub fn no_header_begins_another()
+    ensures { (a b : Layout) (x y : List ℕ) → IsLayout a → IsLayout b → header_text a ++ x ≡ header_text b ++ y → a ≡ b }
+{}
+
+/// No text of a half's head begins another's of the same layout.
+pub fn no_head_begins_another()
+    ensures { (l : Layout) (a b : HalfHead) (x y : List ℕ) → IsLayout l → IsHeadOf l a → IsHeadOf l b →
+        half_head_text l a.version a.epoch a.count ++ x ≡ half_head_text l b.version b.epoch b.count ++ y → a ≡ b }
+{}
+
+/// What a header spells behind its open gate is read as its layout, on a device that holds both halves.
+pub fn a_header_is_read()
+    ensures { (size : ℕ) (l : Layout) → IsLayout l → device_len l ≤ size → layout_from size (165 ∷ header_text l) ≡ Ok l }
+{}
 
 /// A device of these fields stands for the plant that they store, whatever lies behind the first closed gate.
 pub fn a_cut_stands()

@@ -237,8 +237,7 @@ either_by B A x Stopped d works = absurd works
 -- .. of a book's
 pub run_within : (b : Book) → InOrder b → IsWorking b.stage → b.copying ≡ true → b.run ≤ length b.buffer.items
 run_within b i works on =
-    let o = opened b i works on in
-    omega (arith, i.buffer, i.gate, o.room)
+    (opened b i works on).within
 
 pub run_size : (b : Book) → InOrder b → IsWorking b.stage → b.copying ≡ true → length (run_in b) ≡ b.run
 run_size b i works on = length-take-le b.run b.buffer.items (run_within b i works on)
@@ -418,3 +417,16 @@ pub ends_by : (step : Progress) (old new : Book) → GoesOn old.stage old.work s
 ends_by More old new goes = goes
 ends_by Done old new goes = goes
 ends_by Failed old new goes = absurd (not_failed old.stage old.work Failed old new goes refl)
+
+-- a call leaves the layout as it is
+pub gone_layout : (stage : Stage) (work : Work) (step : Progress) (old new : Book) → GoesOn stage work step old new → new.layout ≡ old.layout
+gone_layout Idle work step old new g = ap (λ (b : Book). b.layout) g.1
+gone_layout Close work step old new g = ap (λ (b : Book). b.layout) g.1
+gone_layout CloseSync work step old new g = ap (λ (b : Book). b.layout) g.1
+gone_layout Body Commit step old new g = ap (λ (b : Book). b.layout) g.1
+gone_layout Body Checkpoint step old new g = ap (λ (b : Book). b.layout) g.1
+gone_layout BodySync work step old new g = ap (λ (b : Book). b.layout) g.1
+gone_layout Gate work step old new g = ap (λ (b : Book). b.layout) g.1
+gone_layout GateSync Commit step old new g = ap (λ (a : Account). a.layout) g.1.account
+gone_layout GateSync Checkpoint step old new g = ap (λ (a : Account). a.layout) g.1.account
+gone_layout Stopped work step old new g = ap (λ (b : Book). b.layout) g.1

@@ -33,3 +33,4 @@ pub mod CallsLeft
 pub mod StoreOpened
 pub mod StorePassing
 pub mod StorePacing
+pub mod Made

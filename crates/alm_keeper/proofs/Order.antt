@@ -164,12 +164,13 @@ pub opens_does : (new : Book) (o : Bool) → new.copying ≡ true → new.ahead 
 opens_does new true on same = (on, same)
 opens_does new false on same = (on, same)
 
-pub opens_copy : (new : Book) (o : Bool) → new.work ≡ Checkpoint → new.epoch + 1 < 2 ^ 64 → new.run ≡ head_len + image_size new.layout → segment_at new.layout new.half ≤ new.gate → new.out ≡ 0 → IsCopying true (first_stage o) new
-opens_copy new true is more run first out = record { more = more; least = omega (arith, run); room = omega (arith, run, first); sent = out }
-opens_copy new false is more run first out = record {
+pub opens_copy : (new : Book) (o : Bool) → new.work ≡ Checkpoint → new.epoch + 1 < 2 ^ 64 → new.run ≡ head_len + image_size new.layout → segment_at new.layout new.half ≤ new.gate → new.out ≡ 0 → new.run ≤ length new.buffer.items → IsCopying true (first_stage o) new
+opens_copy new true is more run first out within = record { more = more; least = omega (arith, run); room = omega (arith, run, first); within = within; sent = out }
+opens_copy new false is more run first out within = record {
   more = more;
   least = omega (arith, run);
   room = omega (arith, run, first);
+  within = within;
   sent = subst (λ (w : Work). Sent Body w new.out new.run) (sym is) (let lt : new.out < new.run = omega (arith, run, out) in lt);
 }
 
@@ -177,8 +178,8 @@ opens_copy new false is more run first out = record {
 abbrev Ordered : Account → Type 0
 Ordered a = IsLayout a.layout × (device_len a.layout < 2 ^ 64) × KeepsRules a.plant × IsOf a.layout.rows a.layout.areas a.plant.panel.count a.plant × (a.plant.panel.count ≤ 2 ^ 48) × (segment_at a.layout a.half ≤ a.gate) × (a.gate + 1 ≤ end_of a)
 
-module _ (old new : Book) (i : InOrder old) (last : old.stage ≡ GateSync) (is : old.work ≡ Commit) (c : Closes old new) (ahead : new.ahead ≡ old.ahead) (frame : length new.frame.items ≡ 4115) (room : 256 ≤ vec_capacity new.actions)
-    (buffer : length new.buffer.items ≡ length old.buffer.items) where
+module _ (old new : Book) (i : InOrder old) (last : old.stage ≡ GateSync) (is : old.work ≡ Commit) (c : Closes old new) (ahead : new.ahead ≡ old.ahead) (frame : length new.frame.items ≡ 4115) (frame_room : vec_capacity new.frame ≡ 4115) (room : vec_capacity new.actions ≡ 256)
+    (buffer : vec_capacity new.buffer ≡ vec_capacity old.buffer) (within : old.copying ≡ true → new.run ≤ length new.buffer.items) where
   works : IsWorking old.stage
   works = subst IsWorking (sym last) tt
 
@@ -209,6 +210,7 @@ module _ (old new : Book) (i : InOrder old) (last : old.stage ≡ GateSync) (is 
         more = subst (λ (e : ℕ). e + 1 < 2 ^ 64) (sym (ap (λ (a : Account). a.epoch) c.account)) o.more;
         least = omega (arith, o.least, g.run, size);
         room = omega (arith, o.room, g.run, size, at, gate);
+        within = within on;
         sent = subst (λ (x : Work). Sent Body x new.out new.run) (sym (c.work ∙ ap rest_work on)) (let lt : new.out < new.run = omega (arith, sent, c.out, g.run) in lt);
       }
 
@@ -227,18 +229,19 @@ module _ (old new : Book) (i : InOrder old) (last : old.stage ≡ GateSync) (is 
     gate = here.6;
     room = room;
     frame = frame;
+    frame_room = frame_room;
     buffer = buffer ∙ i.buffer ∙ ap (λ (a : Account). head_len + image_size a.layout + a.layout.segment) (sym c.account);
     does = subst (λ (s : Stage). Does s new.work new) (sym c.stage) (subst (λ (x : Work). Does (rest_stage old.copying) x new) (sym c.work) (does old.copying refl));
     copy = subst (λ (s : Stage). IsCopying new.copying s new) (sym c.stage) (subst (λ (o : Bool). IsCopying o (rest_stage old.copying) new) (sym c.copying) (copy old.copying refl));
   }
 
 -- the run has room for the frame of the commit
-pub grows_within : (b : Book) → InOrder b → b.stage ≡ GateSync → b.work ≡ Commit → b.copying ≡ true → (1 ≤ b.run) × (b.run + (19 + 16 * length b.actions.items) ≤ length b.buffer.items)
+pub grows_within : (b : Book) → InOrder b → b.stage ≡ GateSync → b.work ≡ Commit → b.copying ≡ true → (1 ≤ b.run) × (b.run ≤ length b.buffer.items) × (b.run + (19 + 16 * length b.actions.items) ≤ vec_capacity b.buffer)
 grows_within b i last is on =
     let works : IsWorking b.stage = subst IsWorking (sym last) tt in
     let o = opened b i works on in
     let w = commits b i works is in
-    (omega (arith, o.least), omega (arith, o.room, w.takes.0, i.buffer))
+    (omega (arith, o.least), o.within, omega (arith, o.room, w.takes.0, i.buffer))
 
 -- what storing a commit leaves
 abbrev pub Stores : (old mid : Book) → Type 0
@@ -269,10 +272,11 @@ resumed_by old mid new on s stage work same g = record {
 }
 
 -- what stays of a book where a commit is stored
-pub ordered_by : (old mid new : Book) → InOrder old → old.stage ≡ GateSync → old.work ≡ Commit → Stores old mid → Closes old new → new.ahead ≡ mid.ahead → new.frame ≡ mid.frame → new.actions ≡ mid.actions → length new.buffer.items ≡ length mid.buffer.items → InOrder new
-ordered_by old mid new i last is s c ahead frame actions buffer =
+pub ordered_by : (old mid new : Book) → InOrder old → old.stage ≡ GateSync → old.work ≡ Commit → Stores old mid → Closes old new → new.ahead ≡ mid.ahead → new.frame ≡ mid.frame → new.actions ≡ mid.actions → vec_capacity new.buffer ≡ vec_capacity mid.buffer → (old.copying ≡ true → new.run ≤ length new.buffer.items) → InOrder new
+ordered_by old mid new i last is s c ahead frame actions buffer within =
     closes_order old new i last is c (ahead ∙ ap (λ (b : Book). b.ahead) s.1) (ap (λ f. length f.items) frame ∙ ap (λ (b : Book). length b.frame.items) s.1 ∙ i.frame)
-    (subst (λ v. 256 ≤ vec_capacity v) (sym (actions ∙ ap (λ (b : Book). b.actions) s.1)) i.room) (buffer ∙ ap (λ (b : Book). length b.buffer.items) s.1)
+    (ap (λ f. vec_capacity f) frame ∙ ap (λ (b : Book). vec_capacity b.frame) s.1 ∙ i.frame_room)
+    (ap (λ a. vec_capacity a) actions ∙ ap (λ (b : Book). vec_capacity b.actions) s.1 ∙ i.room) (buffer ∙ ap (λ (b : Book). vec_capacity b.buffer) s.1) within
 
 -- a frame at the end of the run
 pub grown_by : (old mid new : Book) → Stores old mid → (actions : List Action) (first : ℕ) → actions ≡ mid.actions.items → first ≡ old.stored.panel.count + 1

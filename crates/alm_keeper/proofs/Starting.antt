@@ -154,6 +154,7 @@ marked_order b n i = record {
   gate = i.gate;
   room = i.room;
   frame = i.frame;
+  frame_room = i.frame_room;
   buffer = i.buffer;
   does = does b.stage b.work i.does;
   copy = copies b.copying b.stage i.copy;
@@ -176,7 +177,7 @@ marked_order b n i = record {
     does Stopped w d = tt
 
     same : (s : Stage) → Opened s b → Opened s (record b { written = n })
-    same s o = record { more = o.more; least = o.least; room = o.room; sent = o.sent }
+    same s o = record { more = o.more; least = o.least; room = o.room; within = o.within; sent = o.sent }
 
     copies : (o : Bool) (s : Stage) → IsCopying o s b → IsCopying o s (record b { written = n })
     copies false s o = tt

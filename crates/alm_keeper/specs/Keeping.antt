@@ -80,11 +80,13 @@ Sent stage Commit out run = out < run
 Sent Body Checkpoint out run = out < run
 Sent stage Checkpoint out run = out ≡ run
 
--- a checkpoint is open: the frames in its run stand among the frames of the half that stands, so they fit the other half
+-- a checkpoint is open: its run is in the buffer, and the frames in it stand among the frames of the half that stands, so they fit
+-- the other half
 pub record Opened (stage : Stage) (b : Book) : Type 0 where
   pub more : b.epoch + 1 < 2 ^ 64
   pub least : head_len + image_size b.layout ≤ b.run
   pub room : segment_at b.layout b.half + b.run ≤ b.gate + (head_len + image_size b.layout)
+  pub within : b.run ≤ length b.buffer.items
   pub sent : Sent stage b.work b.out b.run
 
 abbrev pub IsCopying : Bool → Stage → Book → Type 0
@@ -92,7 +94,7 @@ IsCopying false stage b = Unit {0}
 IsCopying true Stopped b = Unit {0}
 IsCopying true stage b = Opened stage b
 
--- what holds of a book, whatever the device does
+-- what holds of a book, whatever the device does. The room of its vectors is the same always: no call takes memory
 pub record InOrder (b : Book) : Type 0 where
   pub layout : IsLayout b.layout
   pub small : device_len b.layout < 2 ^ 64
@@ -101,9 +103,10 @@ pub record InOrder (b : Book) : Type 0 where
   pub count : b.stored.panel.count ≤ 2 ^ 48
   pub first : segment_at b.layout b.half ≤ b.gate
   pub gate : b.gate + 1 ≤ end_of (account b)
-  pub room : 256 ≤ vec_capacity b.actions
+  pub room : vec_capacity b.actions ≡ 256
   pub frame : length b.frame.items ≡ 4115
-  pub buffer : length b.buffer.items ≡ head_len + image_size b.layout + b.layout.segment
+  pub frame_room : vec_capacity b.frame ≡ 4115
+  pub buffer : vec_capacity b.buffer ≡ head_len + image_size b.layout + b.layout.segment
   pub does : Does b.stage b.work b
   pub copy : IsCopying b.copying b.stage b
 

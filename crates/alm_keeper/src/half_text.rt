@@ -1,11 +1,12 @@
 //! The body of a half in its buffer.
 
-ghost use Rattle.std.specs.Prelude.{◌≡◌, ◌≤◌, ◌+◌, ◌^◌, ◌++◌, ◌∷◌, [], length, take, drop};
+ghost use Rattle.std.specs.Prelude.{◌≡◌, ◌≤◌, ◌+◌, ◌^◌, ◌++◌, ◌∷◌, [], length, take, drop, vec_capacity};
 ghost use Rattle.alm_model.specs.Rules.{KeepsRules};
 ghost use Rattle.alm_codec.specs.Image.{image_text, IsOf};
 ghost use Rattle.alm_checkpoint.specs.Layouts.{image_size};
 ghost use Rattle.alm_checkpoint.specs.Headers.{half_head_text};
 
+use crate::filling::fill_to;
 use alm_checkpoint::{HEAD_LEN, HalfHead, Layout};
 use alm_codec::write_image;
 use alm_plant::Plant;
@@ -45,14 +46,29 @@ fn put_front(layout: &Layout, head: &HalfHead, plant: &Plant, out: &mut [u8])
     put_half(layout, head, plant, &mut out[..run]);
 }
 
-/// Writes the body of a half into the front of the buffer of a run.
-pub fn write_half(layout: &Layout, head: &HalfHead, plant: &Plant, buffer: &mut Vec<u8>)
+/// The same in the buffer of a run, which is as long.
+fn put_in_run(layout: &Layout, head: &HalfHead, plant: &Plant, buffer: &mut Vec<u8>)
     requires rules { KeepsRules plant.now }
     requires sizes { IsOf layout.now.rows layout.now.areas plant.now.panel.count plant.now }
     requires count { head.now.count ≤ 2 ^ 48 }
     requires room { 25 + image_size layout.now ≤ length buffer.old.items }
     ensures text { take (25 + image_size layout.now) buffer.new.items ≡ half_head_text layout.now head.now.version head.now.epoch head.now.count ++ image_text plant.now ++ 0 ∷ [] }
     ensures long { length buffer.new.items ≡ length buffer.old.items }
+    ensures room { vec_capacity buffer.new ≡ vec_capacity buffer.old }
 {
     put_front(layout, head, plant, buffer);
+}
+
+/// Writes the body of a half into the front of the buffer of a run, which has room for it.
+pub fn write_half(layout: &Layout, head: &HalfHead, plant: &Plant, buffer: &mut Vec<u8>)
+    requires rules { KeepsRules plant.now }
+    requires sizes { IsOf layout.now.rows layout.now.areas plant.now.panel.count plant.now }
+    requires count { head.now.count ≤ 2 ^ 48 }
+    requires room { 25 + image_size layout.now ≤ vec_capacity buffer.old }
+    ensures text { take (25 + image_size layout.now) buffer.new.items ≡ half_head_text layout.now head.now.version head.now.epoch head.now.count ++ image_text plant.now ++ 0 ∷ [] }
+    ensures long { 25 + image_size layout.now ≤ length buffer.new.items }
+    ensures room { vec_capacity buffer.new ≡ vec_capacity buffer.old }
+{
+    fill_to(buffer, HEAD_LEN + layout.image_len());
+    put_in_run(layout, head, plant, buffer);
 }

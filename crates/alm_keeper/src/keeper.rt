@@ -1,7 +1,10 @@
 //! Keepers.
 
-ghost use Rattle.std.specs.Prelude.{◌≡◌, ◌≢◌, ◌≤◌, ◌⊎◌, ◌↔◌, ◌+◌, ◌*◌, ◌^◌, List, ℕ, length, IsTrue, IfOk, IfErr, Err, true, false};
-ghost use Rattle.alm_checkpoint.specs.Layouts.{head_len};
+ghost use Rattle.std.specs.Prelude.{◌≡◌, ◌≢◌, ◌≤◌, ◌⊎◌, ◌↔◌, ◌+◌, ◌*◌, ◌^◌, ◌∷◌, List, ℕ, length, IsTrue, IfOk, IfErr, Err, true, false};
+ghost use Rattle.alm_disk.specs.declared.call.Call.{Call};
+ghost use Rattle.alm_checkpoint.specs.declared.layout.Layout.{Layout};
+ghost use Rattle.alm_checkpoint.specs.Layouts.{head_len, image_size};
+ghost use Rattle.alm_keeper.specs.Calls.{AreMade, reads_of};
 ghost use Rattle.alm_disk.specs.Device.{IsImage};
 ghost use Rattle.alm_disk.specs.Failures.{HasFailed};
 ghost use Rattle.alm_disk.specs.Settled.{IsSettled};
@@ -229,6 +232,8 @@ pub fn open_store<D: Disk + Drop>(alloc: Global, disk: D) -> Result<Keeper<D>, (
     ensures honest { IfOk result (λ k. D.honest disk ↔ D.honest k.disk) }
     ensures honest_back { IfErr result (λ x. D.honest disk ↔ D.honest x.1) }
     ensures unwritten { D.honest disk → IfOk result (λ k. (b : List ℕ) → IsImage (D.state k.disk) b → IsImage (D.state disk) b) }
+    // Which calls it makes: a sync, and five reads, of each range once.
+    ensures made { IfOk result (λ k. (layout : Layout) × (image_size layout ≡ k.image) × (layout.segment ≡ k.segment) × AreMade D.serves (Call.Sync ∷ reads_of layout k.half) disk k.disk) }
     ensures unwritten_back { D.honest disk → IfErr result (λ x. (b : List ℕ) → IsImage (D.state x.1) b → IsImage (D.state disk) b) }
 {
     let mut disk = disk;

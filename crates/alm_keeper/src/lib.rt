@@ -39,7 +39,7 @@
 //! | Batch | the accepted actions of a batch, and how they are tried one after the other |
 //! | Formatting, Moments | what formatting makes: ten device calls in their order, and what a crash leaves at any moment of each |
 //! | Opening | what opening answers to the bytes |
-//! | Calls | which device call is that of a stage |
+//! | Calls | which device call is that of a stage, and which are those of an opening |
 //! | Stand, Resting, Piecewise, Phases, Keeping | what a keeper knows of its device: for the proofs |
 //!
 //! What is used above: `any_moment` of [`Keeper::advance`], where "stands for" is the relation `Stands` between bytes, an epoch and
@@ -48,7 +48,7 @@
 //!
 //! What is asked of a device: that it is honest, as alm_disk says it. Safety, the answers of `begin`, and that `Failed` and
 //! `Disk` are told only where the device failed in that call, hold of every device. Only `format` and `open_store` take memory:
-//! no contract says that it suffices, tests do. Not promised: any time, and that damaged bytes are found out (there is no
+//! the room of each vector of a book stays as it was taken. No contract says that it suffices, tests do. Not promised: any time, and that damaged bytes are found out (there is no
 //! checksum).
 #![tactic(auto)]
 
@@ -56,6 +56,7 @@ mod advancing;
 mod as_store;
 mod bearing;
 mod book;
+mod filling;
 mod format_fault;
 mod formatting;
 mod frame;

@@ -1,16 +1,20 @@
 //! Opening a device.
 
-ghost use Rattle.std.specs.Prelude.{◌≡◌, ◌≤◌, ◌<◌, ◌+◌, ◌^◌, ◌↔◌, ◌⊎◌, List, ℕ, length, take, OnOk, OnErr, IfOk, IfErr, ◌≢◌, false};
+ghost use Rattle.std.specs.Prelude.{◌≡◌, ◌≤◌, ◌<◌, ◌+◌, ◌^◌, ◌↔◌, ◌⊎◌, List, [], ◌∷◌, ℕ, length, take, OnOk, OnErr, IfOk, IfErr, ◌≢◌, false};
 ghost use Rattle.alm_disk.specs.Device.{IsImage, IsBytes};
 ghost use Rattle.alm_disk.specs.Failures.{HasFailed};
 ghost use Rattle.alm_disk.specs.Settled.{IsSettled};
-ghost use Rattle.alm_checkpoint.specs.Layouts.{part, device_len, image_size};
+ghost use Rattle.alm_disk.specs.declared.call.Call.{Call};
+ghost use Rattle.alm_checkpoint.specs.declared.half.Half.TheVariants.{First, Second};
+ghost use Rattle.alm_checkpoint.specs.Layouts.{part, device_len, half_at, image_size};
 ghost use Rattle.alm_checkpoint.specs.Cut.{IsLayout};
 ghost use Rattle.alm_checkpoint.specs.Opening.{layout_in};
+ghost use Rattle.alm_keeper.specs.Calls.{AreMade, reads_of};
 ghost use Rattle.alm_keeper.specs.Opening.{Counts, IsReadOf, AreMarks, MarksFrom, Opens, Restores};
 ghost use Rattle.alm_keeper.specs.Keeping.{InOrder, FitsDevice};
 
 use crate::book::Book;
+use crate::filling::fill_to;
 use crate::frame::FRAME_ROOM;
 use crate::open_fault::open_fault;
 use crate::stage::{Stage, Work};
@@ -34,6 +38,7 @@ fn read<D: Disk>(disk: &mut D, at: u64, into: &mut [u8]) -> Result<(), DiskFault
     ensures keeps { (b : List ℕ) → D.honest disk.old → IsSettled (D.state disk.old) b → IsSettled (D.state disk.new) b }
     ensures given { (b : List ℕ) → D.honest disk.old → IsSettled (D.state disk.old) b → OnOk result (into.new ≡ part at (length into.old) b) }
     ensures long { length into.new ≡ length into.old }
+    ensures serves { D.serves disk.old (Call.Read at (length into.old)) result disk.new }
 {
     disk.read_at(at, into)
 }
@@ -49,6 +54,7 @@ fn read_layout<D: Disk>(disk: &mut D) -> Result<Layout, OpenFault>
     ensures fits { IfOk result (λ l. device_len l ≤ D.size disk.new) }
     ensures small { IfOk result (λ l. device_len l < 2 ^ 64) }
     ensures memory { OnOk result (D.size disk.new < 2 ^ 64) }
+    ensures made { OnOk result (AreMade D.serves (Call.Read 0 23 ∷ []) disk.old disk.new) }
 {
     let size = disk.size();
     if size < 23 {
@@ -85,6 +91,7 @@ fn read_marks<D: Disk>(disk: &mut D, layout: Layout) -> Result<Marks, OpenFault>
     ensures keeps { (b : List ℕ) → D.honest disk.old → IsSettled (D.state disk.old) b → IsSettled (D.state disk.new) b }
     ensures marks { (b : List ℕ) → D.honest disk.old → IsSettled (D.state disk.old) b → AreMarks layout b result }
     ensures count { IfOk result (λ m. m.head.count ≤ 2 ^ 48) }
+    ensures made { OnOk result (AreMade D.serves (Call.Read (half_at layout First) 25 ∷ Call.Read (half_at layout Second) 25 ∷ []) disk.old disk.new) }
 {
     let mut first = [0u8; 25];
     match read(disk, layout.half_at(Half::First), &mut first) {
@@ -142,6 +149,7 @@ pub fn open_book<D: Disk>(alloc: Global, disk: &mut D) -> Result<Book, OpenFault
     ensures in_order { IfOk result InOrder }
     ensures idle { IfOk result (λ book. (book.stage ≡ Stage.Idle) × (book.copying ≡ false) × (book.written ≡ 0)) }
     ensures fits { IfOk result (λ book. FitsDevice book (D.size disk.new)) }
+    ensures made { IfOk result (λ book. AreMade D.serves (Call.Sync ∷ reads_of book.layout book.half) disk.old disk.new) }
 {
     match disk.sync() {
         Ok(()) => read_book(alloc, disk),
@@ -159,6 +167,7 @@ fn read_book<D: Disk>(alloc: Global, disk: &mut D) -> Result<Book, OpenFault>
     ensures in_order { IfOk result InOrder }
     ensures idle { IfOk result (λ book. (book.stage ≡ Stage.Idle) × (book.copying ≡ false) × (book.written ≡ 0)) }
     ensures fits { IfOk result (λ book. FitsDevice book (D.size disk.new)) }
+    ensures made { IfOk result (λ book. AreMade D.serves (reads_of book.layout book.half) disk.old disk.new) }
 {
     let layout = match read_layout(disk) {
         Ok(layout) => layout,
@@ -194,6 +203,7 @@ fn read_room<D: Disk>(
     ensures given { (b : List ℕ) → D.honest disk.old → IsSettled (D.state disk.old) b → IfOk result (λ v. v.items ≡ part at len b) }
     ensures long { IfOk result (λ v. length v.items ≡ len) }
     ensures fault { IfErr result (λ f. (f ≡ OpenFault.Disk) ⊎ (f ≡ OpenFault.OutOfMemory)) }
+    ensures made { OnOk result (AreMade D.serves (Call.Read at len ∷ []) disk.old disk.new) }
 {
     let Ok(mut room) = vec![in alloc; 0u8; len] else {
         return Err(OpenFault::OutOfMemory);
@@ -214,6 +224,7 @@ fn fill<D: Disk>(disk: &mut D, at: u64, room: &mut Vec<u8>) -> Result<(), DiskFa
     ensures keeps { (b : List ℕ) → D.honest disk.old → IsSettled (D.state disk.old) b → IsSettled (D.state disk.new) b }
     ensures given { (b : List ℕ) → D.honest disk.old → IsSettled (D.state disk.old) b → OnOk result (room.new.items ≡ part at (length room.old.items) b) }
     ensures long { length room.new.items ≡ length room.old.items }
+    ensures serves { D.serves disk.old (Call.Read at (length room.old.items)) result disk.new }
 {
     read(disk, at, room)
 }
@@ -238,12 +249,14 @@ fn book_of(
     let Ok(actions) = Vec::with_capacity(alloc, MOST_ACTIONS) else {
         return Err(OpenFault::OutOfMemory);
     };
-    let Ok(buffer) = vec![in alloc; 0u8; HEAD_LEN + layout.image_len() + layout.segment()] else {
+    let Ok(buffer) = Vec::with_capacity(alloc, HEAD_LEN + layout.image_len() + layout.segment())
+    else {
         return Err(OpenFault::OutOfMemory);
     };
-    let Ok(frame) = vec![in alloc; 0u8; FRAME_ROOM] else {
+    let Ok(mut frame) = Vec::with_capacity(alloc, FRAME_ROOM) else {
         return Err(OpenFault::OutOfMemory);
     };
+    fill_to(&mut frame, FRAME_ROOM);
     let (stored, gate) = match layout.restore::<Plant>(
         alloc,
         marks.half,

@@ -33,6 +33,7 @@ mod numbers;
 mod part;
 mod printing;
 mod reply;
+mod short_text;
 mod writing;
 
 pub use ask::Ask;

@@ -3,6 +3,7 @@
 ghost use Rattle.alm_lines.specs.Parts.{part_text, text_of_parts};
 ghost use Rattle.alm_lines.specs.Written.{Prints};
 
+use crate::short_text::ShortText;
 use crate::writing::put;
 use std::io;
 
@@ -28,12 +29,23 @@ fn put_part<W: io::Write>(part: Part<'_>, writer: &mut W) -> io::Result<()>
     }
 }
 
-/// Writes parts, one after the other.
-pub fn put_parts<W: io::Write>(parts: &[Part<'_>], writer: &mut W) -> io::Result<()>
+/// Writes parts, one after the other, each by its own calls.
+pub fn put_each<W: io::Write>(parts: &[Part<'_>], writer: &mut W) -> io::Result<()>
     ensures { Prints (W.contents writer.old) (W.contents writer.new) (text_of_parts parts.now) result }
 {
     for part in parts {
         put_part(*part, writer)?;
     }
     Ok(())
+}
+
+/// Writes parts, one after the other. A short text of them is put together before.
+pub fn put_parts<W: io::Write>(parts: &[Part<'_>], writer: &mut W) -> io::Result<()>
+    ensures { Prints (W.contents writer.old) (W.contents writer.new) (text_of_parts parts.now) result }
+{
+    let mut text = ShortText::new();
+    if text.add_parts(parts) {
+        return put(text.bytes(), writer);
+    }
+    put_each(parts, writer)
 }

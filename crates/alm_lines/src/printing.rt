@@ -6,8 +6,9 @@ ghost use Rattle.alm_lines.specs.Parts.{part_text, text_of_parts};
 ghost use Rattle.alm_lines.specs.Reply.{text_of, shown_word, letters, query_word, told_text, report_text, spaced, deadline};
 ghost use Rattle.alm_lines.specs.Written.{Prints};
 
-use crate::part::{Part, put_parts};
+use crate::part::{Part, put_each, put_parts};
 use crate::reply::Reply;
+use crate::short_text::ShortText;
 use crate::writing::put;
 use alm_types::{Answer, Query, Shown};
 use std::io;
@@ -82,7 +83,7 @@ fn print_spaced<W: io::Write>(numbers: &[u32], writer: &mut W) -> io::Result<()>
 fn print_list<W: io::Write>(list: &[u32], writer: &mut W) -> io::Result<()>
     ensures { Prints (W.contents writer.old) (W.contents writer.new) (report_text (alarms list.now)) result }
 {
-    put_parts(&[Part::Word(" "), Part::Number(list.len() as u64)], writer)?;
+    put_each(&[Part::Word(" "), Part::Number(list.len() as u64)], writer)?;
     print_spaced(list, writer)
 }
 
@@ -91,7 +92,7 @@ fn print_report<W: io::Write>(query: Query, answer: &Answer, writer: &mut W) -> 
     ensures { Prints (W.contents writer.old) (W.contents writer.new) (report_text (report query answer.now)) result }
 {
     match query {
-        Query::State(_) => put_parts(
+        Query::State(_) => put_each(
             &[
                 Part::Word(" "),
                 Part::Word(shown_word(answer.shown)),
@@ -104,7 +105,7 @@ fn print_report<W: io::Write>(query: Query, answer: &Answer, writer: &mut W) -> 
             ],
             writer,
         ),
-        Query::Flood(_) => put_parts(
+        Query::Flood(_) => put_each(
             &[
                 Part::Word(" "),
                 Part::Number(answer.window),
@@ -129,7 +130,7 @@ fn print_query<W: io::Write>(
 ) -> io::Result<()>
     ensures { Prints (W.contents writer.old) (W.contents writer.new) (told_text id n query (report query answer.now)) result }
 {
-    put_parts(
+    put_each(
         &[
             Part::Number(u64::from(id)),
             Part::Word(query_word(query)),
@@ -139,6 +140,23 @@ fn print_query<W: io::Write>(
     )?;
     print_report(query, answer, writer)?;
     put(b"\n", writer)
+}
+
+/// Prints the reply to a query, at once where it goes into a short text.
+fn print_at_once<W: io::Write>(
+    id: u32,
+    n: u64,
+    query: Query,
+    answer: &Answer,
+    writer: &mut W,
+) -> io::Result<()>
+    ensures { Prints (W.contents writer.old) (W.contents writer.new) (told_text id n query (report query answer.now)) result }
+{
+    let mut text = ShortText::new();
+    match print_query(id, n, query, answer, &mut text) {
+        Ok(()) => put(text.bytes(), writer),
+        Err(_) => print_query(id, n, query, answer, writer),
+    }
 }
 
 /// Prints what an answer tells, between words.
@@ -156,7 +174,7 @@ pub fn print_told<W: io::Write>(
     put(end.as_bytes(), writer)
 }
 
-/// Prints a reply. Where the writer fails, a front of it is written.
+/// Prints a reply. Where the writer fails, a front of it is written. What goes into a short text is put together before.
 pub fn print_reply<W: io::Write>(reply: &Reply<'_>, writer: &mut W) -> io::Result<()>
     ensures { Prints (W.contents writer.old) (W.contents writer.new) (text_of reply.now) result }
 {
@@ -184,6 +202,6 @@ pub fn print_reply<W: io::Write>(reply: &Reply<'_>, writer: &mut W) -> io::Resul
             n,
             query,
             answer,
-        } => print_query(id, n, query, answer, writer),
+        } => print_at_once(id, n, query, answer, writer),
     }
 }

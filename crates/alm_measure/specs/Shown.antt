@@ -1,5 +1,5 @@
 -- What a measure stands for, and what holds of it.
-use Rattle.std.specs.Prelude.{◌≡◌, ◌<◌, ◌≤◌, All, length}
+use Rattle.std.specs.Prelude.{◌≡◌, ◌<◌, ◌≤◌, All, length, vec_capacity}
 use Rattle.alm_measure.specs.Metrics.{Metrics}
 use Rattle.alm_measure.specs.declared.measure.Measure.TheInside.{Inside}
 
@@ -12,3 +12,10 @@ pub record IsSound (m : Metrics) : Type 0 where
   pub moments : length m.moments ≡ length m.areas
   pub floods : length m.floods ≡ length m.ages
   pub in_areas : All (λ area. area < length m.ages) m.areas
+
+-- each vector has room for what it holds, and no more: no call takes memory
+pub record IsExact (m : Inside) : Type 0 where
+  pub areas : vec_capacity m.areas ≡ length m.areas.items
+  pub rings : vec_capacity m.rings ≡ length m.rings.items
+  pub floods : vec_capacity m.floods ≡ length m.floods.items
+  pub moments : vec_capacity m.moments ≡ length m.moments.items

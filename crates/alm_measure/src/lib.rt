@@ -17,12 +17,14 @@
 //! they are those counted from scratch, from the list of all annunciations, after any calls, is the law
 //! [`laws::calls_are_counted`]; that they are those of the plant, after any actions, are the laws beside it.
 //!
-//! Only `new`, `of` and `copy` take memory. The cost of `annunciated`, `window`, `flood`, `age` and `moments` is the same
+//! Only `new`, `of` and `copy` take memory: each vector of a measure has room for what it holds and no more, before each call and
+//! after it. The cost of `annunciated`, `window`, `flood`, `age` and `moments` is the same
 //! however many annunciations or alarms there are; that of `settle` goes with the areas, that of `chattering` with the alarms.
-//! `advance` clears at most 600 places of each area, whatever the jump. No contract counts any of this.
+//! `advance` clears at most 600 places of each area, whatever the jump. No contract counts the cost.
 #![tactic(auto)]
 
 mod chatter;
+mod exact;
 pub mod laws;
 mod measure;
 mod ring;

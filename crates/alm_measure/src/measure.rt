@@ -8,6 +8,7 @@ ghost use Rattle.alm_model.specs.Parts.{age_in};
 ghost use Rattle.alm_measure.specs.Metrics.{advanced, annunciated, chattering, new_metrics, settled_by_windows, window_around, windows};
 
 use crate::chatter::fill_chattering;
+use crate::exact::exact;
 use crate::ring::Ring;
 use crate::rings::{copy_rings, new_rings, pass_all, rings_of, settle_all};
 use alm_model::{Ages, Recent, copy_moments, is_flood, no_moments};
@@ -33,18 +34,19 @@ impl Model for Measure {
 
     ghost Value = { Metrics };
 
-    ghost use Rattle.alm_measure.specs.Shown.{IsSound, shown};
+    ghost use Rattle.alm_measure.specs.Shown.{IsExact, IsSound, shown};
 
     ghost view = { shown };
 
-    ghost invariant = { λ m. IsSound (shown m) };
+    ghost invariant = { λ m. IsSound (shown m) × IsExact m };
 }
 
 /// The area of each alarm.
 fn areas_of(alloc: Global, alarms: &[Attr]) -> Result<Vec<u8>, AllocError>
-    ensures { IfOk result (λ areas. areas.items ≡ map (λ a. a.area) alarms.now) }
+    ensures items { IfOk result (λ areas. areas.items ≡ map (λ a. a.area) alarms.now) }
+    ensures room { IfOk result (λ areas. vec_capacity areas ≡ length areas.items) }
 {
-    alarms.iter().map(|attr| attr.area).collect(alloc)
+    exact(alloc, alarms.iter().map(|attr| attr.area).collect(alloc)?)
 }
 
 impl Measure {
@@ -58,8 +60,8 @@ impl Measure {
             clock: Moment::start(),
             areas: areas_of(alloc, alarms)?,
             rings: new_rings(alloc, areas)?,
-            floods: vec![in alloc; false; areas as usize]?,
-            moments: no_moments(alloc, alarms.len())?,
+            floods: exact(alloc, vec![in alloc; false; areas as usize]?)?,
+            moments: exact(alloc, no_moments(alloc, alarms.len())?)?,
         })
     }
 
@@ -102,8 +104,8 @@ impl Measure {
             clock: now,
             areas: areas_of(alloc, alarms)?,
             rings: rings_of(alloc, ages)?,
-            floods,
-            moments,
+            floods: exact(alloc, floods)?,
+            moments: exact(alloc, moments)?,
         })
     }
 
@@ -113,10 +115,10 @@ impl Measure {
     {
         Ok(Measure {
             clock: self.clock,
-            areas: self.areas.to_vec(alloc)?,
+            areas: exact(alloc, self.areas.to_vec(alloc)?)?,
             rings: copy_rings(alloc, &self.rings)?,
-            floods: self.floods.to_vec(alloc)?,
-            moments: copy_moments(alloc, &self.moments)?,
+            floods: exact(alloc, self.floods.to_vec(alloc)?)?,
+            moments: exact(alloc, copy_moments(alloc, &self.moments)?)?,
         })
     }
 

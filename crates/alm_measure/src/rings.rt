@@ -1,6 +1,6 @@
 //! The rings of all areas.
 
-ghost use Rattle.std.specs.Prelude.{◌^◌, ◌<◌, ◌≡◌, All, IfOk, length, map, replicate, sum};
+ghost use Rattle.std.specs.Prelude.{◌^◌, ◌<◌, ◌≡◌, All, IfOk, length, map, replicate, sum, vec_capacity};
 ghost use Rattle.alm_model.specs.Keeping.{aged};
 ghost use Rattle.alm_model.specs.Step.{settled};
 
@@ -10,11 +10,12 @@ use std::alloc::{AllocError, Global};
 
 /// Areas without annunciations.
 pub fn new_rings(alloc: Global, areas: u8) -> Result<Vec<Ring>, AllocError>
-    ensures { IfOk result (λ rings. rings.items ≡ replicate areas (replicate 600 0)) }
+    ensures items { IfOk result (λ rings. rings.items ≡ replicate areas (replicate 600 0)) }
+    ensures room { IfOk result (λ rings. vec_capacity rings ≡ length rings.items) }
 {
     let mut rings = Vec::with_capacity(alloc, areas as usize)?;
     for _area in 0..areas {
-        rings.push(Ring::new())?;
+        rings.push_reserved(Ring::new());
     }
     Ok(rings)
 }
@@ -22,22 +23,24 @@ pub fn new_rings(alloc: Global, areas: u8) -> Result<Vec<Ring>, AllocError>
 /// The ages of each area.
 pub fn rings_of(alloc: Global, areas: &[Ages]) -> Result<Vec<Ring>, AllocError>
     requires { All (λ ages. sum ages < 2 ^ 64) areas.now }
-    ensures { IfOk result (λ rings. rings.items ≡ areas.now) }
+    ensures items { IfOk result (λ rings. rings.items ≡ areas.now) }
+    ensures room { IfOk result (λ rings. vec_capacity rings ≡ length rings.items) }
 {
     let mut rings = Vec::with_capacity(alloc, areas.len())?;
     for ages in areas {
-        rings.push(Ring::of(ages))?;
+        rings.push_reserved(Ring::of(ages));
     }
     Ok(rings)
 }
 
 /// The same rings.
 pub fn copy_rings(alloc: Global, rings: &[Ring]) -> Result<Vec<Ring>, AllocError>
-    ensures { IfOk result (λ copied. copied.items ≡ rings.now) }
+    ensures items { IfOk result (λ copied. copied.items ≡ rings.now) }
+    ensures room { IfOk result (λ copied. vec_capacity copied ≡ length copied.items) }
 {
     let mut copied = Vec::with_capacity(alloc, rings.len())?;
     for ring in rings {
-        copied.push(ring.copy())?;
+        copied.push_reserved(ring.copy());
     }
     Ok(copied)
 }

@@ -1,9 +1,16 @@
-use Rattle.std.proofs.Common.{sym, subst, Result, Ok, Err, true≢false, refl}
+use Rattle.std.proofs.Common.{ℕ, sym, subst, Result, Ok, Err, true≢false, refl}
 use Rattle.std.specs.Prelude.{IsErr}
 use Rattle.std.proofs.Math.Logic.{∥∥₁_map}
 use Rattle.alm_disk.specs.declared.disk_fault.DiskFault.{DiskFault}
-use Rattle.alm_keeper.proofs.Going.{goes_on, ends_by, leaves_of, stops, not_failed}
+use Rattle.alm_keeper.proofs.Going.{goes_on, ends_by, gone_layout, leaves_of, stops, not_failed}
+use Rattle.alm_keeper.proofs.Starting.{still_fits}
+use Rattle.alm_keeper.specs.Keeping.{FitsDevice}
 use Rattle.alm_keeper.proofs.advancing.advance.Goals as goal
+
+pub returns-in-Ok-clause-fits : goal.returns-in-Ok-clause-fits
+returns-in-Ok-clause-fits g c =
+    let same = gone_layout c.args.book.now.stage c.args.book.now.work c.go_on.result c.args.book.now c.go_on.new.self c.go_on.ensures.goes in
+    still_fits c.args.book.now c.go_on.new.self _ same (subst (λ (n : ℕ). FitsDevice c.args.book.now n) (sym c.call_next.ensures.size) c.requires.fits)
 
 pub returns-in-Ok-clause-ends : goal.returns-in-Ok-clause-ends
 returns-in-Ok-clause-ends g c = ends_by c.go_on.result c.args.book.now c.go_on.new.self c.go_on.ensures.goes

@@ -4,6 +4,8 @@ use Rattle.alm_disk.specs.Settled.{IsSettled}
 use Rattle.alm_disk.proofs.Images.{settled_image}
 use Rattle.alm_keeper.specs.Opening.{Opens}
 use Rattle.alm_keeper.proofs.Opened.{on_ok}
+use Rattle.alm_disk.specs.declared.call.Call.TheVariants.{Sync}
+use Rattle.alm_keeper.proofs.Made.{made_behind}
 use Rattle.alm_keeper.proofs.opening.open_book.Goals as goal
 
 pub returns-in-Ok-clause-unwritten : goal.returns-in-Ok-clause-unwritten
@@ -31,3 +33,6 @@ returns-in-Ok-clause-opens g c = λ honest.
     let settled : IsSettled one one.bytes = record { reads = refl; nothing_pending = s.nothing_pending; sound = s.done } in
     let kept = c.read_book.ensures.keeps one.bytes now settled in
     subst (λ (b : List ℕ). Opens b c.read_book.result) (sym kept.reads) (c.read_book.ensures.opens one.bytes now settled (g.met.D.Disk.own_image c.sync.new.self now).bytes (g.met.D.Disk.whole c.sync.new.self now))
+
+pub returns-in-Ok-clause-made : goal.returns-in-Ok-clause-made
+returns-in-Ok-clause-made g c = made_behind g.D.Disk.serves Sync c.args.disk.now c.sync.new.self c.read_book.new.disk c.sync.result c.read_book.result c.sync.ensures.serves c.read_book.ensures.made

@@ -1,5 +1,9 @@
-use Rattle.std.proofs.Common.{◌∙◌, arith}
-use Rattle.alm_checkpoint.specs.Layouts.{part}
+use Rattle.std.proofs.Common.{ℕ, [], ◌∷◌, ◌++◌, ◌∙◌, arith, subst}
+use Rattle.alm_disk.specs.declared.call.Call.TheVariants.{Read}
+use Rattle.alm_checkpoint.specs.declared.half.Half.TheVariants.{First, Second}
+use Rattle.alm_checkpoint.specs.Layouts.{part, half_at, image_at, image_size, segment_at}
+use Rattle.alm_keeper.specs.Calls.{AreMade}
+use Rattle.alm_keeper.proofs.Made.{made_by, made_then}
 use Rattle.alm_keeper.proofs.Opened.{layout_fault, marks_fault, opens_by, fits_by}
 use Rattle.alm_keeper.proofs.opening.read_book.Goals as goal
 
@@ -60,3 +64,21 @@ returns-clause-fits g c =
     fits_by c.in-Ok.layout c.in-Ok-read_marks.marks c.deref.result.now c.deref-2.result.now (g.D.Disk.size c.read_room-2.new.disk) c.book_of.result c.book_of.ensures.restores
     (omega (arith, c.in-Ok.ensures.fits, c.read_marks.ensures.size, c.read_room.ensures.size, c.read_room-2.ensures.size))
     (omega (arith, c.in-Ok.ensures.memory, c.read_marks.ensures.size, c.read_room.ensures.size, c.read_room-2.ensures.size))
+
+pub returns-clause-made : goal.returns-clause-made
+returns-clause-made g c =
+    let serves = g.D.Disk.serves in
+    let l = c.in-Ok.layout in
+    let m = c.in-Ok-read_marks.marks in
+    let start = c.args.disk.now in
+    let d1 = c.read_layout.new.disk in
+    let d2 = c.read_marks.new.disk in
+    let d3 = c.read_room.new.disk in
+    let d4 = c.read_room-2.new.disk in
+    let image : AreMade serves (Read (image_at l m.half) (image_size l) ∷ []) d2 d3 = subst (λ (n : ℕ). AreMade serves (Read n (image_size l) ∷ []) d2 d3) c.image_at.ensures (subst (λ (n : ℕ). AreMade serves (Read c.image_at.result n ∷ []) d2 d3) c.image_len.ensures c.in-Ok-read_room.ensures.made) in
+    let segment : AreMade serves (Read (segment_at l m.half) l.segment ∷ []) d3 d4 = subst (λ (n : ℕ). AreMade serves (Read n l.segment ∷ []) d3 d4) c.segment_at.ensures (subst (λ (n : ℕ). AreMade serves (Read c.segment_at.result n ∷ []) d3 d4) c.segment.ensures c.in-Ok-read_room-2.ensures.made) in
+    let heads = Read (half_at l First) 25 ∷ Read (half_at l Second) 25 ∷ [] in
+    let behind = made_then serves (Read (image_at l m.half) (image_size l) ∷ []) (Read (segment_at l m.half) l.segment ∷ []) d2 d3 d4 image segment in
+    let rest = made_then serves heads (Read (image_at l m.half) (image_size l) ∷ Read (segment_at l m.half) l.segment ∷ []) d1 d2 d4 c.in-Ok-read_marks.ensures.made behind in
+    made_by serves l m c.deref.result.now c.deref-2.result.now start d4 c.book_of.result c.book_of.ensures.restores
+    (made_then serves (Read 0 23 ∷ []) (heads ++ (Read (image_at l m.half) (image_size l) ∷ Read (segment_at l m.half) l.segment ∷ [])) start d1 d4 c.in-Ok.ensures.made rest)

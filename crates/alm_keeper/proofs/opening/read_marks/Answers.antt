@@ -1,8 +1,10 @@
-use Rattle.std.proofs.Common.{◌≡◌, ℕ, List, ap, subst, ◌∙◌}
+use Rattle.std.proofs.Common.{◌≡◌, ℕ, List, refl, ap, subst, ◌∙◌}
+use Rattle.alm_disk.specs.declared.call.Call.TheVariants.{Read}
 use Rattle.alm_checkpoint.specs.declared.half.Half.TheVariants.{First, Second}
 use Rattle.alm_checkpoint.specs.Layouts.{part}
 use Rattle.alm_checkpoint.specs.Opening.{head_of}
 use Rattle.alm_keeper.specs.Opening.{MarksFrom}
+use Rattle.alm_keeper.proofs.Opened.{on_ok}
 use Rattle.alm_keeper.proofs.opening.read_marks.Goals as goal
 
 pub returns-clause-marks : goal.returns-clause-marks
@@ -14,3 +16,11 @@ returns-clause-marks g c = λ b honest settled.
     let second : c.read-2.new.into ≡ head_of l Second b = c.in-Ok-read.ensures.given b h s ∙ ap (λ (n : ℕ). part n 25 b) c.half_at-2.ensures in
     subst (λ (p : List ℕ). MarksFrom l p (head_of l Second b) c.marks_of.result) first
     (subst (λ (p : List ℕ). MarksFrom l c.read.new.into p c.marks_of.result) second c.marks_of.ensures.marks)
+
+pub returns-clause-made : goal.returns-clause-made
+returns-clause-made g c =
+    let l = c.args.layout in
+    let serves = g.D.Disk.serves in
+    let one = subst (λ (n : ℕ). serves c.args.disk.now (Read n 25) c.read.result c.read.new.disk) c.half_at.ensures c.read.ensures.serves in
+    let two = subst (λ (n : ℕ). serves c.read.new.disk (Read n 25) c.read-2.result c.read-2.new.disk) c.half_at-2.ensures c.read-2.ensures.serves in
+    on_ok c.marks_of.result _ (c.read.new.disk, c.read.result, one, (c.read-2.new.disk, c.read-2.result, two, refl))

@@ -1,4 +1,4 @@
-use Rattle.std.proofs.Common.{arith}
+use Rattle.std.proofs.Common.{arith, ◌∙◌}
 use Rattle.alm_keeper.proofs.Tried.{same_more, actions_more, admitted_more, plant_more}
 use Rattle.alm_keeper.proofs.trying.try_all.Goals as goal
 
@@ -15,5 +15,5 @@ loop-place-preserved c =
       plant = plant_more c.args.plant.now c.loop-place.plant c.try_one.new.plant e c.loop-place.actions.items c.try_one.new.actions.items i.plant t;
       room = omega (arith, i.room, c.loop-place-test.true, c.try_one.ensures.len, c.try_one.ensures.room);
       within = omega (arith, c.loop-place-test.true);
-      grown = omega (arith, i.grown, c.try_one.ensures.room);
+      grown = c.try_one.ensures.room ∙ i.grown;
     }

@@ -16,18 +16,18 @@ joined id word n told end =
 abbrev head : ℕ → List ℕ → ℕ → List ℕ
 head id word n = decimal id ++ (word ++ (decimal n ++ []))
 
-pub returns-in_err-put_parts : goal.returns-in_err-put_parts
-returns-in_err-put_parts g c =
+pub returns-in_err-put_each : goal.returns-in_err-put_each
+returns-in_err-put_each g c =
     let told = report_text (report c.args.query c.args.answer.now) in
     let word = query_word c.args.query in
-    let cut = rw (c.from.ensures, c.query_word.ensures) at c.in_err-put_parts.ensures in
+    let cut = rw (c.from.ensures, c.query_word.ensures) at c.in_err-put_each.ensures in
     prints_err _ c.from_residual.ensures.0 (cut_same _ (joined (decimal c.args.id) word (decimal c.args.n) told (codes "\n")) (cut_in_first cut (told ++ codes "\n")))
 
 pub returns-in_err-print_report : goal.returns-in_err-print_report
 returns-in_err-print_report g c =
     let told = report_text (report c.args.query c.args.answer.now) in
     let word = query_word c.args.query in
-    let first = rw (c.from.ensures, c.query_word.ensures) at c.in_ok-put_parts.ensures in
+    let first = rw (c.from.ensures, c.query_word.ensures) at c.in_ok-put_each.ensures in
     prints_err _ c.from_residual-in_err-print_report.ensures.0 (cut_same _ (joined (decimal c.args.id) word (decimal c.args.n) told (codes "\n"))
     (cut_in_second (head c.args.id word c.args.n) first (cut_in_first c.in_err-print_report.ensures (codes "\n"))))
 
@@ -35,7 +35,7 @@ pub returns : goal.returns
 returns g c =
     let told = report_text (report c.args.query c.args.answer.now) in
     let word = query_word c.args.query in
-    let first = rw (c.from.ensures, c.query_word.ensures) at c.in_ok-put_parts.ensures in
+    let first = rw (c.from.ensures, c.query_word.ensures) at c.in_ok-put_each.ensures in
     let front = head c.args.id word c.args.n in
     prints_same _ _ _ _ (append_assoc front told (codes "\n") ∙ joined (decimal c.args.id) word (decimal c.args.n) told (codes "\n"))
     (prints_then _ _ (front ++ told) (Appends-trans _ _ _ front told first c.in_ok-print_report.ensures) _ (codes "\n") _ c.put.ensures)

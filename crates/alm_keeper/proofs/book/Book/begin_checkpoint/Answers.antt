@@ -50,7 +50,8 @@ returns-clause-in_order c =
       gate = i.gate;
       room = i.room;
       frame = i.frame;
-      buffer = c.write_half.ensures.long ∙ i.buffer;
+      frame_room = i.frame_room;
+      buffer = c.write_half.ensures.room ∙ i.buffer;
       does = subst (λ (s : Stage). Does s Checkpoint new) (sym first) (opens_does new b.other_open refl (rests b resting i));
-      copy = subst (λ (s : Stage). IsCopying true s new) (sym first) (opens_copy new b.other_open refl more run i.first refl);
+      copy = subst (λ (s : Stage). IsCopying true s new) (sym first) (opens_copy new b.other_open refl more run i.first refl (omega (arith, run, c.write_half.ensures.long)));
     }

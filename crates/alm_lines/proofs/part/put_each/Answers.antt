@@ -2,7 +2,7 @@ use Rattle.std.proofs.Common.{◌<◌, length, rules}
 use Rattle.alm_lines.specs.Parts.{part_text}
 use Rattle.alm_lines.proofs.Flattened.{wrote_more, cut_in_item}
 use Rattle.alm_lines.proofs.Prefixes.{prints_err}
-use Rattle.alm_lines.proofs.part.put_parts.Goals as goal
+use Rattle.alm_lines.proofs.part.put_each.Goals as goal
 
 pub returns-in_err-put_part : goal.returns-in_err-put_part
 returns-in_err-put_part g c =

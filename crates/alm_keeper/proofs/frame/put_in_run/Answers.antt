@@ -2,7 +2,7 @@ use Rattle.std.proofs.Common.{◌≡◌, ◌+◌, ◌-◌, ◌*◌, ◌++◌, �
 use Rattle.std.proofs.lemmas.List.{take_at, with_items_is, length-take-le}
 use Rattle.alm_codec.specs.Frames.{frame_body}
 use Rattle.alm_keeper.proofs.Commit.{body_long}
-use Rattle.alm_keeper.proofs.frame.append_frame.Goals as goal
+use Rattle.alm_keeper.proofs.frame.put_in_run.Goals as goal
 
 pub returns-clause-text : goal.returns-clause-text
 returns-clause-text c =

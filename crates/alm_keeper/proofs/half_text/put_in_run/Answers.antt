@@ -5,7 +5,7 @@ use Rattle.alm_codec.proofs.Spelled.{image_length}
 use Rattle.alm_checkpoint.specs.Layouts.{image_size}
 use Rattle.alm_checkpoint.specs.Headers.{half_head_text}
 use Rattle.alm_keeper.proofs.Devices.{head_long}
-use Rattle.alm_keeper.proofs.half_text.write_half.Goals as goal
+use Rattle.alm_keeper.proofs.half_text.put_in_run.Goals as goal
 
 pub returns-clause-text : goal.returns-clause-text
 returns-clause-text c =
