@@ -10,10 +10,19 @@ ghost use Rattle.alm_keeper.specs.AsStore.{StandsFor, IsSpent};
 ghost use Rattle.alm_pipeline.specs.World.{first, shut};
 ghost use Rattle.alm_pipeline.specs.Headline.{Sight, IsRun, after_all};
 ghost use Rattle.alm_bench.specs.Told.{Tells};
+ghost use Rattle.alm_bench.specs.Traced.{KeepsTold};
 ghost use Rattle.alm_pipeline.specs.declared.step.Step.{Step};
 ghost use Rattle.alm_pipeline.specs.declared.step.Step.TheVariants.{Release};
 ghost use Rattle.alm_pipeline.specs.declared.event.Event.{Event};
 ghost use Rattle.alm_pipeline.specs.declared.event.Event.TheVariants.{Released};
+
+/// The headline by a run's trace alone: whatever a crash leaves at its end stands for the plant of the first so many actions that the trace accepted,
+/// and they reach each number of a receipt and each count of a look in it.
+pub fn the_trace_tells_enough()
+    ensures { (plant : Condensed) (d last : Sight) (steps : List Step) (trace : List Event) →
+        IsRun StandsFor IsSpent (shut (first plant)) d steps trace last →
+        (image : List ℕ) → IsImage last.state image → KeepsTold plant trace image }
+{}
 
 /// In any run, what a step told of the accepted actions is recovered ever after: whatever a crash leaves at the end of the run, it stands for
 /// the plant of a list of actions that begins with those. A reply that is released tells the actions up to its own, a look those that it shows.

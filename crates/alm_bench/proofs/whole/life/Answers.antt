@@ -1,9 +1,11 @@
-use Rattle.std.proofs.Common.{◌≡◌, subst, sym}
+use Rattle.std.proofs.Common.{◌≡◌, refl, subst, sym}
+use Rattle.alm_disk.specs.Device.{DeviceState}
 use Rattle.alm_keeper.specs.AsStore.{StandsFor, IsSpent}
 use Rattle.alm_pipeline.specs.World.{shut, first}
 use Rattle.alm_pipeline.specs.Headline.{Sight, IsRun, after_all, device_alone}
 use Rattle.alm_bench.specs.Stands.{sight_of}
 use Rattle.alm_bench.proofs.Carried.{stands_honest}
+use Rattle.alm_bench.proofs.Traces.{safe_by_trace}
 use Rattle.alm_bench.proofs.whole.life.Goals as goal
 
 pub returns-in-Ok-clause-run : goal.returns-in-Ok-clause-run
@@ -21,3 +23,9 @@ returns-in-Ok-clause-run g c = λ honest plant all.
       subst (λ (last : Sight). IsRun StandsFor IsSpent w (device_alone (g.D.Disk.state c.args.disk) (g.D.Disk.failures c.args.disk) 0) c.args.steps.now trace.items last) left
           (subst (λ (d : Sight). IsRun StandsFor IsSpent w d c.args.steps.now trace.items end) from (c.in-Ok.ensures.run w at)),
     )
+
+pub returns-in-Ok-clause-told : goal.returns-in-Ok-clause-told
+returns-in-Ok-clause-told g c = λ honest plant all.
+    let run = returns-in-Ok-clause-run g c honest plant all in
+    let at : DeviceState = g.D.Disk.state c.into_disk.result in
+    safe_by_trace StandsFor IsSpent (shut (first plant)) _ (record { state = at; failures = g.D.Disk.failures c.into_disk.result; phase = run.1; refused = run.2 }) c.args.steps.now c.in-Ok.trace.items run.3 (λ slot. refl)
