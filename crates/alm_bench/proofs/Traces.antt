@@ -1,9 +1,11 @@
 -- A trace tells of the world of its run: the accepted actions, and a part of the floor.
-use Rattle.std.proofs.Common.{◌≡◌, ◌≤◌, ◌==◌, if◌then◌else◌, ℕ, zero, suc, Bool, true, false, List, [], ◌∷◌, ◌++◌, length, Option, Some, None, slice_get, refl, sym, ◌∙◌, ap, subst, arith}
-use Rattle.std.proofs.lemmas.List.{append-nil}
+use Rattle.std.proofs.Common.{◌+◌, ◌≡◌, ◌≤◌, ◌==◌, if◌then◌else◌, ℕ, zero, suc, Bool, true, false, List, [], ◌∷◌, ◌++◌, length, Option, Some, None, slice_get, refl, sym, ◌∙◌, ap, subst, arith, length-append, ◌-◌}
+use Rattle.std.proofs.lemmas.Bool.{true≢false}
+use Rattle.std.proofs.lemmas.List.{append-nil, length-take-le}
 use Rattle.alm_types.specs.declared.action.Action.{Action}
 use Rattle.alm_types.specs.declared.entry.Entry.{Entry}
 use Rattle.alm_types.specs.declared.verdict.Verdict.{Verdict}
+use Rattle.alm_types.specs.declared.query.Query.{Query}
 use Rattle.alm_disk.specs.Device.{DeviceState, IsImage}
 use Rattle.alm_model.specs.Plant.{Condensed}
 use Rattle.alm_model.specs.Judging.{accepted_of, when_accepted}
@@ -16,7 +18,7 @@ use Rattle.alm_pipeline.specs.World.{World, Note, Stage, Nothing, Held, Stored, 
 use Rattle.alm_pipeline.specs.Headline.{Sight, IsFrontPlant, IsSafe, IsRun, after_all}
 use Rattle.alm_pipeline.proofs.Runs.{at_end}
 use Rattle.alm_bench.specs.Traced.{accepted_from, told_by, told_in, with_event}
-use Rattle.alm_bench.proofs.Told.{after_base, run_base, raised_more}
+use Rattle.alm_bench.proofs.Told.{after_base, run_base, raised_more, split_run}
 
 -- ---- the accepted actions
 
@@ -233,3 +235,71 @@ module _ (recovers : List ℕ → Condensed → Type 0) (spent : DeviceState →
       let safe = safe_at end.base end.accepted end.floor (told_in trace) image f.told (at_end recovers spent w d last steps trace run image is) in
       subst (λ (b : Condensed). IsSafe recovers b (accepted_from w.base.panel.count w.accepted trace) (told_in trace) image) (run_base w steps trace)
       (subst (λ (l : List Action). IsSafe recovers end.base l (told_in trace) image) f.accepted safe)
+
+-- ---- a look shows all that was told before it
+
+-- what is shown reaches the floor
+abbrev ShowsFloor : World → Type 0
+ShowsFloor w = w.closed ≡ false → w.floor ≤ w.base.panel.count + length w.published
+
+fetched_shows : (w : World) (sealed : List (List Entry)) → ShowsFloor w → ShowsFloor (fetches w sealed)
+fetched_shows w [] h = h
+fetched_shows w (entries ∷ sealed) h = h
+
+stored_shows : (w : World) (stage : Stage) → ShowsFloor w → ShowsFloor (stores w stage)
+stored_shows w Nothing h = h
+stored_shows w (Held entries) h = h
+stored_shows w (Stored entries) h = h
+stored_shows w (Shown entries n) h = h
+
+shown_shows : (w : World) (stage : Stage) → ShowsFloor w → ShowsFloor (shows w stage)
+shown_shows w Nothing h = h
+shown_shows w (Held entries) h = h
+shown_shows w (Stored entries) h = λ open'. omega (arith, h open', length-append w.published (accepted_of entries))
+shown_shows w (Shown entries n) h = h
+
+raised_within : (top least : ℕ) (notes : List Note) → least ≤ top → AreWithin top notes → raised least notes ≤ top
+raised_within top least [] low within = low
+raised_within top least (note ∷ notes) low within = omega (arith, low, within.0)
+
+note_within : (w : World) (entries : List Entry) (n : ℕ) (o : Option Entry) → AreWithin (w.base.panel.count + length w.published) (note_of w entries n o)
+note_within w entries n None = tt
+note_within w entries n (Some e) = (omega arith, tt)
+
+notes_within : (w : World) (stage : Stage) → AreWithin (w.base.panel.count + length w.published) (next_notes w stage)
+notes_within w Nothing = tt
+notes_within w (Held entries) = tt
+notes_within w (Stored entries) = tt
+notes_within w (Shown entries n) = note_within w entries n (slice_get entries n)
+
+shows_after : (w : World) (step : Step) (event : Event) → Answers w step event → ShowsFloor w → ShowsFloor (after w step event)
+shows_after w (Send slot a) (Sent serial) answers h = h
+shows_after w (Take slot) (Took v) answers h = h
+shows_after w Seal Sealed answers h = h
+shows_after w Fetch Fetched answers h = fetched_shows w w.sealed h
+shows_after w Call Committed answers h = stored_shows w w.stage h
+shows_after w Call Failed answers h = λ open'. absurd (true≢false open')
+shows_after w Publish Published answers h = shown_shows w w.stage h
+shows_after w Release (Released slot) answers h = λ open'. raised_within (w.base.panel.count + length w.published) w.floor (next_notes w w.stage) (h open') (notes_within w w.stage)
+shows_after w GiveBack GaveBack answers h = h
+shows_after w (Receive slot) (Received serial verdict number) answers h = h
+shows_after w (Look slot query) (Looked count) answers h = λ open'. omega (arith, h open', answers.1)
+shows_after w (Crash bytes) Crashed answers h = λ open'. absurd (true≢false open')
+shows_after w Reopen (Opened n) answers h = λ _. let size = length-take-le (n - w.base.panel.count) w.accepted (omega (arith, answers.2)) in omega (arith, answers.1, size)
+shows_after w step event answers h = h
+
+module _ (recovers : List ℕ → Condensed → Type 0) (spent : DeviceState → Type 0) where
+  run_shows : (w : World) (d last : Sight) (steps : List Step) (trace : List Event) → IsRun recovers spent w d steps trace last → ShowsFloor w → ShowsFloor (after_all w steps trace)
+  run_shows w d last [] [] run h = h
+  run_shows w d last (x ∷ steps) (y ∷ trace) run h = run_shows (after w x y) run.1.0 last steps trace run.1.3 (shows_after w x y run.1.1 h)
+  run_shows w d last [] (y ∷ trace) run h = absurd run
+  run_shows w d last (x ∷ steps) [] run h = absurd run
+
+  pub look_reaches : (w : World) (d last : Sight) (steps behind : List Step) (trace rest : List Event) (slot : ℕ) (query : Query) (count : ℕ) → length steps ≡ length trace
+      → IsRun recovers spent w d (steps ++ Look slot query ∷ behind) (trace ++ Looked count ∷ rest) last → w.closed ≡ true → ((slot : ℕ) → w.released slot ≡ []) → told_in trace ≤ count
+  look_reaches w d last steps behind trace rest slot query count same run shut none =
+      let s = split_run recovers spent w d last steps behind trace rest (Look slot query) (Looked count) same run in
+      let answers = s.2.1.1 in
+      let f = follows recovers spent w d s.0 steps trace s.1 (λ k. subst (AreWithin w.floor) (sym (none k)) tt) in
+      let shows' = run_shows w d s.0 steps trace s.1 (λ open'. absurd (true≢false (sym shut ∙ open'))) answers.0.0 in
+      omega (arith, f.told, shows', answers.1)
