@@ -1,31 +1,42 @@
 -- Steps that leave the device alone, and what holds of a bench, carried over.
-use Rattle.std.proofs.Common.{◌≡◌, true, false, ℕ, List, refl, sym, ◌∙◌, subst, inl}
+use Rattle.std.proofs.Common.{◌≡◌, true, false, ℕ, List, refl, sym, ap, ◌∙◌, subst, inl}
 use Rattle.std.proofs.lemmas.Bool.{true≢false}
 use Rattle.alm_disk.specs.Device.{DeviceState}
 use Rattle.alm_disk.specs.declared.disk.Disk
 use Rattle.alm_keeper.specs.declared.keeper.Keeper.{Keeper}
 use Rattle.alm_store.specs.declared.store.Store.{Ghosts}
+use Rattle.alm_store.specs.Advancing.{IsCalls}
+use Rattle.alm_disk.specs.Failures.{HasFailed}
 use Rattle.alm_keeper.specs.AsStore.{StandsFor, IsSpent}
 use Rattle.alm_model.specs.Plant.{Condensed}
+use Rattle.alm_types.specs.declared.answer.Answer.{Answer}
 use Rattle.alm_bench.specs.declared.setup.Setup as T
 use Rattle.alm_bench.specs.declared.setup.Setup.TheVariants.{Open, Shut, Gone}
 use Rattle.alm_pipeline.specs.declared.step.Step.{Step}
 use Rattle.alm_pipeline.specs.declared.step.Step.TheVariants.{Send, Take, Seal, Fetch, Call, Publish, Release, GiveBack, Receive, Look, Crash, Reopen}
 use Rattle.alm_pipeline.specs.declared.event.Event.{Event}
-use Rattle.alm_pipeline.specs.declared.event.Event.TheVariants.{Skipped}
+use Rattle.alm_pipeline.specs.declared.event.Event.TheVariants.{Failed, Skipped}
 use Rattle.alm_pipeline.specs.World.{World, Answers, after}
 use Rattle.alm_pipeline.specs.Headline.{Sight, Moves}
 use Rattle.alm_pipeline.specs.Matches.{IsInner}
 use Rattle.alm_bench.specs.Stands.{IsSetup, sight, IsThere, serves_well}
 
 module _ {D : Type 0} {g : Ghosts (Keeper D) D} {d : Disk.Ghosts D} where
-  pub carried : (w : World) (step : Step) (event : Event) (s s' t t' : T.Setup D D g d) → s ≡ s' → t ≡ t' → Moves StandsFor IsSpent w step event (sight s) (sight t) → Moves StandsFor IsSpent w step event (sight s') (sight t')
-  carried w step event s s' t t' from to moves =
-      subst (λ (x : T.Setup D D g d). Moves StandsFor IsSpent w step event (sight x) (sight t')) from
-      (subst (λ (y : T.Setup D D g d). Moves StandsFor IsSpent w step event (sight s) (sight y)) to moves)
+  pub carried : (w : World) (step : Step) (event : Event) (n n' k k' : ℕ) (s s' t t' : T.Setup D D g d) → n ≡ n' → k ≡ k' → s ≡ s' → t ≡ t'
+      → Moves StandsFor IsSpent w step event (sight n s) (sight k t) → Moves StandsFor IsSpent w step event (sight n' s') (sight k' t')
+  carried w step event n n' k k' s s' t t' before then' from to moves =
+      subst (λ (x : T.Setup D D g d). Moves StandsFor IsSpent w step event (sight n' x) (sight k' t')) from
+      (subst (λ (y : T.Setup D D g d). Moves StandsFor IsSpent w step event (sight n' s) (sight k' y)) to
+      (subst (λ (i : ℕ). Moves StandsFor IsSpent w step event (sight i s) (sight k' t)) before
+      (subst (λ (i : ℕ). Moves StandsFor IsSpent w step event (sight n s) (sight i t)) then' moves)))
 
   pub still : (w : World) (s t : T.Setup D D g d) → s ≡ t → IsSetup w s → IsSetup w t
   still w s t same stands = subst (λ (x : T.Setup D D g d). IsSetup w x) same stands
+
+  pub failed_between : (n k : ℕ) (s s' t t' : T.Setup D D g d) → s ≡ s' → t ≡ t' → HasFailed (sight n s).failures (sight k t).failures → HasFailed (sight n s').failures (sight k t').failures
+  failed_between n k s s' t t' from to failed =
+      subst (λ (x : T.Setup D D g d). HasFailed (sight n x).failures (sight k t').failures) from
+      (subst (λ (y : T.Setup D D g d). HasFailed (sight n s).failures (sight k y).failures) to failed)
 
   pub there : (s t : T.Setup D D g d) → s ≡ t → IsThere s → IsThere t
   there s t same is = subst (λ (x : T.Setup D D g d). IsThere x) same is
@@ -35,6 +46,19 @@ module _ {D : Type 0} {g : Ghosts (Keeper D) D} {d : Disk.Ghosts D} where
   stands_honest w (Open pipeline) is = is.1
   stands_honest w (Shut disk) is = is.1
   stands_honest w Gone is = is
+
+pub same_count : (a b c : Answer) → c ≡ b → b ≡ a → a.refused ≡ c.refused
+same_count a b c put took = ap (λ (x : Answer). x.refused) (sym (put ∙ took))
+
+-- what a call that failed did to the device is said of its state and its failures alone
+pub failed_alike : (w : World) (d m e : Sight) → m.state ≡ e.state → m.failures ≡ e.failures → m.refused ≡ e.refused → Moves StandsFor IsSpent w Call Failed d m → Moves StandsFor IsSpent w Call Failed d e
+failed_alike w d m e state failures refused moves = (
+  moves.0,
+  subst (IsCalls d.state) state moves.1,
+  (λ working. subst (HasFailed d.failures) failures (moves.2 working)),
+  (λ left. subst (HasFailed d.failures) failures (moves.3 left)),
+  sym refused ∙ moves.4,
+)
 
 pub shut_not_open : (closed : _) → closed ≡ true → closed ≡ false → ⊥
 shut_not_open closed shut opened = true≢false (sym shut ∙ opened)
@@ -68,16 +92,17 @@ after_skipped w (Look slot query) = refl
 after_skipped w (Crash bytes) = refl
 after_skipped w Reopen = refl
 
-pub inner_moves : (recovers : List ℕ → Condensed → Type 0) (spent : DeviceState → Type 0) (w : World) (step : Step) (event : Event) (d : Sight) → IsInner step → Moves recovers spent w step event d d
-inner_moves recovers spent w (Send slot a) event d inner = refl
-inner_moves recovers spent w (Take slot) event d inner = refl
-inner_moves recovers spent w Seal event d inner = refl
-inner_moves recovers spent w Fetch event d inner = refl
-inner_moves recovers spent w Publish event d inner = refl
-inner_moves recovers spent w Release event d inner = refl
-inner_moves recovers spent w GiveBack event d inner = refl
-inner_moves recovers spent w (Receive slot) event d inner = refl
-inner_moves recovers spent w (Look slot query) event d inner = refl
-inner_moves recovers spent w Call event d inner = absurd inner
-inner_moves recovers spent w (Crash bytes) event d inner = absurd inner
-inner_moves recovers spent w Reopen event d inner = absurd inner
+-- .. and leaves all as it was
+pub inner_stays : (recovers : List ℕ → Condensed → Type 0) (spent : DeviceState → Type 0) (w : World) (step : Step) (d : Sight) → IsInner step → w.closed ≡ true → Moves recovers spent w step Skipped d d
+inner_stays recovers spent w (Send slot a) d inner shut = refl
+inner_stays recovers spent w (Take slot) d inner shut = refl
+inner_stays recovers spent w Seal d inner shut = refl
+inner_stays recovers spent w Fetch d inner shut = refl
+inner_stays recovers spent w Publish d inner shut = refl
+inner_stays recovers spent w Release d inner shut = refl
+inner_stays recovers spent w GiveBack d inner shut = refl
+inner_stays recovers spent w (Receive slot) d inner shut = refl
+inner_stays recovers spent w (Look slot query) d inner shut = inl ((λ possible. shut_not_open w.closed shut possible.0), refl)
+inner_stays recovers spent w Call d inner shut = absurd inner
+inner_stays recovers spent w (Crash bytes) d inner shut = absurd inner
+inner_stays recovers spent w Reopen d inner shut = absurd inner

@@ -3,3 +3,4 @@ pub mod Reopened
 pub mod Carried
 pub mod Order
 pub mod Told
+pub mod Traces

@@ -62,7 +62,7 @@ after_base w (Crash bytes) Crashed = refl
 after_base w Reopen (Opened n) = refl
 after_base w step event = refl
 
-run_base : (w : World) (steps : List Step) (trace : List Event) → (after_all w steps trace).base ≡ w.base
+pub run_base : (w : World) (steps : List Step) (trace : List Event) → (after_all w steps trace).base ≡ w.base
 run_base w [] trace = refl
 run_base w (x ∷ steps) [] = refl
 run_base w (x ∷ steps) (y ∷ trace) = run_base (after w x y) steps trace ∙ after_base w x y
@@ -73,7 +73,7 @@ front_taken : (list accepted : List Action) (m : ℕ) → length list ≤ m → 
 front_taken list accepted m long within front =
     front_shorter list (take m accepted) accepted front (front_of (take m accepted) (drop m accepted) accepted (take-append-drop m accepted)) (omega (arith, long, length-take-le m accepted within))
 
-raised_more : (floor : ℕ) (notes : List Note) → floor ≤ raised floor notes
+pub raised_more : (floor : ℕ) (notes : List Note) → floor ≤ raised floor notes
 raised_more floor [] = omega arith
 raised_more floor (note ∷ notes) = omega arith
 

@@ -1,5 +1,5 @@
 -- A bench stands for a world.
-use Rattle.std.specs.Prelude.{◌≡◌, true, false, []}
+use Rattle.std.specs.Prelude.{◌≡◌, ℕ, true, false, []}
 use Rattle.alm_disk.specs.declared.disk.Disk
 use Rattle.alm_keeper.specs.declared.keeper.Keeper.{Keeper}
 use Rattle.alm_store.specs.declared.store.Store.{Ghosts}
@@ -8,8 +8,8 @@ use Rattle.alm_bench.specs.declared.setup.Setup as T
 use Rattle.alm_bench.specs.declared.setup.Setup.TheVariants.{Open, Shut, Gone}
 use Rattle.alm_bench.specs.declared.bench.Bench.{Bench}
 use Rattle.alm_pipeline.specs.World.{World}
-use Rattle.alm_pipeline.specs.Headline.{Headline, Sight}
-use Rattle.alm_pipeline.specs.Matches.{IsOpen}
+use Rattle.alm_pipeline.specs.Headline.{Headline, Sight, device_alone}
+use Rattle.alm_pipeline.specs.Matches.{CallsSurely, IsOpen, sight_in}
 
 module _ {D : Type 0} {g : Ghosts (Keeper D) D} {d : Disk.Ghosts D} where
   -- its device is honest: an open bench has the world's pipeline; of a closed one each image stands for what the world has
@@ -22,13 +22,13 @@ module _ {D : Type 0} {g : Ghosts (Keeper D) D} {d : Disk.Ghosts D} where
   Stands w bench = IsSetup w bench.setup
 
   -- its device
-  abbrev pub sight : T.Setup D D g d → Sight
-  sight (Open pipeline) = record { state = g.device pipeline.flusher.store; failures = g.failures pipeline.flusher.store }
-  sight (Shut disk) = record { state = d.state disk; failures = d.failures disk }
-  sight Gone = record { state = record { bytes = []; pending = λ _. false; faulted = false }; failures = 0 }
+  abbrev pub sight : (refused : ℕ) → T.Setup D D g d → Sight
+  sight refused (Open pipeline) = sight_in refused pipeline
+  sight refused (Shut disk) = device_alone (d.state disk) (d.failures disk) refused
+  sight refused Gone = device_alone (record { bytes = []; pending = λ _. false; faulted = false }) 0 refused
 
   abbrev pub sight_of : Bench D D g d → Sight
-  sight_of bench = sight bench.setup
+  sight_of bench = sight bench.answer.refused bench.setup
 
   -- it has its device: it isn't in the middle of a step
   abbrev pub IsThere : T.Setup D D g d → Type 0
@@ -47,3 +47,12 @@ module _ {D : Type 0} {g : Ghosts (Keeper D) D} {d : Disk.Ghosts D} where
 
   abbrev pub IsHonest : Bench D D g d → Type 0
   IsHonest bench = serves_well bench.setup
+
+  -- its next device call begins no checkpoint: work is under way, or the held batch is taken
+  abbrev pub is_sure : T.Setup D D g d → Type 0
+  is_sure (Open pipeline) = CallsSurely pipeline
+  is_sure (Shut disk) = ⊥
+  is_sure Gone = ⊥
+
+  abbrev pub NextIsSure : Bench D D g d → Type 0
+  NextIsSure bench = is_sure bench.setup

@@ -15,6 +15,7 @@ use alm_flush::Advance;
 use alm_keeper::{Keeper, OpenFault};
 use alm_pipeline::{Event, Pipeline, Step};
 use alm_store::Store;
+use alm_types::Answer;
 use std::alloc::{AllocError, Global};
 use std::mem::replace;
 
@@ -25,24 +26,29 @@ where
     Keeper<D>: Store,
 {
     setup: Setup<D>,
+    /// What looks are put in. It counts the growths that were refused.
+    answer: Answer,
 }
 
 impl<D: Crashable + Drop> Bench<D> {
     ghost use Rattle.alm_pipeline.specs.Matches.{IsInner};
-    ghost use Rattle.alm_bench.specs.Stands.{Stands, sight_of, HasDevice, IsHonest};
-    ghost use Rattle.alm_pipeline.specs.Headline.{Headline, Moves, IsRun, after_all};
+    ghost use Rattle.alm_disk.specs.Failures.{HasFailed};
+    ghost use Rattle.alm_bench.specs.Stands.{Stands, sight_of, HasDevice, IsHonest, NextIsSure};
+    ghost use Rattle.alm_pipeline.specs.Headline.{Headline, Moves, IsRun, after_all, device_alone};
     ghost use Rattle.alm_bench.specs.StandOnly.{StandOnly};
     ghost use Rattle.alm_pipeline.specs.declared.step.Step.TheVariants as S;
+    ghost use Rattle.alm_pipeline.specs.declared.event.Event.TheVariants as E;
 
     /// A closed bench.
-    pub fn closed(disk: D) -> Bench<D>
+    pub fn closed(alloc: Global, disk: D) -> Bench<D>
         ensures stands { D.honest disk → (plant : Condensed) → StandOnly (D.state disk) plant → Stands (shut (first plant)) result }
-        ensures device { sight_of result ≡ record { state = D.state disk; failures = D.failures disk } }
+        ensures device { sight_of result ≡ device_alone (D.state disk) (D.failures disk) 0 }
         ensures honest { D.honest disk ↔ IsHonest result }
         ensures there { HasDevice result }
     {
         Bench {
             setup: Setup::Shut(disk),
+            answer: Answer::new(alloc),
         }
     }
 
@@ -61,6 +67,7 @@ impl<D: Crashable + Drop> Bench<D> {
         match Pipeline::<Keeper<D>>::open(alloc, disk) {
             Ok(pipeline) => Ok(Bench {
                 setup: Setup::Open(pipeline),
+                answer: Answer::new(alloc),
             }),
             Err(refused) => Err(refused),
         }
@@ -73,7 +80,8 @@ impl<D: Crashable + Drop> Bench<D> {
         ensures state { D.state result ≡ (sight_of self).state }
         ensures failures { D.failures result ≡ (sight_of self).failures }
     {
-        match self.setup {
+        let Bench { setup, answer: _ } = self;
+        match setup {
             Setup::Open(pipeline) => pipeline.into_device(),
             Setup::Shut(disk) => disk,
             Setup::Gone => unreachable!(),
@@ -93,14 +101,16 @@ impl<D: Crashable + Drop> Bench<D> {
 
     // What it is made of, taken out.
     fn take(&mut self) -> Setup<D>
-        ensures { result ≡ self.old.setup }
+        ensures setup { result ≡ self.old.setup }
+        ensures answer { self.new.answer ≡ self.old.answer }
     {
         replace(&mut self.setup, Setup::Gone)
     }
 
     // Put in again.
     fn put(&mut self, setup: Setup<D>)
-        ensures { self.new.setup ≡ setup }
+        ensures setup { self.new.setup ≡ setup }
+        ensures answer { self.new.answer ≡ self.old.answer }
     {
         self.setup = setup;
     }
@@ -159,6 +169,7 @@ impl<D: Crashable + Drop> Bench<D> {
         ensures answer { (w : World) → Stands w self.old → Answers w S.Call result }
         ensures stands { (w : World) → Stands w self.old → Stands (after w S.Call result) self.new }
         ensures moves { (w : World) → Stands w self.old → Moves StandsFor IsSpent w S.Call result (sight_of self.old) (sight_of self.new) }
+        ensures sure { result ≡ E.Failed → NextIsSure self.old → (w : World) → Stands w self.old → HasFailed (sight_of self.old).failures (sight_of self.new).failures }
         ensures there { HasDevice self.old → HasDevice self.new }
     {
         match self.take() {
@@ -190,7 +201,7 @@ impl<D: Crashable + Drop> Bench<D> {
     }
 
     // A step that leaves the device alone.
-    fn go(&mut self, alloc: Global, step: &Step) -> Event
+    fn go(&mut self, step: &Step) -> Event
         requires { IsInner step.now }
         ensures answer { (w : World) → Stands w self.old → Answers w step.now result }
         ensures stands { (w : World) → Stands w self.old → Stands (after w step.now result) self.new }
@@ -199,7 +210,7 @@ impl<D: Crashable + Drop> Bench<D> {
     {
         match self.take() {
             Setup::Open(mut pipeline) => {
-                let event = pipeline.go(alloc, step);
+                let event = pipeline.go(step, &mut self.answer);
                 self.put(Setup::Open(pipeline));
                 event
             }
@@ -216,21 +227,23 @@ impl<D: Crashable + Drop> Bench<D> {
         ensures answer { (w : World) → Stands w self.old → Answers w step.now result }
         ensures stands { (w : World) → Stands w self.old → Stands (after w step.now result) self.new }
         ensures moves { (w : World) → Stands w self.old → Moves StandsFor IsSpent w step.now result (sight_of self.old) (sight_of self.new) }
+        ensures sure { step.now ≡ S.Call → result ≡ E.Failed → NextIsSure self.old → (w : World) → Stands w self.old →
+            HasFailed (sight_of self.old).failures (sight_of self.new).failures }
         ensures there { HasDevice self.old → HasDevice self.new }
     {
         match step {
             Step::Crash(bytes) => self.crash(bytes),
             Step::Reopen => self.reopen(alloc),
             Step::Call => self.call(),
-            Step::Send(_, _) => self.go(alloc, step),
-            Step::Take(_) => self.go(alloc, step),
-            Step::Seal => self.go(alloc, step),
-            Step::Fetch => self.go(alloc, step),
-            Step::Publish => self.go(alloc, step),
-            Step::Release => self.go(alloc, step),
-            Step::GiveBack => self.go(alloc, step),
-            Step::Receive(_) => self.go(alloc, step),
-            Step::Look(_, _) => self.go(alloc, step),
+            Step::Send(_, _) => self.go(step),
+            Step::Take(_) => self.go(step),
+            Step::Seal => self.go(step),
+            Step::Fetch => self.go(step),
+            Step::Publish => self.go(step),
+            Step::Release => self.go(step),
+            Step::GiveBack => self.go(step),
+            Step::Receive(_) => self.go(step),
+            Step::Look(_, _) => self.go(step),
         }
     }
 
@@ -239,6 +252,9 @@ impl<D: Crashable + Drop> Bench<D> {
         ensures answer { (w : World) → Stands w self.old → Answers w step.now result }
         ensures stands { (w : World) → Stands w self.old → Stands (after w step.now result) self.new }
         ensures moves { (w : World) → Stands w self.old → Moves StandsFor IsSpent w step.now result (sight_of self.old) (sight_of self.new) }
+        // A call of the device fails only where the device failed in it, or where the last epoch has no room for the held batch.
+        ensures sure { step.now ≡ S.Call → result ≡ E.Failed → NextIsSure self.old → (w : World) → Stands w self.old →
+            HasFailed (sight_of self.old).failures (sight_of self.new).failures }
         ensures there { HasDevice self.old → HasDevice self.new }
         ensures before { (w : World) → Stands w self.old → Headline StandsFor IsSpent w (sight_of self.old).state }
         ensures headline { (w : World) → Stands w self.old → Headline StandsFor IsSpent (after w step.now result) (sight_of self.new).state }

@@ -1,7 +1,8 @@
 //! Laws of the runs of a bench: each function does nothing, and its contract is the law.
 
-ghost use Rattle.std.specs.Prelude.{◌≡◌, ℕ, List, ◌∷◌, ◌++◌, length};
+ghost use Rattle.std.specs.Prelude.{◌≡◌, ◌≤◌, ℕ, List, ◌∷◌, ◌++◌, length};
 ghost use Rattle.alm_types.specs.declared.action.Action.{Action};
+ghost use Rattle.alm_types.specs.declared.query.Query.{Query};
 ghost use Rattle.alm_disk.specs.Device.{IsImage};
 ghost use Rattle.alm_model.specs.Plant.{Condensed};
 ghost use Rattle.alm_model.specs.Step.{run};
@@ -10,10 +11,19 @@ ghost use Rattle.alm_keeper.specs.AsStore.{StandsFor, IsSpent};
 ghost use Rattle.alm_pipeline.specs.World.{first, shut};
 ghost use Rattle.alm_pipeline.specs.Headline.{Sight, IsRun, after_all};
 ghost use Rattle.alm_bench.specs.Told.{Tells};
+ghost use Rattle.alm_bench.specs.Traced.{KeepsTold, told_in};
 ghost use Rattle.alm_pipeline.specs.declared.step.Step.{Step};
-ghost use Rattle.alm_pipeline.specs.declared.step.Step.TheVariants.{Release};
+ghost use Rattle.alm_pipeline.specs.declared.step.Step.TheVariants.{Look, Release};
 ghost use Rattle.alm_pipeline.specs.declared.event.Event.{Event};
-ghost use Rattle.alm_pipeline.specs.declared.event.Event.TheVariants.{Released};
+ghost use Rattle.alm_pipeline.specs.declared.event.Event.TheVariants.{Looked, Released};
+
+/// The headline by a run's trace alone: whatever a crash leaves at its end stands for the plant of the first so many actions that the trace accepted,
+/// and they reach each number of a receipt and each count of a look in it.
+pub fn the_trace_tells_enough()
+    ensures { (plant : Condensed) (d last : Sight) (steps : List Step) (trace : List Event) →
+        IsRun StandsFor IsSpent (shut (first plant)) d steps trace last →
+        (image : List ℕ) → IsImage last.state image → KeepsTold plant trace image }
+{}
 
 /// In any run, what a step told of the accepted actions is recovered ever after: whatever a crash leaves at the end of the run, it stands for
 /// the plant of a list of actions that begins with those. A reply that is released tells the actions up to its own, a look those that it shows.
@@ -31,4 +41,13 @@ pub fn each_reply_tells_its_action()
     ensures { (plant : Condensed) (d last : Sight) (steps behind : List Step) (trace rest : List Event) (slot : ℕ) →
         length steps ≡ length trace → IsRun StandsFor IsSpent (shut (first plant)) d (steps ++ Release ∷ behind) (trace ++ Released slot ∷ rest) last →
         (told : List Action) × Tells (after_all (shut (first plant)) steps trace) Release (Released slot) told }
+{}
+
+/// A look shows all that was told before it: its count reaches each number of a receipt that was received and each count of a look, over
+/// all slots and reopenings.
+pub fn looks_never_go_back()
+    ensures { (plant : Condensed) (d last : Sight) (steps behind : List Step) (trace rest : List Event) (slot : ℕ) (query : Query) (count : ℕ) →
+        length steps ≡ length trace →
+        IsRun StandsFor IsSpent (shut (first plant)) d (steps ++ Look slot query ∷ behind) (trace ++ Looked count ∷ rest) last →
+        told_in trace ≤ count }
 {}

@@ -1,6 +1,7 @@
 //! The whole life of a device under any steps.
 
-ghost use Rattle.std.specs.Prelude.{◌≡◌, ◌⊎◌, ◌↔◌, ℕ, false, length, IfOk, IfErr};
+ghost use Rattle.std.specs.Prelude.{◌≡◌, ◌⊎◌, ◌↔◌, ℕ, List, false, length, IfOk, IfErr};
+ghost use Rattle.alm_disk.specs.Device.{IsImage};
 ghost use Rattle.alm_disk.specs.Failures.{HasFailed};
 ghost use Rattle.alm_checkpoint.specs.Headers.{suits};
 ghost use Rattle.alm_keeper.specs.Moments.{Formats, Goes, FailsIn};
@@ -8,8 +9,10 @@ ghost use Rattle.alm_model.specs.New.{new_plant};
 ghost use Rattle.alm_model.specs.Plant.{Condensed};
 ghost use Rattle.alm_keeper.specs.AsStore.{StandsFor, IsSpent};
 ghost use Rattle.alm_pipeline.specs.World.{first, shut};
-ghost use Rattle.alm_pipeline.specs.Headline.{Sight, IsRun};
+ghost use Rattle.alm_store.specs.declared.phase.Phase.{Phase};
+ghost use Rattle.alm_pipeline.specs.Headline.{Sight, IsRun, device_alone};
 ghost use Rattle.alm_bench.specs.StandOnly.{StandOnly};
+ghost use Rattle.alm_bench.specs.Traced.{KeepsTold};
 
 use crate::bench::Bench;
 use alm_disk::Crashable;
@@ -28,10 +31,15 @@ pub fn life<D: Crashable + Drop>(
     steps: &[Step],
 ) -> Result<(Vec<Event>, D), (AllocError, D)>
     ensures run { D.honest disk → (plant : Condensed) → StandOnly (D.state disk) plant →
-        IfOk result (λ lived. D.honest lived.1 × IsRun StandsFor IsSpent (shut (first plant)) (record { state = D.state disk; failures = D.failures disk }) steps.now lived.0.items (record { state = D.state lived.1; failures = D.failures lived.1 })) }
+        IfOk result (λ lived. D.honest lived.1 × (at : Phase) × (n : ℕ) ×
+        IsRun StandsFor IsSpent (shut (first plant)) (device_alone (D.state disk) (D.failures disk) 0) steps.now lived.0.items (record { state = D.state lived.1; failures = D.failures lived.1; phase = at; refused = n })) }
+    // By the trace alone: whatever a crash leaves of it stands for the plant of the first so many actions that the trace accepted,
+    // and they reach all that it told.
+    ensures told { D.honest disk → (plant : Condensed) → StandOnly (D.state disk) plant →
+        IfOk result (λ lived. (image : List ℕ) → IsImage (D.state lived.1) image → KeepsTold plant lived.0.items image) }
     ensures refused { IfErr result (λ e. (D.honest disk ↔ D.honest e.1) × (D.state e.1 ≡ D.state disk) × (D.failures e.1 ≡ D.failures disk)) }
 {
-    let mut bench = Bench::closed(disk);
+    let mut bench = Bench::closed(alloc, disk);
     match bench.run(alloc, steps) {
         Ok(trace) => Ok((trace, bench.into_disk())),
         Err(fault) => Err((fault, bench.into_disk())),
@@ -51,7 +59,10 @@ pub fn whole_life<D: Crashable + Drop>(
     // The run begins at what `format` makes of the device.
     ensures run { D.honest disk →
         IfOk result (λ lived. D.honest lived.1 × (formatted : D) × Formats Goes D.serves D.state (D.honest disk × ((D.state disk).faulted ≡ false)) (D.size disk) table.now disk formatted ×
-        StandOnly (D.state formatted) (new_plant table.now) × IsRun StandsFor IsSpent (shut (first (new_plant table.now))) (record { state = D.state formatted; failures = D.failures formatted }) steps.now lived.0.items (record { state = D.state lived.1; failures = D.failures lived.1 })) }
+        StandOnly (D.state formatted) (new_plant table.now) × (at : Phase) × (n : ℕ) ×
+        IsRun StandsFor IsSpent (shut (first (new_plant table.now))) (device_alone (D.state formatted) (D.failures formatted) 0) steps.now lived.0.items (record { state = D.state lived.1; failures = D.failures lived.1; phase = at; refused = n })) }
+    ensures told { D.honest disk →
+        IfOk result (λ lived. (image : List ℕ) → IsImage (D.state lived.1) image → KeepsTold (new_plant table.now) lived.0.items image) }
     ensures too_small { IfErr result (λ e. e.0 ≡ FormatFault.TooSmall → (e.1 ≡ disk) × ((n : ℕ) → suits (D.size disk) (length table.now.alarms) table.now.areas n ≡ false)) }
     // The device calls that were made, of which the last failed.
     ensures failed { IfErr result (λ e. e.0 ≡ FormatFault.Disk → HasFailed (D.failures disk) (D.failures e.1) ×

@@ -1,28 +1,42 @@
 -- The headline: after a crash at any moment the device stands for the plant of a front of the accepted actions, which holds all that
 -- was told or shown. And the runs of a world beside its device, at each point of which it holds.
-use Rattle.std.specs.Prelude.{◌≡◌, ◌<◌, ◌-◌, ℕ, false, List, [], ◌∷◌, length, take}
+use Rattle.std.specs.Prelude.{◌≡◌, ◌≢◌, ◌⊎◌, ◌<◌, ◌-◌, ℕ, false, List, [], ◌∷◌, length, take}
 use Rattle.alm_disk.specs.Device.{DeviceState, IsImage, Crashes}
 use Rattle.alm_disk.specs.Failures.{HasFailed}
+use Rattle.alm_types.specs.Counts.{one_more}
 use Rattle.alm_model.specs.Plant.{Condensed}
 use Rattle.alm_model.specs.Step.{run}
 use Rattle.alm_model.specs.Judging.{accepted_of}
 use Rattle.alm_store.specs.Calls.{IsCall}
-use Rattle.alm_store.specs.Advancing.{IsCalls}
+use Rattle.alm_store.specs.declared.phase.Phase.{Phase}
+use Rattle.alm_store.specs.declared.phase.Phase.TheVariants.{Idle, Committing, Stopped}
+use Rattle.alm_store.specs.Advancing.{IsCalls, IsOpen}
 use Rattle.alm_store.specs.Opening.{HasCause}
 use Rattle.alm_store.specs.Recovery.{IsSafe}
 use Rattle.alm_pipeline.specs.Named.{names}
-use Rattle.alm_pipeline.specs.World.{World, Answers, after, entries_at}
+use Rattle.alm_pipeline.specs.World.{World, Answers, Possible, after, entries_at, IsHeld}
 use Rattle.alm_pipeline.specs.declared.step.Step.{Step}
-use Rattle.alm_pipeline.specs.declared.step.Step.TheVariants.{Call, Crash, Reopen}
+use Rattle.alm_pipeline.specs.declared.step.Step.TheVariants.{Call, Look, Crash, Reopen}
 use Rattle.alm_pipeline.specs.declared.event.Event.{Event}
-use Rattle.alm_pipeline.specs.declared.event.Event.TheVariants.{More, Committed, Failed, Crashed, Opened, Unopened}
+use Rattle.alm_pipeline.specs.declared.event.Event.TheVariants.{More, Committed, Failed, Crashed, Opened, Unopened, Skipped}
 
 -- ---- runs
 
--- what contracts see of a device: its state, and how often a call of it has failed
+-- what contracts see of a device: its state, how often a call of it has failed, where the store over it stands, and how many growths
+-- were refused that looks at lists need
 pub record Sight : Type 0 where
   pub state : DeviceState
   pub failures : ℕ
+  pub phase : Phase
+  pub refused : ℕ
+
+-- a device alone: no store is open over it
+abbrev pub device_alone : DeviceState → (failures refused : ℕ) → Sight
+device_alone state' failures' refused' = record { state = state'; failures = failures'; phase = Stopped; refused = refused' }
+
+-- a device call is possible: a batch waits for its commit, or a checkpoint is open
+abbrev pub MayCall : World → Sight → Type 0
+MayCall w d = (w.closed ≡ false) × (IsHeld w.stage ⊎ IsOpen d.phase)
 
 -- which bytes stand for which plant, and which device stands at the last epoch
 module _ (recovers : List ℕ → Condensed → Type 0) (spent : DeviceState → Type 0) where
@@ -31,16 +45,24 @@ module _ (recovers : List ℕ → Condensed → Type 0) (spent : DeviceState →
   Headline w state = (image : List ℕ) → IsImage state image → IsSafe recovers w.base w.accepted w.floor image
 
   -- What a step that was answered so does to the device. A Call is one write or one sync, done or failed, or nothing for a batch
-  -- without actions; it fails only where the device failed in it, or where a checkpoint was due in the last epoch. A crash leaves
-  -- the bytes that it names. A reopening reads an image, and answers what it stands for, or a fault with its cause. No other step
-  -- touches the device.
+  -- without actions; it is skipped only where no batch waits and no checkpoint is open. It fails only where the device failed in it,
+  -- or where nothing was under way in the last epoch, so that a checkpoint was due. A look that is possible is skipped only where a
+  -- growth of its list was refused. A crash leaves the bytes that it names. A reopening reads an image, and answers what it stands
+  -- for, or a fault with its cause. No other step touches the device.
   abbrev pub Moves : World → Step → Event → Sight → Sight → Type 0
-  Moves w Call More d d' = IsCall d.state d'.state
-  Moves w Call Committed d d' = (0 < length (accepted_of (entries_at w.stage)) → IsCall d.state d'.state) × (accepted_of (entries_at w.stage) ≡ [] → d' ≡ d)
-  Moves w Call Failed d d' = IsCalls d.state d'.state × (¬ (spent d.state) → HasFailed d.failures d'.failures)
-  Moves w (Crash bytes) Crashed d d' = Crashes (names bytes.items) d.state d'.state × (d'.failures ≡ d.failures)
-  Moves w Reopen (Opened n) d d' = IsImage d.state d'.state.bytes × ((place : ℕ) → d'.state.pending place ≡ false) × recovers d'.state.bytes (run w.base (take (n - w.base.panel.count) w.accepted))
-  Moves w Reopen (Unopened fault) d d' = ((image : List ℕ) → IsImage d'.state image → IsImage d.state image) × HasCause recovers d.state fault d.failures d'.failures
+  Moves w Call More d d' = MayCall w d × IsCall d.state d'.state × (d'.phase ≢ Stopped) × (d'.refused ≡ d.refused)
+  Moves w Call Committed d d' =
+      (0 < length (accepted_of (entries_at w.stage)) → IsCall d.state d'.state) × (accepted_of (entries_at w.stage) ≡ [] → (d'.state ≡ d.state) × (d'.failures ≡ d.failures))
+      × (d'.phase ≢ Committing) × (d'.phase ≢ Stopped) × (d'.refused ≡ d.refused)
+  Moves w Call Failed d d' =
+      MayCall w d × IsCalls d.state d'.state × (d.phase ≢ Idle → HasFailed d.failures d'.failures) × (¬ (spent d.state) → HasFailed d.failures d'.failures) × (d'.refused ≡ d.refused)
+  Moves w Call Skipped d d' = ¬ (MayCall w d) × (d' ≡ d)
+  Moves w (Look slot query) Skipped d d' = (¬ (Possible w (Look slot query)) × (d' ≡ d)) ⊎ (d' ≡ record d { refused = one_more d.refused })
+  Moves w (Crash bytes) Crashed d d' = Crashes (names bytes.items) d.state d'.state × (d'.failures ≡ d.failures) × (d'.refused ≡ d.refused)
+  Moves w Reopen (Opened n) d d' =
+      IsImage d.state d'.state.bytes × ((place : ℕ) → d'.state.pending place ≡ false) × recovers d'.state.bytes (run w.base (take (n - w.base.panel.count) w.accepted))
+      × (d'.phase ≡ Idle) × (d'.refused ≡ d.refused)
+  Moves w Reopen (Unopened fault) d d' = ((image : List ℕ) → IsImage d'.state image → IsImage d.state image) × HasCause recovers d.state fault d.failures d'.failures × (d'.refused ≡ d.refused)
   Moves w step event d d' = d' ≡ d
 
   -- the world's run of these steps, from a device to a device: each entry answers its step, the device moves as the step lets it,

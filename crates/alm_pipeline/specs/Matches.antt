@@ -18,7 +18,7 @@ use Rattle.alm_rings.specs.Placed.{taken_by, waiting_by, released_by, room_by}
 use Rattle.alm_rings.specs.Batches.{sealed_of, fetched_of, emptied_of, given_of, coming_in, empties_in, places_of, places_in}
 use Rattle.alm_flush.specs.declared.held.Held as H
 use Rattle.alm_flush.specs.declared.held.Held.TheVariants as V
-use Rattle.alm_flush.specs.Advances.{Within}
+use Rattle.alm_flush.specs.Advances.{IsSure, Within}
 use Rattle.alm_flush.specs.HeldBatch.{stored_of, shown_of, to_commit}
 use Rattle.alm_seq.specs.Spares.{spares}
 use Rattle.alm_store.specs.declared.store.Store.{Ghosts}
@@ -31,6 +31,7 @@ use Rattle.alm_pipeline.specs.declared.step.Step.TheVariants.{Call, Crash, Reope
 use Rattle.alm_pipeline.specs.declared.event.Event.{Event}
 use Rattle.alm_pipeline.specs.declared.event.Event.TheVariants.{More, Committed, Failed, Skipped}
 use Rattle.alm_pipeline.specs.World.{World, Stage, Nothing, Held, Stored, Shown, Note, after}
+use Rattle.alm_pipeline.specs.Headline.{Sight}
 
 -- how far the flusher's batch is
 abbrev pub stage_of : H.Held → Stage
@@ -123,6 +124,14 @@ IsInner Reopen = ⊥
 IsInner step = Unit {0}
 
 module _ {K D : Type 0} {g : Ghosts K D} {d : Disk.Ghosts D} where
+  -- what contracts see of its device, where so many growths were refused
+  abbrev pub sight_in : ℕ → Pipeline K D g d → Sight
+  sight_in n p = record { state = g.device p.flusher.store; failures = g.failures p.flusher.store; phase = g.phase p.flusher.store; refused = n }
+
+  -- no checkpoint is to be begun by its next call
+  abbrev pub CallsSurely : Pipeline K D g d → Type 0
+  CallsSurely p = IsSure (g.phase p.flusher.store) (g.takes p.flusher.store (to_commit p.flusher.held))
+
   pub record Fits (w : World) (p : Pipeline K D g d) : Type 0 where
     pub slots : Slots w.sent w.taken w.released w.received p.consoles.items p.sequencer.inboxes.items p.flusher.outboxes.items
     pub batches : Batches w.taking w.sealed w.free w.stage p.sequencer.batch (spares p.sequencer.spare) p.sequencer.ends p.flusher.fetch p.flusher.held

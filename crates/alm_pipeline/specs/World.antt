@@ -167,7 +167,8 @@ IsStorageFault F.OutOfMemory = Unit {0}
 IsStorageFault F.Unformatted = ⊥
 IsStorageFault (F.Damaged half at) = ⊥
 
--- the trace entry is an answer of this step. Which of More, Committed and Failed, the device decides
+-- the trace entry is an answer of this step. Which of More, Committed and Failed, the device decides; a Call is possible also where a
+-- checkpoint is open, as the device's own phase says: MayCall and Moves of Headline
 abbrev pub Answers : World → Step → Event → Type 0
 Answers w (Send slot a) (Sent serial) = Possible w (Send slot a) × (length (w.sent slot) < 64 + w.received slot) × (serial ≡ length (w.sent slot) + 1)
 Answers w (Send slot a) Busy = Possible w (Send slot a) × ((64 + w.received slot ≤ length (w.sent slot)) ⊎ (2 ^ 64 ≤ length (w.sent slot) + 1))
@@ -182,7 +183,7 @@ Answers w Release (Released slot) = Possible w Release × goes_to (next_at w.sta
 Answers w GiveBack GaveBack = Possible w GiveBack
 Answers w (Receive slot) (Received serial verdict number) = Possible w (Receive slot) × says (slice_get (w.released slot) (w.received slot)) serial verdict number
 Answers w (Look slot query) (Looked count) = Possible w (Look slot query) × (count ≡ w.base.panel.count + length w.published)
--- a look is refused where its alarm or list doesn't exist; one at a list also for want of memory
+-- a look is refused where its alarm or list doesn't exist; one at a list also for want of memory, which Moves counts
 Answers w (Look slot query) Skipped = ¬ (Possible w (Look slot query)) ⊎ (is_some (asks_list query) ≡ true)
 Answers w (Crash bytes) Crashed = Unit {0}
 Answers w Reopen (Opened n) = Possible w Reopen × (w.floor ≤ n) × (n ≤ w.base.panel.count + length w.accepted)

@@ -68,6 +68,7 @@ impl<K: Store> Pipeline<K> {
             K.recovers (K.device pipeline.flusher.store).bytes (K.stored pipeline.flusher.store)) }
         ensures settled { K.Device.honest disk → IfOk result (λ pipeline. (place : ℕ) → (K.device pipeline.flusher.store).pending place ≡ false) }
         ensures counted { IfOk result (λ pipeline. K.Device.failures disk ≤ K.failures pipeline.flusher.store) }
+        ensures idle { IfOk result (λ pipeline. K.phase pipeline.flusher.store ≡ Phase.Idle) }
         ensures honest { IfOk result (λ pipeline. K.Device.honest disk ↔ K.honest pipeline.flusher.store) }
         ensures honest_back { IfErr result (λ e. K.Device.honest disk ↔ K.Device.honest e.1) }
         ensures no_new_image { K.Device.honest disk → IfErr result (λ e. (image : List ℕ) → IsImage (K.Device.state e.1) image → IsImage (K.Device.state disk) image) }

@@ -19,7 +19,6 @@ use alm_rings::{Console, Receipt};
 use alm_seq::{Seal, Sequencer, Take};
 use alm_store::Store;
 use alm_types::{Action, Answer, Query, Slot};
-use std::alloc::Global;
 
 /// All parts from request to receipt over a store: the consoles of all slots, the sequencer and the flusher with its board.
 #[derive(Drop)]
@@ -40,7 +39,7 @@ impl<K: Store> Pipeline<K> {
     ghost use Rattle.std.specs.Prelude.{◌≡◌, ◌↔◌, ◌≤◌, ◌<◌, ◌+◌, ℕ, length, slice_get, IsSome};
     ghost use Rattle.alm_disk.specs.Failures.{HasFailed};
     ghost use Rattle.alm_flush.specs.HeldBatch.{to_commit};
-    ghost use Rattle.alm_pipeline.specs.Matches.{Fits, IsOpen, Knows, KnowsAll, CallFits, EndsIn, called, IsInner};
+    ghost use Rattle.alm_pipeline.specs.Matches.{Fits, IsOpen, Knows, KnowsAll, CallFits, CallsSurely, EndsIn, called, IsInner, sight_in};
     ghost use Rattle.alm_pipeline.specs.declared.step.Step.TheVariants as S;
     ghost use Rattle.alm_pipeline.specs.Headline.{Moves, Headline};
     ghost use Rattle.alm_rings.specs.Batches.{emptied_of, given_of};
@@ -134,7 +133,7 @@ impl<K: Store> Pipeline<K> {
         ensures answer { (w : World) → IsOpen w self.old → Answers w S.Fetch result }
         ensures fits { (w : World) → IsOpen w self.old → IsOpen (after w S.Fetch result) self.new }
         ensures honest { K.honest self.old.flusher.store ↔ K.honest self.new.flusher.store }
-        ensures store { (K.device self.new.flusher.store ≡ K.device self.old.flusher.store) × (K.failures self.new.flusher.store ≡ K.failures self.old.flusher.store) }
+        ensures store { (K.device self.new.flusher.store ≡ K.device self.old.flusher.store) × (K.failures self.new.flusher.store ≡ K.failures self.old.flusher.store) × (K.phase self.new.flusher.store ≡ K.phase self.old.flusher.store) }
     {
         self.tell_batches();
         if !self.flusher.waits() {
@@ -152,7 +151,11 @@ impl<K: Store> Pipeline<K> {
         ensures answer { (w : World) → IsOpen w self.old → Answers w S.Call (called result) }
         ensures fits { (w : World) → IsOpen w self.old → CallFits w (called result) self.new }
         ensures honest { K.honest self.old.flusher.store ↔ K.honest self.new.flusher.store }
-        ensures moves { K.honest self.old.flusher.store → (w : World) → IsOpen w self.old → Moves K.recovers K.spent w S.Call (called result) (record { state = K.device self.old.flusher.store; failures = K.failures self.old.flusher.store }) (record { state = K.device self.new.flusher.store; failures = K.failures self.new.flusher.store }) }
+        ensures moves { K.honest self.old.flusher.store → (w : World) → IsOpen w self.old → (refused : ℕ) →
+            Moves K.recovers K.spent w S.Call (called result) (sight_in refused self.old) (sight_in refused self.new) }
+        // Where the held batch is taken, or work is under way, only the device fails.
+        ensures sure { result ≡ Advance.Failed → CallsSurely self.old → (w : World) → IsOpen w self.old →
+            HasFailed (K.failures self.old.flusher.store) (K.failures self.new.flusher.store) }
         // It fails only where the device failed in it, or where a checkpoint was due in the last epoch.
         ensures late { result ≡ Advance.Failed → K.honest self.old.flusher.store → ¬ (K.spent (K.device self.new.flusher.store)) →
             (w : World) → IsOpen w self.old → HasFailed (K.failures self.old.flusher.store) (K.failures self.new.flusher.store) }
@@ -240,26 +243,29 @@ impl<K: Store> Pipeline<K> {
         }
     }
 
-    /// Asks the published plant, for any slot.
-    pub fn look(&self, alloc: Global, query: Query) -> Event
+    /// Asks the published plant, for any slot. A look at a list that is there is skipped only where a growth of the answer's list was
+    /// refused, which the answer counts.
+    pub fn look(&self, query: Query, answer: &mut Answer) -> Event
         ensures answer { (w : World) (slot : ℕ) → IsOpen w self.now → Answers w (S.Look slot query) result }
         ensures fits { (w : World) (slot : ℕ) → IsOpen w self.now → IsOpen (after w (S.Look slot query) result) self.now }
+        ensures moves { (w : World) (slot : ℕ) → IsOpen w self.now →
+            Moves K.recovers K.spent w (S.Look slot query) result (sight_in answer.old.refused self.now) (sight_in answer.new.refused self.now) }
     {
         let mut look = self.flusher.board().looker(Seen::new());
-        let mut answer = Answer::new(alloc);
-        match look.look(query, &mut answer) {
+        match look.look(query, answer) {
             Ok(count) => Event::Looked(count),
             Err(_) => Event::Skipped,
         }
     }
 
     /// One of the steps that leave the device alone.
-    pub fn go(&mut self, alloc: Global, step: &Step) -> Event
+    pub fn go(&mut self, step: &Step, answer: &mut Answer) -> Event
         requires { IsInner step.now }
         ensures answer { (w : World) → IsOpen w self.old → Answers w step.now result }
         ensures fits { (w : World) → IsOpen w self.old → IsOpen (after w step.now result) self.new }
         ensures honest { K.honest self.old.flusher.store ↔ K.honest self.new.flusher.store }
-        ensures store { (K.device self.new.flusher.store ≡ K.device self.old.flusher.store) × (K.failures self.new.flusher.store ≡ K.failures self.old.flusher.store) }
+        ensures moves { (w : World) → IsOpen w self.old →
+            Moves K.recovers K.spent w step.now result (sight_in answer.old.refused self.old) (sight_in answer.new.refused self.new) }
     {
         match step {
             Step::Send(slot, action) => self.send(*slot, *action),
@@ -270,7 +276,7 @@ impl<K: Store> Pipeline<K> {
             Step::Release => self.release(),
             Step::GiveBack => self.give_back(),
             Step::Receive(slot) => self.receive(*slot),
-            Step::Look(_, query) => self.look(alloc, *query),
+            Step::Look(_, query) => self.look(*query, answer),
             Step::Call => unreachable!(),
             Step::Crash(_) => unreachable!(),
             Step::Reopen => unreachable!(),

@@ -7,13 +7,18 @@ use Rattle.std.proofs.lemmas.List.{append-nil}
 use Rattle.alm_model.specs.Plant.{Condensed}
 use Rattle.alm_lines.specs.declared.line.Line.{Line}
 use Rattle.alm_session.specs.Intakes.{Held, lines_from, lines_in, open_in}
-use Rattle.alm_session.specs.Turns.{action, met_text, slip_of, slips, strays, Side, IsTurn, Looks}
-use Rattle.alm_session.specs.Ended.{IsFresh, IsFinished, IsAnswered}
+use Rattle.alm_session.specs.Turns.{action, heards, met_text, slip_of, slips, strays, Heard, Side, IsTurn, Looks}
+use Rattle.alm_session.specs.Ended.{HaveSerials, IsFresh, IsFinished, IsAnswered}
 use Rattle.alm_session.proofs.Joins.{joined}
 
 no_more : {X : Type 0} (xs : List X) → length xs ≡ 0 → xs ≡ []
 no_more [] e = refl
 no_more (x ∷ xs) e = (let bad : ◌≡◌ {A = ℕ} 1 0 = omega (arith, e) in cc)
+
+behind_serials : (n : ℕ) (heards more : List Heard) → HaveSerials n (heards ++ more) → HaveSerials (n + length heards) more
+behind_serials n [] more have = subst (λ (k : ℕ). HaveSerials k more) (let same : n ≡ n + 0 = omega arith in same) have
+behind_serials n (h ∷ heards) more have =
+    subst (λ (k : ℕ). HaveSerials k more) (let same : n + 1 + length heards ≡ n + length (h ∷ heards) = omega arith in same) (behind_serials (n + 1) heards more have.1)
 
 pub answered_all : {looks : Looks} (base : Condensed) (n : ℕ) (a b : Side) → IsTurn looks base n a b → IsFresh a → IsFinished b → IsAnswered looks base a b
 answered_all {looks} base n a b p fresh finished =
@@ -34,6 +39,8 @@ answered_all {looks} base n a b p fresh finished =
       written = subst (λ (t : List ℕ). Appends a.written b.written t) (sym text) p.written;
       heard = p.heard;
       learnt = p.learnt;
+      serials = λ have. subst (λ (k : ℕ). HaveSerials k (flat_map heards p.met)) (let same : 1 + length a.heard ≡ length a.sent + 1 = omega (arith, fresh.3) in same)
+          (behind_serials 1 a.heard (flat_map heards p.met) (subst (λ (l : List Heard). HaveSerials 1 l) p.heard have));
       own = λ few. no_more (flat_map strays p.met) (omega (arith, p.balance, few, fresh.3, ap length fresh.1, ap length finished.1));
     }
 

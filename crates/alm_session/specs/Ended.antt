@@ -1,10 +1,10 @@
 -- A connection from its beginning to its end.
-use Rattle.std.specs.Prelude.{◌≡◌, ℕ, ◌≤◌, List, [], ◌++◌, None, length, map}
+use Rattle.std.specs.Prelude.{◌≡◌, ℕ, ◌+◌, ◌≤◌, List, [], ◌∷◌, ◌++◌, None, length, map}
 use Rattle.std.specs.List.{flat_map}
 use Rattle.std.specs.Io.KnownBytes.{Consumes, Appends}
 use Rattle.alm_model.specs.Plant.{Condensed}
 use Rattle.alm_session.specs.Intakes.{lines_from, lines_in}
-use Rattle.alm_session.specs.Turns.{Met, met_text, slip_of, slips, heards, strays, Knows, Looks, Side}
+use Rattle.alm_session.specs.Turns.{Heard, Met, met_text, slip_of, slips, heards, strays, Knows, Looks, Side}
 
 -- nothing has come, nothing stands to be written, and no request of the slot is unanswered
 abbrev pub IsFresh : Side → Type 0
@@ -14,7 +14,13 @@ IsFresh s = (s.held ≡ record { line = None; held = []; rest = [] }) × (s.wait
 abbrev pub IsFinished : Side → Type 0
 IsFinished s = (lines_in s.held ≡ []) × (s.waiting ≡ []) × (s.left ≡ [])
 
--- each line of what was read is answered, and what was written is the replies in the order of the lines. Each receipt that came answers a line, where no more came than requests were sent
+-- receipts with the serials from this one on, in order
+abbrev pub HaveSerials : ℕ → List Heard → Type 0
+HaveSerials next [] = Unit {0}
+HaveSerials next (heard ∷ heards) = (heard.serial ≡ next) × HaveSerials (next + 1) heards
+
+-- each line of what was read is answered, and what was written is the replies in the order of the lines. Each receipt that came answers a line, where no more came than requests were sent,
+-- and an action's is that of its own serial: where the slot's receipts have the serials from 1 on, those of the actions, in the order of their lines, begin with the first serial that was sent
 pub record IsAnswered (looks : Looks) (base : Condensed) (a b : Side) : Type 0 where
   pub got : List ℕ
   pub met : List Met
@@ -24,3 +30,4 @@ pub record IsAnswered (looks : Looks) (base : Condensed) (a b : Side) : Type 0 w
   pub heard : b.heard ≡ a.heard ++ flat_map heards met
   pub learnt : Knows looks base a.known met b.known
   pub own : length b.heard ≤ length b.sent → flat_map strays met ≡ []
+  pub serials : HaveSerials 1 b.heard → HaveSerials (length a.sent + 1) (flat_map heards met)

@@ -29,6 +29,7 @@ impl Session {
     ghost use Rattle.std.specs.Prelude.{◌≡◌, ◌+◌, ◌≤◌, ◌<◌, ◌⊎◌, ℕ, List, [], ◌∷◌, length, Option, None, Some, IfOk, true, false, IsTrue};
     ghost use Rattle.arrayvec.specs.ArrayVec.{array_vec_len};
     ghost use Rattle.alm_rings.specs.Ends.{SameConsole, sent_of, received_of, coming_to, room_of};
+    ghost use Rattle.alm_session.specs.Intakes.{lines_in};
     ghost use Rattle.alm_session.specs.Wires.{blocked_write, blocked_read, failed_call};
     ghost use Rattle.alm_session.specs.Turns.{IsTurn, IsOwn, Side, Heard, between, no_looks};
     ghost use Rattle.alm_types.specs.declared.action.Action.{Action};
@@ -95,6 +96,7 @@ impl Session {
         ensures quiet { result ≡ false → IsQuiet console.old }
         ensures unseen { result ≡ false → look.new ≡ look.old }
         ensures left { result ≡ false → self.new.output ≡ self.old.output }
+        ensures held { self.new.intake ≡ self.old.intake }
     {
         let Some(receipt) = console.receive() else {
             return false;
@@ -227,6 +229,7 @@ impl Session {
         ensures end { SameConsole console.old console.new }
         ensures turn { IsTurn (between L.Look.looked look.old look.new) (L.Look.base look.old) (least_of result) (side_of self.old (L.Look.knows look.old) (W.coming wire.old) (W.written wire.old) (sent_of console.old) (heard_by console.old)) (side_of self.new (L.Look.knows look.new) (W.coming wire.new) (W.written wire.new) (sent_of console.new) (heard_by console.new)) }
         ensures answer { GoneOn result self.new console.new (W.counts wire.old) (W.counts wire.new) (W.coming wire.new) }
+        ensures takes_first { 0 < length (lines_in self.old.intake) → W.coming wire.new ≡ W.coming wire.old }
     {
         match self.intake.line() {
             Some(line) => self.take(line, console, look),
@@ -245,6 +248,11 @@ impl Session {
         ensures end { SameConsole console.old console.new }
         ensures turn { IsTurn (between L.Look.looked look.old look.new) (L.Look.base look.old) (least_of result) (side_of self.old (L.Look.knows look.old) (W.coming wire.old) (W.written wire.old) (sent_of console.old) (heard_by console.old)) (side_of self.new (L.Look.knows look.new) (W.coming wire.new) (W.written wire.new) (sent_of console.new) (heard_by console.new)) }
         ensures answer { Turns result self.new console.old console.new (W.counts wire.old) (W.counts wire.new) (W.coming wire.new) }
+        // While a reply stands to be written no line is taken, and nothing is read;
+        ensures writes_first { 0 < length self.old.output.left →
+            (self.new.intake ≡ self.old.intake) × (W.coming wire.new ≡ W.coming wire.old) }
+        // and nothing is read while a whole line is held.
+        ensures takes_first { 0 < length (lines_in self.old.intake) → W.coming wire.new ≡ W.coming wire.old }
     {
         if self.receive(console, look) {
             return Turn::Went;

@@ -19,7 +19,7 @@ use Rattle.alm_pipeline.specs.declared.event.Event.TheVariants.{Sent, Busy, Took
 use Rattle.alm_pipeline.specs.declared.pipeline.Pipeline.{Pipeline}
 use Rattle.alm_pipeline.specs.World.{World, Nothing, Held, Answers, after, with_at}
 use Rattle.alm_pipeline.specs.Headline.{Sight, Headline, Moves, IsRun, after_all}
-use Rattle.alm_pipeline.specs.Matches.{IsOpen}
+use Rattle.alm_pipeline.specs.Matches.{IsOpen, sight_in}
 
 -- no request is under way: all that was sent is taken and answered, and all that was accepted is stored and shown
 pub record IsIdle (w : World) : Type 0 where
@@ -112,9 +112,9 @@ module _ (recovers : List ℕ → Condensed → Type 0) (spent : DeviceState →
   Leads w d (step ∷ steps) [] w' d' = ⊥
 
 module _ {K D : Type 0} {g : Ghosts K D} {d : Disk.Ghosts D} where
-  -- what contracts see of its device
+  -- what contracts see of its device, where no list was looked at
   abbrev pub sight_of : Pipeline K D g d → Sight
-  sight_of p = record { state = g.device p.flusher.store; failures = g.failures p.flusher.store }
+  sight_of p = sight_in 0 p
 
   -- a world's pipeline, with no request under way
   abbrev pub Rests : World → Pipeline K D g d → Type 0

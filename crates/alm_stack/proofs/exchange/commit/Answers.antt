@@ -47,7 +47,7 @@ loop-step-preserved g c =
           let some : 0 < length (accepted_of entries) = subst (λ (x : Stage). 0 < length (accepted_of (entries_at x))) at (a.1 (subst IsHeld (sym at) tt)) in
           let left : 647 - k ≡ (647 - (k + 1)) + 1 = omega (arith, c.loop-step-test.true) in
           let way = leads_then s.recovers s.spent (s.honest old.flusher.store) w (sight_of old) (calls k) (went_on k) w (sight_of p) (S.Call ∷ []) (E.More ∷ []) w (sight_of q) was.2
-          (sight_of q, a, (λ h. (c.images-in-loop-step.ensures.headline (inv.honest.0 h) w now.fits, made.moves (inv.honest.0 h) w now)), (refl, refl)) in (
+          (sight_of q, a, (λ h. (c.images-in-loop-step.ensures.headline (inv.honest.0 h) w now.fits, made.moves (inv.honest.0 h) w now 0)), (refl, refl)) in (
             made.fits w now,
             made.ends (647 - (k + 1)) refl (subst (λ l. 0 < length l) (sym many) some) (subst (λ (n : ℕ). EndsIn n p) left was.1),
             subst (λ (l : List Step). Leads s.recovers s.spent (s.honest old.flusher.store) w (sight_of old) l (went_on (k + 1)) w (sight_of q)) (calls_more k)
@@ -70,7 +70,7 @@ returns-in-Committed-clause-done g c = λ _ w entries o at few.
       (
         k,
         leads_then s.recovers s.spent (s.honest old.flusher.store) w (sight_of old) (calls k) (went_on k) w (sight_of p) (S.Call ∷ []) (E.Committed ∷ []) (after w S.Call E.Committed) (sight_of q) was.2
-            (sight_of q, made.answer w now, (λ h. (c.images-in-loop-step.ensures.headline (inv.honest.0 h) w now.fits, made.moves (inv.honest.0 h) w now)), (refl, refl)),
+            (sight_of q, made.answer w now, (λ h. (c.images-in-loop-step.ensures.headline (inv.honest.0 h) w now.fits, made.moves (inv.honest.0 h) w now 0)), (refl, refl)),
       ),
     )
 
@@ -89,7 +89,7 @@ returns-in-Failed-clause-failed g c = λ _ w entries o at few.
       (
         k,
         leads_then s.recovers s.spent (s.honest old.flusher.store) w (sight_of old) (calls k) (went_on k) w (sight_of p) (S.Call ∷ []) (E.Failed ∷ []) (shut w) (sight_of q) was.2
-            (sight_of q, made.answer w now, (λ h. (c.images-in-loop-step.ensures.headline (inv.honest.0 h) w now.fits, made.moves (inv.honest.0 h) w now)), (refl, refl)),
+            (sight_of q, made.answer w now, (λ h. (c.images-in-loop-step.ensures.headline (inv.honest.0 h) w now.fits, made.moves (inv.honest.0 h) w now 0)), (refl, refl)),
       ),
     )
 

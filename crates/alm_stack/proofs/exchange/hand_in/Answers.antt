@@ -30,7 +30,7 @@ returns-clause-handed g c = λ _ w m.
     let h1 = λ (h : s.honest c.args.pipeline.now.flusher.store). subst s.honest (sym c.in-Sent.ensures.store) h in
     let h2 = λ (h : s.honest c.args.pipeline.now.flusher.store). subst s.honest (sym c.in-Took.ensures.store) (h1 h) in
     let h3 = λ (h : s.honest c.args.pipeline.now.flusher.store). subst s.honest (sym c.in-Sealed.ensures.store) (h2 h) in
-    let sees = λ (k : _). let at : Sight = record { state = s.device k; failures = s.failures k } in at in (
+    let sees = λ (k : _). let at : Sight = record { state = s.device k; failures = s.failures k; phase = s.phase k; refused = 0 } in at in (
       c.in-Sent.field-0,
       v,
       judged_on w i slot want v a2,
@@ -51,7 +51,7 @@ returns-clause-handed g c = λ _ w m.
             (
               sight_of c.fetch.new.self,
               c.in-Fetched.ensures.answer w3 o3,
-              (λ h. (c.images-4.ensures.headline (h3 h) w3 o3.fits, λ j. record { state = c.in-Fetched.ensures.store.0 j; failures = c.in-Fetched.ensures.store.1 j })),
+              (λ h. (c.images-4.ensures.headline (h3 h) w3 o3.fits, λ j. record { state = c.in-Fetched.ensures.store.0 j; failures = c.in-Fetched.ensures.store.1 j; phase = c.in-Fetched.ensures.store.2 j; refused = 0 })),
               (sym end, refl),
             ),
           ),
@@ -69,7 +69,7 @@ returns-in_default-clause-spent g c = λ _ w m.
     let busy : c.send.result ≡ E.Busy = elim (sent_or_busy w slot want c.send.result m.1.opened a) [ inl x ↦ absurd (c.in_default.not-Sent x.0 x.1) | inr is ↦ is ] in
     let answer = subst (λ (e : Event). Answers w (S.Send slot want) e) busy a in
     let full : 2 ^ 64 ≤ length (w.sent slot) + 1 = ⊎_elim (λ x. absurd (omega (arith, x, m.1.received slot))) (λ x. x) answer.1 in
-    let sees = λ (k : _). let at : Sight = record { state = s.device k; failures = s.failures k } in at in (
+    let sees = λ (k : _). let at : Sight = record { state = s.device k; failures = s.failures k; phase = s.phase k; refused = 0 } in at in (
       full,
       subst (λ (e : Event). IsOpen (after w (S.Send slot want) e) q) busy (c.send.ensures.fits w m.0),
       (sight_of q, answer, (λ h. (c.images.ensures.headline h w m.0.fits, ap sees c.send.ensures.store)), (refl, refl)),

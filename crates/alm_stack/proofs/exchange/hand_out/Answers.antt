@@ -27,7 +27,7 @@ returns-clause-answered g c = λ w want v i o.
     let h1 = λ (h : s.honest c.args.pipeline.now.flusher.store). subst s.honest (sym c.in-Published.ensures.store) h in
     let h2 = λ (h : s.honest c.args.pipeline.now.flusher.store). subst s.honest (sym c.in-Released.ensures.store) (h1 h) in
     let h3 = λ (h : s.honest c.args.pipeline.now.flusher.store). subst s.honest (sym c.in-GaveBack.ensures.store) (h2 h) in
-    let sees = λ (k : _). let at : Sight = record { state = s.device k; failures = s.failures k } in at in (
+    let sees = λ (k : _). let at : Sight = record { state = s.device k; failures = s.failures k; phase = s.phase k; refused = 0 } in at in (
       said.0,
       received_at w slot want v,
       (o4, idle_again w i slot want v),

@@ -26,3 +26,9 @@ returns-in-Call-clause-answer g c = λ w m. subst (λ (s : Step). Answers w s c.
 
 pub returns-in-Call-clause-stands : goal.returns-in-Call-clause-stands
 returns-in-Call-clause-stands g c = λ w m. subst (λ (s : Step). Stands (after w s c.call.result) c.call.new.self) (sym c.in-Call.is) (c.call.ensures.stands w m)
+
+pub returns-in-Reopen-clause-moves : goal.returns-in-Reopen-clause-moves
+returns-in-Reopen-clause-moves g c = λ w m. subst (λ (s : Step). Moves StandsFor IsSpent w s c.reopen.result (sight_of c.args.self.now) (sight_of c.reopen.new.self)) (sym c.in-Reopen.is) (c.reopen.ensures.moves w m)
+
+pub returns-in-Call-clause-moves : goal.returns-in-Call-clause-moves
+returns-in-Call-clause-moves g c = λ w m. subst (λ (s : Step). Moves StandsFor IsSpent w s c.call.result (sight_of c.args.self.now) (sight_of c.call.new.self)) (sym c.in-Call.is) (c.call.ensures.moves w m)

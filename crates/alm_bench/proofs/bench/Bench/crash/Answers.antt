@@ -7,16 +7,16 @@ use Rattle.alm_bench.proofs.bench.Bench.crash.Goals as goal
 
 pub returns-in-Open-clause-stands : goal.returns-in-Open-clause-stands
 returns-in-Open-clause-stands g c = λ w m.
-    let is = subst (λ (s : T.Setup _ _ _ _). IsSetup w s) (sym c.in-Open.ensures) m in
+    let is = subst (λ (s : T.Setup _ _ _ _). IsSetup w s) (sym c.in-Open.ensures.setup) m in
     let honest = c.into_device.ensures.honest.0 is.1 in
-    subst (λ (s : T.Setup _ _ _ _). IsSetup (shut w) s) (sym c.put.ensures)
+    subst (λ (s : T.Setup _ _ _ _). IsSetup (shut w) s) (sym c.put.ensures.setup)
     (refl, c.crashed-disk.ensures.honest.0 honest, λ image left. c.into_device.ensures.headline is.1 w is.0.fits image (c.crashed-disk.ensures.no_new_image honest image left))
 
 pub returns-in-Open-clause-there : goal.returns-in-Open-clause-there
-returns-in-Open-clause-there g c = λ h. there _ _ (sym c.put.ensures) tt
+returns-in-Open-clause-there g c = λ h. there _ _ (sym c.put.ensures.setup) tt
 
 pub returns-in-Shut-clause-there : goal.returns-in-Shut-clause-there
-returns-in-Shut-clause-there g c = λ h. there _ _ (sym c.put-in-Shut.ensures) tt
+returns-in-Shut-clause-there g c = λ h. there _ _ (sym c.put-in-Shut.ensures.setup) tt
 
 pub returns-in-Gone-clause-there : goal.returns-in-Gone-clause-there
-returns-in-Gone-clause-there g c = λ h. absurd (there _ _ (sym c.in-Gone.ensures) h)
+returns-in-Gone-clause-there g c = λ h. absurd (there _ _ (sym c.in-Gone.ensures.setup) h)

@@ -5,13 +5,13 @@ use Rattle.alm_pipeline.specs.World.{after}
 use Rattle.alm_store.specs.Recovery.{IsFrontPlant}
 use Rattle.alm_pipeline.specs.declared.step.Step.TheVariants as S
 use Rattle.alm_pipeline.specs.declared.event.Event.TheVariants as E
-use Rattle.alm_bench.proofs.Carried.{carried, still, there, shut_not_open}
+use Rattle.alm_bench.proofs.Carried.{carried, same_count, still, there, shut_not_open}
 use Rattle.alm_bench.proofs.Reopened.{storage_fault, found, reaches}
 use Rattle.alm_bench.proofs.bench.Bench.reopen.Goals as goal
 
 pub returns-in-Ok-clause-answer : goal.returns-in-Ok-clause-answer
 returns-in-Ok-clause-answer g c = λ w m.
-    let shut = still w _ _ (sym c.in-Shut.ensures) m in
+    let shut = still w _ _ (sym c.in-Shut.ensures.setup) m in
     let store = c.in-Ok.pipeline.flusher.store in
     let opened = c.in-Ok.ensures.opened shut.1 in
     let front : IsFrontPlant w.base w.accepted w.floor store.stored.plant = (shut.2 (g.D.Disk.state store.disk).bytes opened.0).each store.stored.plant opened.1 in
@@ -19,12 +19,12 @@ returns-in-Ok-clause-answer g c = λ w m.
 
 pub returns-in-Ok-clause-stands : goal.returns-in-Ok-clause-stands
 returns-in-Ok-clause-stands g c = λ w m.
-    let shut = still w _ _ (sym c.in-Shut.ensures) m in
+    let shut = still w _ _ (sym c.in-Shut.ensures.setup) m in
     let store = c.in-Ok.pipeline.flusher.store in
     let n = c.count-count.result in
     let opened = c.in-Ok.ensures.opened shut.1 in
     let front : IsFrontPlant w.base w.accepted w.floor store.stored.plant = (shut.2 (g.D.Disk.state store.disk).bytes opened.0).each store.stored.plant opened.1 in
-    still (after w S.Reopen (E.Opened n)) _ _ (sym c.put.ensures) (
+    still (after w S.Reopen (E.Opened n)) _ _ (sym c.put.ensures.setup) (
       c.in-Ok.ensures.«open» w.base (take (n - w.base.panel.count) w.accepted) w.floor
           (found w.base w.accepted w.floor store.stored.plant n c.count-count.ensures front) (reaches w.base w.accepted w.floor store.stored.plant n c.count-count.ensures front),
       c.in-Ok.ensures.honest.0 shut.1,
@@ -32,52 +32,55 @@ returns-in-Ok-clause-stands g c = λ w m.
 
 pub returns-in-Ok-clause-moves : goal.returns-in-Ok-clause-moves
 returns-in-Ok-clause-moves g c = λ w m.
-    let shut = still w _ _ (sym c.in-Shut.ensures) m in
+    let k = c.args.self.now.answer.refused in
+    let shut = still w _ _ (sym c.in-Shut.ensures.setup) m in
     let store = c.in-Ok.pipeline.flusher.store in
     let bytes = (g.D.Disk.state store.disk).bytes in
     let n = c.count-count.result in
     let opened = c.in-Ok.ensures.opened shut.1 in
     let front : IsFrontPlant w.base w.accepted w.floor store.stored.plant = (shut.2 bytes opened.0).each store.stored.plant opened.1 in
-    carried w S.Reopen (E.Opened n) _ _ _ _ c.in-Shut.ensures (sym c.put.ensures)
-    (opened.0, c.in-Ok.ensures.settled shut.1, subst (λ (q : Condensed). StandsFor bytes q) (found w.base w.accepted w.floor store.stored.plant n c.count-count.ensures front) opened.1)
+    carried w S.Reopen (E.Opened n) k k k _ _ _ _ _ refl (same_count c.args.self.now.answer _ _ c.put.ensures.answer c.in-Shut.ensures.answer) c.in-Shut.ensures.setup (sym c.put.ensures.setup)
+    (opened.0, c.in-Ok.ensures.settled shut.1, subst (λ (q : Condensed). StandsFor bytes q) (found w.base w.accepted w.floor store.stored.plant n c.count-count.ensures front) opened.1, c.in-Ok.ensures.idle, refl)
 
 pub returns-in-Err-clause-answer : goal.returns-in-Err-clause-answer
 returns-in-Err-clause-answer g c = λ w m.
-    let shut = still w _ _ (sym c.in-Shut.ensures) m in
+    let shut = still w _ _ (sym c.in-Shut.ensures.setup) m in
     (shut.0, storage_fault StandsFor w.base w.accepted w.floor (g.D.Disk.state c.in-Shut.disk) c.in-Err.fault (g.D.Disk.failures c.in-Shut.disk) (g.D.Disk.failures c.in-Err.disk) shut.2 (c.in-Err.ensures.cause shut.1))
 
 pub returns-in-Err-clause-stands : goal.returns-in-Err-clause-stands
 returns-in-Err-clause-stands g c = λ w m.
-    let shut = still w _ _ (sym c.in-Shut.ensures) m in
-    still w _ _ (sym c.put-in-Err.ensures) (shut.0, c.in-Err.ensures.honest_back.0 shut.1, λ image is. shut.2 image (c.in-Err.ensures.no_new_image shut.1 image is))
+    let shut = still w _ _ (sym c.in-Shut.ensures.setup) m in
+    still w _ _ (sym c.put-in-Err.ensures.setup) (shut.0, c.in-Err.ensures.honest_back.0 shut.1, λ image is. shut.2 image (c.in-Err.ensures.no_new_image shut.1 image is))
 
 pub returns-in-Err-clause-moves : goal.returns-in-Err-clause-moves
 returns-in-Err-clause-moves g c = λ w m.
-    let shut = still w _ _ (sym c.in-Shut.ensures) m in
-    carried w S.Reopen (E.Unopened c.in-Err.fault) _ _ _ _ c.in-Shut.ensures (sym c.put-in-Err.ensures) (c.in-Err.ensures.no_new_image shut.1, c.in-Err.ensures.cause shut.1)
+    let n = c.args.self.now.answer.refused in
+    let shut = still w _ _ (sym c.in-Shut.ensures.setup) m in
+    carried w S.Reopen (E.Unopened c.in-Err.fault) n n n _ _ _ _ _ refl (same_count c.args.self.now.answer _ _ c.put-in-Err.ensures.answer c.in-Shut.ensures.answer) c.in-Shut.ensures.setup (sym c.put-in-Err.ensures.setup) (c.in-Err.ensures.no_new_image shut.1, c.in-Err.ensures.cause shut.1, refl)
 
 pub returns-in-Open-clause-answer : goal.returns-in-Open-clause-answer
-returns-in-Open-clause-answer g c = λ w m possible. shut_not_open w.closed possible (still w _ _ (sym c.in-Open.ensures) m).0.opened
+returns-in-Open-clause-answer g c = λ w m possible. shut_not_open w.closed possible (still w _ _ (sym c.in-Open.ensures.setup) m).0.opened
 
 pub returns-in-Open-clause-stands : goal.returns-in-Open-clause-stands
-returns-in-Open-clause-stands g c = λ w m. still w _ _ (sym c.put-in-Open.ensures) (still w _ _ (sym c.in-Open.ensures) m)
+returns-in-Open-clause-stands g c = λ w m. still w _ _ (sym c.put-in-Open.ensures.setup) (still w _ _ (sym c.in-Open.ensures.setup) m)
 
 pub returns-in-Open-clause-moves : goal.returns-in-Open-clause-moves
-returns-in-Open-clause-moves g c = λ w m. carried w S.Reopen E.Skipped _ _ _ _ c.in-Open.ensures (sym c.put-in-Open.ensures) refl
+returns-in-Open-clause-moves g c = λ w m.
+    let n = c.args.self.now.answer.refused in carried w S.Reopen E.Skipped n n n _ _ _ _ _ refl (same_count c.args.self.now.answer _ _ c.put-in-Open.ensures.answer c.in-Open.ensures.answer) c.in-Open.ensures.setup (sym c.put-in-Open.ensures.setup) refl
 
 pub returns-in-Gone : goal.returns-in-Gone
 returns-in-Gone g c = record {
-  answer = λ w m. absurd (still w _ _ (sym c.in-Gone.ensures) m);
-  stands = λ w m. absurd (still w _ _ (sym c.in-Gone.ensures) m);
-  moves = λ w m. absurd (still w _ _ (sym c.in-Gone.ensures) m);
-  there = λ h. absurd (there _ _ (sym c.in-Gone.ensures) h);
+  answer = λ w m. absurd (still w _ _ (sym c.in-Gone.ensures.setup) m);
+  stands = λ w m. absurd (still w _ _ (sym c.in-Gone.ensures.setup) m);
+  moves = λ w m. absurd (still w _ _ (sym c.in-Gone.ensures.setup) m);
+  there = λ h. absurd (there _ _ (sym c.in-Gone.ensures.setup) h);
 }
 
 pub returns-in-Ok-clause-there : goal.returns-in-Ok-clause-there
-returns-in-Ok-clause-there g c = λ h. there _ _ (sym c.put.ensures) tt
+returns-in-Ok-clause-there g c = λ h. there _ _ (sym c.put.ensures.setup) tt
 
 pub returns-in-Err-clause-there : goal.returns-in-Err-clause-there
-returns-in-Err-clause-there g c = λ h. there _ _ (sym c.put-in-Err.ensures) tt
+returns-in-Err-clause-there g c = λ h. there _ _ (sym c.put-in-Err.ensures.setup) tt
 
 pub returns-in-Open-clause-there : goal.returns-in-Open-clause-there
-returns-in-Open-clause-there g c = λ h. there _ _ (sym c.put-in-Open.ensures) tt
+returns-in-Open-clause-there g c = λ h. there _ _ (sym c.put-in-Open.ensures.setup) tt

@@ -3,14 +3,16 @@ use Rattle.alm_model.specs.Judging.{accepted_of, entries_in}
 use Rattle.alm_rings.specs.Placed.{released_by}
 use Rattle.alm_rings.specs.Batches.{fetched_of, given_of}
 use Rattle.alm_flush.specs.declared.held.Held as H
-use Rattle.alm_flush.specs.Advances.{Within}
+use Rattle.alm_flush.specs.Advances.{IsSure, Within}
 use Rattle.alm_flush.specs.HeldBatch.{stored_of, shown_of, to_commit}
 use Rattle.alm_flush.proofs.HeldLaws.{accepted_more}
-use Rattle.alm_pipeline.specs.World.{Held, stores}
-use Rattle.alm_pipeline.specs.Matches.{IsGivenUp, stage_of, lists_of, notes_of, held_at}
-use Rattle.alm_pipeline.proofs.Calls.{committed_batch, failed_batch}
+use Rattle.alm_pipeline.specs.World.{Held, entries_at, stores}
+use Rattle.alm_pipeline.specs.Headline.{Sight}
+use Rattle.alm_pipeline.specs.Matches.{IsGivenUp, stage_of, lists_of, notes_of, held_at, sight_in}
+use Rattle.alm_pipeline.proofs.Calls.{committed_batch, failed_batch, fails_with, goes_with, may_call, may_not_call, sure_working}
 use Rattle.alm_pipeline.proofs.Moved.{opened_as}
 use Rattle.alm_disk.specs.Failures.{HasFailed}
+use Rattle.alm_store.specs.Calls.{IsCall}
 use Rattle.alm_store.specs.Advancing.{IsCalls}
 use Rattle.alm_pipeline.proofs.Ready.{fetched_next}
 use Rattle.alm_pipeline.proofs.pipeline.Pipeline.call.Goals as goal
@@ -54,19 +56,84 @@ returns-in-Committed-clause-fits g c = λ w m.
       };
     })
 
-pub returns-in-Failed-clause-moves : goal.returns-in-Failed-clause-moves
-returns-in-Failed-clause-moves g c = λ honest w m.
+pub returns-in-More-clause-moves : goal.returns-in-More-clause-moves
+returns-in-More-clause-moves g c = λ honest w m refused.
     let p = c.tell_batches.new.self in
-    let is = subst g.K.Store.honest (sym c.tell_batches.ensures.store) honest in
-    let o = c.tell_batches.ensures.«open» w m in
     let same = c.tell_batches.ensures.store in
-    let failed = failed_batch (g.K.Store.phase p.flusher.store) p.flusher.held c.advance.new.self.held o.going o.trying c.in-Failed.ensures.held in (
-      subst (λ s. IsCalls (g.K.Store.device s) (g.K.Store.device c.advance.new.self.store)) same (c.in-Failed.ensures.call is),
-      λ left. subst (λ s. HasFailed (g.K.Store.failures s) (g.K.Store.failures c.advance.new.self.store)) same (elim failed [
-        | inl f ↦ c.in-Failed.ensures.cause refl is o.going (λ spent. left (subst (λ s. g.K.Store.spent (g.K.Store.device s)) same spent)) (fetched_next p f.0 f.1 c.tell_batches.ensures.knows)
-        | inr f ↦ c.in-Failed.ensures.broken refl o.going f.0
-      ]),
+    let is = subst g.K.Store.honest (sym same) honest in
+    let o = c.tell_batches.ensures.«open» w m in
+    let phase = g.K.Store.phase p.flusher.store in (
+      may_call w (sight_in refused c.args.self.now) p.flusher.held phase o.opened o.fits.batches.held (ap g.K.Store.phase same) (goes_with phase p.flusher.held c.advance.new.self.held c.in-More.ensures.held),
+      subst (λ s. IsCall (g.K.Store.device s) (g.K.Store.device c.advance.new.self.store)) same (c.in-More.ensures.more is refl),
+      c.in-More.ensures.going o.going (λ e. absurd (cc e)),
+      refl,
     )
+
+pub returns-in-Committed-clause-moves : goal.returns-in-Committed-clause-moves
+returns-in-Committed-clause-moves g c = λ honest w m refused.
+    let p = c.tell_batches.new.self in
+    let new = c.advance.new.self in
+    let same = c.tell_batches.ensures.store in
+    let is = subst g.K.Store.honest (sym same) honest in
+    let o = c.tell_batches.ensures.«open» w m in
+    let phase = g.K.Store.phase p.flusher.store in
+    let held = committed_batch phase p.flusher.held new.held c.in-Committed.ensures.held in
+    let stage : w.stage ≡ Held held.0.entries = sym o.fits.batches.held ∙ ap stage_of held.1 in
+    let actions : to_commit p.flusher.held ≡ accepted_of (entries_at w.stage) = ap to_commit held.1 ∙ ap (λ s. accepted_of (entries_at s)) (sym stage) in (
+      λ some. subst (λ s. IsCall (g.K.Store.device s) (g.K.Store.device new.store)) same (c.in-Committed.ensures.one is (subst (λ l. 0 < length l) (sym actions) some) (λ e. absurd (cc e))),
+      λ none. let kept = c.in-Committed.ensures.none (actions ∙ none) refl in (kept.0 ∙ ap g.K.Store.device same, kept.1 ∙ ap g.K.Store.failures same),
+      c.in-Committed.ensures.at_rest refl,
+      c.in-Committed.ensures.going o.going (λ e. absurd (cc e)),
+      refl,
+    )
+
+pub returns-in-Nothing-clause-moves : goal.returns-in-Nothing-clause-moves
+returns-in-Nothing-clause-moves g c = λ honest w m refused.
+    let p = c.tell_batches.new.self in
+    let same = c.tell_batches.ensures.store in
+    let o = c.tell_batches.ensures.«open» w m in
+    let sees = λ (k : _). let at : Sight = record { state = g.K.Store.device k; failures = g.K.Store.failures k; phase = g.K.Store.phase k; refused = refused } in at in (
+      may_not_call w (sight_in refused c.args.self.now) p.flusher.held c.advance.new.self.held (g.K.Store.phase p.flusher.store) o.fits.batches.held (ap g.K.Store.phase same) c.in-Nothing.ensures.held,
+      ap sees (c.in-Nothing.ensures.nothing refl ∙ same),
+    )
+
+pub returns-in-Failed-clause-moves : goal.returns-in-Failed-clause-moves
+returns-in-Failed-clause-moves g c = λ honest w m refused.
+    let s = g.K.Store in
+    let p = c.tell_batches.new.self in
+    let h = p.flusher.held in
+    let new = c.advance.new.self in
+    let same = c.tell_batches.ensures.store in
+    let is = subst s.honest (sym same) honest in
+    let o = c.tell_batches.ensures.«open» w m in
+    let phase = s.phase p.flusher.store in
+    let failed = failed_batch phase h new.held o.going o.trying c.in-Failed.ensures.held in (
+      may_call w (sight_in refused c.args.self.now) h phase o.opened o.fits.batches.held (ap s.phase same) (fails_with phase h new.held o.going p.flusher.idle c.in-Failed.ensures.held),
+      subst (λ k. IsCalls (s.device k) (s.device new.store)) same (c.in-Failed.ensures.call is),
+      (λ working. subst (λ k. HasFailed (s.failures k) (s.failures new.store)) same (elim failed [
+        | inl f ↦ c.in-Failed.ensures.sure refl (sure_working phase (s.takes p.flusher.store (to_commit h)) o.going (λ e. working (sym (ap s.phase same) ∙ e))) (fetched_next p f.0 f.1 c.tell_batches.ensures.knows)
+        | inr f ↦ c.in-Failed.ensures.broken refl o.going f.0
+      ])),
+      (λ left. subst (λ k. HasFailed (s.failures k) (s.failures new.store)) same (elim failed [
+        | inl f ↦ c.in-Failed.ensures.cause refl is o.going (λ spent. left (subst (λ k. s.spent (s.device k)) same spent)) (fetched_next p f.0 f.1 c.tell_batches.ensures.knows)
+        | inr f ↦ c.in-Failed.ensures.broken refl o.going f.0
+      ])),
+      refl,
+    )
+
+pub returns-in-Failed-clause-sure : goal.returns-in-Failed-clause-sure
+returns-in-Failed-clause-sure g c = λ _ surely w m.
+    let s = g.K.Store in
+    let p = c.tell_batches.new.self in
+    let t = c.tell_batches.ensures in
+    let o = t.«open» w m in
+    let new = c.advance.new.self in
+    let failed = failed_batch (s.phase p.flusher.store) p.flusher.held new.held o.going o.trying c.in-Failed.ensures.held in
+    subst (λ k. HasFailed (s.failures k) (s.failures new.store)) t.store (elim failed [
+      | inl f ↦ c.in-Failed.ensures.sure refl (subst (λ (x : H.Held). IsSure (s.phase p.flusher.store) (s.takes p.flusher.store (to_commit x))) (sym t.same.3)
+          (subst (λ k. IsSure (s.phase k) (s.takes k (to_commit c.args.self.now.flusher.held))) (sym t.store) surely)) (fetched_next p f.0 f.1 t.knows)
+      | inr f ↦ c.in-Failed.ensures.broken refl o.going f.0
+    ])
 
 pub returns-in-Failed-clause-late : goal.returns-in-Failed-clause-late
 returns-in-Failed-clause-late g c = λ _ honest left w m.

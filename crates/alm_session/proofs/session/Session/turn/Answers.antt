@@ -1,4 +1,5 @@
-use Rattle.std.proofs.Common.{refl, ap, sym, ◌∙◌}
+use Rattle.std.proofs.Common.{refl, ap, sym, ◌∙◌, ◌<◌, length, subst, arith}
+use Rattle.alm_session.specs.Intakes.{Held, lines_in}
 use Rattle.alm_session.specs.Outputs.{Left}
 use Rattle.alm_session.proofs.Steps.{still, unseen, wrote_some}
 use Rattle.alm_session.proofs.Joins.{behind}
@@ -37,3 +38,11 @@ returns-in-Failed-clause-turn g c =
     let sends = c.in-Failed.ensures.sends in
     behind (unseen (c.if-receive.ensures.turn (g.W.Wire.coming c.args.wire.now) (g.W.Wire.written c.args.wire.now)))
     (still _ _ _ refl refl refl (ap (λ (o : Left). o.left) sends.0) refl c.write.ensures.coming sends.1 refl refl refl)
+
+pub returns-in-Nothing-clause-writes_first : goal.returns-in-Nothing-clause-writes_first
+returns-in-Nothing-clause-writes_first g c = λ some.
+    absurd (omega (arith, some, ap length (ap (λ (o : Left). o.left) (sym (c.if-receive.ensures.left refl)) ∙ c.in-Nothing.ensures.sends.0)))
+
+pub returns-in-Nothing-clause-takes_first : goal.returns-in-Nothing-clause-takes_first
+returns-in-Nothing-clause-takes_first g c = λ some.
+    c.go_on.ensures.takes_first (subst (λ (h : Held). 0 < length (lines_in h)) (sym c.if-receive.ensures.held) some) ∙ c.write.ensures.coming

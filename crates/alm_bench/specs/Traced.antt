@@ -1,0 +1,40 @@
+-- What a trace alone tells of a run: which actions it accepted, and how far it told of them.
+use Rattle.std.specs.Prelude.{◌-◌, ◌++◌, ℕ, max, List, [], ◌∷◌, take}
+use Rattle.alm_types.specs.declared.action.Action.{Action}
+use Rattle.alm_model.specs.Plant.{Condensed}
+use Rattle.alm_model.specs.Judging.{when_accepted}
+use Rattle.alm_keeper.specs.AsStore.{StandsFor}
+use Rattle.alm_pipeline.specs.declared.event.Event.{Event}
+use Rattle.alm_pipeline.specs.declared.event.Event.TheVariants.{Took, Received, Looked, Opened}
+use Rattle.alm_store.specs.Recovery.{IsSafe}
+
+-- what is accepted behind an event, where `first` is the count of the plant at the very first: an action that was taken so joins the
+-- list; an opening leaves the first so many
+abbrev pub with_event : (first : ℕ) → List Action → Event → List Action
+with_event first list (Took verdict) = list ++ when_accepted verdict
+with_event first list (Opened count) = take (count - first) list
+with_event first list event = list
+
+-- .. and behind a trace
+abbrev pub accepted_from : (first : ℕ) → List Action → List Event → List Action
+accepted_from first list [] = list
+accepted_from first list (event ∷ trace) = accepted_from first (with_event first list event) trace
+
+-- the actions that a trace accepted, from this plant on
+abbrev pub accepted_in : Condensed → List Event → List Action
+accepted_in plant trace = accepted_from plant.panel.count [] trace
+
+-- the number of a receipt, or the count of a look
+abbrev pub told_by : Event → ℕ
+told_by (Received serial verdict number) = number
+told_by (Looked count) = count
+told_by event = 0
+
+-- the greatest in a trace
+abbrev pub told_in : List Event → ℕ
+told_in [] = 0
+told_in (event ∷ trace) = max (told_by event) (told_in trace)
+
+-- the image stands for the plant of the first so many actions that the trace accepted, and for no other; they reach all that it told
+abbrev pub KeepsTold : Condensed → List Event → List ℕ → Type 0
+KeepsTold plant trace image = IsSafe StandsFor plant (accepted_in plant trace) (told_in trace) image
