@@ -341,3 +341,37 @@ fn a_segment_half_full_makes_a_checkpoint(rt: HostRuntime) -> Result<(), Fail> {
     assert_eq!(rt; goes_so(alloc, CALLS, &steps, &wanted)?, None);
     Ok(())
 }
+
+/// Four slots send 64 requests each, and one more slot one: the batch takes 256 of them, and the last one once it is sealed.
+#[test]
+fn a_batch_has_256_entries(rt: HostRuntime) -> Result<(), Fail> {
+    let alloc = rt.alloc();
+    let refused = Verdict::Refused(Refusal::NotUnacknowledged, 0);
+    let ack = Action::Ack(AlarmId(0));
+    let mut steps = Vec::new(alloc);
+    let mut wanted = Vec::new(alloc);
+    steps.push(Step::Reopen)?;
+    wanted.push(Event::Opened(0))?;
+    for slot in 0..4 {
+        let slot = Slot::new(slot).ok_or("slot")?;
+        for serial in 1..=64 {
+            steps.push(Step::Send(slot, ack))?;
+            wanted.push(Event::Sent(serial))?;
+            steps.push(Step::Take(slot))?;
+            wanted.push(Event::Took(refused))?;
+        }
+    }
+    let last = Slot::new(4).ok_or("slot")?;
+    steps.push(Step::Send(last, ack))?;
+    wanted.push(Event::Sent(1))?;
+    for (step, event) in [
+        (Step::Take(last), Event::Skipped),
+        (Step::Seal, Event::Sealed),
+        (Step::Take(last), Event::Took(refused)),
+    ] {
+        steps.push(step)?;
+        wanted.push(event)?;
+    }
+    assert_eq!(rt; goes_so(alloc, CALLS, &steps, &wanted)?, None);
+    Ok(())
+}
