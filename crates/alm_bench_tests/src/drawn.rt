@@ -72,10 +72,13 @@ fn sender(drawn: u64, action: &Action) -> Result<Slot, Fail> {
 }
 
 fn query(drawn: u64) -> Query {
-    match below(drawn, 20, 4) {
+    match below(drawn, 20, 7) {
         0 => Query::State(AlarmId(below(drawn, 8, 5))),
         1 => Query::Priority(below(drawn, 8, 6)),
         2 => Query::Flood(below(drawn, 8, 3)),
+        3 => Query::Area(below(drawn, 8, 3)),
+        4 => Query::Stale,
+        5 => Query::Chatter,
         _ => Query::Wheel(below(drawn, 8, 300)),
     }
 }

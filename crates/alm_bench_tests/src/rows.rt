@@ -1,7 +1,7 @@
 //! The worked rows.
 
 use crate::traces::{differs_at, formatted, trace};
-use alm_bench::{Bench, Event, Step};
+use alm_bench::{Bench, Event, Step, life};
 use alm_disk::MemDisk;
 use alm_keeper::OpenFault;
 use alm_types::{Action, AlarmId, Moment, Query, Reading, Refusal, Slot, Verdict};
@@ -339,5 +339,92 @@ fn a_segment_half_full_makes_a_checkpoint(rt: HostRuntime) -> Result<(), Fail> {
     steps.push(Step::Reopen)?;
     wanted.push(Event::Opened(120))?;
     assert_eq!(rt; goes_so(alloc, CALLS, &steps, &wanted)?, None);
+    Ok(())
+}
+
+/// Four slots send 64 requests each, and one more slot one: the batch takes 256 of them, and the last one once it is sealed.
+#[test]
+fn a_batch_has_256_entries(rt: HostRuntime) -> Result<(), Fail> {
+    let alloc = rt.alloc();
+    let refused = Verdict::Refused(Refusal::NotUnacknowledged, 0);
+    let ack = Action::Ack(AlarmId(0));
+    let mut steps = Vec::new(alloc);
+    let mut wanted = Vec::new(alloc);
+    steps.push(Step::Reopen)?;
+    wanted.push(Event::Opened(0))?;
+    for slot in 0..4 {
+        let slot = Slot::new(slot).ok_or("slot")?;
+        for serial in 1..=64 {
+            steps.push(Step::Send(slot, ack))?;
+            wanted.push(Event::Sent(serial))?;
+            steps.push(Step::Take(slot))?;
+            wanted.push(Event::Took(refused))?;
+        }
+    }
+    let last = Slot::new(4).ok_or("slot")?;
+    steps.push(Step::Send(last, ack))?;
+    wanted.push(Event::Sent(1))?;
+    for (step, event) in [
+        (Step::Take(last), Event::Skipped),
+        (Step::Seal, Event::Sealed),
+        (Step::Take(last), Event::Took(refused)),
+    ] {
+        steps.push(step)?;
+        wanted.push(event)?;
+    }
+    assert_eq!(rt; goes_so(alloc, CALLS, &steps, &wanted)?, None);
+    Ok(())
+}
+
+/// Where the epoch stands of the half that stands at first, and what follows it.
+const EPOCH: (usize, usize) = (24, 32);
+
+/// A device that is formatted for the worked table, and stands in the last epoch.
+fn in_the_last_epoch(alloc: Global) -> Result<MemDisk, Fail> {
+    let mut bytes = formatted(alloc, CALLS)?.into_bytes();
+    for place in EPOCH.0..EPOCH.1 {
+        *bytes.get_mut(place).ok_or("an epoch")? = 0xFF;
+    }
+    Ok(MemDisk::new(alloc, bytes, CALLS)?)
+}
+
+/// The first place where the trace of these steps over a device isn't the one that is wanted.
+fn lives_so(
+    alloc: Global,
+    disk: MemDisk,
+    steps: &[Step],
+    wanted: &[Event],
+) -> Result<Option<usize>, Fail> {
+    let (trace, _left) = life(alloc, disk, steps).ok().ok_or("a run")?;
+    Ok(differs_at(&trace, wanted))
+}
+
+/// In the last epoch no checkpoint makes room: a segment of 4,116 bytes takes 117 frames of one action, each of 35 bytes, and a closed
+/// gate. Then the device is closed, and opens with those.
+#[test]
+fn the_last_epoch_has_room_for_one_segment(rt: HostRuntime) -> Result<(), Fail> {
+    let alloc = rt.alloc();
+    let clock = Slot::new(17).ok_or("slot")?;
+    let last = Action::Clock(Moment::new(118).ok_or("moment")?);
+    let mut steps = Vec::new(alloc);
+    let mut wanted = Vec::new(alloc);
+    steps.push(Step::Reopen)?;
+    wanted.push(Event::Opened(0))?;
+    for turn in 1..=117 {
+        tick(&mut steps, &mut wanted, clock, turn, 4)?;
+    }
+    for (step, event) in [
+        (Step::Send(clock, last), Event::Sent(118)),
+        (Step::Take(clock), Event::Took(Verdict::Accepted(last))),
+        (Step::Seal, Event::Sealed),
+        (Step::Fetch, Event::Fetched),
+        (Step::Call, Event::Failed),
+        (Step::Reopen, Event::Opened(117)),
+    ] {
+        steps.push(step)?;
+        wanted.push(event)?;
+    }
+    let disk = in_the_last_epoch(alloc)?;
+    assert_eq!(rt; lives_so(alloc, disk, &steps, &wanted)?, None);
     Ok(())
 }

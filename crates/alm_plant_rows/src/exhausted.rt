@@ -2,6 +2,7 @@
 
 use crate::want::Want;
 use alm_model::{Alarms, PlainPlant, PlantParts};
+use alm_plant::Plant;
 use alm_service::worked_table;
 use alm_types::{Refusal, Request, Slot};
 use std::alloc::Global;
@@ -45,6 +46,13 @@ fn first_wrong<P: Alarms + Drop>(alloc: Global) -> Result<Option<Want>, Fail> {
 #[test]
 fn a_full_plant_refuses_last_for_want_of_numbers(rt: HostRuntime) -> Result<(), Fail> {
     let wrong = first_wrong::<PlainPlant>(rt.alloc())?;
+    assert!(rt; wrong.is_none(), "{wrong:?}");
+    Ok(())
+}
+
+#[test]
+fn a_full_linked_plant_refuses_last_for_want_of_numbers(rt: HostRuntime) -> Result<(), Fail> {
+    let wrong = first_wrong::<Plant>(rt.alloc())?;
     assert!(rt; wrong.is_none(), "{wrong:?}");
     Ok(())
 }

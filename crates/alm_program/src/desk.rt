@@ -14,7 +14,7 @@ use std::fs::{File, Files};
 use std::io::{self, BufWriter};
 
 /// Runs a desk over a backend. Where the storage stops it goes on to the end of the input, and stopped is its fault.
-fn run_over<R: Input + Print + AllocGlobal, B: Backend + Drop>(
+pub fn run_desk_over<R: Input + Print + AllocGlobal, B: Backend + Drop>(
     rt: &R,
     backend: B,
 ) -> Result<(), Fault> {
@@ -34,7 +34,7 @@ fn run_over<R: Input + Print + AllocGlobal, B: Backend + Drop>(
 pub fn run_desk<R: Input + Print + AllocGlobal>(rt: &R) -> Result<(), Fault> {
     let table = worked_table(rt.alloc())?;
     let plant = Plant::new(rt.alloc(), &table)?;
-    run_over(rt, plant)
+    run_desk_over(rt, plant)
 }
 
 /// Opens the stack over a file.
@@ -52,5 +52,5 @@ pub fn run_device_desk<R: Input + Print + Files<File = File> + AllocGlobal>(
 ) -> Result<(), Fault> {
     let disk = FileDisk::open(rt, device).map_err(file_fault)?;
     let stack = open_stack(rt.alloc(), disk)?;
-    run_over(rt, stack)
+    run_desk_over(rt, stack)
 }

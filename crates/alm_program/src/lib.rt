@@ -36,6 +36,7 @@ mod program;
 mod serve_order;
 mod showing;
 
+pub use desk::run_desk_over;
 pub use fault::Fault;
 pub use fault_line::print_fault;
 pub use io_faults::file_fault;

@@ -21,4 +21,8 @@ mod script;
 #[cfg(test)]
 mod serving;
 #[cfg(test)]
+mod shown;
+#[cfg(test)]
+mod stopping;
+#[cfg(test)]
 mod stories;

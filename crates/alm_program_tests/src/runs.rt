@@ -21,10 +21,10 @@ pub const TABLE_FAULT: &str = "ExitCode(unix_exit_status(2))";
 pub const BROKEN: &str = "ExitCode(unix_exit_status(3))";
 
 /// More writes than a run makes.
-const MANY: usize = 10_000;
+pub const MANY: usize = 10_000;
 
 /// Whether a status is shown so.
-fn is_status(alloc: Global, status: ExitCode, wanted: &str) -> bool {
+pub fn is_status(alloc: Global, status: ExitCode, wanted: &str) -> bool {
     match format!(in alloc; "{status:?}") {
         Ok(status) => status.as_str() == wanted,
         Err(_) => false,
