@@ -1,9 +1,9 @@
 -- What a server writes.
-use Rattle.std.specs.Prelude.{◌≡◌, ℕ, List, [], ◌++◌, Option, Result, Ok, Err, codes, decimal}
+use Rattle.std.specs.Prelude.{ℕ, List, [], ◌++◌, Option, Result, Ok, Err, codes, decimal}
 use Rattle.std.specs.Io.KnownBytes.{Appends}
 use Rattle.alm_lines.specs.Written.{IsCutShort}
 use Rattle.alm_serve.specs.declared.serve_fault.ServeFault.{ServeFault}
-use Rattle.alm_serve.specs.declared.serve_fault.ServeFault.TheVariants.{Open, Net, Write, Memory, Storage}
+use Rattle.alm_serve.specs.declared.serve_fault.ServeFault.TheVariants.{Open, Net}
 
 -- the line once the ports are bound
 abbrev pub serving_line : ℕ → List ℕ

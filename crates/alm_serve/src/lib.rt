@@ -10,8 +10,10 @@
 //!
 //! `Memory`, for want of memory or of a thread, may come at any step behind the first.
 //!
-//! What is used above: what stands written, by how it ends; N is how many actions are stored. Whatever its end, what the device stands
-//! for is what its keeper says at any moment: the actions that were answered, and none that wasn't asked.
+//! What is used above: what stands written, by how it ends; N is how many actions are stored. And what was run: from the plant for which
+//! an image of the device stands, a run of all slots in threads, at each moment of which whatever a crash leaves of an honest device
+//! stands for a front of the run's history that holds all that had been told by then. It ends well just where that run was whole; that the
+//! storage stopped is said only where it wasn't.
 //!
 //! Not promised: anything of what a socket gives or takes, that it ever ends, and any time. There are no accounts: whoever reaches a port
 //! of loopback has the role of its slot.

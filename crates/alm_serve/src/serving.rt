@@ -1,21 +1,23 @@
 //! Serves the slots of a device.
 
-ghost use Rattle.std.specs.Prelude.{◌≡◌, ◌≤◌, ◌<◌, ◌^◌, length, vec_len, IfOk};
+ghost use Rattle.std.specs.Prelude.{◌≡◌, ◌≢◌, ◌≤◌, ◌<◌, ◌^◌, length, vec_len, IfOk, IfErr, Some, None};
 ghost use Rattle.alm_lines.specs.Written.{Prints};
 ghost use Rattle.alm_rings.specs.Placed.{AreApart};
+ghost use Rattle.alm_keeper.specs.AsStore.{StandsFor};
+ghost use Rattle.alm_serve.specs.Runs.{AreAllSlots, ServeEnds, Tells};
 ghost use Rattle.alm_serve.specs.Serving.{serving_line, stopped_line, ServeWrites};
 
 use crate::serve_fault::ServeFault;
 use alm_disk::{Disk, Free};
-use alm_keeper::{Keeper, Phase, open_store};
+use alm_keeper::{Keeper, OpenFault, Phase};
 use alm_lines::{Part, put_parts};
 use alm_model::Alarms;
 use alm_plant::Plant;
 use alm_ports::{Doors, PortFault, open_doors};
-use alm_run::{StartFault, Storage};
+use alm_run::StartFault;
 use alm_shared::{Front, Naming, NewHistory, SharedBoard, SharedLook};
 use alm_store::Store;
-use alm_threads::{Parts, WatchedLook, parts_of, run_with_bells};
+use alm_threads::{Parts, Storage, WatchedLook, parts_of, run_with_bells};
 use alm_types::Slot;
 use std::alloc::{AllocError, Global};
 use std::io;
@@ -57,6 +59,7 @@ fn print_stopped<W: io::Write>(count: u64, writer: &mut W) -> io::Result<()>
 fn all_slots(alloc: Global) -> Result<Vec<Slot>, AllocError>
     ensures count { IfOk result (λ slots. length slots.items ≡ 18) }
     ensures apart { IfOk result (λ slots. AreApart (λ s. s) slots.items) }
+    ensures order { IfOk result (λ slots. AreAllSlots slots.items) }
 {
     let mut slots = Vec::with_capacity(alloc, 18)?;
     for number in 0..18_u8 {
@@ -81,7 +84,10 @@ fn run_parts<
     parts: Parts<Front<J>, WatchedLook<'h, SharedLook<J, P>, Free>, SharedBoard<J, P>, K>,
     doors: Doors,
 ) -> Result<Option<u64>, StartFault>
-    requires { vec_len doors.doors ≡ length parts.slots.items }
+    requires doors { vec_len doors.doors ≡ length parts.slots.items }
+    requires slots { AreAllSlots parts.slots.items }
+    ensures { IfOk result (λ told. Tells (K.honest parts.entry.middle.flusher.store) K.recovers
+        (K.stored parts.entry.middle.flusher.store) (K.device parts.entry.middle.flusher.store) told) }
 {
     let Doors { doors, bells } = doors;
     let report = run_with_bells(rt, alloc, parts, &Free, bells, doors)?;
@@ -104,9 +110,10 @@ fn run_behind<J: Naming + Send + Sync, K: Store, R: Threads + Wait + Clock + Syn
     requires base { K.stored store ≡ J.base }
     requires idle { K.phase store ≡ Phase.Idle }
     requires limit { (K.stored store).panel.count ≤ 2 ^ 48 }
-    requires slots { length slots.items ≡ 18 }
+    requires slots { AreAllSlots slots.items }
     requires apart { AreApart (λ s. s) slots.items }
     requires doors { vec_len doors.doors ≡ 18 }
+    ensures { IfOk result (λ told. Tells (K.honest store) K.recovers (K.stored store) (K.device store) told) }
 {
     match parts_of::<J, K, Free, R>(rt, alloc, history, store, slots, &Free) {
         Ok(parts) => run_parts::<J, Plant, K, R>(rt, alloc, parts, doors),
@@ -134,7 +141,10 @@ fn serve_over<
     requires idle { K.phase store ≡ Phase.Idle }
     requires limit { (K.stored store).panel.count ≤ 2 ^ 48 }
     requires port { port ≤ 65518 }
-    ensures { ServeWrites port (W.contents writer.old) (W.contents writer.new) result }
+    ensures writes { ServeWrites port (W.contents writer.old) (W.contents writer.new) result }
+    ensures ran { IfOk result (λ count. Tells (K.honest store) K.recovers (K.stored store) (K.device store) (Some count)) }
+    ensures stopped { IfErr result (λ fault. fault ≡ ServeFault.Storage → Tells (K.honest store) K.recovers (K.stored store) (K.device store) None) }
+    ensures opened { IfErr result (λ fault. (why : OpenFault) → fault ≢ ServeFault.Open why) }
 {
     let slots = match all_slots(alloc) {
         Ok(slots) => slots,
@@ -164,6 +174,9 @@ fn serve_over<
 ///
 /// It opens the device, binds the ports, writes `serving P` and starts the threads, in this order; and at the end writes `stopped
 /// N`: how many actions are stored.
+///
+/// What is done in between is a run of the server's threads. Whatever moment the power fails at, an honest device stands for a front
+/// of the run's one history that holds every number which was released by then, and all that a look can have shown.
 pub fn serve_run<D: Disk + Drop, W: io::Write, R: Net + Threads + Wait + Clock + Sync>(
     rt: &R,
     alloc: Global,
@@ -173,9 +186,10 @@ pub fn serve_run<D: Disk + Drop, W: io::Write, R: Net + Threads + Wait + Clock +
     writer: &mut W,
 ) -> Result<u64, ServeFault>
     requires { port ≤ 65518 }
-    ensures { ServeWrites port (W.contents writer.old) (W.contents writer.new) result }
+    ensures writes { ServeWrites port (W.contents writer.old) (W.contents writer.new) result }
+    ensures ends { ServeEnds (D.honest disk) StandsFor (D.state disk) (D.failures disk) result }
 {
-    match open_store(alloc, disk) {
+    match <Keeper<D> as Store>::open(alloc, disk) {
         Ok(keeper) => {
             let history = NewHistory::new();
             serve_over::<Brand, Keeper<D>, W, R>(rt, alloc, history, keeper, port, conns, writer)

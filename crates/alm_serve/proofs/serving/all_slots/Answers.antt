@@ -1,4 +1,4 @@
-use Rattle.std.proofs.Common.{rules, ◌≡◌, ◌∷◌, ℕ, [], length, slice_get, inl, inr, ap, sym, ◌∙◌, arith, length-append}
+use Rattle.std.proofs.Common.{rules, ◌≡◌, ◌∷◌, [], length, slice_get, inl, inr, ap, sym, ◌∙◌, arith, length-append}
 use Rattle.alm_rings.proofs.Ordered.{push_cases}
 use Rattle.alm_serve.proofs.serving.all_slots.Goals as goal
 

@@ -1,0 +1,85 @@
+-- What a run leaves, said with less, and by how a server ends.
+use Rattle.std.proofs.Common.{◌≡◌, ◌⊎◌, ℕ, List, Option, Some, None, false, refl}
+use Rattle.std.specs.Prelude.{Result, Ok, Err, IfOk, IfErr, ◌≢◌}
+use Rattle.alm_types.specs.declared.action.Action.{Action}
+use Rattle.alm_disk.specs.Device.{DeviceState, IsImage}
+use Rattle.alm_model.specs.Plant.{Condensed}
+use Rattle.alm_rings.specs.declared.slot_report.SlotReport.{SlotReport}
+use Rattle.alm_store.specs.declared.open_fault.OpenFault.{OpenFault}
+use Rattle.alm_store.specs.declared.phase.Phase.{Phase}
+use Rattle.alm_run.specs.Histories.{LeavesOneOf}
+use Rattle.alm_threads.specs.Runs.{IsRun}
+use Rattle.alm_serve.specs.declared.serve_fault.ServeFault.{ServeFault}
+use Rattle.alm_serve.specs.declared.serve_fault.ServeFault.TheVariants.{Open, Net, Write, Memory, Storage}
+use Rattle.alm_serve.specs.Runs.{Serves, Tells, ServeEnds}
+
+run_map : (leaves leaves' : Condensed → Condensed → Type 0) (endures endures' : List Action → ℕ → Type 0) (base : Condensed) (slots : List ℕ) (stored : Condensed) (reports : List (Option SlotReport))
+    → ((p q : Condensed) → leaves p q → leaves' p q) → ((actions : List Action) (n : ℕ) → endures actions n → endures' actions n)
+    → IsRun leaves endures base slots stored reports → IsRun leaves' endures' base slots stored reports
+run_map leaves leaves' endures endures' base slots stored reports left course r = record {
+  entries = r.entries;
+  legal = r.legal;
+  kept = r.kept;
+  front = r.front;
+  stored_is = r.stored_is;
+  waiting = r.waiting;
+  ahead = r.ahead;
+  device = left _ _ r.device;
+  told = r.told;
+  within = r.within;
+  course = course _ _ r.course;
+  count = r.count;
+  each = r.each;
+}
+
+pub run_by : (before after : Type 0) (recovers : List ℕ → Condensed → Type 0) (to : DeviceState) (endures : List Action → ℕ → Type 0) (base : Condensed) (slots : List ℕ) (stored : Condensed) (reports : List (Option SlotReport))
+    → IsRun (LeavesOneOf before after recovers to) endures base slots stored reports
+    → IsRun (λ p q. before → (b : List ℕ) → IsImage to b → ∥ recovers b p ⊎ recovers b q ∥₁) endures base slots stored reports
+run_by before after recovers to endures base slots stored reports r =
+    run_map (LeavesOneOf before after recovers to) (λ p q. before → (b : List ℕ) → IsImage to b → ∥ recovers b p ⊎ recovers b q ∥₁) endures endures base slots stored reports
+    (λ p q left h. left.1 (left.0.0 h)) (λ actions n course. course) r
+
+module _ (honest honest' : Type 0) (recovers : List ℕ → Condensed → Type 0) (is : honest → honest') where
+  serves_by : (base : Condensed) (from : DeviceState) (ended : Phase → List (Option SlotReport) → Type 0) (count : ℕ) → Serves honest' recovers base from ended count → Serves honest recovers base from ended count
+  serves_by base from ended count s = record {
+    slots = s.slots;
+    all = s.all;
+    stored = s.stored;
+    counted = s.counted;
+    phase = s.phase;
+    reports = s.reports;
+    end = s.end;
+    to = s.to;
+    run = run_map _ _ _ _ base s.slots s.stored s.reports (λ p q left h. left (is h)) (λ actions n course h. course (is h)) s.run;
+  }
+
+  tells_by : (base : Condensed) (from : DeviceState) (told : Option ℕ) → Tells honest' recovers base from told → Tells honest recovers base from told
+  tells_by base from (Some count) s = serves_by base from _ count s
+  tells_by base from None s = (s.0, serves_by base from _ s.0 s.1)
+
+  pub ends_of : (device opened : DeviceState) (failures : ℕ) (base : Condensed) (result : Result ℕ ServeFault)
+      → (honest → IsImage device opened.bytes × recovers opened.bytes base) → (honest → (place : ℕ) → opened.pending place ≡ false)
+      → IfOk result (λ count. Tells honest' recovers base opened (Some count))
+      → IfErr result (λ fault. fault ≡ Storage → Tells honest' recovers base opened None)
+      → IfErr result (λ fault. (why : OpenFault) → fault ≢ Open why)
+      → ServeEnds honest recovers device failures result
+  ends_of device opened failures base (Ok count) stands settled ran stopped opens = record {
+    opened = opened;
+    base = base;
+    image = λ h. (stands h).0;
+    stands = λ h. (stands h).1;
+    settled = settled;
+    tells = tells_by base opened (Some count) ran;
+  }
+  ends_of device opened failures base (Err Storage) stands settled ran stopped opens = record {
+    opened = opened;
+    base = base;
+    image = λ h. (stands h).0;
+    stands = λ h. (stands h).1;
+    settled = settled;
+    tells = tells_by base opened None (stopped refl);
+  }
+  ends_of device opened failures base (Err (Open why)) stands settled ran stopped opens = absurd (opens why refl)
+  ends_of device opened failures base (Err Net) stands settled ran stopped opens = tt
+  ends_of device opened failures base (Err Write) stands settled ran stopped opens = tt
+  ends_of device opened failures base (Err Memory) stands settled ran stopped opens = tt

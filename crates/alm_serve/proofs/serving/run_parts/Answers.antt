@@ -1,0 +1,39 @@
+use Rattle.std.proofs.Common.{refl, sym, ◌∙◌}
+use Rattle.std.proofs.Props.{props}
+use Rattle.std.proofs.Math.Logic.{∥∥₁_elim}
+use Rattle.alm_serve.proofs.Runs.{run_by}
+use Rattle.alm_serve.proofs.serving.run_parts.Goals as goal
+
+pub returns-in-Whole : goal.returns-in-Whole
+returns-in-Whole g c =
+    let s = g.K.Store in
+    let r = c.in_ok-report.report in
+    record {
+      slots = c.args.parts.slots.items;
+      all = c.requires.slots;
+      stored = s.stored r.keeper;
+      counted = c.count.ensures;
+      phase = s.phase r.keeper;
+      reports = r.slots.items;
+      end = (r.goes_on c.in-Whole.is, r.answered c.in-Whole.is);
+      to = s.device r.keeper;
+      run = run_by _ _ s.recovers (s.device r.keeper) _ _ _ _ _ c.in_ok-report.ensures.run;
+    }
+
+pub returns : goal.returns
+returns g c =
+    let s = g.K.Store in
+    let r = c.in_ok-report.report in (
+      (s.stored r.keeper).panel.count,
+      record {
+        slots = c.args.parts.slots.items;
+        all = c.requires.slots;
+        stored = s.stored r.keeper;
+        counted = refl;
+        phase = s.phase r.keeper;
+        reports = r.slots.items;
+        end = λ whole. ∥∥₁_elim whole.1 (hlevel props) (λ answered. absurd (cc (sym (r.whole whole.0 answered) ∙ c.in-Stopped.is)));
+        to = s.device r.keeper;
+        run = run_by _ _ s.recovers (s.device r.keeper) _ _ _ _ _ c.in_ok-report.ensures.run;
+      },
+    )

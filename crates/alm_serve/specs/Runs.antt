@@ -1,0 +1,56 @@
+-- What a server's run has done.
+use Rattle.std.specs.Prelude.{◌≡◌, ◌≢◌, ◌⊎◌, ℕ, false, List, length, Option, Some, None, Result, Ok, Err, slice_get}
+use Rattle.alm_disk.specs.Device.{DeviceState, IsImage}
+use Rattle.alm_model.specs.Plant.{Condensed}
+use Rattle.alm_rings.specs.declared.slot_report.SlotReport.{SlotReport}
+use Rattle.alm_store.specs.declared.phase.Phase.{Phase}
+use Rattle.alm_store.specs.declared.phase.Phase.TheVariants.{Stopped}
+use Rattle.alm_store.specs.Opening.{HasCause}
+use Rattle.alm_run.specs.Moments.{Endures}
+use Rattle.alm_threads.specs.Answered.{AllAnswered}
+use Rattle.alm_threads.specs.Runs.{IsRun}
+use Rattle.alm_serve.specs.declared.serve_fault.ServeFault.{ServeFault}
+use Rattle.alm_serve.specs.declared.serve_fault.ServeFault.TheVariants.{Open, Storage}
+
+-- the 18 slots, in their order
+pub record AreAllSlots (slots : List ℕ) : Type 0 where
+  pub count : length slots ≡ 18
+  pub order : (k s : ℕ) → slice_get slots k ≡ Some s → s ≡ k
+
+-- the store goes on, and all that was sent was taken and answered
+abbrev pub IsWhole : Phase → List (Option SlotReport) → Type 0
+IsWhole phase reports = (phase ≢ Stopped) × ∥ AllAnswered reports ∥₁
+
+module _ (honest : Type 0) (recovers : List ℕ → Condensed → Type 0) where
+  -- from this plant and this device on all slots were served in one run, at whose end so many actions are stored, and which ended so
+  pub record Serves (base : Condensed) (from : DeviceState) (ended : Phase → List (Option SlotReport) → Type 0) (count : ℕ) : Type 0 where
+    pub slots : List ℕ
+    pub all : AreAllSlots slots
+    pub stored : Condensed
+    pub counted : count ≡ stored.panel.count
+    pub phase : Phase
+    pub reports : List (Option SlotReport)
+    pub end : ended phase reports
+    pub to : DeviceState
+    pub run : IsRun (λ p q. honest → (b : List ℕ) → IsImage to b → ∥ recovers b p ⊎ recovers b q ∥₁) (Endures honest recovers base from to) base slots stored reports
+
+  -- .. by what is told: how many actions are stored where the run was whole
+  abbrev pub Tells : Condensed → DeviceState → Option ℕ → Type 0
+  Tells base from (Some count) = Serves base from IsWhole count
+  Tells base from None = (count : ℕ) × Serves base from (λ phase reports. ¬ (IsWhole phase reports)) count
+
+  -- the device was opened: what was read is an image of it that stands for the plant from which the run goes on
+  pub record Opens (device : DeviceState) (told : Option ℕ) : Type 0 where
+    pub opened : DeviceState
+    pub base : Condensed
+    pub image : honest → IsImage device opened.bytes
+    pub stands : honest → recovers opened.bytes base
+    pub settled : honest → (place : ℕ) → opened.pending place ≡ false
+    pub tells : Tells base opened told
+
+  -- by how the server ends, over a device that has failed so often
+  abbrev pub ServeEnds : DeviceState → (failures : ℕ) → Result ℕ ServeFault → Type 0
+  ServeEnds device failures (Ok count) = Opens device (Some count)
+  ServeEnds device failures (Err Storage) = Opens device None
+  ServeEnds device failures (Err (Open fault)) = honest → (now : ℕ) × HasCause recovers device fault failures now
+  ServeEnds device failures (Err other) = Unit {0}
