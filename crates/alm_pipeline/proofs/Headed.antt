@@ -1,7 +1,6 @@
 -- The headline from what the parts keep.
-use Rattle.std.proofs.Common.{◌≡◌, ◌⊎◌, ⊎_elim, ◌+◌, ◌-◌, ◌≤◌, ℕ, List, [], ◌∷◌, ◌++◌, length, take, refl, sym, ◌∙◌, ap, subst, arith, append_assoc, length-append}
-use Rattle.std.proofs.lemmas.List.{append-nil, take_at}
-use Rattle.std.proofs.Props.{props}
+use Rattle.std.proofs.Common.{◌≡◌, ◌⊎◌, ⊎_elim, ◌+◌, ◌-◌, ◌≤◌, ℕ, List, [], ◌∷◌, ◌++◌, length, refl, sym, ◌∙◌, ap, subst, arith, append_assoc, length-append}
+use Rattle.std.proofs.lemmas.List.{append-nil}
 use Rattle.std.proofs.Math.Logic.{∥∥₁_elim}
 use Rattle.alm_disk.specs.Device.{IsBytes, IsImage}
 use Rattle.alm_model.specs.Step.{run}
@@ -12,7 +11,7 @@ use Rattle.alm_model.specs.Plant.{Condensed}
 use Rattle.alm_model.specs.Rules.{KeepsRules}
 use Rattle.alm_types.specs.Batches.{Judged}
 use Rattle.alm_model.proofs.Legal.{accepted_append}
-use Rattle.alm_model.proofs.Runs.{run_append, run_count}
+use Rattle.alm_model.proofs.Runs.{run_append}
 use Rattle.alm_rings.specs.Batches.{fetched_of, sealed_of}
 use Rattle.alm_model.proofs.Legal.{entries_append}
 use Rattle.alm_disk.specs.declared.disk.Disk
@@ -22,7 +21,6 @@ use Rattle.alm_flush.specs.declared.held.Held.{Held}
 use Rattle.alm_flush.specs.declared.held.Held.TheVariants.{Nothing, Fetched, Failed, Committed, Published}
 use Rattle.alm_pipeline.specs.declared.pipeline.Pipeline.{Pipeline}
 use Rattle.alm_pipeline.specs.World.{World}
-use Rattle.alm_model.proofs.ByStamp.{by-stamp-permutation, by-stamp-rises}
 use Rattle.alm_store.specs.Recovery.{IsFrontPlant}
 use Rattle.alm_store.proofs.Recovery.{front_prop, front_is, safe_by}
 use Rattle.alm_pipeline.specs.Headline.{Headline}

@@ -1,6 +1,6 @@
 -- Slots that are closed one after the other.
 use Rattle.std.proofs.Common.{◌≡◌, ◌≢◌, ◌≤◌, ◌∙◌, ◌++◌, ℕ, zero, suc, List, [], ◌∷◌, length, Option, Some, None, slice_get, refl, sym, ap, arith, length-append}
-use Rattle.std.specs.Prelude.{IsSome, min}
+use Rattle.std.specs.Prelude.{IsSome}
 use Rattle.std.proofs.lemmas.Option.{none-some, slice_get_within}
 use mathlib.Core.List.{IsPrefix}
 use Rattle.alm_rings.specs.Placed.{AreApart}
@@ -31,9 +31,3 @@ is_there (Some a) is some = none-some a (sym is)
 pub there_is : {A : Type 0} (o : Option A) → IsSome o → (a : A) × (o ≡ Some a)
 there_is None some = absurd (cc some)
 there_is (Some a) some = (a, refl)
-
-pub min_le : (a b m : ℕ) → a ≤ b → min a m ≤ min b m
-min_le a b m less = omega (arith, less)
-
-pub later : (a b m x y : ℕ) → a ≤ b → x ≡ min a m → y ≡ min b m → x ≤ y
-later a b m x y less p q = omega (arith, p, q, min_le a b m less)

@@ -1,5 +1,5 @@
 -- What was told before an outage is there after it.
-use Rattle.std.proofs.Common.{◌≡◌, ◌⊎◌, inl, inr, ◌≤◌, ◌+◌, ◌-◌, ◌∙◌, ℕ, List, [], ◌∷◌, ◌++◌, length, take, refl, sym, ap, subst, arith}
+use Rattle.std.proofs.Common.{◌≡◌, inl, inr, ◌≤◌, ◌+◌, ◌-◌, ◌∙◌, ℕ, List, [], ◌∷◌, ◌++◌, take, sym, ap, subst, arith}
 use Rattle.std.specs.Prelude.{All, max}
 use Rattle.std.proofs.lemmas.List.Elements.{All-nil, All-cons}
 use Rattle.alm_types.specs.declared.action.Action.{Action}
@@ -7,7 +7,7 @@ use Rattle.alm_model.specs.Plant.{Condensed}
 use Rattle.alm_model.specs.Step.{run}
 use Rattle.alm_model.proofs.Runs.{run_append, run_count}
 use Rattle.alm_store.specs.Recovery.{IsFrontPlant}
-use Rattle.alm_run.specs.Moments.{Moment, Leads, IsSafeAt, Course, at_first}
+use Rattle.alm_run.specs.Moments.{Moment, Leads, IsSafeAt, at_first}
 use Rattle.alm_threads.specs.Outages.{IsAmong, Outage, Outages}
 
 -- each moment of a course is safe

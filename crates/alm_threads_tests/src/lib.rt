@@ -27,6 +27,8 @@ pub mod folds;
 pub mod gate;
 pub mod looker;
 pub mod notes;
+#[cfg(test)]
+mod outages;
 pub mod player;
 #[cfg(test)]
 mod rows;

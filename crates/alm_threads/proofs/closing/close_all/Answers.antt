@@ -9,7 +9,7 @@ use Rattle.alm_rings.specs.Ends.{sent_of, received_of, taken_of, released_of}
 use Rattle.alm_rings.specs.Placed.{inbox_at, outbox_at, taken_in, released_in, taken_by, released_by}
 use Rattle.alm_rings.proofs.Ordered.{push_cases}
 use Rattle.alm_rings.proofs.Slots.{place_of}
-use Rattle.alm_threads.proofs.Closed.{here, before, others, prefix_length, is_there, there_is, later}
+use Rattle.alm_threads.proofs.Closed.{here, before, others, prefix_length, is_there, there_is}
 use Rattle.alm_threads.proofs.closing.close_all.Goals as goal
 
 pub close_slot-requires : goal.close_slot-requires

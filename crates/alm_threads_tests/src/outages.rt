@@ -1,0 +1,129 @@
+//! The power fails while the threads run.
+
+use crate::course::{Left, run_on};
+use crate::crews::{all_slots, callers};
+use crate::devices::formatted;
+use crate::folds::{Accepted, reopened};
+use crate::notes::Notes;
+use alm_disk::{Chooser, Crashable, Free, FuseDisk, MemDisk};
+use alm_keeper::Keeper;
+use alm_service::worked_table;
+use alm_types::Slot;
+use std::alloc::Global;
+use std::sync::atomic::Ordering;
+use std::sync::{Arc, Wait};
+use std::test::Fail;
+use std::thread::Threads;
+use std::time::Clock;
+
+/// How many requests each source sends.
+const EACH: u64 = 40;
+
+/// How many runs there are.
+const RUNS: u64 = 200;
+
+/// An opening makes six calls, and the first run's first commit ends with the tenth.
+const FIRST: u64 = 6;
+
+/// Leaves of each pending byte what reads, its opposite or a drawn one.
+#[derive(Drop)]
+struct Drawn {
+    state: u64,
+}
+
+impl Chooser for Drawn {
+    ghost names = { λ _ _ _ _. Unit {0} };
+
+    fn choose(&mut self, at: u64, read: u8) -> u8 {
+        self.state = self
+            .state
+            .wrapping_mul(0x5851_F42D_4C95_7F2D)
+            .wrapping_add(at)
+            .wrapping_add(0x1405_7B7E_F767_814F);
+        let drawn = self.state >> 40;
+        match drawn % 4 {
+            0 | 1 => read,
+            2 => !read,
+            _ => (drawn / 256 % 256) as u8,
+        }
+    }
+}
+
+/// What stands after a power failure, and what was told before it.
+#[derive(Clone, Copy, Debug)]
+struct Found {
+    wrong: u64,
+    told: u64,
+    count: u64,
+    is_fold: bool,
+}
+
+/// Runs 18 sources, or one of them, over a device that serves so many calls: then its power fails, which leaves drawn bytes. `None` where memory
+/// is short, no thread can be made, or the device isn't opened again.
+fn run_until<R: Threads + Wait + Clock + Sync>(
+    rt: &R,
+    alloc: Global,
+    only: Option<Slot>,
+    calls: u64,
+) -> Option<Found> {
+    let Ok(slots) = all_slots(alloc) else {
+        return None;
+    };
+    let table = worked_table(alloc).ok()?;
+    let notes = Arc::new(alloc, Notes::new(alloc, 1_000).ok()?).ok()?;
+    let sources = callers(alloc, &slots, only, EACH, &notes).ok()?;
+    let disk = FuseDisk::new(formatted(alloc, &table)?, calls);
+    let Left { disk, .. } = run_on::<Keeper<FuseDisk<MemDisk>>, _, _>(
+        rt, alloc, disk, slots, &Free, sources,
+    )?;
+    let accepted = match only {
+        Some(slot) => Accepted::Alone(slot),
+        None => Accepted::Noted(&notes),
+    };
+    let left = disk.crash(&mut Drawn { state: calls });
+    let (count, is_fold) = reopened::<Keeper<FuseDisk<MemDisk>>>(alloc, left, &table, accepted)?;
+    Some(Found {
+        wrong: notes.wrong.load(Ordering::SeqCst),
+        told: notes.told.load(Ordering::SeqCst),
+        count,
+        is_fold,
+    })
+}
+
+/// Behind how many calls the power fails in a run.
+fn calls_of(run: u64) -> u64 {
+    FIRST + run.wrapping_mul(0x9E37_79B9_7F4A_7C15) % 97
+}
+
+#[test]
+fn what_was_told_is_there_after_a_power_failure(rt: HostRuntime) -> Result<(), Fail> {
+    for run in 0..RUNS {
+        let calls = calls_of(run);
+        let found = run_until(&rt, rt.alloc(), None, calls).ok_or("run")?;
+        assert_eq!(rt; found.wrong, 0, "{calls} calls");
+        assert!(rt;
+            found.told <= found.count,
+            "{calls} calls: {} of {}",
+            found.count,
+            found.told
+        );
+    }
+    Ok(())
+}
+
+#[test]
+fn a_front_of_what_was_accepted_stands_after_a_power_failure(rt: HostRuntime) -> Result<(), Fail> {
+    let feed = Slot::new(16).ok_or("slot")?;
+    for run in 0..RUNS {
+        let calls = calls_of(run);
+        let found = run_until(&rt, rt.alloc(), Some(feed), calls).ok_or("run")?;
+        assert!(rt;
+            found.told <= found.count,
+            "{calls} calls: {} of {}",
+            found.count,
+            found.told
+        );
+        assert!(rt; found.is_fold, "{calls} calls");
+    }
+    Ok(())
+}
