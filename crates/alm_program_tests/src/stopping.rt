@@ -71,7 +71,7 @@ const LINES: &[u8] = b"17 1 CLOCK 1000\n16 2 VAL 0 800\n0 3 STATE 0\n";
 fn ends_by(rt: &HostRuntime, calls: usize, (status, printed, errors): Ending<'_>) -> bool {
     let steps = [Step::Gives(LINES)];
     let process = Process::new(rt, b"", Script::new(&steps), MANY);
-    let Ok(stack) = open_stack(rt.alloc(), OPENED + calls) else {
+    let Ok(stack) = open_stack(rt.alloc(), calls) else {
         return false;
     };
     let mut told = Vec::new(rt.alloc());
@@ -85,13 +85,16 @@ fn ends_by(rt: &HostRuntime, calls: usize, (status, printed, errors): Ending<'_>
 fn a_desk_goes_on_to_the_end_behind_a_storage_fault(rt: HostRuntime) -> Result<(), Fail> {
     let fault = b"fault stopped\n".as_slice();
     let endings: [(usize, Ending<'_>); 3] = [
-        (0, (BROKEN, b"17 1 NO 15\n16 2 NO 15\n0 3 NO 15\n", fault)),
         (
-            ACTION,
+            OPENED,
+            (BROKEN, b"17 1 NO 15\n16 2 NO 15\n0 3 NO 15\n", fault),
+        ),
+        (
+            OPENED + ACTION,
             (BROKEN, b"17 1 OK 1\n16 2 NO 15\n0 3 NO 15\n", fault),
         ),
         (
-            2 * ACTION,
+            OPENED + 2 * ACTION,
             (
                 DONE,
                 b"17 1 OK 1\n16 2 OK 2\n0 3 STATE 2 UNACK 1 - -\n",
