@@ -1,6 +1,6 @@
 //! A port that is bound.
 
-ghost use Rattle.std.specs.Prelude.{◌≤◌};
+ghost use Rattle.std.specs.Prelude.{◌≡◌, ◌≤◌, IfOk};
 
 use crate::port_fault::PortFault;
 use crate::slot_bell::SlotBell;
@@ -23,11 +23,12 @@ pub struct Bound {
 }
 
 impl Bound {
-    ghost use Rattle.std.specs.Prelude.{◌≤◌};
+    ghost use Rattle.std.specs.Prelude.{◌≡◌, ◌≤◌, IfOk};
 
     /// Binds the port of a slot: the first slot's is given, each next slot's is one more.
     pub fn new<R: Net>(rt: &R, alloc: Global, first: u16, slot: Slot) -> Result<Self, PortFault>
         requires { first ≤ 65518 }
+        ensures slot { IfOk result (λ bound. bound.slot ≡ slot) }
     {
         let port = first + u16::from(slot.number());
         let address = SocketAddr::from((Ipv4Addr::LOCALHOST, port));

@@ -1,9 +1,9 @@
 //! The slots' ports on loopback: connections as sources of requests.
 //!
-//! Slot k listens on the k-th port behind the first one. A [`Door`] is the source that sits at a slot: it accepts one connection
+//! Slot k listens on the k-th port behind the first one. A [`SlotPort`] is the source of a slot: it accepts one connection
 //! after another and gives each its turns.
 //!
-//! | a door | does in a turn |
+//! | a port | does in a turn |
 //! |---|---|
 //! | with nobody connected | accepts the next connection |
 //! | with a connection | a turn of its session; where that has ended or failed, the connection is closed |
@@ -14,25 +14,25 @@
 //! A connection takes no memory beyond the buffers of its slot's session and those of the system: no more is read while a reply
 //! stands to be written. So a client that stalls or never reads keeps its own slot busy, and no other.
 //!
-//! What is used above: a [`Door`] is a source whatever its clients do: it keeps the console's end. [`StreamWire`] makes a wire of any
+//! What is used above: a [`SlotPort`] is the source of its slot whatever its clients do: it keeps the console's end. [`StreamWire`] makes a wire of any
 //! stream that never waits.
 //!
 //! A poll ends after a second also where a wake is lost. Not promised: anything of what a socket gives or takes, nor that a wake comes.
 #![tactic(auto)]
 
 mod bound;
-mod door;
-mod guest;
+mod connection;
+mod connection_count;
 mod opening;
 mod port_fault;
 mod slot_bell;
+mod slot_port;
 mod stream_wire;
-mod visits;
 
 pub use bound::Bound;
-pub use door::Door;
-pub use opening::{Doors, open_doors};
+pub use connection_count::ConnectionCount;
+pub use opening::{SlotPorts, open_ports};
 pub use port_fault::PortFault;
 pub use slot_bell::SlotBell;
+pub use slot_port::SlotPort;
 pub use stream_wire::StreamWire;
-pub use visits::Visits;

@@ -1,12 +1,12 @@
 //! Binds the slots' ports.
 
-ghost use Rattle.std.specs.Prelude.{◌≡◌, ◌≤◌, IfOk, length, vec_len};
+ghost use Rattle.std.specs.Prelude.{◌≡◌, ◌≤◌, IfOk, length, map, vec_len};
 
 use crate::bound::Bound;
-use crate::door::Door;
+use crate::connection_count::ConnectionCount;
 use crate::port_fault::PortFault;
 use crate::slot_bell::SlotBell;
-use crate::visits::Visits;
+use crate::slot_port::SlotPort;
 use alm_session::Session;
 use alm_types::Slot;
 use mio::Events;
@@ -25,7 +25,7 @@ fn bind_all<R: Net>(
     port: u16,
 ) -> Result<Vec<Bound>, PortFault>
     requires { port ≤ 65518 }
-    ensures { IfOk result (λ bounds. vec_len bounds ≡ length slots.now) }
+    ensures { IfOk result (λ bounds. map (λ bound. bound.slot) bounds.items ≡ slots.now) }
 {
     let mut bounds = Vec::with_capacity(alloc, slots.len())?;
     for slot in slots {
@@ -51,55 +51,69 @@ fn bells_of(alloc: Global, bounds: &[Bound]) -> Result<Vec<SlotBell>, PortFault>
     Ok(bells)
 }
 
-/// The doors of slots, in their order, with their bells.
+/// The ports of slots, in their order, with their bells.
 #[derive(Drop)]
-pub struct Doors {
-    pub doors: Vec<Door>,
+pub struct SlotPorts {
+    pub ports: Vec<SlotPort>,
     pub bells: Vec<SlotBell>,
 }
 
-/// What the doors of these ports share: how many connections there may be, and a bell of each.
-fn visits_of(alloc: Global, conns: u32, bounds: &[Bound]) -> Result<Arc<Visits>, PortFault> {
-    let visits = Visits::new(conns, bells_of(alloc, bounds)?);
-    Arc::new(alloc, visits).map_err(|_| PortFault::OutOfMemory)
+/// What these ports share: how many connections there may be, and a bell of each.
+fn count_of(
+    alloc: Global,
+    conns: u32,
+    bounds: &[Bound],
+) -> Result<Arc<ConnectionCount>, PortFault> {
+    let count = ConnectionCount::new(conns, bells_of(alloc, bounds)?);
+    Arc::new(alloc, count).map_err(|_| PortFault::OutOfMemory)
 }
 
-/// The door of a port.
-fn open_door(alloc: Global, bound: Bound, visits: &Arc<Visits>) -> Result<Door, PortFault> {
+/// The port of a slot, from where it is bound.
+fn open_port(
+    alloc: Global,
+    bound: Bound,
+    count: &Arc<ConnectionCount>,
+) -> Result<SlotPort, PortFault>
+    ensures { IfOk result (λ port. port.slot ≡ bound.slot) }
+{
     let session = Session::new(alloc)?;
     let events = Events::with_capacity(alloc, EVENTS)?;
-    Ok(Door::new(bound, events, visits.clone()?, session)?)
+    Ok(SlotPort::new(bound, events, count.clone()?, session)?)
 }
 
-/// The doors of these ports.
-fn doors_of(alloc: Global, bounds: Vec<Bound>, visits: &Arc<Visits>) -> Result<Vec<Door>, PortFault>
-    ensures { IfOk result (λ doors. vec_len doors ≡ vec_len bounds) }
+/// The same for each of these.
+fn ports_of(
+    alloc: Global,
+    bounds: Vec<Bound>,
+    count: &Arc<ConnectionCount>,
+) -> Result<Vec<SlotPort>, PortFault>
+    ensures { IfOk result (λ ports. map (λ p. p.slot) ports.items ≡ map (λ b. b.slot) bounds.items) }
 {
-    let mut doors = Vec::with_capacity(alloc, bounds.len())?;
+    let mut ports = Vec::with_capacity(alloc, bounds.len())?;
     for bound in bounds {
-        match doors.push(open_door(alloc, bound, visits)?) {
+        match ports.push(open_port(alloc, bound, count)?) {
             Ok(()) => {}
             Err(_) => return Err(PortFault::OutOfMemory),
         }
     }
-    Ok(doors)
+    Ok(ports)
 }
 
 /// Binds the ports of these slots on loopback, the first slot's given, for so many connections in all; 0 is without end.
-pub fn open_doors<R: Net>(
+pub fn open_ports<R: Net>(
     rt: &R,
     alloc: Global,
     slots: &[Slot],
     port: u16,
     conns: u32,
-) -> Result<Doors, PortFault>
+) -> Result<SlotPorts, PortFault>
     requires port { port ≤ 65518 }
-    ensures doors { IfOk result (λ d. vec_len d.doors ≡ length slots.now) }
+    ensures ports { IfOk result (λ d. map (λ port. port.slot) d.ports.items ≡ slots.now) }
     ensures bells { IfOk result (λ d. vec_len d.bells ≡ length slots.now) }
 {
     let bounds = bind_all(rt, alloc, slots, port)?;
-    let visits = visits_of(alloc, conns, &bounds)?;
+    let count = count_of(alloc, conns, &bounds)?;
     let bells = bells_of(alloc, &bounds)?;
-    let doors = doors_of(alloc, bounds, &visits)?;
-    Ok(Doors { doors, bells })
+    let ports = ports_of(alloc, bounds, &count)?;
+    Ok(SlotPorts { ports, bells })
 }

@@ -1,6 +1,7 @@
 //! A non-blocking stream as a wire.
 
-ghost use Rattle.std.specs.Prelude.{◌≤◌, ◌^◌, ◌-◌};
+ghost use Rattle.std.specs.Prelude.{◌≡◌, ◌↔◌, ◌⊎◌, ◌≤◌, ◌^◌, ◌-◌, IsTrue};
+ghost use Rattle.std_io.specs.declared.io.kind.ErrorKind.TheVariants.{WouldBlock, Interrupted};
 
 use alm_session::{ReadGave, Wire, WriteTook};
 use std::io::{ErrorKind, Read, Write};
@@ -28,7 +29,9 @@ impl<S: Read + Write + Drop> StreamWire<S> {
 }
 
 /// Whether a call may be made again later.
-fn is_for_later(kind: ErrorKind) -> bool {
+fn is_for_later(kind: ErrorKind) -> bool
+    ensures { IsTrue result ↔ (kind ≡ WouldBlock) ⊎ (kind ≡ Interrupted) }
+{
     kind == ErrorKind::WouldBlock || kind == ErrorKind::Interrupted
 }
 

@@ -10,7 +10,6 @@ use crate::closes::Closes;
 use crate::flags::Flags;
 use crate::flusher_parts::FlusherParts;
 use crate::flushing::flush;
-use crate::landed::Landed;
 use crate::recorded_flusher::RecordedFlusher;
 use alm_board::{Board, Publish};
 use alm_rings::Told;
@@ -26,7 +25,7 @@ pub fn run_flusher<
     B: Board<Told = T> + Publish<R> + Closes<R>,
     E: Bell + Drop,
     R: Wait,
->(rt: &R, flags: &Flags<E>, board: B, parts: FlusherParts<K, T>) -> Landed<K, T>
+>(rt: &R, flags: &Flags<E>, board: B, parts: FlusherParts<K, T>) -> FlusherParts<K, T>
     requires apart { AreApart (λ o. o.slot) parts.outboxes.items }
     requires released { (s : ℕ) → released_by s parts.outboxes.items ≡ [] }
     requires fetched { fetched_of parts.fetch ≡ [] }
@@ -51,7 +50,7 @@ pub fn run_flusher<
     stored.images();
     let (store, board, outboxes, fetch) = flusher.into_ends();
     board.close(rt);
-    Landed {
+    FlusherParts {
         store,
         outboxes,
         fetch,

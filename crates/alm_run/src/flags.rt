@@ -3,7 +3,7 @@
 use crate::awaited::Awaited;
 use crate::bell::Bell;
 use crate::bells::Bells;
-use crate::doorbell::Doorbell;
+use crate::thread_bell::ThreadBell;
 use alm_types::Slot;
 use std::sync::atomic::{AtomicBool, AtomicUsize, Ordering};
 
@@ -19,11 +19,11 @@ pub struct Flags<B: Bell + Drop> {
     /// So many sources have ended.
     pub ended: AtomicUsize,
     /// Wakes the sequencer's thread.
-    pub sequencer: Doorbell,
+    pub sequencer: ThreadBell,
     /// Whom the sequencer's thread waits for.
     pub awaited: Awaited,
     /// Wakes the flusher's thread.
-    pub flusher: Doorbell,
+    pub flusher: ThreadBell,
     /// Wake the slots' threads.
     pub slots: Bells<B>,
 }
@@ -36,9 +36,9 @@ impl<B: Bell + Drop> Flags<B> {
             out: AtomicBool::new(false),
             sealed: AtomicBool::new(false),
             ended: AtomicUsize::new(0),
-            sequencer: Doorbell::new(),
+            sequencer: ThreadBell::new(),
             awaited: Awaited::new(),
-            flusher: Doorbell::new(),
+            flusher: ThreadBell::new(),
             slots,
         }
     }

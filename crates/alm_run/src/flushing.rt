@@ -4,9 +4,9 @@ ghost use Rattle.alm_rings.specs.Batches.{SameFetchEnds};
 ghost use Rattle.alm_rings.specs.Placed.{SameOutboxAt, outbox_at};
 
 use crate::bell::Bell;
-use crate::doorbell::YIELDS;
 use crate::flags::Flags;
 use crate::recorded_flusher::RecordedFlusher;
+use crate::thread_bell::YIELDS;
 use alm_board::{Board, Publish};
 use alm_flush::{Advance, Fetch, Publishes, Release};
 use alm_rings::Told;

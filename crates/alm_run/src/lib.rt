@@ -2,7 +2,7 @@
 //!
 //! | thread | runs | ends |
 //! |---|---|---|
-//! | of each slot | [`sit`]: one turn of its [`Source`] after another | after a turn that says [`Go::End`], or before one where `stop` is set |
+//! | of each slot | [`run_source`]: one turn of its [`Source`] after another | after a turn that says [`Go::End`], or before one where `stop` is set |
 //! | the sequencer's | [`run_sequencer`]: takes one request of each slot in turn, and seals where no batch is out, once those whom the last one answered have asked again or half of the time that it took has passed, 500 microseconds at most, or where the open batch is full | where all sources had ended before a pass that took nothing, and the open batch is empty; or where `stop` is set |
 //! | the flusher's | [`run_flusher`]: commits, publishes and releases; each time its sleep ends and nothing is there, a piece of an open checkpoint | where nothing more was to be sealed before a fetch that gave nothing; at a failure of the device; after 1,000 refused publishes in a row |
 //!
@@ -21,49 +21,47 @@
 mod awaited;
 mod bell;
 mod bells;
-mod chair;
 mod closes;
+mod closing_board;
 mod commit_time;
 mod console_back;
-mod doorbell;
 mod finishing;
 mod flags;
 mod flusher_parts;
 mod flushing;
 mod gathering;
 mod go;
-mod landed;
-mod parcel;
 mod pause;
 mod recorded_flusher;
 mod rings;
 mod sequencer_ends;
 mod sequencing;
-mod sitting;
+mod slot_parts;
 mod source;
+mod source_thread;
 mod start;
 mod start_fault;
 mod starting;
+mod thread_bell;
 
 pub use bell::Bell;
 pub use bells::Bells;
-pub use chair::Chair;
 pub use closes::Closes;
+pub use closing_board::ClosingBoard;
 pub use console_back::ConsoleBack;
-pub use doorbell::Doorbell;
 pub use finishing::run_flusher;
 pub use flags::Flags;
 pub use flusher_parts::FlusherParts;
 pub use flushing::flush;
 pub use go::Go;
-pub use landed::Landed;
-pub use parcel::Parcel;
 pub use recorded_flusher::RecordedFlusher;
 pub use rings::Rings;
 pub use sequencer_ends::SequencerEnds;
 pub use sequencing::sequence;
-pub use sitting::sit;
+pub use slot_parts::SlotParts;
 pub use source::Source;
+pub use source_thread::run_source;
 pub use start::{join_all, start_all, start_one};
 pub use start_fault::StartFault;
 pub use starting::{run_sequencer, start_rings};
+pub use thread_bell::ThreadBell;

@@ -87,7 +87,7 @@ fn gather<P: Alarms + Drop, B: Bell + Drop, H: Hold, R: Wait>(
     // Who came before that woke nobody.
     let found = go_round(sequencer, slots, hold, gathering);
     if flags.awaited.narrow(gathering) && found != Found::Full {
-        flags.sequencer.doze(rt, pause);
+        flags.sequencer.sleep(rt, pause);
     }
     flags.awaited.end();
 }

@@ -6,9 +6,15 @@ use alm_rings::{Console, Told};
 
 /// What uses a slot, one turn after another.
 pub trait Source<T: Told + Drop, L: Look<Told = T>> {
+    ghost use Rattle.std.specs.Prelude.{◌≡◌, ℕ, Option, Some};
     ghost use Rattle.alm_rings.specs.Ends.{SameConsole};
 
-    /// One turn: what it sends, receives, looks at and learns is its own affair.
+    /// The slot for which it was made, where it was made for one alone.
+    ghost slot: { Self → Option ℕ };
+
+    /// One turn, at the console of its slot: what it sends, receives, looks at and learns is its own affair.
     fn turn(&mut self, console: &mut Console<T>, look: &mut L) -> Go
-        ensures ends { SameConsole console.old console.new };
+        requires slot { (n : ℕ) → slot self.old ≡ Some n → console.old.slot ≡ n }
+        ensures ends { SameConsole console.old console.new }
+        ensures slot { slot self.new ≡ slot self.old };
 }

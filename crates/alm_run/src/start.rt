@@ -1,13 +1,14 @@
 //! Starts the sources, and joins them.
-ghost use Rattle.std.specs.Prelude.{◌≡◌, ◌≤◌, [], map, IfOk, vec_len, vec_capacity};
+ghost use Rattle.std.specs.Prelude.{◌≡◌, ◌≤◌, ℕ, [], map, IfOk, Some, vec_len, vec_capacity};
+ghost use Rattle.alm_rings.specs.Ends.{SameConsole};
 ghost use Rattle.alm_run.specs.Same.{AllSame};
 
 use crate::bell::Bell;
-use crate::chair::Chair;
 use crate::console_back::ConsoleBack;
 use crate::flags::Flags;
-use crate::sitting::sit;
+use crate::slot_parts::SlotParts;
 use crate::source::Source;
+use crate::source_thread::run_source;
 use crate::start_fault::StartFault;
 use alm_board::Look;
 use alm_rings::{Console, Told};
@@ -31,22 +32,28 @@ pub fn start_one<
     scope: &Scope<'s, E>,
     rt: &'s R,
     flags: &'s Flags<B>,
-    chair: Chair<T, L, S>,
+    own: SlotParts<T, L, S>,
 ) -> Result<Handle<T>, StartFault>
 where
     T: 's,
     L: 's,
     S: 's,
     B: 's,
-    ensures { IfOk result (λ handle. handle.promise.0.value ≡ chair.console) }
+    ensures { IfOk result (λ handle. handle.promise.0.value ≡ own.console) }
 {
-    let Chair {
+    let SlotParts {
         console,
         look,
         source,
-    } = chair;
+    } = own;
     let promise = ConsoleBack(Snapshot::of(&console));
-    match scope.spawn_with(promise, move || sit(rt, flags, console, look, source)) {
+    match scope.spawn_with(
+        promise,
+        move || -> Console<T>
+            requires { (n : ℕ) → S.slot source ≡ Some n → console.slot ≡ n }
+            ensures { SameConsole console result }
+        { run_source(rt, flags, console, look, source) },
+    ) {
         Ok(handle) => Ok(handle),
         Err(_) => Err(StartFault::NoThread),
     }
@@ -66,25 +73,25 @@ pub fn start_all<
     rt: &'s R,
     alloc: Global,
     flags: &'s Flags<B>,
-    chairs: Vec<Chair<T, L, S>>,
+    slot_parts: Vec<SlotParts<T, L, S>>,
 ) -> Result<Vec<Handle<T>>, StartFault>
 where
     T: 's,
     L: 's,
     S: 's,
     B: 's,
-    ensures len { IfOk result (λ handles. vec_len handles ≡ vec_len chairs) }
-    ensures each { IfOk result (λ handles. map (λ h. h.promise.0.value) handles.items ≡ map (λ chair. chair.console) chairs.items) }
+    ensures len { IfOk result (λ handles. vec_len handles ≡ vec_len slot_parts) }
+    ensures each { IfOk result (λ handles. map (λ h. h.promise.0.value) handles.items ≡ map (λ p. p.console) slot_parts.items) }
 {
-    let mut handles = match Vec::with_capacity(alloc, chairs.len()) {
+    let mut handles = match Vec::with_capacity(alloc, slot_parts.len()) {
         Ok(handles) => handles,
         Err(_) => {
             flags.stop_all();
             return Err(StartFault::OutOfMemory);
         }
     };
-    for chair in chairs {
-        match start_one(scope, rt, flags, chair) {
+    for own in slot_parts {
+        match start_one(scope, rt, flags, own) {
             Ok(handle) => {
                 if handles.push(handle).is_err() {
                     flags.stop_all();

@@ -1,6 +1,6 @@
 //! Serves the slots of a device.
 
-ghost use Rattle.std.specs.Prelude.{◌≡◌, ◌≢◌, ◌≤◌, ◌<◌, ◌^◌, length, vec_len, IfOk, IfErr, Some, None};
+ghost use Rattle.std.specs.Prelude.{◌≡◌, ◌≢◌, ◌≤◌, ◌<◌, ◌^◌, length, map, IfOk, IfErr, Some, None};
 ghost use Rattle.alm_lines.specs.Written.{Prints};
 ghost use Rattle.alm_rings.specs.Placed.{AreApart};
 ghost use Rattle.alm_keeper.specs.AsStore.{StandsFor};
@@ -13,7 +13,7 @@ use alm_keeper::{Keeper, OpenFault, Phase};
 use alm_lines::{Part, put_parts};
 use alm_model::Alarms;
 use alm_plant::Plant;
-use alm_ports::{Doors, PortFault, open_doors};
+use alm_ports::{PortFault, SlotPorts, open_ports};
 use alm_run::StartFault;
 use alm_shared::{Front, Naming, NewHistory, SharedBoard, SharedLook};
 use alm_store::Store;
@@ -71,7 +71,7 @@ fn all_slots(alloc: Global) -> Result<Vec<Slot>, AllocError>
     Ok(slots)
 }
 
-/// Runs these parts behind these doors: how many actions are stored when all have ended, `None` where the storage has stopped.
+/// Runs these parts behind these ports: how many actions are stored when all have ended, `None` where the storage has stopped.
 fn run_parts<
     'h,
     J: Naming + Send + Sync,
@@ -82,29 +82,29 @@ fn run_parts<
     rt: &R,
     alloc: Global,
     parts: Parts<Front<J>, WatchedLook<'h, SharedLook<J, P>, Free>, SharedBoard<J, P>, K>,
-    doors: Doors,
+    ports: SlotPorts,
 ) -> Result<Option<u64>, StartFault>
-    requires doors { vec_len doors.doors ≡ length parts.slots.items }
+    requires ports { map (λ port. port.slot) ports.ports.items ≡ parts.slots.items }
     requires slots { AreAllSlots parts.slots.items }
     ensures { IfOk result (λ told. Tells (K.honest parts.entry.middle.flusher.store) K.recovers
         (K.stored parts.entry.middle.flusher.store) (K.device parts.entry.middle.flusher.store) told) }
 {
-    let Doors { doors, bells } = doors;
-    let report = run_with_bells(rt, alloc, parts, &Free, bells, doors)?;
+    let SlotPorts { ports, bells } = ports;
+    let report = run_with_bells(rt, alloc, parts, &Free, bells, ports)?;
     match report.storage {
         Storage::Whole => Ok(Some(report.keeper.count())),
         Storage::Stopped => Ok(None),
     }
 }
 
-/// Runs the parts over a store behind these doors: how many actions are stored when all have ended, `None` where it has stopped.
+/// Runs the parts over a store behind these ports: how many actions are stored when all have ended, `None` where it has stopped.
 fn run_behind<J: Naming + Send + Sync, K: Store, R: Threads + Wait + Clock + Sync>(
     rt: &R,
     alloc: Global,
     history: NewHistory,
     store: K,
     slots: Vec<Slot>,
-    doors: Doors,
+    ports: SlotPorts,
 ) -> Result<Option<u64>, StartFault>
     requires book { history.seen.book ≡ J.book }
     requires base { K.stored store ≡ J.base }
@@ -112,11 +112,11 @@ fn run_behind<J: Naming + Send + Sync, K: Store, R: Threads + Wait + Clock + Syn
     requires limit { (K.stored store).panel.count ≤ 2 ^ 48 }
     requires slots { AreAllSlots slots.items }
     requires apart { AreApart (λ s. s) slots.items }
-    requires doors { vec_len doors.doors ≡ 18 }
+    requires ports { map (λ port. port.slot) ports.ports.items ≡ slots.items }
     ensures { IfOk result (λ told. Tells (K.honest store) K.recovers (K.stored store) (K.device store) told) }
 {
     match parts_of::<J, K, Free, R>(rt, alloc, history, store, slots, &Free) {
-        Ok(parts) => run_parts::<J, Plant, K, R>(rt, alloc, parts, doors),
+        Ok(parts) => run_parts::<J, Plant, K, R>(rt, alloc, parts, ports),
         Err(_) => Err(StartFault::OutOfMemory),
     }
 }
@@ -150,8 +150,8 @@ fn serve_over<
         Ok(slots) => slots,
         Err(_) => return Err(ServeFault::Memory),
     };
-    let doors = match open_doors(rt, alloc, slots.as_slice(), port, conns) {
-        Ok(doors) => doors,
+    let ports = match open_ports(rt, alloc, slots.as_slice(), port, conns) {
+        Ok(ports) => ports,
         Err(PortFault::Net) => return Err(ServeFault::Net),
         Err(PortFault::OutOfMemory) => return Err(ServeFault::Memory),
     };
@@ -159,7 +159,7 @@ fn serve_over<
         Ok(()) => {}
         Err(_) => return Err(ServeFault::Write),
     }
-    let count = match run_behind::<J, K, R>(rt, alloc, history, store, slots, doors) {
+    let count = match run_behind::<J, K, R>(rt, alloc, history, store, slots, ports) {
         Ok(Some(count)) => count,
         Ok(None) => return Err(ServeFault::Storage),
         Err(_) => return Err(ServeFault::Memory),

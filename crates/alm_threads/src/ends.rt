@@ -1,7 +1,7 @@
 //! What comes back from the threads.
 
 use alm_rings::{Console, Told};
-use alm_run::{Landed, Rings};
+use alm_run::{FlusherParts, Rings};
 use alm_store::Store;
 
 /// What comes back from the threads.
@@ -9,5 +9,5 @@ use alm_store::Store;
 pub struct Ends<K: Store, T: Told + Drop> {
     pub consoles: Vec<Console<T>>,
     pub rings: Rings,
-    pub landed: Landed<K, T>,
+    pub flusher: FlusherParts<K, T>,
 }

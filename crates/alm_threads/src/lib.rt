@@ -17,7 +17,6 @@
 #![tactic(auto)]
 
 mod closing;
-mod crew;
 mod ends;
 pub mod laws;
 mod middle;
@@ -25,6 +24,7 @@ mod opening;
 mod parts;
 mod report;
 mod running;
+mod slot_parts;
 mod slots;
 mod storage;
 mod watched_look;

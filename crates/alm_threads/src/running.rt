@@ -1,5 +1,5 @@
 //! A run.
-ghost use Rattle.std.specs.Prelude.{◌≡◌, ◌≢◌, ◌↔◌, ◌≤◌, ℕ, [], length, map, vec_len, vec_capacity, IfOk, IsTrue};
+ghost use Rattle.std.specs.Prelude.{◌≡◌, ◌≢◌, ◌↔◌, ◌≤◌, ℕ, [], length, map, slice_get, Some, vec_len, vec_capacity, IfOk, IsTrue};
 ghost use mathlib.Core.List.{IsPrefix};
 ghost use Rattle.alm_rings.specs.Batches.{AreBatchEnds, SameSealEnds, SameFetchEnds, fetched_of, sealed_of};
 ghost use Rattle.alm_rings.specs.Placed.{AreApart, SameOutboxAt, outbox_at};
@@ -13,18 +13,18 @@ ghost use Rattle.alm_threads.specs.Runs.{AreClosed, IsRun};
 ghost use Rattle.alm_threads.specs.Slots.{AreTied};
 
 use crate::closing::close_all;
-use crate::crew::seat;
 use crate::ends::Ends;
 use crate::middle::Middle;
 use crate::parts::Parts;
 use crate::report::RunReport;
+use crate::slot_parts::slot_parts_of;
 use crate::storage::Storage;
 use alm_board::{Board, Look, Publish};
 use alm_disk::Hold;
 use alm_rings::{Console, SlotReport, Told, batches_beside};
 use alm_run::{
-    Bell, Bells, Chair, Closes, Doorbell, Flags, Landed, Parcel, Rings, Source, StartFault,
-    join_all, run_flusher, start_all, start_rings,
+    Bell, Bells, Closes, ClosingBoard, Flags, FlusherParts, Rings, SlotParts, Source, StartFault,
+    ThreadBell, join_all, run_flusher, start_all, start_rings,
 };
 use alm_store::{Phase, Store};
 use alm_types::Slot;
@@ -53,7 +53,7 @@ fn run_all<
     flags: &'s Flags<E>,
     slots: &'s Vec<Slot>,
     hold: &'s H,
-    chairs: Vec<Chair<T, L, S>>,
+    slot_parts: Vec<SlotParts<T, L, S>>,
     room: Vec<Console<T>>,
     board: B,
     middle: Middle<K, T>,
@@ -68,14 +68,14 @@ where
     requires base { K.stored middle.flusher.store ≡ B.Board.base board }
     requires published { B.Board.published board ≡ [] }
     requires pending { B.Board.pending board ≡ [] }
-    requires room { (room.items ≡ []) × (vec_len chairs ≤ vec_capacity room) }
-    ensures consoles { IfOk result (λ e. AllSame (map (λ chair. chair.console) chairs.items) e.consoles.items) }
+    requires room { (room.items ≡ []) × (vec_len slot_parts ≤ vec_capacity room) }
+    ensures consoles { IfOk result (λ e. AllSame (map (λ p. p.console) slot_parts.items) e.consoles.items) }
     ensures inboxes { IfOk result (λ e. SameInboxes middle.rings.inboxes.items e.rings.inboxes.items) }
     ensures seals { IfOk result (λ e. SameSealEnds middle.rings.ends e.rings.ends) }
-    ensures outboxes { IfOk result (λ e. (s : ℕ) → SameOutboxAt (outbox_at s middle.flusher.outboxes.items) (outbox_at s e.landed.outboxes.items)) }
-    ensures fetches { IfOk result (λ e. SameFetchEnds middle.flusher.fetch e.landed.fetch) }
+    ensures outboxes { IfOk result (λ e. (s : ℕ) → SameOutboxAt (outbox_at s middle.flusher.outboxes.items) (outbox_at s e.flusher.outboxes.items)) }
+    ensures fetches { IfOk result (λ e. SameFetchEnds middle.flusher.fetch e.flusher.fetch) }
     ensures judged { IfOk result (λ e. Judged (K.stored middle.flusher.store) e.rings.inboxes.items e.rings.ends) }
-    ensures flushed { IfOk result (λ e. Flushed (LeavesOneOf (K.honest middle.flusher.store) (K.honest e.landed.store) K.recovers (K.device e.landed.store)) (Endures (K.honest middle.flusher.store) K.recovers (K.stored middle.flusher.store) (K.device middle.flusher.store) (K.device e.landed.store)) (K.stored middle.flusher.store) (K.stored e.landed.store) e.landed.outboxes.items e.landed.fetch) }
+    ensures flushed { IfOk result (λ e. Flushed (LeavesOneOf (K.honest middle.flusher.store) (K.honest e.flusher.store) K.recovers (K.device e.flusher.store)) (Endures (K.honest middle.flusher.store) K.recovers (K.stored middle.flusher.store) (K.device middle.flusher.store) (K.device e.flusher.store)) (K.stored middle.flusher.store) (K.stored e.flusher.store) e.flusher.outboxes.items e.flusher.fetch) }
 {
     let Middle {
         plant,
@@ -89,20 +89,20 @@ where
             return Err(fault);
         }
     };
-    let sources = match start_all(scope, rt, alloc, flags, chairs) {
+    let sources = match start_all(scope, rt, alloc, flags, slot_parts) {
         Ok(handles) => handles,
         Err(fault) => {
             board.close(rt);
             return Err(fault);
         }
     };
-    let landed = run_flusher(rt, flags, board, flusher);
+    let flusher = run_flusher(rt, flags, board, flusher);
     let consoles = join_all(rt, sources, room);
     let rings = sequencer.join(rt);
     Ok(Ends {
         consoles,
         rings,
-        landed,
+        flusher,
     })
 }
 
@@ -146,24 +146,24 @@ fn report_of<K: Store, T: Told + Drop>(
     room: Vec<Option<SlotReport>>,
 ) -> RunReport<K>
     requires apart { AreApart (λ c. c.slot) ends.consoles.items }
-    requires tied { AreTied ends.consoles.items ends.rings.inboxes.items ends.landed.outboxes.items }
-    requires batches { AreBatchEnds ends.rings.ends ends.landed.fetch }
+    requires tied { AreTied ends.consoles.items ends.rings.inboxes.items ends.flusher.outboxes.items }
+    requires batches { AreBatchEnds ends.rings.ends ends.flusher.fetch }
     requires room { (room.items ≡ []) × (vec_len ends.consoles ≤ vec_capacity room) }
-    ensures keeper { result.keeper ≡ ends.landed.store }
-    ensures closed { AreClosed ends.consoles.items ends.rings.inboxes.items ends.landed.outboxes.items result.slots.items }
-    ensures fetched { IsPrefix (fetched_of ends.landed.fetch) (sealed_of ends.rings.ends) }
+    ensures keeper { result.keeper ≡ ends.flusher.store }
+    ensures closed { AreClosed ends.consoles.items ends.rings.inboxes.items ends.flusher.outboxes.items result.slots.items }
+    ensures fetched { IsPrefix (fetched_of ends.flusher.fetch) (sealed_of ends.rings.ends) }
 {
     let Ends {
         consoles,
         rings,
-        landed,
+        flusher,
     } = ends;
     let Rings { inboxes, mut ends } = rings;
-    let Landed {
+    let FlusherParts {
         store,
         outboxes,
         mut fetch,
-    } = landed;
+    } = flusher;
     batches_beside(&mut ends, &mut fetch);
     let slots = close_all(consoles, inboxes, outboxes, room);
     let storage = storage_of(store.phase(), are_answered(&slots));
@@ -191,7 +191,7 @@ fn in_scope<
     flags: &'s Flags<E>,
     slots: &'s Vec<Slot>,
     hold: &'s H,
-    chairs: Vec<Chair<T, L, S>>,
+    slot_parts: Vec<SlotParts<T, L, S>>,
     room: Vec<Console<T>>,
     board: B,
     middle: Middle<K, T>,
@@ -200,22 +200,22 @@ fn in_scope<
     requires base { K.stored middle.flusher.store ≡ B.Board.base board }
     requires published { B.Board.published board ≡ [] }
     requires pending { B.Board.pending board ≡ [] }
-    requires room { (room.items ≡ []) × (vec_len chairs ≤ vec_capacity room) }
-    ensures consoles { IfOk result (λ e. AllSame (map (λ chair. chair.console) chairs.items) e.consoles.items) }
+    requires room { (room.items ≡ []) × (vec_len slot_parts ≤ vec_capacity room) }
+    ensures consoles { IfOk result (λ e. AllSame (map (λ p. p.console) slot_parts.items) e.consoles.items) }
     ensures inboxes { IfOk result (λ e. SameInboxes middle.rings.inboxes.items e.rings.inboxes.items) }
     ensures seals { IfOk result (λ e. SameSealEnds middle.rings.ends e.rings.ends) }
-    ensures outboxes { IfOk result (λ e. (s : ℕ) → SameOutboxAt (outbox_at s middle.flusher.outboxes.items) (outbox_at s e.landed.outboxes.items)) }
-    ensures fetches { IfOk result (λ e. SameFetchEnds middle.flusher.fetch e.landed.fetch) }
+    ensures outboxes { IfOk result (λ e. (s : ℕ) → SameOutboxAt (outbox_at s middle.flusher.outboxes.items) (outbox_at s e.flusher.outboxes.items)) }
+    ensures fetches { IfOk result (λ e. SameFetchEnds middle.flusher.fetch e.flusher.fetch) }
     ensures judged { IfOk result (λ e. Judged (K.stored middle.flusher.store) e.rings.inboxes.items e.rings.ends) }
-    ensures flushed { IfOk result (λ e. Flushed (LeavesOneOf (K.honest middle.flusher.store) (K.honest e.landed.store) K.recovers (K.device e.landed.store)) (Endures (K.honest middle.flusher.store) K.recovers (K.stored middle.flusher.store) (K.device middle.flusher.store) (K.device e.landed.store)) (K.stored middle.flusher.store) (K.stored e.landed.store) e.landed.outboxes.items e.landed.fetch) }
+    ensures flushed { IfOk result (λ e. Flushed (LeavesOneOf (K.honest middle.flusher.store) (K.honest e.flusher.store) K.recovers (K.device e.flusher.store)) (Endures (K.honest middle.flusher.store) K.recovers (K.stored middle.flusher.store) (K.device middle.flusher.store) (K.device e.flusher.store)) (K.stored middle.flusher.store) (K.stored e.flusher.store) e.flusher.outboxes.items e.flusher.fetch) }
 {
-    let parcel = Parcel::new(board, rt);
+    let closing = ClosingBoard::new(board, rt);
     thread::scope(
         thread::scope_env(),
         rt,
         |scope| -> Result<Ends<K, T>, StartFault>
-            requires { Serves slots.now.items middle.rings.inboxes.items × (K.stored middle.flusher.store ≡ B.Board.base parcel.board) × (B.Board.published parcel.board ≡ []) × (B.Board.pending parcel.board ≡ []) × (room.items ≡ []) × (vec_len chairs ≤ vec_capacity room) }
-            ensures { IfOk result (λ e. AllSame (map (λ chair. chair.console) chairs.items) e.consoles.items × SameInboxes middle.rings.inboxes.items e.rings.inboxes.items × SameSealEnds middle.rings.ends e.rings.ends × ((s : ℕ) → SameOutboxAt (outbox_at s middle.flusher.outboxes.items) (outbox_at s e.landed.outboxes.items)) × SameFetchEnds middle.flusher.fetch e.landed.fetch × Judged (K.stored middle.flusher.store) e.rings.inboxes.items e.rings.ends × Flushed (LeavesOneOf (K.honest middle.flusher.store) (K.honest e.landed.store) K.recovers (K.device e.landed.store)) (Endures (K.honest middle.flusher.store) K.recovers (K.stored middle.flusher.store) (K.device middle.flusher.store) (K.device e.landed.store)) (K.stored middle.flusher.store) (K.stored e.landed.store) e.landed.outboxes.items e.landed.fetch) }
+            requires { Serves slots.now.items middle.rings.inboxes.items × (K.stored middle.flusher.store ≡ B.Board.base closing.board) × (B.Board.published closing.board ≡ []) × (B.Board.pending closing.board ≡ []) × (room.items ≡ []) × (vec_len slot_parts ≤ vec_capacity room) }
+            ensures { IfOk result (λ e. AllSame (map (λ p. p.console) slot_parts.items) e.consoles.items × SameInboxes middle.rings.inboxes.items e.rings.inboxes.items × SameSealEnds middle.rings.ends e.rings.ends × ((s : ℕ) → SameOutboxAt (outbox_at s middle.flusher.outboxes.items) (outbox_at s e.flusher.outboxes.items)) × SameFetchEnds middle.flusher.fetch e.flusher.fetch × Judged (K.stored middle.flusher.store) e.rings.inboxes.items e.rings.ends × Flushed (LeavesOneOf (K.honest middle.flusher.store) (K.honest e.flusher.store) K.recovers (K.device e.flusher.store)) (Endures (K.honest middle.flusher.store) K.recovers (K.stored middle.flusher.store) (K.device middle.flusher.store) (K.device e.flusher.store)) (K.stored middle.flusher.store) (K.stored e.flusher.store) e.flusher.outboxes.items e.flusher.fetch) }
         {
             run_all(
                 scope,
@@ -224,19 +224,19 @@ fn in_scope<
                 flags,
                 slots,
                 hold,
-                chairs,
+                slot_parts,
                 room,
-                parcel.open(),
+                closing.open(),
                 middle,
             )
         },
     )
 }
 
-// Room for who sits at the slots, for the consoles that come back, and for what each slot reports.
+// Room for the parts of the slots, for the consoles that come back, and for what each slot reports.
 #[derive(Drop)]
 struct Room<T: Told + Drop, L: Look<Told = T> + Drop, S: Source<T, L> + Drop> {
-    chairs: Vec<Chair<T, L, S>>,
+    slot_parts: Vec<SlotParts<T, L, S>>,
     consoles: Vec<Console<T>>,
     reports: Vec<Option<SlotReport>>,
 }
@@ -246,15 +246,15 @@ fn room_for<T: Told + Drop, L: Look<Told = T> + Drop, S: Source<T, L> + Drop>(
     alloc: Global,
     slots: usize,
 ) -> Result<Room<T, L, S>, AllocError>
-    ensures chairs { IfOk result (λ r. (r.chairs.items ≡ []) × (slots ≤ vec_capacity r.chairs)) }
+    ensures slot_parts { IfOk result (λ r. (r.slot_parts.items ≡ []) × (slots ≤ vec_capacity r.slot_parts)) }
     ensures consoles { IfOk result (λ r. (r.consoles.items ≡ []) × (slots ≤ vec_capacity r.consoles)) }
     ensures reports { IfOk result (λ r. (r.reports.items ≡ []) × (slots ≤ vec_capacity r.reports)) }
 {
-    let chairs = Vec::with_capacity(alloc, slots)?;
+    let slot_parts = Vec::with_capacity(alloc, slots)?;
     let consoles = Vec::with_capacity(alloc, slots)?;
     let reports = Vec::with_capacity(alloc, slots)?;
     Ok(Room {
-        chairs,
+        slot_parts,
         consoles,
         reports,
     })
@@ -283,6 +283,7 @@ pub fn run_with_bells<
     sources: Vec<S>,
 ) -> Result<RunReport<K>, StartFault>
     requires sources { length sources.items ≡ length parts.slots.items }
+    requires place { (k n : ℕ) (s : _) → slice_get sources.items k ≡ Some s → S.slot s ≡ Some n → slice_get parts.slots.items k ≡ Some n }
     ensures run { IfOk result (λ report.
         IsRun (LeavesOneOf (K.honest parts.middle.flusher.store) (K.honest report.keeper) K.recovers (K.device report.keeper))
         (Endures (K.honest parts.middle.flusher.store) K.recovers (K.stored parts.middle.flusher.store) (K.device parts.middle.flusher.store) (K.device report.keeper))
@@ -290,7 +291,7 @@ pub fn run_with_bells<
 {
     let Ok(
         Room {
-            chairs,
+            slot_parts,
             consoles: back,
             reports,
         },
@@ -306,9 +307,11 @@ pub fn run_with_bells<
         board,
         middle,
     } = parts;
-    let chairs = seat(chairs, consoles, looks, sources);
+    let slot_parts = slot_parts_of(slot_parts, consoles, looks, sources);
     let flags = Flags::new(Bells::new(slots.as_slice(), bells));
-    let ends = in_scope(rt, alloc, &flags, &slots, hold, chairs, back, board, middle)?;
+    let ends = in_scope(
+        rt, alloc, &flags, &slots, hold, slot_parts, back, board, middle,
+    )?;
     Ok(report_of(ends, reports))
 }
 
@@ -329,6 +332,7 @@ pub fn run_threads<
     sources: Vec<S>,
 ) -> Result<RunReport<K>, StartFault>
     requires sources { length sources.items ≡ length parts.slots.items }
+    requires place { (k n : ℕ) (s : _) → slice_get sources.items k ≡ Some s → S.slot s ≡ Some n → slice_get parts.slots.items k ≡ Some n }
     ensures run { IfOk result (λ report.
         IsRun (LeavesOneOf (K.honest parts.middle.flusher.store) (K.honest report.keeper) K.recovers (K.device report.keeper))
         (Endures (K.honest parts.middle.flusher.store) K.recovers (K.stored parts.middle.flusher.store) (K.device parts.middle.flusher.store) (K.device report.keeper))
@@ -339,7 +343,7 @@ pub fn run_threads<
         return Err(StartFault::OutOfMemory);
     };
     for _ in 0..sources.len() {
-        if bells.push(Doorbell::new()).is_err() {
+        if bells.push(ThreadBell::new()).is_err() {
             drop(parts.close(rt));
             return Err(StartFault::OutOfMemory);
         }

@@ -63,6 +63,10 @@ impl Asker {
 }
 
 impl<T: Told + Drop, L: FreeLook<Told = T>> Source<T, L> for Asker {
+    ghost use Rattle.std.specs.Prelude.{None};
+
+    ghost slot = { λ _. None };
+
     fn turn(&mut self, console: &mut Console<T>, look: &mut L) -> Go {
         let mut go = Go::Rest;
         if let Some(receipt) = console.receive() {

@@ -71,6 +71,10 @@ impl Caller {
 }
 
 impl<T: Told + Drop, L: FreeLook<Told = T>> Source<T, L> for Caller {
+    ghost use Rattle.std.specs.Prelude.{None};
+
+    ghost slot = { λ _. None };
+
     fn turn(&mut self, console: &mut Console<T>, look: &mut L) -> Go {
         let mut go = Go::Rest;
         if let Some(receipt) = console.receive() {

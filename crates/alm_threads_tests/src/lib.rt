@@ -7,7 +7,7 @@
 //! | [`asker`], [`looker`] | a source that asks for what is always accepted, and one that only looks: for the benchmark |
 //! | [`player`] | one of these |
 //! | [`notes`] | what the sources note while they run |
-//! | [`crews`], [`devices`] | slots with their callers, and devices |
+//! | [`all_slots`], [`devices`] | slots with their callers, and devices |
 //! | [`gate`] | a hold that a look and a take of another slot open |
 //! | [`course`] | one run, from a device to what is left of it |
 //! | [`folds`] | the plant of what was accepted |
@@ -15,10 +15,10 @@
 //! They are proved with the crate itself; the rest are tests.
 #![tactic(auto)]
 
+pub mod all_slots;
 pub mod asker;
 pub mod caller;
 pub mod course;
-pub mod crews;
 pub mod devices;
 pub mod drawn;
 #[cfg(test)]

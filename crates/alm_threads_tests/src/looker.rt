@@ -32,6 +32,10 @@ impl Looker {
 }
 
 impl<T: Told + Drop, L: FreeLook<Told = T>> Source<T, L> for Looker {
+    ghost use Rattle.std.specs.Prelude.{None};
+
+    ghost slot = { λ _. None };
+
     fn turn(&mut self, _console: &mut Console<T>, look: &mut L) -> Go {
         if self.left == 0 {
             return Go::End;

@@ -18,6 +18,10 @@ pub enum Player {
 }
 
 impl<T: Told + Drop, L: FreeLook<Told = T>> Source<T, L> for Player {
+    ghost use Rattle.std.specs.Prelude.{None};
+
+    ghost slot = { λ _. None };
+
     fn turn(&mut self, console: &mut Console<T>, look: &mut L) -> Go {
         match self {
             Player::Asker(asker) => asker.turn(console, look),

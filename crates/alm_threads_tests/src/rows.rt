@@ -1,7 +1,7 @@
 //! The worked rows.
 
+use crate::all_slots::{all_slots, scripts};
 use crate::course::{Left, run_on};
-use crate::crews::{all_slots, scripts};
 use crate::devices::formatted;
 use crate::gate::Gate;
 use crate::notes::Notes;

@@ -1,7 +1,7 @@
 //! Eighteen sources at once.
 
+use crate::all_slots::{all_slots, callers};
 use crate::course::{Left, run_on};
-use crate::crews::{all_slots, callers};
 use crate::devices::formatted;
 use crate::folds::{Accepted, reopened};
 use crate::notes::Notes;

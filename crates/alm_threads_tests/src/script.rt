@@ -126,6 +126,10 @@ impl Script {
 ghost use Rattle.alm_rings.specs.Ends.{SameConsole};
 
 impl<T: Told + Drop, L: FreeLook<Told = T>> Source<T, L> for Script {
+    ghost use Rattle.std.specs.Prelude.{None};
+
+    ghost slot = { λ _. None };
+
     fn turn(&mut self, console: &mut Console<T>, look: &mut L) -> Go {
         let Some(step) = self.steps.get(self.place) else {
             return Go::End;

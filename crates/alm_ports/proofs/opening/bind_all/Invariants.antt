@@ -1,7 +1,6 @@
-use Rattle.std.proofs.Common.{◌≡◌}
-use Rattle.std.specs.Prelude.{vec_len}
+use Rattle.std.proofs.Common.{◌≡◌, map, take}
 use Rattle.alm_ports.proofs.opening.bind_all.Given as goal
 
--- as many ports as slots
+-- the ports of the slots up to here
 abbrev pub invariant-loop-slot : goal.invariant-loop-slot
-invariant-loop-slot g l = vec_len l.bounds ≡ l.slot-index
+invariant-loop-slot g l = map (λ b. b.slot) l.bounds.items ≡ take l.slot-index l.slots

@@ -1,8 +1,13 @@
-use Rattle.std.proofs.Common.{refl, sym, ◌∙◌}
+use Rattle.std.proofs.Common.{◌≡◌, ◌∙◌, Some, slice_get, refl, sym, subst}
 use Rattle.std.proofs.Props.{props}
 use Rattle.std.proofs.Math.Logic.{∥∥₁_elim}
+use Rattle.alm_ports.specs.declared.slot_port.SlotPort.{SlotPort}
+use Rattle.alm_threads.proofs.Tied.{numbered}
 use Rattle.alm_serve.proofs.Runs.{run_by}
 use Rattle.alm_serve.proofs.serving.run_parts.Goals as goal
+
+pub run_with_bells-requires-clause-place : goal.run_with_bells-requires-clause-place
+run_with_bells-requires-clause-place g c κs within = λ k n s at is. subst (λ l. slice_get l k ≡ Some n) c.requires.ports (numbered (λ (p : SlotPort). p.slot) c.args.ports.ports.items k s at ∙ is)
 
 pub returns-in-Whole : goal.returns-in-Whole
 returns-in-Whole g c =

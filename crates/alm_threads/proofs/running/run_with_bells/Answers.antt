@@ -1,4 +1,4 @@
-use Rattle.std.proofs.Common.{◌≡◌, ◌∙◌, ◌++◌, length, ap, sym, subst, arith}
+use Rattle.std.proofs.Common.{◌≡◌, ◌∙◌, ◌++◌, Some, slice_get, length, ap, sym, subst, arith}
 use Rattle.std.specs.Prelude.{IsSome}
 use Rattle.alm_model.specs.Judging.{accepted_of, entries_in, of_slot}
 use Rattle.alm_model.specs.Step.{run}
@@ -13,6 +13,9 @@ use Rattle.alm_threads.specs.Runs.{Closes}
 use Rattle.alm_threads.proofs.Tied.{stands_at, apart_by, map_count, wants_count, replies_count, received_count, front_on, entries_front, same_slots, tied_still}
 use Rattle.alm_threads.proofs.running.run_with_bells.Goals as goal
 
+pub slot_parts_of-slot_parts-requires-clause-place : goal.slot_parts_of-slot_parts-requires-clause-place
+slot_parts_of-slot_parts-requires-clause-place g c = λ k n s at is. subst (λ l. slice_get l k ≡ Some n) (sym c.args.parts.order) (c.requires.place k n s at is)
+
 pub in_scope-requires-clause-serves : goal.in_scope-requires-clause-serves
 in_scope-requires-clause-serves g c = λ _ _ k s at. (let d = stands_at (λ (x : Console _ _). x.slot) c.args.parts.consoles.items c.args.parts.slots.items k s c.args.parts.order at in
     subst (λ n. IsSome (inbox_at n c.args.parts.middle.rings.inboxes.items)) d.1.1 (c.args.parts.inboxes k d.0 d.1.0))
@@ -21,15 +24,15 @@ pub report_of-requires-clause-apart : goal.report_of-requires-clause-apart
 report_of-requires-clause-apart g c =
     let p = c.args.parts in
     let back = c.in_ok-ends.ends.consoles.items in
-    let all = subst (λ cs. AllSame cs back) c.seat-chairs.ensures.consoles c.in_ok-ends.ensures.consoles in
+    let all = subst (λ cs. AllSame cs back) c.slot_parts_of-slot_parts.ensures.consoles c.in_ok-ends.ensures.consoles in
     apart_by (λ (x : Console _ _). x.slot) back p.slots.items (same_slots p.consoles.items back all ∙ p.order) p.apart
 
 pub report_of-requires-clause-tied : goal.report_of-requires-clause-tied
 report_of-requires-clause-tied g c =
     let p = c.args.parts in
     let e = c.in_ok-ends.ends in
-    let all = subst (λ cs. AllSame cs e.consoles.items) c.seat-chairs.ensures.consoles c.in_ok-ends.ensures.consoles in
-    tied_still p.consoles.items e.consoles.items p.middle.rings.inboxes.items e.rings.inboxes.items p.middle.flusher.outboxes.items e.landed.outboxes.items all c.in_ok-ends.ensures.inboxes c.in_ok-ends.ensures.outboxes (record {
+    let all = subst (λ cs. AllSame cs e.consoles.items) c.slot_parts_of-slot_parts.ensures.consoles c.in_ok-ends.ensures.consoles in
+    tied_still p.consoles.items e.consoles.items p.middle.rings.inboxes.items e.rings.inboxes.items p.middle.flusher.outboxes.items e.flusher.outboxes.items all c.in_ok-ends.ensures.inboxes c.in_ok-ends.ensures.outboxes (record {
       has_inbox = p.inboxes;
       has_outbox = p.outboxes;
       requests = p.requests;
@@ -40,7 +43,7 @@ pub report_of-requires-clause-room : goal.report_of-requires-clause-room
 report_of-requires-clause-room g c =
     let p = c.args.parts in
     let back = c.in_ok-ends.ends.consoles in
-    let all = subst (λ cs. AllSame cs back.items) c.seat-chairs.ensures.consoles c.in_ok-ends.ensures.consoles in
+    let all = subst (λ cs. AllSame cs back.items) c.slot_parts_of-slot_parts.ensures.consoles c.in_ok-ends.ensures.consoles in
     let order = same_slots p.consoles.items back.items all ∙ p.order in
     (c.in-Ok.ensures.reports.0, omega (arith, c.in-Ok.ensures.reports.1, c.len.ensures, back.ok, p.slots.ok, map_count (λ (x : Console _ _). x.slot) back.items, ap length order))
 
@@ -49,10 +52,10 @@ returns g c =
     let p = c.args.parts in
     let e = c.in_ok-ends.ends in
     let f = c.in_ok-ends.ensures in
-    let all = subst (λ cs. AllSame cs e.consoles.items) c.seat-chairs.ensures.consoles f.consoles in
+    let all = subst (λ cs. AllSame cs e.consoles.items) c.slot_parts_of-slot_parts.ensures.consoles f.consoles in
     let order = same_slots p.consoles.items e.consoles.items all ∙ p.order in
     let entries = f.judged.entries in
-    let fetched = fetched_of e.landed.fetch in
+    let fetched = fetched_of e.flusher.fetch in
     let sealed = sealed_of e.rings.ends in
     let reports = c.report_of.result.slots.items in
     record {
@@ -68,18 +71,18 @@ returns g c =
             (sym c.report_of.ensures.keeper) f.flushed.device;
         told = f.flushed.told;
         within = f.flushed.within;
-        course = endures_on g.K.Store.recovers (g.K.Store.stored p.middle.flusher.store) (g.K.Store.honest p.middle.flusher.store) (g.K.Store.device p.middle.flusher.store) (g.K.Store.device e.landed.store) (g.K.Store.device c.report_of.result.keeper) (accepted_of (entries_in fetched)) (accepted_of entries) _
+        course = endures_on g.K.Store.recovers (g.K.Store.stored p.middle.flusher.store) (g.K.Store.honest p.middle.flusher.store) (g.K.Store.device p.middle.flusher.store) (g.K.Store.device e.flusher.store) (g.K.Store.device c.report_of.result.keeper) (accepted_of (entries_in fetched)) (accepted_of entries) _
             (ap g.K.Store.device (sym c.report_of.ensures.keeper)) (accepted_prefix (entries_in fetched) entries (front_on (entries_in fetched) (entries_in sealed) entries (entries_front fetched sealed c.report_of.ensures.fetched) f.judged.sealed)) f.flushed.course;
         count = c.report_of.ensures.closed.0 ∙ (sym (map_count (λ (x : Console _ _). x.slot) e.consoles.items) ∙ ap length order);
         each = λ k s at. (
             let d = stands_at (λ (x : Console _ _). x.slot) e.consoles.items p.slots.items k s order at in
             let taken : length (taken_by d.0.slot e.rings.inboxes.items) ≡ length (of_slot s entries) = ap (λ n. length (taken_by n e.rings.inboxes.items)) d.1.1 ∙ (ap length (sym (f.judged.wants s)) ∙ wants_count (of_slot s entries)) in
-            let told : length (released_by d.0.slot e.landed.outboxes.items) ≡ length (of_slot s f.flushed.told) = ap (λ n. length (released_by n e.landed.outboxes.items)) d.1.1 ∙ (sym (received_count (released_by s e.landed.outboxes.items)) ∙ (ap length (f.flushed.released s) ∙ replies_count (of_slot s f.flushed.told))) in
+            let told : length (released_by d.0.slot e.flusher.outboxes.items) ≡ length (of_slot s f.flushed.told) = ap (λ n. length (released_by n e.flusher.outboxes.items)) d.1.1 ∙ (sym (received_count (released_by s e.flusher.outboxes.items)) ∙ (ap length (f.flushed.released s) ∙ replies_count (of_slot s f.flushed.told))) in
             let closes = c.report_of.ensures.closed.1 k d.0 d.1.0 in (
               length (sent_of d.0),
               length (received_of d.0),
               subst (λ n. Closes reports k (length (sent_of d.0)) (length (of_slot s entries)) n (length (received_of d.0))) told
-                  (subst (λ n. Closes reports k (length (sent_of d.0)) n (length (released_by d.0.slot e.landed.outboxes.items)) (length (received_of d.0))) taken closes),
+                  (subst (λ n. Closes reports k (length (sent_of d.0)) n (length (released_by d.0.slot e.flusher.outboxes.items)) (length (received_of d.0))) taken closes),
             ));
       };
     }

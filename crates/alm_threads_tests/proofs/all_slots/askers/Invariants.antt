@@ -1,6 +1,6 @@
 use Rattle.std.specs.Prelude.{◌≡◌, length}
-use Rattle.alm_threads_tests.proofs.crews.callers.Given as goal
+use Rattle.alm_threads_tests.proofs.all_slots.askers.Given as goal
 
 -- one for each slot so far
 abbrev pub invariant-loop-place : goal.invariant-loop-place
-invariant-loop-place l = length l.callers.items ≡ l.place
+invariant-loop-place l = length l.askers.items ≡ l.place

@@ -12,20 +12,20 @@ use std::time::Duration;
 pub const YIELDS: u32 = 8;
 
 /// How long it sleeps at most, in milliseconds.
-const NAP: u64 = 100;
+const SLEEP: u64 = 100;
 
 /// A bell that one thread sleeps by. It is rung by a load alone while that thread is busy.
 #[derive(Drop)]
-pub struct Doorbell {
+pub struct ThreadBell {
     // The thread sleeps, or looks a last time before it does.
     listens: AtomicBool,
     parker: Parker,
 }
 
-impl Doorbell {
+impl ThreadBell {
     /// One that nobody listens to.
     pub fn new() -> Self {
-        Doorbell {
+        ThreadBell {
             listens: AtomicBool::new(false),
             parker: Parker::new(),
         }
@@ -39,7 +39,7 @@ impl Doorbell {
     }
 
     /// Sleeps until it is woken, no longer than the pause that is given up for it.
-    pub fn doze<R: Wait>(&self, rt: &R, pause: Pause) {
+    pub fn sleep<R: Wait>(&self, rt: &R, pause: Pause) {
         self.parker
             .park_timeout(rt, Duration::from_micros(pause.micros()));
     }
@@ -50,7 +50,7 @@ impl Doorbell {
     }
 }
 
-impl Bell for Doorbell {
+impl Bell for ThreadBell {
     fn ring(&self) {
         if self.listens.load(Ordering::SeqCst) {
             self.listens.store(false, Ordering::SeqCst);
@@ -64,7 +64,7 @@ impl Bell for Doorbell {
         if idle < YIELDS {
             thread::yield_now();
         } else if self.listens.load(Ordering::SeqCst) {
-            self.parker.park_timeout(rt, Duration::from_millis(NAP));
+            self.parker.park_timeout(rt, Duration::from_millis(SLEEP));
         } else {
             self.listens.store(true, Ordering::SeqCst);
         }

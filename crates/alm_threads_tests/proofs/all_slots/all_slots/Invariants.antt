@@ -1,6 +1,6 @@
 use Rattle.std.proofs.Common.{◌≡◌, ◌≤◌, ℕ, length, slice_get, Some}
 use Rattle.std.specs.Prelude.{vec_capacity}
-use Rattle.alm_threads_tests.proofs.crews.all_slots.Given as goal
+use Rattle.alm_threads_tests.proofs.all_slots.all_slots.Given as goal
 
 -- the slots so far, in their order
 abbrev pub invariant-loop-number : goal.invariant-loop-number

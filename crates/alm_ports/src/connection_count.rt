@@ -6,17 +6,17 @@ use std::sync::atomic::{AtomicU64, Ordering};
 
 /// How many connections have ended, of as many as the server is to have.
 #[derive(Drop)]
-pub struct Visits {
+pub struct ConnectionCount {
     // 0 is without end.
     most: u64,
     ended: AtomicU64,
     bells: Vec<SlotBell>,
 }
 
-impl Visits {
+impl ConnectionCount {
     /// So many connections in all, 0 without end. These bells are rung when the last one has ended.
     pub fn new(most: u32, bells: Vec<SlotBell>) -> Self {
-        Visits {
+        ConnectionCount {
             most: u64::from(most),
             ended: AtomicU64::new(0),
             bells,

@@ -1,16 +1,18 @@
 //! One slot's port.
 
+ghost use Rattle.std.specs.Prelude.{◌≡◌, IfOk};
 ghost use Rattle.alm_rings.specs.Ends.{SameConsole};
 
 use crate::bound::Bound;
-use crate::guest::Guest;
+use crate::connection::Connection;
+use crate::connection_count::ConnectionCount;
 use crate::slot_bell::SlotBell;
 use crate::stream_wire::StreamWire;
-use crate::visits::Visits;
 use alm_board::FreeLook;
 use alm_rings::{Console, Told};
 use alm_run::{Go, Source};
 use alm_session::{Session, Turn, drain};
+use alm_types::Slot;
 use mio::net::TcpListener;
 use mio::{Events, Interest, Poll, Token};
 use std::io;
@@ -23,62 +25,69 @@ const LISTENER: Token = Token(0);
 const STREAM: Token = Token(1);
 
 /// How long a poll takes at most, in milliseconds.
-const NAP: u64 = 1000;
+const SLEEP: u64 = 1000;
 
 /// One slot's port: one connection after another, each answered by the slot's session.
 #[derive(Drop)]
-pub struct Door {
+pub struct SlotPort {
+    pub slot: Slot,
     listener: TcpListener,
     poll: Poll,
     events: Events,
     bell: SlotBell,
-    visits: Arc<Visits>,
+    count: Arc<ConnectionCount>,
     session: Session,
-    guest: Guest,
+    connection: Connection,
 }
 
-impl Door {
+impl SlotPort {
+    ghost use Rattle.std.specs.Prelude.{◌≡◌, IfOk};
     ghost use Rattle.alm_rings.specs.Ends.{SameConsole};
 
     /// A port with nobody connected, whose listener is polled from now on.
     pub fn new(
         bound: Bound,
         events: Events,
-        visits: Arc<Visits>,
+        count: Arc<ConnectionCount>,
         session: Session,
-    ) -> io::Result<Self> {
+    ) -> io::Result<Self>
+        ensures slot { IfOk result (λ port. port.slot ≡ bound.slot) }
+    {
         let Bound {
             mut listener,
             poll,
             bell,
-            slot: _,
+            slot,
         } = bound;
         poll.registry()
             .register(&mut listener, LISTENER, Interest::READABLE)?;
-        Ok(Door {
+        Ok(SlotPort {
+            slot,
             listener,
             poll,
             events,
             bell,
-            visits,
+            count,
             session,
-            guest: Guest::Nobody,
+            connection: Connection::Awaited,
         })
     }
 
     /// Accepts a connection, if one waits: whether one came.
-    fn welcome(&mut self) -> bool {
+    fn accept(&mut self) -> bool
+        ensures slot { self.new.slot ≡ self.old.slot }
+    {
         let Ok((mut stream, _)) = self.listener.accept() else {
             return false;
         };
         let both = Interest::READABLE | Interest::WRITABLE;
         let polled = self.poll.registry().register(&mut stream, STREAM, both);
         if polled.is_err() || stream.set_nodelay(true).is_err() {
-            self.guest = Guest::Gone;
+            self.connection = Connection::Ended;
             return true;
         }
         self.session.restart();
-        self.guest = Guest::Here(StreamWire::new(stream));
+        self.connection = Connection::Open(StreamWire::new(stream));
         true
     }
 
@@ -88,45 +97,52 @@ impl Door {
         console: &mut Console<T>,
         look: &mut L,
     ) -> bool
-        ensures { SameConsole console.old console.new }
+        ensures ends { SameConsole console.old console.new }
+        ensures slot { self.new.slot ≡ self.old.slot }
     {
-        match &mut self.guest {
-            Guest::Nobody => self.welcome(),
-            Guest::Here(wire) => match self.session.turn(wire, console, look) {
+        match &mut self.connection {
+            Connection::Awaited => self.accept(),
+            Connection::Open(wire) => match self.session.turn(wire, console, look) {
                 Turn::Went => true,
                 Turn::Idle => false,
                 Turn::Ended | Turn::Fault => {
-                    self.guest = Guest::Gone;
+                    self.connection = Connection::Ended;
                     true
                 }
             },
-            Guest::Gone => {
+            Connection::Ended => {
                 if !drain(console, look) {
                     return false;
                 }
-                self.guest = Guest::Nobody;
-                self.visits.end_one();
+                self.connection = Connection::Awaited;
+                self.count.end_one();
                 true
             }
         }
     }
 
     /// Has the bell wake the thread, then waits for the sockets and the bell.
-    fn rest(&mut self) {
+    fn rest(&mut self)
+        ensures slot { self.new.slot ≡ self.old.slot }
+    {
         if !self.bell.listens() {
             self.bell.listen();
             return;
         }
         let _ = self
             .poll
-            .poll(&mut self.events, Some(Duration::from_millis(NAP)));
+            .poll(&mut self.events, Some(Duration::from_millis(SLEEP)));
         self.bell.attend();
     }
 }
 
-impl<T: Told + Drop, L: FreeLook<Told = T>> Source<T, L> for Door {
+impl<T: Told + Drop, L: FreeLook<Told = T>> Source<T, L> for SlotPort {
+    ghost use Rattle.std.specs.Prelude.{Some};
+
+    ghost slot = { λ port. Some port.slot };
+
     fn turn(&mut self, console: &mut Console<T>, look: &mut L) -> Go {
-        if self.visits.are_over() {
+        if self.count.are_over() {
             return Go::End;
         }
         if self.step(console, look) {

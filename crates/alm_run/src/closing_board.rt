@@ -4,19 +4,19 @@ use crate::closes::Closes;
 use std::sync::Wait;
 
 /// A board that is closed where it is let go, as by a run that can't be started.
-pub struct Parcel<'r, B: Closes<R>, R: Wait> {
+pub struct ClosingBoard<'r, B: Closes<R>, R: Wait> {
     board: B,
     rt: &'r R,
 }
 
-impl<'r, B: Closes<R>, R: Wait> Parcel<'r, B, R> {
+impl<'r, B: Closes<R>, R: Wait> ClosingBoard<'r, B, R> {
     ghost use Rattle.std.specs.Prelude.{◌≡◌};
 
     /// With this board.
     pub fn new(board: B, rt: &'r R) -> Self
         ensures { result.board ≡ board }
     {
-        Parcel { board, rt }
+        ClosingBoard { board, rt }
     }
 
     /// The board.
@@ -28,7 +28,7 @@ impl<'r, B: Closes<R>, R: Wait> Parcel<'r, B, R> {
     }
 }
 
-impl<B: Closes<R>, R: Wait> Drop for Parcel<'_, B, R> {
+impl<B: Closes<R>, R: Wait> Drop for ClosingBoard<'_, B, R> {
     fn drop(self) {
         let Self { board, rt } = self;
         board.close(rt);

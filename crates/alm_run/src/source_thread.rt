@@ -1,5 +1,5 @@
 //! A source's thread.
-ghost use Rattle.std.specs.Prelude.{◌≡◌};
+ghost use Rattle.std.specs.Prelude.{◌≡◌, ℕ, Some};
 ghost use Rattle.alm_rings.specs.Ends.{SameConsole};
 
 use crate::bell::Bell;
@@ -27,13 +27,14 @@ fn rest<T: Told + Drop, B: Bell + Drop, R: Wait>(
 
 /// Takes turns until the source ends or `stop` is set. The sequencer is woken after a turn that may have sent something, the flusher
 /// after one that may have received something.
-pub fn sit<
+pub fn run_source<
     T: Told + Drop,
     L: Look<Told = T> + Drop,
     S: Source<T, L> + Drop,
     B: Bell + Drop,
     R: Wait,
 >(rt: &R, flags: &Flags<B>, console: Console<T>, look: L, source: S) -> Console<T>
+    requires slot { (n : ℕ) → S.slot source ≡ Some n → console.slot ≡ n }
     ensures { SameConsole console result }
 {
     let mut console = console;

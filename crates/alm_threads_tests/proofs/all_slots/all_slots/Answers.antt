@@ -1,6 +1,6 @@
 use Rattle.std.proofs.Common.{rules, ◌≡◌, ◌∷◌, [], length, slice_get, inl, inr, ap, sym, ◌∙◌, arith, length-append}
 use Rattle.alm_rings.proofs.Ordered.{push_cases}
-use Rattle.alm_threads_tests.proofs.crews.all_slots.Goals as goal
+use Rattle.alm_threads_tests.proofs.all_slots.all_slots.Goals as goal
 
 pub loop-number-preserved : goal.loop-number-preserved
 loop-number-preserved c =

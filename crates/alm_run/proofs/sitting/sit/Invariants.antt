@@ -1,5 +1,0 @@
-use Rattle.alm_rings.specs.Ends.{SameConsole}
-use Rattle.alm_run.proofs.sitting.sit.Given as goal
-
-abbrev pub invariant-loop : goal.invariant-loop
-invariant-loop g l = SameConsole l.fn.console l.console
