@@ -31,6 +31,8 @@ pub mod notes;
 mod outages;
 pub mod player;
 #[cfg(test)]
+mod refusals;
+#[cfg(test)]
 mod rows;
 #[cfg(test)]
 mod runs;
