@@ -23,7 +23,7 @@ fn texts(alloc: Global, row: Row) -> Result<(String, String), Fail> {
 }
 
 /// Whether a desk prints this for what a reader gives.
-fn prints<B: Backend + Drop, I: Read + Drop>(
+pub fn prints<B: Backend + Drop, I: Read + Drop>(
     alloc: Global,
     desk: &mut LocalDesk<B>,
     reader: I,
@@ -59,11 +59,11 @@ fn first_wrong_of_new(alloc: Global, row: Row) -> Result<Option<usize>, Fail> {
     found
 }
 
-/// Whether a new desk prints this for a front and the bytes behind it.
-fn prints_in_two(alloc: Global, (front, back): (&[u8], &[u8]), wanted: &[u8]) -> bool {
+/// Whether a new desk prints this for what a reader gives.
+pub fn prints_anew<I: Read + Drop>(alloc: Global, reader: I, wanted: &[u8]) -> bool {
     match new_desk(alloc) {
         Ok(mut desk) => {
-            let same = prints(alloc, &mut desk, front.chain(back), wanted);
+            let same = prints(alloc, &mut desk, reader, wanted);
             drop(desk);
             same
         }
@@ -81,7 +81,8 @@ pub fn check<R: Abort + AllocGlobal>(rt: &R, name: &str, row: Row) -> Result<(),
     let input = input.as_str().as_bytes();
     let wanted = wanted.as_str().as_bytes();
     for at in 0..=input.len() {
-        let same = prints_in_two(alloc, input.split_at(at), wanted);
+        let (front, back) = input.split_at(at);
+        let same = prints_anew(alloc, front.chain(back), wanted);
         assert!(rt; same, "{name}, cut at {at}");
     }
     let same = prints_over_a_device(alloc, input, wanted);

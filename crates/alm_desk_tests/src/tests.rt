@@ -1,8 +1,9 @@
 //! Lines that are none, streams beside each other, and writers that fail.
 
+use crate::check::{prints, prints_anew};
 use crate::desk::{new_desk, printed};
 use crate::slow_writer::SlowWriter;
-use alm_desk::{CountedWriter, DeskFault, desk_of};
+use alm_desk::{Backend, CountedWriter, DeskFault, LocalDesk, desk_of};
 use alm_plant::Plant;
 use alm_service::{CountedReader, RunFault, desk_run};
 use alm_types::{Attr, Kind, Settings, Slot, Table};
@@ -10,88 +11,127 @@ use std::alloc::Global;
 use std::io::Read;
 use std::test::Fail;
 
+/// What a slot's stream brings: at once, or byte by byte.
+#[derive(Clone, Copy)]
+enum Piece<'a> {
+    Whole(u8, &'a [u8]),
+    Bytes(u8, &'a [u8]),
+}
+
+/// Feeds a slot: whether the desk took it.
+fn takes<B: Backend + Drop>(
+    desk: &mut LocalDesk<B>,
+    slot: u8,
+    piece: &[u8],
+    writer: &mut CountedWriter<Vec<u8>>,
+) -> bool {
+    match Slot::new(slot) {
+        Some(slot) => desk.feed(slot, piece, writer).is_ok(),
+        None => false,
+    }
+}
+
+/// Whether a desk answers these pieces so.
+fn answers<B: Backend + Drop>(
+    alloc: Global,
+    desk: &mut LocalDesk<B>,
+    pieces: &[Piece<'_>],
+    wanted: &[u8],
+) -> bool {
+    let mut writer = CountedWriter::new(Vec::new(alloc));
+    let mut taken = true;
+    for piece in pieces {
+        match piece {
+            Piece::Whole(slot, bytes) => taken = taken && takes(desk, *slot, bytes, &mut writer),
+            Piece::Bytes(slot, bytes) => {
+                for byte in *bytes {
+                    taken = taken && takes(desk, *slot, &[*byte], &mut writer);
+                }
+            }
+        }
+    }
+    taken && writer.into_inner().as_slice() == wanted
+}
+
+/// Whether a new desk does.
+fn answers_anew(alloc: Global, pieces: &[Piece<'_>], wanted: &[u8]) -> bool {
+    match new_desk(alloc) {
+        Ok(mut desk) => {
+            let same = answers(alloc, &mut desk, pieces, wanted);
+            drop(desk);
+            same
+        }
+        Err(_) => false,
+    }
+}
+
 #[test]
 fn slots_are_streams_of_their_own(rt: HostRuntime) -> Result<(), Fail> {
-    let alloc = rt.alloc();
-    let mut desk = new_desk(alloc)?;
-    let mut writer = CountedWriter::new(Vec::new(alloc));
-    let feed = Slot::new(16).ok_or("slot")?;
-    let console = Slot::new(0).ok_or("slot")?;
-    for byte in b"1 VAL 0 800\n2 VAL 0 7" {
-        desk.feed(feed, &[*byte], &mut writer)?;
-    }
-    for byte in b"3 ACK 0\n\n" {
-        desk.feed(console, &[*byte], &mut writer)?;
-    }
-    desk.feed(feed, b"00\n7", &mut writer)?;
+    let pieces = [
+        Piece::Bytes(16, b"1 VAL 0 800\n2 VAL 0 7"),
+        Piece::Bytes(0, b"3 ACK 0\n\n"),
+        Piece::Whole(16, b"00\n7"),
+    ];
     let wanted = b"1 OK 1\n3 OK 2\n0 NO 13\n2 OK 3\n";
-    assert_eq!(rt; writer.into_inner().as_slice(), wanted.as_slice());
+    assert!(rt; answers_anew(rt.alloc(), &pieces, wanted));
     Ok(())
 }
 
 #[test]
 fn desk_lines_that_are_none(rt: HostRuntime) -> Result<(), Fail> {
-    let alloc = rt.alloc();
     let input =
         b"16 1 VAL 0 800\n16 2 VAL 0 790\n16 3 VAL 0 789\n0 4 ACK 0\n1 5 ACK 0\n0 6 VAL 0 900\n0 7\n0 \n0\nx\n18 1 STATE 0\n0 8 ACK 0\xff\n";
     let wanted =
         b"16 1 OK 1\n16 2 NO 9\n16 3 OK 2\n0 4 OK 3\n1 5 NO 2\n0 6 NO 11\n0 7 NO 13\n0 0 NO 13\n? NO 13\n? NO 13\n? NO 13\n0 8 NO 13\n";
-    let mut desk = new_desk(alloc)?;
-    let got = printed(alloc, &mut desk, input.as_slice())?;
-    assert_eq!(rt; got.as_slice(), wanted.as_slice());
+    assert!(rt; prints_anew(rt.alloc(), input.as_slice(), wanted));
     Ok(())
+}
+
+/// Whether a desk drops what has no end.
+fn drops_a_rest<B: Backend + Drop>(alloc: Global, desk: &mut LocalDesk<B>) -> bool {
+    let (input, wanted) = (b"0 2 STATE 3\n0 3", b"0 2 STATE 0 NORM 0 - -\n");
+    prints(alloc, desk, b"".as_slice(), b"")
+        && prints(alloc, desk, b"0 1 STATE 0".as_slice(), b"")
+        && prints(alloc, desk, input.as_slice(), wanted)
 }
 
 #[test]
 fn what_has_no_end_is_dropped(rt: HostRuntime) -> Result<(), Fail> {
-    let alloc = rt.alloc();
-    let mut desk = new_desk(alloc)?;
-    assert_eq!(rt;
-        printed(alloc, &mut desk, b"".as_slice())?.as_slice(),
-        b"".as_slice()
-    );
-    assert_eq!(rt;
-        printed(alloc, &mut desk, b"0 1 STATE 0".as_slice())?.as_slice(),
-        b"".as_slice()
-    );
-    let got = printed(alloc, &mut desk, b"0 2 STATE 3\n0 3".as_slice())?;
-    assert_eq!(rt; got.as_slice(), b"0 2 STATE 0 NORM 0 - -\n".as_slice());
+    let mut desk = new_desk(rt.alloc())?;
+    let same = drops_a_rest(rt.alloc(), &mut desk);
+    drop(desk);
+    assert!(rt; same);
     Ok(())
+}
+
+/// Whether a desk drops a thousand pieces of a thousand bytes, and as many at once from a reader.
+fn drops_a_million<B: Backend + Drop>(
+    alloc: Global,
+    desk: &mut LocalDesk<B>,
+    long: &[u8],
+    pieces: &[Piece<'_>],
+) -> bool {
+    let behind = b"\n0 2 STATE 0\n".as_slice();
+    answers(alloc, desk, pieces, b"0 NO 14\n1 STATE 0 NORM 0 - -\n")
+        && prints(
+            alloc,
+            desk,
+            long.chain(behind),
+            b"? NO 14\n0 2 STATE 0 NORM 0 - -\n",
+        )
 }
 
 #[test]
 fn a_million_bytes_without_an_end(rt: HostRuntime) -> Result<(), Fail> {
     let alloc = rt.alloc();
-    let mut desk = new_desk(alloc)?;
-    let mut writer = CountedWriter::new(Vec::new(alloc));
-    let console = Slot::new(0).ok_or("slot")?;
-    for _ in 0..1000_usize {
-        desk.feed(console, &[b'A'; 1000], &mut writer)?;
-    }
-    desk.feed(console, b"\n1 STATE 0\n", &mut writer)?;
-    let wanted = b"0 NO 14\n1 STATE 0 NORM 0 - -\n";
-    assert_eq!(rt; writer.into_inner().as_slice(), wanted.as_slice());
     let long = vec![in alloc; b'A'; 1_000_000]?;
-    let got = printed(
-        alloc,
-        &mut desk,
-        long.as_slice().chain(b"\n0 2 STATE 0\n".as_slice()),
-    )?;
-    assert_eq!(rt;
-        got.as_slice(),
-        b"? NO 14\n0 2 STATE 0 NORM 0 - -\n".as_slice()
-    );
-    Ok(())
-}
-
-/// What a slot's stream is answered, fed in two pieces.
-fn fed_in_two(alloc: Global, (front, back): (&[u8], &[u8])) -> Result<Vec<u8>, Fail> {
+    let mut pieces = vec![in alloc; Piece::Whole(0, &[b'A'; 1000]); 1000]?;
+    pieces.push(Piece::Whole(0, b"\n1 STATE 0\n"))?;
     let mut desk = new_desk(alloc)?;
-    let mut writer = CountedWriter::new(Vec::new(alloc));
-    let console = Slot::new(0).ok_or("slot")?;
-    desk.feed(console, front, &mut writer)?;
-    desk.feed(console, back, &mut writer)?;
-    Ok(writer.into_inner())
+    let same = drops_a_million(alloc, &mut desk, &long, &pieces);
+    drop(desk);
+    assert!(rt; same);
+    Ok(())
 }
 
 /// A line that begins so and has so many bytes with its end.
@@ -119,12 +159,9 @@ fn the_longest_lines_of_a_slot(rt: HostRuntime) -> Result<(), Fail> {
     for (len, wanted) in LONG_LINES {
         let line = line_of(alloc, "7 ", len)?;
         for cut in 0..=line.len() {
-            let got = fed_in_two(alloc, (&line[..cut], &line[cut..]))?;
-            assert_eq!(rt;
-                got.as_slice(),
-                wanted.as_bytes(),
-                "{len} bytes, cut at {cut}"
-            );
+            let pieces = [Piece::Whole(0, &line[..cut]), Piece::Whole(0, &line[cut..])];
+            let same = answers_anew(alloc, &pieces, wanted.as_bytes());
+            assert!(rt; same, "{len} bytes, cut at {cut}");
         }
     }
     Ok(())
@@ -143,11 +180,23 @@ fn the_longest_lines_of_a_desk(rt: HostRuntime) -> Result<(), Fail> {
     let alloc = rt.alloc();
     for (front, len, wanted) in LONG_DESK_LINES {
         let line = line_of(alloc, front, len)?;
-        let mut desk = new_desk(alloc)?;
-        let got = printed(alloc, &mut desk, line.as_slice())?;
-        assert_eq!(rt; got.as_slice(), wanted.as_bytes(), "{len} bytes");
+        let same = prints_anew(alloc, line.as_slice(), wanted.as_bytes());
+        assert!(rt; same, "{len} bytes");
     }
     Ok(())
+}
+
+/// What a desk answers whose writer fails once it is full, and then again.
+fn fed_twice<B: Backend + Drop>(
+    desk: &mut LocalDesk<B>,
+    console: Slot,
+    lines: &[u8],
+    writer: SlowWriter,
+) -> ([Result<(), DeskFault>; 2], SlowWriter) {
+    let mut writer = CountedWriter::new(writer);
+    let fed = desk.feed(console, lines, &mut writer);
+    let again = desk.feed(console, b"", &mut writer);
+    ([fed, again], writer.into_inner())
 }
 
 #[test]
@@ -158,20 +207,34 @@ fn a_failed_write_closes_the_desk(rt: HostRuntime) -> Result<(), Fail> {
     let wanted = b"1 STATE 0 NORM 0 - -\n2 STATE 0 NORM 0 - -\n3 LIST 0 0\n";
     for room in 0..=wanted.len() {
         let mut desk = new_desk(alloc)?;
-        let mut writer = CountedWriter::new(SlowWriter::new(alloc, room));
-        let fed = desk.feed(console, lines, &mut writer);
-        let again = desk.feed(console, b"", &mut writer);
-        if room < wanted.len() {
-            assert_eq!(rt; fed, Err(DeskFault::Write), "room for {room}");
-            assert_eq!(rt; again, Err(DeskFault::Closed), "room for {room}");
+        let (fed, writer) = fed_twice(&mut desk, console, lines, SlowWriter::new(alloc, room));
+        drop(desk);
+        let ends = if room < wanted.len() {
+            [Err(DeskFault::Write), Err(DeskFault::Closed)]
         } else {
-            assert_eq!(rt; fed, Ok(()));
-            assert_eq!(rt; again, Ok(()));
-        }
-        let writer = writer.into_inner();
+            [Ok(()), Ok(())]
+        };
+        assert_eq!(rt; fed, ends, "room for {room}");
         assert_eq!(rt; writer.taken(), &wanted[..room], "room for {room}");
     }
     Ok(())
+}
+
+/// How a run ends whose writer fails once it is full, and the next run of its desk.
+fn run_twice<B: Backend + Drop>(
+    alloc: Global,
+    desk: &mut LocalDesk<B>,
+    lines: &[u8],
+    writer: SlowWriter,
+) -> ([Result<(), RunFault>; 2], SlowWriter) {
+    let mut reader = CountedReader::new(lines);
+    let mut writer = CountedWriter::new(writer);
+    let run = desk_run(&mut reader, &mut writer, desk);
+    let again = match printed(alloc, desk, b"0 3 STATE 0\n".as_slice()) {
+        Ok(_) => Ok(()),
+        Err(fault) => Err(fault),
+    };
+    ([run, again], writer.into_inner())
 }
 
 #[test]
@@ -181,19 +244,18 @@ fn a_run_ends_where_its_writer_fails(rt: HostRuntime) -> Result<(), Fail> {
     let wanted = b"16 1 OK 1\n? NO 13\n0 2 STATE 1 UNACK 1 - -\n";
     for room in 0..=wanted.len() {
         let mut desk = new_desk(alloc)?;
-        let mut reader = CountedReader::new(lines.as_slice());
-        let mut writer = CountedWriter::new(SlowWriter::new(alloc, room));
-        let run = desk_run(&mut reader, &mut writer, &mut desk);
-        let again = printed(alloc, &mut desk, b"0 3 STATE 0\n".as_slice());
-        let writer = writer.into_inner();
+        let (runs, writer) = run_twice(alloc, &mut desk, lines, SlowWriter::new(alloc, room));
+        drop(desk);
         assert_eq!(rt; writer.taken(), &wanted[..room], "room for {room}");
         if room < wanted.len() {
-            assert_eq!(rt; run, Err(RunFault::Write), "room for {room}");
-            assert_eq!(rt; again.err(), Some(RunFault::Write), "room for {room}");
+            assert_eq!(rt;
+                runs,
+                [Err(RunFault::Write), Err(RunFault::Write)],
+                "room for {room}"
+            );
         } else {
-            assert_eq!(rt; run, Ok(()));
+            assert_eq!(rt; runs, [Ok(()), Ok(())]);
             assert_eq!(rt; writer.flushed(), wanted.len());
-            assert!(rt; again.is_ok());
         }
     }
     Ok(())
@@ -239,8 +301,11 @@ fn replies_to_all(alloc: Global) -> Result<String, Fail> {
 /// What the desk of so many alarms prints.
 fn printed_by_all(alloc: Global, lines: &str) -> Result<Vec<u8>, Fail> {
     let alarms = vec![in alloc; Attr::new(ALARM, b"T", b"")?; ALARMS as usize]?;
-    let mut desk = desk_of::<Plant>(alloc, &Table::new(alarms, 1)?)?;
-    Ok(printed(alloc, &mut desk, lines.as_bytes())?)
+    let table = Table::new(alarms, 1)?;
+    let mut desk = desk_of::<Plant>(alloc, &table)?;
+    let got = printed(alloc, &mut desk, lines.as_bytes());
+    drop(desk);
+    Ok(got?)
 }
 
 #[test]
