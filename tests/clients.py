@@ -23,7 +23,7 @@ sys.path.insert(0, str(EXAMPLES))
 
 from alarm_client import CLOCK, FEED, Client, Lost, Refused
 from device_file import DeviceFile
-from program import Wrong, begin, check, finish, run_words
+from program import PORTS, Wrong, begin, check, finish, run_words
 from serve import Server
 from table_file import (CALM_SEGMENT, KINDS, LEAST_SEGMENT, READING_LIMIT, SHELVE_LIMIT, Alarm, Table, device_size, image_length, load_table,
                         read_table, written)
@@ -95,7 +95,7 @@ class Clients:
 
     def __init__(self, program: str, folder: str):
         self.program, self.folder = program, folder
-        self.port = random.Random(time.time_ns()).randrange(20_000, 45_000)
+        self.port = random.Random(time.time_ns()).randrange(*PORTS)
 
     def path(self, name: str) -> str:
         return os.path.join(self.folder, name)
@@ -119,7 +119,7 @@ class Clients:
     def serve(self, device: str, port: int = 0) -> Server:
         """A server, at a port or at ports that are free."""
         for _ in range(20):
-            self.port = 20_000 + (self.port - 20_000 + 18) % 40_000
+            self.port = PORTS[0] + (self.port - PORTS[0] + 18) % (PORTS[1] - PORTS[0])
             server = Server(self.program, device, port or self.port)
             if server.serves:
                 return server

@@ -14,6 +14,9 @@ import tempfile
 TESTS = os.path.dirname(os.path.abspath(__file__))
 PLANT = os.path.join(TESTS, "..", "examples", "plant.toml")
 
+# Where the first of a server's ports is looked for: below those that the system gives to clients.
+PORTS = (10_000, 32_000)
+
 # The lines that `fault` may end with, and their statuses.
 FAULT = re.compile(rb"fault (usage|toml|table (\d+|-) .*|rows|too-small|unformatted|damaged [012] \d+|disk|stopped|memory|net|io)\n")
 STATUS = {b"usage": 1, b"toml": 2, b"table": 2, b"rows": 2, b"too-small": 2, b"unformatted": 2, b"damaged": 2}

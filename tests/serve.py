@@ -22,7 +22,7 @@ import threading
 import time
 
 import lines as grammar
-from program import PLANT, Fault, Wrong, begin, check, ends, finish, preload, run_words, state
+from program import PLANT, PORTS, Fault, Wrong, begin, check, ends, finish, preload, run_words, state
 
 SLOTS = (0, 5, 16, 17)
 FEW = [(b"1 SHELVE 0 60", b"1 OK 1\n"), (b"2 LIST P 1", b"2 LIST 1 0\n"), (b"3 OOS 1 ON", b"3 OK 2\n"), (b"4 LIST A 0", b"4 LIST 2 0\n"),
@@ -117,14 +117,14 @@ class Serving:
     def __init__(self, program, folder):
         self.program, self.folder = program, folder
         self.library = preload(folder)
-        self.port = random.Random(time.time_ns()).randrange(20_000, 45_000)
+        self.port = random.Random(time.time_ns()).randrange(*PORTS)
         self.fresh = os.path.join(folder, "fresh")
         check(run_words(program, ["format", self.fresh, PLANT]).returncode == 0, "format")
 
     def start(self, device, loaded=None, words=()):
         """A server, at ports that are free."""
         for _ in range(20):
-            self.port = 20_000 + (self.port - 20_000 + 18) % 40_000
+            self.port = PORTS[0] + (self.port - PORTS[0] + 18) % (PORTS[1] - PORTS[0])
             server = Server(self.program, device, self.port, loaded, words)
             if server.serves or server.errors != b"fault net\n":
                 return server
