@@ -84,8 +84,8 @@ fn number_of(verdict: Verdict, before: u64, count: u64) -> u64
 impl<K: Store, T: Told + Drop, B: Board<Told = T>> Flusher<K, T, B> {
     ghost use Rattle.std.specs.Prelude.{◌≡◌, ◌≢◌, ◌↔◌, ◌⊎◌, ◌+◌, ◌*◌, ◌<◌, ◌≤◌, ◌++◌, [], ℕ, List, length, MatchBool, false, slice_get, Some, None, IsSome, IsTrue};
     ghost use Rattle.alm_disk.specs.Failures.{HasFailed};
-    ghost use Rattle.alm_store.specs.Calls.{IsCall};
-    ghost use Rattle.alm_store.specs.Pace.{KeepsPace};
+    ghost use Rattle.alm_store.specs.Calls.{IsCall, CallDone, CallFailed};
+    ghost use Rattle.alm_store.specs.Pace.{KeepsPace, least_segment, most};
     ghost use Rattle.alm_store.specs.Advancing.{IsCalls, IsOpen, Same, SameWords};
     ghost use Rattle.alm_types.specs.declared.action.Action.{Action};
     ghost use Rattle.alm_rings.specs.Batches.{AreBatchEnds, SameSealEnds, SameFetchEnds, sealed_of, fetched_of, given_of, emptied_of, empties_in, coming_in, places_of, places_in};
@@ -154,7 +154,7 @@ impl<K: Store, T: Told + Drop, B: Board<Told = T>> Flusher<K, T, B> {
         // A store that keeps its pace does so, and takes the batch where the half that stands is of the newest version.
         ensures newest { K.newest self.old.store → K.newest self.new.store }
         ensures pace { KeepsPace (K.segment self.old.store) (K.phase self.old.store) (K.used self.old.store) (K.written self.old.store) (K.going self.old.store) → KeepsPace (K.segment self.new.store) (K.phase self.new.store) (K.used self.new.store) (K.written self.new.store) (K.going self.new.store) }
-        ensures taken { result ≡ Fetch.Got → K.newest self.new.store → 452651 ≤ K.segment self.new.store → KeepsPace (K.segment self.new.store) (K.phase self.new.store) (K.used self.new.store) (K.written self.new.store) (K.going self.new.store) → K.takes self.new.store (to_commit self.new.held) }
+        ensures taken { result ≡ Fetch.Got → K.newest self.new.store → least_segment ≤ K.segment self.new.store → KeepsPace (K.segment self.new.store) (K.phase self.new.store) (K.used self.new.store) (K.written self.new.store) (K.going self.new.store) → K.takes self.new.store (to_commit self.new.held) }
         ensures answer { FetchAnswers result self.old.held self.new.held self.old.fetch self.new.fetch }
     {
         match self.held {
@@ -179,25 +179,33 @@ impl<K: Store, T: Told + Drop, B: Board<Told = T>> Flusher<K, T, B> {
     pub fn advance(&mut self) -> Advance
         ensures honest { K.honest self.old.store ↔ K.honest self.new.store }
         ensures same { (self.new.board ≡ self.old.board) × (self.new.outboxes ≡ self.old.outboxes) × (self.new.before.value ≡ self.old.before.value) × (self.new.fetch ≡ self.old.fetch) }
+        // At most one device call, whatever the device does: one that was done where it goes on with a batch that has actions, or
+        // with a checkpoint; none for a batch without actions; and where it fails one that failed, or none.
+        ensures done { 0 < length (to_commit self.old.held) → result ≢ Advance.Failed → CallDone K.Device.serves (K.disk self.old.store) (K.disk self.new.store) }
+        ensures goes { result ≡ Advance.More → CallDone K.Device.serves (K.disk self.old.store) (K.disk self.new.store) }
+        ensures failed { result ≡ Advance.Failed → (K.disk self.new.store ≡ K.disk self.old.store) ⊎ CallFailed K.Device.serves (K.disk self.old.store) (K.disk self.new.store) }
+        ensures sound { result ≢ Advance.Failed → K.failures self.new.store ≡ K.failures self.old.store }
+        ensures exhausted { K.exhausted self.old.store → K.exhausted self.new.store }
+        // Of an honest one it is a write or a sync by its bytes.
         ensures call { K.honest self.old.store → IsCalls (K.device self.old.store) (K.device self.new.store) }
         ensures one { K.honest self.old.store → 0 < length (to_commit self.old.held) → result ≢ Advance.Failed → IsCall (K.device self.old.store) (K.device self.new.store) }
         ensures more { K.honest self.old.store → result ≡ Advance.More → IsCall (K.device self.old.store) (K.device self.new.store) }
-        ensures none { to_commit self.old.held ≡ [] → result ≡ Advance.Committed → (K.device self.new.store ≡ K.device self.old.store) × (K.failures self.new.store ≡ K.failures self.old.store) }
+        ensures none { to_commit self.old.held ≡ [] → result ≡ Advance.Committed → (K.disk self.new.store ≡ K.disk self.old.store) × (K.device self.new.store ≡ K.device self.old.store) × (K.failures self.new.store ≡ K.failures self.old.store) }
         ensures nothing { result ≡ Advance.Nothing → self.new.store ≡ self.old.store }
         // A checkpoint only where the store doesn't take the batch.
         ensures taken { K.phase self.old.store ≡ Phase.Idle → K.takes self.old.store (to_commit self.old.held) → result ≡ Advance.More → K.phase self.new.store ≡ Phase.Committing }
         // Behind a commit a checkpoint is open where more than half of the segment is used, but for the last epoch.
-        ensures opens { result ≡ Advance.Committed → K.honest self.old.store → ¬ (K.spent (K.device self.new.store)) → K.segment self.new.store < 2 * K.used self.new.store → IsOpen (K.phase self.new.store) }
+        ensures opens { result ≡ Advance.Committed → ¬ (K.exhausted self.new.store) → K.segment self.new.store < 2 * K.used self.new.store → IsOpen (K.phase self.new.store) }
         // Behind a commit none is opened where that isn't so.
         ensures only { result ≡ Advance.Committed → K.going self.old.store ≡ None → 2 * K.used self.new.store ≤ K.segment self.new.store → K.going self.new.store ≡ None }
         // A piece goes out before each commit within a checkpoint,
         ensures between { K.phase self.old.store ≡ Phase.Paused → K.phase self.new.store ≡ Phase.Committing → 0 < K.written self.old.store }
         // and no more than one while a batch waits that was taken as it was fetched.
-        ensures waits { result ≡ Advance.More → K.takes self.old.store (to_commit self.old.held) → 0 < length (to_commit self.old.held) → K.written self.old.store ≤ 65536 → K.written self.new.store ≤ 65536 }
+        ensures waits { result ≡ Advance.More → K.takes self.old.store (to_commit self.old.held) → 0 < length (to_commit self.old.held) → K.written self.old.store ≤ most → K.written self.new.store ≤ most }
         ensures still { result ≡ Advance.More → K.takes self.old.store (to_commit self.old.held) → 0 < length (to_commit self.old.held) → K.phase self.new.store ≢ Phase.Committing → K.takes self.new.store (to_commit self.old.held) }
         // So the store keeps its pace, and takes every batch, as long as epochs are left.
         ensures newest { K.newest self.old.store → K.newest self.new.store }
-        ensures pace { result ≢ Advance.Failed → K.honest self.old.store → ¬ (K.spent (K.device self.new.store)) → K.newest self.old.store → 452651 ≤ K.segment self.old.store → KeepsPace (K.segment self.old.store) (K.phase self.old.store) (K.used self.old.store) (K.written self.old.store) (K.going self.old.store) → KeepsPace (K.segment self.new.store) (K.phase self.new.store) (K.used self.new.store) (K.written self.new.store) (K.going self.new.store) }
+        ensures pace { result ≢ Advance.Failed → ¬ (K.exhausted self.new.store) → K.newest self.old.store → least_segment ≤ K.segment self.old.store → KeepsPace (K.segment self.old.store) (K.phase self.old.store) (K.used self.old.store) (K.written self.old.store) (K.going self.old.store) → KeepsPace (K.segment self.new.store) (K.phase self.new.store) (K.used self.new.store) (K.written self.new.store) (K.going self.new.store) }
         ensures segment { K.segment self.new.store ≡ K.segment self.old.store }
         // A batch is committed in a bounded number of steps: 326 where the store is idle.
         ensures ends { (m : ℕ) → result ≡ Advance.More → 0 < length (to_commit self.old.held) → Within (m + 1) (K.phase self.old.store) (K.left self.old.store) (K.takes self.old.store (to_commit self.old.held)) (K.will_take self.old.store (to_commit self.old.held)) (length (to_commit self.old.held))
@@ -209,8 +217,7 @@ impl<K: Store, T: Told + Drop, B: Board<Told = T>> Flusher<K, T, B> {
         // Only the device fails once no checkpoint is to be begun any more.
         ensures sure { result ≡ Advance.Failed → IsSure (K.phase self.old.store) (K.takes self.old.store (to_commit self.old.held)) → IsNext self.old.held (K.stored self.old.store) → HasFailed (K.failures self.old.store) (K.failures self.new.store) }
         // The first failure has a cause.
-        ensures cause { result ≡ Advance.Failed → K.honest self.old.store → K.phase self.old.store ≢ Phase.Stopped → ¬ (K.spent (K.device self.old.store)) → IsNext self.old.held (K.stored self.old.store) → HasFailed (K.failures self.old.store) (K.failures self.new.store) }
-        ensures late { result ≡ Advance.Failed → K.honest self.old.store → K.phase self.old.store ≢ Phase.Stopped → ¬ (K.spent (K.device self.new.store)) → IsNext self.old.held (K.stored self.old.store) → HasFailed (K.failures self.old.store) (K.failures self.new.store) }
+        ensures cause { result ≡ Advance.Failed → K.phase self.old.store ≢ Phase.Stopped → ¬ (K.exhausted self.old.store) → IsNext self.old.held (K.stored self.old.store) → HasFailed (K.failures self.old.store) (K.failures self.new.store) }
         ensures broken { result ≡ Advance.Failed → K.phase self.old.store ≢ Phase.Stopped → IsFree self.old.held → HasFailed (K.failures self.old.store) (K.failures self.new.store) }
     {
         match replace(&mut self.held, Held::Nothing) {

@@ -34,3 +34,4 @@ pub mod StoreOpened
 pub mod StorePassing
 pub mod StorePacing
 pub mod Made
+pub mod StoreCalls

@@ -4,7 +4,8 @@ use Rattle.std.specs.Prelude.{IfOk}
 use Rattle.alm_disk.specs.declared.call.Call.{Call}
 use Rattle.alm_disk.specs.declared.disk_fault.DiskFault.{DiskFault}
 use Rattle.alm_checkpoint.specs.declared.layout.Layout.{Layout}
-use Rattle.alm_keeper.specs.Calls.{AreMade, reads_of}
+use Rattle.alm_store.specs.Calls.{AreMade}
+use Rattle.alm_keeper.specs.Calls.{reads_of}
 use Rattle.alm_keeper.specs.declared.book.Book.{Book}
 use Rattle.alm_keeper.specs.declared.opening.Marks.{Marks}
 use Rattle.alm_store.specs.declared.open_fault.OpenFault.{OpenFault}

@@ -1,9 +1,8 @@
 -- What a keeper answers where it is asked to begin.
-use Rattle.std.proofs.Common.{◌≡◌, ◌≢◌, ◌⊎◌, inl, inr, ℕ, ◌+◌, ◌-◌, ◌^◌, ◌==◌, List, [], ◌∷◌, ◌++◌, Option, Some, None, Result, Ok, Err, OnOk, IsOk, refl, sym, ◌∙◌, ap, subst, arith, Bool, true, false}
+use Rattle.std.proofs.Common.{◌≡◌, ◌≢◌, ◌⊎◌, inl, inr, ℕ, ◌+◌, ◌≤◌, ◌^◌, ◌==◌, List, [], ◌∷◌, ◌++◌, Option, Some, None, Result, Ok, Err, OnOk, IsOk, refl, sym, ◌∙◌, ap, subst, arith, Bool, true, false}
 use Rattle.std.specs.Prelude.{if◌then◌else◌, ◌&&◌}
 use Rattle.std.specs.Option.{is_none}
 use Rattle.std.proofs.lemmas.Bool.{cases_eq, ne_eqb, eq-eqb}
-use Rattle.std.proofs.Math.Logic.{∥∥₁_map}
 use Rattle.alm_types.specs.declared.entry.Entry.{Entry}
 use Rattle.alm_types.specs.declared.refusal.Refusal.{Refusal}
 use Rattle.alm_types.specs.declared.verdict.Verdict.{Verdict}
@@ -15,18 +14,15 @@ use Rattle.alm_model.specs.Judging.{accepted_of, when_accepted}
 use Rattle.alm_model.specs.Rules.{AllAdmitted, admits_all}
 use Rattle.alm_model.specs.Step.{step}
 use Rattle.alm_codec.specs.Reading.{◌>>=◌}
-use Rattle.alm_disk.specs.Device.{DeviceState}
-use Rattle.alm_checkpoint.specs.Standing.{Stands}
 use Rattle.alm_store.specs.declared.phase.Phase.{Phase}
 use Rattle.alm_store.specs.declared.phase.Phase.TheVariants as at
 use Rattle.alm_store.specs.declared.refused.Refused as R
 use Rattle.alm_store.specs.declared.refused.Refused.TheVariants as no
 use Rattle.alm_keeper.specs.Batch.{tried, tried_one, unless_refused}
-use Rattle.alm_keeper.specs.Keeper.{Held, StandsWithRoom, begin_answer, checkpoint_answer, trial}
+use Rattle.alm_keeper.specs.Keeper.{Held, begin_answer, checkpoint_answer, trial}
 use Rattle.alm_keeper.specs.Stages.{phase_of}
 use Rattle.alm_store.specs.Advancing.{IsResting}
 use Rattle.alm_keeper.proofs.Tried.{tried_admitted}
-use Rattle.alm_keeper.specs.AsStore.{IsSpent}
 
 -- a batch whose trial went well has admitted actions
 one_tried : (o : Option Refusal) (place : ℕ) (p r : Condensed) (f : Condensed → Result Condensed ℕ) (b : Bool) → ((q : Condensed) → f p ≡ Ok q → b ≡ true) → (unless_refused o place p >>= f) ≡ Ok r → (is_none o && b) ≡ true
@@ -82,14 +78,12 @@ pub begun_cause : {D : Type 0} (result : Result Unit R.Refused) (k : Held D) (ba
 begun_cause result k batch is rest first all = ok_of result tt (is ∙ next_begun (phase_of k.stage k.work) k.stored.plant batch rest first all)
 
 -- and a checkpoint, before the last epoch
-pub copied_cause : {D : Type 0} (result : Result Unit R.Refused) (k : Held D) (state : DeviceState) → result ≡ checkpoint_answer (phase_of k.stage k.work) k.stored.epoch → phase_of k.stage k.work ≡ at.Idle → ∥ StandsWithRoom k.stored state.bytes ∥₁ → ¬ (IsSpent state) → IsOk result
-copied_cause result k state is idle stands unspent = by_epoch (cases_eq (k.stored.epoch + 1) (2 ^ 64))
+pub copied_cause : {D : Type 0} (result : Result Unit R.Refused) (k : Held D) → result ≡ checkpoint_answer (phase_of k.stage k.work) k.stored.epoch → phase_of k.stage k.work ≡ at.Idle → ¬ (2 ^ 64 ≤ k.stored.epoch + 1) → IsOk result
+copied_cause result k is idle left = by_epoch (cases_eq (k.stored.epoch + 1) (2 ^ 64))
   where
     here : result ≡ checkpoint_answer at.Idle k.stored.epoch
     here = is ∙ ap (λ (p : Phase). checkpoint_answer p k.stored.epoch) idle
 
     by_epoch : (k.stored.epoch + 1 ≡ 2 ^ 64) ⊎ (k.stored.epoch + 1 ≢ 2 ^ 64) → IsOk result
-    by_epoch (inl e) =
-        let last : k.stored.epoch ≡ 2 ^ 64 - 1 = omega (arith, e) in
-        absurd (unspent (∥∥₁_map stands (λ s. (k.stored.plant, subst (λ (n : ℕ). Stands state.bytes n k.stored.plant) last s.0))))
+    by_epoch (inl e) = absurd (left (omega (arith, e)))
     by_epoch (inr e) = ok_of result tt (here ∙ ap (λ (x : Bool). if x then Err no.Exhausted else Ok tt) (ne_eqb (k.stored.epoch + 1) (2 ^ 64) e))

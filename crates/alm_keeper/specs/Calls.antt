@@ -1,6 +1,5 @@
 -- Which call of a device is that of a stage, and which are those of an opening.
-use Rattle.std.specs.Prelude.{◌≡◌, ℕ, ◌+◌, List, [], ◌∷◌, Result}
-use Rattle.alm_disk.specs.declared.disk_fault.DiskFault.{DiskFault}
+use Rattle.std.specs.Prelude.{ℕ, ◌+◌, List, [], ◌∷◌}
 use Rattle.alm_checkpoint.specs.declared.layout.Layout.{Layout}
 use Rattle.alm_checkpoint.specs.declared.half.Half.{Half}
 use Rattle.alm_checkpoint.specs.declared.half.Half.TheVariants.{First, Second}
@@ -16,11 +15,6 @@ stage_call Close at n = Write at 1
 stage_call Body at n = Write (at + 1) n
 stage_call Gate at n = Write at 1
 stage_call stage at n = Sync
-
--- these calls were made of a device, one after the other, and no others
-abbrev pub AreMade : {D : Type 0} → (D → Call → Result Unit DiskFault → D → Type 0) → List Call → D → D → Type 0
-AreMade serves [] old new = new ≡ old
-AreMade {D} serves (call ∷ calls) old new = (between : D) × (result : Result Unit DiskFault) × serves old call result between × AreMade serves calls between new
 
 -- the reads of an opening: the header, the heads of both halves, and of the half that stands the image and the segment, each once
 abbrev pub reads_of : Layout → Half → List Call

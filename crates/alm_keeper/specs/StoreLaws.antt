@@ -1,7 +1,7 @@
 -- What a store's laws are of a keeper.
-use Rattle.std.specs.Prelude.{◌≡◌, ◌≢◌, ◌≤◌, List, length, ℕ, None, IsSome}
+use Rattle.std.specs.Prelude.{◌≡◌, ◌≢◌, ◌≤◌, ◌↔◌, List, length, ℕ, None, IsSome}
 use Rattle.std.proofs.Common.{refl, sym, subst}
-use Rattle.alm_disk.specs.Device.{IsBytes}
+use Rattle.alm_disk.specs.Device.{DeviceState, IsBytes}
 use Rattle.alm_model.specs.Plant.{Condensed}
 use Rattle.alm_model.specs.Rules.{KeepsRules}
 use Rattle.alm_checkpoint.proofs.CutOf.{stands_cut}
@@ -60,6 +60,10 @@ rests_by GateSync Checkpoint k other going = refl
 
 pub rests : {D : Type 0} (k : Held D) → phase_of k.stage k.work ≢ at.Committing → phase_of k.stage k.work ≢ at.Stopped → (next k).plant ≡ k.stored.plant
 rests k other going = rests_by k.stage k.work k other going
+
+-- what is told of a keeper's device is that device's
+pub told_of : {D : Type 0} (honest : D → Type 0) (state : D → DeviceState) (failures : D → ℕ) (disk : D) → (honest disk ↔ honest disk) × (state disk ≡ state disk) × (failures disk ≡ failures disk)
+told_of honest state failures disk = ((λ x. x, λ x. x), refl, refl)
 
 -- no bytes stand for two plants
 pub stands_for_one : (bytes : List ℕ) (p q : Condensed) → StandsFor bytes p → StandsFor bytes q → p ≡ q

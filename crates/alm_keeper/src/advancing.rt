@@ -1,6 +1,6 @@
 //! One device call of the work that is begun.
 
-ghost use Rattle.std.specs.Prelude.{◌≡◌, ◌≤◌, ◌⊎◌, ◌↔◌, List, ℕ};
+ghost use Rattle.std.specs.Prelude.{◌≡◌, ◌≢◌, ◌≤◌, ◌⊎◌, ◌↔◌, List, ℕ};
 ghost use Rattle.alm_keeper.specs.Stages.{IsWorking};
 ghost use Rattle.alm_disk.specs.Device.{IsImage};
 ghost use Rattle.alm_disk.specs.Failures.{CountsFault, HasFailed};
@@ -51,6 +51,7 @@ pub fn advance<D: Disk>(disk: &mut D, book: &mut Book) -> Progress
     ensures fits { FitsDevice book.new (D.size disk.new) }
     ensures ends { Ends result book.old book.new }
     ensures failed { result ≡ Progress.Failed → HasFailed (D.failures disk.old) (D.failures disk.new) }
+    ensures sound { result ≢ Progress.Failed → D.failures disk.new ≡ D.failures disk.old }
     ensures count { D.failures disk.old ≤ D.failures disk.new }
     ensures call { CallsOnce D.serves (call_of (held disk.old book.old)) result disk.old disk.new }
     ensures is_call { D.honest disk.old → IsCall (D.state disk.old) (D.state disk.new) }

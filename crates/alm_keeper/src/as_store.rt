@@ -8,14 +8,16 @@ use alm_types::Batch;
 use std::alloc::Global;
 
 impl<D: Disk + Drop> Store for Keeper<D> {
-    ghost use Rattle.std.specs.Prelude.{◌≡◌, ◌-◌, length};
+    ghost use Rattle.std.specs.Prelude.{◌≡◌, ◌≤◌, ◌+◌, ◌-◌, ◌^◌, length};
     ghost use Rattle.alm_codec.specs.declared.version.Version.TheVariants.{V02};
     ghost use Rattle.alm_keeper.specs.Keeper.{Takes, next, used};
     ghost use Rattle.alm_keeper.specs.Stages.{phase_of};
     ghost use Rattle.alm_keeper.specs.AsStore.{StandsFor, IsSpent, calls_left, going};
-    ghost use Rattle.alm_keeper.specs.StoreLaws.{fits_any, goes_alone, goes_open, keeps_rules, rests, stands_for_one};
+    ghost use Rattle.alm_keeper.specs.StoreLaws.{fits_any, goes_alone, goes_open, keeps_rules, rests, stands_for_one, told_of};
 
     type Device = D;
+
+    ghost disk = { λ k. k.disk };
 
     ghost honest = { λ k. D.honest k.disk };
 
@@ -49,8 +51,10 @@ impl<D: Disk + Drop> Store for Keeper<D> {
 
     ghost spent = { IsSpent };
 
-    fn open(alloc: Global, disk: D) -> Result<Self, (OpenFault, D)> {
-        open_store(alloc, disk)
+    ghost exhausted = { λ k. 2 ^ 64 ≤ k.stored.epoch + 1 };
+
+    fn open(alloc: Global, from: D) -> Result<Self, (OpenFault, D)> {
+        open_store(alloc, from)
     }
 
     fn into_device(self) -> D {
@@ -105,6 +109,8 @@ impl<D: Disk + Drop> Store for Keeper<D> {
         Keeper::images(self);
         Keeper::advance(self)
     }
+
+    ghost of_disk = { λ k. told_of D.honest D.state D.failures k.disk };
 
     ghost idle = { λ k other going. rests k other going };
 

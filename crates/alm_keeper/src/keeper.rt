@@ -4,13 +4,13 @@ ghost use Rattle.std.specs.Prelude.{◌≡◌, ◌≢◌, ◌≤◌, ◌⊎◌, 
 ghost use Rattle.alm_disk.specs.declared.call.Call.{Call};
 ghost use Rattle.alm_checkpoint.specs.declared.layout.Layout.{Layout};
 ghost use Rattle.alm_checkpoint.specs.Layouts.{head_len, image_size};
-ghost use Rattle.alm_keeper.specs.Calls.{AreMade, reads_of};
+ghost use Rattle.alm_keeper.specs.Calls.{reads_of};
 ghost use Rattle.alm_disk.specs.Device.{IsImage};
 ghost use Rattle.alm_disk.specs.Failures.{HasFailed};
 ghost use Rattle.alm_disk.specs.Settled.{IsSettled};
 ghost use Rattle.alm_model.specs.Plant.{Condensed};
 ghost use Rattle.alm_model.specs.Judging.{accepted_of};
-ghost use Rattle.alm_store.specs.Calls.{IsCall};
+ghost use Rattle.alm_store.specs.Calls.{IsCall, AreMade};
 ghost use Rattle.alm_keeper.specs.Stages.{IsWorking, phase_of};
 ghost use Rattle.alm_store.specs.Advancing.{IsResting};
 ghost use Rattle.alm_keeper.specs.Opening.{Opens, CountsAs};
@@ -59,6 +59,7 @@ impl<D: Disk + Drop> Keeper<D> {
         ensures piece { self.old.stage ≡ Stage.Body → self.old.work ≡ Work.Checkpoint → result ≢ Progress.Failed → SendsPiece self.old self.new }
         ensures is_call { D.honest self.old.disk → IsCall (D.state self.old.disk) (D.state self.new.disk) }
         ensures failed { result ≡ Progress.Failed → HasFailed (D.failures self.old.disk) (D.failures self.new.disk) }
+        ensures sound { result ≢ Progress.Failed → D.failures self.new.disk ≡ D.failures self.old.disk }
         ensures count { D.failures self.old.disk ≤ D.failures self.new.disk }
         // What a crash leaves at any moment of the call.
         ensures any_moment { D.honest self.old.disk → (b : List ℕ) → (IsImage (D.state self.old.disk) b ⊎ IsImage (D.state self.new.disk) b) → ∥ MayStand self.old b ∥₁ }

@@ -8,7 +8,7 @@ ghost use Rattle.alm_model.specs.Plant.{Condensed};
 ghost use Rattle.alm_model.specs.Rules.{AllAdmitted};
 ghost use Rattle.alm_model.specs.Judging.{accepted_of};
 ghost use Rattle.alm_keeper.specs.Keeper.{begin_answer};
-ghost use Rattle.alm_store.specs.Pace.{Going, Paced, IsAhead, KeepsPace, TakesAny};
+ghost use Rattle.alm_store.specs.Pace.{least_segment, Going, Paced, IsAhead, KeepsPace, TakesAny};
 ghost use Rattle.alm_keeper.specs.Phases.{UnderWay, KeptIn, Call, Advances};
 ghost use Rattle.alm_keeper.specs.Stand.{Account, end_of};
 ghost use Rattle.alm_store.specs.declared.phase.Phase.{Phase};
@@ -27,7 +27,7 @@ pub fn each_call_keeps_what_is_under_way()
 
 /// A store that keeps its pace takes any batch, where the segment has 452,651 bytes or more.
 pub fn a_store_that_keeps_its_pace_takes_any_batch()
-    ensures takes { (segment : ℕ) (phase : Phase) (used written : ℕ) (going : Option Going) → 452651 ≤ segment → KeepsPace segment phase used written going → TakesAny segment used }
+    ensures takes { (segment : ℕ) (phase : Phase) (used written : ℕ) (going : Option Going) → least_segment ≤ segment → KeepsPace segment phase used written going → TakesAny segment used }
     // At most 53 commits come into one checkpoint.
     ensures few { (segment : ℕ) (phase : Phase) (used written : ℕ) (g : Going) (p : Paced segment used (IsAhead phase written) g) → p.commits ≤ 53 }
 {}

@@ -9,7 +9,8 @@ ghost use Rattle.alm_checkpoint.specs.declared.half.Half.TheVariants.{First, Sec
 ghost use Rattle.alm_checkpoint.specs.Layouts.{part, device_len, half_at, image_size};
 ghost use Rattle.alm_checkpoint.specs.Cut.{IsLayout};
 ghost use Rattle.alm_checkpoint.specs.Opening.{layout_in};
-ghost use Rattle.alm_keeper.specs.Calls.{AreMade, reads_of};
+ghost use Rattle.alm_store.specs.Calls.{AreMade};
+ghost use Rattle.alm_keeper.specs.Calls.{reads_of};
 ghost use Rattle.alm_keeper.specs.Opening.{Counts, IsReadOf, AreMarks, MarksFrom, Opens, Restores};
 ghost use Rattle.alm_keeper.specs.Keeping.{InOrder, FitsDevice};
 

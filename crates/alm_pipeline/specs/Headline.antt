@@ -46,13 +46,13 @@ module _ (recovers : List ℕ → Condensed → Type 0) (spent : DeviceState →
 
   -- What a step that was answered so does to the device. A Call is one write or one sync, done or failed, or nothing for a batch
   -- without actions; it is skipped only where no batch waits and no checkpoint is open. It fails only where the device failed in it,
-  -- or where nothing was under way in the last epoch, so that a checkpoint was due. A look that is possible is skipped only where a
+  -- or where nothing was under way in the last epoch, so that a checkpoint was due; and where it goes on the device didn't fail. A look that is possible is skipped only where a
   -- growth of its list was refused. A crash leaves the bytes that it names. A reopening reads an image, and answers what it stands
   -- for, or a fault with its cause. No other step touches the device.
   abbrev pub Moves : World → Step → Event → Sight → Sight → Type 0
-  Moves w Call More d d' = MayCall w d × IsCall d.state d'.state × (d'.phase ≢ Stopped) × (d'.refused ≡ d.refused)
+  Moves w Call More d d' = MayCall w d × IsCall d.state d'.state × (d'.failures ≡ d.failures) × (d'.phase ≢ Stopped) × (d'.refused ≡ d.refused)
   Moves w Call Committed d d' =
-      (0 < length (accepted_of (entries_at w.stage)) → IsCall d.state d'.state) × (accepted_of (entries_at w.stage) ≡ [] → (d'.state ≡ d.state) × (d'.failures ≡ d.failures))
+      (0 < length (accepted_of (entries_at w.stage)) → IsCall d.state d'.state) × (accepted_of (entries_at w.stage) ≡ [] → d'.state ≡ d.state) × (d'.failures ≡ d.failures)
       × (d'.phase ≢ Committing) × (d'.phase ≢ Stopped) × (d'.refused ≡ d.refused)
   Moves w Call Failed d d' =
       MayCall w d × IsCalls d.state d'.state × (d.phase ≢ Idle → HasFailed d.failures d'.failures) × (¬ (spent d.state) → HasFailed d.failures d'.failures) × (d'.refused ≡ d.refused)

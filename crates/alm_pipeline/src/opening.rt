@@ -12,6 +12,7 @@ use std::alloc::Global;
 impl<K: Store> Pipeline<K> {
     ghost use Rattle.std.specs.Prelude.{◌≡◌, ◌↔◌, ◌≤◌, ◌+◌, ◌^◌, ℕ, List, false, length, IfOk, IfErr};
     ghost use Rattle.alm_disk.specs.Device.{IsImage};
+    ghost use Rattle.alm_disk.specs.Failures.{HasFailed};
     ghost use Rattle.alm_store.specs.Opening.{HasCause};
     ghost use Rattle.alm_types.specs.declared.action.Action.{Action};
     ghost use Rattle.alm_model.specs.Plant.{Condensed};
@@ -72,6 +73,7 @@ impl<K: Store> Pipeline<K> {
         ensures honest { IfOk result (λ pipeline. K.Device.honest disk ↔ K.honest pipeline.flusher.store) }
         ensures honest_back { IfErr result (λ e. K.Device.honest disk ↔ K.Device.honest e.1) }
         ensures no_new_image { K.Device.honest disk → IfErr result (λ e. (image : List ℕ) → IsImage (K.Device.state e.1) image → IsImage (K.Device.state disk) image) }
+        ensures failed { IfErr result (λ e. e.0 ≡ OpenFault.Disk → HasFailed (K.Device.failures disk) (K.Device.failures e.1)) }
         ensures cause { K.Device.honest disk → IfErr result (λ e. HasCause K.recovers (K.Device.state disk) e.0 (K.Device.failures disk) (K.Device.failures e.1)) }
     {
         match K::open(alloc, disk) {

@@ -157,13 +157,14 @@ impl<K: Store> Pipeline<K> {
         ensures sure { result ≡ Advance.Failed → CallsSurely self.old → (w : World) → IsOpen w self.old →
             HasFailed (K.failures self.old.flusher.store) (K.failures self.new.flusher.store) }
         // It fails only where the device failed in it, or where a checkpoint was due in the last epoch.
-        ensures late { result ≡ Advance.Failed → K.honest self.old.flusher.store → ¬ (K.spent (K.device self.new.flusher.store)) →
+        ensures late { result ≡ Advance.Failed → ¬ (K.exhausted self.new.flusher.store) →
             (w : World) → IsOpen w self.old → HasFailed (K.failures self.old.flusher.store) (K.failures self.new.flusher.store) }
         ensures count { K.failures self.old.flusher.store ≤ K.failures self.new.flusher.store }
         // A batch is committed in a bounded number of calls.
         ensures ends { (m : ℕ) → result ≡ Advance.More → 0 < length (to_commit self.old.flusher.held) → EndsIn (m + 1) self.old → EndsIn m self.new }
     {
         self.tell_batches();
+        self.flusher.keeper().images();
         match self.flusher.advance() {
             Advance::More => Advance::More,
             Advance::Committed => Advance::Committed,

@@ -9,6 +9,7 @@ ghost use Rattle.alm_model.specs.Judging.{accepted_of, verdict_of};
 ghost use Rattle.alm_disk.specs.Failures.{HasFailed};
 ghost use Rattle.alm_desk.specs.Answers.{request};
 ghost use Rattle.alm_desk.specs.Backends.{judged, if_accepted};
+ghost use Rattle.alm_store.specs.Pace.{most_actions};
 ghost use Rattle.alm_pipeline.specs.declared.step.Step.TheVariants as S;
 ghost use Rattle.alm_pipeline.specs.declared.event.Event.TheVariants as E;
 ghost use Rattle.alm_pipeline.specs.World.{World, Held, after, live, shut};
@@ -63,16 +64,16 @@ fn commit<K: Store>(pipeline: &mut Pipeline<K>) -> bool
     ensures honest { K.honest pipeline.old.flusher.store ↔ K.honest pipeline.new.flusher.store }
     ensures count { K.failures pipeline.old.flusher.store ≤ K.failures pipeline.new.flusher.store }
     ensures done { IsTrue result → (w : World) (entries : List Entry) → IsOpen w pipeline.old →
-        w.stage ≡ Held entries → length (accepted_of entries) ≤ 256 →
+        w.stage ≡ Held entries → length (accepted_of entries) ≤ most_actions →
         IsOpen (after w S.Call E.Committed) pipeline.new × ((n : ℕ) ×
         IsWay w (calls n ++ (S.Call ∷ [])) (went_on n ++ (E.Committed ∷ [])) (after w S.Call E.Committed) pipeline.old pipeline.new) }
     ensures failed { result ≡ false → (w : World) (entries : List Entry) → IsOpen w pipeline.old →
-        w.stage ≡ Held entries → length (accepted_of entries) ≤ 256 →
+        w.stage ≡ Held entries → length (accepted_of entries) ≤ most_actions →
         Fits w pipeline.new × ((n : ℕ) ×
         IsWay w (calls n ++ (S.Call ∷ [])) (went_on n ++ (E.Failed ∷ [])) (shut w) pipeline.old pipeline.new) }
     ensures cause { result ≡ false → (w : World) (entries : List Entry) → IsOpen w pipeline.old →
-        w.stage ≡ Held entries → length (accepted_of entries) ≤ 256 →
-        K.honest pipeline.old.flusher.store → ¬ (K.spent (K.device pipeline.new.flusher.store)) →
+        w.stage ≡ Held entries → length (accepted_of entries) ≤ most_actions →
+        ¬ (K.exhausted pipeline.new.flusher.store) →
         HasFailed (K.failures pipeline.old.flusher.store) (K.failures pipeline.new.flusher.store) }
 {
     pipeline.flusher.keeper().images();
@@ -135,7 +136,7 @@ pub fn exchange<K: Store>(
         (K.stored pipeline.new.flusher.store ≡ live w) ×
         MayWait pipeline.new.flusher.held (verdict_of (live w) (request slot want))) }
     ensures cause { IfErr result (λ _. (w : World) → Rests w pipeline.old →
-        K.honest pipeline.old.flusher.store → ¬ (K.spent (K.device pipeline.new.flusher.store)) →
+        ¬ (K.exhausted pipeline.new.flusher.store) →
         length (w.sent slot) + 1 < 2 ^ 64 →
         HasFailed (K.failures pipeline.old.flusher.store) (K.failures pipeline.new.flusher.store)) }
     // A run of the world's steps, of which the answer is the reply.

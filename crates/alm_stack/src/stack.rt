@@ -35,6 +35,7 @@ impl<K: Store> StackOver<K> {
     ghost use Rattle.std.specs.Prelude.{◌≡◌, ◌≤◌, ◌↔◌, ℕ, List, [], ◌∷◌, IfOk, IfErr, Some, Contains, false};
     ghost use Rattle.alm_model.specs.Plant.{Condensed};
     ghost use Rattle.alm_disk.specs.Device.{IsImage};
+    ghost use Rattle.alm_disk.specs.Failures.{HasFailed};
     ghost use Rattle.alm_store.specs.Opening.{HasCause};
     ghost use Rattle.alm_pipeline.specs.World.{first};
     ghost use Rattle.alm_stack.specs.Stacks.{stands_of, kept_of, store_of, RunsIn};
@@ -54,6 +55,7 @@ impl<K: Store> StackOver<K> {
         ensures honest { IfOk result (λ s. K.Device.honest disk ↔ K.honest (store_of s)) }
         ensures honest_back { IfErr result (λ x. K.Device.honest disk ↔ K.Device.honest x.1) }
         ensures unwritten_back { K.Device.honest disk → IfErr result (λ x. (b : List ℕ) → IsImage (K.Device.state x.1) b → IsImage (K.Device.state disk) b) }
+        ensures failed { IfErr result (λ x. x.0 ≡ OpenFault.Disk → HasFailed (K.Device.failures disk) (K.Device.failures x.1)) }
         ensures cause { K.Device.honest disk → IfErr result (λ x. HasCause K.recovers (K.Device.state disk) x.0 (K.Device.failures disk) (K.Device.failures x.1)) }
     {
         match Pipeline::<K>::open(alloc, disk) {
@@ -107,7 +109,7 @@ impl<K: Store> Backend for StackOver<K> {
         ensures stored { kept_of self.new ≡ kept_by (stands_of self.old) (kept_of self.old) request.now result }
         ensures count { CountsStop (stands_of self.old) result self.old.failures self.new.failures }
         // It stops only where the device failed in this call, where the last epoch is spent, or where the slot's serials are.
-        ensures cause { IsSome (stands_of self.old) → K.honest (store_of self.old) → ¬ (K.spent (K.device (store_of self.new))) → serial_of request.now.slot self.old + 1 < 2 ^ 64 → OnErr result (HasFailed (K.failures (store_of self.old)) (K.failures (store_of self.new))) }
+        ensures cause { IsSome (stands_of self.old) → ¬ (K.exhausted (store_of self.new)) → serial_of request.now.slot self.old + 1 < 2 ^ 64 → OnErr result (HasFailed (K.failures (store_of self.old)) (K.failures (store_of self.new))) }
         ensures honest { K.honest (store_of self.old) ↔ K.honest (store_of self.new) }
         // It is a run of the world's steps, of which the answer is the reply; with an honest device it is one of the headline's.
         ensures run { (w : World) → RunsIn w self.old → RunsThrough w request.now self.old self.new result }
@@ -132,6 +134,7 @@ impl<K: Store> Backend for StackOver<K> {
         ensures asked { IsAsked (stands_of self.old) query answer.old answer.new result }
         ensures same { (stands_of self.new ≡ stands_of self.old) × (kept_of self.new ≡ kept_of self.old) }
         ensures count { self.new.failures ≡ self.old.failures }
+        ensures honest { K.honest (store_of self.old) ↔ K.honest (store_of self.new) }
         // It is a look of the world.
         ensures run { (w : World) → RunsIn w self.old → LooksThrough w query self.new result }
     {

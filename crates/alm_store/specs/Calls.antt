@@ -1,6 +1,8 @@
--- One call of a device, by what it does to it.
-use Rattle.std.specs.Prelude.{◌⊎◌, ℕ, List, Result}
+-- Calls of a device: what they do to its bytes, and which the device itself says that they were.
+use Rattle.std.specs.Prelude.{◌≡◌, ◌⊎◌, ℕ, List, [], ◌∷◌, Result, Ok, Err}
 use Rattle.alm_disk.specs.Device.{DeviceState, Writes, Syncs}
+use Rattle.alm_disk.specs.declared.call.Call.{Call}
+use Rattle.alm_disk.specs.declared.call.Call.TheVariants.{Read, Write, Sync}
 use Rattle.alm_disk.specs.declared.disk_fault.DiskFault.{DiskFault}
 
 -- one write
@@ -18,3 +20,43 @@ pub record IsSync (old new : DeviceState) : Type 0 where
 -- one write or one sync, which was done or failed
 abbrev pub IsCall : DeviceState → DeviceState → Type 0
 IsCall old new = ∥ IsWrite old new ⊎ IsSync old new ∥₁
+
+-- ---- by what the device says of its calls
+
+-- a call that changes: a write or a sync
+abbrev pub IsChange : Call → Type 0
+IsChange (Read at n) = ⊥
+IsChange call = Unit {0}
+
+-- one write or one sync of this device made of it what it is then, and had this result
+pub record OneCall {D : Type 0} (serves : D → Call → Result Unit DiskFault → D → Type 0) (result : Result Unit DiskFault) (old new : D) : Type 0 where
+  pub call : Call
+  pub is_change : IsChange call
+  pub served : serves old call result new
+
+-- it was done
+abbrev pub CallDone : {D : Type 0} → (D → Call → Result Unit DiskFault → D → Type 0) → D → D → Type 0
+CallDone serves old new = ∥ OneCall serves (Ok tt) old new ∥₁
+
+-- it failed
+abbrev pub CallFailed : {D : Type 0} → (D → Call → Result Unit DiskFault → D → Type 0) → D → D → Type 0
+CallFailed serves old new = ∥ ((fault : DiskFault) × OneCall serves (Err fault) old new) ∥₁
+
+-- these calls were made of a device, one after the other, and no others
+abbrev pub AreMade : {D : Type 0} → (D → Call → Result Unit DiskFault → D → Type 0) → List Call → D → D → Type 0
+AreMade serves [] old new = new ≡ old
+AreMade {D} serves (call ∷ calls) old new = (between : D) × (result : Result Unit DiskFault) × serves old call result between × AreMade serves calls between new
+
+abbrev pub IsRead : Call → Type 0
+IsRead (Read at n) = Unit {0}
+IsRead call = ⊥
+
+abbrev pub AreReads : List Call → Type 0
+AreReads [] = Unit {0}
+AreReads (call ∷ calls) = IsRead call × AreReads calls
+
+-- a sync, and reads behind it
+pub record OpensBy {D : Type 0} (serves : D → Call → Result Unit DiskFault → D → Type 0) (old new : D) : Type 0 where
+  pub reads : List Call
+  pub are_reads : AreReads reads
+  pub made : AreMade serves (Sync ∷ reads) old new

@@ -14,6 +14,17 @@ longest = 4115
 abbrev pub largest : ℕ
 largest = 3289168
 
+-- the shortest segment with which a store that keeps its pace takes every batch
+abbrev pub least_segment : ℕ
+least_segment = 452651
+
+-- the most actions of a batch, and the most device calls of a work
+abbrev pub most_actions : ℕ
+most_actions = 256
+
+abbrev pub most_calls : ℕ
+most_calls = 320
+
 -- an open checkpoint: the bytes of the frames committed since its copy, and how many pieces of it went out
 pub record Going : Type 0 where
   pub since : ℕ

@@ -23,12 +23,15 @@ pub trait Store: Drop {
     ghost use Rattle.alm_store.specs.declared.phase.Phase.TheVariants.{Idle, Committing, Copying, Paused, Stopped};
     ghost use Rattle.alm_store.specs.Advancing.{IsResting};
     ghost use Rattle.alm_store.specs.Advancing.{Advanced, IsOpen, Same, SameWords};
-    ghost use Rattle.alm_store.specs.Calls.{IsCall};
+    ghost use Rattle.alm_store.specs.Calls.{IsCall, CallDone, CallFailed, OpensBy};
     ghost use Rattle.alm_store.specs.Opening.{HasCause};
     ghost use Rattle.alm_store.specs.Pacing.{Goes, IsFresh, SamePace};
-    ghost use Rattle.alm_store.specs.Pace.{Going, KeepsPace, TakesAny};
+    ghost use Rattle.alm_store.specs.Pace.{Going, KeepsPace, TakesAny, most, most_actions, most_calls};
 
     type Device: Disk + Drop;
+
+    /// The device that it stores on. The three behind it are read off it.
+    ghost disk: { Self → Self.Device };
 
     /// The device does what its trait says.
     ghost honest: { Self → Type 0 };
@@ -74,23 +77,31 @@ pub trait Store: Drop {
     /// A device stands at the last epoch.
     ghost spent: { DeviceState → Type 0 };
 
+    /// No checkpoint can be begun any more: the half that stands is of the last epoch.
+    ghost exhausted: { Self → Type 0 };
+
     /// Opens what the device stands for: a sync comes first, and nothing is written.
-    fn open(alloc: Global, disk: Self::Device) -> Result<Self, (OpenFault, Self::Device)>
-        ensures honest { IfOk result (λ store. Self.Device.honest disk ↔ honest store) }
+    fn open(alloc: Global, from: Self::Device) -> Result<Self, (OpenFault, Self::Device)>
+        /// Of this device a sync and reads were made, and nothing else.
+        ensures made { IfOk result (λ store. OpensBy Self.Device.serves from (disk store)) }
+        ensures honest { IfOk result (λ store. Self.Device.honest from ↔ honest store) }
         ensures idle { IfOk result (λ store. phase store ≡ Idle) }
         ensures limit { IfOk result (λ store. (stored store).panel.count ≤ 2 ^ 48) }
         /// Where at most half of the segment is used the store keeps its pace.
         ensures pace { IfOk result (λ store. 2 * used store ≤ segment store → KeepsPace (segment store) (phase store) (used store) (written store) (going store)) }
         /// What it reads is one of the images before, and stands for the stored plant.
-        ensures opened { Self.Device.honest disk → IfOk result (λ store. IsImage (Self.Device.state disk) (device store).bytes × recovers (device store).bytes (stored store)) }
-        ensures settled { Self.Device.honest disk → IfOk result (λ store. (place : ℕ) → (device store).pending place ≡ false) }
-        ensures counted { IfOk result (λ store. Self.Device.failures disk ≤ failures store) }
-        ensures honest_back { IfErr result (λ e. Self.Device.honest disk ↔ Self.Device.honest e.1) }
-        ensures no_new_image { Self.Device.honest disk → IfErr result (λ e. (image : List ℕ) → IsImage (Self.Device.state e.1) image → IsImage (Self.Device.state disk) image) }
-        ensures cause { Self.Device.honest disk → IfErr result (λ e. HasCause recovers (Self.Device.state disk) e.0 (Self.Device.failures disk) (Self.Device.failures e.1)) };
+        ensures opened { Self.Device.honest from → IfOk result (λ store. IsImage (Self.Device.state from) (device store).bytes × recovers (device store).bytes (stored store)) }
+        ensures settled { Self.Device.honest from → IfOk result (λ store. (place : ℕ) → (device store).pending place ≡ false) }
+        ensures counted { IfOk result (λ store. Self.Device.failures from ≤ failures store) }
+        ensures honest_back { IfErr result (λ e. Self.Device.honest from ↔ Self.Device.honest e.1) }
+        ensures no_new_image { Self.Device.honest from → IfErr result (λ e. (image : List ℕ) → IsImage (Self.Device.state e.1) image → IsImage (Self.Device.state from) image) }
+        /// Whatever the device does, its fault is told only where it failed.
+        ensures failed { IfErr result (λ e. e.0 ≡ OpenFault.Disk → HasFailed (Self.Device.failures from) (Self.Device.failures e.1)) }
+        ensures cause { Self.Device.honest from → IfErr result (λ e. HasCause recovers (Self.Device.state from) e.0 (Self.Device.failures from) (Self.Device.failures e.1)) };
 
     /// The device alone.
     fn into_device(self) -> Self::Device
+        ensures disk { result ≡ disk self }
         ensures honest { honest self ↔ Self.Device.honest result }
         ensures device { Self.Device.state result ≡ device self }
         ensures failures { Self.Device.failures result ≡ failures self };
@@ -98,8 +109,9 @@ pub trait Store: Drop {
     /// Does nothing: it says what a crash leaves. In every phase each image stands for the stored plant or the next one. And a work
     /// that is under way ends in 320 device calls.
     fn images(&self)
-        ensures few { left self.now ≤ 320 }
-        ensures stands { honest self.now → (b : List ℕ) → IsImage (device self.now) b → ∥ recovers b (stored self.now) ⊎ recovers b (next self.now) ∥₁ };
+        ensures few { left self.now ≤ most_calls }
+        ensures stands { honest self.now → (b : List ℕ) → IsImage (device self.now) b → ∥ recovers b (stored self.now) ⊎ recovers b (next self.now) ∥₁ }
+        ensures exhausted { honest self.now → exhausted self.now → spent (device self.now) };
 
     fn phase(&self) -> Phase
         ensures { result ≡ phase self.now };
@@ -126,6 +138,8 @@ pub trait Store: Drop {
     /// Counts the bytes of a checkpoint from here on.
     fn mark(&mut self)
         ensures written { written self.new ≡ 0 }
+        ensures disk { disk self.new ≡ disk self.old }
+        ensures exhausted { exhausted self.old ↔ exhausted self.new }
         ensures same { Same (device self.old) (device self.new) (stored self.old) (stored self.new) (failures self.old) (failures self.new) }
         ensures honest { honest self.old ↔ honest self.new }
         ensures words { SameWords (phase self.old) (phase self.new) (next self.old) (next self.new) (left self.old) (left self.new) (used self.old) (used self.new) (segment self.old) (segment self.new) }
@@ -137,6 +151,8 @@ pub trait Store: Drop {
     fn begin(&mut self, batch: &Batch) -> Result<(), Refused>
         requires some { 0 < length (accepted_of batch.now.entries) }
         requires takes { takes self.old (accepted_of batch.now.entries) }
+        ensures disk { disk self.new ≡ disk self.old }
+        ensures exhausted { exhausted self.old ↔ exhausted self.new }
         ensures same { Same (device self.old) (device self.new) (stored self.old) (stored self.new) (failures self.old) (failures self.new) }
         ensures honest { honest self.old ↔ honest self.new }
         ensures refused { IsResting (phase self.old) → OnErr result ((phase self.new ≢ Committing) × (next self.new ≡ next self.old)) }
@@ -151,11 +167,13 @@ pub trait Store: Drop {
 
     /// Begins a checkpoint: no device call.
     fn begin_checkpoint(&mut self) -> Result<(), Refused>
+        ensures disk { disk self.new ≡ disk self.old }
+        ensures exhausted { exhausted self.old ↔ exhausted self.new }
         ensures same { Same (device self.old) (device self.new) (stored self.old) (stored self.new) (failures self.old) (failures self.new) }
         ensures honest { honest self.old ↔ honest self.new }
         ensures refused { OnErr result ((phase self.new ≡ phase self.old) × (next self.new ≡ next self.old)) }
         ensures begun { OnOk result ((phase self.old ≡ Idle) × IsOpen (phase self.new) × (next self.new ≡ stored self.old)) }
-        ensures calls { OnOk result (left self.new ≤ 320) }
+        ensures calls { OnOk result (left self.new ≤ most_calls) }
         ensures written { written self.new ≡ written self.old }
         ensures takes { (actions : List Action) → takes self.old actions → takes self.new actions }
         ensures half { (used self.new ≡ used self.old) × (segment self.new ≡ segment self.old) }
@@ -163,14 +181,19 @@ pub trait Store: Drop {
         ensures fresh { OnOk result (IsFresh (going self.new)) }
         ensures going { OnErr result (going self.new ≡ going self.old) }
         /// A checkpoint makes room for a whole batch.
-        ensures room { OnOk result ((actions : List Action) → length actions ≤ 256 → will_take self.new actions) }
-        ensures cause { honest self.old → phase self.old ≡ Idle → ¬ (spent (device self.old)) → IsOk result };
+        ensures room { OnOk result ((actions : List Action) → length actions ≤ most_actions → will_take self.new actions) }
+        ensures cause { phase self.old ≡ Idle → ¬ (exhausted self.old) → IsOk result };
 
     /// One device call of the work that was begun.
     fn advance(&mut self) -> Progress
         requires { (phase self.old ≡ Committing) ⊎ IsOpen (phase self.old) }
+        /// Of this device one write or sync was made, whatever it does, and it failed where that is told.
+        ensures one { result ≢ Progress.Failed → CallDone Self.Device.serves (disk self.old) (disk self.new) }
+        ensures failed { result ≡ Progress.Failed → CallFailed Self.Device.serves (disk self.old) (disk self.new) }
         ensures honest { honest self.old ↔ honest self.new }
         ensures call { honest self.old → IsCall (device self.old) (device self.new) }
+        ensures sound { result ≢ Progress.Failed → failures self.new ≡ failures self.old }
+        ensures exhausted { exhausted self.old → exhausted self.new }
         ensures count { failures self.old ≤ failures self.new }
         ensures advanced { Advanced result (phase self.old) (phase self.new) (stored self.old) (next self.old) (stored self.new) (next self.new) }
         ensures fewer { result ≡ Progress.More → (left self.new < left self.old) × ((actions : List Action) → will_take self.old actions → will_take self.new actions) }
@@ -178,13 +201,16 @@ pub trait Store: Drop {
         ensures done { result ≡ Progress.Done → IsOpen (phase self.old) → (phase self.new ≡ Idle) × ((actions : List Action) → will_take self.old actions → takes self.new actions) }
         ensures takes { IsOpen (phase self.old) → result ≢ Progress.Failed → (actions : List Action) → takes self.old actions → takes self.new actions }
         /// A piece has at most 65,536 bytes.
-        ensures written { written self.new ≤ written self.old + 65536 }
+        ensures written { written self.new ≤ written self.old + most }
         ensures unwritten { phase self.old ≢ Paused → written self.new ≤ written self.old }
         ensures segment { segment self.new ≡ segment self.old }
         ensures newest { newest self.old → newest self.new }
         /// A commit adds one frame, and counts anew; a piece goes out; and a checkpoint that is done leaves the frames in it.
         ensures pace { Goes result (phase self.old) (used self.old) (used self.new) (written self.new) (going self.old) (going self.new) }
         ensures cause { result ≡ Progress.Failed → HasFailed (failures self.old) (failures self.new) };
+
+    /// What is told of the device is read off it.
+    ghost of_disk: { (store : Self) → (honest store ↔ Self.Device.honest (disk store)) × (Self.Device.state (disk store) ≡ device store) × (Self.Device.failures (disk store) ≡ failures store) };
 
     /// Where no commit is under way the next plant is the stored one.
     ghost idle: { (store : Self) → phase store ≢ Committing → phase store ≢ Stopped → next store ≡ stored store };
@@ -195,7 +221,7 @@ pub trait Store: Drop {
     ghost opened: { (store : Self) → IsOpen (phase store) → IsSome (going store) };
 
     /// Where there is room for the longest frame any batch is taken by a half of the newest version.
-    ghost fits: { (store : Self) (actions : List Action) → newest store → length actions ≤ 256 → TakesAny (segment store) (used store) → takes store actions };
+    ghost fits: { (store : Self) (actions : List Action) → newest store → length actions ≤ most_actions → TakesAny (segment store) (used store) → takes store actions };
 
     /// No bytes stand for two plants.
     ghost one: { (b : List ℕ) (p q : Condensed) → recovers b p → recovers b q → p ≡ q };

@@ -2,7 +2,7 @@ use Rattle.std.proofs.Common.{ℕ, [], ◌∷◌, ◌++◌, ◌∙◌, arith, su
 use Rattle.alm_disk.specs.declared.call.Call.TheVariants.{Read}
 use Rattle.alm_checkpoint.specs.declared.half.Half.TheVariants.{First, Second}
 use Rattle.alm_checkpoint.specs.Layouts.{part, half_at, image_at, image_size, segment_at}
-use Rattle.alm_keeper.specs.Calls.{AreMade}
+use Rattle.alm_store.specs.Calls.{AreMade}
 use Rattle.alm_keeper.proofs.Made.{made_by, made_then}
 use Rattle.alm_keeper.proofs.Opened.{layout_fault, marks_fault, opens_by, fits_by}
 use Rattle.alm_keeper.proofs.opening.read_book.Goals as goal

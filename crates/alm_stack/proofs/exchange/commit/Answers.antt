@@ -94,12 +94,12 @@ returns-in-Failed-clause-failed g c = λ _ w entries o at few.
     )
 
 pub returns-in-Failed-clause-cause : goal.returns-in-Failed-clause-cause
-returns-in-Failed-clause-cause g c = λ _ w entries o at few honest unspent.
+returns-in-Failed-clause-cause g c = λ _ w entries o at few unspent.
     let inv = c.loop-step.invariant in
     let made = c.in-Failed.ensures in
     let was = inv.going w entries o at few in
     fails_since (g.K.Store.failures c.args.pipeline.now.flusher.store) (g.K.Store.failures c.loop-step.pipeline.flusher.store) (g.K.Store.failures c.call.new.self.flusher.store) inv.count made.count
-    (made.late refl (inv.honest.0 honest) unspent w was.0)
+    (made.late refl unspent w was.0)
 
 pub returns-in-Nothing-clause-failed : goal.returns-in-Nothing-clause-failed
 returns-in-Nothing-clause-failed g c = λ _ w entries o at few.
@@ -107,7 +107,7 @@ returns-in-Nothing-clause-failed g c = λ _ w entries o at few.
     absurd (c.in-Nothing.ensures.answer w was.0 (was.0.opened, subst IsHeld (sym at) tt))
 
 pub returns-in-Nothing-clause-cause : goal.returns-in-Nothing-clause-cause
-returns-in-Nothing-clause-cause g c = λ _ w entries o at few honest unspent.
+returns-in-Nothing-clause-cause g c = λ _ w entries o at few unspent.
     let was = c.loop-step.invariant.going w entries o at few in
     absurd (c.in-Nothing.ensures.answer w was.0 (was.0.opened, subst IsHeld (sym at) tt))
 
@@ -119,7 +119,7 @@ returns-clause-failed g c = λ _ w entries o at few.
     absurd (no_time _ _ _ _ _ (subst (λ (n : ℕ). EndsIn n p) none was.1))
 
 pub returns-clause-cause : goal.returns-clause-cause
-returns-clause-cause g c = λ _ w entries o at few honest unspent.
+returns-clause-cause g c = λ _ w entries o at few unspent.
     let p = c.loop-step.pipeline in
     let was = c.loop-step.invariant.going w entries o at few in
     let none : 647 - c.loop-step._step ≡ 0 = omega (arith, c.loop-step-test.false) in

@@ -24,7 +24,7 @@ returns-then-not-hand_in-clause-left g c = λ w m.
     (stored_as w q spent.1.fits ∙ ap (run w.base) m.1.stored, inl (none_waits q.flusher.held (spent.1.fits.batches.held ∙ m.1.stage)))
 
 pub returns-then-not-hand_in-clause-cause : goal.returns-then-not-hand_in-clause-cause
-returns-then-not-hand_in-clause-cause g c = λ w m honest unspent few.
+returns-then-not-hand_in-clause-cause g c = λ w m unspent few.
     let spent = c.if-not-hand_in.ensures.spent refl w m in
     absurd (omega (arith, spent.0, few))
 
@@ -59,12 +59,12 @@ returns-then-not-commit-clause-left g c = λ w m.
     (stored_as y q f.0, inr (held_waits q.flusher.held entries f.0.batches.held ∙ (append-nil (when_accepted v) ∙ ap when_accepted hi.2)))
 
 pub returns-then-not-commit-clause-cause : goal.returns-then-not-commit-clause-cause
-returns-then-not-commit-clause-cause g c = λ w m honest unspent _.
+returns-then-not-commit-clause-cause g c = λ w m unspent _.
     let slot = c.args.slot in
     let want = c.args.want in
     let hi = c.if-not-hand_in.ensures.handed refl w m in
     let v = hi.1 in
-    let failed = c.if-not-commit.ensures.cause refl (handed_in w slot want v) (entry_at w slot want v ∷ []) hi.4 refl (few_entry v) (c.hand_in.ensures.honest.0 honest) unspent in
+    let failed = c.if-not-commit.ensures.cause refl (handed_in w slot want v) (entry_at w slot want v ∷ []) hi.4 refl (few_entry v) unspent in
     subst (λ (n : ℕ). HasFailed n (g.K.Store.failures c.commit.new.pipeline.flusher.store)) c.hand_in.ensures.failures failed
 
 pub returns-then-not-commit-clause-run : goal.returns-then-not-commit-clause-run
@@ -168,7 +168,7 @@ returns-in-None-clause-left g c = λ w m.
     absurd (c.in-None.ensures.sure refl w want v m.1 done.0)
 
 pub returns-in-None-clause-cause : goal.returns-in-None-clause-cause
-returns-in-None-clause-cause g c = λ w m honest unspent few.
+returns-in-None-clause-cause g c = λ w m unspent few.
     let slot = c.args.slot in
     let want = c.args.want in
     let hi = c.if-not-hand_in.ensures.handed refl w m in

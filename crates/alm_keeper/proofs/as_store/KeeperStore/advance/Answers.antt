@@ -1,5 +1,6 @@
 use Rattle.alm_keeper.proofs.CallsLeft.{works, open_work, fewer, done, takes_kept, written_more, unwritten}
 use Rattle.alm_keeper.proofs.StorePassing.{advanced}
+use Rattle.alm_keeper.proofs.StoreCalls.{call_done, call_failed, stays_exhausted}
 use Rattle.alm_keeper.proofs.StorePacing.{segment_stays, newest_stays, goes_on}
 use Rattle.alm_keeper.proofs.as_store.KeeperStore.advance.Goals as goal
 
@@ -40,3 +41,12 @@ returns-clause-pace g c =
 
 pub returns-clause-newest : goal.returns-clause-newest
 returns-clause-newest g c = newest_stays c.args.self.now c.advance.new.self c.advance.result c.advance.ensures.advances
+
+pub returns-clause-one : goal.returns-clause-one
+returns-clause-one g c = λ not. call_done g.D.Disk.serves c.args.self.now c.advance.new.self.disk c.advance.result not c.advance.ensures.call
+
+pub returns-clause-failed : goal.returns-clause-failed
+returns-clause-failed g c = λ is. call_failed g.D.Disk.serves c.args.self.now c.advance.new.self.disk c.advance.result is c.advance.ensures.call
+
+pub returns-clause-exhausted : goal.returns-clause-exhausted
+returns-clause-exhausted g c = λ least. stays_exhausted c.args.self.now c.advance.new.self c.advance.result c.advance.ensures.advances least

@@ -1,5 +1,3 @@
-use Rattle.std.proofs.Common.{sym, subst}
-use Rattle.alm_store.specs.Advancing.{IsResting}
 use Rattle.alm_keeper.proofs.StoreBegun.{copied_cause}
 use Rattle.alm_keeper.proofs.CallsLeft.{checkpoint_calls, checkpoint_room}
 use Rattle.alm_keeper.proofs.StorePassing.{opened_phase}
@@ -7,9 +5,7 @@ use Rattle.alm_keeper.proofs.StorePacing.{fresh, newest_copied, not_begun}
 use Rattle.alm_keeper.proofs.as_store.KeeperStore.begin_checkpoint.Goals as goal
 
 pub returns-clause-cause : goal.returns-clause-cause
-returns-clause-cause g c = λ honest idle unspent.
-    let k = c.args.self.now in
-    copied_cause c.begin_checkpoint.result k (g.D.Disk.state k.disk) c.begin_checkpoint.ensures.answer idle (c.images.ensures.rests honest (subst IsResting (sym idle) tt)) unspent
+returns-clause-cause g c = λ idle left. copied_cause c.begin_checkpoint.result c.args.self.now c.begin_checkpoint.ensures.answer idle left
 
 pub returns-clause-calls : goal.returns-clause-calls
 returns-clause-calls g c = checkpoint_calls c.begin_checkpoint.result c.args.self.now c.begin_checkpoint.new.self c.images.ensures.lengths.0 c.begin_checkpoint.ensures.begins

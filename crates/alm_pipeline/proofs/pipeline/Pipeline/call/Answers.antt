@@ -65,6 +65,7 @@ returns-in-More-clause-moves g c = λ honest w m refused.
     let phase = g.K.Store.phase p.flusher.store in (
       may_call w (sight_in refused c.args.self.now) p.flusher.held phase o.opened o.fits.batches.held (ap g.K.Store.phase same) (goes_with phase p.flusher.held c.advance.new.self.held c.in-More.ensures.held),
       subst (λ s. IsCall (g.K.Store.device s) (g.K.Store.device c.advance.new.self.store)) same (c.in-More.ensures.more is refl),
+      c.in-More.ensures.sound (λ e. absurd (cc e)) ∙ ap g.K.Store.failures same,
       c.in-More.ensures.going o.going (λ e. absurd (cc e)),
       refl,
     )
@@ -81,7 +82,8 @@ returns-in-Committed-clause-moves g c = λ honest w m refused.
     let stage : w.stage ≡ Held held.0.entries = sym o.fits.batches.held ∙ ap stage_of held.1 in
     let actions : to_commit p.flusher.held ≡ accepted_of (entries_at w.stage) = ap to_commit held.1 ∙ ap (λ s. accepted_of (entries_at s)) (sym stage) in (
       λ some. subst (λ s. IsCall (g.K.Store.device s) (g.K.Store.device new.store)) same (c.in-Committed.ensures.one is (subst (λ l. 0 < length l) (sym actions) some) (λ e. absurd (cc e))),
-      λ none. let kept = c.in-Committed.ensures.none (actions ∙ none) refl in (kept.0 ∙ ap g.K.Store.device same, kept.1 ∙ ap g.K.Store.failures same),
+      λ none. let kept = c.in-Committed.ensures.none (actions ∙ none) refl in kept.1 ∙ ap g.K.Store.device same,
+      c.in-Committed.ensures.sound (λ e. absurd (cc e)) ∙ ap g.K.Store.failures same,
       c.in-Committed.ensures.at_rest refl,
       c.in-Committed.ensures.going o.going (λ e. absurd (cc e)),
       refl,
@@ -107,6 +109,7 @@ returns-in-Failed-clause-moves g c = λ honest w m refused.
     let is = subst s.honest (sym same) honest in
     let o = c.tell_batches.ensures.«open» w m in
     let phase = s.phase p.flusher.store in
+    let kept = c.keeper.ensures.keeper in
     let failed = failed_batch phase h new.held o.going o.trying c.in-Failed.ensures.held in (
       may_call w (sight_in refused c.args.self.now) h phase o.opened o.fits.batches.held (ap s.phase same) (fails_with phase h new.held o.going p.flusher.idle c.in-Failed.ensures.held),
       subst (λ k. IsCalls (s.device k) (s.device new.store)) same (c.in-Failed.ensures.call is),
@@ -115,7 +118,7 @@ returns-in-Failed-clause-moves g c = λ honest w m refused.
         | inr f ↦ c.in-Failed.ensures.broken refl o.going f.0
       ])),
       (λ left. subst (λ k. HasFailed (s.failures k) (s.failures new.store)) same (elim failed [
-        | inl f ↦ c.in-Failed.ensures.cause refl is o.going (λ spent. left (subst (λ k. s.spent (s.device k)) same spent)) (fetched_next p f.0 f.1 c.tell_batches.ensures.knows)
+        | inl f ↦ c.in-Failed.ensures.cause refl o.going (λ last. left (subst (λ k. s.spent (s.device k)) (kept ∙ same) (c.images.ensures.exhausted (subst s.honest (sym kept) is) (subst s.exhausted (sym kept) last)))) (fetched_next p f.0 f.1 c.tell_batches.ensures.knows)
         | inr f ↦ c.in-Failed.ensures.broken refl o.going f.0
       ])),
       refl,
@@ -136,14 +139,13 @@ returns-in-Failed-clause-sure g c = λ _ surely w m.
     ])
 
 pub returns-in-Failed-clause-late : goal.returns-in-Failed-clause-late
-returns-in-Failed-clause-late g c = λ _ honest left w m.
+returns-in-Failed-clause-late g c = λ _ left w m.
     let p = c.tell_batches.new.self in
     let same = c.tell_batches.ensures.store in
-    let is = subst g.K.Store.honest (sym same) honest in
     let o = c.tell_batches.ensures.«open» w m in
     let failed = failed_batch (g.K.Store.phase p.flusher.store) p.flusher.held c.advance.new.self.held o.going o.trying c.in-Failed.ensures.held in
     subst (λ s. HasFailed (g.K.Store.failures s) (g.K.Store.failures c.advance.new.self.store)) same (elim failed [
-      | inl f ↦ c.in-Failed.ensures.late refl is o.going left (fetched_next p f.0 f.1 c.tell_batches.ensures.knows)
+      | inl f ↦ c.in-Failed.ensures.cause refl o.going (λ last. left (c.in-Failed.ensures.exhausted last)) (fetched_next p f.0 f.1 c.tell_batches.ensures.knows)
       | inr f ↦ c.in-Failed.ensures.broken refl o.going f.0
     ])
 

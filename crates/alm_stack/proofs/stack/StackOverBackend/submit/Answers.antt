@@ -74,10 +74,10 @@ returns-in-Err-clause-stored g c =
     ∙ sym (ap (λ h. kept_by (running h live) (kept_of s) r (Err (record {}))) none)
 
 pub returns-in-Err-clause-cause : goal.returns-in-Err-clause-cause
-returns-in-Err-clause-cause g c = λ some honest unspent more.
+returns-in-Err-clause-cause g c = λ some unspent more.
     let few : c.args.request.now.slot < 18 = subst (λ (n : ℕ). n < 18) c.number-place.ensures.number c.number-place.ensures.limit in
     let s = c.args.self.now in
     let q = c.exchange.new.pipeline in
     failed_is (g.K.Store.failures s.pipeline.flusher.store) (g.K.Store.failures q.flusher.store) c.exchange.ensures.count
     (∥∥₁_elim (s.rests c.in-None.is) ∥∥₁_prop (λ m.
-    ∣ c.in-Err.ensures.cause m.0 m.1 honest unspent (omega (arith, more, sent_by m.0 s.pipeline c.args.request.now.slot few m.1.0.fits)) ∣₁))
+    ∣ c.in-Err.ensures.cause m.0 m.1 unspent (omega (arith, more, sent_by m.0 s.pipeline c.args.request.now.slot few m.1.0.fits)) ∣₁))
