@@ -2,15 +2,17 @@
 
 use crate::course::{Call, Outcome, Played, play_over};
 use crate::opened::{Standing, open_formatted, stands_as};
-use alm_disk::MemDisk;
+use alm_disk::{Call as DiskCall, MemDisk};
 use alm_flush::{Advance, Release};
 use alm_seq::{Seal, Take};
 use alm_types::{Action, Attr, Kind, Moment, Settings, Slot, Table, Verdict};
 use std::alloc::Global;
 use std::test::Fail;
 
-/// How long the device is, and where the third frame of half 1 stands.
+/// How long the device is, where half 1 begins, and where its third frame stands.
 const SIZE: usize = 391_541;
+
+const HALF: u64 = 195_782;
 
 const THIRD: usize = 387_495;
 
@@ -77,6 +79,20 @@ fn opening(alloc: Global, slot: Slot) -> Result<Vec<(Call, Outcome)>, Fail> {
     Ok(course)
 }
 
+/// Which calls on the device are writes of more bytes than a frame of one action has, to the run of half 1: where and how long.
+fn pieces_in(alloc: Global, calls: &[DiskCall]) -> Result<Vec<(u64, u64)>, Fail> {
+    let mut pieces = Vec::new(alloc);
+    for call in calls {
+        match *call {
+            DiskCall::Write { at, length } if at > HALF && length > 35 => {
+                pieces.push((at, length))?;
+            }
+            _ => {}
+        }
+    }
+    Ok(pieces)
+}
+
 #[test]
 fn a_piece_goes_out_before_each_commit(rt: HostRuntime) -> Result<(), Fail> {
     let alloc = rt.alloc();
@@ -92,6 +108,16 @@ fn a_piece_goes_out_before_each_commit(rt: HostRuntime) -> Result<(), Fail> {
         ..
     } = played(alloc, &course)?;
     assert_eq!(rt; differs_at, None);
+    // The run ends with the closed gate behind two frames.
+    assert_eq!(rt;
+        pieces_in(alloc, disk.calls())?.as_slice(),
+        [
+            (HALF + 1, 65_536),
+            (HALF + 65_537, 65_536),
+            (HALF + 131_073, 60_641),
+        ]
+        .as_slice()
+    );
     let frame = [0xA5, 0, 0, 0, 0, 0, 0, 0, 2, 0, 0, 0, 0, 0, 0, 0, 62, 0, 1];
     assert_eq!(rt; disk.bytes().get(THIRD..THIRD + 19), Some(frame.as_slice()));
     let wanted = Standing {

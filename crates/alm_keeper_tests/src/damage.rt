@@ -1,9 +1,14 @@
 //! Devices with a changed byte.
 
+ghost use Rattle.std.specs.Prelude.{◌<◌};
+
 use crate::steps::{batch, fresh, stores, worked};
 use crate::worked::{clock, value};
+use alm_checkpoint::{Fault, RestoreFault, recover};
 use alm_disk::{Disk, MemDisk};
 use alm_keeper::{OpenFault, open_store};
+use alm_model::Alarms;
+use alm_plant::Plant;
 use std::alloc::Global;
 use std::ops::Range;
 use std::test::Fail;
@@ -93,33 +98,52 @@ fn two_changed_bytes(rt: HostRuntime) -> Result<(), Fail> {
     Ok(())
 }
 
-/// How many openings of a device whose bytes in a range are set in turn to 00, 01, A5 and FF gave a count, and a fault.
-fn openings(alloc: Global, places: Range<u64>) -> Result<(u64, u64), Fail> {
+/// What recovery of its bytes alone tells of a device: the count and the epoch, or their fault.
+fn recovered(alloc: Global, bytes: &[u8]) -> Result<(u64, u64), OpenFault> {
+    match recover::<Plant>(alloc, bytes) {
+        Ok(found) => Ok((found.plant.count(), found.epoch)),
+        Err(RestoreFault::OutOfMemory) => Err(OpenFault::OutOfMemory),
+        Err(RestoreFault::Damaged(Fault::Unformatted)) => Err(OpenFault::Unformatted),
+        Err(RestoreFault::Damaged(Fault::Damaged { half, at })) => {
+            Err(OpenFault::Damaged { half, at })
+        }
+    }
+}
+
+/// The last of these places, each so many behind the one before, at which opening tells of a byte set in turn to 00, 01, A5 and FF what
+/// recovery doesn't.
+fn dispute(alloc: Global, places: Range<u64>, step: usize) -> Result<Option<u64>, Fail>
+    requires { 0 < step }
+{
     let mut disk = MemDisk::new(alloc, stored(alloc)?, CALLS)?;
-    let mut counts: u64 = 0;
-    let mut faults: u64 = 0;
-    for at in places {
+    let mut last = None;
+    for at in places.step_by(step) {
         let old = disk.bytes().get(at as usize).copied().unwrap_or(0);
         for byte in [0x00, 0x01, 0xA5, 0xFF] {
             put(&mut disk, at, byte);
+            let wanted = recovered(alloc, disk.bytes());
             let (found, back) = opened(alloc, disk);
             disk = back;
-            match found {
-                Ok(_) => counts = counts.saturating_add(1),
-                Err(_) => faults = faults.saturating_add(1),
+            if found != wanted {
+                last = Some(at);
             }
         }
         put(&mut disk, at, old);
     }
-    Ok((counts, faults))
+    Ok(last)
 }
 
 #[test]
-fn every_byte_of_header_head_and_frames(rt: HostRuntime) -> Result<(), Fail> {
+fn every_byte_of_header_heads_alarms_and_frames(rt: HostRuntime) -> Result<(), Fail> {
     let alloc = rt.alloc();
-    for (from, to) in [(0, 48), (10_394, 10_465), (14_510, 14_535)] {
-        let (counts, faults) = openings(alloc, from..to)?;
-        assert_eq!(rt; counts.saturating_add(faults), 4 * (to - from));
+    for (from, to) in [(0, 128), (9_666, 10_465), (14_510, 14_535)] {
+        assert_eq!(rt; dispute(alloc, from..to, 1)?, None);
     }
+    Ok(())
+}
+
+#[test]
+fn every_eleventh_byte(rt: HostRuntime) -> Result<(), Fail> {
+    assert_eq!(rt; dispute(rt.alloc(), 0..28_997, 11)?, None);
     Ok(())
 }

@@ -4,7 +4,7 @@ use crate::choosers::Left;
 use crate::course::{Part, Stored};
 use crate::steps::{advance, batch, begin, open, stores};
 use crate::worked::clock;
-use alm_disk::{Call, Crashable, Disk, FuseDisk, MemDisk};
+use alm_disk::{Call, Crashable, Disk, FuseDisk, MemDisk, OnceDisk};
 use alm_keeper::{Keeper, Phase, Progress, Refused, format, open_store};
 use alm_types::{Attr, Kind, Settings, Table};
 use std::alloc::Global;
@@ -259,21 +259,41 @@ fn judged(calls: u64, disk: &MemDisk, left: &Left) -> Stored {
     Some((2, 3))
 }
 
-/// Whether a device with a fuse of so many calls opens after a crash as what the judge says.
-fn fused(alloc: Global, calls: u64, mut left: Left) -> Result<bool, Fail> {
-    let mut keeper = fresh(alloc, FuseDisk::new(zeros(alloc, SMALL_SIZE)?, calls), 360)?;
+/// Whether all was done on a device, and the device.
+fn tried<D: Disk + Drop>(alloc: Global, disk: D) -> Result<(bool, D), Fail> {
+    let mut keeper = fresh(alloc, disk, 360)?;
     let done = works(alloc, &mut keeper);
     let disk = keeper.into_disk();
-    let done = done?;
-    let wanted = judged(calls, &disk.disk, &left);
-    match open_store(alloc, disk.crash(&mut left)) {
+    Ok((done?, disk))
+}
+
+/// The epoch and the count of a device, where it is opened.
+fn standing<D: Disk + Drop>(alloc: Global, disk: D) -> Stored {
+    match open_store(alloc, disk) {
         Ok(keeper) => {
             let stored = (keeper.epoch(), keeper.count());
             drop(keeper);
-            Ok(Some(stored) == wanted && done == (calls == BEFORE + CALLS))
+            Some(stored)
         }
-        Err(_) => Ok(false),
+        Err(_) => None,
     }
+}
+
+/// Whether a device with a fuse of so many calls opens after a crash as what the judge says.
+fn fused(alloc: Global, calls: u64, mut left: Left) -> Result<bool, Fail> {
+    let (done, disk) = tried(alloc, FuseDisk::new(zeros(alloc, SMALL_SIZE)?, calls))?;
+    let wanted = judged(calls, &disk.disk, &left);
+    let stood = standing(alloc, disk.crash(&mut left));
+    Ok(stood == wanted && done == (calls == BEFORE + CALLS))
+}
+
+/// Whether one does of which the call behind so many fails and no other one.
+fn failed_once(alloc: Global, calls: u64, mut left: Left) -> Result<bool, Fail> {
+    let once = OnceDisk::new(zeros(alloc, SMALL_SIZE)?, calls.saturating_add(1));
+    let (done, disk) = tried(alloc, once)?;
+    let wanted = judged(calls, &disk.disk, &left);
+    let stood = standing(alloc, disk.crash(&mut left));
+    Ok(stood == wanted && !done)
 }
 
 #[test]
@@ -284,6 +304,20 @@ fn a_fuse_of_each_length(rt: HostRuntime) -> Result<(), Fail> {
             assert!(rt;
                 fused(alloc, calls, Left::Every(byte))?,
                 "a fuse of {calls}, and each pending byte {byte}"
+            );
+        }
+    }
+    Ok(())
+}
+
+#[test]
+fn each_call_that_fails_alone(rt: HostRuntime) -> Result<(), Fail> {
+    let alloc = rt.alloc();
+    for calls in BEFORE..BEFORE + CALLS {
+        for byte in [0x00, 0xA5] {
+            assert!(rt;
+                failed_once(alloc, calls, Left::Every(byte))?,
+                "the call behind {calls} fails, and each pending byte is {byte}"
             );
         }
     }

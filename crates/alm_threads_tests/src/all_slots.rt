@@ -1,4 +1,4 @@
-//! Slots, and who sits at them.
+//! All slots, with a source each.
 
 ghost use Rattle.std.specs.Prelude.{◌≡◌, IfOk, length};
 ghost use Rattle.alm_rings.specs.Placed.{AreApart};
