@@ -7,8 +7,9 @@ Clients on all ports ask one request after another, each behind the answer to it
 actions in the order of their numbers. Then some do so while at each call on the device's file in turn the call fails, the process is killed
 or the power fails, or while from a request on there is no more memory: the server has ended with the status of its fault line, and
 the device holds each action that was answered, at the number that the answer named, and of those without an answer what may have come
-before or behind. A server that nobody asks ends its checkpoint. Each request for memory, and each thread, is refused in turn. Lines of a grammar that breaks itself (lines.py) are sent to a port in pieces that end anywhere; the replies fit the second
-reading of the lines.
+before or behind. A server that nobody asks ends its checkpoint. Each request for memory, and each thread, is refused in turn. Lines of a grammar that
+breaks itself (lines.py) are sent to a port in pieces that end anywhere; the replies fit the second reading of the lines. Connections
+that end their sending while replies are owed get these, and their end.
 """
 import itertools
 import os
@@ -290,6 +291,26 @@ class Serving:
         server.end()
         return count
 
+    def half_closed(self, seed, count):
+        """Connections that end their sending while replies are owed, one after the other: each gets its replies, and its end."""
+        device = os.path.join(self.folder, "device")
+        shutil.copyfile(self.fresh, device)
+        server = self.start(device)
+        dice = random.Random(seed)
+        for _ in range(count):
+            ids = [str(number).encode() for number in range(1, dice.choice([1, 2, 5, 64, 200, 2000]) + 1)]
+            text = b"".join(each + b" STATE 2\n" for each in ids)
+            slot, cut = dice.choice(SLOTS), dice.choice([0, len(text) // 2, len(text)])
+            with server.connect(slot) as one, one.makefile("rb") as replies:
+                for piece in (text[:cut], text[cut:]):
+                    one.sendall(piece)
+                    time.sleep(dice.choice([0, 0.0003, 0.002]))
+                one.shutdown(socket.SHUT_WR)
+                said = [reply.split()[0] for reply in replies]
+            check(said == ids, "half-closed", seed, slot, len(ids), "lines and", len(said), "replies")
+        server.end()
+        return count
+
     def send_cut(self, one, text, dice):
         at = 0
         while at < len(text):
@@ -310,10 +331,11 @@ def main():
         refused = serving.refusals("memory", step // 17 + 1)
         threads = serving.refusals("thread", step // 17 + 1)
         lines = sum(serving.cut_lines(seed, 5_000) for seed in range(40 // step + 2))
+        halves = serving.half_closed(1, 3000 // step + 100)
     except Wrong as wrong:
         sys.exit(f"serve: {wrong}; devices are in {folder}")
     finish("serve", folder, f"{accepted} actions of 18 slots, {faults} faults, kills and power cuts, {refused} requests for memory and {threads} threads refused,"
-           f" {stopped} stops for want of it, {lines} lines in pieces, none wrong, {time.monotonic() - started:.0f} s")
+           f" {stopped} stops for want of it, {lines} lines in pieces, {halves} connections half closed, none wrong, {time.monotonic() - started:.0f} s")
 
 
 if __name__ == "__main__":

@@ -10,7 +10,7 @@ use mio::{Poll, Token};
 use std::alloc::Global;
 use std::net::{Ipv4Addr, Net, SocketAddr};
 
-/// The token of the bell. Tokens are not read: after each poll all is tried.
+/// The token of the bell. It is not read: after each poll the bell is attended.
 const BELL: Token = Token(2);
 
 /// A port that is bound, with the poll and the bell of its thread.

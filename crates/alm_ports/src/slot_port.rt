@@ -19,7 +19,7 @@ use std::io;
 use std::sync::Arc;
 use std::time::Duration;
 
-/// The tokens of what is polled. They are not read: after each poll all is tried.
+/// The tokens of what is polled. That of the stream alone is read: after each poll all else is tried.
 const LISTENER: Token = Token(0);
 
 const STREAM: Token = Token(1);
@@ -133,6 +133,22 @@ impl SlotPort {
             .poll
             .poll(&mut self.events, Some(Duration::from_millis(SLEEP)));
         self.bell.attend();
+        self.find_ready();
+    }
+
+    /// Tells the wire what the poll found of its stream.
+    fn find_ready(&mut self)
+        ensures slot { self.new.slot ≡ self.old.slot }
+    {
+        let Connection::Open(wire) = &mut self.connection else {
+            return;
+        };
+        for event in &self.events {
+            let is_closing = event.is_read_closed() || event.is_error();
+            if event.token() == STREAM && (event.is_readable() || is_closing) {
+                wire.find_ready(is_closing);
+            }
+        }
     }
 }
 

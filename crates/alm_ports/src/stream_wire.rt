@@ -8,9 +8,14 @@ use std::io::{ErrorKind, Read, Write};
 
 /// A non-blocking stream as a wire: what it would have to wait for, or was interrupted in, is Blocked; a read of 0 bytes is the
 /// end; every other error, and a write of 0 bytes, is Failed.
+///
+/// A read that gives fewer bytes than there is room for has left none behind. The wire is dry then, and reads are Blocked without a
+/// call until a poll finds the stream ready. Once the other side has ended its sending no poll tells of it again, so reads go on.
 #[derive(Drop)]
 pub struct StreamWire<S: Read + Write + Drop> {
     stream: S,
+    is_dry: bool,
+    is_closing: bool,
     blocked_reads: u64,
     blocked_writes: u64,
     failed: u64,
@@ -21,10 +26,18 @@ impl<S: Read + Write + Drop> StreamWire<S> {
     pub fn new(stream: S) -> Self {
         StreamWire {
             stream,
+            is_dry: false,
+            is_closing: false,
             blocked_reads: 0,
             blocked_writes: 0,
             failed: 0,
         }
+    }
+
+    /// A poll found the stream ready to be read, and whether the other side sends no more.
+    pub fn find_ready(&mut self, is_closing: bool) {
+        self.is_dry = false;
+        self.is_closing = self.is_closing || is_closing;
     }
 }
 
@@ -49,10 +62,19 @@ impl<S: Read + Write + Drop> Wire for StreamWire<S> {
     ghost written = { λ _. None };
 
     fn read(&mut self, into: &mut [u8]) -> ReadGave {
+        if self.is_dry {
+            self.blocked_reads = self.blocked_reads.saturating_add(1);
+            return ReadGave::Blocked;
+        }
+        let room = into.len();
         match self.stream.read(into) {
             Ok(0) => ReadGave::End,
-            Ok(count) => ReadGave::Got(count),
+            Ok(count) => {
+                self.is_dry = count < room && !self.is_closing;
+                ReadGave::Got(count)
+            }
             Err(error) if is_for_later(error.kind()) => {
+                self.is_dry = error.kind() == ErrorKind::WouldBlock && !self.is_closing;
                 self.blocked_reads = self.blocked_reads.saturating_add(1);
                 ReadGave::Blocked
             }
