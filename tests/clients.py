@@ -11,6 +11,7 @@ import pathlib
 import random
 import re
 import shutil
+import signal
 import subprocess
 import sys
 import time
@@ -498,6 +499,7 @@ class Terminal:
 def main() -> None:
     program, step, folder = begin("clients", sys.argv, 1, 10)
     began = time.monotonic()
+    signal.signal(signal.SIGINT, signal.default_int_handler)  # a job in the background ignores it, and so would the tools that it ends
     try:
         clients = Clients(program, folder)
         said = [clients.export(1000 // step), clients.export_largest(), clients.demonstration(), clients.clock(), clients.feed(), clients.metrics(),
