@@ -41,7 +41,8 @@ impl<D: Crashable + Drop> Bench<D> {
 
     /// A closed bench.
     pub fn closed(alloc: Global, disk: D) -> Bench<D>
-        ensures stands { D.honest disk → (plant : Condensed) → StandOnly (D.state disk) plant → Stands (shut (first plant)) result }
+        ensures stands { D.honest disk → (plant : Condensed) → StandOnly (D.state disk) plant →
+            Stands (shut (first plant)) result }
         ensures device { sight_of result ≡ device_alone (D.state disk) (D.failures disk) 0 }
         ensures honest { D.honest disk ↔ IsHonest result }
         ensures there { HasDevice result }
@@ -56,13 +57,21 @@ impl<D: Crashable + Drop> Bench<D> {
     ///
     /// Refused, and the device is given back, where it stands for nothing, where it failed, or for want of memory.
     pub fn new(alloc: Global, disk: D) -> Result<Bench<D>, (OpenFault, D)>
-        ensures stands { D.honest disk → (plant : Condensed) → StandOnly (D.state disk) plant → IfOk result (λ bench. Stands (first plant) bench) }
+        ensures stands { D.honest disk → (plant : Condensed) → StandOnly (D.state disk) plant →
+            IfOk result (λ bench. Stands (first plant) bench) }
         /// What it reads is one of the images before, and nothing is pending.
-        ensures device { D.honest disk → IfOk result (λ bench. IsImage (D.state disk) (sight_of bench).state.bytes × ((place : ℕ) → (sight_of bench).state.pending place ≡ false)) }
+        ensures device { D.honest disk →
+            IfOk result
+            (λ bench. IsImage (D.state disk) (sight_of bench).state.bytes ×
+            ((place : ℕ) → (sight_of bench).state.pending place ≡ false)) }
         ensures there { IfOk result (λ bench. HasDevice bench) }
         ensures honest { IfErr result (λ e. D.honest disk ↔ D.honest e.1) }
-        ensures no_new_image { D.honest disk → IfErr result (λ e. (image : List ℕ) → IsImage (D.state e.1) image → IsImage (D.state disk) image) }
-        ensures cause { D.honest disk → IfErr result (λ e. HasCause StandsFor (D.state disk) e.0 (D.failures disk) (D.failures e.1)) }
+        ensures no_new_image { D.honest disk →
+            IfErr result
+            (λ e. (image : List ℕ) → IsImage (D.state e.1) image → IsImage (D.state disk) image) }
+        ensures cause { D.honest disk →
+            IfErr result
+            (λ e. HasCause StandsFor (D.state disk) e.0 (D.failures disk) (D.failures e.1)) }
     {
         match Pipeline::<Keeper<D>>::open(alloc, disk) {
             Ok(pipeline) => Ok(Bench {
@@ -90,7 +99,8 @@ impl<D: Crashable + Drop> Bench<D> {
 
     // Does nothing: it says what a crash leaves.
     fn images(&self)
-        ensures headline { (w : World) → Stands w self.now → Headline StandsFor IsSpent w (sight_of self.now).state }
+        ensures headline { (w : World) → Stands w self.now →
+            Headline StandsFor IsSpent w (sight_of self.now).state }
     {
         match &self.setup {
             Setup::Open(pipeline) => pipeline.images(),
@@ -118,8 +128,11 @@ impl<D: Crashable + Drop> Bench<D> {
     // The power fails.
     fn crash(&mut self, bytes: &Vec<(u64, u8)>) -> Event
         ensures answer { (w : World) → Stands w self.old → Answers w (S.Crash bytes.now) result }
-        ensures stands { (w : World) → Stands w self.old → Stands (after w (S.Crash bytes.now) result) self.new }
-        ensures moves { (w : World) → Stands w self.old → Moves StandsFor IsSpent w (S.Crash bytes.now) result (sight_of self.old) (sight_of self.new) }
+        ensures stands { (w : World) → Stands w self.old →
+            Stands (after w (S.Crash bytes.now) result) self.new }
+        ensures moves { (w : World) → Stands w self.old →
+            Moves StandsFor IsSpent w (S.Crash bytes.now) result (sight_of self.old)
+            (sight_of self.new) }
         ensures there { HasDevice self.old → HasDevice self.new }
     {
         match self.take() {
@@ -140,8 +153,10 @@ impl<D: Crashable + Drop> Bench<D> {
     // The device is opened again, and all else begins anew.
     fn reopen(&mut self, alloc: Global) -> Event
         ensures answer { (w : World) → Stands w self.old → Answers w S.Reopen result }
-        ensures stands { (w : World) → Stands w self.old → Stands (after w S.Reopen result) self.new }
-        ensures moves { (w : World) → Stands w self.old → Moves StandsFor IsSpent w S.Reopen result (sight_of self.old) (sight_of self.new) }
+        ensures stands { (w : World) → Stands w self.old →
+            Stands (after w S.Reopen result) self.new }
+        ensures moves { (w : World) → Stands w self.old →
+            Moves StandsFor IsSpent w S.Reopen result (sight_of self.old) (sight_of self.new) }
         ensures there { HasDevice self.old → HasDevice self.new }
     {
         match self.take() {
@@ -168,8 +183,10 @@ impl<D: Crashable + Drop> Bench<D> {
     fn call(&mut self) -> Event
         ensures answer { (w : World) → Stands w self.old → Answers w S.Call result }
         ensures stands { (w : World) → Stands w self.old → Stands (after w S.Call result) self.new }
-        ensures moves { (w : World) → Stands w self.old → Moves StandsFor IsSpent w S.Call result (sight_of self.old) (sight_of self.new) }
-        ensures sure { result ≡ E.Failed → NextIsSure self.old → (w : World) → Stands w self.old → HasFailed (sight_of self.old).failures (sight_of self.new).failures }
+        ensures moves { (w : World) → Stands w self.old →
+            Moves StandsFor IsSpent w S.Call result (sight_of self.old) (sight_of self.new) }
+        ensures sure { result ≡ E.Failed → NextIsSure self.old → (w : World) → Stands w self.old →
+            HasFailed (sight_of self.old).failures (sight_of self.new).failures }
         ensures there { HasDevice self.old → HasDevice self.new }
     {
         match self.take() {
@@ -204,8 +221,10 @@ impl<D: Crashable + Drop> Bench<D> {
     fn go(&mut self, step: &Step) -> Event
         requires { IsInner step.now }
         ensures answer { (w : World) → Stands w self.old → Answers w step.now result }
-        ensures stands { (w : World) → Stands w self.old → Stands (after w step.now result) self.new }
-        ensures moves { (w : World) → Stands w self.old → Moves StandsFor IsSpent w step.now result (sight_of self.old) (sight_of self.new) }
+        ensures stands { (w : World) → Stands w self.old →
+            Stands (after w step.now result) self.new }
+        ensures moves { (w : World) → Stands w self.old →
+            Moves StandsFor IsSpent w step.now result (sight_of self.old) (sight_of self.new) }
         ensures there { HasDevice self.old → HasDevice self.new }
     {
         match self.take() {
@@ -225,9 +244,12 @@ impl<D: Crashable + Drop> Bench<D> {
     // One step.
     fn act(&mut self, alloc: Global, step: &Step) -> Event
         ensures answer { (w : World) → Stands w self.old → Answers w step.now result }
-        ensures stands { (w : World) → Stands w self.old → Stands (after w step.now result) self.new }
-        ensures moves { (w : World) → Stands w self.old → Moves StandsFor IsSpent w step.now result (sight_of self.old) (sight_of self.new) }
-        ensures sure { step.now ≡ S.Call → result ≡ E.Failed → NextIsSure self.old → (w : World) → Stands w self.old →
+        ensures stands { (w : World) → Stands w self.old →
+            Stands (after w step.now result) self.new }
+        ensures moves { (w : World) → Stands w self.old →
+            Moves StandsFor IsSpent w step.now result (sight_of self.old) (sight_of self.new) }
+        ensures sure { step.now ≡ S.Call → result ≡ E.Failed → NextIsSure self.old → (w : World) →
+            Stands w self.old →
             HasFailed (sight_of self.old).failures (sight_of self.new).failures }
         ensures there { HasDevice self.old → HasDevice self.new }
     {
@@ -250,14 +272,19 @@ impl<D: Crashable + Drop> Bench<D> {
     /// One step, before and after which the headline holds.
     pub fn step(&mut self, alloc: Global, step: &Step) -> Event
         ensures answer { (w : World) → Stands w self.old → Answers w step.now result }
-        ensures stands { (w : World) → Stands w self.old → Stands (after w step.now result) self.new }
-        ensures moves { (w : World) → Stands w self.old → Moves StandsFor IsSpent w step.now result (sight_of self.old) (sight_of self.new) }
+        ensures stands { (w : World) → Stands w self.old →
+            Stands (after w step.now result) self.new }
+        ensures moves { (w : World) → Stands w self.old →
+            Moves StandsFor IsSpent w step.now result (sight_of self.old) (sight_of self.new) }
         // A call of the device fails only where the device failed in it, or where the last epoch has no room for the held batch.
-        ensures sure { step.now ≡ S.Call → result ≡ E.Failed → NextIsSure self.old → (w : World) → Stands w self.old →
+        ensures sure { step.now ≡ S.Call → result ≡ E.Failed → NextIsSure self.old → (w : World) →
+            Stands w self.old →
             HasFailed (sight_of self.old).failures (sight_of self.new).failures }
         ensures there { HasDevice self.old → HasDevice self.new }
-        ensures before { (w : World) → Stands w self.old → Headline StandsFor IsSpent w (sight_of self.old).state }
-        ensures headline { (w : World) → Stands w self.old → Headline StandsFor IsSpent (after w step.now result) (sight_of self.new).state }
+        ensures before { (w : World) → Stands w self.old →
+            Headline StandsFor IsSpent w (sight_of self.old).state }
+        ensures headline { (w : World) → Stands w self.old →
+            Headline StandsFor IsSpent (after w step.now result) (sight_of self.new).state }
     {
         self.images();
         let event = self.act(alloc, step);
@@ -268,8 +295,13 @@ impl<D: Crashable + Drop> Bench<D> {
     /// The world's run of exactly these steps, before the first of which and after each the headline holds. Room for the trace is
     /// taken before the first step.
     pub fn run(&mut self, alloc: Global, steps: &[Step]) -> Result<Vec<Event>, AllocError>
-        ensures run { IfOk result (λ trace. (w : World) → Stands w self.old → IsRun StandsFor IsSpent w (sight_of self.old) steps.now trace.items (sight_of self.new)) }
-        ensures stands { IfOk result (λ trace. (w : World) → Stands w self.old → Stands (after_all w steps.now trace.items) self.new) }
+        ensures run { IfOk result
+            (λ trace. (w : World) → Stands w self.old →
+            IsRun StandsFor IsSpent w (sight_of self.old) steps.now trace.items
+            (sight_of self.new)) }
+        ensures stands { IfOk result
+            (λ trace.
+            (w : World) → Stands w self.old → Stands (after_all w steps.now trace.items) self.new) }
         ensures there { HasDevice self.old → HasDevice self.new }
         ensures memory { OnErr result (self.new ≡ self.old) }
     {

@@ -28,26 +28,34 @@ pub fn the_trace_tells_enough()
 /// In any run, what a step told of the accepted actions is recovered ever after: whatever a crash leaves at the end of the run, it stands for
 /// the plant of a list of actions that begins with those. A reply that is released tells the actions up to its own, a look those that it shows.
 pub fn what_was_told_is_recovered()
-    ensures { (plant : Condensed) (d last : Sight) (steps behind : List Step) (trace rest : List Event) (step : Step) (event : Event) (told : List Action) →
-        length steps ≡ length trace → IsRun StandsFor IsSpent (shut (first plant)) d (steps ++ step ∷ behind) (trace ++ event ∷ rest) last →
+    ensures { (plant : Condensed) (d last : Sight) (steps behind : List Step)
+        (trace rest : List Event) (step : Step) (event : Event) (told : List Action) →
+        length steps ≡ length trace →
+        IsRun StandsFor IsSpent (shut (first plant)) d (steps ++ step ∷ behind)
+        (trace ++ event ∷ rest) last →
         Tells (after_all (shut (first plant)) steps trace) step event told →
-        (image : List ℕ) (recovered : Condensed) → IsImage last.state image → StandsFor image recovered →
+        (image : List ℕ) (recovered : Condensed) → IsImage last.state image →
+        StandsFor image recovered →
         (actions : List Action) × (recovered ≡ run plant actions) × IsFront told actions }
 {}
 
 /// Each reply that is released in a run tells such a list: as many actions as its number says beyond the first plant's, and where its action was
 /// accepted, that action is the last of them.
 pub fn each_reply_tells_its_action()
-    ensures { (plant : Condensed) (d last : Sight) (steps behind : List Step) (trace rest : List Event) (slot : ℕ) →
-        length steps ≡ length trace → IsRun StandsFor IsSpent (shut (first plant)) d (steps ++ Release ∷ behind) (trace ++ Released slot ∷ rest) last →
-        (told : List Action) × Tells (after_all (shut (first plant)) steps trace) Release (Released slot) told }
+    ensures { (plant : Condensed) (d last : Sight) (steps behind : List Step)
+        (trace rest : List Event) (slot : ℕ) → length steps ≡ length trace →
+        IsRun StandsFor IsSpent (shut (first plant)) d (steps ++ Release ∷ behind)
+        (trace ++ Released slot ∷ rest) last →
+        (told : List Action) ×
+        Tells (after_all (shut (first plant)) steps trace) Release (Released slot) told }
 {}
 
 /// A look shows all that was told before it: its count reaches each number of a receipt that was received and each count of a look, over
 /// all slots and reopenings.
 pub fn looks_never_go_back()
-    ensures { (plant : Condensed) (d last : Sight) (steps behind : List Step) (trace rest : List Event) (slot : ℕ) (query : Query) (count : ℕ) →
+    ensures { (plant : Condensed) (d last : Sight) (steps behind : List Step)
+        (trace rest : List Event) (slot : ℕ) (query : Query) (count : ℕ) →
         length steps ≡ length trace →
-        IsRun StandsFor IsSpent (shut (first plant)) d (steps ++ Look slot query ∷ behind) (trace ++ Looked count ∷ rest) last →
-        told_in trace ≤ count }
+        IsRun StandsFor IsSpent (shut (first plant)) d (steps ++ Look slot query ∷ behind)
+        (trace ++ Looked count ∷ rest) last → told_in trace ≤ count }
 {}

@@ -31,13 +31,21 @@ pub fn life<D: Crashable + Drop>(
     steps: &[Step],
 ) -> Result<(Vec<Event>, D), (AllocError, D)>
     ensures run { D.honest disk → (plant : Condensed) → StandOnly (D.state disk) plant →
-        IfOk result (λ lived. D.honest lived.1 × (at : Phase) × (n : ℕ) ×
-        IsRun StandsFor IsSpent (shut (first plant)) (device_alone (D.state disk) (D.failures disk) 0) steps.now lived.0.items (record { state = D.state lived.1; failures = D.failures lived.1; phase = at; refused = n })) }
+        IfOk result
+        (λ lived. D.honest lived.1 × (at : Phase) × (n : ℕ) ×
+        IsRun StandsFor IsSpent (shut (first plant))
+        (device_alone (D.state disk) (D.failures disk) 0) steps.now lived.0.items
+        (record
+        { state = D.state lived.1; failures = D.failures lived.1; phase = at; refused = n })) }
     // By the trace alone: whatever a crash leaves of it stands for the plant of the first so many actions that the trace accepted,
     // and they reach all that it told.
     ensures told { D.honest disk → (plant : Condensed) → StandOnly (D.state disk) plant →
-        IfOk result (λ lived. (image : List ℕ) → IsImage (D.state lived.1) image → KeepsTold plant lived.0.items image) }
-    ensures refused { IfErr result (λ e. (D.honest disk ↔ D.honest e.1) × (D.state e.1 ≡ D.state disk) × (D.failures e.1 ≡ D.failures disk)) }
+        IfOk result
+        (λ lived.
+        (image : List ℕ) → IsImage (D.state lived.1) image → KeepsTold plant lived.0.items image) }
+    ensures refused { IfErr result
+        (λ e. (D.honest disk ↔ D.honest e.1) × (D.state e.1 ≡ D.state disk) ×
+        (D.failures e.1 ≡ D.failures disk)) }
 {
     let mut bench = Bench::closed(alloc, disk);
     match bench.run(alloc, steps) {
@@ -58,18 +66,37 @@ pub fn whole_life<D: Crashable + Drop>(
 ) -> Result<(Vec<Event>, D), (FormatFault, D)>
     // The run begins at what `format` makes of the device.
     ensures run { D.honest disk →
-        IfOk result (λ lived. D.honest lived.1 × (formatted : D) × Formats Goes D.serves D.state (D.honest disk × ((D.state disk).faulted ≡ false)) (D.size disk) table.now disk formatted ×
+        IfOk result
+        (λ lived. D.honest lived.1 × (formatted : D) ×
+        Formats Goes D.serves D.state (D.honest disk × ((D.state disk).faulted ≡ false))
+        (D.size disk) table.now disk formatted ×
         StandOnly (D.state formatted) (new_plant table.now) × (at : Phase) × (n : ℕ) ×
-        IsRun StandsFor IsSpent (shut (first (new_plant table.now))) (device_alone (D.state formatted) (D.failures formatted) 0) steps.now lived.0.items (record { state = D.state lived.1; failures = D.failures lived.1; phase = at; refused = n })) }
+        IsRun StandsFor IsSpent (shut (first (new_plant table.now)))
+        (device_alone (D.state formatted) (D.failures formatted) 0) steps.now lived.0.items
+        (record
+        { state = D.state lived.1; failures = D.failures lived.1; phase = at; refused = n })) }
     ensures told { D.honest disk →
-        IfOk result (λ lived. (image : List ℕ) → IsImage (D.state lived.1) image → KeepsTold (new_plant table.now) lived.0.items image) }
-    ensures too_small { IfErr result (λ e. e.0 ≡ FormatFault.TooSmall → (e.1 ≡ disk) × ((n : ℕ) → suits (D.size disk) (length table.now.alarms) table.now.areas n ≡ false)) }
+        IfOk result
+        (λ lived. (image : List ℕ) → IsImage (D.state lived.1) image →
+        KeepsTold (new_plant table.now) lived.0.items image) }
+    ensures too_small { IfErr result
+        (λ e. e.0 ≡ FormatFault.TooSmall →
+        (e.1 ≡ disk) ×
+        ((n : ℕ) → suits (D.size disk) (length table.now.alarms) table.now.areas n ≡ false)) }
     // The device calls that were made, of which the last failed.
-    ensures failed { IfErr result (λ e. e.0 ≡ FormatFault.Disk → HasFailed (D.failures disk) (D.failures e.1) ×
-        Formats FailsIn D.serves D.state (D.honest disk × ((D.state disk).faulted ≡ false)) (D.size disk) table.now disk e.1) }
+    ensures failed { IfErr result
+        (λ e. e.0 ≡ FormatFault.Disk →
+        HasFailed (D.failures disk) (D.failures e.1) ×
+        Formats FailsIn D.serves D.state (D.honest disk × ((D.state disk).faulted ≡ false))
+        (D.size disk) table.now disk e.1) }
     // Memory was short before the device was touched, or as soon as it was formatted.
-    ensures memory { IfErr result (λ e. e.0 ≡ FormatFault.OutOfMemory → (e.1 ≡ disk) ⊎ ((formatted : D) × Formats Goes D.serves D.state (D.honest disk × ((D.state disk).faulted ≡ false)) (D.size disk) table.now disk formatted ×
-        (D.state e.1 ≡ D.state formatted) × (D.failures e.1 ≡ D.failures formatted))) }
+    ensures memory { IfErr result
+        (λ e. e.0 ≡ FormatFault.OutOfMemory →
+        (e.1 ≡ disk) ⊎
+        ((formatted : D) ×
+        Formats Goes D.serves D.state (D.honest disk × ((D.state disk).faulted ≡ false))
+        (D.size disk) table.now disk formatted × (D.state e.1 ≡ D.state formatted) ×
+        (D.failures e.1 ≡ D.failures formatted))) }
     ensures honest { IfErr result (λ e. D.honest disk ↔ D.honest e.1) }
 {
     match format(alloc, disk, table) {

@@ -41,10 +41,15 @@ pub trait Publish<C>: Board {
     /// Shows the accepted actions of a batch: the next ones, and after a refusal those of the same batch. An error only for want
     /// of memory: nothing new is shown, and the next call goes on where it stopped.
     fn publish(&mut self, by: &C, batch: &Batch) -> Result<(), AllocError>
-        requires admitted { AllAdmitted (run (Self.base self.old) (Self.published self.old)) (accepted_of batch.now.entries) }
+        requires admitted { AllAdmitted (run (Self.base self.old) (Self.published self.old))
+            (accepted_of batch.now.entries) }
         requires same { IsFront (Self.pending self.old) (accepted_of batch.now.entries) }
         ensures base { Self.base self.new ≡ Self.base self.old }
-        ensures ok { OnOk result ((Self.published self.new ≡ Self.published self.old ++ accepted_of batch.now.entries) × (Self.pending self.new ≡ [])) }
-        ensures err { OnErr result ((Self.published self.new ≡ Self.published self.old) × IsFront (Self.pending self.new) (accepted_of batch.now.entries)) }
+        ensures ok { OnOk result
+            ((Self.published self.new ≡ Self.published self.old ++ accepted_of batch.now.entries) ×
+            (Self.pending self.new ≡ [])) }
+        ensures err { OnErr result
+            ((Self.published self.new ≡ Self.published self.old) ×
+            IsFront (Self.pending self.new) (accepted_of batch.now.entries)) }
         ensures sure { sure → IsOk result };
 }

@@ -44,15 +44,23 @@ impl<P: Alarms + Drop> Look for PlainLook<'_, P> {
 
     ghost knows = { λ look. list_of look.seen.list.value };
 
-    ghost may_take = { λ look told. IsFront (list_of told.list.value) (list_of look.board.now.log) };
+    ghost may_take = { λ look told.
+        IsFront (list_of told.list.value) (list_of look.board.now.log) };
 
     fn look(&mut self, query: Query, answer: &mut Answer) -> Result<u64, Refusal>
-        ensures base { P.plant self.new.board.now.base.value ≡ P.plant self.old.board.now.base.value }
-        ensures later { IsFront (list_of self.old.seen.list.value) (list_of self.new.seen.list.value) }
-        ensures answer { LookAnswers (P.plant self.old.board.now.base.value) (list_of self.old.seen.list.value) (list_of self.new.seen.list.value) query answer.old answer.new result }
+        ensures base { P.plant self.new.board.now.base.value ≡
+            P.plant self.old.board.now.base.value }
+        ensures later { IsFront (list_of self.old.seen.list.value)
+            (list_of self.new.seen.list.value) }
+        ensures answer { LookAnswers (P.plant self.old.board.now.base.value)
+            (list_of self.old.seen.list.value) (list_of self.new.seen.list.value) query answer.old
+            answer.new result }
         ensures board { self.new.board.now ≡ self.old.board.now }
-        ensures shown { IsLook (run (P.plant self.old.board.now.base.value) (list_of self.old.board.now.log)) query answer.old answer.new result }
-        ensures saw { OnOk result (list_of self.new.seen.list.value ≡ list_of self.old.board.now.log) }
+        ensures shown { IsLook
+            (run (P.plant self.old.board.now.base.value) (list_of self.old.board.now.log)) query
+            answer.old answer.new result }
+        ensures saw { OnOk result
+            (list_of self.new.seen.list.value ≡ list_of self.old.board.now.log) }
         ensures kept { OnErr result (self.new.seen ≡ self.old.seen) }
     {
         let board: &PlainBoard<P> = self.board;
@@ -68,8 +76,10 @@ impl<P: Alarms + Drop> Look for PlainLook<'_, P> {
 
     fn take_in(&mut self, told: PlainTold)
         requires { IsFront (list_of told.list.value) (list_of self.old.board.now.log) }
-        ensures base { P.plant self.new.board.now.base.value ≡ P.plant self.old.board.now.base.value }
-        ensures later { IsFront (list_of self.old.seen.list.value) (list_of self.new.seen.list.value) }
+        ensures base { P.plant self.new.board.now.base.value ≡
+            P.plant self.old.board.now.base.value }
+        ensures later { IsFront (list_of self.old.seen.list.value)
+            (list_of self.new.seen.list.value) }
         ensures told { IsFront (list_of told.list.value) (list_of self.new.seen.list.value) }
         ensures board { self.new.board.now ≡ self.old.board.now }
     {

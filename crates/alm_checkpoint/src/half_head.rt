@@ -58,7 +58,8 @@ fn mark_of(bytes: &[u8], header: Version) -> Result<((Version, u64), &[u8]), Lef
 
 /// The length of the image, which is known beforehand.
 fn image_of(bytes: &[u8], image: usize) -> Result<(u64, &[u8]), Left>
-    ensures { Gives (λ x. (x.0, x.1.now)) result ((tested (number w64 (2 ^ 64)) (λ n. n == image)).read bytes.now) }
+    ensures { Gives (λ x. (x.0, x.1.now)) result
+        ((tested (number w64 (2 ^ 64)) (λ n. n == image)).read bytes.now) }
 {
     let (found, rest) = u64_at(bytes)?;
     if found == image as u64 {

@@ -35,7 +35,8 @@ fn name_of(bytes: &[u8]) -> Result<(Version, &[u8]), Left>
 /// The number of alarms.
 fn rows_of(bytes: &[u8]) -> Result<(u32, &[u8]), Left>
     ensures limits { IfOk result (λ x. is_rows x.0 ≡ true) }
-    ensures rows { Gives (λ x. (x.0, x.1.now)) result ((tested (number w32 (2 ^ 32)) is_rows).read bytes.now) }
+    ensures rows { Gives (λ x. (x.0, x.1.now)) result
+        ((tested (number w32 (2 ^ 32)) is_rows).read bytes.now) }
 {
     let (rows, rest) = u32_at(bytes)?;
     if rows >= 1 && rows <= 16_384 {
@@ -48,7 +49,8 @@ fn rows_of(bytes: &[u8]) -> Result<(u32, &[u8]), Left>
 /// The number of areas.
 fn areas_of(bytes: &[u8]) -> Result<(u8, &[u8]), Left>
     ensures limits { IfOk result (λ x. is_areas x.0 ≡ true) }
-    ensures areas { Gives (λ x. (x.0, x.1.now)) result ((tested (number w16 (2 ^ 16)) is_areas).read bytes.now) }
+    ensures areas { Gives (λ x. (x.0, x.1.now)) result
+        ((tested (number w16 (2 ^ 16)) is_areas).read bytes.now) }
 {
     let (areas, rest) = u16_at(bytes)?;
     if areas >= 1 && areas <= 64 {
@@ -66,8 +68,10 @@ fn segment_of(
     areas: u8,
     version: Version,
 ) -> Result<(Layout, &[u8]), Left>
-    ensures segment { Gives (λ x. (x.0.segment, x.1.now)) result ((tested (number w64 (2 ^ 64)) (suits size rows areas)).read bytes.now) }
-    ensures layout { IfOk result (λ x. (x.0.rows ≡ rows) × (x.0.areas ≡ areas) × (x.0.version ≡ version)) }
+    ensures segment { Gives (λ x. (x.0.segment, x.1.now)) result
+        ((tested (number w64 (2 ^ 64)) (suits size rows areas)).read bytes.now) }
+    ensures layout { IfOk result
+        (λ x. (x.0.rows ≡ rows) × (x.0.areas ≡ areas) × (x.0.version ≡ version)) }
     ensures limits { IfOk result (λ x. is_segment x.0.segment ≡ true) }
     ensures fits { IfOk result (λ x. device_len x.0 ≤ size) }
 {

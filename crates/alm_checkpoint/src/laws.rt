@@ -21,24 +21,29 @@ ghost use Rattle.alm_checkpoint.specs.Cut.{Cut, IsLayout, Stores, Reaches, IsBel
 
 /// No text of a header begins another's.
 pub fn no_header_begins_another()
-    ensures { (a b : Layout) (x y : List ℕ) → IsLayout a → IsLayout b → header_text a ++ x ≡ header_text b ++ y → a ≡ b }
+    ensures { (a b : Layout) (x y : List ℕ) → IsLayout a → IsLayout b →
+        header_text a ++ x ≡ header_text b ++ y → a ≡ b }
 {}
 
 /// No text of a half's head begins another's of the same layout.
 pub fn no_head_begins_another()
-    ensures { (l : Layout) (a b : HalfHead) (x y : List ℕ) → IsLayout l → IsHeadOf l a → IsHeadOf l b →
-        half_head_text l a.version a.epoch a.count ++ x ≡ half_head_text l b.version b.epoch b.count ++ y → a ≡ b }
+    ensures { (l : Layout) (a b : HalfHead) (x y : List ℕ) → IsLayout l → IsHeadOf l a →
+        IsHeadOf l b →
+        half_head_text l a.version a.epoch a.count ++ x ≡
+        half_head_text l b.version b.epoch b.count ++ y → a ≡ b }
 {}
 
 /// What a header spells behind its open gate is read as its layout, on a device that holds both halves.
 pub fn a_header_is_read()
-    ensures { (size : ℕ) (l : Layout) → IsLayout l → device_len l ≤ size → layout_from size (165 ∷ header_text l) ≡ Ok l }
+    ensures { (size : ℕ) (l : Layout) → IsLayout l → device_len l ≤ size →
+        layout_from size (165 ∷ header_text l) ≡ Ok l }
 {}
 
 /// A device of these fields stands for the plant that they store, whatever lies behind the first closed gate.
 pub fn a_cut_stands()
-    ensures { (c : Cut) (plant : Condensed) (gate : ℕ) (tail : List ℕ) →
-        Stores c plant → is_open gate ≡ false → Reaches c (gate ∷ tail) → Stands (device_of c (gate ∷ tail)) c.epoch plant }
+    ensures { (c : Cut) (plant : Condensed) (gate : ℕ) (tail : List ℕ) → Stores c plant →
+        is_open gate ≡ false → Reaches c (gate ∷ tail) →
+        Stands (device_of c (gate ∷ tail)) c.epoch plant }
 {}
 
 /// A device that stands for a plant has such fields, and its first closed gate is where they end.
@@ -51,34 +56,40 @@ pub fn what_stands_is_cut()
 /// its actions.
 pub fn a_frame_more()
     ensures { (c : Cut) (plant : Condensed) (actions : List Action) (tail : List ℕ) →
-        Stores c plant → IsFrame c.epoch (plant.panel.count + 1) actions → AreBorne c.version actions → AreAdmitted plant actions →
+        Stores c plant → IsFrame c.epoch (plant.panel.count + 1) actions →
+        AreBorne c.version actions → AreAdmitted plant actions →
         Stores (with_frame c actions) (run plant actions) ×
-        (device_of c (165 ∷ frame_text c.epoch (plant.panel.count + 1) actions ++ tail) ≡ device_of (with_frame c actions) tail) }
+        (device_of c (165 ∷ frame_text c.epoch (plant.panel.count + 1) actions ++ tail) ≡
+        device_of (with_frame c actions) tail) }
 {}
 
 /// Whatever bytes are in the other half, the same plant is stored, as long as its gate is closed or its epoch is smaller.
 pub fn another_half()
-    ensures { (c : Cut) (plant : Condensed) (bytes : List ℕ) →
-        Stores c plant → length bytes ≡ half_len c.layout → IsBelow c.epoch bytes → Stores (with_other c bytes) plant }
+    ensures { (c : Cut) (plant : Condensed) (bytes : List ℕ) → Stores c plant →
+        length bytes ≡ half_len c.layout → IsBelow c.epoch bytes →
+        Stores (with_other c bytes) plant }
 {}
 
 /// Where the other half has an open gate, version 02, the next epoch and an image of the stored plant, that half stands, and the same plant
 /// is stored.
 pub fn a_turn()
-    ensures { (c : Cut) (plant : Condensed) (tail new_tail : List ℕ) →
-        Stores c plant → Reaches c tail → c.epoch + 1 < 2 ^ 64 →
+    ensures { (c : Cut) (plant : Condensed) (tail new_tail : List ℕ) → Stores c plant →
+        Reaches c tail → c.epoch + 1 < 2 ^ 64 →
         Stores (turned c plant tail) plant ×
-        (device_of (with_other c (half_text c.layout V02 (c.epoch + 1) plant [] ++ new_tail)) tail ≡ device_of (turned c plant tail) new_tail) }
+        (device_of (with_other c (half_text c.layout V02 (c.epoch + 1) plant [] ++ new_tail)) tail ≡
+        device_of (turned c plant tail) new_tail) }
 {}
 
 /// Bytes stand for at most one plant, in one epoch.
 pub fn one_plant()
-    ensures { (device : List ℕ) (e f : ℕ) (q r : Condensed) → Stands device e q → Stands device f r → (e ≡ f) × (q ≡ r) }
+    ensures { (device : List ℕ) (e f : ℕ) (q r : Condensed) → Stands device e q →
+        Stands device f r → (e ≡ f) × (q ≡ r) }
 {}
 
 /// Bytes that stand for a plant have no fault.
 pub fn no_fault_beside()
-    ensures { (device : List ℕ) (e : ℕ) (q : Condensed) (fault : Fault) → Stands device e q → HasFault device fault → ⊥ }
+    ensures { (device : List ℕ) (e : ℕ) (q : Condensed) (fault : Fault) → Stands device e q →
+        HasFault device fault → ⊥ }
 {}
 
 /// Bytes have at most one fault.

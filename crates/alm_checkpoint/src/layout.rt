@@ -45,7 +45,8 @@ pub struct Layout {
 impl Layout {
     /// The layout of so many rows and areas with segments of a length, under a header of a version.
     pub fn of(rows: u32, areas: u8, segment: u32, version: Version) -> Layout
-        ensures { result ≡ record { rows = rows; areas = areas; segment = segment; version = version } }
+        ensures { result ≡
+            record { rows = rows; areas = areas; segment = segment; version = version } }
     {
         Layout {
             rows,

@@ -11,9 +11,11 @@ impl Layout {
     /// The layout of a version for a device of so many bytes, with the longest segment that fits twice, at most 16,777,216 bytes; `None`
     /// where none of 4,116 bytes or more fits.
     pub fn longest(rows: u32, areas: u8, size: u64, version: Version) -> Option<Layout>
-        ensures of { IfSome result (λ l. (l.rows ≡ rows) × (l.areas ≡ areas) × (l.version ≡ version)) }
+        ensures of { IfSome result
+            (λ l. (l.rows ≡ rows) × (l.areas ≡ areas) × (l.version ≡ version)) }
         ensures suits { IfSome result (λ l. suits size rows areas l.segment ≡ true) }
-        ensures most { IfSome result (λ l. (n : ℕ) → suits size rows areas n ≡ true → n ≤ l.segment) }
+        ensures most { IfSome result
+            (λ l. (n : ℕ) → suits size rows areas n ≡ true → n ≤ l.segment) }
         ensures none { result ≡ None → (n : ℕ) → suits size rows areas n ≡ false }
     {
         let halves = size.checked_sub(HEADER_LEN as u64)? / 2;

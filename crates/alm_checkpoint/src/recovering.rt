@@ -41,7 +41,8 @@ fn part(bytes: &[u8], at: u64, n: usize) -> &[u8]
 /// What the bytes of a whole device stand for, or their first fault: of the header, of the choice between the halves, of the
 /// head, the image and the frames of the half that stands, in this order.
 pub fn recover<P: Alarms + Drop>(alloc: Global, device: &[u8]) -> Result<Recovered<P>, RestoreFault>
-    ensures stands { IfOk result (λ r. StandsIn device.now r.layout r.half r.version r.epoch (P.plant r.plant) r.gate) }
+    ensures stands { IfOk result
+        (λ r. StandsIn device.now r.layout r.half r.version r.epoch (P.plant r.plant) r.gate) }
     ensures fault { IfErr result (λ fault. IsRefused device.now fault) }
 {
     let start = part(device, 0, HEADER_LEN.min(device.len()));

@@ -33,8 +33,12 @@ impl Layout {
         requires count { head.now.count ≤ 2 ^ 48 }
         requires image { length image.now ≡ image_size self.now }
         requires segment { length segment.now ≡ self.now.segment }
-        ensures holds { IfOk result (λ x. Holds (opened_with self.now half head.now image.now segment.now) (P.plant x.0) x.1) }
-        ensures damage { IfErr result (λ fault. IsUnrestored (opened_with self.now half head.now image.now segment.now) fault) }
+        ensures holds { IfOk result
+            (λ x.
+            Holds (opened_with self.now half head.now image.now segment.now) (P.plant x.0) x.1) }
+        ensures damage { IfErr result
+            (λ fault.
+            IsUnrestored (opened_with self.now half head.now image.now segment.now) fault) }
     {
         let parts = match read_image(alloc, image, self.rows, self.areas, head.count) {
             Ok(parts) => parts,

@@ -23,7 +23,9 @@ impl Layout {
     pub fn write_half_head(&self, head: &HalfHead, out: &mut [u8])
         requires room { 24 ≤ length out.old }
         requires count { head.now.count ≤ 2 ^ 48 }
-        ensures { out.new ≡ half_head_text self.now head.now.version head.now.epoch head.now.count ++ drop 24 out.old }
+        ensures { out.new ≡
+            half_head_text self.now head.now.version head.now.epoch head.now.count ++
+            drop 24 out.old }
     {
         let count_at = put_word(out, 0, head.epoch);
         let image_at = put_word(out, count_at, mark_weight(head.version) + head.count);

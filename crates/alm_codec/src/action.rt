@@ -78,7 +78,8 @@ pub fn read_action(text: &[u8], version: Version) -> Result<Action, Damage>
     // What is read is spelled so.
     ensures found { IfOk result (λ a. IsAction a × (text.now ≡ action_text a) × IsBorne version a) }
     // What is spelled so is read.
-    ensures only { (a : AnAction) → IsAction a → IsBorne version a → text.now ≡ action_text a → result ≡ Ok a }
+    ensures only { (a : AnAction) → IsAction a → IsBorne version a → text.now ≡ action_text a →
+        result ≡ Ok a }
     // Where no action of the version has that text, it is damaged at its first byte.
     ensures damaged { IfErr result (λ damage. damage.at ≡ 0) }
 {

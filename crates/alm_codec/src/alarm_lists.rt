@@ -53,11 +53,17 @@ impl AlarmLists {
         requires few { alarm.now.kept ≤ 3 }
         requires rows { length self.old.rows.items ≡ length self.old.attrs.items }
         requires moments { length self.old.moments.items ≡ length self.old.attrs.items }
-        ensures alarms { OnOk result (alarms_in self.new.attrs.items self.new.rows.items self.new.moments.items ≡ alarms_in self.old.attrs.items self.old.rows.items self.old.moments.items ++ alarm_in alarm.now ∷ []) }
-        ensures attrs { OnOk result (length self.new.attrs.items ≡ length self.old.attrs.items + 1) }
+        ensures alarms { OnOk result
+            (alarms_in self.new.attrs.items self.new.rows.items self.new.moments.items ≡
+            alarms_in self.old.attrs.items self.old.rows.items self.old.moments.items ++
+            alarm_in alarm.now ∷ []) }
+        ensures attrs { OnOk result
+            (length self.new.attrs.items ≡ length self.old.attrs.items + 1) }
         ensures rows { OnOk result (length self.new.rows.items ≡ length self.old.rows.items + 1) }
-        ensures moments { OnOk result (length self.new.moments.items ≡ length self.old.moments.items + 1) }
-        ensures seen { OnOk result (self.new.seen.keys ≡ seen_then self.old.seen.keys alarm.now.stamp) }
+        ensures moments { OnOk result
+            (length self.new.moments.items ≡ length self.old.moments.items + 1) }
+        ensures seen { OnOk result
+            (self.new.seen.keys ≡ seen_then self.old.seen.keys alarm.now.stamp) }
     {
         self.attrs.push(alarm.attr())?;
         self.rows.push(alarm.row())?;
@@ -77,7 +83,9 @@ pub fn alarms_of(
     rows: u32,
 ) -> Result<(AlarmLists, &[u8]), Stop>
     requires { areas ≤ 64 }
-    ensures alarms { GivesOr (λ x. (alarms_in x.0.attrs.items x.0.rows.items x.0.moments.items, x.1.now)) result ((alarms_of clock next_stamp areas rows).read bytes.now) }
+    ensures alarms { GivesOr
+        (λ x. (alarms_in x.0.attrs.items x.0.rows.items x.0.moments.items, x.1.now)) result
+        ((alarms_of clock next_stamp areas rows).read bytes.now) }
     ensures attrs { IfOk result (λ x. length x.0.attrs.items ≡ rows) }
     ensures rows { IfOk result (λ x. length x.0.rows.items ≡ rows) }
     ensures moments { IfOk result (λ x. length x.0.moments.items ≡ rows) }

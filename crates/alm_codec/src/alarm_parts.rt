@@ -89,7 +89,8 @@ fn fields_of<'a>(
     areas: u8,
     seen: &BTreeSet<u64>,
 ) -> Result<(AlarmParts, &'a [u8]), Left>
-    ensures alarm { Gives (λ x. (alarm_in x.0, x.1.now)) result ((alarm clock next_stamp areas seen.now.keys).read bytes.now) }
+    ensures alarm { Gives (λ x. (alarm_in x.0, x.1.now)) result
+        ((alarm clock next_stamp areas seen.now.keys).read bytes.now) }
     ensures few { IfOk result (λ x. x.0.kept ≤ 3) }
 {
     let (fixed, rest) = match fixed_of(bytes, areas) {
@@ -129,7 +130,8 @@ pub fn alarm_of<'a>(
     seen: &BTreeSet<u64>,
 ) -> Result<(AlarmParts, &'a [u8]), Left>
     requires { areas ≤ 64 }
-    ensures alarm { Gives (λ x. (alarm_in x.0, x.1.now)) result ((alarm clock next_stamp areas seen.now.keys).read bytes.now) }
+    ensures alarm { Gives (λ x. (alarm_in x.0, x.1.now)) result
+        ((alarm clock next_stamp areas seen.now.keys).read bytes.now) }
     ensures few { IfOk result (λ x. x.0.kept ≤ 3) }
     ensures limits { IfOk result (λ x. InLimits (alarm_in x.0)) }
 {

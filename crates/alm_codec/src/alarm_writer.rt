@@ -141,7 +141,8 @@ pub fn put_alarm(out: &mut [u8], at: usize, attr: &Attr, row: &Row, moments: &[M
     requires few { length moments.now ≤ 3 }
     requires room { at + 182 ≤ length out.old }
     ensures end { result ≡ at + 182 }
-    ensures text { Wrote out.old out.new at result (attr_text attr.now ++ row_text row.now moments.now) }
+    ensures text { Wrote out.old out.new at result
+        (attr_text attr.now ++ row_text row.now moments.now) }
 {
     let row_at = put_attr(out, at, attr);
     put_row(out, row_at, row, moments)

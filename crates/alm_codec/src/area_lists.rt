@@ -46,9 +46,13 @@ impl AreaLists {
     }
 
     fn push(&mut self, area: &AreaParts) -> Result<(), AllocError>
-        ensures floods { OnOk result (self.new.floods.items ≡ self.old.floods.items ++ area.now.flood ∷ []) }
-        ensures ages { OnOk result (self.new.ages.items ≡ self.old.ages.items ++ area.now.ages ∷ []) }
-        ensures left { OnOk result (self.new.left ≡ option_and_then (λ bound. under bound (sum area.now.ages)) self.old.left) }
+        ensures floods { OnOk result
+            (self.new.floods.items ≡ self.old.floods.items ++ area.now.flood ∷ []) }
+        ensures ages { OnOk result
+            (self.new.ages.items ≡ self.old.ages.items ++ area.now.ages ∷ []) }
+        ensures left { OnOk result
+            (self.new.left ≡
+            option_and_then (λ bound. under bound (sum area.now.ages)) self.old.left) }
     {
         self.left = less(self.left, &area.ages);
         self.floods.push(area.flood)?;
@@ -65,10 +69,12 @@ fn each_area(
     bound: u64,
     areas: u8,
 ) -> Result<(AreaLists, &[u8]), Stop>
-    ensures areas { GivesOr (λ x. (areas_in x.0.floods.items x.0.ages.items, x.1.now)) result ((each_area clock areas).read bytes.now) }
+    ensures areas { GivesOr (λ x. (areas_in x.0.floods.items x.0.ages.items, x.1.now)) result
+        ((each_area clock areas).read bytes.now) }
     ensures floods { IfOk result (λ x. length x.0.floods.items ≡ areas) }
     ensures ages { IfOk result (λ x. length x.0.ages.items ≡ areas) }
-    ensures left { IfOk result (λ x. x.0.left ≡ under bound (all_ages (areas_in x.0.floods.items x.0.ages.items))) }
+    ensures left { IfOk result
+        (λ x. x.0.left ≡ under bound (all_ages (areas_in x.0.floods.items x.0.ages.items))) }
 {
     let mut lists = AreaLists::new(alloc, areas, bound)?;
     let mut rest = bytes;
@@ -91,7 +97,8 @@ pub fn areas_of(
     next_stamp: u64,
     areas: u8,
 ) -> Result<(AreaLists, &[u8]), Stop>
-    ensures areas { GivesOr (λ x. (areas_in x.0.floods.items x.0.ages.items, x.1.now)) result ((areas_of clock next_stamp areas).read bytes.now) }
+    ensures areas { GivesOr (λ x. (areas_in x.0.floods.items x.0.ages.items, x.1.now)) result
+        ((areas_of clock next_stamp areas).read bytes.now) }
     ensures floods { IfOk result (λ x. length x.0.floods.items ≡ areas) }
     ensures ages { IfOk result (λ x. length x.0.ages.items ≡ areas) }
 {

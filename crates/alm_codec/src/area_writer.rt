@@ -15,7 +15,8 @@ fn put_ages<P: Alarms>(out: &mut [u8], at: usize, plant: &P, area: u32) -> usize
     requires area { area < length (P.plant plant.now).floods }
     requires room { at + 4800 ≤ length out.old }
     ensures end { result ≡ at + 4800 }
-    ensures text { Wrote out.old out.new at result (words (unwrap_or (slice_get (P.plant plant.now).kept.ages area) [])) }
+    ensures text { Wrote out.old out.new at result
+        (words (unwrap_or (slice_get (P.plant plant.now).kept.ages area) [])) }
 {
     let mut end = at;
     for age in 0..600 {
@@ -30,7 +31,9 @@ fn put_area<P: Alarms>(out: &mut [u8], at: usize, plant: &P, area: u32) -> usize
     requires area { area < length (P.plant plant.now).floods }
     requires room { at + 4801 ≤ length out.old }
     ensures end { result ≡ at + 4801 }
-    ensures text { Wrote out.old out.new at result (area_text_of (slice_get (P.plant plant.now).floods area) (slice_get (P.plant plant.now).kept.ages area)) }
+    ensures text { Wrote out.old out.new at result
+        (area_text_of (slice_get (P.plant plant.now).floods area)
+        (slice_get (P.plant plant.now).kept.ages area)) }
 {
     let (_, flood) = plant.window(area);
     let ages_at = put(out, at, &[flag_code(flood)]);
@@ -43,7 +46,8 @@ pub fn put_areas<P: Alarms>(out: &mut [u8], at: usize, plant: &P, areas: u8) -> 
     requires areas { length (P.plant plant.now).floods ≡ areas }
     requires room { at + areas * 4801 ≤ length out.old }
     ensures end { result ≡ at + areas * 4801 }
-    ensures text { Wrote out.old out.new at result (area_texts (P.plant plant.now).floods (P.plant plant.now).kept.ages) }
+    ensures text { Wrote out.old out.new at result
+        (area_texts (P.plant plant.now).floods (P.plant plant.now).kept.ages) }
 {
     let mut end = at;
     for area in 0..areas {

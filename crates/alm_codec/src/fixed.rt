@@ -104,7 +104,8 @@ fn text_of(bytes: &[u8]) -> Result<(Text, &[u8]), Left>
 }
 
 fn priority_of(bytes: &[u8]) -> Result<(u8, &[u8]), Left>
-    ensures { Gives (λ x. (x.0, x.1.now)) result ((tested byte (λ n. nat_le 1 n && nat_le n 4)).read bytes.now) }
+    ensures { Gives (λ x. (x.0, x.1.now)) result
+        ((tested byte (λ n. nat_le 1 n && nat_le n 4)).read bytes.now) }
 {
     let (priority, rest) = u8_at(bytes)?;
     if 1 <= priority && priority <= 4 {
@@ -115,7 +116,8 @@ fn priority_of(bytes: &[u8]) -> Result<(u8, &[u8]), Left>
 }
 
 fn area_of(bytes: &[u8], areas: u8) -> Result<(u8, &[u8]), Left>
-    ensures { Gives (λ x. (x.0, x.1.now)) result ((tested byte (λ n. nat_lt n areas)).read bytes.now) }
+    ensures { Gives (λ x. (x.0, x.1.now)) result
+        ((tested byte (λ n. nat_lt n areas)).read bytes.now) }
 {
     let (area, rest) = u8_at(bytes)?;
     if area < areas {
@@ -137,7 +139,8 @@ fn deadband_of(bytes: &[u8], kind: Kind) -> Result<(u64, &[u8]), Left>
 }
 
 fn max_shelve_of(bytes: &[u8]) -> Result<(u32, &[u8]), Left>
-    ensures { Gives (λ x. (x.0, x.1.now)) result ((tested u32 (λ n. nat_le n 604800)).read bytes.now) }
+    ensures { Gives (λ x. (x.0, x.1.now)) result
+        ((tested u32 (λ n. nat_le n 604800)).read bytes.now) }
 {
     let (seconds, rest) = u32_at(bytes)?;
     if seconds <= 604_800 {

@@ -55,7 +55,8 @@ fn actions_of<'a>(
 ) -> Result<&'a [u8], Left>
     requires inside { 16 * count ≤ length bytes.now }
     requires room { vec_len actions.old + count ≤ vec_capacity actions.old }
-    ensures actions { Gives (λ rest. (actions.new.items, rest.now)) result (with_front actions.old.items (actions_at version count bytes.now)) }
+    ensures actions { Gives (λ rest. (actions.new.items, rest.now)) result
+        (with_front actions.old.items (actions_at version count bytes.now)) }
     ensures left { IfOk result (λ rest. length rest.now + 16 * count ≡ length bytes.now) }
     ensures room { vec_capacity actions.new ≡ vec_capacity actions.old }
 {
@@ -81,7 +82,8 @@ fn frame_of<'a>(
     version: Version,
 ) -> Result<&'a [u8], Left>
     requires { 256 ≤ vec_capacity actions.old }
-    ensures actions { Gives (λ rest. (actions.new.items, rest.now)) result (frame_at version epoch count bytes.now) }
+    ensures actions { Gives (λ rest. (actions.new.items, rest.now)) result
+        (frame_at version epoch count bytes.now) }
     ensures left { IfOk result (λ rest. length rest.now ≤ length bytes.now) }
     ensures room { vec_capacity actions.new ≡ vec_capacity actions.old }
 {
@@ -101,11 +103,17 @@ pub fn read_frame(
 ) -> Result<usize, Damage>
     requires { 256 ≤ vec_capacity actions.old }
     // What is read is spelled so, and the next gate lies behind it.
-    ensures found { IfOk result (λ end. IsFrame epoch (count + 1) actions.new.items × AreBorne version actions.new.items × IsBefore (frame_text epoch (count + 1) actions.new.items) end bytes.now) }
+    ensures found { IfOk result
+        (λ end. IsFrame epoch (count + 1) actions.new.items × AreBorne version actions.new.items ×
+        IsBefore (frame_text epoch (count + 1) actions.new.items) end bytes.now) }
     // What is spelled so is read.
-    ensures only { (list : List AnAction) (gate : ℕ) (rest : List ℕ) → IsFrame epoch (count + 1) list → AreBorne version list → bytes.now ≡ frame_text epoch (count + 1) list ++ gate ∷ rest → (result ≡ Ok (18 + 16 * length list)) × (actions.new.items ≡ list) }
+    ensures only { (list : List AnAction) (gate : ℕ) (rest : List ℕ) →
+        IsFrame epoch (count + 1) list → AreBorne version list →
+        bytes.now ≡ frame_text epoch (count + 1) list ++ gate ∷ rest →
+        (result ≡ Ok (18 + 16 * length list)) × (actions.new.items ≡ list) }
     // Which field is damaged.
-    ensures exact { FindsOrDamage bytes.now (λ end. (actions.new.items, drop end bytes.now)) result (frame_at version epoch count bytes.now) }
+    ensures exact { FindsOrDamage bytes.now (λ end. (actions.new.items, drop end bytes.now)) result
+        (frame_at version epoch count bytes.now) }
     // Nothing of a damaged frame is left.
     ensures none { OnErr result (actions.new.items ≡ []) }
     ensures room { vec_capacity actions.new ≡ vec_capacity actions.old }
@@ -124,7 +132,8 @@ pub fn write_frame_body(epoch: u64, first: u64, actions: &[Action], out: &mut [u
     requires some { 1 ≤ length actions.now }
     requires few { length actions.now ≤ 256 }
     requires room { 19 + 16 * length actions.now ≤ length out.old }
-    ensures text { out.new ≡ frame_body epoch first actions.now ++ drop (19 + 16 * length actions.now) out.old }
+    ensures text { out.new ≡
+        frame_body epoch first actions.now ++ drop (19 + 16 * length actions.now) out.old }
     ensures limits { IsFrame epoch first actions.now }
 {
     let first_at = put(out, 0, &epoch.to_be_bytes());

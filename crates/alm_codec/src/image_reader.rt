@@ -57,7 +57,8 @@ fn image_of(
     count: u64,
 ) -> Result<(PlantParts, &[u8]), Stop>
     requires { areas ≤ 64 }
-    ensures image { GivesOr (λ x. (image_in (plant_of x.0), x.1.now)) result ((image rows areas count).read bytes.now) }
+    ensures image { GivesOr (λ x. (image_in (plant_of x.0), x.1.now)) result
+        ((image rows areas count).read bytes.now) }
     ensures attrs { IfOk result (λ x. length x.0.attrs.items ≡ rows) }
     ensures rows { IfOk result (λ x. length x.0.rows.items ≡ rows) }
     ensures moments { IfOk result (λ x. length x.0.moments.items ≡ rows) }
@@ -99,7 +100,8 @@ pub fn read_image(
     ensures found { IfOk result (λ p. IsImage (plant_of p) bytes.now) }
     ensures sizes { IfOk result (λ p. IsOf rows areas count (plant_of p)) }
     // The image of a plant is read as that plant, unless memory runs out.
-    ensures only { (q : Condensed) → IsOf rows areas count q → IsImage q bytes.now → IsReadAs result q }
+    ensures only { (q : Condensed) → IsOf rows areas count q → IsImage q bytes.now →
+        IsReadAs result q }
     // Damage is told at the first field that breaks a rule, and only there.
     ensures damage { IsDamagedAt result (damage_in rows areas count bytes.now) }
 {

@@ -17,7 +17,10 @@ fn put_numbered<P: Alarms>(out: &mut [u8], at: usize, plant: &P, id: AlarmId) ->
     requires there { id.0 < length (P.plant plant.now).panel.rows }
     requires room { at + 182 ≤ length out.old }
     ensures end { result ≡ at + 182 }
-    ensures text { Wrote out.old out.new at result (alarm_text_of (slice_get (P.plant plant.now).panel.attrs id.0) (slice_get (P.plant plant.now).panel.rows id.0) (slice_get (P.plant plant.now).kept.moments id.0)) }
+    ensures text { Wrote out.old out.new at result
+        (alarm_text_of (slice_get (P.plant plant.now).panel.attrs id.0)
+        (slice_get (P.plant plant.now).panel.rows id.0)
+        (slice_get (P.plant plant.now).kept.moments id.0)) }
 {
     let attr = plant.attr(id).unwrap();
     let row = plant.state(id).unwrap();
@@ -29,7 +32,9 @@ fn put_alarms<P: Alarms>(out: &mut [u8], at: usize, plant: &P, alarms: u32)
     requires rules { KeepsRules (P.plant plant.now) }
     requires alarms { length (P.plant plant.now).panel.rows ≡ alarms }
     requires room { at + length (P.plant plant.now).panel.rows * 182 ≤ length out.old }
-    ensures text { Wrote out.old out.new at (at + length (P.plant plant.now).panel.rows * 182) (alarm_texts (P.plant plant.now).panel.attrs (P.plant plant.now).panel.rows (P.plant plant.now).kept.moments) }
+    ensures text { Wrote out.old out.new at (at + length (P.plant plant.now).panel.rows * 182)
+        (alarm_texts (P.plant plant.now).panel.attrs (P.plant plant.now).panel.rows
+        (P.plant plant.now).kept.moments) }
 {
     let mut end = at;
     for alarm in 0..alarms {
@@ -46,8 +51,12 @@ pub fn image_len(rows: u32, areas: u8) -> u64
 
 /// Writes the image of a plant at the front of the bytes; the bytes behind it stay.
 pub fn write_image<P: Alarms>(plant: &P, out: &mut [u8])
-    requires { image_len (length (P.plant plant.now).panel.rows) (length (P.plant plant.now).floods) ≤ length out.old }
-    ensures text { out.new ≡ image_text (P.plant plant.now) ++ drop (image_len (length (P.plant plant.now).panel.rows) (length (P.plant plant.now).floods)) out.old }
+    requires { image_len (length (P.plant plant.now).panel.rows)
+        (length (P.plant plant.now).floods) ≤ length out.old }
+    ensures text { out.new ≡
+        image_text (P.plant plant.now) ++
+        drop (image_len (length (P.plant plant.now).panel.rows) (length (P.plant plant.now).floods))
+        out.old }
     // It can be read back.
     ensures image { IsImage (P.plant plant.now) (image_text (P.plant plant.now)) }
 {

@@ -15,37 +15,51 @@ ghost use Rattle.alm_codec.specs.Image.{IsImage, IsOf, image_text, image_len};
 
 /// Bytes are undamaged exactly where they are the image of a plant of so many rows, areas and actions.
 pub fn undamaged_is_an_image()
-    ensures some { (rows areas count : ℕ) (bytes : List ℕ) → (1 ≤ rows) × (rows ≤ 16384) → (1 ≤ areas) × (areas ≤ 64) → IsBytes bytes → damage_in rows areas count bytes ≡ None → (q : Condensed) × IsOf rows areas count q × IsImage q bytes }
-    ensures none { (rows areas count : ℕ) (bytes : List ℕ) (q : Condensed) → IsOf rows areas count q → IsImage q bytes → damage_in rows areas count bytes ≡ None }
+    ensures some { (rows areas count : ℕ) (bytes : List ℕ) → (1 ≤ rows) × (rows ≤ 16384) →
+        (1 ≤ areas) × (areas ≤ 64) → IsBytes bytes → damage_in rows areas count bytes ≡ None →
+        (q : Condensed) × IsOf rows areas count q × IsImage q bytes }
+    ensures none { (rows areas count : ℕ) (bytes : List ℕ) (q : Condensed) →
+        IsOf rows areas count q → IsImage q bytes → damage_in rows areas count bytes ≡ None }
 {}
 
 /// Bytes are undamaged exactly where they begin with a frame of the version and its next gate.
 pub fn undamaged_is_a_frame()
-    ensures some { (version : Version) (epoch count : ℕ) (bytes : List ℕ) (list : List Action) (rest : List ℕ) → IsBytes bytes → frame_at version epoch count bytes ≡ Ok (list, rest) → IsFrame epoch (count + 1) list × AreBorne version list × (bytes ≡ frame_text epoch (count + 1) list ++ rest) × (1 ≤ length rest) }
-    ensures none { (version : Version) (epoch count : ℕ) (list : List Action) (gate : ℕ) (rest : List ℕ) → IsFrame epoch (count + 1) list → AreBorne version list → frame_at version epoch count (frame_text epoch (count + 1) list ++ gate ∷ rest) ≡ Ok (list, gate ∷ rest) }
+    ensures some { (version : Version) (epoch count : ℕ) (bytes : List ℕ) (list : List Action)
+        (rest : List ℕ) → IsBytes bytes → frame_at version epoch count bytes ≡ Ok (list, rest) →
+        IsFrame epoch (count + 1) list × AreBorne version list ×
+        (bytes ≡ frame_text epoch (count + 1) list ++ rest) × (1 ≤ length rest) }
+    ensures none { (version : Version) (epoch count : ℕ) (list : List Action) (gate : ℕ)
+        (rest : List ℕ) → IsFrame epoch (count + 1) list → AreBorne version list →
+        frame_at version epoch count (frame_text epoch (count + 1) list ++ gate ∷ rest) ≡
+        Ok (list, gate ∷ rest) }
 {}
 
 /// How long the text of a frame is.
 pub fn frame_has_its_length()
-    ensures { (epoch first : ℕ) (list : List Action) → length (frame_text epoch first list) ≡ 18 + 16 * length list }
+    ensures { (epoch first : ℕ) (list : List Action) →
+        length (frame_text epoch first list) ≡ 18 + 16 * length list }
 {}
 
 /// No text of an action begins another's.
 pub fn no_action_begins_another()
-    ensures { (a b : Action) (x y : List ℕ) → IsAction a → IsAction b → action_text a ++ x ≡ action_text b ++ y → a ≡ b }
+    ensures { (a b : Action) (x y : List ℕ) → IsAction a → IsAction b →
+        action_text a ++ x ≡ action_text b ++ y → a ≡ b }
 {}
 
 /// No text of a frame begins another's.
 pub fn no_frame_begins_another()
-    ensures { (e f d g : ℕ) (a b : List Action) (x y : List ℕ) → IsFrame e f a → IsFrame d g b → frame_text e f a ++ x ≡ frame_text d g b ++ y → (e ≡ d) × (f ≡ g) × (a ≡ b) }
+    ensures { (e f d g : ℕ) (a b : List Action) (x y : List ℕ) → IsFrame e f a → IsFrame d g b →
+        frame_text e f a ++ x ≡ frame_text d g b ++ y → (e ≡ d) × (f ≡ g) × (a ≡ b) }
 {}
 
 /// How long the image of a plant is.
 pub fn image_has_its_length()
-    ensures { (q : Condensed) → KeepsRules q → length (image_text q) ≡ image_len (length q.panel.rows) (length q.floods) }
+    ensures { (q : Condensed) → KeepsRules q →
+        length (image_text q) ≡ image_len (length q.panel.rows) (length q.floods) }
 {}
 
 /// No image of a plant begins another's of as many rows, areas and actions.
 pub fn no_image_begins_another()
-    ensures { (q r : Condensed) (a b x y : List ℕ) → IsImage q a → IsImage r b → IsOf (length r.panel.rows) (length r.floods) r.panel.count q → a ++ x ≡ b ++ y → q ≡ r }
+    ensures { (q r : Condensed) (a b x y : List ℕ) → IsImage q a → IsImage r b →
+        IsOf (length r.panel.rows) (length r.floods) r.panel.count q → a ++ x ≡ b ++ y → q ≡ r }
 {}

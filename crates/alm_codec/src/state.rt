@@ -30,7 +30,9 @@ pub fn core_of(bytes: &[u8], latching: bool) -> Result<(Core, &[u8]), Left>
 
 /// How many moments are kept of an alarm in a core state.
 pub fn kept_of(bytes: &[u8], core: Core) -> Result<(u8, &[u8]), Left>
-    ensures kept { Gives (λ x. (x.0, x.1.now)) result ((tested byte (λ n. nat_le n 3 && (not (is_annunciated core) || nat_lt 0 n))).read bytes.now) }
+    ensures kept { Gives (λ x. (x.0, x.1.now)) result
+        ((tested byte (λ n. nat_le n 3 && (not (is_annunciated core) || nat_lt 0 n))).read
+        bytes.now) }
     ensures few { IfOk result (λ x. x.0 ≤ 3) }
 {
     let (kept, rest) = u8_at(bytes)?;
@@ -47,7 +49,8 @@ pub fn deadline_of(
     max_shelve: u32,
     shelved: bool,
 ) -> Result<(Option<u64>, &[u8]), Left>
-    ensures { Gives (λ x. (x.0, x.1.now)) result ((deadline clock max_shelve shelved).read bytes.now) }
+    ensures { Gives (λ x. (x.0, x.1.now)) result
+        ((deadline clock max_shelve shelved).read bytes.now) }
 {
     let (moment, rest) = u64_at(bytes)?;
     if shelved {
@@ -68,7 +71,8 @@ pub fn stamp_of<'a>(
     stamped: bool,
     seen: &BTreeSet<u64>,
 ) -> Result<(u64, &'a [u8]), Left>
-    ensures { Gives (λ x. (x.0, x.1.now)) result ((tested u64 (is_stamp next_stamp seen.now.keys stamped)).read bytes.now) }
+    ensures { Gives (λ x. (x.0, x.1.now)) result
+        ((tested u64 (is_stamp next_stamp seen.now.keys stamped)).read bytes.now) }
 {
     let (stamp, rest) = u64_at(bytes)?;
     let right = if stamped {
@@ -85,7 +89,8 @@ pub fn stamp_of<'a>(
 
 /// A moment at most a bound where one is left, else zero.
 fn moment_of(bytes: &[u8], left: u8, bound: Moment) -> Result<(Moment, &[u8]), Left>
-    ensures { Gives (λ x. (x.0, x.1.now)) result ((tested u64 (is_moment (left, bound))).read bytes.now) }
+    ensures { Gives (λ x. (x.0, x.1.now)) result
+        ((tested u64 (is_moment (left, bound))).read bytes.now) }
 {
     let (seconds, rest) = u64_at(bytes)?;
     let bound = if left == 0 { 0 } else { bound.seconds() };

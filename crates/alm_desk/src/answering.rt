@@ -37,29 +37,18 @@ fn act<B: Backend>(
     id: u32,
     want: Action,
 ) -> (Reply<'static>, Hindrance)
-    ensures text { text_of result.0 ≡ reply_on (B.stands backend.old) (record { slot = slot; line = record { id = id; ask = Act want } })
-        result.1 }
-    ensures plant { B.stands backend.new ≡ plant_after (B.stands backend.old) (record {
-      slot = slot;
-      line = record {
-        id = id;
-        ask = Act
-            want;
-      };
-    }) result.1 }
-    ensures kept { B.kept backend.new ≡ kept_after (B.stands backend.old) (B.kept backend.old) (record {
-      slot = slot;
-      line = record {
-        id = id;
-        ask = Act
-            want;
-      };
-    }) result.1 }
-    ensures failures { B.failures backend.new ≡ failures_after (B.stands backend.old) (B.failures backend.old) (record {
-      slot = slot;
-      line
-          = record { id = id; ask = Act want };
-    }) result.1 }
+    ensures text { text_of result.0 ≡
+        reply_on (B.stands backend.old)
+        (record { slot = slot; line = record { id = id; ask = Act want } }) result.1 }
+    ensures plant { B.stands backend.new ≡
+        plant_after (B.stands backend.old)
+        (record { slot = slot; line = record { id = id; ask = Act want } }) result.1 }
+    ensures kept { B.kept backend.new ≡
+        kept_after (B.stands backend.old) (B.kept backend.old)
+        (record { slot = slot; line = record { id = id; ask = Act want } }) result.1 }
+    ensures failures { B.failures backend.new ≡
+        failures_after (B.stands backend.old) (B.failures backend.old)
+        (record { slot = slot; line = record { id = id; ask = Act want } }) result.1 }
 {
     let request = Request { slot, want };
     match backend.submit(&request) {
@@ -80,39 +69,21 @@ fn answer_query<B: Backend, W: Write + Drop>(
     query: Query,
     writer: &mut CountedWriter<W>,
 ) -> (Hindrance, Result<(), WriteFailed>)
-    ensures text { Prints (W.contents writer.old.inner) (W.contents writer.new.inner) (reply_on (B.stands backend.old) (record {
-      slot =
-          slot;
-      line = record { id = id; ask = Look query };
-    }) result.0) result.1 }
-    ensures plant { B.stands backend.new ≡ plant_after (B.stands backend.old) (record {
-      slot = slot;
-      line = record {
-        id = id;
-        ask = Look
-            query;
-      };
-    }) result.0 }
-    ensures kept { B.kept backend.new ≡ kept_after (B.stands backend.old) (B.kept backend.old) (record {
-      slot = slot;
-      line = record {
-        id = id;
-        ask = Look
-            query;
-      };
-    }) result.0 }
-    ensures failures { B.failures backend.new ≡ failures_after (B.stands backend.old) (B.failures backend.old) (record {
-      slot = slot;
-      line
-          = record { id = id; ask = Look query };
-    }) result.0 }
-    ensures refused { answer.new.refused ≡ refused_after (B.stands backend.old) answer.old.refused (record {
-      slot = slot;
-      line = record {
-        id = id;
-        ask = Look query;
-      };
-    }) result.0 }
+    ensures text { Prints (W.contents writer.old.inner) (W.contents writer.new.inner)
+        (reply_on (B.stands backend.old)
+        (record { slot = slot; line = record { id = id; ask = Look query } }) result.0) result.1 }
+    ensures plant { B.stands backend.new ≡
+        plant_after (B.stands backend.old)
+        (record { slot = slot; line = record { id = id; ask = Look query } }) result.0 }
+    ensures kept { B.kept backend.new ≡
+        kept_after (B.stands backend.old) (B.kept backend.old)
+        (record { slot = slot; line = record { id = id; ask = Look query } }) result.0 }
+    ensures failures { B.failures backend.new ≡
+        failures_after (B.stands backend.old) (B.failures backend.old)
+        (record { slot = slot; line = record { id = id; ask = Look query } }) result.0 }
+    ensures refused { answer.new.refused ≡
+        refused_after (B.stands backend.old) answer.old.refused
+        (record { slot = slot; line = record { id = id; ask = Look query } }) result.0 }
     ensures whole { OnOk result.1 (writer.new.failed ≡ writer.old.failed) }
     ensures failed { OnErr result.1 (writer.new.failed ≡ one_more writer.old.failed) }
 {
@@ -145,20 +116,19 @@ pub fn answer_line<B: Backend, W: Write + Drop>(
     line: Line,
     writer: &mut CountedWriter<W>,
 ) -> (Hindrance, Result<(), WriteFailed>)
-    ensures text { Prints (W.contents writer.old.inner) (W.contents writer.new.inner) (reply_on (B.stands backend.old) (record {
-      slot =
-          slot;
-      line = line;
-    }) result.0) result.1 }
-    ensures plant { B.stands backend.new ≡ plant_after (B.stands backend.old) (record { slot = slot; line = line }) result.0 }
-    ensures kept { B.kept backend.new ≡ kept_after (B.stands backend.old) (B.kept backend.old) (record { slot = slot; line = line }) result.0 }
-    ensures failures { B.failures backend.new ≡ failures_after (B.stands backend.old) (B.failures backend.old) (record {
-      slot = slot;
-      line
-          = line;
-    }) result.0 }
-    ensures refused { answer.new.refused ≡ refused_after (B.stands backend.old) answer.old.refused (record { slot = slot; line = line })
+    ensures text { Prints (W.contents writer.old.inner) (W.contents writer.new.inner)
+        (reply_on (B.stands backend.old) (record { slot = slot; line = line }) result.0) result.1 }
+    ensures plant { B.stands backend.new ≡
+        plant_after (B.stands backend.old) (record { slot = slot; line = line }) result.0 }
+    ensures kept { B.kept backend.new ≡
+        kept_after (B.stands backend.old) (B.kept backend.old) (record { slot = slot; line = line })
         result.0 }
+    ensures failures { B.failures backend.new ≡
+        failures_after (B.stands backend.old) (B.failures backend.old)
+        (record { slot = slot; line = line }) result.0 }
+    ensures refused { answer.new.refused ≡
+        refused_after (B.stands backend.old) answer.old.refused
+        (record { slot = slot; line = line }) result.0 }
     ensures whole { OnOk result.1 (writer.new.failed ≡ writer.old.failed) }
     ensures failed { OnErr result.1 (writer.new.failed ≡ one_more writer.old.failed) }
 {

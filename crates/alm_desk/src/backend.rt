@@ -25,8 +25,10 @@ pub trait Backend {
     /// counted; nothing is said of the action then.
     fn submit(&mut self, request: &Request) -> Result<Judged, Stopped>
         ensures judged { IsJudged (stands self.old) request.now result (stands self.new) }
-        ensures stored { kept self.new ≡ kept_by (stands self.old) (kept self.old) request.now result }
-        ensures count { CountsStop (stands self.old) result (failures self.old) (failures self.new) };
+        ensures stored { kept self.new ≡
+            kept_by (stands self.old) (kept self.old) request.now result }
+        ensures count { CountsStop (stands self.old) result (failures self.old)
+            (failures self.new) };
 
     /// Answers a query, under the count of actions. `Stopped` once its storage has stopped, and the answer stays as it was;
     /// `OutOfMemory` for lists alone, where a growth was refused.

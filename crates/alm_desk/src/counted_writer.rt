@@ -37,7 +37,8 @@ impl<W: Write + Drop> CountedWriter<W> {
 
     /// Writes words and numbers.
     pub fn parts(&mut self, parts: &[Part<'_>]) -> Result<(), WriteFailed>
-        ensures bytes { Prints (W.contents self.old.inner) (W.contents self.new.inner) (text_of_parts parts.now) result }
+        ensures bytes { Prints (W.contents self.old.inner) (W.contents self.new.inner)
+            (text_of_parts parts.now) result }
         ensures whole { OnOk result (self.new.failed ≡ self.old.failed) }
         ensures failed { OnErr result (self.new.failed ≡ one_more self.old.failed) }
     {
@@ -52,7 +53,8 @@ impl<W: Write + Drop> CountedWriter<W> {
 
     /// Writes a reply.
     pub fn reply(&mut self, reply: &Reply<'_>) -> Result<(), WriteFailed>
-        ensures bytes { Prints (W.contents self.old.inner) (W.contents self.new.inner) (text_of reply.now) result }
+        ensures bytes { Prints (W.contents self.old.inner) (W.contents self.new.inner)
+            (text_of reply.now) result }
         ensures whole { OnOk result (self.new.failed ≡ self.old.failed) }
         ensures failed { OnErr result (self.new.failed ≡ one_more self.old.failed) }
     {
@@ -73,7 +75,8 @@ impl<W: Write + Drop> CountedWriter<W> {
         answer: &Answer,
         end: &str,
     ) -> Result<(), WriteFailed>
-        ensures bytes { Prints (W.contents self.old.inner) (W.contents self.new.inner) (text_of_parts front.now ++ report_text (report query answer.now) ++ end.now) result }
+        ensures bytes { Prints (W.contents self.old.inner) (W.contents self.new.inner)
+            (text_of_parts front.now ++ report_text (report query answer.now) ++ end.now) result }
         ensures whole { OnOk result (self.new.failed ≡ self.old.failed) }
         ensures failed { OnErr result (self.new.failed ≡ one_more self.old.failed) }
     {

@@ -59,11 +59,13 @@ impl<B: Backend + Drop> LocalDesk<B> {
     ghost use Rattle.alm_desk.specs.Failing.{BreaksOff, IsCutLine};
 
     pub fn new(alloc: Global, backend: B) -> Result<Self, AllocError>
-        ensures { IfOk result (λ desk. desk ≡ record {
-          standing = standing_of (B.stands backend) (B.kept backend) (B.failures backend) 0;
-          helds = replicate 18 [];
-          closed = false;
-        }) }
+        ensures { IfOk result
+            (λ desk. desk ≡
+            record {
+              standing = standing_of (B.stands backend) (B.kept backend) (B.failures backend) 0;
+              helds = replicate 18 [];
+              closed = false;
+            }) }
     {
         Ok(LocalDesk {
             backend,
@@ -132,13 +134,17 @@ impl<B: Backend + Drop> LocalDesk<B> {
         piece: &[u8],
         writer: &mut CountedWriter<W>,
     ) -> Result<(), DeskFault>
-        ensures fed { OnOk result (IsFed self.old (tag slot piece.now) (W.contents writer.old.inner) self.new
+        ensures fed { OnOk result
+            (IsFed self.old (tag slot piece.now) (W.contents writer.old.inner) self.new
             (W.contents writer.new.inner)) }
         ensures whole { OnOk result (writer.new.failed ≡ writer.old.failed) }
-        ensures fault { IfErr result (λ e. HasFailed e self.old.closed self.new.closed writer.old.failed writer.new.failed) }
-        ensures broken { result ≡ Err DeskFault.Write → BreaksOff self.old.standing (lines_in self.old.helds (tag slot piece.now))
+        ensures fault { IfErr result
+            (λ e. HasFailed e self.old.closed self.new.closed writer.old.failed writer.new.failed) }
+        ensures broken { result ≡ Err DeskFault.Write →
+            BreaksOff self.old.standing (lines_in self.old.helds (tag slot piece.now))
             (W.contents writer.old.inner) self.new.standing (W.contents writer.new.inner) }
-        ensures closed { result ≡ Err DeskFault.Closed → (self.new ≡ self.old) × (writer.new ≡ writer.old) }
+        ensures closed { result ≡ Err DeskFault.Closed →
+            (self.new ≡ self.old) × (writer.new ≡ writer.old) }
     {
         if self.closed {
             return Err(DeskFault::Closed);
@@ -167,19 +173,23 @@ impl<B: Backend + Drop> LocalDesk<B> {
         line: &[u8],
         writer: &mut CountedWriter<W>,
     ) -> Result<Hindrance, DeskFault>
-        ensures text { IfOk result (λ hindrance. Appends (W.contents writer.old.inner) (W.contents writer.new.inner) (reply
-            self.old.standing (answered_at slot (line_of line.now) hindrance))) }
+        ensures text { IfOk result
+            (λ hindrance. Appends (W.contents writer.old.inner) (W.contents writer.new.inner)
+            (reply self.old.standing (answered_at slot (line_of line.now) hindrance))) }
         ensures standing { IfOk result (λ hindrance. self.new ≡ record self.old {
           standing = after self.old.standing (answered_at slot
               (line_of line.now) hindrance);
         }) }
         ensures open { OnOk result (self.old.closed ≡ false) }
         ensures whole { OnOk result (writer.new.failed ≡ writer.old.failed) }
-        ensures fault { IfErr result (λ e. HasFailed e self.old.closed self.new.closed writer.old.failed writer.new.failed) }
+        ensures fault { IfErr result
+            (λ e. HasFailed e self.old.closed self.new.closed writer.old.failed writer.new.failed) }
         ensures helds { self.new.helds ≡ self.old.helds }
-        ensures cut { result ≡ Err DeskFault.Write → IsCutLine self.old.standing (record { slot = slot; line = line_of line.now })
+        ensures cut { result ≡ Err DeskFault.Write →
+            IsCutLine self.old.standing (record { slot = slot; line = line_of line.now })
             (W.contents writer.old.inner) self.new.standing (W.contents writer.new.inner) }
-        ensures closed { result ≡ Err DeskFault.Closed → (self.new ≡ self.old) × (writer.new ≡ writer.old) }
+        ensures closed { result ≡ Err DeskFault.Closed →
+            (self.new ≡ self.old) × (writer.new ≡ writer.old) }
     {
         if self.closed {
             return Err(DeskFault::Closed);

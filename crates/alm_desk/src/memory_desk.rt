@@ -11,11 +11,14 @@ use std::alloc::{AllocError, Global};
 
 /// A desk over the new plant of a table.
 pub fn desk_of<P: Alarms + Drop>(alloc: Global, table: &Table) -> Result<LocalDesk<P>, AllocError>
-    ensures { IfOk result (λ desk. desk ≡ record {
-      standing = standing_of (Some (new_plant table.now)) (new_plant table.now ∷ []) 0 0;
-      helds = replicate 18 [];
-      closed = false;
-    }) }
+    ensures { IfOk result
+        (λ desk. desk ≡
+        record {
+          standing = standing_of (Some (new_plant table.now)) (new_plant table.now ∷ []) 0 0;
+          helds =
+              replicate 18 [];
+          closed = false;
+        }) }
 {
     LocalDesk::new(alloc, P::new(alloc, table)?)
 }

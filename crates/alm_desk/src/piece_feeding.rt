@@ -20,12 +20,17 @@ pub fn feed_all<B: Backend + Drop, W: Write + Drop>(
     pieces: &[Piece<'_>],
     writer: &mut CountedWriter<W>,
 ) -> Result<(), DeskFault>
-    ensures fed { OnOk result (IsFed desk.old (tag_all pieces.now) (W.contents writer.old.inner) desk.new (W.contents writer.new.inner)) }
+    ensures fed { OnOk result
+        (IsFed desk.old (tag_all pieces.now) (W.contents writer.old.inner) desk.new
+        (W.contents writer.new.inner)) }
     ensures whole { OnOk result (writer.new.failed ≡ writer.old.failed) }
-    ensures fault { IfErr result (λ e. HasFailed e desk.old.closed desk.new.closed writer.old.failed writer.new.failed) }
-    ensures broken { result ≡ Err DeskFault.Write → BreaksOff desk.old.standing (lines_in desk.old.helds (tag_all pieces.now))
+    ensures fault { IfErr result
+        (λ e. HasFailed e desk.old.closed desk.new.closed writer.old.failed writer.new.failed) }
+    ensures broken { result ≡ Err DeskFault.Write →
+        BreaksOff desk.old.standing (lines_in desk.old.helds (tag_all pieces.now))
         (W.contents writer.old.inner) desk.new.standing (W.contents writer.new.inner) }
-    ensures closed { result ≡ Err DeskFault.Closed → (desk.new ≡ desk.old) × (writer.new ≡ writer.old) }
+    ensures closed { result ≡ Err DeskFault.Closed →
+        (desk.new ≡ desk.old) × (writer.new ≡ writer.old) }
 {
     if desk.is_closed() {
         return Err(DeskFault::Closed);

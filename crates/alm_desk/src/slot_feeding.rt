@@ -23,13 +23,19 @@ pub fn feed_slot<B: Backend, W: Write + Drop>(
     piece: &[u8],
     writer: &mut CountedWriter<W>,
 ) -> Result<(), WriteFailed>
-    ensures fed { OnOk result (IsFedAt slot (standing_of (B.stands backend.old) (B.kept backend.old) (B.failures backend.old) answer.old.refused) decoder.old
-        piece.now (W.contents writer.old.inner)
-        (standing_of (B.stands backend.new) (B.kept backend.new) (B.failures backend.new) answer.new.refused) decoder.new (W.contents writer.new.inner)) }
+    ensures fed { OnOk result
+        (IsFedAt slot
+        (standing_of (B.stands backend.old) (B.kept backend.old) (B.failures backend.old)
+        answer.old.refused) decoder.old piece.now (W.contents writer.old.inner)
+        (standing_of (B.stands backend.new) (B.kept backend.new) (B.failures backend.new)
+        answer.new.refused) decoder.new (W.contents writer.new.inner)) }
     ensures whole { OnOk result (writer.new.failed ≡ writer.old.failed) }
-    ensures broken { OnErr result (BreaksOff (standing_of (B.stands backend.old) (B.kept backend.old) (B.failures backend.old) answer.old.refused) (lines_at
-        slot decoder.old piece.now) (W.contents writer.old.inner)
-        (standing_of (B.stands backend.new) (B.kept backend.new) (B.failures backend.new) answer.new.refused) (W.contents writer.new.inner)) }
+    ensures broken { OnErr result
+        (BreaksOff
+        (standing_of (B.stands backend.old) (B.kept backend.old) (B.failures backend.old)
+        answer.old.refused) (lines_at slot decoder.old piece.now) (W.contents writer.old.inner)
+        (standing_of (B.stands backend.new) (B.kept backend.new) (B.failures backend.new)
+        answer.new.refused) (W.contents writer.new.inner)) }
     ensures failed { OnErr result (writer.new.failed ≡ one_more writer.old.failed) }
 {
     let mut rest = piece;

@@ -11,14 +11,16 @@ pub fn mark(pending: &mut Vec<bool>, at: usize, count: usize)
     requires { at + count ≤ length pending.old.items }
     ensures size { length pending.new.items ≡ length pending.old.items }
     ensures marked { (place : ℕ) →
-        is_marked pending.new.items place ≡ (is_within at count place || is_marked pending.old.items place) }
+        is_marked pending.new.items place ≡
+        (is_within at count place || is_marked pending.old.items place) }
 {
     mark_in(pending.as_mut_slice(), at, count);
 }
 
 fn mark_in(pending: &mut [bool], at: usize, count: usize)
     requires { at + count ≤ length pending.old }
-    ensures { (place : ℕ) → is_marked pending.new place ≡ (is_within at count place || is_marked pending.old place) }
+    ensures { (place : ℕ) →
+        is_marked pending.new place ≡ (is_within at count place || is_marked pending.old place) }
 {
     pending[at..at + count].fill(true);
 }
@@ -35,7 +37,8 @@ pub fn settle(pending: &mut Vec<bool>)
 pub fn put(all: &mut Vec<u8>, at: usize, bytes: &[u8])
     requires { at + length bytes.now ≤ length all.old.items }
     ensures size { length all.new.items ≡ length all.old.items }
-    ensures put { all.new.items ≡ take at all.old.items ++ bytes.now ++ drop (at + length bytes.now) all.old.items }
+    ensures put { all.new.items ≡
+        take at all.old.items ++ bytes.now ++ drop (at + length bytes.now) all.old.items }
     ensures bytes { IsBytes all.new.items }
 {
     put_in(all.as_mut_slice(), at, bytes);
@@ -55,7 +58,8 @@ pub fn tear<C: Chooser>(bytes: &mut Vec<u8>, pending: &[bool], chooser: &mut C)
     ensures bytes { IsBytes bytes.new.items }
     ensures stable { (place : ℕ) → is_marked pending.now place ≡ false →
         byte_at bytes.new.items place ≡ byte_at bytes.old.items place }
-    ensures named { (place : ℕ) → place < length bytes.old.items → is_marked pending.now place ≡ true →
+    ensures named { (place : ℕ) → place < length bytes.old.items →
+        is_marked pending.now place ≡ true →
         C.names chooser.old place (byte_at bytes.old.items place) (byte_at bytes.new.items place) }
 {
     tear_in(bytes.as_mut_slice(), pending, chooser);

@@ -24,7 +24,8 @@ pub trait Crashable: Disk {
     /// Takes no memory.
     fn crash<C: Chooser>(self, chooser: &mut C) -> Self
         ensures honest { Self.honest self ↔ Self.honest result }
-        ensures crashes { Self.honest self → Crashes (C.names chooser.old) (Self.state self) (Self.state result) }
+        ensures crashes { Self.honest self →
+            Crashes (C.names chooser.old) (Self.state self) (Self.state result) }
         ensures size { Self.size result ≡ Self.size self }
         ensures count { Self.failures result ≡ Self.failures self }
         ensures restarts { restarts self result };
@@ -33,7 +34,8 @@ pub trait Crashable: Disk {
     fn fail(&mut self, call: Call) -> DiskFault
         requires { IsInRange call (Self.size self.old) }
         ensures honest { Self.honest self.old ↔ Self.honest self.new }
-        ensures fails { Self.honest self.old → Fails call (Self.state self.old) (Self.state self.new) }
+        ensures fails { Self.honest self.old →
+            Fails call (Self.state self.old) (Self.state self.new) }
         ensures size { Self.size self.new ≡ Self.size self.old }
         ensures count { let fault : Result Unit DiskFault = Err result in
             CountsFault fault (Self.failures self.old) (Self.failures self.new) }

@@ -34,7 +34,8 @@ pub trait Disk {
     fn read_at(&mut self, at: u64, into: &mut [u8]) -> Result<(), DiskFault>
         requires { at + length into.old ≤ size self.old }
         ensures honest { honest self.old ↔ honest self.new }
-        ensures reads { honest self.old → Reads at into.new result (state self.old) (state self.new) }
+        ensures reads { honest self.old →
+            Reads at into.new result (state self.old) (state self.new) }
         ensures size { size self.new ≡ size self.old }
         ensures count { CountsFault result (failures self.old) (failures self.new) }
         ensures serves { serves self.old (Call.Read at (length into.old)) result self.new };
@@ -43,7 +44,8 @@ pub trait Disk {
     fn write_at(&mut self, at: u64, bytes: &[u8]) -> Result<(), DiskFault>
         requires { at + length bytes.now ≤ size self.old }
         ensures honest { honest self.old ↔ honest self.new }
-        ensures writes { honest self.old → Writes at bytes.now result (state self.old) (state self.new) }
+        ensures writes { honest self.old →
+            Writes at bytes.now result (state self.old) (state self.new) }
         ensures size { size self.new ≡ size self.old }
         ensures count { CountsFault result (failures self.old) (failures self.new) }
         ensures serves { serves self.old (Call.Write at (length bytes.now)) result self.new };

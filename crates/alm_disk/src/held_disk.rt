@@ -26,7 +26,8 @@ impl<D: Disk, H: Hold> HeldDisk<D, H> {
         ensures disk { result.disk ≡ disk }
         ensures hold { result.hold ≡ hold }
         ensures state { ⟦<HeldDisk<D, H> as Disk>⟧.state result ≡ D.state disk }
-        ensures count { ⟦<HeldDisk<D, H> as Disk>⟧.failures result ≡ min (D.failures disk) last_count }
+        ensures count { ⟦<HeldDisk<D, H> as Disk>⟧.failures result ≡
+            min (D.failures disk) last_count }
     {
         HeldDisk {
             disk,

@@ -23,47 +23,51 @@ pub fn settled_image()
 
 /// A read, done or failed, changes no image.
 pub fn read_image()
-    ensures { (result : Result Unit DiskFault) (old new : DeviceState) (at : ℕ) (into image : List ℕ) →
-        Reads at into result old new →
+    ensures { (result : Result Unit DiskFault) (old new : DeviceState) (at : ℕ)
+        (into image : List ℕ) → Reads at into result old new →
         (IsImage old image → IsImage new image) × (IsImage new image → IsImage old image) }
 {}
 
 /// A write into a settled device, done or failed, leaves what stood in front and behind, and some bytes between.
 pub fn written_image()
-    ensures { (result : Result Unit DiskFault) (old new : DeviceState) (bytes front range back image : List ℕ) →
-        IsSettled old (front ++ range ++ back) → length bytes ≡ length range →
-        Writes (length front) bytes result old new → IsImage new image →
+    ensures { (result : Result Unit DiskFault) (old new : DeviceState)
+        (bytes front range back image : List ℕ) → IsSettled old (front ++ range ++ back) →
+        length bytes ≡ length range → Writes (length front) bytes result old new →
+        IsImage new image →
         (left : List ℕ) × (length left ≡ length range) × (image ≡ front ++ left ++ back) }
 {}
 
 /// .. and these may be any bytes.
 pub fn any_image()
-    ensures { (result : Result Unit DiskFault) (old new : DeviceState) (bytes front range left back : List ℕ) →
-        IsSettled old (front ++ range ++ back) → length bytes ≡ length range →
-        Writes (length front) bytes result old new → length left ≡ length range →
-        IsBytes (front ++ left ++ back) → IsImage new (front ++ left ++ back) }
+    ensures { (result : Result Unit DiskFault) (old new : DeviceState)
+        (bytes front range left back : List ℕ) → IsSettled old (front ++ range ++ back) →
+        length bytes ≡ length range → Writes (length front) bytes result old new →
+        length left ≡ length range → IsBytes (front ++ left ++ back) →
+        IsImage new (front ++ left ++ back) }
 {}
 
 /// A write, done or failed, takes no image away: what a crash may leave before it or within it, it may leave after it.
 pub fn kept_image()
-    ensures { (result : Result Unit DiskFault) (old new : DeviceState) (at : ℕ) (bytes image : List ℕ) →
-        Writes at bytes result old new → IsImage old image → IsImage new image }
+    ensures { (result : Result Unit DiskFault) (old new : DeviceState) (at : ℕ)
+        (bytes image : List ℕ) → Writes at bytes result old new → IsImage old image →
+        IsImage new image }
 {}
 
 /// A write that was done into a settled device reads as written, with its range alone pending.
 pub fn written()
-    ensures { (done : Result Unit DiskFault) (old new : DeviceState) (bytes front range back : List ℕ) →
-        done ≡ Ok tt → IsSettled old (front ++ range ++ back) → length bytes ≡ length range →
-        Writes (length front) bytes done old new →
+    ensures { (done : Result Unit DiskFault) (old new : DeviceState)
+        (bytes front range back : List ℕ) → done ≡ Ok tt → IsSettled old (front ++ range ++ back) →
+        length bytes ≡ length range → Writes (length front) bytes done old new →
         AwaitsSync (length front) (length bytes) new (front ++ bytes ++ back) }
 {}
 
 /// After a sync that was done the device is settled: as it read where nothing had failed, and else at one of the
 /// images before.
 pub fn synced()
-    ensures { (done : Result Unit DiskFault) (old new : DeviceState) →
-        done ≡ Ok tt → Syncs done old new →
-        IsSettled new new.bytes × IsImage old new.bytes × (old.faulted ≡ false → new.bytes ≡ old.bytes) }
+    ensures { (done : Result Unit DiskFault) (old new : DeviceState) → done ≡ Ok tt →
+        Syncs done old new →
+        IsSettled new new.bytes × IsImage old new.bytes ×
+        (old.faulted ≡ false → new.bytes ≡ old.bytes) }
 {}
 
 /// No sync, done or failed, makes a new image: what a crash may leave within it or after it, it may leave before it.
@@ -88,5 +92,6 @@ pub fn has_failed()
 pub fn one_call()
     ensures { (result : Result Unit DiskFault) (old new : MemDisk) →
         IsOneCall ⟦<MemDisk as Disk>⟧.serves result old new →
-        OnOk result ((call : Call) × (calls_of new ≡ calls_of old ++ call ∷ [])) × OnErr result (calls_of new ≡ calls_of old) }
+        OnOk result ((call : Call) × (calls_of new ≡ calls_of old ++ call ∷ [])) ×
+        OnErr result (calls_of new ≡ calls_of old) }
 {}

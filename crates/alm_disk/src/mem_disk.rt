@@ -115,7 +115,8 @@ impl Disk for MemDisk {
 
     ghost whole = { λ disk _. refl };
 
-    ghost own_image = { λ disk _. record { size = refl; bytes = disk.are_bytes; stable = λ place still. refl } };
+    ghost own_image = { λ disk _.
+        record { size = refl; bytes = disk.are_bytes; stable = λ place still. refl } };
 
     fn size(&self) -> u64 {
         self.bytes.len() as u64

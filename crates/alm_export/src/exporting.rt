@@ -41,7 +41,8 @@ pub fn export_plant<P: Alarms, W: Write + Drop>(
     size: u64,
     writer: &mut CountedWriter<W>,
 ) -> Result<(), ShowFault>
-    ensures text { Exports size (P.plant plant.now) (W.contents writer.old.inner) (W.contents writer.new.inner) result }
+    ensures text { Exports size (P.plant plant.now) (W.contents writer.old.inner)
+        (W.contents writer.new.inner) result }
     ensures counts { CountsExport result writer.old.failed writer.new.failed }
 {
     let text = match table_text(alloc, plant, size) {

@@ -16,7 +16,8 @@ use toml::{Table, Value};
 /// The tables of the alarms below a number.
 fn alarm_array<P: Alarms>(alloc: Global, plant: &P, count: u32) -> Result<Array, AllocError>
     requires { count ≤ length (P.plant plant.now).panel.attrs }
-    ensures { IfOk result (λ v. array_view v ≡ alarm_items (take count (P.plant plant.now).panel.attrs)) }
+    ensures { IfOk result
+        (λ v. array_view v ≡ alarm_items (take count (P.plant plant.now).panel.attrs)) }
 {
     let mut array = Vec::new(alloc);
     for number in 0..count {
@@ -35,7 +36,9 @@ fn alarm_array<P: Alarms>(alloc: Global, plant: &P, count: u32) -> Result<Array,
 pub fn plant_table<P: Alarms>(alloc: Global, plant: &P, size: u64) -> Result<Table, AllocError>
     requires { size ≤ 1099511627776 }
     ensures rules { KeepsRules (P.plant plant.now) }
-    ensures table { IfOk result (λ t. table_view t ≡ file_members size (length (P.plant plant.now).floods) (P.plant plant.now).panel.attrs) }
+    ensures table { IfOk result
+        (λ t. table_view t ≡
+        file_members size (length (P.plant plant.now).floods) (P.plant plant.now).panel.attrs) }
 {
     let count = plant.alarms() as u32;
     let areas = plant.areas() as i64;

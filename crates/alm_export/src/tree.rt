@@ -9,7 +9,8 @@ use toml::{Table, Value};
 
 /// Puts a value at a key.
 pub fn put(alloc: Global, table: &mut Table, key: &str, value: Value) -> Result<(), AllocError>
-    ensures { OnOk result (table_view table.new ≡ with_member key.now (view value) (table_view table.old)) }
+    ensures { OnOk result
+        (table_view table.new ≡ with_member key.now (view value) (table_view table.old)) }
 {
     let key = String::from_str(alloc, key)?;
     match table.insert(key, value) {

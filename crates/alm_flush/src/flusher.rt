@@ -107,7 +107,8 @@ impl<K: Store, T: Told + Drop, B: Board<Told = T>> Flusher<K, T, B> {
         requires stored { K.stored store ≡ B.base board }
         requires published { B.published board ≡ [] }
         requires pending { B.pending board ≡ [] }
-        ensures parts { (result.store ≡ store) × (result.board ≡ board) × (result.outboxes ≡ outboxes) × (result.fetch ≡ fetch) }
+        ensures parts { (result.store ≡ store) × (result.board ≡ board) ×
+            (result.outboxes ≡ outboxes) × (result.fetch ≡ fetch) }
         ensures held { (result.held ≡ Held.Nothing) × (result.before.value ≡ fetch) }
     {
         let mut places = [outboxes.len(); SLOTS];
@@ -142,20 +143,38 @@ impl<K: Store, T: Told + Drop, B: Board<Told = T>> Flusher<K, T, B> {
 
     /// Fetches the next sealed batch.
     pub fn fetch(&mut self) -> Fetch
-        ensures ends { SameFetchEnds self.old.fetch self.new.fetch × (given_of self.new.fetch ≡ given_of self.old.fetch) × (places_in self.new.fetch ≡ places_in self.old.fetch) }
-        ensures same { (self.new.board ≡ self.old.board) × (self.new.outboxes ≡ self.old.outboxes) × (self.new.before.value ≡ self.old.before.value) }
+        ensures ends { SameFetchEnds self.old.fetch self.new.fetch ×
+            (given_of self.new.fetch ≡ given_of self.old.fetch) ×
+            (places_in self.new.fetch ≡ places_in self.old.fetch) }
+        ensures same { (self.new.board ≡ self.old.board) × (self.new.outboxes ≡ self.old.outboxes) ×
+            (self.new.before.value ≡ self.old.before.value) }
         ensures kept { result ≢ Fetch.Got → self.new.store ≡ self.old.store }
         // The store counts what a checkpoint writes from here on; else it is as before.
         ensures marked { result ≡ Fetch.Got → K.written self.new.store ≡ 0 }
         ensures honest { K.honest self.old.store ↔ K.honest self.new.store }
-        ensures store { Same (K.device self.old.store) (K.device self.new.store) (K.stored self.old.store) (K.stored self.new.store) (K.failures self.old.store) (K.failures self.new.store) }
-        ensures words { SameWords (K.phase self.old.store) (K.phase self.new.store) (K.next self.old.store) (K.next self.new.store) (K.left self.old.store) (K.left self.new.store) (K.used self.old.store) (K.used self.new.store) (K.segment self.old.store) (K.segment self.new.store) }
-        ensures takes { (actions : List Action) → (K.takes self.old.store actions ↔ K.takes self.new.store actions) × (K.will_take self.old.store actions ↔ K.will_take self.new.store actions) }
+        ensures store { Same (K.device self.old.store) (K.device self.new.store)
+            (K.stored self.old.store) (K.stored self.new.store) (K.failures self.old.store)
+            (K.failures self.new.store) }
+        ensures words { SameWords (K.phase self.old.store) (K.phase self.new.store)
+            (K.next self.old.store) (K.next self.new.store) (K.left self.old.store)
+            (K.left self.new.store) (K.used self.old.store) (K.used self.new.store)
+            (K.segment self.old.store) (K.segment self.new.store) }
+        ensures takes { (actions : List Action) →
+            (K.takes self.old.store actions ↔ K.takes self.new.store actions) ×
+            (K.will_take self.old.store actions ↔ K.will_take self.new.store actions) }
         // A store that keeps its pace does so, and takes the batch where the half that stands is of the newest version.
         ensures newest { K.newest self.old.store → K.newest self.new.store }
-        ensures pace { KeepsPace (K.segment self.old.store) (K.phase self.old.store) (K.used self.old.store) (K.written self.old.store) (K.going self.old.store) → KeepsPace (K.segment self.new.store) (K.phase self.new.store) (K.used self.new.store) (K.written self.new.store) (K.going self.new.store) }
-        ensures taken { result ≡ Fetch.Got → K.newest self.new.store → least_segment ≤ K.segment self.new.store → KeepsPace (K.segment self.new.store) (K.phase self.new.store) (K.used self.new.store) (K.written self.new.store) (K.going self.new.store) → K.takes self.new.store (to_commit self.new.held) }
-        ensures answer { FetchAnswers result self.old.held self.new.held self.old.fetch self.new.fetch }
+        ensures pace { KeepsPace (K.segment self.old.store) (K.phase self.old.store)
+            (K.used self.old.store) (K.written self.old.store) (K.going self.old.store) →
+            KeepsPace (K.segment self.new.store) (K.phase self.new.store) (K.used self.new.store)
+            (K.written self.new.store) (K.going self.new.store) }
+        ensures taken { result ≡ Fetch.Got → K.newest self.new.store →
+            least_segment ≤ K.segment self.new.store →
+            KeepsPace (K.segment self.new.store) (K.phase self.new.store) (K.used self.new.store)
+            (K.written self.new.store) (K.going self.new.store) →
+            K.takes self.new.store (to_commit self.new.held) }
+        ensures answer { FetchAnswers result self.old.held self.new.held self.old.fetch
+            self.new.fetch }
     {
         match self.held {
             Held::Nothing => match self.fetch.fetch() {
@@ -178,47 +197,88 @@ impl<K: Store, T: Told + Drop, B: Board<Told = T>> Flusher<K, T, B> {
     /// each commit of a batch that is taken, and as long as no batch is to be committed one after the other.
     pub fn advance(&mut self) -> Advance
         ensures honest { K.honest self.old.store ↔ K.honest self.new.store }
-        ensures same { (self.new.board ≡ self.old.board) × (self.new.outboxes ≡ self.old.outboxes) × (self.new.before.value ≡ self.old.before.value) × (self.new.fetch ≡ self.old.fetch) }
+        ensures same { (self.new.board ≡ self.old.board) × (self.new.outboxes ≡ self.old.outboxes) ×
+            (self.new.before.value ≡ self.old.before.value) × (self.new.fetch ≡ self.old.fetch) }
         // At most one device call, whatever the device does: one that was done where it goes on with a batch that has actions, or
         // with a checkpoint; none for a batch without actions; and where it fails one that failed, or none.
-        ensures done { 0 < length (to_commit self.old.held) → result ≢ Advance.Failed → CallDone K.Device.serves (K.disk self.old.store) (K.disk self.new.store) }
-        ensures goes { result ≡ Advance.More → CallDone K.Device.serves (K.disk self.old.store) (K.disk self.new.store) }
-        ensures failed { result ≡ Advance.Failed → (K.disk self.new.store ≡ K.disk self.old.store) ⊎ CallFailed K.Device.serves (K.disk self.old.store) (K.disk self.new.store) }
-        ensures sound { result ≢ Advance.Failed → K.failures self.new.store ≡ K.failures self.old.store }
+        ensures done { 0 < length (to_commit self.old.held) → result ≢ Advance.Failed →
+            CallDone K.Device.serves (K.disk self.old.store) (K.disk self.new.store) }
+        ensures goes { result ≡ Advance.More →
+            CallDone K.Device.serves (K.disk self.old.store) (K.disk self.new.store) }
+        ensures failed { result ≡ Advance.Failed →
+            (K.disk self.new.store ≡ K.disk self.old.store) ⊎
+            CallFailed K.Device.serves (K.disk self.old.store) (K.disk self.new.store) }
+        ensures sound { result ≢ Advance.Failed →
+            K.failures self.new.store ≡ K.failures self.old.store }
         ensures exhausted { K.exhausted self.old.store → K.exhausted self.new.store }
         // Of an honest one it is a write or a sync by its bytes.
-        ensures call { K.honest self.old.store → IsCalls (K.device self.old.store) (K.device self.new.store) }
-        ensures one { K.honest self.old.store → 0 < length (to_commit self.old.held) → result ≢ Advance.Failed → IsCall (K.device self.old.store) (K.device self.new.store) }
-        ensures more { K.honest self.old.store → result ≡ Advance.More → IsCall (K.device self.old.store) (K.device self.new.store) }
-        ensures none { to_commit self.old.held ≡ [] → result ≡ Advance.Committed → (K.disk self.new.store ≡ K.disk self.old.store) × (K.device self.new.store ≡ K.device self.old.store) × (K.failures self.new.store ≡ K.failures self.old.store) }
+        ensures call { K.honest self.old.store →
+            IsCalls (K.device self.old.store) (K.device self.new.store) }
+        ensures one { K.honest self.old.store → 0 < length (to_commit self.old.held) →
+            result ≢ Advance.Failed → IsCall (K.device self.old.store) (K.device self.new.store) }
+        ensures more { K.honest self.old.store → result ≡ Advance.More →
+            IsCall (K.device self.old.store) (K.device self.new.store) }
+        ensures none { to_commit self.old.held ≡ [] → result ≡ Advance.Committed →
+            (K.disk self.new.store ≡ K.disk self.old.store) ×
+            (K.device self.new.store ≡ K.device self.old.store) ×
+            (K.failures self.new.store ≡ K.failures self.old.store) }
         ensures nothing { result ≡ Advance.Nothing → self.new.store ≡ self.old.store }
         // A checkpoint only where the store doesn't take the batch.
-        ensures taken { K.phase self.old.store ≡ Phase.Idle → K.takes self.old.store (to_commit self.old.held) → result ≡ Advance.More → K.phase self.new.store ≡ Phase.Committing }
+        ensures taken { K.phase self.old.store ≡ Phase.Idle →
+            K.takes self.old.store (to_commit self.old.held) → result ≡ Advance.More →
+            K.phase self.new.store ≡ Phase.Committing }
         // Behind a commit a checkpoint is open where more than half of the segment is used, but for the last epoch.
-        ensures opens { result ≡ Advance.Committed → ¬ (K.exhausted self.new.store) → K.segment self.new.store < 2 * K.used self.new.store → IsOpen (K.phase self.new.store) }
+        ensures opens { result ≡ Advance.Committed → ¬ (K.exhausted self.new.store) →
+            K.segment self.new.store < 2 * K.used self.new.store → IsOpen (K.phase self.new.store) }
         // Behind a commit none is opened where that isn't so.
-        ensures only { result ≡ Advance.Committed → K.going self.old.store ≡ None → 2 * K.used self.new.store ≤ K.segment self.new.store → K.going self.new.store ≡ None }
+        ensures only { result ≡ Advance.Committed → K.going self.old.store ≡ None →
+            2 * K.used self.new.store ≤ K.segment self.new.store → K.going self.new.store ≡ None }
         // A piece goes out before each commit within a checkpoint,
-        ensures between { K.phase self.old.store ≡ Phase.Paused → K.phase self.new.store ≡ Phase.Committing → 0 < K.written self.old.store }
+        ensures between { K.phase self.old.store ≡ Phase.Paused →
+            K.phase self.new.store ≡ Phase.Committing → 0 < K.written self.old.store }
         // and no more than one while a batch waits that was taken as it was fetched.
-        ensures waits { result ≡ Advance.More → K.takes self.old.store (to_commit self.old.held) → 0 < length (to_commit self.old.held) → K.written self.old.store ≤ most → K.written self.new.store ≤ most }
-        ensures still { result ≡ Advance.More → K.takes self.old.store (to_commit self.old.held) → 0 < length (to_commit self.old.held) → K.phase self.new.store ≢ Phase.Committing → K.takes self.new.store (to_commit self.old.held) }
+        ensures waits { result ≡ Advance.More → K.takes self.old.store (to_commit self.old.held) →
+            0 < length (to_commit self.old.held) → K.written self.old.store ≤ most →
+            K.written self.new.store ≤ most }
+        ensures still { result ≡ Advance.More → K.takes self.old.store (to_commit self.old.held) →
+            0 < length (to_commit self.old.held) → K.phase self.new.store ≢ Phase.Committing →
+            K.takes self.new.store (to_commit self.old.held) }
         // So the store keeps its pace, and takes every batch, as long as epochs are left.
         ensures newest { K.newest self.old.store → K.newest self.new.store }
-        ensures pace { result ≢ Advance.Failed → ¬ (K.exhausted self.new.store) → K.newest self.old.store → least_segment ≤ K.segment self.old.store → KeepsPace (K.segment self.old.store) (K.phase self.old.store) (K.used self.old.store) (K.written self.old.store) (K.going self.old.store) → KeepsPace (K.segment self.new.store) (K.phase self.new.store) (K.used self.new.store) (K.written self.new.store) (K.going self.new.store) }
+        ensures pace { result ≢ Advance.Failed → ¬ (K.exhausted self.new.store) →
+            K.newest self.old.store → least_segment ≤ K.segment self.old.store →
+            KeepsPace (K.segment self.old.store) (K.phase self.old.store) (K.used self.old.store)
+            (K.written self.old.store) (K.going self.old.store) →
+            KeepsPace (K.segment self.new.store) (K.phase self.new.store) (K.used self.new.store)
+            (K.written self.new.store) (K.going self.new.store) }
         ensures segment { K.segment self.new.store ≡ K.segment self.old.store }
         // A batch is committed in a bounded number of steps: 326 where the store is idle.
-        ensures ends { (m : ℕ) → result ≡ Advance.More → 0 < length (to_commit self.old.held) → Within (m + 1) (K.phase self.old.store) (K.left self.old.store) (K.takes self.old.store (to_commit self.old.held)) (K.will_take self.old.store (to_commit self.old.held)) (length (to_commit self.old.held))
-            → Within m (K.phase self.new.store) (K.left self.new.store) (K.takes self.new.store (to_commit self.new.held)) (K.will_take self.new.store (to_commit self.new.held)) (length (to_commit self.new.held)) }
+        ensures ends { (m : ℕ) → result ≡ Advance.More → 0 < length (to_commit self.old.held) →
+            Within (m + 1) (K.phase self.old.store) (K.left self.old.store)
+            (K.takes self.old.store (to_commit self.old.held))
+            (K.will_take self.old.store (to_commit self.old.held))
+            (length (to_commit self.old.held)) →
+            Within m (K.phase self.new.store) (K.left self.new.store)
+            (K.takes self.new.store (to_commit self.new.held))
+            (K.will_take self.new.store (to_commit self.new.held))
+            (length (to_commit self.new.held)) }
         ensures at_rest { result ≡ Advance.Committed → K.phase self.new.store ≢ Phase.Committing }
         ensures count { K.failures self.old.store ≤ K.failures self.new.store }
-        ensures going { K.phase self.old.store ≢ Phase.Stopped → result ≢ Advance.Failed → K.phase self.new.store ≢ Phase.Stopped }
+        ensures going { K.phase self.old.store ≢ Phase.Stopped → result ≢ Advance.Failed →
+            K.phase self.new.store ≢ Phase.Stopped }
         ensures held { AdvanceAnswers result (K.phase self.old.store) self.old.held self.new.held }
         // Only the device fails once no checkpoint is to be begun any more.
-        ensures sure { result ≡ Advance.Failed → IsSure (K.phase self.old.store) (K.takes self.old.store (to_commit self.old.held)) → IsNext self.old.held (K.stored self.old.store) → HasFailed (K.failures self.old.store) (K.failures self.new.store) }
+        ensures sure { result ≡ Advance.Failed →
+            IsSure (K.phase self.old.store) (K.takes self.old.store (to_commit self.old.held)) →
+            IsNext self.old.held (K.stored self.old.store) →
+            HasFailed (K.failures self.old.store) (K.failures self.new.store) }
         // The first failure has a cause.
-        ensures cause { result ≡ Advance.Failed → K.phase self.old.store ≢ Phase.Stopped → ¬ (K.exhausted self.old.store) → IsNext self.old.held (K.stored self.old.store) → HasFailed (K.failures self.old.store) (K.failures self.new.store) }
-        ensures broken { result ≡ Advance.Failed → K.phase self.old.store ≢ Phase.Stopped → IsFree self.old.held → HasFailed (K.failures self.old.store) (K.failures self.new.store) }
+        ensures cause { result ≡ Advance.Failed → K.phase self.old.store ≢ Phase.Stopped →
+            ¬ (K.exhausted self.old.store) → IsNext self.old.held (K.stored self.old.store) →
+            HasFailed (K.failures self.old.store) (K.failures self.new.store) }
+        ensures broken { result ≡ Advance.Failed → K.phase self.old.store ≢ Phase.Stopped →
+            IsFree self.old.held →
+            HasFailed (K.failures self.old.store) (K.failures self.new.store) }
     {
         match replace(&mut self.held, Held::Nothing) {
             Held::Fetched(batch) => {
@@ -246,7 +306,8 @@ impl<K: Store, T: Told + Drop, B: Board<Told = T>> Flusher<K, T, B> {
     pub fn publish<C>(&mut self, by: &C) -> Publishes
     where
         B: Publish<C>,
-        ensures same { (self.new.store ≡ self.old.store) × (self.new.outboxes ≡ self.old.outboxes) × (self.new.before.value ≡ self.old.before.value) × (self.new.fetch ≡ self.old.fetch) }
+        ensures same { (self.new.store ≡ self.old.store) × (self.new.outboxes ≡ self.old.outboxes) ×
+            (self.new.before.value ≡ self.old.before.value) × (self.new.fetch ≡ self.old.fetch) }
         ensures base { B.Board.base self.new.board ≡ B.Board.base self.old.board }
         ensures held { PublishAnswers result self.old.held self.new.held }
         ensures sure { B.Publish.sure → result ≢ Publishes.OutOfMemory }
@@ -271,9 +332,16 @@ impl<K: Store, T: Told + Drop, B: Board<Told = T>> Flusher<K, T, B> {
 
     /// Gives the batch back once all its verdicts are released.
     pub fn give_back(&mut self) -> bool
-        ensures ends { SameFetchEnds self.old.fetch self.new.fetch × (fetched_of self.new.fetch ≡ fetched_of self.old.fetch) × (coming_in self.new.fetch ≡ coming_in self.old.fetch) }
-        ensures same { (self.new.store ≡ self.old.store) × (self.new.board ≡ self.old.board) × (self.new.outboxes ≡ self.old.outboxes) }
-        ensures given { MatchBool result (GivesBack self.old.held self.new.held (given_of self.old.fetch) (given_of self.new.fetch)) ((self.new.held ≡ self.old.held) × (given_of self.new.fetch ≡ given_of self.old.fetch) × (self.new.before.value ≡ self.old.before.value)) }
+        ensures ends { SameFetchEnds self.old.fetch self.new.fetch ×
+            (fetched_of self.new.fetch ≡ fetched_of self.old.fetch) ×
+            (coming_in self.new.fetch ≡ coming_in self.old.fetch) }
+        ensures same { (self.new.store ≡ self.old.store) × (self.new.board ≡ self.old.board) ×
+            (self.new.outboxes ≡ self.old.outboxes) }
+        ensures given { MatchBool result
+            (GivesBack self.old.held self.new.held (given_of self.old.fetch)
+            (given_of self.new.fetch))
+            ((self.new.held ≡ self.old.held) × (given_of self.new.fetch ≡ given_of self.old.fetch) ×
+            (self.new.before.value ≡ self.old.before.value)) }
         ensures cause { result ≡ false → IsDone self.old.held → ¬ (0 < places_in self.old.fetch) }
     {
         match self.held.next() {
@@ -300,17 +368,24 @@ impl<K: Store, T: Told + Drop, B: Board<Told = T>> Flusher<K, T, B> {
 
     // Where the outbox of a slot stands; not below their number where it has none.
     fn place(&self, slot: Slot) -> usize
-        ensures slot { (o : Outbox _ _) → slice_get self.now.outboxes.items result ≡ Some o → o.slot ≡ slot }
-        ensures missing { length self.now.outboxes.items ≤ result → outbox_at slot self.now.outboxes.items ≡ None }
+        ensures slot { (o : Outbox _ _) → slice_get self.now.outboxes.items result ≡ Some o →
+            o.slot ≡ slot }
+        ensures missing { length self.now.outboxes.items ≤ result →
+            outbox_at slot self.now.outboxes.items ≡ None }
     {
         self.places[slot.number() as usize]
     }
 
     /// Releases the next verdict to its slot, with the published list as told.
     pub fn release(&mut self) -> Release
-        ensures ends { (s : ℕ) → SameOutboxAt (outbox_at s self.old.outboxes.items) (outbox_at s self.new.outboxes.items) }
-        ensures same { (self.new.store ≡ self.old.store) × (self.new.board ≡ self.old.board) × (self.new.before.value ≡ self.old.before.value) × (self.new.fetch ≡ self.old.fetch) }
-        ensures answer { ReleaseAnswers result self.old.held self.new.held self.old.outboxes.items self.new.outboxes.items (B.base self.old.board) (K.stored self.old.store) (B.published self.old.board) }
+        ensures ends { (s : ℕ) →
+            SameOutboxAt (outbox_at s self.old.outboxes.items)
+            (outbox_at s self.new.outboxes.items) }
+        ensures same { (self.new.store ≡ self.old.store) × (self.new.board ≡ self.old.board) ×
+            (self.new.before.value ≡ self.old.before.value) × (self.new.fetch ≡ self.old.fetch) }
+        ensures answer { ReleaseAnswers result self.old.held self.new.held self.old.outboxes.items
+            self.new.outboxes.items (B.base self.old.board) (K.stored self.old.store)
+            (B.published self.old.board) }
     {
         let Some(entry) = self.held.next() else {
             return Release::Nothing;
@@ -346,14 +421,22 @@ impl<K: Store, T: Told + Drop, B: Board<Told = T>> Flusher<K, T, B> {
     /// Tells the two ends of each batch ring, in one thread, what the other did. Takes no memory.
     pub fn batches_beside(&mut self, seal: &mut SealEnds)
         requires { AreBatchEnds seal.old self.old.fetch }
-        ensures same { (self.new.store ≡ self.old.store) × (self.new.board ≡ self.old.board) × (self.new.outboxes ≡ self.old.outboxes) × (self.new.before.value ≡ self.old.before.value) × (self.new.held ≡ self.old.held) }
-        ensures ends { AreBatchEnds seal.new self.new.fetch × SameSealEnds seal.old seal.new × SameFetchEnds self.old.fetch self.new.fetch }
-        ensures sealed { (sealed_of seal.new ≡ sealed_of seal.old) × (fetched_of self.new.fetch ≡ fetched_of self.old.fetch) }
-        ensures empties { (emptied_of seal.new ≡ emptied_of seal.old) × (given_of self.new.fetch ≡ given_of self.old.fetch) }
-        ensures fetched { fetched_of self.new.fetch ++ coming_in self.new.fetch ≡ sealed_of seal.new }
+        ensures same { (self.new.store ≡ self.old.store) × (self.new.board ≡ self.old.board) ×
+            (self.new.outboxes ≡ self.old.outboxes) ×
+            (self.new.before.value ≡ self.old.before.value) × (self.new.held ≡ self.old.held) }
+        ensures ends { AreBatchEnds seal.new self.new.fetch × SameSealEnds seal.old seal.new ×
+            SameFetchEnds self.old.fetch self.new.fetch }
+        ensures sealed { (sealed_of seal.new ≡ sealed_of seal.old) ×
+            (fetched_of self.new.fetch ≡ fetched_of self.old.fetch) }
+        ensures empties { (emptied_of seal.new ≡ emptied_of seal.old) ×
+            (given_of self.new.fetch ≡ given_of self.old.fetch) }
+        ensures fetched { fetched_of self.new.fetch ++ coming_in self.new.fetch ≡
+            sealed_of seal.new }
         ensures emptied { emptied_of seal.new ++ empties_in seal.new ≡ given_of self.new.fetch }
-        ensures places { 8 + length (fetched_of self.new.fetch) ≤ places_of seal.new + length (sealed_of seal.new) }
-        ensures back { 8 + length (emptied_of seal.new) ≤ places_in self.new.fetch + length (given_of self.new.fetch) }
+        ensures places { 8 + length (fetched_of self.new.fetch) ≤
+            places_of seal.new + length (sealed_of seal.new) }
+        ensures back { 8 + length (emptied_of seal.new) ≤
+            places_in self.new.fetch + length (given_of self.new.fetch) }
     {
         batches_beside(seal, &mut self.fetch);
     }
@@ -361,15 +444,29 @@ impl<K: Store, T: Told + Drop, B: Board<Told = T>> Flusher<K, T, B> {
     /// Tells a slot's outbox and the console at its other end, in one thread, what the other did. Takes no memory.
     pub fn replies_beside(&mut self, slot: Slot, console: &mut Console<T>)
         requires slot { IsSome (outbox_at slot self.old.outboxes.items) }
-        requires ends { (o : Outbox _ _) → outbox_at slot self.old.outboxes.items ≡ Some o → IsPair o.replies console.old.replies }
-        ensures same { (self.new.store ≡ self.old.store) × (self.new.board ≡ self.old.board) × (self.new.before.value ≡ self.old.before.value) × (self.new.fetch ≡ self.old.fetch) × (self.new.held ≡ self.old.held) }
-        ensures released { (s : ℕ) → released_by s self.new.outboxes.items ≡ released_by s self.old.outboxes.items }
-        ensures outboxes { (s : ℕ) → SameOutboxAt (outbox_at s self.old.outboxes.items) (outbox_at s self.new.outboxes.items) }
-        ensures others { (s : ℕ) → s ≢ slot → outbox_at s self.new.outboxes.items ≡ outbox_at s self.old.outboxes.items }
-        ensures ends { (o : Outbox _ _) → outbox_at slot self.new.outboxes.items ≡ Some o → IsPair o.replies console.new.replies }
-        ensures console { SameConsole console.old console.new × (received_of console.new ≡ received_of console.old) × (sent_of console.new ≡ sent_of console.old) × (room_of console.new ≡ room_of console.old) }
-        ensures replies { received_of console.new ++ coming_to console.new ≡ released_by slot self.new.outboxes.items }
-        ensures room { 64 + length (received_of console.new) ≤ room_by slot self.new.outboxes.items + length (released_by slot self.new.outboxes.items) }
+        requires ends { (o : Outbox _ _) → outbox_at slot self.old.outboxes.items ≡ Some o →
+            IsPair o.replies console.old.replies }
+        ensures same { (self.new.store ≡ self.old.store) × (self.new.board ≡ self.old.board) ×
+            (self.new.before.value ≡ self.old.before.value) × (self.new.fetch ≡ self.old.fetch) ×
+            (self.new.held ≡ self.old.held) }
+        ensures released { (s : ℕ) →
+            released_by s self.new.outboxes.items ≡ released_by s self.old.outboxes.items }
+        ensures outboxes { (s : ℕ) →
+            SameOutboxAt (outbox_at s self.old.outboxes.items)
+            (outbox_at s self.new.outboxes.items) }
+        ensures others { (s : ℕ) → s ≢ slot →
+            outbox_at s self.new.outboxes.items ≡ outbox_at s self.old.outboxes.items }
+        ensures ends { (o : Outbox _ _) → outbox_at slot self.new.outboxes.items ≡ Some o →
+            IsPair o.replies console.new.replies }
+        ensures console { SameConsole console.old console.new ×
+            (received_of console.new ≡ received_of console.old) ×
+            (sent_of console.new ≡ sent_of console.old) ×
+            (room_of console.new ≡ room_of console.old) }
+        ensures replies { received_of console.new ++ coming_to console.new ≡
+            released_by slot self.new.outboxes.items }
+        ensures room { 64 + length (received_of console.new) ≤
+            room_by slot self.new.outboxes.items +
+            length (released_by slot self.new.outboxes.items) }
     {
         let place = self.place(slot);
         if place < self.outboxes.len() {
@@ -379,7 +476,8 @@ impl<K: Store, T: Told + Drop, B: Board<Told = T>> Flusher<K, T, B> {
 
     /// Its store, its board and its ends, as they are.
     pub fn into_ends(self) -> (K, B, Vec<Outbox<T>>, FetchEnds)
-        ensures { (result.0 ≡ self.store) × (result.1 ≡ self.board) × (result.2 ≡ self.outboxes) × (result.3 ≡ self.fetch) }
+        ensures { (result.0 ≡ self.store) × (result.1 ≡ self.board) × (result.2 ≡ self.outboxes) ×
+            (result.3 ≡ self.fetch) }
     {
         let Flusher {
             store,
@@ -407,8 +505,12 @@ impl<K: Store, T: Told + Drop, B: Board<Told = T>> Flusher<K, T, B> {
     /// where the flusher stands.
     pub fn board(&self) -> &B
         ensures board { result.now ≡ self.now.board }
-        ensures stands { fetched_of self.now.fetch ≡ fetched_of self.now.before.value ++ batches_of self.now.held }
-        ensures released { (s : ℕ) → replies_in (released_by s self.now.outboxes.items) ≡ replies_to (of_slot s (entries_in (fetched_of self.now.before.value) ++ told_of self.now.held)) }
+        ensures stands { fetched_of self.now.fetch ≡
+            fetched_of self.now.before.value ++ batches_of self.now.held }
+        ensures released { (s : ℕ) →
+            replies_in (released_by s self.now.outboxes.items) ≡
+            replies_to
+            (of_slot s (entries_in (fetched_of self.now.before.value) ++ told_of self.now.held)) }
     {
         &self.board
     }
@@ -416,8 +518,12 @@ impl<K: Store, T: Told + Drop, B: Board<Told = T>> Flusher<K, T, B> {
     /// The store. The published list is a front of the one that is stored, and each number that was released is stored.
     pub fn keeper(&self) -> &K
         ensures keeper { result.now ≡ self.now.store }
-        ensures front { (list : List Action) × ((K.stored self.now.store ≡ run (B.base self.now.board) list) × IsFront (B.published self.now.board) list) }
-        ensures numbers { (s k : ℕ) (r : Receipt _ _) → slice_get (released_by s self.now.outboxes.items) k ≡ Some r → r.number ≤ (K.stored self.now.store).panel.count }
+        ensures front { (list : List Action) ×
+            ((K.stored self.now.store ≡ run (B.base self.now.board) list) ×
+            IsFront (B.published self.now.board) list) }
+        ensures numbers { (s k : ℕ) (r : Receipt _ _) →
+            slice_get (released_by s self.now.outboxes.items) k ≡ Some r →
+            r.number ≤ (K.stored self.now.store).panel.count }
     {
         &self.store
     }

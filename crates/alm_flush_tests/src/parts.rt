@@ -29,7 +29,8 @@ impl<K: Store> Parts<K> {
 
     /// The parts of these new ends over a store at rest.
     pub fn new(alloc: Global, ends: SlotEnds<PlainTold>, store: K) -> Result<Self, AllocError>
-        requires apart { AreApart (λ i. i.slot) ends.inboxes.items × AreApart (λ o. o.slot) ends.outboxes.items }
+        requires apart { AreApart (λ i. i.slot) ends.inboxes.items ×
+            AreApart (λ o. o.slot) ends.outboxes.items }
         requires all { (s : ℕ) → s < 18 → IsSome (inbox_at s ends.inboxes.items) }
         requires taken { (s : ℕ) → taken_by s ends.inboxes.items ≡ [] }
         requires released { (s : ℕ) → released_by s ends.outboxes.items ≡ [] }

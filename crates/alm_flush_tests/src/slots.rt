@@ -214,7 +214,9 @@ struct Crossed {
 }
 
 fn cross_ends(alloc: Global) -> Result<Crossed, AllocError>
-    ensures apart { IfOk result (λ x. AreApart (λ i. i.slot) x.ends.inboxes.items × AreApart (λ o. o.slot) x.ends.outboxes.items) }
+    ensures apart { IfOk result
+        (λ x. AreApart (λ i. i.slot) x.ends.inboxes.items ×
+        AreApart (λ o. o.slot) x.ends.outboxes.items) }
     ensures all { IfOk result (λ x. (s : ℕ) → s < 18 → IsSome (inbox_at s x.ends.inboxes.items)) }
     ensures taken { IfOk result (λ x. (s : ℕ) → taken_by s x.ends.inboxes.items ≡ []) }
     ensures released { IfOk result (λ x. (s : ℕ) → released_by s x.ends.outboxes.items ≡ []) }

@@ -24,7 +24,8 @@ fn call_next<D: Disk>(disk: &mut D, book: &Book) -> Result<(), DiskFault>
     ensures count { CountsFault result (D.failures disk.old) (D.failures disk.new) }
     ensures serves { D.serves disk.old (call_of (held disk.old book.now)) result disk.new }
     ensures is_call { D.honest disk.old → IsCall (D.state disk.old) (D.state disk.new) }
-    ensures passes { D.honest disk.old → ∥ Keeps (D.state disk.old) book.now ∥₁ → ∥ PassesOn result (D.state disk.old) (D.state disk.new) book.now ∥₁ }
+    ensures passes { D.honest disk.old → ∥ Keeps (D.state disk.old) book.now ∥₁ →
+        ∥ PassesOn result (D.state disk.old) (D.state disk.new) book.now ∥₁ }
 {
     match book.work {
         Work::Commit => call(disk, book.stage, book.gate, &book.frame[..book.frame_len()]),
@@ -50,13 +51,16 @@ pub fn advance<D: Disk>(disk: &mut D, book: &mut Book) -> Progress
     ensures in_order { InOrder book.new }
     ensures fits { FitsDevice book.new (D.size disk.new) }
     ensures ends { Ends result book.old book.new }
-    ensures failed { result ≡ Progress.Failed → HasFailed (D.failures disk.old) (D.failures disk.new) }
+    ensures failed { result ≡ Progress.Failed →
+        HasFailed (D.failures disk.old) (D.failures disk.new) }
     ensures sound { result ≢ Progress.Failed → D.failures disk.new ≡ D.failures disk.old }
     ensures count { D.failures disk.old ≤ D.failures disk.new }
     ensures call { CallsOnce D.serves (call_of (held disk.old book.old)) result disk.old disk.new }
     ensures is_call { D.honest disk.old → IsCall (D.state disk.old) (D.state disk.new) }
-    ensures keeps { D.honest disk.old → ∥ Keeps (D.state disk.old) book.old ∥₁ → ∥ Keeps (D.state disk.new) book.new ∥₁ }
-    ensures any_moment { D.honest disk.old → ∥ Keeps (D.state disk.old) book.old ∥₁ → (b : List ℕ) → (IsImage (D.state disk.old) b ⊎ IsImage (D.state disk.new) b) → ∥ MayLeave book.old b ∥₁ }
+    ensures keeps { D.honest disk.old → ∥ Keeps (D.state disk.old) book.old ∥₁ →
+        ∥ Keeps (D.state disk.new) book.new ∥₁ }
+    ensures any_moment { D.honest disk.old → ∥ Keeps (D.state disk.old) book.old ∥₁ → (b : List ℕ) →
+        (IsImage (D.state disk.old) b ⊎ IsImage (D.state disk.new) b) → ∥ MayLeave book.old b ∥₁ }
 {
     match call_next(disk, book) {
         Ok(()) => book.go_on(),

@@ -126,7 +126,8 @@ impl Book {
         requires some { 1 ≤ length (accepted_of batch.now.entries) }
         requires takes { Takes (account self.old) (accepted_of batch.now.entries) }
         requires in_order { InOrder self.old }
-        ensures answer { result ≡ begin_answer (phase_of self.old.stage self.old.work) self.old.stored batch.now }
+        ensures answer { result ≡
+            begin_answer (phase_of self.old.stage self.old.work) self.old.stored batch.now }
         ensures begins { Begins result (accepted_of batch.now.entries) self.old self.new }
         ensures in_order { InOrder self.new }
     {
@@ -162,7 +163,8 @@ impl Book {
         requires commit { self.old.work ≡ Work.Commit }
         requires in_order { InOrder self.old }
         ensures account { account self.new ≡ committed (account self.old) self.old.actions.items }
-        ensures same { self.new ≡ record self.old { gate = self.new.gate; stored = self.new.stored; written = 0 } }
+        ensures same { self.new ≡
+            record self.old { gate = self.new.gate; stored = self.new.stored; written = 0 } }
     {
         self.gate += self.frame_len() as u64;
         apply_all(&mut self.stored, &self.actions);
@@ -331,7 +333,8 @@ impl Book {
     /// it reads open.
     pub fn begin_checkpoint(&mut self) -> Result<(), Refused>
         requires in_order { InOrder self.old }
-        ensures answer { result ≡ checkpoint_answer (phase_of self.old.stage self.old.work) self.old.epoch }
+        ensures answer { result ≡
+            checkpoint_answer (phase_of self.old.stage self.old.work) self.old.epoch }
         ensures copies { Copies result self.old self.new }
         ensures in_order { InOrder self.new }
     {

@@ -21,11 +21,16 @@ fn close_header<D: Disk>(disk: &mut D) -> Result<(), DiskFault>
     ensures size { D.size disk.new ≡ D.size disk.old }
     ensures counts { OnOk result (D.failures disk.new ≡ D.failures disk.old) }
     ensures failed { OnErr result (HasFailed (D.failures disk.old) (D.failures disk.new)) }
-    ensures settled { D.honest disk.old → OnOk result (IsSettled (D.state disk.new) (D.state disk.new).bytes) }
-    ensures shut { D.honest disk.old → (D.state disk.old).faulted ≡ false → OnOk result (IsShut (D.state disk.new)) }
-    ensures before { D.honest disk.old → OnErr result (LeavesBefore (D.state disk.old) (D.state disk.new)) }
-    ensures goes { OnOk result (Goes (Moment D.serves D.state (Unit {0}) Never) disk.old close_calls disk.new) }
-    ensures fails { OnErr result (FailsIn (Moment D.serves D.state (Unit {0}) Never) disk.old close_calls disk.new) }
+    ensures settled { D.honest disk.old →
+        OnOk result (IsSettled (D.state disk.new) (D.state disk.new).bytes) }
+    ensures shut { D.honest disk.old → (D.state disk.old).faulted ≡ false →
+        OnOk result (IsShut (D.state disk.new)) }
+    ensures before { D.honest disk.old →
+        OnErr result (LeavesBefore (D.state disk.old) (D.state disk.new)) }
+    ensures goes { OnOk result
+        (Goes (Moment D.serves D.state (Unit {0}) Never) disk.old close_calls disk.new) }
+    ensures fails { OnErr result
+        (FailsIn (Moment D.serves D.state (Unit {0}) Never) disk.old close_calls disk.new) }
 {
     disk.write_at(0, &[0])?;
     disk.sync()
@@ -39,9 +44,11 @@ fn write_shut<D: Disk>(disk: &mut D, at: u64, bytes: &[u8]) -> Result<(), DiskFa
     ensures size { D.size disk.new ≡ D.size disk.old }
     ensures count { CountsFault result (D.failures disk.old) (D.failures disk.new) }
     ensures serves { D.serves disk.old (Write at (length bytes.now)) result disk.new }
-    ensures writes { D.honest disk.old → Writes at bytes.now result (D.state disk.old) (D.state disk.new) }
+    ensures writes { D.honest disk.old →
+        Writes at bytes.now result (D.state disk.old) (D.state disk.new) }
     ensures shut { D.honest disk.old → IsShut (D.state disk.old) → IsShut (D.state disk.new) }
-    ensures any_moment { D.honest disk.old → IsShut (D.state disk.old) → StaysUnformatted (D.state disk.old) (D.state disk.new) }
+    ensures any_moment { D.honest disk.old → IsShut (D.state disk.old) →
+        StaysUnformatted (D.state disk.old) (D.state disk.new) }
 {
     disk.write_at(at, bytes)
 }
@@ -53,8 +60,10 @@ fn sync_shut<D: Disk>(disk: &mut D) -> Result<(), DiskFault>
     ensures count { CountsFault result (D.failures disk.old) (D.failures disk.new) }
     ensures serves { D.serves disk.old Sync result disk.new }
     ensures syncs { D.honest disk.old → Syncs result (D.state disk.old) (D.state disk.new) }
-    ensures shut { D.honest disk.old → IsShut (D.state disk.old) → OnOk result (IsShut (D.state disk.new)) }
-    ensures any_moment { D.honest disk.old → IsShut (D.state disk.old) → StaysUnformatted (D.state disk.old) (D.state disk.new) }
+    ensures shut { D.honest disk.old → IsShut (D.state disk.old) →
+        OnOk result (IsShut (D.state disk.new)) }
+    ensures any_moment { D.honest disk.old → IsShut (D.state disk.old) →
+        StaysUnformatted (D.state disk.old) (D.state disk.new) }
 {
     disk.sync()
 }
@@ -75,11 +84,20 @@ fn write_behind<D: Disk>(
     ensures size { D.size disk.new ≡ D.size disk.old }
     ensures counts { OnOk result (D.failures disk.new ≡ D.failures disk.old) }
     ensures failed { OnErr result (HasFailed (D.failures disk.old) (D.failures disk.new)) }
-    ensures filled { D.honest disk.old → (D.state disk.old).faulted ≡ false → OnOk result (IsSettled (D.state disk.new) (filled layout.now header.now half.now (D.state disk.old).bytes)) }
-    ensures shut { D.honest disk.old → IsShut (D.state disk.old) → OnOk result (IsShut (D.state disk.new)) }
-    ensures unformatted { D.honest disk.old → IsShut (D.state disk.old) → StaysUnformatted (D.state disk.new) (D.state disk.new) }
-    ensures goes { OnOk result (Goes (Moment D.serves D.state (D.honest disk.old × IsShut (D.state disk.old)) Never) disk.old (behind_calls layout.now) disk.new) }
-    ensures fails { OnErr result (FailsIn (Moment D.serves D.state (D.honest disk.old × IsShut (D.state disk.old)) Never) disk.old (behind_calls layout.now) disk.new) }
+    ensures filled { D.honest disk.old → (D.state disk.old).faulted ≡ false →
+        OnOk result
+        (IsSettled (D.state disk.new)
+        (filled layout.now header.now half.now (D.state disk.old).bytes)) }
+    ensures shut { D.honest disk.old → IsShut (D.state disk.old) →
+        OnOk result (IsShut (D.state disk.new)) }
+    ensures unformatted { D.honest disk.old → IsShut (D.state disk.old) →
+        StaysUnformatted (D.state disk.new) (D.state disk.new) }
+    ensures goes { OnOk result
+        (Goes (Moment D.serves D.state (D.honest disk.old × IsShut (D.state disk.old)) Never)
+        disk.old (behind_calls layout.now) disk.new) }
+    ensures fails { OnErr result
+        (FailsIn (Moment D.serves D.state (D.honest disk.old × IsShut (D.state disk.old)) Never)
+        disk.old (behind_calls layout.now) disk.new) }
 {
     write_shut(disk, 1, header)?;
     write_shut(disk, 23, half)?;
@@ -96,8 +114,12 @@ fn open_gate<D: Disk>(disk: &mut D) -> Result<(), DiskFault>
     ensures size { D.size disk.new ≡ D.size disk.old }
     ensures count { CountsFault result (D.failures disk.old) (D.failures disk.new) }
     ensures serves { D.serves disk.old (Write 0 1) result disk.new }
-    ensures writes { D.honest disk.old → Writes 0 (165 ∷ []) result (D.state disk.old) (D.state disk.new) }
-    ensures any_moment { (b c : List ℕ) → D.honest disk.old → IsSettled (D.state disk.old) b → is_open (byte_at b 0) ≡ false → IsImage (D.state disk.old) c ⊎ IsImage (D.state disk.new) c → IsUnformatted c ⊎ (c ≡ opened b) }
+    ensures writes { D.honest disk.old →
+        Writes 0 (165 ∷ []) result (D.state disk.old) (D.state disk.new) }
+    ensures any_moment { (b c : List ℕ) → D.honest disk.old → IsSettled (D.state disk.old) b →
+        is_open (byte_at b 0) ≡ false →
+        IsImage (D.state disk.old) c ⊎ IsImage (D.state disk.new) c →
+        IsUnformatted c ⊎ (c ≡ opened b) }
 {
     disk.write_at(0, &[0xA5])
 }
@@ -109,7 +131,8 @@ fn sync_open<D: Disk>(disk: &mut D) -> Result<(), DiskFault>
     ensures count { CountsFault result (D.failures disk.old) (D.failures disk.new) }
     ensures serves { D.serves disk.old Sync result disk.new }
     ensures syncs { D.honest disk.old → Syncs result (D.state disk.old) (D.state disk.new) }
-    ensures any_moment { (c : List ℕ) → D.honest disk.old → IsImage (D.state disk.new) c → IsImage (D.state disk.old) c }
+    ensures any_moment { (c : List ℕ) → D.honest disk.old → IsImage (D.state disk.new) c →
+        IsImage (D.state disk.old) c }
 {
     disk.sync()
 }
@@ -121,10 +144,19 @@ fn open_header<D: Disk>(disk: &mut D) -> Result<(), DiskFault>
     ensures size { D.size disk.new ≡ D.size disk.old }
     ensures counts { OnOk result (D.failures disk.new ≡ D.failures disk.old) }
     ensures failed { OnErr result (HasFailed (D.failures disk.old) (D.failures disk.new)) }
-    ensures opened { (b : List ℕ) → D.honest disk.old → IsSettled (D.state disk.old) b → OnOk result (IsSettled (D.state disk.new) (opened b)) }
-    ensures either { (b c : List ℕ) → D.honest disk.old → IsSettled (D.state disk.old) b → is_open (byte_at b 0) ≡ false → IsImage (D.state disk.new) c → IsUnformatted c ⊎ (c ≡ opened b) }
-    ensures goes { OnOk result (Goes (Moment D.serves D.state (D.honest disk.old × IsClosed (D.state disk.old)) (IsOpened (D.state disk.old))) disk.old open_calls disk.new) }
-    ensures fails { OnErr result (FailsIn (Moment D.serves D.state (D.honest disk.old × IsClosed (D.state disk.old)) (IsOpened (D.state disk.old))) disk.old open_calls disk.new) }
+    ensures opened { (b : List ℕ) → D.honest disk.old → IsSettled (D.state disk.old) b →
+        OnOk result (IsSettled (D.state disk.new) (opened b)) }
+    ensures either { (b c : List ℕ) → D.honest disk.old → IsSettled (D.state disk.old) b →
+        is_open (byte_at b 0) ≡ false → IsImage (D.state disk.new) c →
+        IsUnformatted c ⊎ (c ≡ opened b) }
+    ensures goes { OnOk result
+        (Goes
+        (Moment D.serves D.state (D.honest disk.old × IsClosed (D.state disk.old))
+        (IsOpened (D.state disk.old))) disk.old open_calls disk.new) }
+    ensures fails { OnErr result
+        (FailsIn
+        (Moment D.serves D.state (D.honest disk.old × IsClosed (D.state disk.old))
+        (IsOpened (D.state disk.old))) disk.old open_calls disk.new) }
 {
     open_gate(disk)?;
     sync_open(disk)
@@ -145,11 +177,25 @@ pub fn write_all<D: Disk>(
     ensures size { D.size disk.new ≡ D.size disk.old }
     ensures counts { OnOk result (D.failures disk.new ≡ D.failures disk.old) }
     ensures failed { OnErr result (HasFailed (D.failures disk.old) (D.failures disk.new)) }
-    ensures settled { D.honest disk.old → OnOk result (IsSettled (D.state disk.new) (D.state disk.new).bytes) }
-    ensures written { D.honest disk.old → OnOk result (IsWritten (D.size disk.old) layout.now header.now half.now (D.state disk.new).bytes) }
-    ensures goes { OnOk result (Goes (Moment D.serves D.state (D.honest disk.old × ((D.state disk.old).faulted ≡ false)) (IsWritten (D.size disk.old) layout.now header.now half.now)) disk.old (format_calls layout.now) disk.new) }
-    ensures fails { OnErr result (FailsIn (Moment D.serves D.state (D.honest disk.old × ((D.state disk.old).faulted ≡ false)) (IsWritten (D.size disk.old) layout.now header.now half.now)) disk.old (format_calls layout.now) disk.new) }
-    ensures leaves { D.honest disk.old → (D.state disk.old).faulted ≡ false → OnErr result (Leaves (D.size disk.old) layout.now header.now half.now (D.state disk.old) (D.state disk.new)) }
+    ensures settled { D.honest disk.old →
+        OnOk result (IsSettled (D.state disk.new) (D.state disk.new).bytes) }
+    ensures written { D.honest disk.old →
+        OnOk result
+        (IsWritten (D.size disk.old) layout.now header.now half.now (D.state disk.new).bytes) }
+    ensures goes { OnOk result
+        (Goes
+        (Moment D.serves D.state (D.honest disk.old × ((D.state disk.old).faulted ≡ false))
+        (IsWritten (D.size disk.old) layout.now header.now half.now)) disk.old
+        (format_calls layout.now) disk.new) }
+    ensures fails { OnErr result
+        (FailsIn
+        (Moment D.serves D.state (D.honest disk.old × ((D.state disk.old).faulted ≡ false))
+        (IsWritten (D.size disk.old) layout.now header.now half.now)) disk.old
+        (format_calls layout.now) disk.new) }
+    ensures leaves { D.honest disk.old → (D.state disk.old).faulted ≡ false →
+        OnErr result
+        (Leaves (D.size disk.old) layout.now header.now half.now (D.state disk.old)
+        (D.state disk.new)) }
 {
     close_header(disk)?;
     write_behind(disk, layout, header, half)?;

@@ -24,7 +24,8 @@ pub fn call<D: Disk>(disk: &mut D, stage: Stage, at: u64, text: &[u8]) -> Result
     ensures count { CountsFault result (D.failures disk.old) (D.failures disk.new) }
     ensures serves { D.serves disk.old (stage_call stage at (length text.now)) result disk.new }
     ensures is_call { D.honest disk.old → IsCall (D.state disk.old) (D.state disk.new) }
-    ensures stage_call { D.honest disk.old → StageCall stage at text.now result (D.state disk.old) (D.state disk.new) }
+    ensures stage_call { D.honest disk.old →
+        StageCall stage at text.now result (D.state disk.old) (D.state disk.new) }
 {
     match stage {
         Stage::Close => disk.write_at(at, &[CLOSED]),

@@ -28,7 +28,9 @@ pub fn put_half(layout: &Layout, head: &HalfHead, plant: &Plant, out: &mut [u8])
     requires sizes { IsOf layout.now.rows layout.now.areas plant.now.panel.count plant.now }
     requires count { head.now.count ≤ 2 ^ 48 }
     requires room { length out.old ≡ 25 + image_size layout.now }
-    ensures text { out.new ≡ half_head_text layout.now head.now.version head.now.epoch head.now.count ++ image_text plant.now ++ 0 ∷ [] }
+    ensures text { out.new ≡
+        half_head_text layout.now head.now.version head.now.epoch head.now.count ++
+        image_text plant.now ++ 0 ∷ [] }
 {
     layout.write_half_head(head, out);
     put_image(layout, plant, &mut out[24..]);
@@ -40,7 +42,9 @@ fn put_front(layout: &Layout, head: &HalfHead, plant: &Plant, out: &mut [u8])
     requires sizes { IsOf layout.now.rows layout.now.areas plant.now.panel.count plant.now }
     requires count { head.now.count ≤ 2 ^ 48 }
     requires room { 25 + image_size layout.now ≤ length out.old }
-    ensures text { out.new ≡ (half_head_text layout.now head.now.version head.now.epoch head.now.count ++ image_text plant.now ++ 0 ∷ []) ++ drop (25 + image_size layout.now) out.old }
+    ensures text { out.new ≡
+        (half_head_text layout.now head.now.version head.now.epoch head.now.count ++
+        image_text plant.now ++ 0 ∷ []) ++ drop (25 + image_size layout.now) out.old }
 {
     let run = HEAD_LEN + layout.image_len();
     put_half(layout, head, plant, &mut out[..run]);
@@ -52,7 +56,9 @@ fn put_in_run(layout: &Layout, head: &HalfHead, plant: &Plant, buffer: &mut Vec<
     requires sizes { IsOf layout.now.rows layout.now.areas plant.now.panel.count plant.now }
     requires count { head.now.count ≤ 2 ^ 48 }
     requires room { 25 + image_size layout.now ≤ length buffer.old.items }
-    ensures text { take (25 + image_size layout.now) buffer.new.items ≡ half_head_text layout.now head.now.version head.now.epoch head.now.count ++ image_text plant.now ++ 0 ∷ [] }
+    ensures text { take (25 + image_size layout.now) buffer.new.items ≡
+        half_head_text layout.now head.now.version head.now.epoch head.now.count ++
+        image_text plant.now ++ 0 ∷ [] }
     ensures long { length buffer.new.items ≡ length buffer.old.items }
     ensures room { vec_capacity buffer.new ≡ vec_capacity buffer.old }
 {
@@ -65,7 +71,9 @@ pub fn write_half(layout: &Layout, head: &HalfHead, plant: &Plant, buffer: &mut 
     requires sizes { IsOf layout.now.rows layout.now.areas plant.now.panel.count plant.now }
     requires count { head.now.count ≤ 2 ^ 48 }
     requires room { 25 + image_size layout.now ≤ vec_capacity buffer.old }
-    ensures text { take (25 + image_size layout.now) buffer.new.items ≡ half_head_text layout.now head.now.version head.now.epoch head.now.count ++ image_text plant.now ++ 0 ∷ [] }
+    ensures text { take (25 + image_size layout.now) buffer.new.items ≡
+        half_head_text layout.now head.now.version head.now.epoch head.now.count ++
+        image_text plant.now ++ 0 ∷ [] }
     ensures long { 25 + image_size layout.now ≤ length buffer.new.items }
     ensures room { vec_capacity buffer.new ≡ vec_capacity buffer.old }
 {

@@ -43,7 +43,8 @@ impl<D: Disk + Drop> Model for Keeper<D> {
 
     ghost view = { λ k. held k.disk k.book };
 
-    ghost invariant = { λ k. InOrder k.book × FitsDevice k.book (D.size k.disk) × (D.honest k.disk → ∥ Keeps (D.state k.disk) k.book ∥₁) };
+    ghost invariant = { λ k. InOrder k.book × FitsDevice k.book (D.size k.disk) ×
+        (D.honest k.disk → ∥ Keeps (D.state k.disk) k.book ∥₁) };
 }
 
 impl<D: Disk + Drop> Keeper<D> {
@@ -56,13 +57,19 @@ impl<D: Disk + Drop> Keeper<D> {
         ensures advances { Advances result self.old self.new }
         // Which call it is: a write at this place of so many bytes, or a sync.
         ensures call { CallsOnce D.serves (call_of self.old) result self.old.disk self.new.disk }
-        ensures piece { self.old.stage ≡ Stage.Body → self.old.work ≡ Work.Checkpoint → result ≢ Progress.Failed → SendsPiece self.old self.new }
-        ensures is_call { D.honest self.old.disk → IsCall (D.state self.old.disk) (D.state self.new.disk) }
-        ensures failed { result ≡ Progress.Failed → HasFailed (D.failures self.old.disk) (D.failures self.new.disk) }
-        ensures sound { result ≢ Progress.Failed → D.failures self.new.disk ≡ D.failures self.old.disk }
+        ensures piece { self.old.stage ≡ Stage.Body → self.old.work ≡ Work.Checkpoint →
+            result ≢ Progress.Failed → SendsPiece self.old self.new }
+        ensures is_call { D.honest self.old.disk →
+            IsCall (D.state self.old.disk) (D.state self.new.disk) }
+        ensures failed { result ≡ Progress.Failed →
+            HasFailed (D.failures self.old.disk) (D.failures self.new.disk) }
+        ensures sound { result ≢ Progress.Failed →
+            D.failures self.new.disk ≡ D.failures self.old.disk }
         ensures count { D.failures self.old.disk ≤ D.failures self.new.disk }
         // What a crash leaves at any moment of the call.
-        ensures any_moment { D.honest self.old.disk → (b : List ℕ) → (IsImage (D.state self.old.disk) b ⊎ IsImage (D.state self.new.disk) b) → ∥ MayStand self.old b ∥₁ }
+        ensures any_moment { D.honest self.old.disk → (b : List ℕ) →
+            (IsImage (D.state self.old.disk) b ⊎ IsImage (D.state self.new.disk) b) →
+            ∥ MayStand self.old b ∥₁ }
     {
         advance(&mut self.disk, &mut self.book)
     }
@@ -76,7 +83,8 @@ impl<D: Disk + Drop> Keeper<D> {
         requires some { 1 ≤ length (accepted_of batch.now.entries) }
         requires takes { Takes self.old.stored (accepted_of batch.now.entries) }
         ensures disk { self.new.disk ≡ self.old.disk }
-        ensures answer { result ≡ begin_answer (phase_of self.old.stage self.old.work) self.old.stored.plant batch.now }
+        ensures answer { result ≡
+            begin_answer (phase_of self.old.stage self.old.work) self.old.stored.plant batch.now }
         ensures begins { BeginsCommit result (accepted_of batch.now.entries) self.old self.new }
     {
         self.book.begin(batch)
@@ -88,7 +96,8 @@ impl<D: Disk + Drop> Keeper<D> {
     /// last.
     pub fn begin_checkpoint(&mut self) -> Result<(), Refused>
         ensures disk { self.new.disk ≡ self.old.disk }
-        ensures answer { result ≡ checkpoint_answer (phase_of self.old.stage self.old.work) self.old.stored.epoch }
+        ensures answer { result ≡
+            checkpoint_answer (phase_of self.old.stage self.old.work) self.old.stored.epoch }
         ensures begins { BeginsCheckpoint result self.old self.new }
     {
         self.book.begin_checkpoint()
@@ -97,20 +106,30 @@ impl<D: Disk + Drop> Keeper<D> {
     /// Does nothing: it says what a crash leaves of the device. Each image stands for what is stored or for what is begun; where
     /// nothing is under way the device stands for what is stored, with its room.
     pub fn images(&self)
-        ensures either { D.honest self.now.disk → (b : List ℕ) → IsImage (D.state self.now.disk) b → ∥ StandsFor self.now.stored b ⊎ StandsFor (next self.now) b ∥₁ }
-        ensures rests { D.honest self.now.disk → IsResting (phase_of self.now.stage self.now.work) → ∥ StandsWithRoom self.now.stored (D.state self.now.disk).bytes ∥₁ }
+        ensures either { D.honest self.now.disk → (b : List ℕ) → IsImage (D.state self.now.disk) b →
+            ∥ StandsFor self.now.stored b ⊎ StandsFor (next self.now) b ∥₁ }
+        ensures rests { D.honest self.now.disk → IsResting (phase_of self.now.stage self.now.work) →
+            ∥ StandsWithRoom self.now.stored (D.state self.now.disk).bytes ∥₁ }
         // The half that stands, and the lengths by which `call_of` has its places.
-        ensures lies { D.honest self.now.disk → IsResting (phase_of self.now.stage self.now.work) → ∥ LiesIn self.now.half self.now.image self.now.segment (D.state self.now.disk).bytes ∥₁ }
+        ensures lies { D.honest self.now.disk → IsResting (phase_of self.now.stage self.now.work) →
+            ∥ LiesIn self.now.half self.now.image self.now.segment (D.state self.now.disk).bytes
+            ∥₁ }
         // The largest image, and the longest segment.
         ensures lengths { (self.now.image ≤ 3289168) × (self.now.segment ≤ 16777216) }
         // The frames in the run of a checkpoint stand among those of the segment.
-        ensures runs { IsWorking self.now.stage → self.now.work ≡ Work.Checkpoint → (self.now.out ≤ self.now.run) × (self.now.run + self.now.stored.room ≤ head_len + self.now.image + self.now.segment) }
+        ensures runs { IsWorking self.now.stage → self.now.work ≡ Work.Checkpoint →
+            (self.now.out ≤ self.now.run) ×
+            (self.now.run + self.now.stored.room ≤ head_len + self.now.image + self.now.segment) }
         // A frame has at most 256 actions, and its commit comes before a piece of an open checkpoint,
-        ensures frames { IsWorking self.now.stage → self.now.work ≡ Work.Commit → (length self.now.actions ≤ 256) × (self.now.copying ≡ true → self.now.out + 1 ≤ self.now.run) }
+        ensures frames { IsWorking self.now.stage → self.now.work ≡ Work.Commit →
+            (length self.now.actions ≤ 256) ×
+            (self.now.copying ≡ true → self.now.out + 1 ≤ self.now.run) }
         // which has a byte or more.
-        ensures pieces { self.now.stage ≡ Stage.Body → self.now.work ≡ Work.Checkpoint → self.now.out + 1 ≤ self.now.run }
+        ensures pieces { self.now.stage ≡ Stage.Body → self.now.work ≡ Work.Checkpoint →
+            self.now.out + 1 ≤ self.now.run }
         // Where it is idle none is open, and one is where it is under way.
-        ensures copies { (self.now.stage ≡ Stage.Idle → self.now.copying ≡ false) × (IsWorking self.now.stage → self.now.work ≡ Work.Checkpoint → self.now.copying ≡ true) }
+        ensures copies { (self.now.stage ≡ Stage.Idle → self.now.copying ≡ false) ×
+            (IsWorking self.now.stage → self.now.work ≡ Work.Checkpoint → self.now.copying ≡ true) }
     {
         let _book = &self.book;
     }
@@ -221,21 +240,28 @@ impl<D: Disk + Drop> Keeper<D> {
 /// Where that fails the device is handed back: Unformatted or Damaged by its bytes, Disk only where it failed in one of these
 /// calls, OutOfMemory, which says nothing of the bytes.
 pub fn open_store<D: Disk + Drop>(alloc: Global, disk: D) -> Result<Keeper<D>, (OpenFault, D)>
-    ensures idle { IfOk result (λ k. (k.stage ≡ Stage.Idle) × (k.copying ≡ false) × (k.written ≡ 0)) }
+    ensures idle { IfOk result
+        (λ k. (k.stage ≡ Stage.Idle) × (k.copying ≡ false) × (k.written ≡ 0)) }
     // The plant and the epoch for which the read stands, and the room that is left.
-    ensures stands { D.honest disk → IfOk result (λ k. StandsWithRoom k.stored (D.state k.disk).bytes) }
+    ensures stands { D.honest disk →
+        IfOk result (λ k. StandsWithRoom k.stored (D.state k.disk).bytes) }
     ensures limit { IfOk result (λ k. k.stored.plant.panel.count ≤ 2 ^ 48) }
-    ensures settled { D.honest disk → IfOk result (λ k. IsSettled (D.state k.disk) (D.state k.disk).bytes) }
+    ensures settled { D.honest disk →
+        IfOk result (λ k. IsSettled (D.state k.disk) (D.state k.disk).bytes) }
     ensures counted { IfOk result (λ k. D.failures k.disk ≡ D.failures disk) }
     // The fault of the read.
     ensures fault { D.honest disk → IfErr result (λ x. Opens (D.state x.1).bytes (Err x.0)) }
     ensures counts { IfErr result (λ x. CountsAs x.0 (D.failures disk) (D.failures x.1)) }
     ensures honest { IfOk result (λ k. D.honest disk ↔ D.honest k.disk) }
     ensures honest_back { IfErr result (λ x. D.honest disk ↔ D.honest x.1) }
-    ensures unwritten { D.honest disk → IfOk result (λ k. (b : List ℕ) → IsImage (D.state k.disk) b → IsImage (D.state disk) b) }
+    ensures unwritten { D.honest disk →
+        IfOk result (λ k. (b : List ℕ) → IsImage (D.state k.disk) b → IsImage (D.state disk) b) }
     // Which calls it makes: a sync, and five reads, of each range once.
-    ensures made { IfOk result (λ k. (layout : Layout) × (image_size layout ≡ k.image) × (layout.segment ≡ k.segment) × AreMade D.serves (Call.Sync ∷ reads_of layout k.half) disk k.disk) }
-    ensures unwritten_back { D.honest disk → IfErr result (λ x. (b : List ℕ) → IsImage (D.state x.1) b → IsImage (D.state disk) b) }
+    ensures made { IfOk result
+        (λ k. (layout : Layout) × (image_size layout ≡ k.image) × (layout.segment ≡ k.segment) ×
+        AreMade D.serves (Call.Sync ∷ reads_of layout k.half) disk k.disk) }
+    ensures unwritten_back { D.honest disk →
+        IfErr result (λ x. (b : List ℕ) → IsImage (D.state x.1) b → IsImage (D.state disk) b) }
 {
     let mut disk = disk;
     match open_book(alloc, &mut disk) {

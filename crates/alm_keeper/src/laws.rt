@@ -16,18 +16,25 @@ ghost use Rattle.alm_store.specs.Advancing.{IsResting};
 
 /// A batch that is the next one and admitted is begun by a keeper that rests, also between the pieces of a checkpoint.
 pub fn next_batch_is_begun()
-    ensures { (phase : Phase) (plant : Condensed) (batch : Judged) → IsResting phase → batch.first ≡ plant.panel.count + 1 → AllAdmitted plant (accepted_of batch.entries) → begin_answer phase plant batch ≡ Ok tt }
+    ensures { (phase : Phase) (plant : Condensed) (batch : Judged) → IsResting phase →
+        batch.first ≡ plant.panel.count + 1 → AllAdmitted plant (accepted_of batch.entries) →
+        begin_answer phase plant batch ≡ Ok tt }
 {}
 
 /// What each device call leaves at any moment of it, done or failed, and what is kept once it was done: of a commit, of a checkpoint in any
 /// pieces, and of a commit between its pieces.
 pub fn each_call_keeps_what_is_under_way()
-    ensures { (work : UnderWay) (a : Account) (n : ℕ) (result : Result Unit DiskFault) (old new : DeviceState) → a.gate + 1 ≤ end_of a → KeptIn work a old → Call work a n result old new → Advances work a n result old new }
+    ensures { (work : UnderWay) (a : Account) (n : ℕ) (result : Result Unit DiskFault)
+        (old new : DeviceState) → a.gate + 1 ≤ end_of a → KeptIn work a old →
+        Call work a n result old new → Advances work a n result old new }
 {}
 
 /// A store that keeps its pace takes any batch, where the segment has 452,651 bytes or more.
 pub fn a_store_that_keeps_its_pace_takes_any_batch()
-    ensures takes { (segment : ℕ) (phase : Phase) (used written : ℕ) (going : Option Going) → least_segment ≤ segment → KeepsPace segment phase used written going → TakesAny segment used }
+    ensures takes { (segment : ℕ) (phase : Phase) (used written : ℕ) (going : Option Going) →
+        least_segment ≤ segment → KeepsPace segment phase used written going →
+        TakesAny segment used }
     // At most 53 commits come into one checkpoint.
-    ensures few { (segment : ℕ) (phase : Phase) (used written : ℕ) (g : Going) (p : Paced segment used (IsAhead phase written) g) → p.commits ≤ 53 }
+    ensures few { (segment : ℕ) (phase : Phase) (used written : ℕ) (g : Going)
+        (p : Paced segment used (IsAhead phase written) g) → p.commits ≤ 53 }
 {}

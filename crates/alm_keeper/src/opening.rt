@@ -36,8 +36,10 @@ fn read<D: Disk>(disk: &mut D, at: u64, into: &mut [u8]) -> Result<(), DiskFault
     ensures size { D.size disk.new ≡ D.size disk.old }
     ensures counts { OnOk result (D.failures disk.new ≡ D.failures disk.old) }
     ensures failed { OnErr result (HasFailed (D.failures disk.old) (D.failures disk.new)) }
-    ensures keeps { (b : List ℕ) → D.honest disk.old → IsSettled (D.state disk.old) b → IsSettled (D.state disk.new) b }
-    ensures given { (b : List ℕ) → D.honest disk.old → IsSettled (D.state disk.old) b → OnOk result (into.new ≡ part at (length into.old) b) }
+    ensures keeps { (b : List ℕ) → D.honest disk.old → IsSettled (D.state disk.old) b →
+        IsSettled (D.state disk.new) b }
+    ensures given { (b : List ℕ) → D.honest disk.old → IsSettled (D.state disk.old) b →
+        OnOk result (into.new ≡ part at (length into.old) b) }
     ensures long { length into.new ≡ length into.old }
     ensures serves { D.serves disk.old (Call.Read at (length into.old)) result disk.new }
 {
@@ -49,8 +51,10 @@ fn read_layout<D: Disk>(disk: &mut D) -> Result<Layout, OpenFault>
     ensures honest { D.honest disk.old ↔ D.honest disk.new }
     ensures size { D.size disk.new ≡ D.size disk.old }
     ensures counts { Counts result (D.failures disk.old) (D.failures disk.new) }
-    ensures keeps { (b : List ℕ) → D.honest disk.old → IsSettled (D.state disk.old) b → IsSettled (D.state disk.new) b }
-    ensures layout { (b : List ℕ) → D.honest disk.old → IsSettled (D.state disk.old) b → length b ≡ D.size disk.old → IsReadOf result (layout_in b) }
+    ensures keeps { (b : List ℕ) → D.honest disk.old → IsSettled (D.state disk.old) b →
+        IsSettled (D.state disk.new) b }
+    ensures layout { (b : List ℕ) → D.honest disk.old → IsSettled (D.state disk.old) b →
+        length b ≡ D.size disk.old → IsReadOf result (layout_in b) }
     ensures limits { IfOk result IsLayout }
     ensures fits { IfOk result (λ l. device_len l ≤ D.size disk.new) }
     ensures small { IfOk result (λ l. device_len l < 2 ^ 64) }
@@ -89,10 +93,15 @@ fn read_marks<D: Disk>(disk: &mut D, layout: Layout) -> Result<Marks, OpenFault>
     ensures honest { D.honest disk.old ↔ D.honest disk.new }
     ensures size { D.size disk.new ≡ D.size disk.old }
     ensures counts { Counts result (D.failures disk.old) (D.failures disk.new) }
-    ensures keeps { (b : List ℕ) → D.honest disk.old → IsSettled (D.state disk.old) b → IsSettled (D.state disk.new) b }
-    ensures marks { (b : List ℕ) → D.honest disk.old → IsSettled (D.state disk.old) b → AreMarks layout b result }
+    ensures keeps { (b : List ℕ) → D.honest disk.old → IsSettled (D.state disk.old) b →
+        IsSettled (D.state disk.new) b }
+    ensures marks { (b : List ℕ) → D.honest disk.old → IsSettled (D.state disk.old) b →
+        AreMarks layout b result }
     ensures count { IfOk result (λ m. m.head.count ≤ 2 ^ 48) }
-    ensures made { OnOk result (AreMade D.serves (Call.Read (half_at layout First) 25 ∷ Call.Read (half_at layout Second) 25 ∷ []) disk.old disk.new) }
+    ensures made { OnOk result
+        (AreMade D.serves
+        (Call.Read (half_at layout First) 25 ∷ Call.Read (half_at layout Second) 25 ∷ []) disk.old
+        disk.new) }
 {
     let mut first = [0u8; 25];
     match read(disk, layout.half_at(Half::First), &mut first) {
@@ -144,13 +153,17 @@ pub fn open_book<D: Disk>(alloc: Global, disk: &mut D) -> Result<Book, OpenFault
     ensures size { D.size disk.new ≡ D.size disk.old }
     ensures counts { Counts result (D.failures disk.old) (D.failures disk.new) }
     // Nothing is written: what a crash may leave afterwards it could leave before.
-    ensures unwritten { D.honest disk.old → (b : List ℕ) → IsImage (D.state disk.new) b → IsImage (D.state disk.old) b }
-    ensures settled { D.honest disk.old → OnOk result (IsSettled (D.state disk.new) (D.state disk.new).bytes) }
+    ensures unwritten { D.honest disk.old → (b : List ℕ) → IsImage (D.state disk.new) b →
+        IsImage (D.state disk.old) b }
+    ensures settled { D.honest disk.old →
+        OnOk result (IsSettled (D.state disk.new) (D.state disk.new).bytes) }
     ensures opens { D.honest disk.old → Opens (D.state disk.new).bytes result }
     ensures in_order { IfOk result InOrder }
-    ensures idle { IfOk result (λ book. (book.stage ≡ Stage.Idle) × (book.copying ≡ false) × (book.written ≡ 0)) }
+    ensures idle { IfOk result
+        (λ book. (book.stage ≡ Stage.Idle) × (book.copying ≡ false) × (book.written ≡ 0)) }
     ensures fits { IfOk result (λ book. FitsDevice book (D.size disk.new)) }
-    ensures made { IfOk result (λ book. AreMade D.serves (Call.Sync ∷ reads_of book.layout book.half) disk.old disk.new) }
+    ensures made { IfOk result
+        (λ book. AreMade D.serves (Call.Sync ∷ reads_of book.layout book.half) disk.old disk.new) }
 {
     match disk.sync() {
         Ok(()) => read_book(alloc, disk),
@@ -163,12 +176,16 @@ fn read_book<D: Disk>(alloc: Global, disk: &mut D) -> Result<Book, OpenFault>
     ensures honest { D.honest disk.old ↔ D.honest disk.new }
     ensures size { D.size disk.new ≡ D.size disk.old }
     ensures counts { Counts result (D.failures disk.old) (D.failures disk.new) }
-    ensures keeps { (b : List ℕ) → D.honest disk.old → IsSettled (D.state disk.old) b → IsSettled (D.state disk.new) b }
-    ensures opens { (b : List ℕ) → D.honest disk.old → IsSettled (D.state disk.old) b → IsBytes b → length b ≡ D.size disk.old → Opens b result }
+    ensures keeps { (b : List ℕ) → D.honest disk.old → IsSettled (D.state disk.old) b →
+        IsSettled (D.state disk.new) b }
+    ensures opens { (b : List ℕ) → D.honest disk.old → IsSettled (D.state disk.old) b → IsBytes b →
+        length b ≡ D.size disk.old → Opens b result }
     ensures in_order { IfOk result InOrder }
-    ensures idle { IfOk result (λ book. (book.stage ≡ Stage.Idle) × (book.copying ≡ false) × (book.written ≡ 0)) }
+    ensures idle { IfOk result
+        (λ book. (book.stage ≡ Stage.Idle) × (book.copying ≡ false) × (book.written ≡ 0)) }
     ensures fits { IfOk result (λ book. FitsDevice book (D.size disk.new)) }
-    ensures made { IfOk result (λ book. AreMade D.serves (reads_of book.layout book.half) disk.old disk.new) }
+    ensures made { IfOk result
+        (λ book. AreMade D.serves (reads_of book.layout book.half) disk.old disk.new) }
 {
     let layout = match read_layout(disk) {
         Ok(layout) => layout,
@@ -200,8 +217,10 @@ fn read_room<D: Disk>(
     ensures honest { D.honest disk.old ↔ D.honest disk.new }
     ensures size { D.size disk.new ≡ D.size disk.old }
     ensures counts { Counts result (D.failures disk.old) (D.failures disk.new) }
-    ensures keeps { (b : List ℕ) → D.honest disk.old → IsSettled (D.state disk.old) b → IsSettled (D.state disk.new) b }
-    ensures given { (b : List ℕ) → D.honest disk.old → IsSettled (D.state disk.old) b → IfOk result (λ v. v.items ≡ part at len b) }
+    ensures keeps { (b : List ℕ) → D.honest disk.old → IsSettled (D.state disk.old) b →
+        IsSettled (D.state disk.new) b }
+    ensures given { (b : List ℕ) → D.honest disk.old → IsSettled (D.state disk.old) b →
+        IfOk result (λ v. v.items ≡ part at len b) }
     ensures long { IfOk result (λ v. length v.items ≡ len) }
     ensures fault { IfErr result (λ f. (f ≡ OpenFault.Disk) ⊎ (f ≡ OpenFault.OutOfMemory)) }
     ensures made { OnOk result (AreMade D.serves (Call.Read at len ∷ []) disk.old disk.new) }
@@ -222,8 +241,10 @@ fn fill<D: Disk>(disk: &mut D, at: u64, room: &mut Vec<u8>) -> Result<(), DiskFa
     ensures size { D.size disk.new ≡ D.size disk.old }
     ensures counts { OnOk result (D.failures disk.new ≡ D.failures disk.old) }
     ensures failed { OnErr result (HasFailed (D.failures disk.old) (D.failures disk.new)) }
-    ensures keeps { (b : List ℕ) → D.honest disk.old → IsSettled (D.state disk.old) b → IsSettled (D.state disk.new) b }
-    ensures given { (b : List ℕ) → D.honest disk.old → IsSettled (D.state disk.old) b → OnOk result (room.new.items ≡ part at (length room.old.items) b) }
+    ensures keeps { (b : List ℕ) → D.honest disk.old → IsSettled (D.state disk.old) b →
+        IsSettled (D.state disk.new) b }
+    ensures given { (b : List ℕ) → D.honest disk.old → IsSettled (D.state disk.old) b →
+        OnOk result (room.new.items ≡ part at (length room.old.items) b) }
     ensures long { length room.new.items ≡ length room.old.items }
     ensures serves { D.serves disk.old (Call.Read at (length room.old.items)) result disk.new }
 {
@@ -244,7 +265,8 @@ fn book_of(
     requires image { length text.now ≡ image_size layout }
     requires segment { length segment.now ≡ layout.segment }
     ensures in_order { IfOk result InOrder }
-    ensures idle { IfOk result (λ book. (book.stage ≡ Stage.Idle) × (book.copying ≡ false) × (book.written ≡ 0)) }
+    ensures idle { IfOk result
+        (λ book. (book.stage ≡ Stage.Idle) × (book.copying ≡ false) × (book.written ≡ 0)) }
     ensures restores { Restores layout marks text.now segment.now result }
 {
     let Ok(actions) = Vec::with_capacity(alloc, MOST_ACTIONS) else {

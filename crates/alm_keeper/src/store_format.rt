@@ -32,7 +32,8 @@ fn layout_for(table: &Table, size: u64, version: Version) -> Option<Layout>
     ensures table { IsTable table.now }
     ensures longest { IfSome result (IsLongest size table.now) }
     ensures version { IfSome result (λ l. l.version ≡ version) }
-    ensures none { result ≡ None → (n : ℕ) → suits size (length table.now.alarms) table.now.areas n ≡ false }
+    ensures none { result ≡ None → (n : ℕ) →
+        suits size (length table.now.alarms) table.now.areas n ≡ false }
 {
     Layout::longest(table.alarms().len() as u32, table.areas(), size, version)
 }
@@ -80,18 +81,29 @@ pub fn format_as<D: Disk + Drop>(
     ensures size_back { IfErr result (λ x. D.size x.1 ≡ D.size disk) }
     // It reads as one that stands for the new plant in epoch 1, and a crash leaves just that.
     ensures settled { D.honest disk → IfOk result (λ d. IsSettled (D.state d) (D.state d).bytes) }
-    ensures stands { D.honest disk → IfOk result (λ d. IsNew (D.size disk) table.now (D.state d).bytes) }
+    ensures stands { D.honest disk →
+        IfOk result (λ d. IsNew (D.size disk) table.now (D.state d).bytes) }
     // Its header and the half that stands are of the version.
     ensures version { D.honest disk → IfOk result (λ d. IsOfVersion version (D.state d).bytes) }
-    ensures too_small { IfErr result (λ x. x.0 ≡ FormatFault.TooSmall → (n : ℕ) → suits (D.size disk) (length table.now.alarms) table.now.areas n ≡ false) }
-    ensures fits { IfErr result (λ x. x.0 ≢ FormatFault.TooSmall → (l : Layout) × IsLongest (D.size disk) table.now l) }
+    ensures too_small { IfErr result
+        (λ x. x.0 ≡ FormatFault.TooSmall → (n : ℕ) →
+        suits (D.size disk) (length table.now.alarms) table.now.areas n ≡ false) }
+    ensures fits { IfErr result
+        (λ x. x.0 ≢ FormatFault.TooSmall → (l : Layout) × IsLongest (D.size disk) table.now l) }
     ensures unchanged { IfErr result (λ x. x.0 ≢ FormatFault.Disk → x.1 ≡ disk) }
-    ensures failed { IfErr result (λ x. x.0 ≡ FormatFault.Disk → HasFailed (D.failures disk) (D.failures x.1)) }
+    ensures failed { IfErr result
+        (λ x. x.0 ≡ FormatFault.Disk → HasFailed (D.failures disk) (D.failures x.1)) }
     // The device calls that were made, and, where nothing had failed before, what a crash leaves at any moment of each.
-    ensures moments { IfOk result (λ d. Formats Goes D.serves D.state (D.honest disk × ((D.state disk).faulted ≡ false)) (D.size disk) table.now disk d) }
-    ensures moments_back { IfErr result (λ x. x.0 ≡ FormatFault.Disk → Formats FailsIn D.serves D.state (D.honest disk × ((D.state disk).faulted ≡ false)) (D.size disk) table.now disk x.1) }
+    ensures moments { IfOk result
+        (λ d. Formats Goes D.serves D.state (D.honest disk × ((D.state disk).faulted ≡ false))
+        (D.size disk) table.now disk d) }
+    ensures moments_back { IfErr result
+        (λ x. x.0 ≡ FormatFault.Disk →
+        Formats FailsIn D.serves D.state (D.honest disk × ((D.state disk).faulted ≡ false))
+        (D.size disk) table.now disk x.1) }
     // What a crash leaves where a call failed.
-    ensures leaves { D.honest disk → (D.state disk).faulted ≡ false → IfErr result (λ x. LeavesOf (D.size disk) table.now (D.state disk) (D.state x.1)) }
+    ensures leaves { D.honest disk → (D.state disk).faulted ≡ false →
+        IfErr result (λ x. LeavesOf (D.size disk) table.now (D.state disk) (D.state x.1)) }
 {
     let Some(layout) = layout_for(table, disk.size(), version) else {
         return Err((FormatFault::TooSmall, disk));
@@ -116,18 +128,29 @@ pub fn format<D: Disk + Drop>(alloc: Global, disk: D, table: &Table) -> Result<D
     ensures size_back { IfErr result (λ x. D.size x.1 ≡ D.size disk) }
     // It reads as one that stands for the new plant in epoch 1, and a crash leaves just that.
     ensures settled { D.honest disk → IfOk result (λ d. IsSettled (D.state d) (D.state d).bytes) }
-    ensures stands { D.honest disk → IfOk result (λ d. IsNew (D.size disk) table.now (D.state d).bytes) }
+    ensures stands { D.honest disk →
+        IfOk result (λ d. IsNew (D.size disk) table.now (D.state d).bytes) }
     // Its header and the half that stands are of the version.
     ensures version { D.honest disk → IfOk result (λ d. IsOfVersion V02 (D.state d).bytes) }
-    ensures too_small { IfErr result (λ x. x.0 ≡ FormatFault.TooSmall → (n : ℕ) → suits (D.size disk) (length table.now.alarms) table.now.areas n ≡ false) }
-    ensures fits { IfErr result (λ x. x.0 ≢ FormatFault.TooSmall → (l : Layout) × IsLongest (D.size disk) table.now l) }
+    ensures too_small { IfErr result
+        (λ x. x.0 ≡ FormatFault.TooSmall → (n : ℕ) →
+        suits (D.size disk) (length table.now.alarms) table.now.areas n ≡ false) }
+    ensures fits { IfErr result
+        (λ x. x.0 ≢ FormatFault.TooSmall → (l : Layout) × IsLongest (D.size disk) table.now l) }
     ensures unchanged { IfErr result (λ x. x.0 ≢ FormatFault.Disk → x.1 ≡ disk) }
-    ensures failed { IfErr result (λ x. x.0 ≡ FormatFault.Disk → HasFailed (D.failures disk) (D.failures x.1)) }
+    ensures failed { IfErr result
+        (λ x. x.0 ≡ FormatFault.Disk → HasFailed (D.failures disk) (D.failures x.1)) }
     // The device calls that were made, and, where nothing had failed before, what a crash leaves at any moment of each.
-    ensures moments { IfOk result (λ d. Formats Goes D.serves D.state (D.honest disk × ((D.state disk).faulted ≡ false)) (D.size disk) table.now disk d) }
-    ensures moments_back { IfErr result (λ x. x.0 ≡ FormatFault.Disk → Formats FailsIn D.serves D.state (D.honest disk × ((D.state disk).faulted ≡ false)) (D.size disk) table.now disk x.1) }
+    ensures moments { IfOk result
+        (λ d. Formats Goes D.serves D.state (D.honest disk × ((D.state disk).faulted ≡ false))
+        (D.size disk) table.now disk d) }
+    ensures moments_back { IfErr result
+        (λ x. x.0 ≡ FormatFault.Disk →
+        Formats FailsIn D.serves D.state (D.honest disk × ((D.state disk).faulted ≡ false))
+        (D.size disk) table.now disk x.1) }
     // What a crash leaves where a call failed.
-    ensures leaves { D.honest disk → (D.state disk).faulted ≡ false → IfErr result (λ x. LeavesOf (D.size disk) table.now (D.state disk) (D.state x.1)) }
+    ensures leaves { D.honest disk → (D.state disk).faulted ≡ false →
+        IfErr result (λ x. LeavesOf (D.size disk) table.now (D.state disk) (D.state x.1)) }
 {
     format_as(alloc, disk, table, Version::V02)
 }

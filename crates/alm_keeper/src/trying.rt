@@ -10,7 +10,9 @@ use alm_types::{Action, Entry, Verdict};
 /// Does the action of an entry, where it is admitted.
 fn try_one(plant: &mut Plant, entry: &Entry, actions: &mut Vec<Action>) -> bool
     requires { vec_len actions.old < vec_capacity actions.old }
-    ensures tries { MatchBool result (Tries plant.old plant.new entry.now.verdict actions.old.items actions.new.items) ((place : ℕ) → tried_one plant.old place entry.now.verdict ≡ Err place) }
+    ensures tries { MatchBool result
+        (Tries plant.old plant.new entry.now.verdict actions.old.items actions.new.items)
+        ((place : ℕ) → tried_one plant.old place entry.now.verdict ≡ Err place) }
     ensures len { vec_len actions.new ≤ vec_len actions.old + 1 }
     ensures room { vec_capacity actions.new ≡ vec_capacity actions.old }
 {
@@ -33,7 +35,8 @@ fn try_one(plant: &mut Plant, entry: &Entry, actions: &mut Vec<Action>) -> bool
 pub fn try_all(plant: &mut Plant, entries: &[Entry], actions: &mut Vec<Action>) -> Option<usize>
     requires none { actions.old.items ≡ [] }
     requires room { length entries.now ≤ vec_capacity actions.old }
-    ensures tries { MatchOption result (TriesAll plant.old plant.new entries.now actions.new.items) (λ place. tried plant.old 0 entries.now ≡ Err place) }
+    ensures tries { MatchOption result (TriesAll plant.old plant.new entries.now actions.new.items)
+        (λ place. tried plant.old 0 entries.now ≡ Err place) }
     ensures room { vec_capacity actions.new ≡ vec_capacity actions.old }
 {
     let mut place: usize = 0;

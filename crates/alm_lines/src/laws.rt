@@ -9,7 +9,10 @@ ghost use Rattle.alm_lines.specs.declared.line.Line.{Line};
 /// Each request has exactly one text: a line that asks for something is the text of what it asks, that text asks for it,
 /// and with the end of its line it has at most 128 bytes.
 pub fn each_request_has_one_text()
-    ensures taken { (bytes : List ℕ) → IsAsking (line_of bytes).ask → bytes ≡ request_text (line_of bytes).id (line_of bytes).ask }
-    ensures short { (id : ℕ) (ask : Ask) → id < 2 ^ 32 → IsInRange ask → length (request_text id ask) ≤ line_limit }
-    ensures asked { (id : ℕ) (ask : Ask) → id < 2 ^ 32 → IsInRange ask → line_of (request_text id ask) ≡ record { id = id; ask = ask } }
+    ensures taken { (bytes : List ℕ) → IsAsking (line_of bytes).ask →
+        bytes ≡ request_text (line_of bytes).id (line_of bytes).ask }
+    ensures short { (id : ℕ) (ask : Ask) → id < 2 ^ 32 → IsInRange ask →
+        length (request_text id ask) ≤ line_limit }
+    ensures asked { (id : ℕ) (ask : Ask) → id < 2 ^ 32 → IsInRange ask →
+        line_of (request_text id ask) ≡ record { id = id; ask = ask } }
 {}

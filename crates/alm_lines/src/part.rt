@@ -31,7 +31,8 @@ fn put_part<W: io::Write>(part: Part<'_>, writer: &mut W) -> io::Result<()>
 
 /// Writes parts, one after the other, each by its own calls.
 pub fn put_each<W: io::Write>(parts: &[Part<'_>], writer: &mut W) -> io::Result<()>
-    ensures { Prints (W.contents writer.old) (W.contents writer.new) (text_of_parts parts.now) result }
+    ensures { Prints (W.contents writer.old) (W.contents writer.new) (text_of_parts parts.now)
+        result }
 {
     for part in parts {
         put_part(*part, writer)?;
@@ -41,7 +42,8 @@ pub fn put_each<W: io::Write>(parts: &[Part<'_>], writer: &mut W) -> io::Result<
 
 /// Writes parts, one after the other. A short text of them is put together before.
 pub fn put_parts<W: io::Write>(parts: &[Part<'_>], writer: &mut W) -> io::Result<()>
-    ensures { Prints (W.contents writer.old) (W.contents writer.new) (text_of_parts parts.now) result }
+    ensures { Prints (W.contents writer.old) (W.contents writer.new) (text_of_parts parts.now)
+        result }
 {
     let mut text = ShortText::new();
     if text.add_parts(parts) {

@@ -81,7 +81,8 @@ fn print_spaced<W: io::Write>(numbers: &[u32], writer: &mut W) -> io::Result<()>
 
 /// Prints a list after its length.
 fn print_list<W: io::Write>(list: &[u32], writer: &mut W) -> io::Result<()>
-    ensures { Prints (W.contents writer.old) (W.contents writer.new) (report_text (alarms list.now)) result }
+    ensures { Prints (W.contents writer.old) (W.contents writer.new) (report_text (alarms list.now))
+        result }
 {
     put_each(&[Part::Word(" "), Part::Number(list.len() as u64)], writer)?;
     print_spaced(list, writer)
@@ -89,7 +90,8 @@ fn print_list<W: io::Write>(list: &[u32], writer: &mut W) -> io::Result<()>
 
 /// Prints what an answer tells.
 fn print_report<W: io::Write>(query: Query, answer: &Answer, writer: &mut W) -> io::Result<()>
-    ensures { Prints (W.contents writer.old) (W.contents writer.new) (report_text (report query answer.now)) result }
+    ensures { Prints (W.contents writer.old) (W.contents writer.new)
+        (report_text (report query answer.now)) result }
 {
     match query {
         Query::State(_) => put_each(
@@ -128,7 +130,8 @@ fn print_query<W: io::Write>(
     answer: &Answer,
     writer: &mut W,
 ) -> io::Result<()>
-    ensures { Prints (W.contents writer.old) (W.contents writer.new) (told_text id n query (report query answer.now)) result }
+    ensures { Prints (W.contents writer.old) (W.contents writer.new)
+        (told_text id n query (report query answer.now)) result }
 {
     put_each(
         &[
@@ -150,7 +153,8 @@ fn print_at_once<W: io::Write>(
     answer: &Answer,
     writer: &mut W,
 ) -> io::Result<()>
-    ensures { Prints (W.contents writer.old) (W.contents writer.new) (told_text id n query (report query answer.now)) result }
+    ensures { Prints (W.contents writer.old) (W.contents writer.new)
+        (told_text id n query (report query answer.now)) result }
 {
     let mut text = ShortText::new();
     match print_query(id, n, query, answer, &mut text) {
@@ -167,7 +171,8 @@ pub fn print_told<W: io::Write>(
     end: &str,
     writer: &mut W,
 ) -> io::Result<()>
-    ensures { Prints (W.contents writer.old) (W.contents writer.new) (text_of_parts front.now ++ report_text (report query answer.now) ++ end.now) result }
+    ensures { Prints (W.contents writer.old) (W.contents writer.new)
+        (text_of_parts front.now ++ report_text (report query answer.now) ++ end.now) result }
 {
     put_parts(front, writer)?;
     print_report(query, answer, writer)?;

@@ -19,29 +19,42 @@ ghost use Rattle.alm_measure.specs.Metrics.{advanced, annunciated, chattering, m
 /// What a call makes of the metrics of a plant is what they are when they are counted anew from the list of all its
 /// annunciations: with one more of an alarm, at a later moment, and with its floods settled.
 pub fn calls_count_anew()
-    ensures annunciated { (p : Plant) (i : ℕ) → annunciated i (metrics_of (condense p)) ≡ metrics_of (condense (noted i p)) }
-    ensures advanced { (p : Plant) (t : ℕ) → IsRecorded p.panel.now p.kept → p.panel.now ≤ t → advanced t (metrics_of (condense p)) ≡ metrics_of (condense (later in_full t p)) }
-    ensures settled { (p : Plant) → IsRecorded p.panel.now p.kept → settled_by_windows (metrics_of (condense p)) ≡ metrics_of (condense (settle in_full p)) }
+    ensures annunciated { (p : Plant) (i : ℕ) →
+        annunciated i (metrics_of (condense p)) ≡ metrics_of (condense (noted i p)) }
+    ensures advanced { (p : Plant) (t : ℕ) → IsRecorded p.panel.now p.kept → p.panel.now ≤ t →
+        advanced t (metrics_of (condense p)) ≡ metrics_of (condense (later in_full t p)) }
+    ensures settled { (p : Plant) → IsRecorded p.panel.now p.kept →
+        settled_by_windows (metrics_of (condense p)) ≡ metrics_of (condense (settle in_full p)) }
 {}
 
 /// After any calls by which the clock never moves back, from a new measure on and from one of any plant, the metrics are those
 /// counted from the list of all annunciations.
 pub fn calls_are_counted()
-    ensures new { (t : Listing) (calls : List Call) → IsTable t → GoForward 0 calls → AreCounted (fold called_in_full (new_whole t) calls) (fold called (new_metrics t) calls) }
-    ensures any { (p : Plant) (calls : List Call) → IsRecorded p.panel.now p.kept → length p.panel.attrs ≡ length p.panel.rows → GoForward p.panel.now calls → AreCounted (fold called_in_full p calls) (fold called (metrics_of (condense p)) calls) }
+    ensures new { (t : Listing) (calls : List Call) → IsTable t → GoForward 0 calls →
+        AreCounted (fold called_in_full (new_whole t) calls) (fold called (new_metrics t) calls) }
+    ensures any { (p : Plant) (calls : List Call) → IsRecorded p.panel.now p.kept →
+        length p.panel.attrs ≡ length p.panel.rows → GoForward p.panel.now calls →
+        AreCounted (fold called_in_full p calls) (fold called (metrics_of (condense p)) calls) }
 {}
 
 /// What becomes of the metrics of a plant is what its step does: at an annunciation, as its clock moves, and where its floods
 /// are settled.
 pub fn metrics_go_along()
     ensures new { (t : Listing) → metrics_of (new_plant t) ≡ new_metrics t }
-    ensures annunciated { (q : Condensed) (i : ℕ) → metrics_of (record q { kept = condensed.note q.panel i q.kept }) ≡ annunciated i (metrics_of q) }
-    ensures advanced { (q : Condensed) (t : ℕ) → metrics_of (later condensed t q) ≡ advanced t (metrics_of q) }
-    ensures settled { (q : Condensed) → metrics_of (settle condensed q) ≡ settled_by_windows (metrics_of q) }
-    ensures chattering { (q : Condensed) → KeepsRules q → chattering (metrics_of q) ≡ list_of Chatter q }
+    ensures annunciated { (q : Condensed) (i : ℕ) →
+        metrics_of (record q { kept = condensed.note q.panel i q.kept }) ≡
+        annunciated i (metrics_of q) }
+    ensures advanced { (q : Condensed) (t : ℕ) →
+        metrics_of (later condensed t q) ≡ advanced t (metrics_of q) }
+    ensures settled { (q : Condensed) →
+        metrics_of (settle condensed q) ≡ settled_by_windows (metrics_of q) }
+    ensures chattering { (q : Condensed) → KeepsRules q →
+        chattering (metrics_of q) ≡ list_of Chatter q }
 {}
 
 /// From a new plant on, after any admitted actions, its metrics are those counted from the list of all annunciations.
 pub fn metrics_are_counted()
-    ensures { (t : Listing) (actions : List Action) → IsTable t → AreAdmitted (new_plant t) actions → AreCounted (run_whole (new_whole t) actions) (metrics_of (run (new_plant t) actions)) }
+    ensures { (t : Listing) (actions : List Action) → IsTable t →
+        AreAdmitted (new_plant t) actions →
+        AreCounted (run_whole (new_whole t) actions) (metrics_of (run (new_plant t) actions)) }
 {}

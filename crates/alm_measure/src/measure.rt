@@ -79,7 +79,16 @@ impl Measure {
         requires floods { length floods.items ≡ table.now.areas }
         requires moments { length moments.items ≡ length table.now.alarms }
         requires limit { sum_by sum ages.now < 2 ^ 64 }
-        ensures { IfOk result (λ m. m ≡ record { now = now; areas = map (λ a. a.area) table.now.alarms; ages = ages.now; floods = floods.items; moments = moments.items }) }
+        ensures { IfOk result
+            (λ m. m ≡
+            record {
+              now = now;
+              areas = map (λ a. a.area) table.now.alarms;
+              ages = ages.now;
+              floods =
+                  floods.items;
+              moments = moments.items;
+            }) }
     {
         Measure::of_alarms(alloc, table.alarms(), now, ages, floods, moments)
     }
@@ -98,7 +107,16 @@ impl Measure {
         requires floods { length floods.items ≡ length ages.now }
         requires moments { length moments.items ≡ length alarms.now }
         requires limit { sum_by sum ages.now < 2 ^ 64 }
-        ensures { IfOk result (λ m. m ≡ record { now = now; areas = map (λ a. a.area) alarms.now; ages = ages.now; floods = floods.items; moments = moments.items }) }
+        ensures { IfOk result
+            (λ m. m ≡
+            record {
+              now = now;
+              areas = map (λ a. a.area) alarms.now;
+              ages = ages.now;
+              floods =
+                  floods.items;
+              moments = moments.items;
+            }) }
     {
         Ok(Measure {
             clock: now,
@@ -127,8 +145,10 @@ impl Measure {
     /// A window counts up to 2^64 - 1: where it is full it stays, and the moment is noted all the same.
     pub fn annunciated(&mut self, id: AlarmId)
         requires { id.0 < length self.old.areas }
-        ensures counted { window_around id.0 self.old + 1 < 2 ^ 64 → self.new ≡ annunciated id.0 self.old }
-        ensures full { 2 ^ 64 ≤ window_around id.0 self.old + 1 → self.new ≡ record (annunciated id.0 self.old) { ages = self.old.ages } }
+        ensures counted { window_around id.0 self.old + 1 < 2 ^ 64 →
+            self.new ≡ annunciated id.0 self.old }
+        ensures full { 2 ^ 64 ≤ window_around id.0 self.old + 1 →
+            self.new ≡ record (annunciated id.0 self.old) { ages = self.old.ages } }
     {
         let alarm = id.0 as usize;
         let area = self.areas[alarm] as usize;
@@ -156,7 +176,11 @@ impl Measure {
     /// The same in one area.
     pub fn settle_area(&mut self, area: u32)
         requires { area < length self.old.ages }
-        ensures { self.new ≡ record self.old { floods = change self.old.floods area (is_flood (slice_index (windows self.old) area)) } }
+        ensures { self.new ≡
+            record self.old {
+              floods = change self.old.floods area
+                  (is_flood (slice_index (windows self.old) area));
+            } }
     {
         let area = area as usize;
         self.floods[area] = is_flood(self.rings[area].window(), self.floods[area]);

@@ -74,8 +74,12 @@ fn first_from(
     requires moments { length moments.now ≡ length rows.now }
     requires from { from ≤ length rows.now }
     ensures within { result ≤ length rows.now }
-    ensures skipped { filter (is_measured list now attrs.now rows.now moments.now) (range_with_len from (length rows.now - from)) ≡ filter (is_measured list now attrs.now rows.now moments.now) (range_with_len result (length rows.now - result)) }
-    ensures found { result < length rows.now → is_measured list now attrs.now rows.now moments.now result ≡ true }
+    ensures skipped { filter (is_measured list now attrs.now rows.now moments.now)
+        (range_with_len from (length rows.now - from)) ≡
+        filter (is_measured list now attrs.now rows.now moments.now)
+        (range_with_len result (length rows.now - result)) }
+    ensures found { result < length rows.now →
+        is_measured list now attrs.now rows.now moments.now result ≡ true }
 {
     for i in from..rows.len() {
         if is_measured(attrs, rows, moments, list, now, i) {

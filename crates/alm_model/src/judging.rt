@@ -11,7 +11,8 @@ use alm_types::{Batch, Request, Verdict};
 pub fn judge<P: Alarms>(plant: &mut P, request: Request) -> Verdict
     ensures verdict { result ≡ verdict_of (P.plant plant.old) request }
     ensures after { P.plant plant.new ≡ after_verdict (P.plant plant.old) result }
-    ensures most { (P.plant plant.old).panel.count ≤ 2 ^ 48 → (P.plant plant.new).panel.count ≤ 2 ^ 48 }
+    ensures most { (P.plant plant.old).panel.count ≤ 2 ^ 48 →
+        (P.plant plant.new).panel.count ≤ 2 ^ 48 }
 {
     match plant.check(&request) {
         Ok(action) => {

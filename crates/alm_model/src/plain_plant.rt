@@ -26,7 +26,8 @@ impl Model for PlainPlant {
 
     ghost use Rattle.alm_model.specs.Rules.{KeepsRules};
 
-    ghost invariant = { λ p. KeepsRules p.rows × (vec_capacity p.working ≡ length p.rows.panel.rows) };
+    ghost invariant = { λ p.
+        KeepsRules p.rows × (vec_capacity p.working ≡ length p.rows.panel.rows) };
 }
 
 impl Alarms for PlainPlant {

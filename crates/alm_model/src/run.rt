@@ -15,7 +15,8 @@ use alm_types::Action;
 pub fn apply_all<P: Alarms>(plant: &mut P, actions: &[Action])
     requires { AllAdmitted (P.plant plant.old) actions.now }
     ensures fold { P.plant plant.new ≡ run (P.plant plant.old) actions.now }
-    ensures counted { (t : Listing) → IsTable t → P.plant plant.old ≡ new_plant t → IsCounted (run_whole (new_whole t) actions.now) (P.plant plant.new) }
+    ensures counted { (t : Listing) → IsTable t → P.plant plant.old ≡ new_plant t →
+        IsCounted (run_whole (new_whole t) actions.now) (P.plant plant.new) }
 {
     for action in actions {
         plant.apply(action);

@@ -24,8 +24,10 @@ impl<K: Store> Pipeline<K> {
     pub fn new(alloc: Global, store: K) -> Result<Pipeline<K>, K>
         requires idle { K.phase store ≡ Phase.Idle }
         requires limit { (K.stored store).panel.count ≤ 2 ^ 48 }
-        ensures open { IfOk result (λ pipeline. (base : Condensed) (kept : List Action) (floor : ℕ) →
-            K.stored store ≡ run base kept → floor ≤ base.panel.count + length kept → IsOpen (fresh base kept floor) pipeline) }
+        ensures open { IfOk result
+            (λ pipeline.
+            (base : Condensed) (kept : List Action) (floor : ℕ) → K.stored store ≡ run base kept →
+            floor ≤ base.panel.count + length kept → IsOpen (fresh base kept floor) pipeline) }
         ensures store { IfOk result (λ pipeline. pipeline.flusher.store ≡ store) }
         ensures refused { IfErr result (λ back. back ≡ store) }
     {
@@ -63,18 +65,34 @@ impl<K: Store> Pipeline<K> {
     ///
     /// The device comes back where it stands for nothing, where it failed, or for want of memory.
     pub fn open(alloc: Global, disk: K::Device) -> Result<Pipeline<K>, (OpenFault, K::Device)>
-        ensures open { IfOk result (λ pipeline. (base : Condensed) (kept : List Action) (floor : ℕ) →
-            K.stored pipeline.flusher.store ≡ run base kept → floor ≤ base.panel.count + length kept → IsOpen (fresh base kept floor) pipeline) }
-        ensures opened { K.Device.honest disk → IfOk result (λ pipeline. IsImage (K.Device.state disk) (K.device pipeline.flusher.store).bytes ×
+        ensures open { IfOk result
+            (λ pipeline. (base : Condensed) (kept : List Action) (floor : ℕ) →
+            K.stored pipeline.flusher.store ≡ run base kept →
+            floor ≤ base.panel.count + length kept → IsOpen (fresh base kept floor) pipeline) }
+        ensures opened { K.Device.honest disk →
+            IfOk result
+            (λ pipeline. IsImage (K.Device.state disk) (K.device pipeline.flusher.store).bytes ×
             K.recovers (K.device pipeline.flusher.store).bytes (K.stored pipeline.flusher.store)) }
-        ensures settled { K.Device.honest disk → IfOk result (λ pipeline. (place : ℕ) → (K.device pipeline.flusher.store).pending place ≡ false) }
-        ensures counted { IfOk result (λ pipeline. K.Device.failures disk ≤ K.failures pipeline.flusher.store) }
+        ensures settled { K.Device.honest disk →
+            IfOk result
+            (λ pipeline. (place : ℕ) → (K.device pipeline.flusher.store).pending place ≡ false) }
+        ensures counted { IfOk result
+            (λ pipeline. K.Device.failures disk ≤ K.failures pipeline.flusher.store) }
         ensures idle { IfOk result (λ pipeline. K.phase pipeline.flusher.store ≡ Phase.Idle) }
-        ensures honest { IfOk result (λ pipeline. K.Device.honest disk ↔ K.honest pipeline.flusher.store) }
+        ensures honest { IfOk result
+            (λ pipeline. K.Device.honest disk ↔ K.honest pipeline.flusher.store) }
         ensures honest_back { IfErr result (λ e. K.Device.honest disk ↔ K.Device.honest e.1) }
-        ensures no_new_image { K.Device.honest disk → IfErr result (λ e. (image : List ℕ) → IsImage (K.Device.state e.1) image → IsImage (K.Device.state disk) image) }
-        ensures failed { IfErr result (λ e. e.0 ≡ OpenFault.Disk → HasFailed (K.Device.failures disk) (K.Device.failures e.1)) }
-        ensures cause { K.Device.honest disk → IfErr result (λ e. HasCause K.recovers (K.Device.state disk) e.0 (K.Device.failures disk) (K.Device.failures e.1)) }
+        ensures no_new_image { K.Device.honest disk →
+            IfErr result
+            (λ e. (image : List ℕ) → IsImage (K.Device.state e.1) image →
+            IsImage (K.Device.state disk) image) }
+        ensures failed { IfErr result
+            (λ e.
+            e.0 ≡ OpenFault.Disk → HasFailed (K.Device.failures disk) (K.Device.failures e.1)) }
+        ensures cause { K.Device.honest disk →
+            IfErr result
+            (λ e. HasCause K.recovers (K.Device.state disk) e.0 (K.Device.failures disk)
+            (K.Device.failures e.1)) }
     {
         match K::open(alloc, disk) {
             Ok(store) => match Pipeline::new(alloc, store) {

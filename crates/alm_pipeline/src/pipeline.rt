@@ -48,8 +48,13 @@ impl<K: Store> Pipeline<K> {
     fn tell_batches(&mut self)
         ensures open { (w : World) → IsOpen w self.old → IsOpen w self.new }
         ensures knows { KnowsAll self.new }
-        ensures same { (self.new.consoles ≡ self.old.consoles) × (self.new.sequencer.inboxes ≡ self.old.sequencer.inboxes) × (self.new.flusher.outboxes ≡ self.old.flusher.outboxes) × (self.new.flusher.held ≡ self.old.flusher.held) }
-        ensures empties { (emptied_of self.new.sequencer.ends ≡ emptied_of self.old.sequencer.ends) × (given_of self.new.flusher.fetch ≡ given_of self.old.flusher.fetch) }
+        ensures same { (self.new.consoles ≡ self.old.consoles) ×
+            (self.new.sequencer.inboxes ≡ self.old.sequencer.inboxes) ×
+            (self.new.flusher.outboxes ≡ self.old.flusher.outboxes) ×
+            (self.new.flusher.held ≡ self.old.flusher.held) }
+        ensures empties { (emptied_of self.new.sequencer.ends ≡
+            emptied_of self.old.sequencer.ends) ×
+            (given_of self.new.flusher.fetch ≡ given_of self.old.flusher.fetch) }
         ensures store { self.new.flusher.store ≡ self.old.flusher.store }
     {
         self.flusher.batches_beside(&mut self.sequencer.ends);
@@ -83,7 +88,8 @@ impl<K: Store> Pipeline<K> {
     /// A slot sends a request.
     pub fn send(&mut self, slot: Slot, action: Action) -> Event
         ensures answer { (w : World) → IsOpen w self.old → Answers w (S.Send slot action) result }
-        ensures fits { (w : World) → IsOpen w self.old → IsOpen (after w (S.Send slot action) result) self.new }
+        ensures fits { (w : World) → IsOpen w self.old →
+            IsOpen (after w (S.Send slot action) result) self.new }
         ensures store { self.new.flusher.store ≡ self.old.flusher.store }
     {
         self.tell_all(slot);
@@ -97,7 +103,8 @@ impl<K: Store> Pipeline<K> {
     /// The next request of a slot is judged and joins the open batch. It is asked first whether one waits, so that Skipped means that none does.
     pub fn take(&mut self, slot: Slot) -> Event
         ensures answer { (w : World) → IsOpen w self.old → Answers w (S.Take slot) result }
-        ensures fits { (w : World) → IsOpen w self.old → IsOpen (after w (S.Take slot) result) self.new }
+        ensures fits { (w : World) → IsOpen w self.old →
+            IsOpen (after w (S.Take slot) result) self.new }
         ensures store { self.new.flusher.store ≡ self.old.flusher.store }
     {
         self.tell_all(slot);
@@ -133,7 +140,9 @@ impl<K: Store> Pipeline<K> {
         ensures answer { (w : World) → IsOpen w self.old → Answers w S.Fetch result }
         ensures fits { (w : World) → IsOpen w self.old → IsOpen (after w S.Fetch result) self.new }
         ensures honest { K.honest self.old.flusher.store ↔ K.honest self.new.flusher.store }
-        ensures store { (K.device self.new.flusher.store ≡ K.device self.old.flusher.store) × (K.failures self.new.flusher.store ≡ K.failures self.old.flusher.store) × (K.phase self.new.flusher.store ≡ K.phase self.old.flusher.store) }
+        ensures store { (K.device self.new.flusher.store ≡ K.device self.old.flusher.store) ×
+            (K.failures self.new.flusher.store ≡ K.failures self.old.flusher.store) ×
+            (K.phase self.new.flusher.store ≡ K.phase self.old.flusher.store) }
     {
         self.tell_batches();
         if !self.flusher.waits() {
@@ -151,17 +160,23 @@ impl<K: Store> Pipeline<K> {
         ensures answer { (w : World) → IsOpen w self.old → Answers w S.Call (called result) }
         ensures fits { (w : World) → IsOpen w self.old → CallFits w (called result) self.new }
         ensures honest { K.honest self.old.flusher.store ↔ K.honest self.new.flusher.store }
-        ensures moves { K.honest self.old.flusher.store → (w : World) → IsOpen w self.old → (refused : ℕ) →
-            Moves K.recovers K.spent w S.Call (called result) (sight_in refused self.old) (sight_in refused self.new) }
+        ensures moves { K.honest self.old.flusher.store → (w : World) → IsOpen w self.old →
+            (refused : ℕ) →
+            Moves K.recovers K.spent w S.Call (called result) (sight_in refused self.old)
+            (sight_in refused self.new) }
         // Where the held batch is taken, or work is under way, only the device fails.
-        ensures sure { result ≡ Advance.Failed → CallsSurely self.old → (w : World) → IsOpen w self.old →
+        ensures sure { result ≡ Advance.Failed → CallsSurely self.old → (w : World) →
+            IsOpen w self.old →
             HasFailed (K.failures self.old.flusher.store) (K.failures self.new.flusher.store) }
         // It fails only where the device failed in it, or where a checkpoint was due in the last epoch.
         ensures late { result ≡ Advance.Failed → ¬ (K.exhausted self.new.flusher.store) →
-            (w : World) → IsOpen w self.old → HasFailed (K.failures self.old.flusher.store) (K.failures self.new.flusher.store) }
+            (w : World) → IsOpen w self.old →
+            HasFailed (K.failures self.old.flusher.store) (K.failures self.new.flusher.store) }
         ensures count { K.failures self.old.flusher.store ≤ K.failures self.new.flusher.store }
         // A batch is committed in a bounded number of calls.
-        ensures ends { (m : ℕ) → result ≡ Advance.More → 0 < length (to_commit self.old.flusher.held) → EndsIn (m + 1) self.old → EndsIn m self.new }
+        ensures ends { (m : ℕ) → result ≡ Advance.More →
+            0 < length (to_commit self.old.flusher.held) → EndsIn (m + 1) self.old →
+            EndsIn m self.new }
     {
         self.tell_batches();
         self.flusher.keeper().images();
@@ -176,7 +191,8 @@ impl<K: Store> Pipeline<K> {
     /// The committed batch is shown.
     pub fn publish(&mut self) -> Event
         ensures answer { (w : World) → IsOpen w self.old → Answers w S.Publish result }
-        ensures fits { (w : World) → IsOpen w self.old → IsOpen (after w S.Publish result) self.new }
+        ensures fits { (w : World) → IsOpen w self.old →
+            IsOpen (after w S.Publish result) self.new }
         ensures store { self.new.flusher.store ≡ self.old.flusher.store }
     {
         self.tell_batches();
@@ -190,7 +206,8 @@ impl<K: Store> Pipeline<K> {
     /// The next verdict is released to its slot.
     pub fn release(&mut self) -> Event
         ensures answer { (w : World) → IsOpen w self.old → Answers w S.Release result }
-        ensures fits { (w : World) → IsOpen w self.old → IsOpen (after w S.Release result) self.new }
+        ensures fits { (w : World) → IsOpen w self.old →
+            IsOpen (after w S.Release result) self.new }
         ensures store { self.new.flusher.store ≡ self.old.flusher.store }
     {
         let Some(entry) = self.flusher.next() else {
@@ -207,7 +224,8 @@ impl<K: Store> Pipeline<K> {
     /// The batch goes back once its verdicts are released.
     pub fn give_back(&mut self) -> Event
         ensures answer { (w : World) → IsOpen w self.old → Answers w S.GiveBack result }
-        ensures fits { (w : World) → IsOpen w self.old → IsOpen (after w S.GiveBack result) self.new }
+        ensures fits { (w : World) → IsOpen w self.old →
+            IsOpen (after w S.GiveBack result) self.new }
         ensures store { self.new.flusher.store ≡ self.old.flusher.store }
     {
         self.tell_batches();
@@ -221,7 +239,8 @@ impl<K: Store> Pipeline<K> {
     /// A slot receives its next receipt.
     pub fn receive(&mut self, slot: Slot) -> Event
         ensures answer { (w : World) → IsOpen w self.old → Answers w (S.Receive slot) result }
-        ensures fits { (w : World) → IsOpen w self.old → IsOpen (after w (S.Receive slot) result) self.new }
+        ensures fits { (w : World) → IsOpen w self.old →
+            IsOpen (after w (S.Receive slot) result) self.new }
         ensures store { self.new.flusher.store ≡ self.old.flusher.store }
     {
         self.tell_all(slot);
@@ -247,10 +266,13 @@ impl<K: Store> Pipeline<K> {
     /// Asks the published plant, for any slot. A look at a list that is there is skipped only where a growth of the answer's list was
     /// refused, which the answer counts.
     pub fn look(&self, query: Query, answer: &mut Answer) -> Event
-        ensures answer { (w : World) (slot : ℕ) → IsOpen w self.now → Answers w (S.Look slot query) result }
-        ensures fits { (w : World) (slot : ℕ) → IsOpen w self.now → IsOpen (after w (S.Look slot query) result) self.now }
+        ensures answer { (w : World) (slot : ℕ) → IsOpen w self.now →
+            Answers w (S.Look slot query) result }
+        ensures fits { (w : World) (slot : ℕ) → IsOpen w self.now →
+            IsOpen (after w (S.Look slot query) result) self.now }
         ensures moves { (w : World) (slot : ℕ) → IsOpen w self.now →
-            Moves K.recovers K.spent w (S.Look slot query) result (sight_in answer.old.refused self.now) (sight_in answer.new.refused self.now) }
+            Moves K.recovers K.spent w (S.Look slot query) result
+            (sight_in answer.old.refused self.now) (sight_in answer.new.refused self.now) }
     {
         let mut look = self.flusher.board().looker(Seen::new());
         match look.look(query, answer) {
@@ -266,7 +288,8 @@ impl<K: Store> Pipeline<K> {
         ensures fits { (w : World) → IsOpen w self.old → IsOpen (after w step.now result) self.new }
         ensures honest { K.honest self.old.flusher.store ↔ K.honest self.new.flusher.store }
         ensures moves { (w : World) → IsOpen w self.old →
-            Moves K.recovers K.spent w step.now result (sight_in answer.old.refused self.old) (sight_in answer.new.refused self.new) }
+            Moves K.recovers K.spent w step.now result (sight_in answer.old.refused self.old)
+            (sight_in answer.new.refused self.new) }
     {
         match step {
             Step::Send(slot, action) => self.send(*slot, *action),
@@ -293,7 +316,8 @@ impl<K: Store> Pipeline<K> {
 
     /// Does nothing: it says what a crash leaves.
     pub fn images(&self)
-        ensures headline { K.honest self.now.flusher.store → (w : World) → Fits w self.now → Headline K.recovers K.spent w (K.device self.now.flusher.store) }
+        ensures headline { K.honest self.now.flusher.store → (w : World) → Fits w self.now →
+            Headline K.recovers K.spent w (K.device self.now.flusher.store) }
     {
         self.flusher.keeper().images();
     }
@@ -303,7 +327,8 @@ impl<K: Store> Pipeline<K> {
         ensures honest { K.honest self.flusher.store ↔ K.Device.honest result }
         ensures device { K.Device.state result ≡ K.device self.flusher.store }
         ensures failures { K.Device.failures result ≡ K.failures self.flusher.store }
-        ensures headline { K.honest self.flusher.store → (w : World) → Fits w self → Headline K.recovers K.spent w (K.Device.state result) }
+        ensures headline { K.honest self.flusher.store → (w : World) → Fits w self →
+            Headline K.recovers K.spent w (K.Device.state result) }
     {
         self.images();
         let Pipeline {

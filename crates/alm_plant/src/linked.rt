@@ -64,7 +64,8 @@ impl Linked {
     pub fn build(alloc: Global, parts: PlantParts, order: &[u32]) -> Result<Self, AllocError>
         requires rules { KeepsRules (plant_of parts) }
         requires count { parts.count ≤ 2 ^ 48 }
-        requires order { IsSortedFilter (stamp_in parts.rows.items) (λ i. true) (length parts.rows.items) order.now }
+        requires order { IsSortedFilter (stamp_in parts.rows.items) (λ i. true)
+            (length parts.rows.items) order.now }
         ensures { IfOk result (λ p. p ≡ plant_of parts) }
     {
         let PlantParts {
@@ -197,7 +198,9 @@ impl Linked {
     }
 
     fn by_number(&self, list: List) -> AlarmsByNumber<'_>
-        ensures { result ≡ measured_by list self.now.panel.now self.now.panel.attrs self.now.panel.rows self.now.kept.moments }
+        ensures { result ≡
+            measured_by list self.now.panel.now self.now.panel.attrs self.now.panel.rows
+            self.now.kept.moments }
     {
         AlarmsByNumber::new(
             self.nodes.attrs(),
@@ -246,7 +249,9 @@ impl Linked {
     }
 
     fn alarm_refusal(&self, id: AlarmId, action: &Action) -> Option<Refusal>
-        ensures { result ≡ alarm_refusal action.now (slice_get self.now.panel.attrs id.0) (slice_get self.now.panel.rows id.0) }
+        ensures { result ≡
+            alarm_refusal action.now (slice_get self.now.panel.attrs id.0)
+            (slice_get self.now.panel.rows id.0) }
     {
         let index = id.0 as usize;
         if index < self.nodes.alarms() {
@@ -308,7 +313,8 @@ impl Linked {
     fn put(&mut self, index: u32, outcome: Outcome) -> bool
         requires here { index < length self.old.panel.rows }
         requires stamps { self.old.panel.next_stamp < 1 + 16384 * self.old.panel.count }
-        requires moved { IsMovedAt self.old.panel.next_stamp (slice_get self.old.panel.rows index) outcome }
+        requires moved { IsMovedAt self.old.panel.next_stamp (slice_get self.old.panel.rows index)
+            outcome }
         ensures rows { length self.new.panel.rows ≡ length self.old.panel.rows }
         ensures plant { self.new ≡ put condensed self.old index outcome }
         ensures called { result ≡ is_annunciation outcome }
@@ -334,12 +340,16 @@ impl Linked {
 
     /// What an action does to the alarm that it names, and the flood of its area.
     fn touch(&mut self, id: AlarmId, action: &Action)
-        requires here { alarm_refusal action.now (slice_get self.old.panel.attrs id.0) (slice_get self.old.panel.rows id.0) ≡ None }
+        requires here { alarm_refusal action.now (slice_get self.old.panel.attrs id.0)
+            (slice_get self.old.panel.rows id.0) ≡ None }
         requires stamps { self.old.panel.next_stamp < 1 + 16384 * self.old.panel.count }
         requires suits { AreSuited self.old.panel }
         requires settled { AreSettled self.old }
         ensures rows { length self.new.panel.rows ≡ length self.old.panel.rows }
-        ensures plant { self.new ≡ settle condensed (touch condensed self.old id.0 (outcome self.old.panel.now self.old.panel.next_stamp action.now)) }
+        ensures plant { self.new ≡
+            settle condensed
+            (touch condensed self.old id.0
+            (outcome self.old.panel.now self.old.panel.next_stamp action.now)) }
     {
         let index = id.0 as usize;
         let attr = self.nodes.attr(index);
@@ -358,11 +368,13 @@ impl Linked {
 
     /// The alarm has the attributes that an action gives it; its row and its stamp stay.
     fn configure(&mut self, id: AlarmId, action: &Action)
-        requires here { alarm_refusal action.now (slice_get self.old.panel.attrs id.0) (slice_get self.old.panel.rows id.0) ≡ None }
+        requires here { alarm_refusal action.now (slice_get self.old.panel.attrs id.0)
+            (slice_get self.old.panel.rows id.0) ≡ None }
         requires distinct { AreDistinct self.old.panel.rows }
         requires settled { AreSettled self.old }
         ensures rows { length self.new.panel.rows ≡ length self.old.panel.rows }
-        ensures plant { self.new ≡ settle condensed (configured self.old id.0 (attr_after action.now)) }
+        ensures plant { self.new ≡
+            settle condensed (configured self.old id.0 (attr_after action.now)) }
     {
         let index = id.0 as usize;
         let attr = attr_after(action, self.nodes.attr(index), self.nodes.row(index));
@@ -401,7 +413,8 @@ impl Linked {
     /// The shelvings of alarms end, one after the other.
     fn unshelve_all(&mut self, numbers: &[u32])
         requires here { All (λ i. i < length self.old.panel.rows) numbers.now }
-        requires stamps { self.old.panel.next_stamp + length numbers.now ≤ 1 + 16384 * self.old.panel.count }
+        requires stamps { self.old.panel.next_stamp + length numbers.now ≤
+            1 + 16384 * self.old.panel.count }
         ensures rows { length self.new.panel.rows ≡ length self.old.panel.rows }
         ensures plant { self.new ≡ fold (unshelve condensed) self.old numbers.now }
     {
@@ -425,7 +438,10 @@ impl Linked {
         requires ahead { AreAhead self.old.panel.now self.old.panel.rows }
         requires stamps { self.old.panel.next_stamp + 16384 ≤ 1 + 16384 * self.old.panel.count }
         requires room { length self.old.panel.rows ≤ vec_capacity working.old }
-        ensures plant { self.new ≡ settle condensed (fold (unshelve condensed) (later condensed moment self.old) (due moment self.old.panel)) }
+        ensures plant { self.new ≡
+            settle condensed
+            (fold (unshelve condensed) (later condensed moment self.old)
+            (due moment self.old.panel)) }
         ensures rows { length self.new.panel.rows ≡ length self.old.panel.rows }
         ensures room { vec_capacity working.new ≡ vec_capacity working.old }
         ensures limit { moment < 2 ^ 40 }

@@ -48,7 +48,9 @@ impl Model for Nodes {
 
 /// Whether an alarm keeps its places in the lists of its priority and area, or has none before and after.
 fn keeps_lists(before: &Row, row: &Row) -> bool
-    ensures { IsTrue result ↔ ((is_annunciated before.now.core ≡ is_annunciated row.now.core) × (is_annunciated row.now.core ≡ true → before.now.stamp ≡ row.now.stamp)) }
+    ensures { IsTrue result ↔
+        ((is_annunciated before.now.core ≡ is_annunciated row.now.core) ×
+        (is_annunciated row.now.core ≡ true → before.now.stamp ≡ row.now.stamp)) }
 {
     let is = row.core.is_annunciated();
     before.core.is_annunciated() == is && (!is || before.stamp == row.stamp)
@@ -56,7 +58,9 @@ fn keeps_lists(before: &Row, row: &Row) -> bool
 
 /// Whether it keeps its place in the wheel, or has none before and after.
 fn keeps_slot(before: &Row, row: &Row) -> bool
-    ensures { IsTrue result ↔ ((is_some before.now.shelved_until ≡ is_some row.now.shelved_until) × (is_some row.now.shelved_until ≡ true → before.now.stamp ≡ row.now.stamp)) }
+    ensures { IsTrue result ↔
+        ((is_some before.now.shelved_until ≡ is_some row.now.shelved_until) ×
+        (is_some row.now.shelved_until ≡ true → before.now.stamp ≡ row.now.stamp)) }
 {
     let is = row.shelved_until.is_some();
     before.shelved_until.is_some() == is && (!is || before.stamp == row.stamp)
@@ -89,7 +93,9 @@ fn take_out(chains: &mut Chains, family: u32, node: u32)
     requires family { family < length chains.old.families }
     requires node { node < chains.old.nodes }
     ensures nodes { chains.new.nodes ≡ chains.old.nodes }
-    ensures lists { chains.new.families ≡ slice_set chains.old.families family (map (without node) (family_at chains.old.families family)) }
+    ensures lists { chains.new.families ≡
+        slice_set chains.old.families family
+        (map (without node) (family_at chains.old.families family)) }
 {
     if chains.list_of(family, node).is_some() {
         chains.unlink(family, node);
@@ -102,7 +108,9 @@ fn refile(chains: &mut Chains, family: u32, node: u32, to: Option<u32>)
     requires node { node < chains.old.nodes }
     requires to { IfSome to (λ l. l < length (family_at chains.old.families family)) }
     ensures nodes { chains.new.nodes ≡ chains.old.nodes }
-    ensures lists { chains.new.families ≡ slice_set chains.old.families family (refiled (family_at chains.old.families family) node to) }
+    ensures lists { chains.new.families ≡
+        slice_set chains.old.families family
+        (refiled (family_at chains.old.families family) node to) }
 {
     take_out(chains, family, node);
     if let Some(list) = to {
@@ -118,7 +126,9 @@ fn insert(chains: &mut Chains, family: u32, node: u32, to: Option<u32>, keys: &[
     requires to { IfSome to (λ l. l < length (family_at chains.old.families family)) }
     requires keys { chains.old.nodes ≤ length keys.now }
     ensures nodes { chains.new.nodes ≡ chains.old.nodes }
-    ensures lists { chains.new.families ≡ slice_set chains.old.families family (inserted (key_in keys.now) (family_at chains.old.families family) node to) }
+    ensures lists { chains.new.families ≡
+        slice_set chains.old.families family
+        (inserted (key_in keys.now) (family_at chains.old.families family) node to) }
 {
     take_out(chains, family, node);
     if let Some(list) = to {
@@ -140,7 +150,10 @@ fn reprioritize(
     requires priorities { length (family_at chains.old.families 0) ≡ 4 }
     requires stamps { chains.old.nodes ≤ length stamps.now }
     ensures nodes { chains.new.nodes ≡ chains.old.nodes }
-    ensures lists { chains.new.families ≡ if stays then chains.old.families else slice_set chains.old.families 0 (inserted (key_in stamps.now) (family_at chains.old.families 0) index (by_priority attr.now row.now)) }
+    ensures lists { chains.new.families ≡
+        if stays then chains.old.families else slice_set chains.old.families 0
+        (inserted (key_in stamps.now) (family_at chains.old.families 0) index
+        (by_priority attr.now row.now)) }
 {
     if !stays {
         insert(chains, PRIORITIES, index, priority_of(attr, row), stamps);
@@ -150,7 +163,8 @@ fn reprioritize(
 /// A node has no deadline any more, if it had one.
 fn free(wheel: &mut Wheel, node: u32)
     requires node { node < length wheel.old.deadlines }
-    requires filed { list_of node wheel.old.slots ≡ option_map slot_of (deadline_of wheel.old.deadlines node) }
+    requires filed { list_of node wheel.old.slots ≡
+        option_map slot_of (deadline_of wheel.old.deadlines node) }
     ensures deadlines { wheel.new.deadlines ≡ slice_set wheel.old.deadlines node None }
     ensures slots { wheel.new.slots ≡ map (without node) wheel.old.slots }
 {
@@ -167,7 +181,9 @@ fn rechain(chains: &mut Chains, stays: bool, index: u32, attr: &Attr, row: &Row)
     requires priorities { length (family_at chains.old.families 0) ≡ 4 }
     requires areas { attr.now.area < length (family_at chains.old.families 1) }
     ensures nodes { chains.new.nodes ≡ chains.old.nodes }
-    ensures lists { chains.new.families ≡ if stays then chains.old.families else rechained chains.old.families index attr.now row.now }
+    ensures lists { chains.new.families ≡
+        if stays then chains.old.families else rechained chains.old.families index attr.now
+        row.now }
 {
     if !stays {
         refile(chains, PRIORITIES, index, priority_of(attr, row));
@@ -178,7 +194,8 @@ fn rechain(chains: &mut Chains, stays: bool, index: u32, attr: &Attr, row: &Row)
 /// A node has a deadline from now on, or none any more.
 fn schedule(wheel: &mut Wheel, node: u32, to: Option<u64>)
     requires node { node < length wheel.old.deadlines }
-    requires filed { list_of node wheel.old.slots ≡ option_map slot_of (deadline_of wheel.old.deadlines node) }
+    requires filed { list_of node wheel.old.slots ≡
+        option_map slot_of (deadline_of wheel.old.deadlines node) }
     ensures deadlines { wheel.new.deadlines ≡ slice_set wheel.old.deadlines node to }
     ensures slots { wheel.new.slots ≡ refiled wheel.old.slots node (option_map slot_of to) }
 {
@@ -191,9 +208,14 @@ fn schedule(wheel: &mut Wheel, node: u32, to: Option<u64>)
 /// An alarm's place in the wheel, unless that stays.
 fn reschedule(wheel: &mut Wheel, stays: bool, index: u32, row: &Row)
     requires node { index < length wheel.old.deadlines }
-    requires filed { list_of index wheel.old.slots ≡ option_map slot_of (deadline_of wheel.old.deadlines index) }
-    ensures deadlines { wheel.new.deadlines ≡ if stays then wheel.old.deadlines else slice_set wheel.old.deadlines index row.now.shelved_until }
-    ensures slots { wheel.new.slots ≡ if stays then wheel.old.slots else refiled wheel.old.slots index (option_map slot_of row.now.shelved_until) }
+    requires filed { list_of index wheel.old.slots ≡
+        option_map slot_of (deadline_of wheel.old.deadlines index) }
+    ensures deadlines { wheel.new.deadlines ≡
+        if stays then wheel.old.deadlines else slice_set wheel.old.deadlines index
+        row.now.shelved_until }
+    ensures slots { wheel.new.slots ≡
+        if stays then wheel.old.slots else refiled wheel.old.slots index
+        (option_map slot_of row.now.shelved_until) }
 {
     if !stays {
         schedule(wheel, index, row.shelved_until);
@@ -216,7 +238,10 @@ impl Nodes {
     pub fn new(alloc: Global, attrs: Vec<Attr>, areas: u32) -> Result<Self, AllocError>
         requires few { length attrs.items ≤ 16384 }
         requires areas { All (λ a. a.area < areas) attrs.items }
-        ensures { IfOk result (λ n. n ≡ record { attrs = attrs.items; rows = replicate (length attrs.items) at_rest; areas = areas }) }
+        ensures { IfOk result
+            (λ n. n ≡
+            record
+            { attrs = attrs.items; rows = replicate (length attrs.items) at_rest; areas = areas }) }
     {
         let count = attrs.len();
         Ok(Nodes {
@@ -279,9 +304,11 @@ impl Nodes {
         requires few { length attrs.items ≤ 16384 }
         requires same { length attrs.items ≡ length rows.now }
         requires areas { All (λ a. a.area < areas) attrs.items }
-        requires order { IsSortedFilter (stamp_in rows.now) (λ i. true) (length rows.now) order.now }
+        requires order { IsSortedFilter (stamp_in rows.now) (λ i. true) (length rows.now)
+            order.now }
         requires distinct { AreDistinct rows.now }
-        ensures { IfOk result (λ n. n ≡ record { attrs = attrs.items; rows = rows.now; areas = areas }) }
+        ensures { IfOk result
+            (λ n. n ≡ record { attrs = attrs.items; rows = rows.now; areas = areas }) }
     {
         let mut nodes = Nodes::new(alloc, attrs, areas)?;
         for number in order {
@@ -342,7 +369,8 @@ impl Nodes {
     /// The alarms of a priority, one after the other.
     pub fn priority_list(&self, priority: u32) -> ListNodes<'_>
         requires priority { (1 ≤ priority) × (priority ≤ 4) }
-        ensures { result ≡ alarms_by stamp (stands_in (Priority priority)) self.now.attrs self.now.rows }
+        ensures { result ≡
+            alarms_by stamp (stands_in (Priority priority)) self.now.attrs self.now.rows }
     {
         self.chains.iter(PRIORITIES, priority - 1)
     }
@@ -367,7 +395,8 @@ impl Nodes {
     pub fn list_priority(&self, priority: u32, out: &mut Vec<u32>)
         requires priority { (1 ≤ priority) × (priority ≤ 4) }
         requires room { length self.now.rows ≤ vec_capacity out.old }
-        ensures list { out.new.items ≡ alarms_by stamp (stands_in (Priority priority)) self.now.attrs self.now.rows }
+        ensures list { out.new.items ≡
+            alarms_by stamp (stands_in (Priority priority)) self.now.attrs self.now.rows }
         ensures room { vec_capacity out.new ≡ vec_capacity out.old }
     {
         out.clear();
@@ -378,7 +407,8 @@ impl Nodes {
     pub fn list_area(&self, area: u32, out: &mut Vec<u32>)
         requires area { area < self.now.areas }
         requires room { length self.now.rows ≤ vec_capacity out.old }
-        ensures list { out.new.items ≡ alarms_by stamp (stands_in (Area area)) self.now.attrs self.now.rows }
+        ensures list { out.new.items ≡
+            alarms_by stamp (stands_in (Area area)) self.now.attrs self.now.rows }
         ensures room { vec_capacity out.new ≡ vec_capacity out.old }
     {
         out.clear();
@@ -389,7 +419,8 @@ impl Nodes {
     pub fn list_slot(&self, slot: u32, out: &mut Vec<u32>)
         requires slot { slot < 256 }
         requires room { length self.now.rows ≤ vec_capacity out.old }
-        ensures list { out.new.items ≡ alarms_by stamp (stands_in (Slot slot)) self.now.attrs self.now.rows }
+        ensures list { out.new.items ≡
+            alarms_by stamp (stands_in (Slot slot)) self.now.attrs self.now.rows }
         ensures room { vec_capacity out.new ≡ vec_capacity out.old }
     {
         out.clear();

@@ -30,7 +30,8 @@ impl Model for Plant {
 
     ghost use Rattle.alm_model.specs.Rules.{KeepsRules};
 
-    ghost invariant = { λ p. KeepsRules p.linked × (vec_capacity p.working ≡ length p.linked.panel.rows) };
+    ghost invariant = { λ p.
+        KeepsRules p.linked × (vec_capacity p.working ≡ length p.linked.panel.rows) };
 }
 
 impl Plant {

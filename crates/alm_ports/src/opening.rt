@@ -87,7 +87,8 @@ fn ports_of(
     bounds: Vec<Bound>,
     count: &Arc<ConnectionCount>,
 ) -> Result<Vec<SlotPort>, PortFault>
-    ensures { IfOk result (λ ports. map (λ p. p.slot) ports.items ≡ map (λ b. b.slot) bounds.items) }
+    ensures { IfOk result
+        (λ ports. map (λ p. p.slot) ports.items ≡ map (λ b. b.slot) bounds.items) }
 {
     let mut ports = Vec::with_capacity(alloc, bounds.len())?;
     for bound in bounds {

@@ -42,7 +42,8 @@ fn print_key<W: io::Write>(key: &[u8], writer: &mut W) -> io::Result<()>
 
 /// Prints that a key is wrong.
 fn print_wrong_key<W: io::Write>(alarm: Option<u32>, key: &str, writer: &mut W) -> io::Result<()>
-    ensures { Prints (W.contents writer.old) (W.contents writer.new) (codes "table " ++ alarm_text alarm ++ codes " " ++ key_text key.now) result }
+    ensures { Prints (W.contents writer.old) (W.contents writer.new)
+        (codes "table " ++ alarm_text alarm ++ codes " " ++ key_text key.now) result }
 {
     put_parts(
         &[Part::Word("table "), alarm_part(alarm), Part::Word(" ")],

@@ -50,7 +50,8 @@ fn print_formatted<W: io::Write>(
     segment: u64,
     writer: &mut W,
 ) -> io::Result<()>
-    ensures { Prints (W.contents writer.old) (W.contents writer.new) (formatted_text rows areas segment) result }
+    ensures { Prints (W.contents writer.old) (W.contents writer.new)
+        (formatted_text rows areas segment) result }
 {
     put_parts(
         &[

@@ -30,12 +30,19 @@ pub struct SlotEnds<T: Told + Drop> {
 /// The ends of all slots, new; an error only for want of memory.
 pub fn open_slots<T: Told + Drop>(alloc: Global) -> Result<SlotEnds<T>, AllocError>
     ensures count { IfOk result (λ e. length e.consoles.items ≡ 18) }
-    ensures apart { IfOk result (λ e. AreApart (λ i. i.slot) e.inboxes.items × AreApart (λ o. o.slot) e.outboxes.items) }
+    ensures apart { IfOk result
+        (λ e. AreApart (λ i. i.slot) e.inboxes.items × AreApart (λ o. o.slot) e.outboxes.items) }
     ensures inboxes { IfOk result (λ e. (s : ℕ) → s < 18 → IsSome (inbox_at s e.inboxes.items)) }
     ensures outboxes { IfOk result (λ e. (s : ℕ) → s < 18 → IsSome (outbox_at s e.outboxes.items)) }
-    ensures requests { IfOk result (λ e. (s : ℕ) (c : Console _ _) (i : Inbox) → slice_get e.consoles.items s ≡ Some c → inbox_at s e.inboxes.items ≡ Some i → IsPair c.requests i.requests) }
-    ensures replies { IfOk result (λ e. (s : ℕ) (c : Console _ _) (o : Outbox _ _) → slice_get e.consoles.items s ≡ Some c → outbox_at s e.outboxes.items ≡ Some o → IsPair o.replies c.replies) }
-    ensures consoles { IfOk result (λ e. (s : ℕ) (c : Console _ _) → slice_get e.consoles.items s ≡ Some c → (sent_of c ≡ []) × (received_of c ≡ [])) }
+    ensures requests { IfOk result
+        (λ e. (s : ℕ) (c : Console _ _) (i : Inbox) → slice_get e.consoles.items s ≡ Some c →
+        inbox_at s e.inboxes.items ≡ Some i → IsPair c.requests i.requests) }
+    ensures replies { IfOk result
+        (λ e. (s : ℕ) (c : Console _ _) (o : Outbox _ _) → slice_get e.consoles.items s ≡ Some c →
+        outbox_at s e.outboxes.items ≡ Some o → IsPair o.replies c.replies) }
+    ensures consoles { IfOk result
+        (λ e. (s : ℕ) (c : Console _ _) → slice_get e.consoles.items s ≡ Some c →
+        (sent_of c ≡ []) × (received_of c ≡ [])) }
     ensures taken { IfOk result (λ e. (s : ℕ) → taken_by s e.inboxes.items ≡ []) }
     ensures released { IfOk result (λ e. (s : ℕ) → released_by s e.outboxes.items ≡ []) }
 {

@@ -55,14 +55,18 @@ impl<T: Told + Drop> Console<T> {
     /// ring is known to be free, or where the serials are spent.
     pub fn send(&mut self, action: Action) -> Result<u64, Busy>
         ensures end { SameConsole self.old self.new }
-        ensures receipts { (received_of self.new ≡ received_of self.old) × (coming_to self.new ≡ coming_to self.old) }
-        ensures sent { IfOk result (λ serial.
-            (sent_of self.new ≡ sent_of self.old ++ action ∷ []) × (serial ≡ length (sent_of self.new)) × (room_of self.old ≤ room_of self.new + 1)) }
-        ensures few { IfOk result (λ _. length (sent_of self.old) < 64 + length (received_of self.old)) }
-        ensures busy { IfErr result (λ busy.
-            (busy.0 ≡ action) × (sent_of self.new ≡ sent_of self.old) × (room_of self.new ≡ room_of self.old)) }
-        ensures cause { length (sent_of self.old) < 64 + length (received_of self.old) → 0 < room_of self.old →
-            length (sent_of self.old) < 2 ^ 64 - 1 → IsOk result }
+        ensures receipts { (received_of self.new ≡ received_of self.old) ×
+            (coming_to self.new ≡ coming_to self.old) }
+        ensures sent { IfOk result
+            (λ serial. (sent_of self.new ≡ sent_of self.old ++ action ∷ []) ×
+            (serial ≡ length (sent_of self.new)) × (room_of self.old ≤ room_of self.new + 1)) }
+        ensures few { IfOk result
+            (λ _. length (sent_of self.old) < 64 + length (received_of self.old)) }
+        ensures busy { IfErr result
+            (λ busy. (busy.0 ≡ action) × (sent_of self.new ≡ sent_of self.old) ×
+            (room_of self.new ≡ room_of self.old)) }
+        ensures cause { length (sent_of self.old) < 64 + length (received_of self.old) →
+            0 < room_of self.old → length (sent_of self.old) < 2 ^ 64 - 1 → IsOk result }
     {
         if self.unanswered() >= ROOM as u64 || self.serial == LAST_SERIAL {
             return Err(Busy(action));
@@ -86,10 +90,15 @@ impl<T: Told + Drop> Console<T> {
     /// The next receipt. `None` where no receipt is known to wait.
     pub fn receive(&mut self) -> Option<Receipt<T>>
         ensures end { SameConsole self.old self.new }
-        ensures requests { (sent_of self.new ≡ sent_of self.old) × (room_of self.new ≡ room_of self.old) }
-        ensures some { IfSome result (λ receipt. received_of self.new ≡ received_of self.old ++ receipt ∷ []) }
-        ensures known { IfSome result (λ receipt. IsPrefix (coming_to self.old) (receipt ∷ coming_to self.new)) }
-        ensures none { IfNone result ((received_of self.new ≡ received_of self.old) × (coming_to self.new ≡ coming_to self.old)) }
+        ensures requests { (sent_of self.new ≡ sent_of self.old) ×
+            (room_of self.new ≡ room_of self.old) }
+        ensures some { IfSome result
+            (λ receipt. received_of self.new ≡ received_of self.old ++ receipt ∷ []) }
+        ensures known { IfSome result
+            (λ receipt. IsPrefix (coming_to self.old) (receipt ∷ coming_to self.new)) }
+        ensures none { IfNone result
+            ((received_of self.new ≡ received_of self.old) ×
+            (coming_to self.new ≡ coming_to self.old)) }
         ensures cause { 0 < length (coming_to self.old) → IsSome result }
     {
         match self.replies.pop() {

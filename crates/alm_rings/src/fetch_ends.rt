@@ -31,10 +31,15 @@ impl FetchEnds {
     /// The next sealed batch. `None` where none is known to wait.
     pub fn fetch(&mut self) -> Option<Batch>
         ensures ends { SameFetchEnds self.old self.new }
-        ensures given { (given_of self.new ≡ given_of self.old) × (places_in self.new ≡ places_in self.old) }
-        ensures some { IfSome result (λ batch. fetched_of self.new ≡ fetched_of self.old ++ batch ∷ []) }
-        ensures known { IfSome result (λ batch. IsPrefix (coming_in self.old) (batch ∷ coming_in self.new)) }
-        ensures none { IfNone result ((fetched_of self.new ≡ fetched_of self.old) × (coming_in self.new ≡ coming_in self.old)) }
+        ensures given { (given_of self.new ≡ given_of self.old) ×
+            (places_in self.new ≡ places_in self.old) }
+        ensures some { IfSome result
+            (λ batch. fetched_of self.new ≡ fetched_of self.old ++ batch ∷ []) }
+        ensures known { IfSome result
+            (λ batch. IsPrefix (coming_in self.old) (batch ∷ coming_in self.new)) }
+        ensures none { IfNone result
+            ((fetched_of self.new ≡ fetched_of self.old) ×
+            (coming_in self.new ≡ coming_in self.old)) }
         ensures cause { 0 < length (coming_in self.old) → IsSome result }
     {
         self.full.pop().ok()
@@ -44,11 +49,14 @@ impl FetchEnds {
     /// known to be free.
     pub fn give_back(&mut self, batch: Batch) -> Result<(), Batch>
         ensures ends { SameFetchEnds self.old self.new }
-        ensures fetched { (fetched_of self.new ≡ fetched_of self.old) × (coming_in self.new ≡ coming_in self.old) }
-        ensures ok { OnOk result ((given_of self.new ≡ given_of self.old ++ without_entries batch ∷ [])
-            × (places_in self.old ≤ places_in self.new + 1)) }
-        ensures full { IfErr result (λ back.
-            (back ≡ batch) × (given_of self.new ≡ given_of self.old) × (places_in self.new ≡ places_in self.old)) }
+        ensures fetched { (fetched_of self.new ≡ fetched_of self.old) ×
+            (coming_in self.new ≡ coming_in self.old) }
+        ensures ok { OnOk result
+            ((given_of self.new ≡ given_of self.old ++ without_entries batch ∷ []) ×
+            (places_in self.old ≤ places_in self.new + 1)) }
+        ensures full { IfErr result
+            (λ back. (back ≡ batch) × (given_of self.new ≡ given_of self.old) ×
+            (places_in self.new ≡ places_in self.old)) }
         ensures cause { 0 < places_in self.old → IsOk result }
     {
         if self.empty.is_full() {

@@ -39,10 +39,14 @@ impl Inbox {
     /// The next request, after its serial. `None` where no request is known to wait.
     pub fn take(&mut self) -> Option<(u64, Action)>
         ensures end { SameInbox self.old self.new }
-        ensures some { IfSome result (λ next.
-            (taken_of self.new ≡ taken_of self.old ++ next.1 ∷ []) × (next.0 ≡ length (taken_of self.new))) }
-        ensures known { IfSome result (λ next. IsPrefix (waiting_in self.old) (next.1 ∷ waiting_in self.new)) }
-        ensures none { IfNone result ((taken_of self.new ≡ taken_of self.old) × (waiting_in self.new ≡ waiting_in self.old)) }
+        ensures some { IfSome result
+            (λ next. (taken_of self.new ≡ taken_of self.old ++ next.1 ∷ []) ×
+            (next.0 ≡ length (taken_of self.new))) }
+        ensures known { IfSome result
+            (λ next. IsPrefix (waiting_in self.old) (next.1 ∷ waiting_in self.new)) }
+        ensures none { IfNone result
+            ((taken_of self.new ≡ taken_of self.old) ×
+            (waiting_in self.new ≡ waiting_in self.old)) }
         ensures cause { 0 < length (waiting_in self.old) → IsSome result }
     {
         match self.requests.pop() {

@@ -35,8 +35,9 @@ impl<T: Told + Drop> Outbox<T> {
         ensures end { SameOutbox self.old self.new }
         ensures ok { OnOk result ((released_of self.new ≡ released_of self.old ++ receipt ∷ [])
             × (room_in self.old ≤ room_in self.new + 1)) }
-        ensures full { IfErr result (λ back.
-            (back ≡ receipt) × (released_of self.new ≡ released_of self.old) × (room_in self.new ≡ room_in self.old)) }
+        ensures full { IfErr result
+            (λ back. (back ≡ receipt) × (released_of self.new ≡ released_of self.old) ×
+            (room_in self.new ≡ room_in self.old)) }
         ensures cause { 0 < room_in self.old → IsOk result }
     {
         match self.replies.push(receipt) {

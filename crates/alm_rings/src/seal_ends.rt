@@ -25,10 +25,14 @@ impl SealEnds {
     /// known to be free.
     pub fn seal(&mut self, batch: Batch) -> Result<(), Batch>
         ensures ends { SameSealEnds self.old self.new }
-        ensures empties { (empties_in self.new ≡ empties_in self.old) × (emptied_of self.new ≡ emptied_of self.old) }
-        ensures ok { OnOk result ((sealed_of self.new ≡ sealed_of self.old ++ batch ∷ []) × (places_of self.old ≤ places_of self.new + 1)) }
-        ensures full { IfErr result (λ back.
-            (back ≡ batch) × (sealed_of self.new ≡ sealed_of self.old) × (places_of self.new ≡ places_of self.old)) }
+        ensures empties { (empties_in self.new ≡ empties_in self.old) ×
+            (emptied_of self.new ≡ emptied_of self.old) }
+        ensures ok { OnOk result
+            ((sealed_of self.new ≡ sealed_of self.old ++ batch ∷ []) ×
+            (places_of self.old ≤ places_of self.new + 1)) }
+        ensures full { IfErr result
+            (λ back. (back ≡ batch) × (sealed_of self.new ≡ sealed_of self.old) ×
+            (places_of self.new ≡ places_of self.old)) }
         ensures cause { 0 < places_of self.old → IsOk result }
     {
         match self.full.push(batch) {
@@ -40,11 +44,16 @@ impl SealEnds {
     /// The next empty batch. `None` where none is known to wait.
     pub fn empty(&mut self) -> Option<Batch>
         ensures ends { SameSealEnds self.old self.new }
-        ensures sealed { (sealed_of self.new ≡ sealed_of self.old) × (places_of self.new ≡ places_of self.old) }
-        ensures some { IfSome result (λ batch. emptied_of self.new ≡ emptied_of self.old ++ batch ∷ []) }
+        ensures sealed { (sealed_of self.new ≡ sealed_of self.old) ×
+            (places_of self.new ≡ places_of self.old) }
+        ensures some { IfSome result
+            (λ batch. emptied_of self.new ≡ emptied_of self.old ++ batch ∷ []) }
         ensures no_entries { IfSome result (λ batch. batch.entries ≡ []) }
-        ensures known { IfSome result (λ batch. IsPrefix (empties_in self.old) (batch ∷ empties_in self.new)) }
-        ensures none { IfNone result ((emptied_of self.new ≡ emptied_of self.old) × (empties_in self.new ≡ empties_in self.old)) }
+        ensures known { IfSome result
+            (λ batch. IsPrefix (empties_in self.old) (batch ∷ empties_in self.new)) }
+        ensures none { IfNone result
+            ((emptied_of self.new ≡ emptied_of self.old) ×
+            (empties_in self.new ≡ empties_in self.old)) }
         ensures cause { 0 < length (empties_in self.old) → IsSome result }
     {
         self.empty.pop().ok()

@@ -22,7 +22,9 @@ pub fn open_slot<T: Told + Drop>(
 ) -> Result<(Console<T>, Inbox, Outbox<T>), AllocError>
     ensures ends { IfOk result (λ r. AreEnds r.0 r.1 r.2) }
     ensures slot { IfOk result (λ r. (r.0.slot ≡ slot) × (r.1.slot ≡ slot) × (r.2.slot ≡ slot)) }
-    ensures new { IfOk result (λ r. (sent_of r.0 ≡ []) × (received_of r.0 ≡ []) × (taken_of r.1 ≡ []) × (released_of r.2 ≡ [])) }
+    ensures new { IfOk result
+        (λ r. (sent_of r.0 ≡ []) × (received_of r.0 ≡ []) × (taken_of r.1 ≡ []) ×
+        (released_of r.2 ≡ [])) }
     ensures room { IfOk result (λ r. (room_of r.0 ≡ 64) × (room_in r.2 ≡ 64)) }
     ensures nothing_waits { IfOk result (λ r. (waiting_in r.1 ≡ []) × (coming_to r.0 ≡ [])) }
 {
@@ -53,12 +55,15 @@ pub fn requests_beside<T: Told + Drop>(console: &mut Console<T>, inbox: &mut Inb
     requires { IsPair console.old.requests inbox.old.requests }
     ensures ends { IsPair console.new.requests inbox.new.requests }
     ensures same { SameConsole console.old console.new × SameInbox inbox.old inbox.new }
-    ensures sent { (sent_of console.new ≡ sent_of console.old) × (taken_of inbox.new ≡ taken_of inbox.old) }
-    ensures replies { (received_of console.new ≡ received_of console.old) × (coming_to console.new ≡ coming_to console.old) }
+    ensures sent { (sent_of console.new ≡ sent_of console.old) ×
+        (taken_of inbox.new ≡ taken_of inbox.old) }
+    ensures replies { (received_of console.new ≡ received_of console.old) ×
+        (coming_to console.new ≡ coming_to console.old) }
     ensures requests { taken_of inbox.new ++ waiting_in inbox.new ≡ sent_of console.new }
     ensures serials { length (sent_of console.new) < 2 ^ 64 }
     ensures few { length (sent_of console.new) ≤ 64 + length (received_of console.new) }
-    ensures room { 64 + length (taken_of inbox.new) ≤ room_of console.new + length (sent_of console.new) }
+    ensures room { 64 + length (taken_of inbox.new) ≤
+        room_of console.new + length (sent_of console.new) }
 {
     let _serial = console.serial;
     console.requests.slots_beside(&mut inbox.requests);
@@ -70,10 +75,13 @@ pub fn replies_beside<T: Told + Drop>(console: &mut Console<T>, outbox: &mut Out
     requires { IsPair outbox.old.replies console.old.replies }
     ensures ends { IsPair outbox.new.replies console.new.replies }
     ensures same { SameConsole console.old console.new × SameOutbox outbox.old outbox.new }
-    ensures released { (received_of console.new ≡ received_of console.old) × (released_of outbox.new ≡ released_of outbox.old) }
-    ensures requests { (sent_of console.new ≡ sent_of console.old) × (room_of console.new ≡ room_of console.old) }
+    ensures released { (received_of console.new ≡ received_of console.old) ×
+        (released_of outbox.new ≡ released_of outbox.old) }
+    ensures requests { (sent_of console.new ≡ sent_of console.old) ×
+        (room_of console.new ≡ room_of console.old) }
     ensures replies { received_of console.new ++ coming_to console.new ≡ released_of outbox.new }
-    ensures room { 64 + length (received_of console.new) ≤ room_in outbox.new + length (released_of outbox.new) }
+    ensures room { 64 + length (received_of console.new) ≤
+        room_in outbox.new + length (released_of outbox.new) }
 {
     outbox.replies.slots_beside(&mut console.replies);
     console.replies.slots_beside(&mut outbox.replies);
@@ -83,15 +91,20 @@ pub fn replies_beside<T: Told + Drop>(console: &mut Console<T>, outbox: &mut Out
 pub fn beside<T: Told + Drop>(console: &mut Console<T>, inbox: &mut Inbox, outbox: &mut Outbox<T>)
     requires { AreEnds console.old inbox.old outbox.old }
     ensures ends { AreEnds console.new inbox.new outbox.new }
-    ensures same { SameConsole console.old console.new × SameInbox inbox.old inbox.new × SameOutbox outbox.old outbox.new }
-    ensures console { (sent_of console.new ≡ sent_of console.old) × (received_of console.new ≡ received_of console.old) }
-    ensures others { (taken_of inbox.new ≡ taken_of inbox.old) × (released_of outbox.new ≡ released_of outbox.old) }
+    ensures same { SameConsole console.old console.new × SameInbox inbox.old inbox.new ×
+        SameOutbox outbox.old outbox.new }
+    ensures console { (sent_of console.new ≡ sent_of console.old) ×
+        (received_of console.new ≡ received_of console.old) }
+    ensures others { (taken_of inbox.new ≡ taken_of inbox.old) ×
+        (released_of outbox.new ≡ released_of outbox.old) }
     ensures requests { taken_of inbox.new ++ waiting_in inbox.new ≡ sent_of console.new }
     ensures replies { received_of console.new ++ coming_to console.new ≡ released_of outbox.new }
     ensures serials { length (sent_of console.new) < 2 ^ 64 }
     ensures few { length (sent_of console.new) ≤ 64 + length (received_of console.new) }
-    ensures room { 64 + length (taken_of inbox.new) ≤ room_of console.new + length (sent_of console.new) }
-    ensures reply_room { 64 + length (received_of console.new) ≤ room_in outbox.new + length (released_of outbox.new) }
+    ensures room { 64 + length (taken_of inbox.new) ≤
+        room_of console.new + length (sent_of console.new) }
+    ensures reply_room { 64 + length (received_of console.new) ≤
+        room_in outbox.new + length (released_of outbox.new) }
 {
     requests_beside(console, inbox);
     replies_beside(console, outbox);
@@ -105,9 +118,11 @@ pub fn close_slot<T: Told + Drop>(
 ) -> Option<SlotReport>
     requires { AreEnds console inbox outbox }
     ensures some { IsSome result }
-    ensures requests { IfSome result (λ r. (r.sent ≡ length (sent_of console)) × (r.taken ≡ length (taken_of inbox))) }
-    ensures receipts { IfSome result (λ r. (r.released ≡ min (length (released_of outbox)) (2 ^ 64 - 1))
-        × (r.received ≡ min (length (received_of console)) (2 ^ 64 - 1))) }
+    ensures requests { IfSome result
+        (λ r. (r.sent ≡ length (sent_of console)) × (r.taken ≡ length (taken_of inbox))) }
+    ensures receipts { IfSome result
+        (λ r. (r.released ≡ min (length (released_of outbox)) (2 ^ 64 - 1)) ×
+        (r.received ≡ min (length (received_of console)) (2 ^ 64 - 1))) }
     ensures taken { IsPrefix (taken_of inbox) (sent_of console) }
     ensures received { IsPrefix (received_of console) (released_of outbox) }
 {

@@ -33,11 +33,15 @@ pub fn run_flusher<
     requires stored { K.stored parts.store ≡ B.Board.base board }
     requires published { B.Board.published board ≡ [] }
     requires pending { B.Board.pending board ≡ [] }
-    ensures outboxes { (s : ℕ) → SameOutboxAt (outbox_at s parts.outboxes.items) (outbox_at s result.outboxes.items) }
+    ensures outboxes { (s : ℕ) →
+        SameOutboxAt (outbox_at s parts.outboxes.items) (outbox_at s result.outboxes.items) }
     ensures fetch { SameFetchEnds parts.fetch result.fetch }
-    ensures flushed { Flushed (LeavesOneOf (K.honest parts.store) (K.honest result.store) K.recovers (K.device result.store))
-        (Endures (K.honest parts.store) K.recovers (K.stored parts.store) (K.device parts.store) (K.device result.store))
-        (K.stored parts.store) (K.stored result.store) result.outboxes.items result.fetch }
+    ensures flushed { Flushed
+        (LeavesOneOf (K.honest parts.store) (K.honest result.store) K.recovers
+        (K.device result.store))
+        (Endures (K.honest parts.store) K.recovers (K.stored parts.store) (K.device parts.store)
+        (K.device result.store)) (K.stored parts.store) (K.stored result.store)
+        result.outboxes.items result.fetch }
 {
     let FlusherParts {
         store,

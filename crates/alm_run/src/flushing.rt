@@ -66,7 +66,9 @@ fn answer<K: Store, T: Told + Drop, B: Board<Told = T>, E: Bell + Drop>(
     flusher: &mut RecordedFlusher<K, T, B>,
 ) -> Pass
     ensures fetch { SameFetchEnds flusher.old.flusher.fetch flusher.new.flusher.fetch }
-    ensures outboxes { (s : ℕ) → SameOutboxAt (outbox_at s flusher.old.flusher.outboxes.items) (outbox_at s flusher.new.flusher.outboxes.items) }
+    ensures outboxes { (s : ℕ) →
+        SameOutboxAt (outbox_at s flusher.old.flusher.outboxes.items)
+        (outbox_at s flusher.new.flusher.outboxes.items) }
     ensures base { B.base flusher.new.flusher.board ≡ B.base flusher.old.flusher.board }
     ensures store { flusher.new.flusher.store ≡ flusher.old.flusher.store }
     ensures first { flusher.new.first ≡ flusher.old.first }
@@ -94,7 +96,9 @@ fn step<K: Store, T: Told + Drop, B: Board<Told = T> + Publish<R>, E: Bell + Dro
     idle: u32,
 ) -> Pass
     ensures fetch { SameFetchEnds flusher.old.flusher.fetch flusher.new.flusher.fetch }
-    ensures outboxes { (s : ℕ) → SameOutboxAt (outbox_at s flusher.old.flusher.outboxes.items) (outbox_at s flusher.new.flusher.outboxes.items) }
+    ensures outboxes { (s : ℕ) →
+        SameOutboxAt (outbox_at s flusher.old.flusher.outboxes.items)
+        (outbox_at s flusher.new.flusher.outboxes.items) }
     ensures base { B.Board.base flusher.new.flusher.board ≡ B.Board.base flusher.old.flusher.board }
     ensures honest { K.honest flusher.old.flusher.store ↔ K.honest flusher.new.flusher.store }
     ensures first { flusher.new.first ≡ flusher.old.first }
@@ -120,7 +124,9 @@ pub fn flush<K: Store, T: Told + Drop, B: Board<Told = T> + Publish<R>, E: Bell 
     flusher: &mut RecordedFlusher<K, T, B>,
 )
     ensures fetch { SameFetchEnds flusher.old.flusher.fetch flusher.new.flusher.fetch }
-    ensures outboxes { (s : ℕ) → SameOutboxAt (outbox_at s flusher.old.flusher.outboxes.items) (outbox_at s flusher.new.flusher.outboxes.items) }
+    ensures outboxes { (s : ℕ) →
+        SameOutboxAt (outbox_at s flusher.old.flusher.outboxes.items)
+        (outbox_at s flusher.new.flusher.outboxes.items) }
     ensures base { B.Board.base flusher.new.flusher.board ≡ B.Board.base flusher.old.flusher.board }
     ensures honest { K.honest flusher.old.flusher.store ↔ K.honest flusher.new.flusher.store }
     ensures first { flusher.new.first ≡ flusher.old.first }

@@ -76,8 +76,10 @@ impl Gathering {
     pub fn pause(&mut self, took: u64) -> Option<Pause>
         ensures whom { IfSome result (λ _. AwaitsSome self.old) }
         ensures long { IfSome result (λ pause. pause.micros ≡ min (took / 2) 500) }
-        ensures often { IfSome result (λ _. (self.old.fresh ≡ true) × (self.new ≡ record self.old { fresh = false })) }
-        ensures none { result ≡ None → (self.new ≡ self.old) × (self.old.fresh ≡ true → AwaitsNone self.old) }
+        ensures often { IfSome result
+            (λ _. (self.old.fresh ≡ true) × (self.new ≡ record self.old { fresh = false })) }
+        ensures none { result ≡ None →
+            (self.new ≡ self.old) × (self.old.fresh ≡ true → AwaitsNone self.old) }
     {
         if !self.fresh || !self.awaits_some() {
             return None;

@@ -40,7 +40,8 @@ impl<K: Store, T: Told + Drop, B: Board<Told = T>> RecordedFlusher<K, T, B> {
         requires stored { K.stored store ≡ B.base board }
         requires published { B.published board ≡ [] }
         requires pending { B.pending board ≡ [] }
-        ensures parts { (result.flusher.store ≡ store) × (result.flusher.board ≡ board) × (result.flusher.outboxes ≡ outboxes) × (result.flusher.fetch ≡ fetch) }
+        ensures parts { (result.flusher.store ≡ store) × (result.flusher.board ≡ board) ×
+            (result.flusher.outboxes ≡ outboxes) × (result.flusher.fetch ≡ fetch) }
         ensures first { result.first.value ≡ store }
     {
         let first = Snapshot::of(&store);
@@ -51,7 +52,9 @@ impl<K: Store, T: Told + Drop, B: Board<Told = T>> RecordedFlusher<K, T, B> {
     /// Fetches the next sealed batch.
     pub fn fetch(&mut self) -> Fetch
         ensures fetch { SameFetchEnds self.old.flusher.fetch self.new.flusher.fetch }
-        ensures same { (self.new.flusher.board ≡ self.old.flusher.board) × (self.new.flusher.outboxes ≡ self.old.flusher.outboxes) × (self.new.first ≡ self.old.first) }
+        ensures same { (self.new.flusher.board ≡ self.old.flusher.board) ×
+            (self.new.flusher.outboxes ≡ self.old.flusher.outboxes) ×
+            (self.new.first ≡ self.old.first) }
         ensures honest { K.honest self.old.flusher.store ↔ K.honest self.new.flusher.store }
     {
         self.flusher.keeper().images();
@@ -60,7 +63,9 @@ impl<K: Store, T: Told + Drop, B: Board<Told = T>> RecordedFlusher<K, T, B> {
 
     /// One step of the held batch's commit, or of an open checkpoint: at most one device call.
     pub fn advance(&mut self) -> Advance
-        ensures same { (self.new.flusher.board ≡ self.old.flusher.board) × (self.new.flusher.outboxes ≡ self.old.flusher.outboxes) × (self.new.flusher.fetch ≡ self.old.flusher.fetch) × (self.new.first ≡ self.old.first) }
+        ensures same { (self.new.flusher.board ≡ self.old.flusher.board) ×
+            (self.new.flusher.outboxes ≡ self.old.flusher.outboxes) ×
+            (self.new.flusher.fetch ≡ self.old.flusher.fetch) × (self.new.first ≡ self.old.first) }
         ensures honest { K.honest self.old.flusher.store ↔ K.honest self.new.flusher.store }
     {
         self.flusher.keeper().images();
@@ -71,7 +76,9 @@ impl<K: Store, T: Told + Drop, B: Board<Told = T>> RecordedFlusher<K, T, B> {
     pub fn publish<C>(&mut self, by: &C) -> Publishes
     where
         B: Publish<C>,
-        ensures same { (self.new.flusher.store ≡ self.old.flusher.store) × (self.new.flusher.outboxes ≡ self.old.flusher.outboxes) × (self.new.flusher.fetch ≡ self.old.flusher.fetch) × (self.new.first ≡ self.old.first) }
+        ensures same { (self.new.flusher.store ≡ self.old.flusher.store) ×
+            (self.new.flusher.outboxes ≡ self.old.flusher.outboxes) ×
+            (self.new.flusher.fetch ≡ self.old.flusher.fetch) × (self.new.first ≡ self.old.first) }
         ensures base { B.Board.base self.new.flusher.board ≡ B.Board.base self.old.flusher.board }
     {
         self.flusher.keeper().images();
@@ -87,8 +94,12 @@ impl<K: Store, T: Told + Drop, B: Board<Told = T>> RecordedFlusher<K, T, B> {
 
     /// Releases the next verdict to its slot, with the published list as told.
     pub fn release(&mut self) -> Release
-        ensures outboxes { (s : ℕ) → SameOutboxAt (outbox_at s self.old.flusher.outboxes.items) (outbox_at s self.new.flusher.outboxes.items) }
-        ensures same { (self.new.flusher.store ≡ self.old.flusher.store) × (self.new.flusher.board ≡ self.old.flusher.board) × (self.new.flusher.fetch ≡ self.old.flusher.fetch) × (self.new.first ≡ self.old.first) }
+        ensures outboxes { (s : ℕ) →
+            SameOutboxAt (outbox_at s self.old.flusher.outboxes.items)
+            (outbox_at s self.new.flusher.outboxes.items) }
+        ensures same { (self.new.flusher.store ≡ self.old.flusher.store) ×
+            (self.new.flusher.board ≡ self.old.flusher.board) ×
+            (self.new.flusher.fetch ≡ self.old.flusher.fetch) × (self.new.first ≡ self.old.first) }
     {
         self.flusher.keeper().images();
         self.flusher.release()
@@ -97,7 +108,10 @@ impl<K: Store, T: Told + Drop, B: Board<Told = T>> RecordedFlusher<K, T, B> {
     /// Gives the batch back once all its verdicts are released.
     pub fn give_back(&mut self) -> bool
         ensures fetch { SameFetchEnds self.old.flusher.fetch self.new.flusher.fetch }
-        ensures same { (self.new.flusher.store ≡ self.old.flusher.store) × (self.new.flusher.board ≡ self.old.flusher.board) × (self.new.flusher.outboxes ≡ self.old.flusher.outboxes) × (self.new.first ≡ self.old.first) }
+        ensures same { (self.new.flusher.store ≡ self.old.flusher.store) ×
+            (self.new.flusher.board ≡ self.old.flusher.board) ×
+            (self.new.flusher.outboxes ≡ self.old.flusher.outboxes) ×
+            (self.new.first ≡ self.old.first) }
     {
         self.flusher.keeper().images();
         self.flusher.give_back()
@@ -106,14 +120,17 @@ impl<K: Store, T: Told + Drop, B: Board<Told = T>> RecordedFlusher<K, T, B> {
     /// The store. Each number that was released is stored.
     pub fn keeper(&self) -> &K
         ensures keeper { result.now ≡ self.now.flusher.store }
-        ensures numbers { (s k : ℕ) (r : Receipt _ _) → slice_get (released_by s self.now.flusher.outboxes.items) k ≡ Some r → r.number ≤ (K.stored self.now.flusher.store).panel.count }
+        ensures numbers { (s k : ℕ) (r : Receipt _ _) →
+            slice_get (released_by s self.now.flusher.outboxes.items) k ≡ Some r →
+            r.number ≤ (K.stored self.now.flusher.store).panel.count }
     {
         self.flusher.keeper()
     }
 
     /// Its store, its board and its ends, as they are.
     pub fn into_ends(self) -> (K, B, Vec<Outbox<T>>, FetchEnds)
-        ensures { (result.0 ≡ self.flusher.store) × (result.1 ≡ self.flusher.board) × (result.2 ≡ self.flusher.outboxes) × (result.3 ≡ self.flusher.fetch) }
+        ensures { (result.0 ≡ self.flusher.store) × (result.1 ≡ self.flusher.board) ×
+            (result.2 ≡ self.flusher.outboxes) × (result.3 ≡ self.flusher.fetch) }
     {
         let RecordedFlusher { flusher, first: _ } = self;
         flusher.into_ends()

@@ -81,7 +81,9 @@ where
     S: 's,
     B: 's,
     ensures len { IfOk result (λ handles. vec_len handles ≡ vec_len slot_parts) }
-    ensures each { IfOk result (λ handles. map (λ h. h.promise.0.value) handles.items ≡ map (λ p. p.console) slot_parts.items) }
+    ensures each { IfOk result
+        (λ handles.
+        map (λ h. h.promise.0.value) handles.items ≡ map (λ p. p.console) slot_parts.items) }
 {
     let mut handles = match Vec::with_capacity(alloc, slot_parts.len()) {
         Ok(handles) => handles,

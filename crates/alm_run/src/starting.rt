@@ -75,7 +75,8 @@ where
     requires empties { 0 < length (empties_in rings.ends) }
     requires count { (P.plant plant).panel.count ≤ 2 ^ 48 }
     requires serves { Serves slots.now.items rings.inboxes.items }
-    ensures { IfOk result (λ handle. (handle.promise.rings.value ≡ rings) × (handle.promise.plant.value ≡ plant)) }
+    ensures { IfOk result
+        (λ handle. (handle.promise.rings.value ≡ rings) × (handle.promise.plant.value ≡ plant)) }
 {
     let promise = SequencerEnds {
         rings: Snapshot::of(&rings),
@@ -84,8 +85,13 @@ where
     match scope.spawn_with(
         promise,
         move || -> Rings
-            requires { AreApart (λ i. i.slot) rings.inboxes.items × ((s : ℕ) → taken_by s rings.inboxes.items ≡ []) × (sealed_of rings.ends ≡ []) × (0 < length (empties_in rings.ends)) × ((P.plant plant).panel.count ≤ 2 ^ 48) × Serves slots.now.items rings.inboxes.items }
-            ensures { SameInboxes rings.inboxes.items result.inboxes.items × SameSealEnds rings.ends result.ends × Judged (P.plant plant) result.inboxes.items result.ends }
+            requires { AreApart (λ i. i.slot) rings.inboxes.items ×
+                ((s : ℕ) → taken_by s rings.inboxes.items ≡ []) × (sealed_of rings.ends ≡ []) ×
+                (0 < length (empties_in rings.ends)) × ((P.plant plant).panel.count ≤ 2 ^ 48) ×
+                Serves slots.now.items rings.inboxes.items }
+            ensures { SameInboxes rings.inboxes.items result.inboxes.items ×
+                SameSealEnds rings.ends result.ends ×
+                Judged (P.plant plant) result.inboxes.items result.ends }
         { run_sequencer(rt, flags, slots.as_slice(), hold, plant, rings) },
     ) {
         Ok(handle) => Ok(handle),

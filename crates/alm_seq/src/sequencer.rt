@@ -55,9 +55,13 @@ fn is_empty(batch: &Batch) -> bool
 // The spare batch, or one of the empty ones that came back.
 fn empty_batch(spare: &mut Option<Batch>, ends: &mut SealEnds) -> Option<Batch>
     ensures ends { SameSealEnds ends.old ends.new }
-    ensures sealed { (sealed_of ends.new ≡ sealed_of ends.old) × (places_of ends.new ≡ places_of ends.old) }
-    ensures some { OnSome result ((spare.new ≡ None) × (length (emptied_of ends.new) + spares spare.old ≡ length (emptied_of ends.old) + 1)) }
-    ensures none { IfNone result ((spare.new ≡ spare.old) × (emptied_of ends.new ≡ emptied_of ends.old)) }
+    ensures sealed { (sealed_of ends.new ≡ sealed_of ends.old) ×
+        (places_of ends.new ≡ places_of ends.old) }
+    ensures some { OnSome result
+        ((spare.new ≡ None) ×
+        (length (emptied_of ends.new) + spares spare.old ≡ length (emptied_of ends.old) + 1)) }
+    ensures none { IfNone result
+        ((spare.new ≡ spare.old) × (emptied_of ends.new ≡ emptied_of ends.old)) }
     ensures cause { 0 < spares spare.old + length (empties_in ends.old) → IsSome result }
 {
     match spare.take() {
@@ -75,11 +79,15 @@ fn judge_into<P: Alarms>(
     want: Action,
 ) -> Verdict
     requires { length batch.old.entries < 256 }
-    ensures verdict { result ≡ verdict_of (P.plant plant.old) (record { slot = slot; want = want }) }
+    ensures verdict { result ≡
+        verdict_of (P.plant plant.old) (record { slot = slot; want = want }) }
     ensures after { P.plant plant.new ≡ after_verdict (P.plant plant.old) result }
-    ensures most { (P.plant plant.old).panel.count ≤ 2 ^ 48 → (P.plant plant.new).panel.count ≤ 2 ^ 48 }
+    ensures most { (P.plant plant.old).panel.count ≤ 2 ^ 48 →
+        (P.plant plant.new).panel.count ≤ 2 ^ 48 }
     ensures first { batch.new.first ≡ batch.old.first }
-    ensures entries { batch.new.entries ≡ batch.old.entries ++ record { slot = slot; serial = serial; want = want; verdict = result } ∷ [] }
+    ensures entries { batch.new.entries ≡
+        batch.old.entries ++
+        record { slot = slot; serial = serial; want = want; verdict = result } ∷ [] }
 {
     let asked = want;
     let of = slot;
@@ -115,8 +123,10 @@ impl<P: Alarms + Drop> Sequencer<P> {
         requires empties { 0 < length (empties_in ends) }
         requires count { (P.plant plant).panel.count ≤ 2 ^ 48 }
         ensures inboxes { result.inboxes ≡ inboxes }
-        ensures ends { SameSealEnds ends result.ends × (sealed_of result.ends ≡ []) × (length (emptied_of result.ends) ≡ length (emptied_of ends) + 1) }
-        ensures new { (history_of result ≡ []) × (base_of result ≡ P.plant plant) × (result.spare ≡ None) }
+        ensures ends { SameSealEnds ends result.ends × (sealed_of result.ends ≡ []) ×
+            (length (emptied_of result.ends) ≡ length (emptied_of ends) + 1) }
+        ensures new { (history_of result ≡ []) × (base_of result ≡ P.plant plant) ×
+            (result.spare ≡ None) }
     {
         let mut places = [0; SLOTS];
         for place in 0..inboxes.len() {
@@ -143,7 +153,8 @@ impl<P: Alarms + Drop> Sequencer<P> {
     fn place(&self, slot: Slot) -> usize
         requires { IsSome (inbox_at slot self.now.inboxes.items) }
         ensures limit { result < length self.now.inboxes.items }
-        ensures slot { (i : Inbox) → slice_get self.now.inboxes.items result ≡ Some i → i.slot ≡ slot }
+        ensures slot { (i : Inbox) → slice_get self.now.inboxes.items result ≡ Some i →
+            i.slot ≡ slot }
     {
         self.places[slot.number() as usize]
     }
@@ -198,17 +209,26 @@ impl<P: Alarms + Drop> Sequencer<P> {
     /// Tells a slot's inbox and the console at its other end, in one thread, what the other did. Takes no memory.
     pub fn requests_beside<T: Told + Drop>(&mut self, slot: Slot, console: &mut Console<T>)
         requires slot { IsSome (inbox_at slot self.old.inboxes.items) }
-        requires ends { (i : Inbox) → inbox_at slot self.old.inboxes.items ≡ Some i → IsPair console.old.requests i.requests }
+        requires ends { (i : Inbox) → inbox_at slot self.old.inboxes.items ≡ Some i →
+            IsPair console.old.requests i.requests }
         ensures seals { SameSeals self.old self.new × (self.new.batch ≡ self.old.batch) }
-        ensures taken { (s : ℕ) → taken_by s self.new.inboxes.items ≡ taken_by s self.old.inboxes.items }
+        ensures taken { (s : ℕ) →
+            taken_by s self.new.inboxes.items ≡ taken_by s self.old.inboxes.items }
         ensures inboxes { SameInboxes self.old.inboxes.items self.new.inboxes.items }
-        ensures others { (s : ℕ) → s ≢ slot → inbox_at s self.new.inboxes.items ≡ inbox_at s self.old.inboxes.items }
-        ensures ends { (i : Inbox) → inbox_at slot self.new.inboxes.items ≡ Some i → IsPair console.new.requests i.requests }
-        ensures console { SameConsole console.old console.new × (sent_of console.new ≡ sent_of console.old) × (received_of console.new ≡ received_of console.old) × (coming_to console.new ≡ coming_to console.old) }
-        ensures requests { taken_by slot self.new.inboxes.items ++ waiting_by slot self.new.inboxes.items ≡ sent_of console.new }
+        ensures others { (s : ℕ) → s ≢ slot →
+            inbox_at s self.new.inboxes.items ≡ inbox_at s self.old.inboxes.items }
+        ensures ends { (i : Inbox) → inbox_at slot self.new.inboxes.items ≡ Some i →
+            IsPair console.new.requests i.requests }
+        ensures console { SameConsole console.old console.new ×
+            (sent_of console.new ≡ sent_of console.old) ×
+            (received_of console.new ≡ received_of console.old) ×
+            (coming_to console.new ≡ coming_to console.old) }
+        ensures requests { taken_by slot self.new.inboxes.items ++
+            waiting_by slot self.new.inboxes.items ≡ sent_of console.new }
         ensures serials { length (sent_of console.new) < 2 ^ 64 }
         ensures few { length (sent_of console.new) ≤ 64 + length (received_of console.new) }
-        ensures room { 64 + length (taken_by slot self.new.inboxes.items) ≤ room_of console.new + length (sent_of console.new) }
+        ensures room { 64 + length (taken_by slot self.new.inboxes.items) ≤
+            room_of console.new + length (sent_of console.new) }
     {
         let place = self.place(slot);
         requests_beside(console, &mut self.inboxes[place]);
@@ -236,9 +256,13 @@ impl<P: Alarms + Drop> Sequencer<P> {
     pub fn live(&self) -> &P
         ensures live { P.plant result.now ≡ live_of self.now }
         ensures legal { IsLegal (base_of self.now) (history_of self.now) }
-        ensures wants { (s : ℕ) → wants_of (of_slot s (history_of self.now)) ≡ taken_by s self.now.inboxes.items }
-        ensures serials { (s : ℕ) → serials_of (of_slot s (history_of self.now)) ≡ range_with_len 1 (length (taken_by s self.now.inboxes.items)) }
-        ensures firsts { firsts_of (sealed_of self.now.ends) ≡ firsts_from ((base_of self.now).panel.count + 1) (sealed_of self.now.ends) }
+        ensures wants { (s : ℕ) →
+            wants_of (of_slot s (history_of self.now)) ≡ taken_by s self.now.inboxes.items }
+        ensures serials { (s : ℕ) →
+            serials_of (of_slot s (history_of self.now)) ≡
+            range_with_len 1 (length (taken_by s self.now.inboxes.items)) }
+        ensures firsts { firsts_of (sealed_of self.now.ends) ≡
+            firsts_from ((base_of self.now).panel.count + 1) (sealed_of self.now.ends) }
     {
         &self.plant
     }

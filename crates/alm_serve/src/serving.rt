@@ -86,8 +86,10 @@ fn run_parts<
 ) -> Result<Option<u64>, StartFault>
     requires ports { map (λ port. port.slot) ports.ports.items ≡ parts.slots.items }
     requires slots { AreAllSlots parts.slots.items }
-    ensures { IfOk result (λ told. Tells (K.honest parts.entry.middle.flusher.store) K.recovers
-        (K.stored parts.entry.middle.flusher.store) (K.device parts.entry.middle.flusher.store) told) }
+    ensures { IfOk result
+        (λ told. Tells (K.honest parts.entry.middle.flusher.store) K.recovers
+        (K.stored parts.entry.middle.flusher.store) (K.device parts.entry.middle.flusher.store)
+        told) }
 {
     let SlotPorts { ports, bells } = ports;
     let report = run_with_bells(rt, alloc, parts, &Free, bells, ports)?;
@@ -113,7 +115,8 @@ fn run_behind<J: Naming + Send + Sync, K: Store, R: Threads + Wait + Clock + Syn
     requires slots { AreAllSlots slots.items }
     requires apart { AreApart (λ s. s) slots.items }
     requires ports { map (λ port. port.slot) ports.ports.items ≡ slots.items }
-    ensures { IfOk result (λ told. Tells (K.honest store) K.recovers (K.stored store) (K.device store) told) }
+    ensures { IfOk result
+        (λ told. Tells (K.honest store) K.recovers (K.stored store) (K.device store) told) }
 {
     match parts_of::<J, K, Free, R>(rt, alloc, history, store, slots, &Free) {
         Ok(parts) => run_parts::<J, Plant, K, R>(rt, alloc, parts, ports),
@@ -142,8 +145,12 @@ fn serve_over<
     requires limit { (K.stored store).panel.count ≤ 2 ^ 48 }
     requires port { port ≤ 65518 }
     ensures writes { ServeWrites port (W.contents writer.old) (W.contents writer.new) result }
-    ensures ran { IfOk result (λ count. Tells (K.honest store) K.recovers (K.stored store) (K.device store) (Some count)) }
-    ensures stopped { IfErr result (λ fault. fault ≡ ServeFault.Storage → Tells (K.honest store) K.recovers (K.stored store) (K.device store) None) }
+    ensures ran { IfOk result
+        (λ count.
+        Tells (K.honest store) K.recovers (K.stored store) (K.device store) (Some count)) }
+    ensures stopped { IfErr result
+        (λ fault. fault ≡ ServeFault.Storage →
+        Tells (K.honest store) K.recovers (K.stored store) (K.device store) None) }
     ensures opened { IfErr result (λ fault. (why : OpenFault) → fault ≢ ServeFault.Open why) }
 {
     let slots = match all_slots(alloc) {

@@ -31,7 +31,8 @@ impl<R: Read + Drop> CountedReader<R> {
     /// Reads some bytes.
     pub fn take(&mut self, into: &mut [u8]) -> ReadOutcome
         requires { 0 < length into.old }
-        ensures bytes { GivesBytes result (R.remaining self.old.inner) (R.remaining self.new.inner) into.new }
+        ensures bytes { GivesBytes result (R.remaining self.old.inner) (R.remaining self.new.inner)
+            into.new }
         ensures reads { self.new.reads ≡ one_more self.old.reads }
         ensures failed { CountsFailure result self.old.failed self.new.failed }
     {

@@ -30,7 +30,8 @@ fn refuse<W: Write + Drop>(
     refusal: Refusal,
     writer: &mut CountedWriter<W>,
 ) -> Result<(), WriteFailed>
-    ensures text { Prints (W.contents writer.old.inner) (W.contents writer.new.inner) (unreadable_text refusal) result }
+    ensures text { Prints (W.contents writer.old.inner) (W.contents writer.new.inner)
+        (unreadable_text refusal) result }
     ensures whole { OnOk result (writer.new.failed ≡ writer.old.failed) }
     ensures failed { OnErr result (writer.new.failed ≡ one_more writer.old.failed) }
 {
@@ -49,14 +50,18 @@ fn answer_at<B: Backend + Drop, W: Write + Drop>(
     writer: &mut CountedWriter<W>,
 ) -> Result<Hindrance, WriteFailed>
     requires { desk.old.closed ≡ false }
-    ensures text { IfOk result (λ hindrance. Appends (W.contents writer.old.inner) (W.contents writer.new.inner) (desk_reply
-        desk.old.standing (request_of slot line.now) hindrance)) }
-    ensures standing { IfOk result (λ hindrance. desk.new.standing ≡ desk_after desk.old.standing (request_of slot line.now) hindrance) }
+    ensures text { IfOk result
+        (λ hindrance. Appends (W.contents writer.old.inner) (W.contents writer.new.inner)
+        (desk_reply desk.old.standing (request_of slot line.now) hindrance)) }
+    ensures standing { IfOk result
+        (λ hindrance.
+        desk.new.standing ≡ desk_after desk.old.standing (request_of slot line.now) hindrance) }
     ensures open { OnOk result (desk.new.closed ≡ false) }
     ensures helds { desk.new.helds ≡ desk.old.helds }
     ensures whole { OnOk result (writer.new.failed ≡ writer.old.failed) }
-    ensures cut { OnErr result (IsCutDeskLine desk.old.standing (request_of slot line.now) (W.contents writer.old.inner) desk.new.standing
-        (W.contents writer.new.inner)) }
+    ensures cut { OnErr result
+        (IsCutDeskLine desk.old.standing (request_of slot line.now) (W.contents writer.old.inner)
+        desk.new.standing (W.contents writer.new.inner)) }
     ensures failed { OnErr result (writer.new.failed ≡ one_more writer.old.failed) }
 {
     writer.parts(&[Part::Number(u64::from(slot.number())), Part::Word(" ")])?;
@@ -73,14 +78,18 @@ pub fn answer_desk_line<B: Backend + Drop, W: Write + Drop>(
     writer: &mut CountedWriter<W>,
 ) -> Result<Hindrance, WriteFailed>
     requires { desk.old.closed ≡ false }
-    ensures text { IfOk result (λ hindrance. Appends (W.contents writer.old.inner) (W.contents writer.new.inner) (desk_reply
-        desk.old.standing (desk_line_of line.now) hindrance)) }
-    ensures standing { IfOk result (λ hindrance. desk.new.standing ≡ desk_after desk.old.standing (desk_line_of line.now) hindrance) }
+    ensures text { IfOk result
+        (λ hindrance. Appends (W.contents writer.old.inner) (W.contents writer.new.inner)
+        (desk_reply desk.old.standing (desk_line_of line.now) hindrance)) }
+    ensures standing { IfOk result
+        (λ hindrance.
+        desk.new.standing ≡ desk_after desk.old.standing (desk_line_of line.now) hindrance) }
     ensures open { OnOk result (desk.new.closed ≡ false) }
     ensures helds { desk.new.helds ≡ desk.old.helds }
     ensures whole { OnOk result (writer.new.failed ≡ writer.old.failed) }
-    ensures cut { OnErr result (IsCutDeskLine desk.old.standing (desk_line_of line.now) (W.contents writer.old.inner) desk.new.standing
-        (W.contents writer.new.inner)) }
+    ensures cut { OnErr result
+        (IsCutDeskLine desk.old.standing (desk_line_of line.now) (W.contents writer.old.inner)
+        desk.new.standing (W.contents writer.new.inner)) }
     ensures failed { OnErr result (writer.new.failed ≡ one_more writer.old.failed) }
 {
     if line.len() > LINE_LIMIT {

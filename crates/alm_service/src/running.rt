@@ -26,13 +26,16 @@ fn answer_byte<B: Backend + Drop, W: Write + Drop>(
     writer: &mut CountedWriter<W>,
 ) -> Result<(), WriteFailed>
     requires { desk.old.closed ≡ false }
-    ensures answered { OnOk result (IsPrinted desk.old.standing held.old (byte ∷ []) (W.contents writer.old.inner) desk.new.standing
-        held.new (W.contents writer.new.inner)) }
+    ensures answered { OnOk result
+        (IsPrinted desk.old.standing held.old (byte ∷ []) (W.contents writer.old.inner)
+        desk.new.standing held.new (W.contents writer.new.inner)) }
     ensures open { OnOk result (desk.new.closed ≡ false) }
     ensures helds { desk.new.helds ≡ desk.old.helds }
     ensures whole { OnOk result (writer.new.failed ≡ writer.old.failed) }
-    ensures cut { OnErr result ((is_end byte ≡ true) × IsCutDeskLine desk.old.standing (desk_line_of held.old)
-        (W.contents writer.old.inner) desk.new.standing (W.contents writer.new.inner)) }
+    ensures cut { OnErr result
+        ((is_end byte ≡ true) ×
+        IsCutDeskLine desk.old.standing (desk_line_of held.old) (W.contents writer.old.inner)
+        desk.new.standing (W.contents writer.new.inner)) }
     ensures failed { OnErr result (writer.new.failed ≡ one_more writer.old.failed) }
 {
     if byte == b'\n' {
@@ -52,12 +55,14 @@ fn answer_bytes<B: Backend + Drop, W: Write + Drop>(
     writer: &mut CountedWriter<W>,
 ) -> Result<(), WriteFailed>
     requires { desk.old.closed ≡ false }
-    ensures answered { OnOk result (IsPrinted desk.old.standing held.old bytes.now (W.contents writer.old.inner) desk.new.standing
-        held.new (W.contents writer.new.inner)) }
+    ensures answered { OnOk result
+        (IsPrinted desk.old.standing held.old bytes.now (W.contents writer.old.inner)
+        desk.new.standing held.new (W.contents writer.new.inner)) }
     ensures open { OnOk result (desk.new.closed ≡ false) }
     ensures helds { desk.new.helds ≡ desk.old.helds }
     ensures whole { OnOk result (writer.new.failed ≡ writer.old.failed) }
-    ensures broken { OnErr result (BreaksOff desk.old.standing (lines_of held.old bytes.now) (W.contents writer.old.inner)
+    ensures broken { OnErr result
+        (BreaksOff desk.old.standing (lines_of held.old bytes.now) (W.contents writer.old.inner)
         desk.new.standing (W.contents writer.new.inner)) }
     ensures failed { OnErr result (writer.new.failed ≡ one_more writer.old.failed) }
 {
@@ -75,12 +80,14 @@ fn answer_and_flush<B: Backend + Drop, W: Write + Drop>(
     writer: &mut CountedWriter<W>,
 ) -> Result<(), WriteFailed>
     requires { desk.old.closed ≡ false }
-    ensures answered { OnOk result (IsPrinted desk.old.standing held.old bytes.now (W.contents writer.old.inner) desk.new.standing
-        held.new (W.contents writer.new.inner)) }
+    ensures answered { OnOk result
+        (IsPrinted desk.old.standing held.old bytes.now (W.contents writer.old.inner)
+        desk.new.standing held.new (W.contents writer.new.inner)) }
     ensures open { OnOk result (desk.new.closed ≡ false) }
     ensures helds { desk.new.helds ≡ desk.old.helds }
     ensures whole { OnOk result (writer.new.failed ≡ writer.old.failed) }
-    ensures broken { OnErr result (BreaksOff desk.old.standing (lines_of held.old bytes.now) (W.contents writer.old.inner)
+    ensures broken { OnErr result
+        (BreaksOff desk.old.standing (lines_of held.old bytes.now) (W.contents writer.old.inner)
         desk.new.standing (W.contents writer.new.inner)) }
     ensures failed { OnErr result (writer.new.failed ≡ one_more writer.old.failed) }
 {
@@ -98,20 +105,25 @@ fn turn<R: Read + Drop, B: Backend + Drop, W: Write + Drop>(
 ) -> Result<bool, RunFault>
     requires open { desk.old.closed ≡ false }
     requires room { 0 < length piece.old }
-    ensures answered { IfOk result (λ more. IsTurn more desk.old.standing held.old (R.remaining reader.old.inner)
-        (W.contents writer.old.inner) desk.new.standing held.new (R.remaining reader.new.inner) (W.contents writer.new.inner)) }
+    ensures answered { IfOk result
+        (λ more. IsTurn more desk.old.standing held.old (R.remaining reader.old.inner)
+        (W.contents writer.old.inner) desk.new.standing held.new (R.remaining reader.new.inner)
+        (W.contents writer.new.inner)) }
     ensures open { OnOk result (desk.new.closed ≡ false) }
     ensures helds { desk.new.helds ≡ desk.old.helds }
     ensures reads { reader.new.reads ≡ one_more reader.old.reads }
     ensures whole_reader { OnOk result (reader.new.failed ≡ reader.old.failed) }
     ensures whole_writer { OnOk result (writer.new.failed ≡ writer.old.failed) }
     ensures read { result ≡ Err RunFault.Read → reader.new.failed ≡ one_more reader.old.failed }
-    ensures still { result ≡ Err RunFault.Read → (desk.new ≡ desk.old) × (writer.new ≡ writer.old) × Consumes
-        (R.remaining reader.old.inner) (R.remaining reader.new.inner) [] }
-    ensures write { result ≡ Err RunFault.Write → (writer.new.failed ≡ one_more writer.old.failed) × (reader.new.failed ≡
-        reader.old.failed) }
-    ensures broken { result ≡ Err RunFault.Write → IsBroken desk.old.standing held.old (R.remaining reader.old.inner)
-        (W.contents writer.old.inner) desk.new.standing (R.remaining reader.new.inner) (W.contents writer.new.inner) }
+    ensures still { result ≡ Err RunFault.Read →
+        (desk.new ≡ desk.old) × (writer.new ≡ writer.old) ×
+        Consumes (R.remaining reader.old.inner) (R.remaining reader.new.inner) [] }
+    ensures write { result ≡ Err RunFault.Write →
+        (writer.new.failed ≡ one_more writer.old.failed) × (reader.new.failed ≡ reader.old.failed) }
+    ensures broken { result ≡ Err RunFault.Write →
+        IsBroken desk.old.standing held.old (R.remaining reader.old.inner)
+        (W.contents writer.old.inner) desk.new.standing (R.remaining reader.new.inner)
+        (W.contents writer.new.inner) }
     ensures shut { result ≡ Err RunFault.Write → desk.new.closed ≡ true }
 {
     match reader.take(piece) {
@@ -135,24 +147,34 @@ pub fn desk_run<R: Read + Drop, B: Backend + Drop, W: Write + Drop>(
     writer: &mut CountedWriter<W>,
     desk: &mut LocalDesk<B>,
 ) -> Result<(), RunFault>
-    ensures desk { OnOk result (IfSome (R.remaining reader.old.inner) (λ input. IsDesk desk.old.standing input
-        (W.contents writer.old.inner) desk.new.standing (W.contents writer.new.inner))) }
+    ensures desk { OnOk result
+        (IfSome (R.remaining reader.old.inner)
+        (λ input. IsDesk desk.old.standing input (W.contents writer.old.inner) desk.new.standing
+        (W.contents writer.new.inner))) }
     ensures end { OnOk result (IsAtEnd (R.remaining reader.new.inner)) }
     ensures open { OnOk result ((desk.old.closed ≡ false) × (desk.new.closed ≡ false)) }
-    ensures whole { OnOk result ((reader.new.failed ≡ reader.old.failed) × (writer.new.failed ≡ writer.old.failed)) }
+    ensures whole { OnOk result
+        ((reader.new.failed ≡ reader.old.failed) × (writer.new.failed ≡ writer.old.failed)) }
     ensures helds { desk.new.helds ≡ desk.old.helds }
-    ensures read { result ≡ Err RunFault.Read → (reader.new.failed ≡ one_more reader.old.failed) ⊎ (reader.new.reads ≡ min
-        (reader.old.reads + 2 ^ 32) (2 ^ 64 - 1)) }
-    ensures answered { result ≡ Err RunFault.Read → IsPrintedSoFar desk.old.standing (R.remaining reader.old.inner)
-        (W.contents writer.old.inner) desk.new.standing (R.remaining reader.new.inner) (W.contents writer.new.inner) }
-    ensures read_open { result ≡ Err RunFault.Read → (desk.old.closed ≡ false) × (desk.new.closed ≡ false) }
+    ensures read { result ≡ Err RunFault.Read →
+        (reader.new.failed ≡ one_more reader.old.failed) ⊎
+        (reader.new.reads ≡ min (reader.old.reads + 2 ^ 32) (2 ^ 64 - 1)) }
+    ensures answered { result ≡ Err RunFault.Read →
+        IsPrintedSoFar desk.old.standing (R.remaining reader.old.inner)
+        (W.contents writer.old.inner) desk.new.standing (R.remaining reader.new.inner)
+        (W.contents writer.new.inner) }
+    ensures read_open { result ≡ Err RunFault.Read →
+        (desk.old.closed ≡ false) × (desk.new.closed ≡ false) }
     ensures read_alone { result ≡ Err RunFault.Read → writer.new.failed ≡ writer.old.failed }
-    ensures write { result ≡ Err RunFault.Write → (desk.old.closed ≡ true) ⊎ (writer.new.failed ≡ one_more writer.old.failed) }
+    ensures write { result ≡ Err RunFault.Write →
+        (desk.old.closed ≡ true) ⊎ (writer.new.failed ≡ one_more writer.old.failed) }
     ensures write_alone { result ≡ Err RunFault.Write → reader.new.failed ≡ reader.old.failed }
-    ensures broken { result ≡ Err RunFault.Write → desk.old.closed ≡ false → IsBroken desk.old.standing [] (R.remaining reader.old.inner)
-        (W.contents writer.old.inner) desk.new.standing (R.remaining reader.new.inner) (W.contents writer.new.inner) }
+    ensures broken { result ≡ Err RunFault.Write → desk.old.closed ≡ false →
+        IsBroken desk.old.standing [] (R.remaining reader.old.inner) (W.contents writer.old.inner)
+        desk.new.standing (R.remaining reader.new.inner) (W.contents writer.new.inner) }
     ensures shut { result ≡ Err RunFault.Write → desk.new.closed ≡ true }
-    ensures still { desk.old.closed ≡ true → (result ≡ Err RunFault.Write) × (desk.new ≡ desk.old) × (reader.new ≡ reader.old) ×
+    ensures still { desk.old.closed ≡ true →
+        (result ≡ Err RunFault.Write) × (desk.new ≡ desk.old) × (reader.new ≡ reader.old) ×
         (writer.new ≡ writer.old) }
 {
     if desk.is_closed() {

@@ -23,8 +23,10 @@ fn show_told<P: Alarms, W: Write + Drop>(
     answer: &mut Answer,
     writer: &mut CountedWriter<W>,
 ) -> Result<(), ShowFault>
-    ensures text { Prints (W.contents writer.old.inner) (W.contents writer.new.inner) (told_between (text_of_parts front.now) end.now (look (P.plant plant.now) query)) result }
-    ensures counts { CountsShow result writer.old.failed writer.new.failed answer.old.refused answer.new.refused }
+    ensures text { Prints (W.contents writer.old.inner) (W.contents writer.new.inner)
+        (told_between (text_of_parts front.now) end.now (look (P.plant plant.now) query)) result }
+    ensures counts { CountsShow result writer.old.failed writer.new.failed answer.old.refused
+        answer.new.refused }
 {
     match look(plant, query, answer) {
         Ok(_) => {
@@ -43,8 +45,10 @@ fn show_alarm<P: Alarms, W: Write + Drop>(
     answer: &mut Answer,
     writer: &mut CountedWriter<W>,
 ) -> Result<(), ShowFault>
-    ensures text { Prints (W.contents writer.old.inner) (W.contents writer.new.inner) (alarm_line (P.plant plant.now) number) result }
-    ensures counts { CountsShow result writer.old.failed writer.new.failed answer.old.refused answer.new.refused }
+    ensures text { Prints (W.contents writer.old.inner) (W.contents writer.new.inner)
+        (alarm_line (P.plant plant.now) number) result }
+    ensures counts { CountsShow result writer.old.failed writer.new.failed answer.old.refused
+        answer.new.refused }
 {
     let Some(attr) = plant.attr(AlarmId(number)) else {
         return Ok(());
@@ -72,8 +76,10 @@ fn show_priority<P: Alarms, W: Write + Drop>(
     answer: &mut Answer,
     writer: &mut CountedWriter<W>,
 ) -> Result<(), ShowFault>
-    ensures text { Prints (W.contents writer.old.inner) (W.contents writer.new.inner) (priority_line (P.plant plant.now) priority) result }
-    ensures counts { CountsShow result writer.old.failed writer.new.failed answer.old.refused answer.new.refused }
+    ensures text { Prints (W.contents writer.old.inner) (W.contents writer.new.inner)
+        (priority_line (P.plant plant.now) priority) result }
+    ensures counts { CountsShow result writer.old.failed writer.new.failed answer.old.refused
+        answer.new.refused }
 {
     let front = [Part::Word("P "), Part::Number(u64::from(priority))];
     show_told(
@@ -93,8 +99,10 @@ fn show_area<P: Alarms, W: Write + Drop>(
     answer: &mut Answer,
     writer: &mut CountedWriter<W>,
 ) -> Result<(), ShowFault>
-    ensures text { Prints (W.contents writer.old.inner) (W.contents writer.new.inner) (area_line (P.plant plant.now) area) result }
-    ensures counts { CountsShow result writer.old.failed writer.new.failed answer.old.refused answer.new.refused }
+    ensures text { Prints (W.contents writer.old.inner) (W.contents writer.new.inner)
+        (area_line (P.plant plant.now) area) result }
+    ensures counts { CountsShow result writer.old.failed writer.new.failed answer.old.refused
+        answer.new.refused }
 {
     let front = [Part::Word("A "), Part::Number(u64::from(area))];
     show_told(plant, &front, Query::Area(area), " FLOOD", answer, writer)?;
@@ -108,8 +116,10 @@ fn show_alarms<P: Alarms, W: Write + Drop>(
     answer: &mut Answer,
     writer: &mut CountedWriter<W>,
 ) -> Result<(), ShowFault>
-    ensures text { Prints (W.contents writer.old.inner) (W.contents writer.new.inner) (flat_map (alarm_line (P.plant plant.now)) (range_with_len 0 count)) result }
-    ensures counts { CountsShow result writer.old.failed writer.new.failed answer.old.refused answer.new.refused }
+    ensures text { Prints (W.contents writer.old.inner) (W.contents writer.new.inner)
+        (flat_map (alarm_line (P.plant plant.now)) (range_with_len 0 count)) result }
+    ensures counts { CountsShow result writer.old.failed writer.new.failed answer.old.refused
+        answer.new.refused }
 {
     for number in 0..count {
         show_alarm(plant, number, answer, writer)?;
@@ -123,8 +133,10 @@ fn show_priorities<P: Alarms, W: Write + Drop>(
     answer: &mut Answer,
     writer: &mut CountedWriter<W>,
 ) -> Result<(), ShowFault>
-    ensures text { Prints (W.contents writer.old.inner) (W.contents writer.new.inner) (flat_map (priority_line (P.plant plant.now)) (range_with_len 1 4)) result }
-    ensures counts { CountsShow result writer.old.failed writer.new.failed answer.old.refused answer.new.refused }
+    ensures text { Prints (W.contents writer.old.inner) (W.contents writer.new.inner)
+        (flat_map (priority_line (P.plant plant.now)) (range_with_len 1 4)) result }
+    ensures counts { CountsShow result writer.old.failed writer.new.failed answer.old.refused
+        answer.new.refused }
 {
     for priority in 1..5 {
         show_priority(plant, priority, answer, writer)?;
@@ -139,8 +151,10 @@ fn show_areas<P: Alarms, W: Write + Drop>(
     answer: &mut Answer,
     writer: &mut CountedWriter<W>,
 ) -> Result<(), ShowFault>
-    ensures text { Prints (W.contents writer.old.inner) (W.contents writer.new.inner) (flat_map (area_line (P.plant plant.now)) (range_with_len 0 count)) result }
-    ensures counts { CountsShow result writer.old.failed writer.new.failed answer.old.refused answer.new.refused }
+    ensures text { Prints (W.contents writer.old.inner) (W.contents writer.new.inner)
+        (flat_map (area_line (P.plant plant.now)) (range_with_len 0 count)) result }
+    ensures counts { CountsShow result writer.old.failed writer.new.failed answer.old.refused
+        answer.new.refused }
 {
     for area in 0..count {
         show_area(plant, area, answer, writer)?;
@@ -155,8 +169,10 @@ pub fn show_plant<P: Alarms, W: Write + Drop>(
     answer: &mut Answer,
     writer: &mut CountedWriter<W>,
 ) -> Result<(), ShowFault>
-    ensures text { Prints (W.contents writer.old.inner) (W.contents writer.new.inner) (plant_text (P.plant plant.now) epoch) result }
-    ensures counts { CountsShow result writer.old.failed writer.new.failed answer.old.refused answer.new.refused }
+    ensures text { Prints (W.contents writer.old.inner) (W.contents writer.new.inner)
+        (plant_text (P.plant plant.now) epoch) result }
+    ensures counts { CountsShow result writer.old.failed writer.new.failed answer.old.refused
+        answer.new.refused }
 {
     writer.parts(&[
         Part::Word("NOW "),

@@ -13,9 +13,11 @@ fn drop_one<T: Told + Drop, L: FreeLook<Told = T>>(console: &mut Console<T>, loo
     ensures base { L.Look.base look.new ≡ L.Look.base look.old }
     ensures end { SameConsole console.old console.new }
     ensures sent { sent_of console.new ≡ sent_of console.old }
-    ensures drained { IsDrained (L.Look.base look.old) (L.Look.knows look.old) (heard_by console.old) (L.Look.knows look.new) (heard_by console.new) }
+    ensures drained { IsDrained (L.Look.base look.old) (L.Look.knows look.old)
+        (heard_by console.old) (L.Look.knows look.new) (heard_by console.new) }
     ensures quiet { result ≡ false → IsQuiet console.new }
-    ensures one { result ≡ true → length (received_of console.new) ≡ length (received_of console.old) + 1 }
+    ensures one { result ≡ true →
+        length (received_of console.new) ≡ length (received_of console.old) + 1 }
 {
     match console.receive() {
         Some(receipt) => {
@@ -32,9 +34,12 @@ pub fn drain<T: Told + Drop, L: FreeLook<Told = T>>(console: &mut Console<T>, lo
     ensures base { L.Look.base look.new ≡ L.Look.base look.old }
     ensures end { SameConsole console.old console.new }
     ensures sent { sent_of console.new ≡ sent_of console.old }
-    ensures drained { IsDrained (L.Look.base look.old) (L.Look.knows look.old) (heard_by console.old) (L.Look.knows look.new) (heard_by console.new) }
-    ensures all { IsQuiet console.new ⊎ (length (received_of console.old) + 64 ≤ length (received_of console.new)) }
-    ensures settled { IsTrue result ↔ (length (sent_of console.new) ≤ length (received_of console.new)) }
+    ensures drained { IsDrained (L.Look.base look.old) (L.Look.knows look.old)
+        (heard_by console.old) (L.Look.knows look.new) (heard_by console.new) }
+    ensures all { IsQuiet console.new ⊎
+        (length (received_of console.old) + 64 ≤ length (received_of console.new)) }
+    ensures settled { IsTrue result ↔
+        (length (sent_of console.new) ≤ length (received_of console.new)) }
 {
     for _receipt in 0..64_usize {
         if !drop_one(console, look) {

@@ -27,7 +27,8 @@ impl Model for Intake {
 
     ghost Value = { Held };
 
-    ghost view = { λ i. record { line = i.line; held = i.decoder; rest = drop i.at (take i.end i.bytes) } };
+    ghost view = { λ i.
+        record { line = i.line; held = i.decoder; rest = drop i.at (take i.end i.bytes) } };
 
     ghost invariant = { λ i. (i.at ≤ i.end) × (i.end ≤ 4096) };
 }
@@ -38,7 +39,8 @@ fn feed_from(decoder: &mut Decoder, bytes: &[u8], at: usize, end: usize) -> (usi
     requires within { end ≤ length bytes.now }
     ensures within { at + result.0 ≤ end }
     ensures used { result.0 ≡ used (drop at (take end bytes.now)) }
-    ensures line { result.1 ≡ option_map line_of (found decoder.old (drop at (take end bytes.now))) }
+    ensures line { result.1 ≡
+        option_map line_of (found decoder.old (drop at (take end bytes.now))) }
     ensures held { decoder.new ≡ fed decoder.old (take result.0 (drop at (take end bytes.now))) }
 {
     let (piece, _) = bytes.split_at(end);

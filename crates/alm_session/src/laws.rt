@@ -16,14 +16,17 @@ use alm_board::Look;
 pub fn turns_answer_all_lines<L: Look>()
     ensures among { (x y : L) (base : Condensed) (n : ℕ) (a b : Side) →
         IsTurn (between L.looked x y) base n a b → IsTurn (looks_of L.looked) base n a b }
-    ensures join { (base : Condensed) (m n : ℕ) (a b c : Side) → IsTurn (looks_of L.looked) base m a b →
-        IsTurn (looks_of L.looked) base n b c → IsTurn (looks_of L.looked) base (m + n) a c }
-    ensures ended { (base : Condensed) (n : ℕ) (a b : Side) → IsTurn (looks_of L.looked) base n a b →
-        IsFresh a → IsFinished b → IsAnswered (looks_of L.looked) base a b }
+    ensures join { (base : Condensed) (m n : ℕ) (a b c : Side) →
+        IsTurn (looks_of L.looked) base m a b → IsTurn (looks_of L.looked) base n b c →
+        IsTurn (looks_of L.looked) base (m + n) a c }
+    ensures ended { (base : Condensed) (n : ℕ) (a b : Side) →
+        IsTurn (looks_of L.looked) base n a b → IsFresh a → IsFinished b →
+        IsAnswered (looks_of L.looked) base a b }
 {}
 
 /// Of a plant that keeps its rules, and so has 16,384 alarms at most, no reply to a query is longer than the room for replies: such a
 /// query is never refused for its length.
 pub fn replies_have_room()
-    ensures { (q : Condensed) (id : ℕ) (query : Query) → KeepsRules q → q.panel.count ≤ 2 ^ 48 → id < 2 ^ 32 → length (look_reply q id query Nothing) ≤ 131072 }
+    ensures { (q : Condensed) (id : ℕ) (query : Query) → KeepsRules q → q.panel.count ≤ 2 ^ 48 →
+        id < 2 ^ 32 → length (look_reply q id query Nothing) ≤ 131072 }
 {}

@@ -56,7 +56,8 @@ fn put(text: &mut Vec<u8>, bytes: &[u8])
 fn put_line(text: &mut Vec<u8>, id: u32, word: &str, number: u64)
     requires word { length word.now ≡ 4 }
     requires room { vec_len text.old + 64 ≤ vec_capacity text.old }
-    ensures items { text.new.items ≡ text.old.items ++ decimal id ++ word.now ++ decimal number ++ codes "\n" }
+    ensures items { text.new.items ≡
+        text.old.items ++ decimal id ++ word.now ++ decimal number ++ codes "\n" }
     ensures len { vec_len text.new ≤ vec_len text.old + 64 }
     ensures kept { vec_capacity text.old ≤ vec_capacity text.new }
 {
@@ -113,8 +114,11 @@ impl Output {
     /// Prints what is told to a query, where nothing is to be written. False, and nothing is printed, where it doesn't go in.
     pub fn told(&mut self, id: u32, n: u64, query: Query, answer: &Answer) -> bool
         requires { self.old.used ≡ 0 }
-        ensures text { result ≡ true → self.new.left ≡ told_text id n query (report query answer.now) }
-        ensures unprinted { result ≡ false → (self.new.left ≡ []) × (self.new.used ≡ 0) × (131072 < length (told_text id n query (report query answer.now))) }
+        ensures text { result ≡ true →
+            self.new.left ≡ told_text id n query (report query answer.now) }
+        ensures unprinted { result ≡ false →
+            (self.new.left ≡ []) × (self.new.used ≡ 0) ×
+            (131072 < length (told_text id n query (report query answer.now))) }
         ensures used { self.new.used ≤ 131072 }
     {
         let printed = put_told(&mut self.text, id, n, query, answer).is_ok();

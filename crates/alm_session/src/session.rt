@@ -71,8 +71,11 @@ impl Session {
     fn answer_first(&mut self, verdict: Verdict, number: u64)
         ensures held { self.new.intake ≡ self.old.intake }
         ensures answer { self.new.answer ≡ self.old.answer }
-        ensures none { self.old.waiting.items ≡ [] → (self.new.waiting.items ≡ []) × (self.new.output.left ≡ self.old.output.left) }
-        ensures some { (id : ℕ) (ids : List ℕ) → self.old.waiting.items ≡ id ∷ ids → (self.new.waiting.items ≡ ids) × (self.new.output.left ≡ self.old.output.left ++ verdict_reply id number verdict) }
+        ensures none { self.old.waiting.items ≡ [] →
+            (self.new.waiting.items ≡ []) × (self.new.output.left ≡ self.old.output.left) }
+        ensures some { (id : ℕ) (ids : List ℕ) → self.old.waiting.items ≡ id ∷ ids →
+            (self.new.waiting.items ≡ ids) ×
+            (self.new.output.left ≡ self.old.output.left ++ verdict_reply id number verdict) }
     {
         if self.waiting.is_empty() {
             return;
@@ -92,7 +95,12 @@ impl Session {
     ) -> bool
         ensures base { L.Look.base look.new ≡ L.Look.base look.old }
         ensures end { SameConsole console.old console.new }
-        ensures turn { (coming written : Option (List ℕ)) → IsTurn no_looks (L.Look.base look.old) (if result then 1 else 0) (side_of self.old (L.Look.knows look.old) coming written (sent_of console.old) (heard_by console.old)) (side_of self.new (L.Look.knows look.new) coming written (sent_of console.new) (heard_by console.new)) }
+        ensures turn { (coming written : Option (List ℕ)) →
+            IsTurn no_looks (L.Look.base look.old) (if result then 1 else 0)
+            (side_of self.old (L.Look.knows look.old) coming written (sent_of console.old)
+            (heard_by console.old))
+            (side_of self.new (L.Look.knows look.new) coming written (sent_of console.new)
+            (heard_by console.new)) }
         ensures quiet { result ≡ false → IsQuiet console.old }
         ensures unseen { result ≡ false → look.new ≡ look.old }
         ensures left { result ≡ false → self.new.output ≡ self.old.output }
@@ -113,8 +121,12 @@ impl Session {
         requires line { self.old.intake.line ≡ Some (record { id = id; ask = ask.Act want }) }
         requires empty { self.old.output.used ≡ 0 }
         ensures end { SameConsole console.old console.new }
-        ensures turn { (base : Condensed) (known : List Action) (coming written : Option (List ℕ)) → IsTurn no_looks base (least_of result) (side_of self.old known coming written (sent_of console.old) (heard_by console.old)) (side_of self.new known coming written (sent_of console.new) (heard_by console.new)) }
-        ensures cases { (result ≡ turn.Went) ⊎ ((result ≡ turn.Idle) × IsStuck self.new console.new) }
+        ensures turn { (base : Condensed) (known : List Action) (coming written : Option (List ℕ)) →
+            IsTurn no_looks base (least_of result)
+            (side_of self.old known coming written (sent_of console.old) (heard_by console.old))
+            (side_of self.new known coming written (sent_of console.new) (heard_by console.new)) }
+        ensures cases { (result ≡ turn.Went) ⊎
+            ((result ≡ turn.Idle) × IsStuck self.new console.new) }
         ensures left { self.new.output ≡ self.old.output }
     {
         if self.waiting.is_full() {
@@ -136,7 +148,11 @@ impl Session {
         requires empty { (self.old.output.left ≡ []) × (self.old.output.used ≡ 0) }
         requires alone { self.old.waiting.items ≡ [] }
         ensures base { L.base look.new ≡ L.base look.old }
-        ensures turn { (coming written : Option (List ℕ)) (sent : List Action) (heard : List Heard) → IsTurn (between L.looked look.old look.new) (L.base look.old) 1 (side_of self.old (L.knows look.old) coming written sent heard) (side_of self.new (L.knows look.new) coming written sent heard) }
+        ensures turn { (coming written : Option (List ℕ)) (sent : List Action)
+            (heard : List Heard) →
+            IsTurn (between L.looked look.old look.new) (L.base look.old) 1
+            (side_of self.old (L.knows look.old) coming written sent heard)
+            (side_of self.new (L.knows look.new) coming written sent heard) }
     {
         self.intake.pass();
         match look.look(query, &mut self.answer) {
@@ -174,8 +190,15 @@ impl Session {
         requires empty { (self.old.output.left ≡ []) × (self.old.output.used ≡ 0) }
         ensures base { L.Look.base look.new ≡ L.Look.base look.old }
         ensures end { SameConsole console.old console.new }
-        ensures turn { (coming written : Option (List ℕ)) → IsTurn (between L.Look.looked look.old look.new) (L.Look.base look.old) (least_of result) (side_of self.old (L.Look.knows look.old) coming written (sent_of console.old) (heard_by console.old)) (side_of self.new (L.Look.knows look.new) coming written (sent_of console.new) (heard_by console.new)) }
-        ensures cases { (result ≡ turn.Went) ⊎ ((result ≡ turn.Idle) × IsStuck self.new console.new × (self.new.output.left ≡ [])) }
+        ensures turn { (coming written : Option (List ℕ)) →
+            IsTurn (between L.Look.looked look.old look.new) (L.Look.base look.old)
+            (least_of result)
+            (side_of self.old (L.Look.knows look.old) coming written (sent_of console.old)
+            (heard_by console.old))
+            (side_of self.new (L.Look.knows look.new) coming written (sent_of console.new)
+            (heard_by console.new)) }
+        ensures cases { (result ≡ turn.Went) ⊎
+            ((result ≡ turn.Idle) × IsStuck self.new console.new × (self.new.output.left ≡ [])) }
     {
         let id = line.id;
         match line.ask {
@@ -201,8 +224,12 @@ impl Session {
     fn read<W: Wire>(&mut self, wire: &mut W) -> Turn
         requires held { (self.old.intake.line ≡ None) × (self.old.intake.rest ≡ []) }
         requires empty { self.old.output.left ≡ [] }
-        ensures turn { (base : Condensed) (known sent : List Action) (heard : List Heard) → IsTurn no_looks base (least_of result) (side_of self.old known (W.coming wire.old) (W.written wire.old) sent heard) (side_of self.new known (W.coming wire.new) (W.written wire.new) sent heard) }
-        ensures answer { ReadTurns result self.old self.new (W.counts wire.old) (W.counts wire.new) (W.coming wire.new) }
+        ensures turn { (base : Condensed) (known sent : List Action) (heard : List Heard) →
+            IsTurn no_looks base (least_of result)
+            (side_of self.old known (W.coming wire.old) (W.written wire.old) sent heard)
+            (side_of self.new known (W.coming wire.new) (W.written wire.new) sent heard) }
+        ensures answer { ReadTurns result self.old self.new (W.counts wire.old) (W.counts wire.new)
+            (W.coming wire.new) }
     {
         match self.intake.read(wire) {
             ReadGave::Got(_) => Turn::Went,
@@ -227,9 +254,16 @@ impl Session {
         requires empty { (self.old.output.left ≡ []) × (self.old.output.used ≡ 0) }
         ensures base { L.Look.base look.new ≡ L.Look.base look.old }
         ensures end { SameConsole console.old console.new }
-        ensures turn { IsTurn (between L.Look.looked look.old look.new) (L.Look.base look.old) (least_of result) (side_of self.old (L.Look.knows look.old) (W.coming wire.old) (W.written wire.old) (sent_of console.old) (heard_by console.old)) (side_of self.new (L.Look.knows look.new) (W.coming wire.new) (W.written wire.new) (sent_of console.new) (heard_by console.new)) }
-        ensures answer { GoneOn result self.new console.new (W.counts wire.old) (W.counts wire.new) (W.coming wire.new) }
-        ensures takes_first { 0 < length (lines_in self.old.intake) → W.coming wire.new ≡ W.coming wire.old }
+        ensures turn { IsTurn (between L.Look.looked look.old look.new) (L.Look.base look.old)
+            (least_of result)
+            (side_of self.old (L.Look.knows look.old) (W.coming wire.old) (W.written wire.old)
+            (sent_of console.old) (heard_by console.old))
+            (side_of self.new (L.Look.knows look.new) (W.coming wire.new) (W.written wire.new)
+            (sent_of console.new) (heard_by console.new)) }
+        ensures answer { GoneOn result self.new console.new (W.counts wire.old) (W.counts wire.new)
+            (W.coming wire.new) }
+        ensures takes_first { 0 < length (lines_in self.old.intake) →
+            W.coming wire.new ≡ W.coming wire.old }
     {
         match self.intake.line() {
             Some(line) => self.take(line, console, look),
@@ -246,13 +280,20 @@ impl Session {
     ) -> Turn
         ensures base { L.Look.base look.new ≡ L.Look.base look.old }
         ensures end { SameConsole console.old console.new }
-        ensures turn { IsTurn (between L.Look.looked look.old look.new) (L.Look.base look.old) (least_of result) (side_of self.old (L.Look.knows look.old) (W.coming wire.old) (W.written wire.old) (sent_of console.old) (heard_by console.old)) (side_of self.new (L.Look.knows look.new) (W.coming wire.new) (W.written wire.new) (sent_of console.new) (heard_by console.new)) }
-        ensures answer { Turns result self.new console.old console.new (W.counts wire.old) (W.counts wire.new) (W.coming wire.new) }
+        ensures turn { IsTurn (between L.Look.looked look.old look.new) (L.Look.base look.old)
+            (least_of result)
+            (side_of self.old (L.Look.knows look.old) (W.coming wire.old) (W.written wire.old)
+            (sent_of console.old) (heard_by console.old))
+            (side_of self.new (L.Look.knows look.new) (W.coming wire.new) (W.written wire.new)
+            (sent_of console.new) (heard_by console.new)) }
+        ensures answer { Turns result self.new console.old console.new (W.counts wire.old)
+            (W.counts wire.new) (W.coming wire.new) }
         // While a reply stands to be written no line is taken, and nothing is read;
         ensures writes_first { 0 < length self.old.output.left →
             (self.new.intake ≡ self.old.intake) × (W.coming wire.new ≡ W.coming wire.old) }
         // and nothing is read while a whole line is held.
-        ensures takes_first { 0 < length (lines_in self.old.intake) → W.coming wire.new ≡ W.coming wire.old }
+        ensures takes_first { 0 < length (lines_in self.old.intake) →
+            W.coming wire.new ≡ W.coming wire.old }
     {
         if self.receive(console, look) {
             return Turn::Went;

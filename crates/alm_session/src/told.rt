@@ -25,7 +25,8 @@ fn query_word(query: Query) -> &'static str
 /// Puts a number.
 fn put_number(text: &mut Vec<u8>, number: u64) -> Result<(), AllocError>
     ensures items { OnOk result (text.new.items ≡ text.old.items ++ decimal number) }
-    ensures full { OnErr result (vec_capacity text.old < vec_len text.old + length (decimal number)) }
+    ensures full { OnErr result
+        (vec_capacity text.old < vec_len text.old + length (decimal number)) }
     ensures room { vec_capacity text.old ≤ vec_capacity text.new }
 {
     text.extend_from_slice(itoa::Buffer::new().format(number).as_bytes())
@@ -34,7 +35,8 @@ fn put_number(text: &mut Vec<u8>, number: u64) -> Result<(), AllocError>
 /// Puts each number after a space.
 fn put_spaced(text: &mut Vec<u8>, numbers: &[u32]) -> Result<(), AllocError>
     ensures items { OnOk result (text.new.items ≡ text.old.items ++ spaced numbers.now) }
-    ensures full { OnErr result (vec_capacity text.old < vec_len text.old + length (spaced numbers.now)) }
+    ensures full { OnErr result
+        (vec_capacity text.old < vec_len text.old + length (spaced numbers.now)) }
     ensures room { vec_capacity text.old ≤ vec_capacity text.new }
 {
     for number in numbers {
@@ -46,8 +48,11 @@ fn put_spaced(text: &mut Vec<u8>, numbers: &[u32]) -> Result<(), AllocError>
 
 /// Puts what an answer reports.
 fn put_report(text: &mut Vec<u8>, query: Query, answer: &Answer) -> Result<(), AllocError>
-    ensures items { OnOk result (text.new.items ≡ text.old.items ++ report_text (report query answer.now)) }
-    ensures full { OnErr result (vec_capacity text.old < vec_len text.old + length (report_text (report query answer.now))) }
+    ensures items { OnOk result
+        (text.new.items ≡ text.old.items ++ report_text (report query answer.now)) }
+    ensures full { OnErr result
+        (vec_capacity text.old <
+        vec_len text.old + length (report_text (report query answer.now))) }
     ensures room { vec_capacity text.old ≤ vec_capacity text.new }
 {
     text.extend_from_slice(b" ")?;
@@ -84,8 +89,11 @@ pub fn put_told(
     query: Query,
     answer: &Answer,
 ) -> Result<(), AllocError>
-    ensures items { OnOk result (text.new.items ≡ text.old.items ++ told_text id n query (report query answer.now)) }
-    ensures full { OnErr result (vec_capacity text.old < vec_len text.old + length (told_text id n query (report query answer.now))) }
+    ensures items { OnOk result
+        (text.new.items ≡ text.old.items ++ told_text id n query (report query answer.now)) }
+    ensures full { OnErr result
+        (vec_capacity text.old <
+        vec_len text.old + length (told_text id n query (report query answer.now))) }
     ensures room { vec_capacity text.old ≤ vec_capacity text.new }
 {
     put_number(text, u64::from(id))?;

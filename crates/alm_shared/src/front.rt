@@ -35,7 +35,9 @@ impl<J: Naming> Model for Front<J> {
 
     ghost view = { λ f. f.seen.log };
 
-    ghost invariant = { λ f. (f.len ≡ length f.seen.log) × (f.len ≤ 2 ^ 48) × (f.seen.book ≡ J.book) × AllAdmitted J.base f.seen.log };
+    ghost invariant = { λ f.
+        (f.len ≡ length f.seen.log) × (f.len ≤ 2 ^ 48) × (f.seen.book ≡ J.book) ×
+        AllAdmitted J.base f.seen.log };
 }
 
 impl<J: Naming> Told for Front<J> {

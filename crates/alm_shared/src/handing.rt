@@ -63,8 +63,12 @@ impl<J: Naming, P: Alarms + Drop> Publisher<Shown<J, P>, Step<J>, Desk<J>, Head<
         requires spare { self.old.beside.spare ≡ None }
         requires admitted { refusal (run J.base self.old.beside.handed).panel action ≡ None }
         ensures published { published self.new ≡ published self.old }
-        ensures ok { OnOk result ((self.new.beside.handed ≡ self.old.beside.handed ++ action ∷ []) × (self.new.beside.spare ≡ None)) }
-        ensures err { OnErr result ((tip_of self.new.beside ≡ self.old.beside.handed) ⊎ (tip_of self.new.beside ≡ self.old.beside.handed ++ action ∷ [])) }
+        ensures ok { OnOk result
+            ((self.new.beside.handed ≡ self.old.beside.handed ++ action ∷ []) ×
+            (self.new.beside.spare ≡ None)) }
+        ensures err { OnErr result
+            ((tip_of self.new.beside ≡ self.old.beside.handed) ⊎
+            (tip_of self.new.beside ≡ self.old.beside.handed ++ action ∷ [])) }
     {
         let mut front = self.beside.handed.again();
         let same = action;
@@ -80,7 +84,8 @@ impl<J: Naming, P: Alarms + Drop> Publisher<Shown<J, P>, Step<J>, Desk<J>, Head<
 
     // Whether all that was handed over begins with what is shown, which it always does.
     fn is_ahead(&self) -> bool
-        ensures { IsTrue result → shown_of self.now ++ pending_of self.now ≡ tip_of self.now.beside }
+        ensures { IsTrue result →
+            shown_of self.now ++ pending_of self.now ≡ tip_of self.now.beside }
     {
         let shown = self.shown().front.again();
         let tip = match &self.beside.spare {
@@ -93,10 +98,12 @@ impl<J: Naming, P: Alarms + Drop> Publisher<Shown<J, P>, Step<J>, Desk<J>, Head<
 
     // Hands over what is left of a batch.
     pub(crate) fn hand_over(&mut self, batch: &Batch) -> Result<(), AllocError>
-        requires admitted { AllAdmitted (run J.base (shown_of self.old)) (accepted_of batch.now.entries) }
+        requires admitted { AllAdmitted (run J.base (shown_of self.old))
+            (accepted_of batch.now.entries) }
         requires same { IsFront (pending_of self.old) (accepted_of batch.now.entries) }
         ensures published { published self.new ≡ published self.old }
-        ensures ok { OnOk result (self.new.beside.handed ≡ shown_of self.old ++ accepted_of batch.now.entries) }
+        ensures ok { OnOk result
+            (self.new.beside.handed ≡ shown_of self.old ++ accepted_of batch.now.entries) }
         ensures clear { OnOk result (self.new.beside.spare ≡ None) }
         ensures err { OnErr result (IsFront (pending_of self.new) (accepted_of batch.now.entries)) }
     {

@@ -20,5 +20,10 @@ impl Naming for Brand {
 
     ghost book = { record { number = 0; log_name = 0; cells_name = 0 } };
 
-    ghost base = { record { panel = record { now = 0; count = 0; next_stamp = 1; attrs = []; rows = [] }; kept = record { ages = []; moments = [] }; floods = [] } };
+    ghost base = { record {
+      panel = record { now = 0; count = 0; next_stamp = 1; attrs = []; rows = [] };
+      kept = record
+          { ages = []; moments = [] };
+      floods = [];
+    } };
 }

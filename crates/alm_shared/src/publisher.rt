@@ -72,7 +72,8 @@ impl<T: Absorb<O, State = [Action; 0]> + Drop, O: Drop, X: Aim, Y> Publisher<T, 
         requires { X.aim beside ≡ T.applied (X.aim self.old.beside) op }
         ensures published { published self.new ≡ published self.old }
         ensures more { self.new.more ≡ self.old.more }
-        ensures beside { MatchResult result (λ _. self.new.beside ≡ beside) (λ x. (x.0 ≡ op) × (x.1 ≡ beside) × (self.new.beside ≡ self.old.beside)) }
+        ensures beside { MatchResult result (λ _. self.new.beside ≡ beside)
+            (λ x. (x.0 ≡ op) × (x.1 ≡ beside) × (self.new.beside ≡ self.old.beside)) }
     {
         match self.writer.append(op) {
             Ok(()) => {
@@ -97,7 +98,8 @@ impl<T: Absorb<O, State = [Action; 0]> + Drop, O: Drop, X: Aim, Y> Publisher<T, 
 
     /// Ends it, and gives what was shown last. It waits for readers that look at it.
     pub fn take<R: Wait>(self, rt: &R) -> (Box<T>, X, Y)
-        ensures { (result.0.value ≡ published self) × (result.1 ≡ self.beside) × (result.2 ≡ self.more) }
+        ensures { (result.0.value ≡ published self) × (result.1 ≡ self.beside) ×
+            (result.2 ≡ self.more) }
     {
         let Self {
             writer,

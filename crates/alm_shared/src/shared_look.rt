@@ -52,7 +52,8 @@ fn look_at<J: Naming, P: Alarms + Drop>(
 ) -> Result<u64, Refusal>
     ensures later { IsFront front.old front.new }
     ensures answer { LookAnswers J.base front.old front.new query answer.old answer.new result }
-    ensures shown { length front.old ≤ length shown.now.front → IsLook (run J.base shown.now.front) query answer.old answer.new result }
+    ensures shown { length front.old ≤ length shown.now.front →
+        IsLook (run J.base shown.now.front) query answer.old answer.new result }
     ensures saw { OnOk result (front.new ≡ shown.now.front) }
 {
     if shown.front.len() < front.len() {

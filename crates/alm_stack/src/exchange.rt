@@ -31,11 +31,13 @@ const MOST_CALLS: u32 = 647;
 /// Before each step it is said what a crash leaves.
 fn hand_in<K: Store>(pipeline: &mut Pipeline<K>, slot: Slot, want: Action) -> bool
     ensures honest { K.honest pipeline.old.flusher.store ↔ K.honest pipeline.new.flusher.store }
-    ensures failures { K.failures pipeline.new.flusher.store ≡ K.failures pipeline.old.flusher.store }
+    ensures failures { K.failures pipeline.new.flusher.store ≡
+        K.failures pipeline.old.flusher.store }
     ensures handed { IsTrue result → (w : World) → Rests w pipeline.old →
         (serial : ℕ) × (v : Verdict) × (v ≡ verdict_of (live w) (request slot want)) ×
         (serial ≡ length (w.sent slot) + 1) × IsOpen (handed_in w slot want v) pipeline.new ×
-        IsWay w (handing slot want) (handed serial v) (handed_in w slot want v) pipeline.old pipeline.new }
+        IsWay w (handing slot want) (handed serial v) (handed_in w slot want v) pipeline.old
+        pipeline.new }
     ensures spent { result ≡ false → (w : World) → Rests w pipeline.old →
         (2 ^ 64 ≤ length (w.sent slot) + 1) × IsOpen w pipeline.new ×
         IsWay w (S.Send slot want ∷ []) (E.Busy ∷ []) w pipeline.old pipeline.new }
@@ -65,12 +67,16 @@ fn commit<K: Store>(pipeline: &mut Pipeline<K>) -> bool
     ensures count { K.failures pipeline.old.flusher.store ≤ K.failures pipeline.new.flusher.store }
     ensures done { IsTrue result → (w : World) (entries : List Entry) → IsOpen w pipeline.old →
         w.stage ≡ Held entries → length (accepted_of entries) ≤ most_actions →
-        IsOpen (after w S.Call E.Committed) pipeline.new × ((n : ℕ) ×
-        IsWay w (calls n ++ (S.Call ∷ [])) (went_on n ++ (E.Committed ∷ [])) (after w S.Call E.Committed) pipeline.old pipeline.new) }
+        IsOpen (after w S.Call E.Committed) pipeline.new ×
+        ((n : ℕ) ×
+        IsWay w (calls n ++ (S.Call ∷ [])) (went_on n ++ (E.Committed ∷ []))
+        (after w S.Call E.Committed) pipeline.old pipeline.new) }
     ensures failed { result ≡ false → (w : World) (entries : List Entry) → IsOpen w pipeline.old →
         w.stage ≡ Held entries → length (accepted_of entries) ≤ most_actions →
-        Fits w pipeline.new × ((n : ℕ) ×
-        IsWay w (calls n ++ (S.Call ∷ [])) (went_on n ++ (E.Failed ∷ [])) (shut w) pipeline.old pipeline.new) }
+        Fits w pipeline.new ×
+        ((n : ℕ) ×
+        IsWay w (calls n ++ (S.Call ∷ [])) (went_on n ++ (E.Failed ∷ [])) (shut w) pipeline.old
+        pipeline.new) }
     ensures cause { result ≡ false → (w : World) (entries : List Entry) → IsOpen w pipeline.old →
         w.stage ≡ Held entries → length (accepted_of entries) ≤ most_actions →
         ¬ (K.exhausted pipeline.new.flusher.store) →
@@ -92,11 +98,13 @@ fn commit<K: Store>(pipeline: &mut Pipeline<K>) -> bool
 /// Shows the batch that was committed, and hands out the reply.
 fn hand_out<K: Store>(pipeline: &mut Pipeline<K>, slot: Slot) -> Option<Judged>
     ensures store { pipeline.new.flusher.store ≡ pipeline.old.flusher.store }
-    ensures answered { IfSome result (λ j. (w : World) (want : Action) (v : Verdict) → IsIdle w →
+    ensures answered { IfSome result
+        (λ j. (w : World) (want : Action) (v : Verdict) → IsIdle w →
         IsOpen (stored_in w slot want v) pipeline.old →
         (j.verdict ≡ v) × (w' : World) × Rests w' pipeline.new ×
         (live w' ≡ live (handed_in w slot want v)) × (j.number ≡ (live w').panel.count) ×
-        IsWay (stored_in w slot want v) (answering slot) (answered slot (length (w.sent slot) + 1) v j.number) w' pipeline.old pipeline.new) }
+        IsWay (stored_in w slot want v) (answering slot)
+        (answered slot (length (w.sent slot) + 1) v j.number) w' pipeline.old pipeline.new) }
     ensures sure { IsNone result → (w : World) (want : Action) (v : Verdict) → IsIdle w →
         IsOpen (stored_in w slot want v) pipeline.old → ⊥ }
 {
@@ -140,7 +148,8 @@ pub fn exchange<K: Store>(
         length (w.sent slot) + 1 < 2 ^ 64 →
         HasFailed (K.failures pipeline.old.flusher.store) (K.failures pipeline.new.flusher.store)) }
     // A run of the world's steps, of which the answer is the reply.
-    ensures run { (w : World) → Rests w pipeline.old → IsExchange w slot want pipeline.old pipeline.new result }
+    ensures run { (w : World) → Rests w pipeline.old →
+        IsExchange w slot want pipeline.old pipeline.new result }
 {
     if !hand_in(pipeline, slot, want) {
         pipeline.images();

@@ -45,18 +45,31 @@ impl<K: Store> StackOver<K> {
     /// The device comes back where it stands for nothing, where it failed, or for want of memory.
     pub fn open(alloc: Global, disk: K::Device) -> Result<StackOver<K>, (OpenFault, K::Device)>
         // What it reads is one of the images before, and stands for the plant.
-        ensures opened { K.Device.honest disk → IfOk result (λ s. IsImage (K.Device.state disk) (K.device (store_of s)).bytes × K.recovers (K.device (store_of s)).bytes (K.stored (store_of s))) }
-        ensures settled { K.Device.honest disk → IfOk result (λ s. (place : ℕ) → (K.device (store_of s)).pending place ≡ false) }
-        ensures stands { IfOk result (λ s. (stands_of s ≡ Some (K.stored (store_of s))) × (kept_of s ≡ K.stored (store_of s) ∷ [])) }
+        ensures opened { K.Device.honest disk →
+            IfOk result
+            (λ s. IsImage (K.Device.state disk) (K.device (store_of s)).bytes ×
+            K.recovers (K.device (store_of s)).bytes (K.stored (store_of s))) }
+        ensures settled { K.Device.honest disk →
+            IfOk result (λ s. (place : ℕ) → (K.device (store_of s)).pending place ≡ false) }
+        ensures stands { IfOk result
+            (λ s. (stands_of s ≡ Some (K.stored (store_of s))) ×
+            (kept_of s ≡ K.stored (store_of s) ∷ [])) }
         // It begins in the first world of that plant.
         ensures world { IfOk result (λ s. RunsIn (first (K.stored (store_of s))) s) }
         ensures failures { IfOk result (λ s. s.failures ≡ 0) }
         ensures counted { IfOk result (λ s. K.Device.failures disk ≤ K.failures (store_of s)) }
         ensures honest { IfOk result (λ s. K.Device.honest disk ↔ K.honest (store_of s)) }
         ensures honest_back { IfErr result (λ x. K.Device.honest disk ↔ K.Device.honest x.1) }
-        ensures unwritten_back { K.Device.honest disk → IfErr result (λ x. (b : List ℕ) → IsImage (K.Device.state x.1) b → IsImage (K.Device.state disk) b) }
-        ensures failed { IfErr result (λ x. x.0 ≡ OpenFault.Disk → HasFailed (K.Device.failures disk) (K.Device.failures x.1)) }
-        ensures cause { K.Device.honest disk → IfErr result (λ x. HasCause K.recovers (K.Device.state disk) x.0 (K.Device.failures disk) (K.Device.failures x.1)) }
+        ensures unwritten_back { K.Device.honest disk →
+            IfErr result
+            (λ x. (b : List ℕ) → IsImage (K.Device.state x.1) b → IsImage (K.Device.state disk) b) }
+        ensures failed { IfErr result
+            (λ x.
+            x.0 ≡ OpenFault.Disk → HasFailed (K.Device.failures disk) (K.Device.failures x.1)) }
+        ensures cause { K.Device.honest disk →
+            IfErr result
+            (λ x. HasCause K.recovers (K.Device.state disk) x.0 (K.Device.failures disk)
+            (K.Device.failures x.1)) }
     {
         match Pipeline::<K>::open(alloc, disk) {
             Ok(pipeline) => Ok(StackOver {
@@ -71,7 +84,9 @@ impl<K: Store> StackOver<K> {
     /// Does nothing: it says what a crash leaves of the device. Each image stands for one of the plants that are kept: for the plant
     /// itself while it runs, and once it has stopped for the one before, without the action that met it or with it.
     pub fn images(&self)
-        ensures { K.honest (store_of self.now) → (b : List ℕ) → IsImage (K.device (store_of self.now)) b → ∥ ((plant : Condensed) × Contains (kept_of self.now) plant × K.recovers b plant) ∥₁ }
+        ensures { K.honest (store_of self.now) → (b : List ℕ) →
+            IsImage (K.device (store_of self.now)) b →
+            ∥ ((plant : Condensed) × Contains (kept_of self.now) plant × K.recovers b plant) ∥₁ }
     {
         self.pipeline.flusher.keeper().images();
     }
@@ -106,13 +121,18 @@ impl<K: Store> Backend for StackOver<K> {
 
     fn submit(&mut self, request: &Request) -> Result<Judged, Stopped>
         ensures judged { IsJudged (stands_of self.old) request.now result (stands_of self.new) }
-        ensures stored { kept_of self.new ≡ kept_by (stands_of self.old) (kept_of self.old) request.now result }
+        ensures stored { kept_of self.new ≡
+            kept_by (stands_of self.old) (kept_of self.old) request.now result }
         ensures count { CountsStop (stands_of self.old) result self.old.failures self.new.failures }
         // It stops only where the device failed in this call, where the last epoch is spent, or where the slot's serials are.
-        ensures cause { IsSome (stands_of self.old) → ¬ (K.exhausted (store_of self.new)) → serial_of request.now.slot self.old + 1 < 2 ^ 64 → OnErr result (HasFailed (K.failures (store_of self.old)) (K.failures (store_of self.new))) }
+        ensures cause { IsSome (stands_of self.old) → ¬ (K.exhausted (store_of self.new)) →
+            serial_of request.now.slot self.old + 1 < 2 ^ 64 →
+            OnErr result
+            (HasFailed (K.failures (store_of self.old)) (K.failures (store_of self.new))) }
         ensures honest { K.honest (store_of self.old) ↔ K.honest (store_of self.new) }
         // It is a run of the world's steps, of which the answer is the reply; with an honest device it is one of the headline's.
-        ensures run { (w : World) → RunsIn w self.old → RunsThrough w request.now self.old self.new result }
+        ensures run { (w : World) → RunsIn w self.old →
+            RunsThrough w request.now self.old self.new result }
     {
         match self.halted {
             Some(_) => return Err(Stopped),
@@ -132,7 +152,8 @@ impl<K: Store> Backend for StackOver<K> {
 
     fn ask(&mut self, query: Query, answer: &mut Answer) -> Result<u64, Refusal>
         ensures asked { IsAsked (stands_of self.old) query answer.old answer.new result }
-        ensures same { (stands_of self.new ≡ stands_of self.old) × (kept_of self.new ≡ kept_of self.old) }
+        ensures same { (stands_of self.new ≡ stands_of self.old) ×
+            (kept_of self.new ≡ kept_of self.old) }
         ensures count { self.new.failures ≡ self.old.failures }
         ensures honest { K.honest (store_of self.old) ↔ K.honest (store_of self.new) }
         // It is a look of the world.

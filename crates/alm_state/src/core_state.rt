@@ -28,7 +28,8 @@ impl Core {
     /// acknowledgement, `NotResettable` for a reset.
     pub fn next(self, happening: Happening, latching: bool) -> Result<Core, Refusal>
         ensures next { IfOk result (λ core. next_core latching happening self ≡ Some core) }
-        ensures refused { IfErr result (λ e. (next_core latching happening self ≡ None) × (e ≡ refusal_of happening)) }
+        ensures refused { IfErr result
+            (λ e. (next_core latching happening self ≡ None) × (e ≡ refusal_of happening)) }
     {
         match (happening, self) {
             (

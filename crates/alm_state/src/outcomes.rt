@@ -22,7 +22,10 @@ fn reflagged(
 ) -> Outcome
     requires stamp { 0 < stamp }
     requires shelved { shelved_until ≡ None ⊎ (shelved_until ≡ row.shelved_until) }
-    ensures { result ≡ reflagged stamp (record row { shelved_until = shelved_until; by_design = by_design; out_of_service = out_of_service }) }
+    ensures { result ≡
+        reflagged stamp
+        (record row
+        { shelved_until = shelved_until; by_design = by_design; out_of_service = out_of_service }) }
 {
     let shelved = shelved_until.is_some();
     if shelved || by_design || out_of_service {
@@ -60,7 +63,8 @@ fn led(row: Row, active: bool, happening: Happening, latching: bool, stamp: u64)
     requires stamp { 0 < stamp }
     requires free { is_suppressed row ≡ false }
     requires active { active ≡ active_after happening row.active }
-    ensures { result ≡ led stamp (next_core latching happening row.core) (record row { active = active }) }
+    ensures { result ≡
+        led stamp (next_core latching happening row.core) (record row { active = active }) }
 {
     match row.core.next(happening, latching) {
         Ok(Core::Unack) => Outcome::Annunciated(Row {

@@ -26,11 +26,33 @@ impl Model for Row {
 
     ghost Value = { State };
 
-    ghost view = { λ r. record { active = r.active; core = r.core; shelved_until = r.shelved_until; by_design = r.by_design; out_of_service = r.out_of_service; stamp = r.stamp } };
+    ghost view = { λ r. record {
+      active = r.active;
+      core = r.core;
+      shelved_until = r.shelved_until;
+      by_design = r.by_design;
+      out_of_service = r.out_of_service;
+      stamp = r.stamp;
+    } };
 
-    ghost invariant = { λ r. IsState (record { active = r.active; core = r.core; shelved_until = r.shelved_until; by_design = r.by_design; out_of_service = r.out_of_service; stamp = r.stamp }) };
+    ghost invariant = { λ r. IsState
+        (record {
+          active = r.active;
+          core = r.core;
+          shelved_until = r.shelved_until;
+          by_design = r.by_design;
+          out_of_service = r.out_of_service;
+          stamp = r.stamp;
+        }) };
 
-    ghost inverse = { λ s. record { active = s.active; core = s.core; shelved_until = s.shelved_until; by_design = s.by_design; out_of_service = s.out_of_service; stamp = s.stamp } };
+    ghost inverse = { λ s. record {
+      active = s.active;
+      core = s.core;
+      shelved_until = s.shelved_until;
+      by_design = s.by_design;
+      out_of_service = s.out_of_service;
+      stamp = s.stamp;
+    } };
 }
 
 impl Row {
@@ -40,7 +62,16 @@ impl Row {
 
     /// An alarm without a condition.
     pub fn new() -> Self
-        ensures { result ≡ record { active = false; core = Normal; shelved_until = None; by_design = false; out_of_service = false; stamp = 0 } }
+        ensures { result ≡
+            record {
+              active = false;
+              core = Normal;
+              shelved_until = None;
+              by_design = false;
+              out_of_service
+                  = false;
+              stamp = 0;
+            } }
     {
         Row {
             active: false,

@@ -75,7 +75,8 @@ impl Row {
         ensures active { answer.new.active ≡ self.now.active }
         ensures flags { answer.new.flags ≡ flags_of self.now }
         ensures until { answer.new.until ≡ self.now.shelved_until }
-        ensures flood { (answer.new.window ≡ answer.old.window) × (answer.new.flood ≡ answer.old.flood) }
+        ensures flood { (answer.new.window ≡ answer.old.window) ×
+            (answer.new.flood ≡ answer.old.flood) }
         ensures list { answer.new.list ≡ answer.old.list }
         ensures refused { answer.new.refused ≡ answer.old.refused }
     {

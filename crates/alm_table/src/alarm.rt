@@ -14,7 +14,8 @@ use toml::Table;
 /// The alarm of a number in a plant with so many areas.
 pub fn alarm_of(alloc: Global, table: &Table, number: u32, areas: u8) -> Result<Attr, LoadFault>
     requires { (1 ≤ areas) × (areas ≤ 64) }
-    ensures ok { IfOk result (λ a. read_alarm number areas (table_view table.now) ≡ Ok (entry_of a)) }
+    ensures ok { IfOk result
+        (λ a. read_alarm number areas (table_view table.now) ≡ Ok (entry_of a)) }
     ensures area { IfOk result (λ a. a.area < areas) }
     ensures err { IfErr result (λ e. IsFaultIn e (read_alarm number areas (table_view table.now))) }
 {

@@ -18,9 +18,11 @@ use toml::value::Array;
 fn alarm_in(alloc: Global, value: &Value, number: u32, areas: u8) -> Result<Attr, LoadFault>
     requires table { IsSome (as_table (view value.now)) }
     requires areas { (1 ≤ areas) × (areas ≤ 64) }
-    ensures ok { IfOk result (λ a. read_alarm number areas (members_in (view value.now)) ≡ Ok (entry_of a)) }
+    ensures ok { IfOk result
+        (λ a. read_alarm number areas (members_in (view value.now)) ≡ Ok (entry_of a)) }
     ensures area { IfOk result (λ a. a.area < areas) }
-    ensures err { IfErr result (λ e. IsFaultIn e (read_alarm number areas (members_in (view value.now)))) }
+    ensures err { IfErr result
+        (λ e. IsFaultIn e (read_alarm number areas (members_in (view value.now)))) }
 {
     match value.as_table() {
         Some(table) => alarm_of(alloc, table, number, areas),
@@ -31,7 +33,8 @@ fn alarm_in(alloc: Global, value: &Value, number: u32, areas: u8) -> Result<Attr
 /// Whether it is a number of alarms that a plant may have.
 #[tactic(auto, using(crate::proofs::Alarms::count_view))]
 fn in_number(array: &Array) -> bool
-    ensures { result ≡ (nat_le 1 (count (array_view array.now)) && nat_le (count (array_view array.now)) 16384) }
+    ensures { result ≡
+        (nat_le 1 (count (array_view array.now)) && nat_le (count (array_view array.now)) 16384) }
 {
     (1 <= array.len()) & (array.len() <= 16384)
 }
@@ -41,7 +44,8 @@ fn alarms_of(alloc: Global, array: &Array, areas: u8) -> Result<Vec<Attr>, LoadF
     requires tables { IsTrue (are_tables (array_view array.now)) }
     requires few { count (array_view array.now) ≤ 16384 }
     requires areas { (1 ≤ areas) × (areas ≤ 64) }
-    ensures ok { IfOk result (λ v. read_alarms 0 areas (array_view array.now) ≡ Ok (map entry_of v.items)) }
+    ensures ok { IfOk result
+        (λ v. read_alarms 0 areas (array_view array.now) ≡ Ok (map entry_of v.items)) }
     ensures all { IfOk result (λ v. length v.items ≡ count (array_view array.now)) }
     ensures areas { IfOk result (λ v. All (λ a. a.area < areas) v.items) }
     ensures err { IfErr result (λ e. IsFaultIn e (read_alarms 0 areas (array_view array.now))) }

@@ -43,8 +43,10 @@ impl<'a> Section<'a> {
 
     /// Sees that there is each of its keys.
     pub fn known(&self) -> Result<(), LoadFault>
-        ensures ok { IfOk result (λ _. known self.now.alarm (table_view self.now.table.now) ≡ Ok []) }
-        ensures err { IfErr result (λ e. IsFaultIn e (known self.now.alarm (table_view self.now.table.now))) }
+        ensures ok { IfOk result
+            (λ _. known self.now.alarm (table_view self.now.table.now) ≡ Ok []) }
+        ensures err { IfErr result
+            (λ e. IsFaultIn e (known self.now.alarm (table_view self.now.table.now))) }
     {
         match first_unknown(self.alarm, self.table) {
             None => Ok(()),
@@ -54,9 +56,15 @@ impl<'a> Section<'a> {
 
     /// A number that has to be there.
     pub fn natural(&self, key: &str, least: u64, most: u64) -> Result<u64, LoadFault>
-        ensures ok { IfOk result (λ n. field self.now.alarm (table_view self.now.table.now) key.now None (natural least most) ≡ Ok n) }
+        ensures ok { IfOk result
+            (λ n.
+            field self.now.alarm (table_view self.now.table.now) key.now None (natural least most) ≡
+            Ok n) }
         ensures limits { IfOk result (λ n. (least ≤ n) × (n ≤ most)) }
-        ensures err { IfErr result (λ e. IsFaultIn e (field self.now.alarm (table_view self.now.table.now) key.now None (natural least most))) }
+        ensures err { IfErr result
+            (λ e. IsFaultIn e
+            (field self.now.alarm (table_view self.now.table.now) key.now None
+            (natural least most))) }
     {
         match value_at(self.table, key) {
             None => Err(self.fault(key)),
@@ -69,9 +77,15 @@ impl<'a> Section<'a> {
 
     /// A number, 0 where it is missing.
     pub fn natural_or_zero(&self, key: &str, most: u64) -> Result<u64, LoadFault>
-        ensures ok { IfOk result (λ n. field self.now.alarm (table_view self.now.table.now) key.now (Some 0) (natural 0 most) ≡ Ok n) }
+        ensures ok { IfOk result
+            (λ n.
+            field self.now.alarm (table_view self.now.table.now) key.now (Some 0) (natural 0 most) ≡
+            Ok n) }
         ensures limits { IfOk result (λ n. n ≤ most) }
-        ensures err { IfErr result (λ e. IsFaultIn e (field self.now.alarm (table_view self.now.table.now) key.now (Some 0) (natural 0 most))) }
+        ensures err { IfErr result
+            (λ e. IsFaultIn e
+            (field self.now.alarm (table_view self.now.table.now) key.now (Some 0)
+            (natural 0 most))) }
     {
         match value_at(self.table, key) {
             None => Ok(0),
@@ -84,8 +98,12 @@ impl<'a> Section<'a> {
 
     /// The setpoint.
     pub fn reading(&self, key: &str) -> Result<Reading, LoadFault>
-        ensures ok { IfOk result (λ r. field self.now.alarm (table_view self.now.table.now) key.now None reading ≡ Ok r) }
-        ensures err { IfErr result (λ e. IsFaultIn e (field self.now.alarm (table_view self.now.table.now) key.now None reading)) }
+        ensures ok { IfOk result
+            (λ r.
+            field self.now.alarm (table_view self.now.table.now) key.now None reading ≡ Ok r) }
+        ensures err { IfErr result
+            (λ e. IsFaultIn e
+            (field self.now.alarm (table_view self.now.table.now) key.now None reading)) }
     {
         match value_at(self.table, key).and_then(reading_of) {
             Some(reading) => Ok(reading),
@@ -94,8 +112,11 @@ impl<'a> Section<'a> {
     }
 
     pub fn kind(&self, key: &str) -> Result<Kind, LoadFault>
-        ensures ok { IfOk result (λ k. field self.now.alarm (table_view self.now.table.now) key.now None kind ≡ Ok k) }
-        ensures err { IfErr result (λ e. IsFaultIn e (field self.now.alarm (table_view self.now.table.now) key.now None kind)) }
+        ensures ok { IfOk result
+            (λ k. field self.now.alarm (table_view self.now.table.now) key.now None kind ≡ Ok k) }
+        ensures err { IfErr result
+            (λ e.
+            IsFaultIn e (field self.now.alarm (table_view self.now.table.now) key.now None kind)) }
     {
         match value_at(self.table, key).and_then(kind_of) {
             Some(kind) => Ok(kind),
@@ -105,8 +126,13 @@ impl<'a> Section<'a> {
 
     /// Whether it is so; not where it is missing.
     pub fn truth(&self, key: &str) -> Result<bool, LoadFault>
-        ensures ok { IfOk result (λ b. field self.now.alarm (table_view self.now.table.now) key.now (Some false) as_bool ≡ Ok b) }
-        ensures err { IfErr result (λ e. IsFaultIn e (field self.now.alarm (table_view self.now.table.now) key.now (Some false) as_bool)) }
+        ensures ok { IfOk result
+            (λ b.
+            field self.now.alarm (table_view self.now.table.now) key.now (Some false) as_bool ≡
+            Ok b) }
+        ensures err { IfErr result
+            (λ e. IsFaultIn e
+            (field self.now.alarm (table_view self.now.table.now) key.now (Some false) as_bool)) }
     {
         match value_at(self.table, key) {
             None => Ok(false),
@@ -118,8 +144,11 @@ impl<'a> Section<'a> {
     }
 
     pub fn tag(&self, key: &str) -> Result<Tag, LoadFault>
-        ensures ok { IfOk result (λ t. field self.now.alarm (table_view self.now.table.now) key.now None tag ≡ Ok t) }
-        ensures err { IfErr result (λ e. IsFaultIn e (field self.now.alarm (table_view self.now.table.now) key.now None tag)) }
+        ensures ok { IfOk result
+            (λ t. field self.now.alarm (table_view self.now.table.now) key.now None tag ≡ Ok t) }
+        ensures err { IfErr result
+            (λ e.
+            IsFaultIn e (field self.now.alarm (table_view self.now.table.now) key.now None tag)) }
     {
         match value_at(self.table, key).and_then(tag_of) {
             Some(tag) => Ok(tag),
@@ -129,8 +158,12 @@ impl<'a> Section<'a> {
 
     /// A text, empty where it is missing.
     pub fn text(&self, key: &str) -> Result<Text, LoadFault>
-        ensures ok { IfOk result (λ t. field self.now.alarm (table_view self.now.table.now) key.now (Some []) text ≡ Ok t) }
-        ensures err { IfErr result (λ e. IsFaultIn e (field self.now.alarm (table_view self.now.table.now) key.now (Some []) text)) }
+        ensures ok { IfOk result
+            (λ t.
+            field self.now.alarm (table_view self.now.table.now) key.now (Some []) text ≡ Ok t) }
+        ensures err { IfErr result
+            (λ e. IsFaultIn e
+            (field self.now.alarm (table_view self.now.table.now) key.now (Some []) text)) }
     {
         let Some(value) = value_at(self.table, key) else {
             return Text::new(b"").ok_or(LoadFault::OutOfMemory);
@@ -143,9 +176,13 @@ impl<'a> Section<'a> {
 
     /// An array of tables.
     pub fn tables(&self, key: &str) -> Result<&'a Array, LoadFault>
-        ensures ok { IfOk result (λ a. field self.now.alarm (table_view self.now.table.now) key.now None tables ≡ Ok (array_view a.now)) }
+        ensures ok { IfOk result
+            (λ a. field self.now.alarm (table_view self.now.table.now) key.now None tables ≡
+            Ok (array_view a.now)) }
         ensures tables { IfOk result (λ a. IsTrue (are_tables (array_view a.now))) }
-        ensures err { IfErr result (λ e. IsFaultIn e (field self.now.alarm (table_view self.now.table.now) key.now None tables)) }
+        ensures err { IfErr result
+            (λ e. IsFaultIn e
+            (field self.now.alarm (table_view self.now.table.now) key.now None tables)) }
     {
         match value_at(self.table, key).and_then(tables_of) {
             Some(tables) => Ok(tables),

@@ -10,7 +10,8 @@ use alm_types::Slot;
 // The inbox of a slot, taken out.
 fn take_inbox(inboxes: &mut Vec<Inbox>, slot: Slot) -> Option<Inbox>
     ensures inbox { result ≡ inbox_at slot inboxes.old.items }
-    ensures others { (s : ℕ) → s ≢ slot → inbox_at s inboxes.new.items ≡ inbox_at s inboxes.old.items }
+    ensures others { (s : ℕ) → s ≢ slot →
+        inbox_at s inboxes.new.items ≡ inbox_at s inboxes.old.items }
 {
     for place in 0..inboxes.len() {
         if inboxes[place].slot().number() == slot.number() {
@@ -23,7 +24,8 @@ fn take_inbox(inboxes: &mut Vec<Inbox>, slot: Slot) -> Option<Inbox>
 // The outbox of a slot, taken out.
 fn take_outbox<T: Told + Drop>(outboxes: &mut Vec<Outbox<T>>, slot: Slot) -> Option<Outbox<T>>
     ensures outbox { result ≡ outbox_at slot outboxes.old.items }
-    ensures others { (s : ℕ) → s ≢ slot → outbox_at s outboxes.new.items ≡ outbox_at s outboxes.old.items }
+    ensures others { (s : ℕ) → s ≢ slot →
+        outbox_at s outboxes.new.items ≡ outbox_at s outboxes.old.items }
 {
     for place in 0..outboxes.len() {
         if outboxes[place].slot().number() == slot.number() {

@@ -14,5 +14,6 @@ use alm_store::Store;
 #[tactic(auto, using(crate::proofs::Outages::outlasts))]
 pub fn what_was_told_outlasts_outages<K: Store>()
     ensures { (base last : Condensed) (told : List ℕ) → Outages K.recovers base told last →
-        All (λ n. n ≤ last.panel.count) told × ((actions : List Action) × (last ≡ run base actions)) }
+        All (λ n. n ≤ last.panel.count) told ×
+        ((actions : List Action) × (last ≡ run base actions)) }
 {}

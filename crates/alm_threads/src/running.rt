@@ -69,13 +69,25 @@ where
     requires published { B.Board.published board ≡ [] }
     requires pending { B.Board.pending board ≡ [] }
     requires room { (room.items ≡ []) × (vec_len slot_parts ≤ vec_capacity room) }
-    ensures consoles { IfOk result (λ e. AllSame (map (λ p. p.console) slot_parts.items) e.consoles.items) }
-    ensures inboxes { IfOk result (λ e. SameInboxes middle.rings.inboxes.items e.rings.inboxes.items) }
+    ensures consoles { IfOk result
+        (λ e. AllSame (map (λ p. p.console) slot_parts.items) e.consoles.items) }
+    ensures inboxes { IfOk result
+        (λ e. SameInboxes middle.rings.inboxes.items e.rings.inboxes.items) }
     ensures seals { IfOk result (λ e. SameSealEnds middle.rings.ends e.rings.ends) }
-    ensures outboxes { IfOk result (λ e. (s : ℕ) → SameOutboxAt (outbox_at s middle.flusher.outboxes.items) (outbox_at s e.flusher.outboxes.items)) }
+    ensures outboxes { IfOk result
+        (λ e. (s : ℕ) →
+        SameOutboxAt (outbox_at s middle.flusher.outboxes.items)
+        (outbox_at s e.flusher.outboxes.items)) }
     ensures fetches { IfOk result (λ e. SameFetchEnds middle.flusher.fetch e.flusher.fetch) }
-    ensures judged { IfOk result (λ e. Judged (K.stored middle.flusher.store) e.rings.inboxes.items e.rings.ends) }
-    ensures flushed { IfOk result (λ e. Flushed (LeavesOneOf (K.honest middle.flusher.store) (K.honest e.flusher.store) K.recovers (K.device e.flusher.store)) (Endures (K.honest middle.flusher.store) K.recovers (K.stored middle.flusher.store) (K.device middle.flusher.store) (K.device e.flusher.store)) (K.stored middle.flusher.store) (K.stored e.flusher.store) e.flusher.outboxes.items e.flusher.fetch) }
+    ensures judged { IfOk result
+        (λ e. Judged (K.stored middle.flusher.store) e.rings.inboxes.items e.rings.ends) }
+    ensures flushed { IfOk result
+        (λ e. Flushed
+        (LeavesOneOf (K.honest middle.flusher.store) (K.honest e.flusher.store) K.recovers
+        (K.device e.flusher.store))
+        (Endures (K.honest middle.flusher.store) K.recovers (K.stored middle.flusher.store)
+        (K.device middle.flusher.store) (K.device e.flusher.store)) (K.stored middle.flusher.store)
+        (K.stored e.flusher.store) e.flusher.outboxes.items e.flusher.fetch) }
 {
     let Middle {
         plant,
@@ -146,11 +158,13 @@ fn report_of<K: Store, T: Told + Drop>(
     room: Vec<Option<SlotReport>>,
 ) -> RunReport<K>
     requires apart { AreApart (λ c. c.slot) ends.consoles.items }
-    requires tied { AreTied ends.consoles.items ends.rings.inboxes.items ends.flusher.outboxes.items }
+    requires tied { AreTied ends.consoles.items ends.rings.inboxes.items
+        ends.flusher.outboxes.items }
     requires batches { AreBatchEnds ends.rings.ends ends.flusher.fetch }
     requires room { (room.items ≡ []) × (vec_len ends.consoles ≤ vec_capacity room) }
     ensures keeper { result.keeper ≡ ends.flusher.store }
-    ensures closed { AreClosed ends.consoles.items ends.rings.inboxes.items ends.flusher.outboxes.items result.slots.items }
+    ensures closed { AreClosed ends.consoles.items ends.rings.inboxes.items
+        ends.flusher.outboxes.items result.slots.items }
     ensures fetched { IsPrefix (fetched_of ends.flusher.fetch) (sealed_of ends.rings.ends) }
 {
     let Ends {
@@ -201,21 +215,51 @@ fn in_scope<
     requires published { B.Board.published board ≡ [] }
     requires pending { B.Board.pending board ≡ [] }
     requires room { (room.items ≡ []) × (vec_len slot_parts ≤ vec_capacity room) }
-    ensures consoles { IfOk result (λ e. AllSame (map (λ p. p.console) slot_parts.items) e.consoles.items) }
-    ensures inboxes { IfOk result (λ e. SameInboxes middle.rings.inboxes.items e.rings.inboxes.items) }
+    ensures consoles { IfOk result
+        (λ e. AllSame (map (λ p. p.console) slot_parts.items) e.consoles.items) }
+    ensures inboxes { IfOk result
+        (λ e. SameInboxes middle.rings.inboxes.items e.rings.inboxes.items) }
     ensures seals { IfOk result (λ e. SameSealEnds middle.rings.ends e.rings.ends) }
-    ensures outboxes { IfOk result (λ e. (s : ℕ) → SameOutboxAt (outbox_at s middle.flusher.outboxes.items) (outbox_at s e.flusher.outboxes.items)) }
+    ensures outboxes { IfOk result
+        (λ e. (s : ℕ) →
+        SameOutboxAt (outbox_at s middle.flusher.outboxes.items)
+        (outbox_at s e.flusher.outboxes.items)) }
     ensures fetches { IfOk result (λ e. SameFetchEnds middle.flusher.fetch e.flusher.fetch) }
-    ensures judged { IfOk result (λ e. Judged (K.stored middle.flusher.store) e.rings.inboxes.items e.rings.ends) }
-    ensures flushed { IfOk result (λ e. Flushed (LeavesOneOf (K.honest middle.flusher.store) (K.honest e.flusher.store) K.recovers (K.device e.flusher.store)) (Endures (K.honest middle.flusher.store) K.recovers (K.stored middle.flusher.store) (K.device middle.flusher.store) (K.device e.flusher.store)) (K.stored middle.flusher.store) (K.stored e.flusher.store) e.flusher.outboxes.items e.flusher.fetch) }
+    ensures judged { IfOk result
+        (λ e. Judged (K.stored middle.flusher.store) e.rings.inboxes.items e.rings.ends) }
+    ensures flushed { IfOk result
+        (λ e. Flushed
+        (LeavesOneOf (K.honest middle.flusher.store) (K.honest e.flusher.store) K.recovers
+        (K.device e.flusher.store))
+        (Endures (K.honest middle.flusher.store) K.recovers (K.stored middle.flusher.store)
+        (K.device middle.flusher.store) (K.device e.flusher.store)) (K.stored middle.flusher.store)
+        (K.stored e.flusher.store) e.flusher.outboxes.items e.flusher.fetch) }
 {
     let closing = ClosingBoard::new(board, rt);
     thread::scope(
         thread::scope_env(),
         rt,
         |scope| -> Result<Ends<K, T>, StartFault>
-            requires { Serves slots.now.items middle.rings.inboxes.items × (K.stored middle.flusher.store ≡ B.Board.base closing.board) × (B.Board.published closing.board ≡ []) × (B.Board.pending closing.board ≡ []) × (room.items ≡ []) × (vec_len slot_parts ≤ vec_capacity room) }
-            ensures { IfOk result (λ e. AllSame (map (λ p. p.console) slot_parts.items) e.consoles.items × SameInboxes middle.rings.inboxes.items e.rings.inboxes.items × SameSealEnds middle.rings.ends e.rings.ends × ((s : ℕ) → SameOutboxAt (outbox_at s middle.flusher.outboxes.items) (outbox_at s e.flusher.outboxes.items)) × SameFetchEnds middle.flusher.fetch e.flusher.fetch × Judged (K.stored middle.flusher.store) e.rings.inboxes.items e.rings.ends × Flushed (LeavesOneOf (K.honest middle.flusher.store) (K.honest e.flusher.store) K.recovers (K.device e.flusher.store)) (Endures (K.honest middle.flusher.store) K.recovers (K.stored middle.flusher.store) (K.device middle.flusher.store) (K.device e.flusher.store)) (K.stored middle.flusher.store) (K.stored e.flusher.store) e.flusher.outboxes.items e.flusher.fetch) }
+            requires { Serves slots.now.items middle.rings.inboxes.items ×
+                (K.stored middle.flusher.store ≡ B.Board.base closing.board) ×
+                (B.Board.published closing.board ≡ []) × (B.Board.pending closing.board ≡ []) ×
+                (room.items ≡ []) × (vec_len slot_parts ≤ vec_capacity room) }
+            ensures { IfOk result
+                (λ e. AllSame (map (λ p. p.console) slot_parts.items) e.consoles.items ×
+                SameInboxes middle.rings.inboxes.items e.rings.inboxes.items ×
+                SameSealEnds middle.rings.ends e.rings.ends ×
+                ((s : ℕ) →
+                SameOutboxAt (outbox_at s middle.flusher.outboxes.items)
+                (outbox_at s e.flusher.outboxes.items)) ×
+                SameFetchEnds middle.flusher.fetch e.flusher.fetch ×
+                Judged (K.stored middle.flusher.store) e.rings.inboxes.items e.rings.ends ×
+                Flushed
+                (LeavesOneOf (K.honest middle.flusher.store) (K.honest e.flusher.store) K.recovers
+                (K.device e.flusher.store))
+                (Endures (K.honest middle.flusher.store) K.recovers (K.stored middle.flusher.store)
+                (K.device middle.flusher.store) (K.device e.flusher.store))
+                (K.stored middle.flusher.store) (K.stored e.flusher.store) e.flusher.outboxes.items
+                e.flusher.fetch) }
         {
             run_all(
                 scope,
@@ -246,8 +290,10 @@ fn room_for<T: Told + Drop, L: Look<Told = T> + Drop, S: Source<T, L> + Drop>(
     alloc: Global,
     slots: usize,
 ) -> Result<Room<T, L, S>, AllocError>
-    ensures slot_parts { IfOk result (λ r. (r.slot_parts.items ≡ []) × (slots ≤ vec_capacity r.slot_parts)) }
-    ensures consoles { IfOk result (λ r. (r.consoles.items ≡ []) × (slots ≤ vec_capacity r.consoles)) }
+    ensures slot_parts { IfOk result
+        (λ r. (r.slot_parts.items ≡ []) × (slots ≤ vec_capacity r.slot_parts)) }
+    ensures consoles { IfOk result
+        (λ r. (r.consoles.items ≡ []) × (slots ≤ vec_capacity r.consoles)) }
     ensures reports { IfOk result (λ r. (r.reports.items ≡ []) × (slots ≤ vec_capacity r.reports)) }
 {
     let slot_parts = Vec::with_capacity(alloc, slots)?;
@@ -283,11 +329,16 @@ pub fn run_with_bells<
     sources: Vec<S>,
 ) -> Result<RunReport<K>, StartFault>
     requires sources { length sources.items ≡ length parts.slots.items }
-    requires place { (k n : ℕ) (s : _) → slice_get sources.items k ≡ Some s → S.slot s ≡ Some n → slice_get parts.slots.items k ≡ Some n }
-    ensures run { IfOk result (λ report.
-        IsRun (LeavesOneOf (K.honest parts.middle.flusher.store) (K.honest report.keeper) K.recovers (K.device report.keeper))
-        (Endures (K.honest parts.middle.flusher.store) K.recovers (K.stored parts.middle.flusher.store) (K.device parts.middle.flusher.store) (K.device report.keeper))
-        (K.stored parts.middle.flusher.store) parts.slots.items (K.stored report.keeper) report.slots.items) }
+    requires place { (k n : ℕ) (s : _) → slice_get sources.items k ≡ Some s → S.slot s ≡ Some n →
+        slice_get parts.slots.items k ≡ Some n }
+    ensures run { IfOk result
+        (λ report. IsRun
+        (LeavesOneOf (K.honest parts.middle.flusher.store) (K.honest report.keeper) K.recovers
+        (K.device report.keeper))
+        (Endures (K.honest parts.middle.flusher.store) K.recovers
+        (K.stored parts.middle.flusher.store) (K.device parts.middle.flusher.store)
+        (K.device report.keeper)) (K.stored parts.middle.flusher.store) parts.slots.items
+        (K.stored report.keeper) report.slots.items) }
 {
     let Ok(
         Room {
@@ -332,11 +383,16 @@ pub fn run_threads<
     sources: Vec<S>,
 ) -> Result<RunReport<K>, StartFault>
     requires sources { length sources.items ≡ length parts.slots.items }
-    requires place { (k n : ℕ) (s : _) → slice_get sources.items k ≡ Some s → S.slot s ≡ Some n → slice_get parts.slots.items k ≡ Some n }
-    ensures run { IfOk result (λ report.
-        IsRun (LeavesOneOf (K.honest parts.middle.flusher.store) (K.honest report.keeper) K.recovers (K.device report.keeper))
-        (Endures (K.honest parts.middle.flusher.store) K.recovers (K.stored parts.middle.flusher.store) (K.device parts.middle.flusher.store) (K.device report.keeper))
-        (K.stored parts.middle.flusher.store) parts.slots.items (K.stored report.keeper) report.slots.items) }
+    requires place { (k n : ℕ) (s : _) → slice_get sources.items k ≡ Some s → S.slot s ≡ Some n →
+        slice_get parts.slots.items k ≡ Some n }
+    ensures run { IfOk result
+        (λ report. IsRun
+        (LeavesOneOf (K.honest parts.middle.flusher.store) (K.honest report.keeper) K.recovers
+        (K.device report.keeper))
+        (Endures (K.honest parts.middle.flusher.store) K.recovers
+        (K.stored parts.middle.flusher.store) (K.device parts.middle.flusher.store)
+        (K.device report.keeper)) (K.stored parts.middle.flusher.store) parts.slots.items
+        (K.stored report.keeper) report.slots.items) }
 {
     let Ok(mut bells) = Vec::with_capacity(alloc, sources.len()) else {
         drop(parts.close(rt));

@@ -15,7 +15,8 @@ pub fn slot_parts_of<T: Told + Drop, L: Look<Told = T> + Drop, S: Source<T, L> +
     requires room { (slot_parts.items ≡ []) × (length consoles.items ≤ vec_capacity slot_parts) }
     requires looks { length looks.items ≡ length consoles.items }
     requires sources { length sources.items ≡ length consoles.items }
-    requires place { (k n : ℕ) (s : _) → slice_get sources.items k ≡ Some s → S.slot s ≡ Some n → slice_get (map (λ c. c.slot) consoles.items) k ≡ Some n }
+    requires place { (k n : ℕ) (s : _) → slice_get sources.items k ≡ Some s → S.slot s ≡ Some n →
+        slice_get (map (λ c. c.slot) consoles.items) k ≡ Some n }
     ensures consoles { map (λ p. p.console) result.items ≡ consoles.items }
     ensures looks { map (λ p. p.look) result.items ≡ looks.items }
     ensures sources { map (λ p. p.source) result.items ≡ sources.items }

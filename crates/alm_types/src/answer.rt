@@ -29,7 +29,8 @@ pub struct Answer {
 impl Answer {
     /// An answer that tells nothing yet; it takes no memory.
     pub fn new(alloc: Global) -> Self
-        ensures alarm { (result.shown ≡ Normal) × (result.active ≡ false) × (result.flags ≡ 0) × (result.until ≡ None) }
+        ensures alarm { (result.shown ≡ Normal) × (result.active ≡ false) × (result.flags ≡ 0) ×
+            (result.until ≡ None) }
         ensures flood { (result.window ≡ 0) × (result.flood ≡ false) }
         ensures list { result.list.items ≡ [] }
         ensures refused { result.refused ≡ 0 }
@@ -53,7 +54,8 @@ impl Answer {
         ensures refused { OnErr result (self.new.refused ≡ one_more self.old.refused) }
         ensures missing { OnErr result (vec_capacity self.old.list < alarms) }
         ensures list { self.new.list.items ≡ self.old.list.items }
-        ensures alarm { (self.new.shown ≡ self.old.shown) × (self.new.active ≡ self.old.active) × (self.new.flags ≡ self.old.flags) × (self.new.until ≡ self.old.until) }
+        ensures alarm { (self.new.shown ≡ self.old.shown) × (self.new.active ≡ self.old.active) ×
+            (self.new.flags ≡ self.old.flags) × (self.new.until ≡ self.old.until) }
         ensures flood { (self.new.window ≡ self.old.window) × (self.new.flood ≡ self.old.flood) }
     {
         self.refused.reserve(&mut self.list, alarms)

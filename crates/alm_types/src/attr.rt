@@ -47,7 +47,16 @@ impl Attr {
     pub fn new(settings: Settings, tag: &[u8], text: &[u8]) -> Result<Self, AttrFault>
         ensures good { OnOk result (attr_fault settings tag.now text.now ≡ None) }
         ensures fault { IfErr result (λ fault. attr_fault settings tag.now text.now ≡ Some fault) }
-        ensures settings { IfOk result (λ a. record { kind = a.kind; setpoint = a.setpoint; deadband = a.deadband; priority = a.priority; area = a.area; latching = a.latching; max_shelve = a.max_shelve } ≡ settings) }
+        ensures settings { IfOk result
+            (λ a. record {
+              kind = a.kind;
+              setpoint = a.setpoint;
+              deadband = a.deadband;
+              priority = a.priority;
+              area = a.area;
+              latching = a.latching;
+              max_shelve = a.max_shelve;
+            } ≡ settings) }
         ensures tag { IfOk result (λ a. a.tag ≡ tag.now) }
         ensures text { IfOk result (λ a. a.text ≡ text.now) }
     {

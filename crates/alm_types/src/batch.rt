@@ -62,7 +62,8 @@ impl Batch {
     /// Puts an entry behind the others, without memory.
     pub fn push(&mut self, entry: Entry)
         requires { length self.old.entries < 256 }
-        ensures { self.new ≡ record { first = self.old.first; entries = self.old.entries ++ entry ∷ [] } }
+        ensures { self.new ≡
+            record { first = self.old.first; entries = self.old.entries ++ entry ∷ [] } }
     {
         let Entry {
             slot,

@@ -11,23 +11,37 @@ ghost use Rattle.alm_model.specs.declared.list.List.{List as Choice};
 
 /// Each list by stamp has the alarms that stand in it, each once, and rises strictly by stamp.
 pub fn lists_rise_by_stamp()
-    ensures permutation { (q : Condensed) (list : Choice) → is_by_stamp list ≡ true → IsPermutation (alarms (stands_in list) q.panel.attrs q.panel.rows) (list_of list q) }
-    ensures rises { (q : Condensed) (list : Choice) → KeepsRules q → is_by_stamp list ≡ true → RisesByStamp q.panel (list_of list q) }
+    ensures permutation { (q : Condensed) (list : Choice) → is_by_stamp list ≡ true →
+        IsPermutation (alarms (stands_in list) q.panel.attrs q.panel.rows) (list_of list q) }
+    ensures rises { (q : Condensed) (list : Choice) → KeepsRules q → is_by_stamp list ≡ true →
+        RisesByStamp q.panel (list_of list q) }
 {}
 
 /// What rises strictly by stamp and has just the alarms that stand in a list is that list.
 pub fn rising_by_stamp_is_list()
-    ensures { (q : Condensed) (list : Choice) (out : List ℕ) → is_by_stamp list ≡ true → RisesByStamp q.panel out → ((i : ℕ) → Contains out i ↔ (is_one (stands_in list) q.panel.attrs q.panel.rows i ≡ true)) → out ≡ list_of list q }
+    ensures { (q : Condensed) (list : Choice) (out : List ℕ) → is_by_stamp list ≡ true →
+        RisesByStamp q.panel out →
+        ((i : ℕ) → Contains out i ↔ (is_one (stands_in list) q.panel.attrs q.panel.rows i ≡ true)) →
+        out ≡ list_of list q }
 {}
 
 /// The alarms by a key are those that pass a test, each once, and rise by key, then number.
 pub fn alarms_rise_by_key()
-    ensures permutation { (key : State → ℕ) (test : Attr → State → Bool) (attrs : List Attr) (rows : List State) → IsPermutation (alarms test attrs rows) (alarms_by key test attrs rows) }
-    ensures members { (key : State → ℕ) (test : Attr → State → Bool) (attrs : List Attr) (rows : List State) (i : ℕ) → Contains (alarms_by key test attrs rows) i ↔ (is_one test attrs rows i ≡ true) }
-    ensures rises { (key : State → ℕ) (test : Attr → State → Bool) (attrs : List Attr) (rows : List State) → Rises (λ i. key_of key (slice_get rows i)) (alarms_by key test attrs rows) }
+    ensures permutation { (key : State → ℕ) (test : Attr → State → Bool) (attrs : List Attr)
+        (rows : List State) →
+        IsPermutation (alarms test attrs rows) (alarms_by key test attrs rows) }
+    ensures members { (key : State → ℕ) (test : Attr → State → Bool) (attrs : List Attr)
+        (rows : List State) (i : ℕ) →
+        Contains (alarms_by key test attrs rows) i ↔ (is_one test attrs rows i ≡ true) }
+    ensures rises { (key : State → ℕ) (test : Attr → State → Bool) (attrs : List Attr)
+        (rows : List State) →
+        Rises (λ i. key_of key (slice_get rows i)) (alarms_by key test attrs rows) }
 {}
 
 /// What rises by key, then number, and has just the alarms that pass is that list.
 pub fn rising_by_key_is_list()
-    ensures { (key : State → ℕ) (test : Attr → State → Bool) (attrs : List Attr) (rows : List State) (out : List ℕ) → Rises (λ i. key_of key (slice_get rows i)) out → ((i : ℕ) → Contains out i ↔ (is_one test attrs rows i ≡ true)) → out ≡ alarms_by key test attrs rows }
+    ensures { (key : State → ℕ) (test : Attr → State → Bool) (attrs : List Attr) (rows : List State)
+        (out : List ℕ) → Rises (λ i. key_of key (slice_get rows i)) out →
+        ((i : ℕ) → Contains out i ↔ (is_one test attrs rows i ≡ true)) →
+        out ≡ alarms_by key test attrs rows }
 {}

@@ -13,17 +13,23 @@ ghost use Rattle.alm_model.specs.Rules.{KeepsRules, AreAdmitted};
 
 /// An admitted action does the same to the condensed plant as to the whole one.
 pub fn step_is_after_condensed()
-    ensures same { (p : Plant) (action : Action) → IsRecorded p.panel.now p.kept → refusal p.panel action ≡ None → condense (after p action) ≡ step (condense p) action }
-    ensures recorded { (p : Plant) (action : Action) → IsRecorded p.panel.now p.kept → refusal p.panel action ≡ None → IsRecorded (after p action).panel.now (after p action).kept }
+    ensures same { (p : Plant) (action : Action) → IsRecorded p.panel.now p.kept →
+        refusal p.panel action ≡ None → condense (after p action) ≡ step (condense p) action }
+    ensures recorded { (p : Plant) (action : Action) → IsRecorded p.panel.now p.kept →
+        refusal p.panel action ≡ None →
+        IsRecorded (after p action).panel.now (after p action).kept }
 {}
 
 /// Of any whole plant the windows, floods and lists of measures are the same when they are taken from the condensed one.
 pub fn measures_are_those_condensed()
-    ensures { (p : Plant) → IsRecorded p.panel.now p.kept → KeepsRules (condense p) → IsCounted p (condense p) }
+    ensures { (p : Plant) → IsRecorded p.panel.now p.kept → KeepsRules (condense p) →
+        IsCounted p (condense p) }
 {}
 
 /// From a new plant on, after any admitted actions, the condensed plant is that of the whole one, and its windows, floods
 /// and lists of measures are those counted from all annunciations.
 pub fn measures_are_counted()
-    ensures { (t : Listing) (actions : List Action) → IsTable t → AreAdmitted (new_plant t) actions → IsCounted (run_whole (new_whole t) actions) (run (new_plant t) actions) }
+    ensures { (t : Listing) (actions : List Action) → IsTable t →
+        AreAdmitted (new_plant t) actions →
+        IsCounted (run_whole (new_whole t) actions) (run (new_plant t) actions) }
 {}

@@ -45,10 +45,13 @@ impl PlainRows {
 
     /// What an action does to the alarm that it names.
     fn touch(&mut self, id: AlarmId, action: &Action)
-        requires here { alarm_refusal action.now (slice_get self.old.panel.attrs id.0) (slice_get self.old.panel.rows id.0) ≡ None }
+        requires here { alarm_refusal action.now (slice_get self.old.panel.attrs id.0)
+            (slice_get self.old.panel.rows id.0) ≡ None }
         requires stamps { self.old.panel.next_stamp < 1 + 16384 * self.old.panel.count }
         ensures rows { length self.new.panel.rows ≡ length self.old.panel.rows }
-        ensures plant { self.new ≡ touch condensed self.old id.0 (outcome self.old.panel.now self.old.panel.next_stamp action.now) }
+        ensures plant { self.new ≡
+            touch condensed self.old id.0
+            (outcome self.old.panel.now self.old.panel.next_stamp action.now) }
     {
         let index = id.0 as usize;
         let attr = self.attrs[index];
@@ -59,7 +62,8 @@ impl PlainRows {
 
     /// The alarm has the attributes that an action gives it; its row and its stamp stay.
     fn configure(&mut self, id: AlarmId, action: &Action)
-        requires here { alarm_refusal action.now (slice_get self.old.panel.attrs id.0) (slice_get self.old.panel.rows id.0) ≡ None }
+        requires here { alarm_refusal action.now (slice_get self.old.panel.attrs id.0)
+            (slice_get self.old.panel.rows id.0) ≡ None }
         ensures plant { self.new ≡ configured self.old id.0 (attr_after action.now) }
     {
         let index = id.0 as usize;
@@ -120,7 +124,8 @@ impl PlainRows {
     /// The shelvings of alarms end, one after the other.
     fn unshelve_all(&mut self, numbers: &[u32])
         requires here { All (λ i. i < length self.old.panel.rows) numbers.now }
-        requires stamps { self.old.panel.next_stamp + length numbers.now ≤ 1 + 16384 * self.old.panel.count }
+        requires stamps { self.old.panel.next_stamp + length numbers.now ≤
+            1 + 16384 * self.old.panel.count }
         ensures rows { length self.new.panel.rows ≡ length self.old.panel.rows }
         ensures plant { self.new ≡ fold (unshelve condensed) self.old numbers.now }
     {

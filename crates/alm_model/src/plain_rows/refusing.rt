@@ -10,7 +10,9 @@ use alm_types::{Action, AlarmId, Refusal, Request};
 
 impl PlainRows {
     fn alarm_refusal(&self, id: AlarmId, action: &Action) -> Option<Refusal>
-        ensures { result ≡ alarm_refusal action.now (slice_get self.now.panel.attrs id.0) (slice_get self.now.panel.rows id.0) }
+        ensures { result ≡
+            alarm_refusal action.now (slice_get self.now.panel.attrs id.0)
+            (slice_get self.now.panel.rows id.0) }
     {
         let index = id.0 as usize;
         match (self.attrs.get(index), self.rows.get(index)) {
