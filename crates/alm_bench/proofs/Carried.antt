@@ -7,7 +7,7 @@ use Rattle.alm_keeper.specs.declared.keeper.Keeper.{Keeper}
 use Rattle.alm_store.specs.declared.store.Store.{Ghosts}
 use Rattle.alm_store.specs.Advancing.{IsCalls}
 use Rattle.alm_disk.specs.Failures.{HasFailed}
-use Rattle.alm_keeper.specs.AsStore.{StandsFor, IsSpent}
+use Rattle.alm_keeper.specs.AsStore.{StandsFor, IsLastEpoch}
 use Rattle.alm_model.specs.Plant.{Condensed}
 use Rattle.alm_types.specs.declared.answer.Answer.{Answer}
 use Rattle.alm_bench.specs.declared.setup.Setup as T
@@ -16,19 +16,19 @@ use Rattle.alm_pipeline.specs.declared.step.Step.{Step}
 use Rattle.alm_pipeline.specs.declared.step.Step.TheVariants.{Send, Take, Seal, Fetch, Call, Publish, Release, GiveBack, Receive, Look, Crash, Reopen}
 use Rattle.alm_pipeline.specs.declared.event.Event.{Event}
 use Rattle.alm_pipeline.specs.declared.event.Event.TheVariants.{Failed, Skipped}
-use Rattle.alm_pipeline.specs.World.{World, Answers, after}
+use Rattle.alm_pipeline.specs.World.{World, Answers, after_step}
 use Rattle.alm_pipeline.specs.Headline.{Sight, Moves}
 use Rattle.alm_pipeline.specs.Matches.{IsInner}
 use Rattle.alm_bench.specs.Stands.{IsSetup, sight, IsThere, serves_well}
 
 module _ {D : Type 0} {g : Ghosts (Keeper D) D} {d : Disk.Ghosts D} where
   pub carried : (w : World) (step : Step) (event : Event) (n n' k k' : ℕ) (s s' t t' : T.Setup D D g d) → n ≡ n' → k ≡ k' → s ≡ s' → t ≡ t'
-      → Moves StandsFor IsSpent w step event (sight n s) (sight k t) → Moves StandsFor IsSpent w step event (sight n' s') (sight k' t')
+      → Moves StandsFor IsLastEpoch w step event (sight n s) (sight k t) → Moves StandsFor IsLastEpoch w step event (sight n' s') (sight k' t')
   carried w step event n n' k k' s s' t t' before then' from to moves =
-      subst (λ (x : T.Setup D D g d). Moves StandsFor IsSpent w step event (sight n' x) (sight k' t')) from
-      (subst (λ (y : T.Setup D D g d). Moves StandsFor IsSpent w step event (sight n' s) (sight k' y)) to
-      (subst (λ (i : ℕ). Moves StandsFor IsSpent w step event (sight i s) (sight k' t)) before
-      (subst (λ (i : ℕ). Moves StandsFor IsSpent w step event (sight n s) (sight i t)) then' moves)))
+      subst (λ (x : T.Setup D D g d). Moves StandsFor IsLastEpoch w step event (sight n' x) (sight k' t')) from
+      (subst (λ (y : T.Setup D D g d). Moves StandsFor IsLastEpoch w step event (sight n' s) (sight k' y)) to
+      (subst (λ (i : ℕ). Moves StandsFor IsLastEpoch w step event (sight i s) (sight k' t)) before
+      (subst (λ (i : ℕ). Moves StandsFor IsLastEpoch w step event (sight n s) (sight i t)) then' moves)))
 
   pub still : (w : World) (s t : T.Setup D D g d) → s ≡ t → IsSetup w s → IsSetup w t
   still w s t same stands = subst (λ (x : T.Setup D D g d). IsSetup w x) same stands
@@ -51,7 +51,7 @@ pub same_count : (a b c : Answer) → c ≡ b → b ≡ a → a.refused ≡ c.re
 same_count a b c put took = ap (λ (x : Answer). x.refused) (sym (put ∙ took))
 
 -- what a call that failed did to the device is said of its state and its failures alone
-pub failed_alike : (w : World) (d m e : Sight) → m.state ≡ e.state → m.failures ≡ e.failures → m.refused ≡ e.refused → Moves StandsFor IsSpent w Call Failed d m → Moves StandsFor IsSpent w Call Failed d e
+pub failed_alike : (w : World) (d m e : Sight) → m.state ≡ e.state → m.failures ≡ e.failures → m.refused ≡ e.refused → Moves StandsFor IsLastEpoch w Call Failed d m → Moves StandsFor IsLastEpoch w Call Failed d e
 failed_alike w d m e state failures refused moves = (
   moves.0,
   subst (IsCalls d.state) state moves.1,
@@ -78,7 +78,7 @@ inner_skips w Call inner shut = absurd inner
 inner_skips w (Crash bytes) inner shut = absurd inner
 inner_skips w Reopen inner shut = absurd inner
 
-pub after_skipped : (w : World) (step : Step) → after w step Skipped ≡ w
+pub after_skipped : (w : World) (step : Step) → after_step w step Skipped ≡ w
 after_skipped w (Send slot a) = refl
 after_skipped w (Take slot) = refl
 after_skipped w Seal = refl

@@ -11,7 +11,7 @@ use Rattle.alm_pipeline.specs.declared.step.Step.{Step}
 use Rattle.alm_pipeline.specs.declared.step.Step.TheVariants.{Send, Take, Seal, Fetch, Call, Publish, Release, GiveBack, Receive, Look, Crash, Reopen}
 use Rattle.alm_pipeline.specs.declared.event.Event.{Event}
 use Rattle.alm_pipeline.specs.declared.event.Event.TheVariants.{Sent, Took, Sealed, Fetched, Committed, Failed, Published, Released, GaveBack, Received, Looked, Crashed, Opened}
-use Rattle.alm_pipeline.specs.World.{World, Stage, Nothing, Held, Stored, Shown, Answers, IsSpent, after, entry_of, fetches, fresh, next_notes, shows, shut, stores, tells, told_more, with_entry}
+use Rattle.alm_pipeline.specs.World.{World, Stage, Nothing, Held, Stored, Shown, Answers, IsReleased, after_step, entry_for, fetches, new_world, next_notes, after_publish, closed_world, stores, tells, told_more, with_entry}
 
 abbrev pub waiting_at : Stage → List Entry
 waiting_at (Held entries) = entries
@@ -39,10 +39,10 @@ pub record InOrder (w : World) : Type 0 where
   pub before : List Action
   pub shown : w.published ≡ before ++ accepted_of (shown_at w.stage)
 
-pub shut_order : (w : World) → InOrder (shut w)
+pub shut_order : (w : World) → InOrder (closed_world w)
 shut_order w = record { all = sym (append-nil w.accepted); ready = sym (append-nil w.accepted); before = w.accepted; shown = sym (append-nil w.accepted) }
 
-pub fresh_order : (base : Condensed) (kept : List Action) (floor : _) → InOrder (fresh base kept floor)
+pub fresh_order : (base : Condensed) (kept : List Action) (floor : _) → InOrder (new_world base kept floor)
 fresh_order base kept floor = record { all = sym (append-nil kept); ready = sym (append-nil kept); before = kept; shown = sym (append-nil kept) }
 
 regroup : (s w f t e : List Action) → (s ++ (w ++ (f ++ t))) ++ e ≡ s ++ (w ++ (f ++ (t ++ e)))
@@ -70,7 +70,7 @@ stored_order w (Held entries) is i = record {
   shown = sym (append-nil w.published);
 }
 
-shown_order : (w : World) (stage : Stage) → w.stage ≡ stage → InOrder w → InOrder (shows w stage)
+shown_order : (w : World) (stage : Stage) → w.stage ≡ stage → InOrder w → InOrder (after_publish w stage)
 shown_order w Nothing is i = i
 shown_order w (Held entries) is i = i
 shown_order w (Shown entries n) is i = i
@@ -99,13 +99,13 @@ shown_more (Held entries) = refl
 shown_more (Stored entries) = refl
 shown_more (Shown entries n) = refl
 
-spent_waits : (s : Stage) → IsSpent s → waiting_at s ≡ []
+spent_waits : (s : Stage) → IsReleased s → waiting_at s ≡ []
 spent_waits Nothing spent = refl
 spent_waits (Held entries) spent = absurd spent
 spent_waits (Stored entries) spent = refl
 spent_waits (Shown entries n) spent = refl
 
-spent_ready : (s : Stage) → IsSpent s → ready_at s ≡ []
+spent_ready : (s : Stage) → IsReleased s → ready_at s ≡ []
 spent_ready Nothing spent = refl
 spent_ready (Held entries) spent = refl
 spent_ready (Stored entries) spent = absurd spent
@@ -138,7 +138,7 @@ told_order w slot notes i = record {
   shown = i.shown ∙ ap (λ x. i.before ++ accepted_of x) (shown_more w.stage);
 }
 
-given_order : (w : World) → IsSpent w.stage → InOrder w → InOrder (record w { stage = Nothing; free = w.free + 1 })
+given_order : (w : World) → IsReleased w.stage → InOrder w → InOrder (record w { stage = Nothing; free = w.free + 1 })
 given_order w spent i = record {
   all = i.all ∙ ap (λ x. w.stored ++ (accepted_of x ++ (accepted_of (flat_of w.sealed) ++ accepted_of w.taking))) (spent_waits w.stage spent);
   ready = i.ready ∙ ap (λ x. w.published ++ accepted_of x) (spent_ready w.stage spent);
@@ -146,9 +146,9 @@ given_order w spent i = record {
   shown = sym (append-nil w.published);
 }
 
-pub in_order : (w : World) (step : Step) (event : Event) → Answers w step event → InOrder w → InOrder (after w step event)
+pub in_order : (w : World) (step : Step) (event : Event) → Answers w step event → InOrder w → InOrder (after_step w step event)
 in_order w (Send slot a) (Sent serial) answers i = record { all = i.all; ready = i.ready; before = i.before; shown = i.shown }
-in_order w (Take slot) (Took v) answers i = taken_order w slot (entry_of w slot (slice_get (w.sent slot) (w.taken slot)) v) i
+in_order w (Take slot) (Took v) answers i = taken_order w slot (entry_for w slot (slice_get (w.sent slot) (w.taken slot)) v) i
 in_order w Seal Sealed answers i = sealed_order w i
 in_order w Fetch Fetched answers i = fetched_order w w.sealed refl answers.1 i
 in_order w Call Committed answers i = stored_order w w.stage refl i

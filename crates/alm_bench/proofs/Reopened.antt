@@ -3,7 +3,7 @@ use Rattle.std.proofs.Common.{◌≡◌, ◌≤◌, ◌+◌, ◌-◌, ℕ, List,
 use Rattle.std.proofs.lemmas.List.{length-take-le}
 use Rattle.std.proofs.Math.Logic.{∥∥₁_elim}
 use Rattle.std.proofs.Props.{props}
-use Rattle.alm_disk.specs.Device.{DeviceState, IsBytes, IsImage}
+use Rattle.alm_disk.specs.Device.{DeviceState, AreBytes, IsImage}
 use Rattle.alm_model.specs.Plant.{Condensed}
 use Rattle.alm_model.specs.Rules.{KeepsRules}
 use Rattle.alm_model.specs.Step.{run}
@@ -35,8 +35,8 @@ take_none zero = refl
 take_none (suc n) = refl
 
 -- the world that begins with a plant has this plant
-pub first_is : (recovers : List ℕ → Condensed → Type 0) → ((image : List ℕ) (p q : Condensed) → recovers image p → recovers image q → p ≡ q) → ((image : List ℕ) (p : Condensed) → IsBytes image → recovers image p → KeepsRules p)
-    → (plant : Condensed) (image : List ℕ) → IsBytes image → recovers image plant → IsSafe recovers plant [] plant.panel.count image
+pub first_is : (recovers : List ℕ → Condensed → Type 0) → ((image : List ℕ) (p q : Condensed) → recovers image p → recovers image q → p ≡ q) → ((image : List ℕ) (p : Condensed) → AreBytes image → recovers image p → KeepsRules p)
+    → (plant : Condensed) (image : List ℕ) → AreBytes image → recovers image plant → IsSafe recovers plant [] plant.panel.count image
 first_is recovers one rules plant image are is = record {
   lists = λ q r list by. record { filter = by-stamp-permutation q list by; rises = by-stamp-rises q list (rules image q are r) by };
   some = ∣ (plant, is) ∣₁;

@@ -17,8 +17,8 @@ use Rattle.alm_pipeline.specs.declared.step.Step.{Step}
 use Rattle.alm_pipeline.specs.declared.step.Step.TheVariants.{Send, Take, Seal, Fetch, Call, Publish, Release, GiveBack, Receive, Look, Crash, Reopen}
 use Rattle.alm_pipeline.specs.declared.event.Event.{Event}
 use Rattle.alm_pipeline.specs.declared.event.Event.TheVariants.{Sent, Took, Sealed, Fetched, Committed, Failed, Published, Released, GaveBack, Received, Looked, Crashed, Opened}
-use Rattle.alm_pipeline.specs.World.{World, Note, Stage, Nothing, Held, Stored, Shown, Answers, after, entry_of, fetches, goes_to, next_at, next_notes, note_of, raised, shows, stores}
-use Rattle.alm_pipeline.specs.Headline.{Sight, Headline, IsRun, after_all}
+use Rattle.alm_pipeline.specs.World.{World, Note, Stage, Nothing, Held, Stored, Shown, Answers, after_step, entry_for, fetches, goes_to, next_entry, next_notes, note_of, raise, after_publish, stores}
+use Rattle.alm_pipeline.specs.Headline.{Sight, Headline, IsRun, after_steps}
 use Rattle.alm_bench.specs.Told.{EndsWith, Tells, TellsUpTo}
 use Rattle.alm_bench.proofs.Order.{InOrder, in_order, shown_at, ready_at, waiting_at, flat_of}
 use Rattle.alm_pipeline.proofs.Runs.{at_end}
@@ -40,13 +40,13 @@ stored_base w (Held entries) = refl
 stored_base w (Stored entries) = refl
 stored_base w (Shown entries n) = refl
 
-shown_base : (w : World) (stage : Stage) → (shows w stage).base ≡ w.base
+shown_base : (w : World) (stage : Stage) → (after_publish w stage).base ≡ w.base
 shown_base w Nothing = refl
 shown_base w (Held entries) = refl
 shown_base w (Stored entries) = refl
 shown_base w (Shown entries n) = refl
 
-pub after_base : (w : World) (step : Step) (event : Event) → (after w step event).base ≡ w.base
+pub after_base : (w : World) (step : Step) (event : Event) → (after_step w step event).base ≡ w.base
 after_base w (Send slot a) (Sent serial) = refl
 after_base w (Take slot) (Took v) = refl
 after_base w Seal Sealed = refl
@@ -62,10 +62,10 @@ after_base w (Crash bytes) Crashed = refl
 after_base w Reopen (Opened n) = refl
 after_base w step event = refl
 
-pub run_base : (w : World) (steps : List Step) (trace : List Event) → (after_all w steps trace).base ≡ w.base
+pub run_base : (w : World) (steps : List Step) (trace : List Event) → (after_steps w steps trace).base ≡ w.base
 run_base w [] trace = refl
 run_base w (x ∷ steps) [] = refl
-run_base w (x ∷ steps) (y ∷ trace) = run_base (after w x y) steps trace ∙ after_base w x y
+run_base w (x ∷ steps) (y ∷ trace) = run_base (after_step w x y) steps trace ∙ after_base w x y
 
 -- ---- what is held stays
 
@@ -73,7 +73,7 @@ front_taken : (list accepted : List Action) (m : ℕ) → length list ≤ m → 
 front_taken list accepted m long within front =
     front_shorter list (take m accepted) accepted front (front_of (take m accepted) (drop m accepted) accepted (take-append-drop m accepted)) (omega (arith, long, length-take-le m accepted within))
 
-pub raised_more : (floor : ℕ) (notes : List Note) → floor ≤ raised floor notes
+pub raised_more : (floor : ℕ) (notes : List Note) → floor ≤ raise floor notes
 raised_more floor [] = omega arith
 raised_more floor (note ∷ notes) = omega arith
 
@@ -87,17 +87,17 @@ stored_holds w (Held entries) list h = record { reaches = h.reaches; front = h.f
 stored_holds w (Stored entries) list h = h
 stored_holds w (Shown entries n) list h = h
 
-shown_holds : (w : World) (stage : Stage) (list : List Action) → Holds w list → Holds (shows w stage) list
+shown_holds : (w : World) (stage : Stage) (list : List Action) → Holds w list → Holds (after_publish w stage) list
 shown_holds w Nothing list h = h
 shown_holds w (Held entries) list h = h
 shown_holds w (Stored entries) list h = record { reaches = h.reaches; front = h.front }
 shown_holds w (Shown entries n) list h = h
 
 -- whatever a step answers
-pub holds_on : (w : World) (step : Step) (event : Event) (list : List Action) → Answers w step event → Holds w list → Holds (after w step event) list
+pub holds_on : (w : World) (step : Step) (event : Event) (list : List Action) → Answers w step event → Holds w list → Holds (after_step w step event) list
 holds_on w (Send slot a) (Sent serial) list answers h = record { reaches = h.reaches; front = h.front }
 holds_on w (Take slot) (Took v) list answers h =
-    record { reaches = h.reaches; front = front_more list w.accepted (accepted_of (entry_of w slot (slice_get (w.sent slot) (w.taken slot)) v)) h.front }
+    record { reaches = h.reaches; front = front_more list w.accepted (accepted_of (entry_for w slot (slice_get (w.sent slot) (w.taken slot)) v)) h.front }
 holds_on w Seal Sealed list answers h = record { reaches = h.reaches; front = h.front }
 holds_on w Fetch Fetched list answers h = fetched_holds w w.sealed list h
 holds_on w Call Committed list answers h = stored_holds w w.stage list h
@@ -142,7 +142,7 @@ entry_tells : (w : World) (slot : ℕ) (entries : List Entry) (n : ℕ) (o : Opt
 entry_tells w slot entries n None stage next goes i = absurd goes
 entry_tells w slot entries n (Some e) stage next goes i = told_at w entries n e stage next i
 
-release_tells_at : (w : World) (slot : ℕ) (stage : Stage) → w.stage ≡ stage → goes_to (next_at stage) slot → InOrder w → (list : List Action) × TellsUpTo w (next_notes w stage) list
+release_tells_at : (w : World) (slot : ℕ) (stage : Stage) → w.stage ≡ stage → goes_to (next_entry stage) slot → InOrder w → (list : List Action) × TellsUpTo w (next_notes w stage) list
 release_tells_at w slot Nothing is goes i = absurd goes
 release_tells_at w slot (Held entries) is goes i = absurd goes
 release_tells_at w slot (Stored entries) is goes i = absurd goes
@@ -151,7 +151,7 @@ release_tells_at w slot (Shown entries n) is goes i = entry_tells w slot entries
 pub release_tells : (w : World) (slot : ℕ) → Answers w Release (Released slot) → InOrder w → (list : List Action) × Tells w Release (Released slot) list
 release_tells w slot answers i = release_tells_at w slot w.stage refl answers.1 i
 
-reaches_up_to : (w : World) (notes : List Note) (list : List Action) → TellsUpTo w notes list → w.base.panel.count + length list ≤ raised w.floor notes
+reaches_up_to : (w : World) (notes : List Note) (list : List Action) → TellsUpTo w notes list → w.base.panel.count + length list ≤ raise w.floor notes
 reaches_up_to w [] list tells = absurd tells
 reaches_up_to w (note ∷ notes) list tells = omega (arith, tells.0)
 
@@ -159,7 +159,7 @@ front_up_to : (w : World) (notes : List Note) (list : List Action) → TellsUpTo
 front_up_to w [] list tells = absurd tells
 front_up_to w (note ∷ notes) list tells = tells.1
 
-pub tells_holds : (w : World) (step : Step) (event : Event) (list : List Action) → Answers w step event → InOrder w → Tells w step event list → Holds (after w step event) list
+pub tells_holds : (w : World) (step : Step) (event : Event) (list : List Action) → Answers w step event → InOrder w → Tells w step event list → Holds (after_step w step event) list
 tells_holds w Release (Released slot) list answers i tells = record { reaches = reaches_up_to w (next_notes w w.stage) list tells; front = front_up_to w (next_notes w w.stage) list tells }
 tells_holds w (Look slot query) (Looked count) list answers i tells = record {
   reaches = omega (arith, answers.1, ap length tells);
@@ -170,24 +170,24 @@ tells_holds w step event list answers i tells = absurd tells
 -- ---- runs
 
 module _ (recovers : List ℕ → Condensed → Type 0) (spent : DeviceState → Type 0) where
-  run_holds : (w : World) (d last : Sight) (steps : List Step) (trace : List Event) (list : List Action) → IsRun recovers spent w d steps trace last → Holds w list → Holds (after_all w steps trace) list
+  run_holds : (w : World) (d last : Sight) (steps : List Step) (trace : List Event) (list : List Action) → IsRun recovers spent w d steps trace last → Holds w list → Holds (after_steps w steps trace) list
   run_holds w d last [] [] list run h = h
-  run_holds w d last (x ∷ steps) (y ∷ trace) list run h = run_holds (after w x y) run.1.0 last steps trace list run.1.3 (holds_on w x y list run.1.1 h)
+  run_holds w d last (x ∷ steps) (y ∷ trace) list run h = run_holds (after_step w x y) run.1.0 last steps trace list run.1.3 (holds_on w x y list run.1.1 h)
   run_holds w d last [] (y ∷ trace) list run h = absurd run
   run_holds w d last (x ∷ steps) [] list run h = absurd run
 
-  pub run_order : (w : World) (d last : Sight) (steps : List Step) (trace : List Event) → IsRun recovers spent w d steps trace last → InOrder w → InOrder (after_all w steps trace)
+  pub run_order : (w : World) (d last : Sight) (steps : List Step) (trace : List Event) → IsRun recovers spent w d steps trace last → InOrder w → InOrder (after_steps w steps trace)
   run_order w d last [] [] run i = i
-  run_order w d last (x ∷ steps) (y ∷ trace) run i = run_order (after w x y) run.1.0 last steps trace run.1.3 (in_order w x y run.1.1 i)
+  run_order w d last (x ∷ steps) (y ∷ trace) run i = run_order (after_step w x y) run.1.0 last steps trace run.1.3 (in_order w x y run.1.1 i)
   run_order w d last [] (y ∷ trace) run i = absurd run
   run_order w d last (x ∷ steps) [] run i = absurd run
 
   -- a run up to a step, and from it on
   pub split_run : (w : World) (d last : Sight) (steps behind : List Step) (trace rest : List Event) (step : Step) (event : Event) → length steps ≡ length trace → IsRun recovers spent w d (steps ++ step ∷ behind) (trace ++ event ∷ rest) last
-      → (m : Sight) × IsRun recovers spent w d steps trace m × IsRun recovers spent (after_all w steps trace) m (step ∷ behind) (event ∷ rest) last
+      → (m : Sight) × IsRun recovers spent w d steps trace m × IsRun recovers spent (after_steps w steps trace) m (step ∷ behind) (event ∷ rest) last
   split_run w d last [] behind [] rest step event same run = (d, (run.0, refl), run)
   split_run w d last (x ∷ steps) behind (y ∷ trace) rest step event same run =
-      let s = split_run (after w x y) run.1.0 last steps behind trace rest step event (omega (arith, same)) run.1.3 in
+      let s = split_run (after_step w x y) run.1.0 last steps behind trace rest step event (omega (arith, same)) run.1.3 in
       (s.0, (run.0, (run.1.0, run.1.1, run.1.2, s.1)), s.2)
   split_run w d last [] behind (y ∷ trace) rest step event same run = absurd (omega (arith, same))
   split_run w d last (x ∷ steps) behind [] rest step event same run = absurd (omega (arith, same))
@@ -200,20 +200,20 @@ module _ (recovers : List ℕ → Condensed → Type 0) (spent : DeviceState →
       (take m w.accepted, f.plant, front_taken list w.accepted m (omega (arith, h.reaches, f.enough)) (omega (arith, f.no_more)) h.front)
 
   pub told_is_recovered : (w : World) (d last : Sight) (steps behind : List Step) (trace rest : List Event) (step : Step) (event : Event) (list : List Action) → InOrder w → length steps ≡ length trace
-      → IsRun recovers spent w d (steps ++ step ∷ behind) (trace ++ event ∷ rest) last → Tells (after_all w steps trace) step event list
+      → IsRun recovers spent w d (steps ++ step ∷ behind) (trace ++ event ∷ rest) last → Tells (after_steps w steps trace) step event list
       → (image : List ℕ) (q : Condensed) → IsImage last.state image → recovers image q → (front : List Action) × (q ≡ run w.base front) × IsFront list front
   told_is_recovered w d last steps behind trace rest step event list i same ran tells image q is r =
       let s = split_run w d last steps behind trace rest step event same ran in
-      let at = after_all w steps trace in
-      let next = after at step event in
+      let at = after_steps w steps trace in
+      let next = after_step at step event in
       let more = s.2.1 in
       let held = tells_holds at step event list more.1 (run_order w d s.0 steps trace s.1 i) tells in
-      let end = recovered (after_all next behind rest) last list (at_end recovers spent next more.0 last behind rest more.3) (run_holds next more.0 last behind rest list more.3 held) image q is r in
+      let end = recovered (after_steps next behind rest) last list (at_end recovers spent next more.0 last behind rest more.3) (run_holds next more.0 last behind rest list more.3 held) image q is r in
       let base = run_base next behind rest ∙ (after_base at step event ∙ run_base w steps trace) in
       (end.0, end.1 ∙ ap (λ (b : Condensed). run b end.0) base, end.2)
 
   pub each_release_tells : (w : World) (d last : Sight) (steps behind : List Step) (trace rest : List Event) (slot : ℕ) → InOrder w → length steps ≡ length trace
-      → IsRun recovers spent w d (steps ++ Release ∷ behind) (trace ++ Released slot ∷ rest) last → (list : List Action) × Tells (after_all w steps trace) Release (Released slot) list
+      → IsRun recovers spent w d (steps ++ Release ∷ behind) (trace ++ Released slot ∷ rest) last → (list : List Action) × Tells (after_steps w steps trace) Release (Released slot) list
   each_release_tells w d last steps behind trace rest slot i same run =
       let s = split_run w d last steps behind trace rest Release (Released slot) same run in
-      release_tells (after_all w steps trace) slot s.2.1.1 (run_order w d s.0 steps trace s.1 i)
+      release_tells (after_steps w steps trace) slot s.2.1.1 (run_order w d s.0 steps trace s.1 i)

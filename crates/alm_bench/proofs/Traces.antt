@@ -14,9 +14,9 @@ use Rattle.alm_pipeline.specs.declared.step.Step.{Step}
 use Rattle.alm_pipeline.specs.declared.step.Step.TheVariants.{Send, Take, Seal, Fetch, Call, Publish, Release, GiveBack, Receive, Look, Crash, Reopen}
 use Rattle.alm_pipeline.specs.declared.event.Event.{Event}
 use Rattle.alm_pipeline.specs.declared.event.Event.TheVariants.{Sent, Busy, Took, Sealed, Fetched, More, Committed, Failed, Published, Released, GaveBack, Received, Looked, Crashed, Opened, Unopened, Skipped}
-use Rattle.alm_pipeline.specs.World.{World, Note, Stage, Nothing, Held, Stored, Shown, Answers, after, entry_of, fetches, judges, next_notes, note_of, raised, says, shows, stores, tells}
+use Rattle.alm_pipeline.specs.World.{World, Note, Stage, Nothing, Held, Stored, Shown, Answers, after_step, entry_for, fetches, judges, next_notes, note_of, raise, says, after_publish, stores, tells}
 use Rattle.alm_store.specs.Recovery.{IsFrontPlant, IsSafe}
-use Rattle.alm_pipeline.specs.Headline.{Sight, IsRun, after_all}
+use Rattle.alm_pipeline.specs.Headline.{Sight, IsRun, after_steps}
 use Rattle.alm_pipeline.proofs.Runs.{at_end}
 use Rattle.alm_bench.specs.Traced.{accepted_from, told_by, told_in, with_event}
 use Rattle.alm_bench.proofs.Told.{after_base, run_base, raised_more, split_run}
@@ -33,17 +33,17 @@ stored_all w (Held entries) = refl
 stored_all w (Stored entries) = refl
 stored_all w (Shown entries n) = refl
 
-shown_all : (w : World) (stage : Stage) → (shows w stage).accepted ≡ w.accepted
+shown_all : (w : World) (stage : Stage) → (after_publish w stage).accepted ≡ w.accepted
 shown_all w Nothing = refl
 shown_all w (Held entries) = refl
 shown_all w (Stored entries) = refl
 shown_all w (Shown entries n) = refl
 
-entry_accepts : (w : World) (slot : ℕ) (asked : Option Action) (v : Verdict) → judges w slot asked v → accepted_of (entry_of w slot asked v) ≡ when_accepted v
+entry_accepts : (w : World) (slot : ℕ) (asked : Option Action) (v : Verdict) → judges w slot asked v → accepted_of (entry_for w slot asked v) ≡ when_accepted v
 entry_accepts w slot None v judged = absurd judged
 entry_accepts w slot (Some a) v judged = append-nil (when_accepted v)
 
-accepted_after : (w : World) (step : Step) (event : Event) → Answers w step event → (after w step event).accepted ≡ with_event w.base.panel.count w.accepted event
+accepted_after : (w : World) (step : Step) (event : Event) → Answers w step event → (after_step w step event).accepted ≡ with_event w.base.panel.count w.accepted event
 accepted_after w (Send slot a) (Sent serial) answers = refl
 accepted_after w (Send slot a) Busy answers = refl
 accepted_after w (Take slot) (Took v) answers = ap (λ l. w.accepted ++ l) (entry_accepts w slot (slice_get (w.sent slot) (w.taken slot)) v answers.1)
@@ -75,13 +75,13 @@ stored_floor w (Held entries) = omega arith
 stored_floor w (Stored entries) = omega arith
 stored_floor w (Shown entries n) = omega arith
 
-shown_floor : (w : World) (stage : Stage) → w.floor ≤ (shows w stage).floor
+shown_floor : (w : World) (stage : Stage) → w.floor ≤ (after_publish w stage).floor
 shown_floor w Nothing = omega arith
 shown_floor w (Held entries) = omega arith
 shown_floor w (Stored entries) = omega arith
 shown_floor w (Shown entries n) = omega arith
 
-floor_after : (w : World) (step : Step) (event : Event) → w.floor ≤ (after w step event).floor
+floor_after : (w : World) (step : Step) (event : Event) → w.floor ≤ (after_step w step event).floor
 floor_after w (Send slot a) (Sent serial) = omega arith
 floor_after w (Take slot) (Took v) = omega arith
 floor_after w Seal Sealed = omega arith
@@ -124,7 +124,7 @@ within_choice floor false notes others within then' = then'
 abbrev TellsWithin : World → Type 0
 TellsWithin w = (slot : ℕ) → AreWithin w.floor (w.released slot)
 
-next_within : (least : ℕ) (notes : List Note) → length notes ≤ 1 → AreWithin (raised least notes) notes
+next_within : (least : ℕ) (notes : List Note) → length notes ≤ 1 → AreWithin (raise least notes) notes
 next_within least [] one = tt
 next_within least (note ∷ []) one = (omega arith, tt)
 next_within least (note ∷ (more ∷ notes)) one = absurd (omega (arith, one))
@@ -149,7 +149,7 @@ stored_tells w (Held entries) t = t
 stored_tells w (Stored entries) t = t
 stored_tells w (Shown entries n) t = t
 
-shown_tells : (w : World) (stage : Stage) → TellsWithin w → TellsWithin (shows w stage)
+shown_tells : (w : World) (stage : Stage) → TellsWithin w → TellsWithin (after_publish w stage)
 shown_tells w Nothing t = t
 shown_tells w (Held entries) t = t
 shown_tells w (Stored entries) t = t
@@ -157,11 +157,11 @@ shown_tells w (Shown entries n) t = t
 
 released_tells : (w : World) (slot : ℕ) (notes : List Note) → length notes ≤ 1 → TellsWithin w → TellsWithin (tells w slot notes)
 released_tells w slot notes one t s =
-    let floor = raised w.floor notes in
+    let floor = raise w.floor notes in
     let before = λ (k : ℕ). within_more w.floor floor (w.released k) (raised_more w.floor notes) (t k) in
     within_choice floor (s == slot) (w.released slot ++ notes) (w.released s) (within_append floor (w.released slot) notes (before slot) (next_within w.floor notes one)) (before s)
 
-tells_after : (w : World) (step : Step) (event : Event) → TellsWithin w → TellsWithin (after w step event)
+tells_after : (w : World) (step : Step) (event : Event) → TellsWithin w → TellsWithin (after_step w step event)
 tells_after w (Send slot a) (Sent serial) t = t
 tells_after w (Take slot) (Took v) t = t
 tells_after w Seal Sealed t = t
@@ -172,13 +172,13 @@ tells_after w Publish Published t = shown_tells w w.stage t
 tells_after w Release (Released slot) t = released_tells w slot (next_notes w w.stage) (one_next w w.stage) t
 tells_after w GiveBack GaveBack t = t
 tells_after w (Receive slot) (Received serial verdict number) t = t
-tells_after w (Look slot query) (Looked count) t = λ s. within_more w.floor (after w (Look slot query) (Looked count)).floor (w.released s) (omega arith) (t s)
+tells_after w (Look slot query) (Looked count) t = λ s. within_more w.floor (after_step w (Look slot query) (Looked count)).floor (w.released s) (omega arith) (t s)
 tells_after w (Crash bytes) Crashed t = λ s. tt
 tells_after w Reopen (Opened n) t = λ s. tt
 tells_after w step event t = t
 
 -- what an event tells is within the floor behind it
-told_after : (w : World) (step : Step) (event : Event) → Answers w step event → TellsWithin w → told_by event ≤ (after w step event).floor
+told_after : (w : World) (step : Step) (event : Event) → Answers w step event → TellsWithin w → told_by event ≤ (after_step w step event).floor
 told_after w (Receive slot) (Received serial verdict number) answers t = within_said w.floor (w.received slot) serial number verdict (w.released slot) (t slot) answers.1
 told_after w (Look slot query) (Looked count) answers t = omega arith
 told_after w (Send slot a) (Sent serial) answers t = omega arith
@@ -207,11 +207,11 @@ record Follows (w end : World) (trace : List Event) : Type 0 where
   floor : w.floor ≤ end.floor
 
 module _ (recovers : List ℕ → Condensed → Type 0) (spent : DeviceState → Type 0) where
-  follows : (w : World) (d last : Sight) (steps : List Step) (trace : List Event) → IsRun recovers spent w d steps trace last → TellsWithin w → Follows w (after_all w steps trace) trace
+  follows : (w : World) (d last : Sight) (steps : List Step) (trace : List Event) → IsRun recovers spent w d steps trace last → TellsWithin w → Follows w (after_steps w steps trace) trace
   follows w d last [] [] run t = record { accepted = refl; told = omega arith; floor = omega arith }
   follows w d last (x ∷ steps) (y ∷ trace) run t =
       let answers = run.1.1 in
-      let next = after w x y in
+      let next = after_step w x y in
       let rest = follows next run.1.0 last steps trace run.1.3 (tells_after w x y t) in
       record {
         accepted = rest.accepted ∙ (ap (λ (b : Condensed). accepted_from b.panel.count next.accepted trace) (after_base w x y) ∙ ap (λ l. accepted_from w.base.panel.count l trace) (accepted_after w x y answers));
@@ -231,7 +231,7 @@ module _ (recovers : List ℕ → Condensed → Type 0) (spent : DeviceState →
   pub safe_by_trace : (w : World) (d last : Sight) (steps : List Step) (trace : List Event) → IsRun recovers spent w d steps trace last → ((slot : ℕ) → w.released slot ≡ [])
       → (image : List ℕ) → IsImage last.state image → IsSafe recovers w.base (accepted_from w.base.panel.count w.accepted trace) (told_in trace) image
   safe_by_trace w d last steps trace run none image is =
-      let end = after_all w steps trace in
+      let end = after_steps w steps trace in
       let f = follows w d last steps trace run (λ s. subst (AreWithin w.floor) (sym (none s)) tt) in
       let safe = safe_at end.base end.accepted end.floor (told_in trace) image f.told (at_end recovers spent w d last steps trace run image is) in
       subst (λ (b : Condensed). IsSafe recovers b (accepted_from w.base.panel.count w.accepted trace) (told_in trace) image) (run_base w steps trace)
@@ -253,13 +253,13 @@ stored_shows w (Held entries) h = h
 stored_shows w (Stored entries) h = h
 stored_shows w (Shown entries n) h = h
 
-shown_shows : (w : World) (stage : Stage) → ShowsFloor w → ShowsFloor (shows w stage)
+shown_shows : (w : World) (stage : Stage) → ShowsFloor w → ShowsFloor (after_publish w stage)
 shown_shows w Nothing h = h
 shown_shows w (Held entries) h = h
 shown_shows w (Stored entries) h = λ open'. omega (arith, h open', length-append w.published (accepted_of entries))
 shown_shows w (Shown entries n) h = h
 
-raised_within : (top least : ℕ) (notes : List Note) → least ≤ top → AreWithin top notes → raised least notes ≤ top
+raised_within : (top least : ℕ) (notes : List Note) → least ≤ top → AreWithin top notes → raise least notes ≤ top
 raised_within top least [] low within = low
 raised_within top least (note ∷ notes) low within = omega (arith, low, within.0)
 
@@ -273,7 +273,7 @@ notes_within w (Held entries) = tt
 notes_within w (Stored entries) = tt
 notes_within w (Shown entries n) = note_within w entries n (slice_get entries n)
 
-shows_after : (w : World) (step : Step) (event : Event) → Answers w step event → ShowsFloor w → ShowsFloor (after w step event)
+shows_after : (w : World) (step : Step) (event : Event) → Answers w step event → ShowsFloor w → ShowsFloor (after_step w step event)
 shows_after w (Send slot a) (Sent serial) answers h = h
 shows_after w (Take slot) (Took v) answers h = h
 shows_after w Seal Sealed answers h = h
@@ -290,9 +290,9 @@ shows_after w Reopen (Opened n) answers h = λ _. let size = length-take-le (n -
 shows_after w step event answers h = h
 
 module _ (recovers : List ℕ → Condensed → Type 0) (spent : DeviceState → Type 0) where
-  run_shows : (w : World) (d last : Sight) (steps : List Step) (trace : List Event) → IsRun recovers spent w d steps trace last → ShowsFloor w → ShowsFloor (after_all w steps trace)
+  run_shows : (w : World) (d last : Sight) (steps : List Step) (trace : List Event) → IsRun recovers spent w d steps trace last → ShowsFloor w → ShowsFloor (after_steps w steps trace)
   run_shows w d last [] [] run h = h
-  run_shows w d last (x ∷ steps) (y ∷ trace) run h = run_shows (after w x y) run.1.0 last steps trace run.1.3 (shows_after w x y run.1.1 h)
+  run_shows w d last (x ∷ steps) (y ∷ trace) run h = run_shows (after_step w x y) run.1.0 last steps trace run.1.3 (shows_after w x y run.1.1 h)
   run_shows w d last [] (y ∷ trace) run h = absurd run
   run_shows w d last (x ∷ steps) [] run h = absurd run
 

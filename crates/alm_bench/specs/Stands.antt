@@ -3,7 +3,7 @@ use Rattle.std.specs.Prelude.{◌≡◌, ℕ, true, false, []}
 use Rattle.alm_disk.specs.declared.disk.Disk
 use Rattle.alm_keeper.specs.declared.keeper.Keeper.{Keeper}
 use Rattle.alm_store.specs.declared.store.Store.{Ghosts}
-use Rattle.alm_keeper.specs.AsStore.{StandsFor, IsSpent}
+use Rattle.alm_keeper.specs.AsStore.{StandsFor, IsLastEpoch}
 use Rattle.alm_bench.specs.declared.setup.Setup as T
 use Rattle.alm_bench.specs.declared.setup.Setup.TheVariants.{Open, Shut, Gone}
 use Rattle.alm_bench.specs.declared.bench.Bench.{Bench}
@@ -14,8 +14,8 @@ use Rattle.alm_pipeline.specs.Matches.{CallsSurely, IsOpen, sight_in}
 module _ {D : Type 0} {g : Ghosts (Keeper D) D} {d : Disk.Ghosts D} where
   -- its device is honest: an open bench has the world's pipeline; of a closed one each image stands for what the world has
   abbrev pub IsSetup : World → T.Setup D D g d → Type 0
-  IsSetup w (Open pipeline) = IsOpen w pipeline × g.honest pipeline.flusher.store
-  IsSetup w (Shut disk) = (w.closed ≡ true) × d.honest disk × Headline StandsFor IsSpent w (d.state disk)
+  IsSetup w (Open pipeline) = IsOpen w pipeline × d.honest (g.disk pipeline.flusher.store)
+  IsSetup w (Shut disk) = (w.closed ≡ true) × d.honest disk × Headline StandsFor IsLastEpoch w (d.state disk)
   IsSetup w Gone = ⊥
 
   abbrev pub Stands : World → Bench D D g d → Type 0
@@ -41,7 +41,7 @@ module _ {D : Type 0} {g : Ghosts (Keeper D) D} {d : Disk.Ghosts D} where
 
   -- that device does what its trait says
   abbrev pub serves_well : T.Setup D D g d → Type 0
-  serves_well (Open pipeline) = g.honest pipeline.flusher.store
+  serves_well (Open pipeline) = d.honest (g.disk pipeline.flusher.store)
   serves_well (Shut disk) = d.honest disk
   serves_well Gone = ⊥
 

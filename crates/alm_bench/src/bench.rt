@@ -3,9 +3,9 @@
 ghost use Rattle.std.specs.Prelude.{◌≡◌, ◌↔◌, ℕ, List, false, IfOk, IfErr, OnErr};
 ghost use Rattle.alm_disk.specs.Device.{IsImage};
 ghost use Rattle.alm_model.specs.Plant.{Condensed};
-ghost use Rattle.alm_keeper.specs.AsStore.{StandsFor, IsSpent};
+ghost use Rattle.alm_keeper.specs.AsStore.{StandsFor, IsLastEpoch};
 ghost use Rattle.alm_store.specs.Opening.{HasCause};
-ghost use Rattle.alm_pipeline.specs.World.{World, Answers, after, first, shut};
+ghost use Rattle.alm_pipeline.specs.World.{World, Answers, after_step, first, closed_world};
 ghost use Rattle.alm_pipeline.specs.declared.step.Step.TheVariants as S;
 
 use crate::named::crashed;
@@ -34,7 +34,7 @@ impl<D: Crashable + Drop> Bench<D> {
     ghost use Rattle.alm_pipeline.specs.Matches.{IsInner};
     ghost use Rattle.alm_disk.specs.Failures.{HasFailed};
     ghost use Rattle.alm_bench.specs.Stands.{Stands, sight_of, HasDevice, IsHonest, NextIsSure};
-    ghost use Rattle.alm_pipeline.specs.Headline.{Headline, Moves, IsRun, after_all, device_alone};
+    ghost use Rattle.alm_pipeline.specs.Headline.{Headline, Moves, IsRun, after_steps, device_alone};
     ghost use Rattle.alm_bench.specs.StandOnly.{StandOnly};
     ghost use Rattle.alm_pipeline.specs.declared.step.Step.TheVariants as S;
     ghost use Rattle.alm_pipeline.specs.declared.event.Event.TheVariants as E;
@@ -42,7 +42,7 @@ impl<D: Crashable + Drop> Bench<D> {
     /// A closed bench.
     pub fn closed(alloc: Global, disk: D) -> Bench<D>
         ensures stands { D.honest disk → (plant : Condensed) → StandOnly (D.state disk) plant →
-            Stands (shut (first plant)) result }
+            Stands (closed_world (first plant)) result }
         ensures device { sight_of result ≡ device_alone (D.state disk) (D.failures disk) 0 }
         ensures honest { D.honest disk ↔ IsHonest result }
         ensures there { HasDevice result }
@@ -100,7 +100,7 @@ impl<D: Crashable + Drop> Bench<D> {
     // Does nothing: it says what a crash leaves.
     fn images(&self)
         ensures headline { (w : World) → Stands w self.now →
-            Headline StandsFor IsSpent w (sight_of self.now).state }
+            Headline StandsFor IsLastEpoch w (sight_of self.now).state }
     {
         match &self.setup {
             Setup::Open(pipeline) => pipeline.images(),
@@ -129,9 +129,9 @@ impl<D: Crashable + Drop> Bench<D> {
     fn crash(&mut self, bytes: &Vec<(u64, u8)>) -> Event
         ensures answer { (w : World) → Stands w self.old → Answers w (S.Crash bytes.now) result }
         ensures stands { (w : World) → Stands w self.old →
-            Stands (after w (S.Crash bytes.now) result) self.new }
+            Stands (after_step w (S.Crash bytes.now) result) self.new }
         ensures moves { (w : World) → Stands w self.old →
-            Moves StandsFor IsSpent w (S.Crash bytes.now) result (sight_of self.old)
+            Moves StandsFor IsLastEpoch w (S.Crash bytes.now) result (sight_of self.old)
             (sight_of self.new) }
         ensures there { HasDevice self.old → HasDevice self.new }
     {
@@ -154,9 +154,9 @@ impl<D: Crashable + Drop> Bench<D> {
     fn reopen(&mut self, alloc: Global) -> Event
         ensures answer { (w : World) → Stands w self.old → Answers w S.Reopen result }
         ensures stands { (w : World) → Stands w self.old →
-            Stands (after w S.Reopen result) self.new }
+            Stands (after_step w S.Reopen result) self.new }
         ensures moves { (w : World) → Stands w self.old →
-            Moves StandsFor IsSpent w S.Reopen result (sight_of self.old) (sight_of self.new) }
+            Moves StandsFor IsLastEpoch w S.Reopen result (sight_of self.old) (sight_of self.new) }
         ensures there { HasDevice self.old → HasDevice self.new }
     {
         match self.take() {
@@ -182,9 +182,10 @@ impl<D: Crashable + Drop> Bench<D> {
     // The one device call that is next. A failure closes the bench.
     fn call(&mut self) -> Event
         ensures answer { (w : World) → Stands w self.old → Answers w S.Call result }
-        ensures stands { (w : World) → Stands w self.old → Stands (after w S.Call result) self.new }
+        ensures stands { (w : World) → Stands w self.old →
+            Stands (after_step w S.Call result) self.new }
         ensures moves { (w : World) → Stands w self.old →
-            Moves StandsFor IsSpent w S.Call result (sight_of self.old) (sight_of self.new) }
+            Moves StandsFor IsLastEpoch w S.Call result (sight_of self.old) (sight_of self.new) }
         ensures sure { result ≡ E.Failed → NextIsSure self.old → (w : World) → Stands w self.old →
             HasFailed (sight_of self.old).failures (sight_of self.new).failures }
         ensures there { HasDevice self.old → HasDevice self.new }
@@ -222,9 +223,9 @@ impl<D: Crashable + Drop> Bench<D> {
         requires { IsInner step.now }
         ensures answer { (w : World) → Stands w self.old → Answers w step.now result }
         ensures stands { (w : World) → Stands w self.old →
-            Stands (after w step.now result) self.new }
+            Stands (after_step w step.now result) self.new }
         ensures moves { (w : World) → Stands w self.old →
-            Moves StandsFor IsSpent w step.now result (sight_of self.old) (sight_of self.new) }
+            Moves StandsFor IsLastEpoch w step.now result (sight_of self.old) (sight_of self.new) }
         ensures there { HasDevice self.old → HasDevice self.new }
     {
         match self.take() {
@@ -245,9 +246,9 @@ impl<D: Crashable + Drop> Bench<D> {
     fn act(&mut self, alloc: Global, step: &Step) -> Event
         ensures answer { (w : World) → Stands w self.old → Answers w step.now result }
         ensures stands { (w : World) → Stands w self.old →
-            Stands (after w step.now result) self.new }
+            Stands (after_step w step.now result) self.new }
         ensures moves { (w : World) → Stands w self.old →
-            Moves StandsFor IsSpent w step.now result (sight_of self.old) (sight_of self.new) }
+            Moves StandsFor IsLastEpoch w step.now result (sight_of self.old) (sight_of self.new) }
         ensures sure { step.now ≡ S.Call → result ≡ E.Failed → NextIsSure self.old → (w : World) →
             Stands w self.old →
             HasFailed (sight_of self.old).failures (sight_of self.new).failures }
@@ -273,18 +274,19 @@ impl<D: Crashable + Drop> Bench<D> {
     pub fn step(&mut self, alloc: Global, step: &Step) -> Event
         ensures answer { (w : World) → Stands w self.old → Answers w step.now result }
         ensures stands { (w : World) → Stands w self.old →
-            Stands (after w step.now result) self.new }
+            Stands (after_step w step.now result) self.new }
         ensures moves { (w : World) → Stands w self.old →
-            Moves StandsFor IsSpent w step.now result (sight_of self.old) (sight_of self.new) }
+            Moves StandsFor IsLastEpoch w step.now result (sight_of self.old) (sight_of self.new) }
         // A call of the device fails only where the device failed in it, or where the last epoch has no room for the held batch.
         ensures sure { step.now ≡ S.Call → result ≡ E.Failed → NextIsSure self.old → (w : World) →
             Stands w self.old →
             HasFailed (sight_of self.old).failures (sight_of self.new).failures }
         ensures there { HasDevice self.old → HasDevice self.new }
         ensures before { (w : World) → Stands w self.old →
-            Headline StandsFor IsSpent w (sight_of self.old).state }
+            Headline StandsFor IsLastEpoch w (sight_of self.old).state }
         ensures headline { (w : World) → Stands w self.old →
-            Headline StandsFor IsSpent (after w step.now result) (sight_of self.new).state }
+            Headline StandsFor IsLastEpoch (after_step w step.now result)
+            (sight_of self.new).state }
     {
         self.images();
         let event = self.act(alloc, step);
@@ -297,11 +299,11 @@ impl<D: Crashable + Drop> Bench<D> {
     pub fn run(&mut self, alloc: Global, steps: &[Step]) -> Result<Vec<Event>, AllocError>
         ensures run { IfOk result
             (λ trace. (w : World) → Stands w self.old →
-            IsRun StandsFor IsSpent w (sight_of self.old) steps.now trace.items
+            IsRun StandsFor IsLastEpoch w (sight_of self.old) steps.now trace.items
             (sight_of self.new)) }
         ensures stands { IfOk result
-            (λ trace.
-            (w : World) → Stands w self.old → Stands (after_all w steps.now trace.items) self.new) }
+            (λ trace. (w : World) → Stands w self.old →
+            Stands (after_steps w steps.now trace.items) self.new) }
         ensures there { HasDevice self.old → HasDevice self.new }
         ensures memory { OnErr result (self.new ≡ self.old) }
     {

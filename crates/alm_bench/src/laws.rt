@@ -7,9 +7,9 @@ ghost use Rattle.alm_disk.specs.Device.{IsImage};
 ghost use Rattle.alm_model.specs.Plant.{Condensed};
 ghost use Rattle.alm_model.specs.Step.{run};
 ghost use Rattle.alm_board.specs.Fronts.{IsFront};
-ghost use Rattle.alm_keeper.specs.AsStore.{StandsFor, IsSpent};
-ghost use Rattle.alm_pipeline.specs.World.{first, shut};
-ghost use Rattle.alm_pipeline.specs.Headline.{Sight, IsRun, after_all};
+ghost use Rattle.alm_keeper.specs.AsStore.{StandsFor, IsLastEpoch};
+ghost use Rattle.alm_pipeline.specs.World.{first, closed_world};
+ghost use Rattle.alm_pipeline.specs.Headline.{Sight, IsRun, after_steps};
 ghost use Rattle.alm_bench.specs.Told.{Tells};
 ghost use Rattle.alm_bench.specs.Traced.{KeepsTold, told_in};
 ghost use Rattle.alm_pipeline.specs.declared.step.Step.{Step};
@@ -21,7 +21,7 @@ ghost use Rattle.alm_pipeline.specs.declared.event.Event.TheVariants.{Looked, Re
 /// and they reach each number of a receipt and each count of a look in it.
 pub fn the_trace_tells_enough()
     ensures { (plant : Condensed) (d last : Sight) (steps : List Step) (trace : List Event) →
-        IsRun StandsFor IsSpent (shut (first plant)) d steps trace last →
+        IsRun StandsFor IsLastEpoch (closed_world (first plant)) d steps trace last →
         (image : List ℕ) → IsImage last.state image → KeepsTold plant trace image }
 {}
 
@@ -31,9 +31,9 @@ pub fn what_was_told_is_recovered()
     ensures { (plant : Condensed) (d last : Sight) (steps behind : List Step)
         (trace rest : List Event) (step : Step) (event : Event) (told : List Action) →
         length steps ≡ length trace →
-        IsRun StandsFor IsSpent (shut (first plant)) d (steps ++ step ∷ behind)
+        IsRun StandsFor IsLastEpoch (closed_world (first plant)) d (steps ++ step ∷ behind)
         (trace ++ event ∷ rest) last →
-        Tells (after_all (shut (first plant)) steps trace) step event told →
+        Tells (after_steps (closed_world (first plant)) steps trace) step event told →
         (image : List ℕ) (recovered : Condensed) → IsImage last.state image →
         StandsFor image recovered →
         (actions : List Action) × (recovered ≡ run plant actions) × IsFront told actions }
@@ -44,10 +44,10 @@ pub fn what_was_told_is_recovered()
 pub fn each_reply_tells_its_action()
     ensures { (plant : Condensed) (d last : Sight) (steps behind : List Step)
         (trace rest : List Event) (slot : ℕ) → length steps ≡ length trace →
-        IsRun StandsFor IsSpent (shut (first plant)) d (steps ++ Release ∷ behind)
+        IsRun StandsFor IsLastEpoch (closed_world (first plant)) d (steps ++ Release ∷ behind)
         (trace ++ Released slot ∷ rest) last →
         (told : List Action) ×
-        Tells (after_all (shut (first plant)) steps trace) Release (Released slot) told }
+        Tells (after_steps (closed_world (first plant)) steps trace) Release (Released slot) told }
 {}
 
 /// A look shows all that was told before it: its count reaches each number of a receipt that was received and each count of a look, over
@@ -56,6 +56,7 @@ pub fn looks_never_go_back()
     ensures { (plant : Condensed) (d last : Sight) (steps behind : List Step)
         (trace rest : List Event) (slot : ℕ) (query : Query) (count : ℕ) →
         length steps ≡ length trace →
-        IsRun StandsFor IsSpent (shut (first plant)) d (steps ++ Look slot query ∷ behind)
-        (trace ++ Looked count ∷ rest) last → told_in trace ≤ count }
+        IsRun StandsFor IsLastEpoch (closed_world (first plant)) d
+        (steps ++ Look slot query ∷ behind) (trace ++ Looked count ∷ rest) last →
+        told_in trace ≤ count }
 {}

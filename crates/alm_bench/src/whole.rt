@@ -3,12 +3,12 @@
 ghost use Rattle.std.specs.Prelude.{◌≡◌, ◌⊎◌, ◌↔◌, ℕ, List, false, length, IfOk, IfErr};
 ghost use Rattle.alm_disk.specs.Device.{IsImage};
 ghost use Rattle.alm_disk.specs.Failures.{HasFailed};
-ghost use Rattle.alm_checkpoint.specs.Headers.{suits};
-ghost use Rattle.alm_keeper.specs.Moments.{Formats, Goes, FailsIn};
+ghost use Rattle.alm_checkpoint.specs.Headers.{segment_fits};
+ghost use Rattle.alm_keeper.specs.Moments.{Formats, IsLedBy, FailsIn};
 ghost use Rattle.alm_model.specs.New.{new_plant};
 ghost use Rattle.alm_model.specs.Plant.{Condensed};
-ghost use Rattle.alm_keeper.specs.AsStore.{StandsFor, IsSpent};
-ghost use Rattle.alm_pipeline.specs.World.{first, shut};
+ghost use Rattle.alm_keeper.specs.AsStore.{StandsFor, IsLastEpoch};
+ghost use Rattle.alm_pipeline.specs.World.{first, closed_world};
 ghost use Rattle.alm_store.specs.declared.phase.Phase.{Phase};
 ghost use Rattle.alm_pipeline.specs.Headline.{Sight, IsRun, device_alone};
 ghost use Rattle.alm_bench.specs.StandOnly.{StandOnly};
@@ -33,7 +33,7 @@ pub fn life<D: Crashable + Drop>(
     ensures run { D.honest disk → (plant : Condensed) → StandOnly (D.state disk) plant →
         IfOk result
         (λ lived. D.honest lived.1 × (at : Phase) × (n : ℕ) ×
-        IsRun StandsFor IsSpent (shut (first plant))
+        IsRun StandsFor IsLastEpoch (closed_world (first plant))
         (device_alone (D.state disk) (D.failures disk) 0) steps.now lived.0.items
         (record
         { state = D.state lived.1; failures = D.failures lived.1; phase = at; refused = n })) }
@@ -68,10 +68,10 @@ pub fn whole_life<D: Crashable + Drop>(
     ensures run { D.honest disk →
         IfOk result
         (λ lived. D.honest lived.1 × (formatted : D) ×
-        Formats Goes D.serves D.state (D.honest disk × ((D.state disk).faulted ≡ false))
+        Formats IsLedBy D.serves D.state (D.honest disk × ((D.state disk).faulted ≡ false))
         (D.size disk) table.now disk formatted ×
         StandOnly (D.state formatted) (new_plant table.now) × (at : Phase) × (n : ℕ) ×
-        IsRun StandsFor IsSpent (shut (first (new_plant table.now)))
+        IsRun StandsFor IsLastEpoch (closed_world (first (new_plant table.now)))
         (device_alone (D.state formatted) (D.failures formatted) 0) steps.now lived.0.items
         (record
         { state = D.state lived.1; failures = D.failures lived.1; phase = at; refused = n })) }
@@ -82,7 +82,8 @@ pub fn whole_life<D: Crashable + Drop>(
     ensures too_small { IfErr result
         (λ e. e.0 ≡ FormatFault.TooSmall →
         (e.1 ≡ disk) ×
-        ((n : ℕ) → suits (D.size disk) (length table.now.alarms) table.now.areas n ≡ false)) }
+        ((n : ℕ) →
+        segment_fits (D.size disk) (length table.now.alarms) table.now.areas n ≡ false)) }
     // The device calls that were made, of which the last failed.
     ensures failed { IfErr result
         (λ e. e.0 ≡ FormatFault.Disk →
@@ -94,7 +95,7 @@ pub fn whole_life<D: Crashable + Drop>(
         (λ e. e.0 ≡ FormatFault.OutOfMemory →
         (e.1 ≡ disk) ⊎
         ((formatted : D) ×
-        Formats Goes D.serves D.state (D.honest disk × ((D.state disk).faulted ≡ false))
+        Formats IsLedBy D.serves D.state (D.honest disk × ((D.state disk).faulted ≡ false))
         (D.size disk) table.now disk formatted × (D.state e.1 ≡ D.state formatted) ×
         (D.failures e.1 ≡ D.failures formatted))) }
     ensures honest { IfErr result (λ e. D.honest disk ↔ D.honest e.1) }

@@ -2,7 +2,7 @@
 
 ghost use Rattle.std.specs.Prelude.{◌≡◌};
 ghost use Rattle.alm_model.specs.Step.{run};
-ghost use Rattle.alm_board.specs.Logs.{list_of};
+ghost use Rattle.alm_board.specs.Logs.{actions_of};
 
 use crate::board::{Board, Publish};
 use crate::log::Log;
@@ -21,7 +21,7 @@ pub struct PlainBoard<P: Alarms + Drop> {
     pub(crate) base_count: u64,
     pub(crate) base: Snapshot<P>,
     pub(crate) log: Log,
-    pub ghost is_fold: { P.plant plant ≡ run (P.plant base.value) (list_of log) },
+    pub ghost is_fold: { P.plant plant ≡ run (P.plant base.value) (actions_of log) },
     ghost count: { base_count ≡ (P.plant base.value).panel.count },
 }
 
@@ -66,13 +66,13 @@ impl<P: Alarms + Drop> PlainBoard<P> {
 
 impl<P: Alarms + Drop> Board for PlainBoard<P> {
     ghost use Rattle.std.specs.Prelude.{[]};
-    ghost use Rattle.alm_board.specs.Logs.{list_of};
+    ghost use Rattle.alm_board.specs.Logs.{actions_of};
 
     type Told = PlainTold;
 
     ghost base = { λ board. P.plant board.base.value };
 
-    ghost published = { λ board. list_of board.log };
+    ghost published = { λ board. actions_of board.log };
 
     ghost pending = { λ _. [] };
 

@@ -1,6 +1,6 @@
 //! A slot's sight of a plain board.
 
-ghost use Rattle.alm_board.specs.Logs.{list_of};
+ghost use Rattle.alm_board.specs.Logs.{actions_of};
 ghost use Rattle.alm_board.specs.Fronts.{IsFront};
 
 use crate::board::Board;
@@ -16,7 +16,7 @@ use alm_types::{Answer, Query, Refusal};
 pub struct PlainLook<'a, P: Alarms + Drop> {
     pub(crate) board: &'a PlainBoard<P>,
     pub(crate) seen: Seen,
-    ghost of_the_board: { IsFront (list_of seen.list.value) (list_of board.now.log) },
+    ghost of_the_board: { IsFront (actions_of seen.list.value) (actions_of board.now.log) },
 }
 
 impl<P: Alarms + Drop> PlainLook<'_, P> {
@@ -34,7 +34,7 @@ impl<P: Alarms + Drop> Look for PlainLook<'_, P> {
     ghost use Rattle.std.specs.Prelude.{◌≡◌, OnOk, OnErr};
     ghost use Rattle.alm_model.specs.Look.{IsLook};
     ghost use Rattle.alm_model.specs.Step.{run};
-    ghost use Rattle.alm_board.specs.Logs.{list_of};
+    ghost use Rattle.alm_board.specs.Logs.{actions_of};
     ghost use Rattle.alm_board.specs.Looks.{LookAnswers};
     ghost use Rattle.alm_board.specs.Fronts.{IsFront};
 
@@ -42,25 +42,25 @@ impl<P: Alarms + Drop> Look for PlainLook<'_, P> {
 
     ghost base = { λ look. P.plant look.board.now.base.value };
 
-    ghost knows = { λ look. list_of look.seen.list.value };
+    ghost knows = { λ look. actions_of look.seen.list.value };
 
     ghost may_take = { λ look told.
-        IsFront (list_of told.list.value) (list_of look.board.now.log) };
+        IsFront (actions_of told.list.value) (actions_of look.board.now.log) };
 
     fn look(&mut self, query: Query, answer: &mut Answer) -> Result<u64, Refusal>
         ensures base { P.plant self.new.board.now.base.value ≡
             P.plant self.old.board.now.base.value }
-        ensures later { IsFront (list_of self.old.seen.list.value)
-            (list_of self.new.seen.list.value) }
+        ensures later { IsFront (actions_of self.old.seen.list.value)
+            (actions_of self.new.seen.list.value) }
         ensures answer { LookAnswers (P.plant self.old.board.now.base.value)
-            (list_of self.old.seen.list.value) (list_of self.new.seen.list.value) query answer.old
-            answer.new result }
+            (actions_of self.old.seen.list.value) (actions_of self.new.seen.list.value) query
+            answer.old answer.new result }
         ensures board { self.new.board.now ≡ self.old.board.now }
         ensures shown { IsLook
-            (run (P.plant self.old.board.now.base.value) (list_of self.old.board.now.log)) query
+            (run (P.plant self.old.board.now.base.value) (actions_of self.old.board.now.log)) query
             answer.old answer.new result }
         ensures saw { OnOk result
-            (list_of self.new.seen.list.value ≡ list_of self.old.board.now.log) }
+            (actions_of self.new.seen.list.value ≡ actions_of self.old.board.now.log) }
         ensures kept { OnErr result (self.new.seen ≡ self.old.seen) }
     {
         let board: &PlainBoard<P> = self.board;
@@ -75,12 +75,12 @@ impl<P: Alarms + Drop> Look for PlainLook<'_, P> {
     }
 
     fn take_in(&mut self, told: PlainTold)
-        requires { IsFront (list_of told.list.value) (list_of self.old.board.now.log) }
+        requires { IsFront (actions_of told.list.value) (actions_of self.old.board.now.log) }
         ensures base { P.plant self.new.board.now.base.value ≡
             P.plant self.old.board.now.base.value }
-        ensures later { IsFront (list_of self.old.seen.list.value)
-            (list_of self.new.seen.list.value) }
-        ensures told { IsFront (list_of told.list.value) (list_of self.new.seen.list.value) }
+        ensures later { IsFront (actions_of self.old.seen.list.value)
+            (actions_of self.new.seen.list.value) }
+        ensures told { IsFront (actions_of told.list.value) (actions_of self.new.seen.list.value) }
         ensures board { self.new.board.now ≡ self.old.board.now }
     {
         let PlainTold {

@@ -9,7 +9,7 @@ use Rattle.alm_model.specs.Plant.{Condensed}
 use Rattle.alm_codec.specs.Image.{image_text}
 use Rattle.alm_codec.specs.Reading.{IsBytes}
 use Rattle.alm_codec.proofs.Bytes.{IsBytes-drop, IsBytes-take}
-use Rattle.alm_segment.specs.Course.{is_open}
+use Rattle.alm_segment.specs.Course.{is_gate_open}
 use Rattle.alm_segment.specs.Folding.{stored_in}
 use Rattle.alm_segment.specs.Texts.{frames_text}
 use Rattle.alm_segment.proofs.Found.{found}
@@ -20,7 +20,7 @@ use Rattle.alm_checkpoint.specs.declared.fault.Fault.TheVariants.{Unformatted}
 use Rattle.alm_checkpoint.specs.declared.no_choice.NoChoice.TheVariants.{EqualEpochs}
 use Rattle.alm_checkpoint.specs.declared.half.Half.{Half}
 use Rattle.alm_checkpoint.specs.declared.half.Half.TheVariants.{First, Second}
-use Rattle.alm_checkpoint.specs.Layouts.{byte_at, part, other, header_len, head_len, half_len, half_at, image_at, segment_at, image_size, device_len, is_segment, number_of}
+use Rattle.alm_checkpoint.specs.Layouts.{layout_byte, part, other, header_len, head_len, half_len, half_at, image_at, segment_at, image_size, device_len, is_segment, half_number}
 use Rattle.alm_checkpoint.specs.Headers.{header, half_head, header_text, half_head_text, allows}
 use Rattle.alm_checkpoint.specs.Opening.{Opened, opened_half, ◌>>=◌, rule, read_to, gate_in, epoch_in, choice, or_fault, layout_from, layout_in, head_of, chosen_in, half_head_from, opened_in}
 use Rattle.alm_checkpoint.specs.Standing.{Stands, Spells, gate_place, end_of}
@@ -50,7 +50,7 @@ read_ok half end (Ok y) x e = ap (λ z. Ok z) (fine_is y x e)
 read_ok half end (Err left) x e = absurd cc
 
 -- a list of one byte and more
-first_is : (bytes rest : List ℕ) → 1 ≤ length bytes → is_open (byte_at bytes 0) ≡ true → drop 1 bytes ≡ rest → bytes ≡ 165 ∷ rest
+first_is : (bytes rest : List ℕ) → 1 ≤ length bytes → is_gate_open (layout_byte bytes 0) ≡ true → drop 1 bytes ≡ rest → bytes ≡ 165 ∷ rest
 first_is [] rest long gate e = absurd (omega (arith, long))
 first_is (b ∷ bytes) rest long gate e = (λ i. eqb-true b 165 gate i ∷ e i)
 
@@ -69,11 +69,11 @@ pub layout_is : (device : List ℕ) (l : Layout) → IsBytes device → layout_i
 unfolding layout_from
 layout_is device l fits e =
     let start : List ℕ = part 0 header_len device in
-    let a = bind_ok (rule (leb header_len (length start)) Unformatted) (λ _. rule (is_open (byte_at start 0)) Unformatted >>= λ _. read_to 2 header_len ((header (length device)).read (drop 1 start)) >>= λ x. Ok x.0) l e in
-    let b = bind_ok (rule (is_open (byte_at start 0)) Unformatted) (λ _. read_to 2 header_len ((header (length device)).read (drop 1 start)) >>= λ x. Ok x.0) l a.2 in
+    let a = bind_ok (rule (leb header_len (length start)) Unformatted) (λ _. rule (is_gate_open (layout_byte start 0)) Unformatted >>= λ _. read_to 2 header_len ((header (length device)).read (drop 1 start)) >>= λ x. Ok x.0) l e in
+    let b = bind_ok (rule (is_gate_open (layout_byte start 0)) Unformatted) (λ _. read_to 2 header_len ((header (length device)).read (drop 1 start)) >>= λ x. Ok x.0) l a.2 in
     let d = bind_ok (read_to 2 header_len ((header (length device)).read (drop 1 start))) (λ x. Ok x.0) l b.2 in
     let long : header_len ≤ length start = leb-true header_len (length start) (rule_ok (leb header_len (length start)) Unformatted a.0 a.1) in
-    let gate : is_open (byte_at start 0) ≡ true = rule_ok (is_open (byte_at start 0)) Unformatted b.0 b.1 in
+    let gate : is_gate_open (layout_byte start 0) ≡ true = rule_ok (is_gate_open (layout_byte start 0)) Unformatted b.0 b.1 in
     let h = header_is (length device) (drop 1 start) d.0 (IsBytes-drop 1 start (IsBytes-take header_len device fits)) (read_ok 2 header_len ((header (length device)).read (drop 1 start)) d.0 d.1) in
     let same : d.0.0 ≡ l = fine_is d.0.0 l d.2 in
     let most : length start ≤ header_len = omega (arith, length-take header_len device) in
@@ -135,8 +135,8 @@ told_is : (device : List ℕ) (l : Layout) (h : Half) (t : HalfHead) → IsBytes
 unfolding half_head_from
 told_is device l h t fits size gate e =
     let bytes : List ℕ = head_of l h device in
-    let d = bind_ok (read_to (number_of h) (image_at l h) ((half_head l.version (image_size l)).read (drop 1 bytes))) (λ x. Ok x.0) t e in
-    let k = head_is l (drop 1 bytes) d.0 (IsBytes-drop 1 bytes (IsBytes-take head_len (drop (half_at l h) device) (IsBytes-drop (half_at l h) device fits))) (read_ok (number_of h) (image_at l h) ((half_head l.version (image_size l)).read (drop 1 bytes)) d.0 d.1) in
+    let d = bind_ok (read_to (half_number h) (image_at l h) ((half_head l.version (image_size l)).read (drop 1 bytes))) (λ x. Ok x.0) t e in
+    let k = head_is l (drop 1 bytes) d.0 (IsBytes-drop 1 bytes (IsBytes-take head_len (drop (half_at l h) device) (IsBytes-drop (half_at l h) device fits))) (read_ok (half_number h) (image_at l h) ((half_head l.version (image_size l)).read (drop 1 bytes)) d.0 d.1) in
     let same : d.0.0 ≡ t = fine_is d.0.0 t d.2 in
     let long : length bytes ≡ 25 = length-take-le head_len (drop (half_at l h) device) (omega (arith, length-drop (half_at l h) device, half_fits l h device size)) in
     let rest : d.0.1 ≡ [] = nothing d.0.1 (omega (arith, ap length k.parts, length-append (half_head_text l d.0.0.version d.0.0.epoch d.0.0.count) d.0.1, length-drop 1 bytes, long)) in
@@ -182,7 +182,7 @@ pub record CutOf (device : List ℕ) (epoch : ℕ) (plant : Condensed) (o : Open
   pub tail : List ℕ
   pub is : device ≡ device_of cut (gate ∷ tail)
   pub stores : Stores cut plant
-  pub shut : is_open gate ≡ false
+  pub shut : is_gate_open gate ≡ false
   pub reaches : Reaches cut (gate ∷ tail)
   pub left_is : left ≡ length (gate ∷ tail)
   pub gate_there : length (front cut) + left ≡ end_of o
@@ -192,7 +192,7 @@ pub record CutOf (device : List ℕ) (epoch : ℕ) (plant : Condensed) (o : Open
   pub of_epoch : cut.epoch ≡ epoch
   pub of_base : cut.base ≡ base
   -- the other half's gate
-  pub of_other : gate_in (head_of o.layout (other o.half) device) ≡ is_open (byte_at cut.other 0)
+  pub of_other : gate_in (head_of o.layout (other o.half) device) ≡ is_gate_open (layout_byte cut.other 0)
 
 head_short : (l : Layout) (h : Half) (device : List ℕ) → head_of l h device ≡ take 25 (half_bytes l h device)
 head_short l h device = sym (take-take 25 (half_len l) (drop (half_at l h) device) (omega arith))

@@ -12,7 +12,7 @@ use Rattle.alm_checkpoint.specs.declared.half_head.HalfHead.{HalfHead}
 use Rattle.alm_checkpoint.specs.declared.half.Half.{Half}
 use Rattle.alm_checkpoint.specs.declared.fault.Fault.{Fault}
 use Rattle.alm_checkpoint.specs.declared.fault.Fault.TheVariants.{Damaged}
-use Rattle.alm_checkpoint.specs.Layouts.{part, image_at, image_size, number_of}
+use Rattle.alm_checkpoint.specs.Layouts.{part, image_at, image_size, half_number}
 use Rattle.alm_checkpoint.specs.Opening.{Opened, opened_half, layout_in, chosen_in, half_head_from, head_of, opened_in}
 use Rattle.alm_checkpoint.specs.Standing.{Spells, Meaning, end_of}
 use Rattle.alm_checkpoint.specs.Cut.{IsLayout}
@@ -21,10 +21,10 @@ use Rattle.alm_checkpoint.proofs.Opens.{opens, no_layout, no_half_stands, not_to
 
 by_fold : (device : List ℕ) (o : Opened) (base : Condensed) (r : Result (Condensed × ℕ) ℕ) → opened_in device ≡ Ok o → Spells o base → stored_in o.head.version o.head.epoch base o.segment ≡ r → Meaning device
 by_fold device o base (Ok x) e s f = inl (o.head.epoch, x.0, record { opened = o; opens = e; in_epoch = refl; base = base; spells = s; left = x.1; folds = f })
-by_fold device o base (Err left) e s f = inr (Damaged (number_of o.half) (end_of o - left), inr (inr (record { opened = o; opens = e; base = base; spells = s; left = left; folds = f; is = refl })))
+by_fold device o base (Err left) e s f = inr (Damaged (half_number o.half) (end_of o - left), inr (inr (record { opened = o; opens = e; base = base; spells = s; left = left; folds = f; is = refl })))
 
 by_image : (device : List ℕ) (o : Opened) (d : Option ℕ) → opened_in device ≡ Ok o → IsLayout o.layout → IsBytes o.image → damage_in o.layout.rows o.layout.areas o.head.count o.image ≡ d → Meaning device
-by_image device o (Some at) e limits fits f = inr (Damaged (number_of o.half) (image_at o.layout o.half + at), inr (inl (record { opened = o; opens = e; at = at; damage = f; is = refl })))
+by_image device o (Some at) e limits fits f = inr (Damaged (half_number o.half) (image_at o.layout o.half + at), inr (inl (record { opened = o; opens = e; at = at; damage = f; is = refl })))
 by_image device o None e limits fits f =
     let rows = and_parts (leb 1 o.layout.rows) (leb o.layout.rows 16384) limits.rows in
     let areas = and_parts (leb 1 o.layout.areas) (leb o.layout.areas 64) limits.areas in

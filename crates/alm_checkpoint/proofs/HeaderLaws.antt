@@ -9,37 +9,37 @@ use Rattle.std.proofs.lemmas.List.{append-nil}
 use Rattle.alm_codec.specs.declared.version.Version.{Version}
 use Rattle.alm_codec.specs.declared.version.Version.TheVariants.{V01, V02}
 use Rattle.alm_codec.proofs.Bytes.{chosen}
-use Rattle.alm_codec.specs.Format.{Format, number, raw, tested, both}
+use Rattle.alm_codec.specs.Format.{Format, number_field, raw, tested_field, both}
 use Rattle.alm_codec.specs.Reading.{IsBytes}
 use Rattle.alm_codec.proofs.Numbers.{wide16, wide32, wide64}
 use Rattle.alm_codec.proofs.Formats.{Lawful, number_lawful, raw_lawful, coded_lawful, tested_lawful, both_lawful}
 use Rattle.alm_checkpoint.specs.declared.layout.Layout.{Layout}
 use Rattle.alm_checkpoint.specs.declared.half_head.HalfHead.{HalfHead}
 use Rattle.alm_checkpoint.specs.Layouts.{device_len, image_size, is_rows, is_areas, is_segment}
-use Rattle.alm_checkpoint.specs.Headers.{device_name, version_named, name, of_rows, suits, header, header_text, mark_weight, marked, is_first, allows, is_count, unmarked, mark, half_head, half_head_text}
+use Rattle.alm_checkpoint.specs.Headers.{device_name, version_named, name, of_rows, segment_fits, header, header_text, mark_weight, mark_of, is_first, allows, is_count, mark_read, mark, half_head, half_head_text}
 
 -- ---- a field that passes a test
 
-pub passing : {A : Type 0} (f : Format A) (test : A → Bool) (a : A) → f.Keeps a → test a ≡ true → (tested f test).Keeps a
+pub passing : {A : Type 0} (f : Format A) (test : A → Bool) (a : A) → f.Keeps a → test a ≡ true → (tested_field f test).Keeps a
 passing f test a h e = (h, rw e refl)
 
 cond_true : {A : Type 0} (b : Bool) (a c : A) → cond b (Some a) None ≡ Some c → b ≡ true
 cond_true true a c e = refl
 cond_true false a c e = absurd cc
 
-pub passes : {A : Type 0} (f : Format A) (test : A → Bool) (a : A) → (tested f test).Keeps a → test a ≡ true
+pub passes : {A : Type 0} (f : Format A) (test : A → Bool) (a : A) → (tested_field f test).Keeps a → test a ≡ true
 passes f test a h = cond_true (test a) a a h.1
 
 -- ---- a header
 
 abbrev segment_in : ℕ → ℕ → ℕ → Format ℕ
-segment_in size rows areas = tested (number w64 (2 ^ 64)) (suits size rows areas)
+segment_in size rows areas = tested_field (number_field w64 (2 ^ 64)) (segment_fits size rows areas)
 
 abbrev areas_in : ℕ → ℕ → Format (ℕ × ℕ)
-areas_in size rows = both (tested (number w16 (2 ^ 16)) is_areas) (λ areas. segment_in size rows areas)
+areas_in size rows = both (tested_field (number_field w16 (2 ^ 16)) is_areas) (λ areas. segment_in size rows areas)
 
 abbrev rows_in : ℕ → Format (ℕ × (ℕ × ℕ))
-rows_in size = both (tested (number w32 (2 ^ 32)) is_rows) (λ rows. areas_in size rows)
+rows_in size = both (tested_field (number_field w32 (2 ^ 32)) is_rows) (λ rows. areas_in size rows)
 
 abbrev fields_in : ℕ → Format (Version × (ℕ × (ℕ × ℕ)))
 fields_in size = both name (λ _. rows_in size)
@@ -67,9 +67,9 @@ name_keeps V02 = (refl, refl)
 fields_lawful : (size : ℕ) → Lawful (fields_in size)
 fields_lawful size =
     both_lawful name (λ _. rows_in size) name_lawful
-    (λ _. both_lawful (tested (number w32 (2 ^ 32)) is_rows) (λ rows. areas_in size rows) (tested_lawful (number w32 (2 ^ 32)) is_rows (number_lawful w32 (2 ^ 32) wide32))
-    (λ rows. both_lawful (tested (number w16 (2 ^ 16)) is_areas) (λ areas. segment_in size rows areas) (tested_lawful (number w16 (2 ^ 16)) is_areas (number_lawful w16 (2 ^ 16) wide16))
-    (λ areas. tested_lawful (number w64 (2 ^ 64)) (suits size rows areas) (number_lawful w64 (2 ^ 64) wide64))))
+    (λ _. both_lawful (tested_field (number_field w32 (2 ^ 32)) is_rows) (λ rows. areas_in size rows) (tested_lawful (number_field w32 (2 ^ 32)) is_rows (number_lawful w32 (2 ^ 32) wide32))
+    (λ rows. both_lawful (tested_field (number_field w16 (2 ^ 16)) is_areas) (λ areas. segment_in size rows areas) (tested_lawful (number_field w16 (2 ^ 16)) is_areas (number_lawful w16 (2 ^ 16) wide16))
+    (λ areas. tested_lawful (number_field w64 (2 ^ 64)) (segment_fits size rows areas) (number_lawful w64 (2 ^ 64) wide64))))
 
 fields_are : (size : ℕ) (p : Version × (ℕ × (ℕ × ℕ))) (l : Layout) → (fields_in size).Keeps p → Some (of_rows p.1.0 p.1.1.0 p.1.1.1 p.0) ≡ Some l → p ≡ (l.version, (l.rows, (l.areas, l.segment)))
 fields_are size p l h e = ap (λ (k : Layout). (k.version, (k.rows, (k.areas, k.segment)))) (same_Some (of_rows p.1.0 p.1.1.0 p.1.1.1 p.0) l e)
@@ -81,7 +81,7 @@ header_lawful size = coded_lawful (fields_in size) (λ p. Some (of_rows p.1.0 p.
 pub record SuitsDevice (size : ℕ) (l : Layout) : Type 0 where
   pub rows : is_rows l.rows ≡ true
   pub areas : is_areas l.areas ≡ true
-  pub segment : suits size l.rows l.areas l.segment ≡ true
+  pub segment : segment_fits size l.rows l.areas l.segment ≡ true
 
 rows_small : (n : ℕ) → is_rows n ≡ true → n < 2 ^ 32
 rows_small n e = omega (arith, leb-true n 16384 (and_parts (leb 1 n) (leb n 16384) e).1)
@@ -89,7 +89,7 @@ rows_small n e = omega (arith, leb-true n 16384 (and_parts (leb 1 n) (leb n 1638
 areas_small : (n : ℕ) → is_areas n ≡ true → n < 2 ^ 16
 areas_small n e = omega (arith, leb-true n 64 (and_parts (leb 1 n) (leb n 64) e).1)
 
-segment_small : (size rows areas n : ℕ) → suits size rows areas n ≡ true → n < 2 ^ 64
+segment_small : (size rows areas n : ℕ) → segment_fits size rows areas n ≡ true → n < 2 ^ 64
 segment_small size rows areas n e =
     let in_limits : is_segment n ≡ true = (and_parts (is_segment n) (leb (device_len (of_rows rows areas n V02)) size) e).0 in
     omega (arith, leb-true n 16777216 (and_parts (leb 4116 n) (leb n 16777216) in_limits).1)
@@ -99,10 +99,10 @@ header_keeps size l s = (
   (
     name_keeps l.version,
     (
-      passing (number w32 (2 ^ 32)) is_rows l.rows (rows_small l.rows s.rows) s.rows,
+      passing (number_field w32 (2 ^ 32)) is_rows l.rows (rows_small l.rows s.rows) s.rows,
       (
-        passing (number w16 (2 ^ 16)) is_areas l.areas (areas_small l.areas s.areas) s.areas,
-        passing (number w64 (2 ^ 64)) (suits size l.rows l.areas) l.segment (segment_small size l.rows l.areas l.segment s.segment) s.segment,
+        passing (number_field w16 (2 ^ 16)) is_areas l.areas (areas_small l.areas s.areas) s.areas,
+        passing (number_field w64 (2 ^ 64)) (segment_fits size l.rows l.areas) l.segment (segment_small size l.rows l.areas l.segment s.segment) s.segment,
       ),
     ),
   ),
@@ -120,9 +120,9 @@ header_is size bytes x fits e =
     let k = t.1.0.1 in (
       t.0.parts,
       record {
-        rows = passes (number w32 (2 ^ 32)) is_rows x.0.rows k.0;
-        areas = passes (number w16 (2 ^ 16)) is_areas x.0.areas k.1.0;
-        segment = passes (number w64 (2 ^ 64)) (suits size x.0.rows x.0.areas) x.0.segment k.1.1;
+        rows = passes (number_field w32 (2 ^ 32)) is_rows x.0.rows k.0;
+        areas = passes (number_field w16 (2 ^ 16)) is_areas x.0.areas k.1.0;
+        segment = passes (number_field w64 (2 ^ 64)) (segment_fits size x.0.rows x.0.areas) x.0.segment k.1.1;
       },
     )
 
@@ -130,14 +130,14 @@ header_is size bytes x fits e =
 
 -- what a field of mark and count stands for
 pub record IsMark (header : Version) (n : ℕ) (m : Version × ℕ) : Type 0 where
-  pub is : n ≡ marked m.0 m.1
+  pub is : n ≡ mark_of m.0 m.1
   pub allowed : allows header m.0 ≡ true
   pub count : m.1 ≤ 2 ^ 48
 
 abbrev pair : Version → ℕ → Version × ℕ
 pair v n = (v, n)
 
-pub unmarked_is : (header : Version) (n : ℕ) (m : Version × ℕ) → unmarked header n ≡ Some m → IsMark header n m
+pub unmarked_is : (header : Version) (n : ℕ) (m : Version × ℕ) → mark_read header n ≡ Some m → IsMark header n m
 unmarked_is header n m e =
     elim (chosen (is_count n && is_first header) (Some (pair V01 n)) (cond (leb (mark_weight V02) n && is_count (n - mark_weight V02)) (Some (pair V02 (n - mark_weight V02))) None) (Some m) e) [
       | inl (t, s) ↦
@@ -152,7 +152,7 @@ unmarked_is header n m e =
       ]
     ]
 
-unmarked_at : (header v : Version) (n count : ℕ) → n ≡ marked v count → allows header v ≡ true → count ≤ 2 ^ 48 → unmarked header n ≡ Some (pair v count)
+unmarked_at : (header v : Version) (n count : ℕ) → n ≡ mark_of v count → allows header v ≡ true → count ≤ 2 ^ 48 → mark_read header n ≡ Some (pair v count)
 unmarked_at header V01 n count e allowed c =
     let same : n ≡ count = omega (arith, e) in
     rw (same, le-leb count (2 ^ 48) c, allowed) refl
@@ -162,40 +162,40 @@ unmarked_at header V02 n count e allowed c =
     let rest : n - mark_weight V02 ≡ count = omega (arith, e) in
     rw (above, large, rest, le-leb count (2 ^ 48) c) refl
 
-marked_small : (v : Version) (count : ℕ) → count ≤ 2 ^ 48 → marked v count < 2 ^ 64
+marked_small : (v : Version) (count : ℕ) → count ≤ 2 ^ 48 → mark_of v count < 2 ^ 64
 marked_small V01 count c = omega (arith, c)
 marked_small V02 count c = omega (arith, c)
 
 mark_keeps : (header v : Version) (count : ℕ) → allows header v ≡ true → count ≤ 2 ^ 48 → (mark header).Keeps (pair v count)
-mark_keeps header v count allowed c = (marked_small v count c, unmarked_at header v (marked v count) count refl allowed c)
+mark_keeps header v count allowed c = (marked_small v count c, unmarked_at header v (mark_of v count) count refl allowed c)
 
 mark_lawful : (header : Version) → Lawful (mark header)
-mark_lawful header = coded_lawful (number w64 (2 ^ 64)) (unmarked header) (λ m. marked m.0 m.1) (number_lawful w64 (2 ^ 64) wide64) (λ n m h e. (unmarked_is header n m e).is)
+mark_lawful header = coded_lawful (number_field w64 (2 ^ 64)) (mark_read header) (λ m. mark_of m.0 m.1) (number_lawful w64 (2 ^ 64) wide64) (λ n m h e. (unmarked_is header n m e).is)
 
 abbrev is_size : ℕ → ℕ → Bool
 is_size image n = eqb n image
 
 abbrev image_in : ℕ → Format ℕ
-image_in image = tested (number w64 (2 ^ 64)) (is_size image)
+image_in image = tested_field (number_field w64 (2 ^ 64)) (is_size image)
 
 abbrev mark_in : Version → ℕ → Format ((Version × ℕ) × ℕ)
 mark_in header image = both (mark header) (λ m. image_in image)
 
 abbrev head_in : Version → ℕ → Format (ℕ × ((Version × ℕ) × ℕ))
-head_in header image = both (number w64 (2 ^ 64)) (λ epoch. mark_in header image)
+head_in header image = both (number_field w64 (2 ^ 64)) (λ epoch. mark_in header image)
 
 head_in_lawful : (header : Version) (image : ℕ) → Lawful (head_in header image)
 head_in_lawful header image =
-    both_lawful (number w64 (2 ^ 64)) (λ _. mark_in header image) (number_lawful w64 (2 ^ 64) wide64)
+    both_lawful (number_field w64 (2 ^ 64)) (λ _. mark_in header image) (number_lawful w64 (2 ^ 64) wide64)
     (λ _. both_lawful (mark header) (λ _. image_in image) (mark_lawful header)
-    (λ _. tested_lawful (number w64 (2 ^ 64)) (is_size image) (number_lawful w64 (2 ^ 64) wide64)))
+    (λ _. tested_lawful (number_field w64 (2 ^ 64)) (is_size image) (number_lawful w64 (2 ^ 64) wide64)))
 
 abbrev told_of : ℕ → Version × ℕ → HalfHead
 told_of epoch m = record { epoch = epoch; version = m.0; count = m.1 }
 
 head_is_of : (header : Version) (image : ℕ) (p : ℕ × ((Version × ℕ) × ℕ)) (t : HalfHead) → (head_in header image).Keeps p → Some (told_of p.0 p.1.0) ≡ Some t → p ≡ (t.epoch, ((t.version, t.count), image))
 head_is_of header image p t h e =
-    let sized : p.1.1 ≡ image = eqb-true p.1.1 image (passes (number w64 (2 ^ 64)) (is_size image) p.1.1 h.1.1) in
+    let sized : p.1.1 ≡ image = eqb-true p.1.1 image (passes (number_field w64 (2 ^ 64)) (is_size image) p.1.1 h.1.1) in
     let same = same_Some (told_of p.0 p.1.0) t e in
     ap (λ (n : ℕ). (p.0, (p.1.0, n))) sized ∙ ap (λ (k : HalfHead). (k.epoch, ((k.version, k.count), image))) same
 
@@ -208,7 +208,7 @@ head_keeps l t e a c i = (
     e,
     (
       mark_keeps l.version t.version t.count a c,
-      passing (number w64 (2 ^ 64)) (is_size (image_size l)) (image_size l) i (eq-eqb (image_size l) (image_size l) refl),
+      passing (number_field w64 (2 ^ 64)) (is_size (image_size l)) (image_size l) i (eq-eqb (image_size l) (image_size l) refl),
     ),
   ),
   refl,
@@ -231,5 +231,5 @@ pub head_is : (l : Layout) (bytes : List ℕ) (x : HalfHead × List ℕ) → IsB
 head_is l bytes x fits e =
     let t = (half_head_lawful l.version (image_size l)).takes bytes x fits e in
     let k = t.1.0 in
-    let m = unmarked_is l.version (marked x.0.version x.0.count) (pair x.0.version x.0.count) k.1.0.1 in
+    let m = unmarked_is l.version (mark_of x.0.version x.0.count) (pair x.0.version x.0.count) k.1.0.1 in
     record { parts = t.0.parts; epoch = k.0; allowed = m.allowed; count = m.count }

@@ -6,7 +6,7 @@ use Rattle.alm_segment.specs.Folding.{stored_in, Replays}
 use Rattle.alm_segment.proofs.Replays.{replay_done, replay_failed}
 use Rattle.alm_segment.proofs.Within.{EndsWithin, ends_within}
 use Rattle.alm_checkpoint.specs.declared.fault.Fault.TheVariants.{Damaged}
-use Rattle.alm_checkpoint.specs.Layouts.{segment_at, number_of}
+use Rattle.alm_checkpoint.specs.Layouts.{segment_at, half_number}
 use Rattle.alm_checkpoint.specs.Opening.{Opened}
 use Rattle.alm_checkpoint.specs.Standing.{Spells, end_of}
 use Rattle.alm_checkpoint.specs.Restoring.{Holds, HasFrameDamage}
@@ -30,7 +30,7 @@ held o base built plant result at place spells same long there e h =
       gate_is = omega (arith, there, d.place_is, w, long);
     }
 
-pub unheld : (o : Opened) (base built plant : Condensed) (result : Result ℕ Damage) (damage : Damage) (half place : ℕ) → Spells o base → built ≡ base → length o.segment ≡ o.layout.segment → half ≡ number_of o.half → place ≡ segment_at o.layout o.half
+pub unheld : (o : Opened) (base built plant : Condensed) (result : Result ℕ Damage) (damage : Damage) (half place : ℕ) → Spells o base → built ≡ base → length o.segment ≡ o.layout.segment → half ≡ half_number o.half → place ≡ segment_at o.layout o.half
     → result ≡ Err damage → Replays (length o.segment) (stored_in o.head.version o.head.epoch built o.segment) result plant → HasFrameDamage o (Damaged half (place + damage.at))
 unheld o base built plant result damage half place spells same long numbered there e h =
     let d = replay_failed (length o.segment) (stored_in o.head.version o.head.epoch built o.segment) result damage plant e h in

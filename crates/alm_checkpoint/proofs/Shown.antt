@@ -5,16 +5,16 @@ use Rattle.std.proofs.lemmas.Nat.{from_be_bytes-to_be_bytes_8}
 use Rattle.std.proofs.lemmas.List.{append-nil}
 use Rattle.alm_model.specs.Plant.{Condensed}
 use Rattle.alm_codec.specs.declared.version.Version.{Version}
-use Rattle.alm_codec.specs.Image.{IsImage, IsOf, image_text, image_len}
+use Rattle.alm_codec.specs.Image.{IsImageText, IsOf, image_text, image_len}
 use Rattle.alm_codec.proofs.Spelled.{image_length}
-use Rattle.alm_segment.specs.Course.{is_open}
+use Rattle.alm_segment.specs.Course.{is_gate_open}
 use Rattle.alm_segment.specs.Texts.{frames_text}
 use Rattle.alm_segment.proofs.Segments.{folds}
 use Rattle.alm_checkpoint.specs.declared.layout.Layout.{Layout}
 use Rattle.alm_checkpoint.specs.declared.half_head.HalfHead.{HalfHead}
 use Rattle.alm_checkpoint.specs.declared.half.Half.{Half}
 use Rattle.alm_checkpoint.specs.declared.half.Half.TheVariants.{First, Second}
-use Rattle.alm_checkpoint.specs.Layouts.{part, other, header_len, head_len, half_len, half_at, image_at, segment_at, image_size, device_len, is_segment, number_of}
+use Rattle.alm_checkpoint.specs.Layouts.{part, other, header_len, head_len, half_len, half_at, image_at, segment_at, image_size, device_len, is_segment, half_number}
 use Rattle.alm_checkpoint.specs.Headers.{header_text, half_head_text, allows}
 use Rattle.alm_checkpoint.specs.Opening.{Opened, opened_half, ◌>>=◌, read_to, gate_in, epoch_in, choice, or_fault, layout_from, layout_in, head_of, chosen_in, half_head_from, opened_in}
 use Rattle.alm_checkpoint.specs.Standing.{Stands}
@@ -47,7 +47,7 @@ flat : (h m i f t b o r : List ℕ) → (h ++ b) ++ (m ++ i ++ f) ++ t ++ r ≡ 
 flat h m i f t b o r = simp append_assoc
 
 -- lengths of the fields
-pub image_is_long : (l : Layout) (q : Condensed) → IsOf l.rows l.areas q.panel.count q → IsImage q (image_text q) → length (image_text q) ≡ image_size l
+pub image_is_long : (l : Layout) (q : Condensed) → IsOf l.rows l.areas q.panel.count q → IsImageText q (image_text q) → length (image_text q) ≡ image_size l
 image_is_long l q of h = image_length q h.rules ∙ (λ i. image_len (of.by_rows i) (of.by_areas i))
 
 -- where the fields lie on a device
@@ -174,7 +174,7 @@ image_small l limits =
 -- a head
 told_again : (l : Layout) (h : Half) (t : HalfHead) → IsLayout l → t.epoch < 2 ^ 64 → allows l.version t.version ≡ true → t.count ≤ 2 ^ 48 → half_head_from l h (mark_text l t.version t.epoch t.count) ≡ Ok t
 unfolding half_head_from
-told_again l h t limits e a c = ap (λ r. read_to (number_of h) (image_at l h) r >>= λ x. Ok x.0) (head_reads l t e a c (image_small l limits))
+told_again l h t limits e a c = ap (λ r. read_to (half_number h) (image_at l h) r >>= λ x. Ok x.0) (head_reads l t e a c (image_small l limits))
 
 pub opened : (device : List ℕ) (l : Layout) (h : Half) (t : HalfHead) (image segment beside : List ℕ) → Laid device l h t.version t.epoch t.count image segment beside → IsLayout l → t.epoch < 2 ^ 64 → allows l.version t.version ≡ true → t.count ≤ 2 ^ 48 → IsBelow t.epoch beside
     → opened_in device ≡ Ok (record { layout = l; half = h; head = t; image = image; segment = segment })
@@ -195,7 +195,7 @@ shown_opens c plant tail s reaches =
     (laid c.layout c.half c.version c.epoch c.base.panel.count (image_text c.base) (frames_text c.epoch c.base.panel.count c.frames) tail c.other c.rest (image_is_long c.layout c.base s.sizes s.image) reaches s.size)
     s.layout s.epoch s.version s.count s.below
 
-pub stands : (c : Cut) (plant : Condensed) (gate : ℕ) (tail : List ℕ) → Stores c plant → is_open gate ≡ false → Reaches c (gate ∷ tail) → Stands (device_of c (gate ∷ tail)) c.epoch plant
+pub stands : (c : Cut) (plant : Condensed) (gate : ℕ) (tail : List ℕ) → Stores c plant → is_gate_open gate ≡ false → Reaches c (gate ∷ tail) → Stands (device_of c (gate ∷ tail)) c.epoch plant
 stands c plant gate tail s shut reaches = record {
   opened = shown c (gate ∷ tail);
   opens = shown_opens c plant (gate ∷ tail) s reaches;

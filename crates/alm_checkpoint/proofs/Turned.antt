@@ -9,7 +9,7 @@ use Rattle.alm_model.specs.Rules.{KeepsRules, AreAdmitted}
 use Rattle.alm_model.proofs.Kept.{run-keeps}
 use Rattle.alm_codec.specs.declared.version.Version.{Version}
 use Rattle.alm_codec.specs.declared.version.Version.TheVariants.{V02}
-use Rattle.alm_codec.specs.Image.{IsImage, IsOf, image_text}
+use Rattle.alm_codec.specs.Image.{IsImageText, IsOf, image_text}
 use Rattle.alm_codec.proofs.Frames.{all_borne}
 use Rattle.alm_segment.specs.Texts.{frames_text, AreFrames, actions_in}
 use Rattle.alm_model.proofs.Runs.{run_sizes, run_within}
@@ -19,7 +19,7 @@ use Rattle.alm_checkpoint.specs.declared.half.Half.TheVariants.{First, Second}
 use Rattle.alm_checkpoint.specs.Layouts.{other, half_len, image_size}
 use Rattle.alm_checkpoint.specs.Headers.{header_text, half_head_text}
 use Rattle.alm_checkpoint.specs.Opening.{epoch_in}
-use Rattle.alm_checkpoint.specs.Cut.{Cut, Stores, IsBelow, Reaches, half_text, before, behind, device_of, with_other, turned, turned_with, side_front, side_back}
+use Rattle.alm_checkpoint.specs.Cut.{Cut, Stores, IsBelow, Reaches, half_text, before, behind, device_of, with_other, turned_cut, turned_with, side_front, side_back}
 use Rattle.alm_checkpoint.proofs.Shown.{image_is_long}
 
 -- the plant that is stored keeps the rules, has as many rows and areas, and has an image
@@ -38,7 +38,7 @@ sizes_stored c plant s =
       by_count = refl;
     }
 
-pub image_stored : (c : Cut) (plant : Condensed) → Stores c plant → IsImage plant (image_text plant)
+pub image_stored : (c : Cut) (plant : Condensed) → Stores c plant → IsImageText plant (image_text plant)
 image_stored c plant s =
     let rules = rules_stored c plant s in
     record { rules = rules; fits = omega (arith, rules.stamps, within_stored c plant s); text = refl }
@@ -68,7 +68,7 @@ turn First s m n t u r = ap (λ (l : List ℕ). l ++ m ++ t ++ ((n ++ u) ++ r)) 
 turn Second s m n t u r = turn_back s m n t u r ∙ ap (λ (l : List ℕ). l ++ n ++ u ++ ((m ++ t) ++ r)) (sym (append-nil s))
 
 -- the other half with an image of this plant in the next epoch is the one that stands
-pub turns : (c : Cut) (plant : Condensed) (tail new_tail : List ℕ) → device_of (with_other c (half_text c.layout V02 (c.epoch + 1) plant [] ++ new_tail)) tail ≡ device_of (turned c plant tail) new_tail
+pub turns : (c : Cut) (plant : Condensed) (tail new_tail : List ℕ) → device_of (with_other c (half_text c.layout V02 (c.epoch + 1) plant [] ++ new_tail)) tail ≡ device_of (turned_cut c plant tail) new_tail
 turns c plant tail new_tail = turn c.half (165 ∷ header_text c.layout) (half_text c.layout c.version c.epoch c.base c.frames) (half_text c.layout V02 (c.epoch + 1) plant []) tail new_tail c.rest
 
 half_length : (c : Cut) (tail : List ℕ) → length (image_text c.base) ≡ image_size c.layout → Reaches c tail → length (half_text c.layout c.version c.epoch c.base c.frames ++ tail) ≡ half_len c.layout
@@ -85,7 +85,7 @@ half_length c tail by_image reaches =
 epoch_there : (l : Layout) (version : Version) (epoch : ℕ) (q : Condensed) (frames : List (List Action)) (tail : List ℕ) → epoch < 2 ^ 64 → epoch_in (half_text l version epoch q frames ++ tail) ≡ epoch
 epoch_there l version epoch q frames tail lt = from_be_bytes-to_be_bytes_8 epoch lt
 
-pub stores_turned : (c : Cut) (plant : Condensed) (tail : List ℕ) → Stores c plant → Reaches c tail → c.epoch + 1 < 2 ^ 64 → Stores (turned c plant tail) plant
+pub stores_turned : (c : Cut) (plant : Condensed) (tail : List ℕ) → Stores c plant → Reaches c tail → c.epoch + 1 < 2 ^ 64 → Stores (turned_cut c plant tail) plant
 stores_turned c plant tail s reaches more = record {
   layout = s.layout;
   version = refl;
@@ -121,7 +121,7 @@ pub turns_with : (c : Cut) (base : Condensed) (frames : List (List Action)) (tai
     → device_of (with_other c (half_text c.layout V02 (c.epoch + 1) base frames ++ new_tail)) tail ≡ device_of (turned_with c base frames tail) new_tail
 turns_with c base frames tail new_tail = turn c.half (165 ∷ header_text c.layout) (half_text c.layout c.version c.epoch c.base c.frames) (half_text c.layout V02 (c.epoch + 1) base frames) tail new_tail c.rest
 
-pub stores_turned_with : (c : Cut) (plant base : Condensed) (frames : List (List Action)) (tail : List ℕ) → Stores c plant → Reaches c tail → c.epoch + 1 < 2 ^ 64 → IsImage base (image_text base)
+pub stores_turned_with : (c : Cut) (plant base : Condensed) (frames : List (List Action)) (tail : List ℕ) → Stores c plant → Reaches c tail → c.epoch + 1 < 2 ^ 64 → IsImageText base (image_text base)
     → IsOf c.layout.rows c.layout.areas base.panel.count base → base.panel.count ≤ 2 ^ 48 → AreFrames (c.epoch + 1) base.panel.count frames → AreAdmitted base (actions_in frames) → run base (actions_in frames) ≡ plant
     → Stores (turned_with c base frames tail) plant
 stores_turned_with c plant base frames tail s reaches more image sizes count spelled admitted runs = record {

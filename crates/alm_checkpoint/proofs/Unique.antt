@@ -8,7 +8,7 @@ use Rattle.alm_codec.proofs.SameImage.{no_image_begins, image_whole}
 use Rattle.alm_segment.specs.Folding.{stored_in}
 use Rattle.alm_checkpoint.specs.declared.fault.Fault.{Fault}
 use Rattle.alm_checkpoint.specs.declared.fault.Fault.TheVariants.{Damaged}
-use Rattle.alm_checkpoint.specs.Layouts.{image_at, number_of}
+use Rattle.alm_checkpoint.specs.Layouts.{image_at, half_number}
 use Rattle.alm_checkpoint.specs.Opening.{Opened, opened_in}
 use Rattle.alm_checkpoint.specs.Standing.{Stands, Spells, HasFault, end_of}
 
@@ -83,7 +83,7 @@ fault_once device x y (inr (inr f)) (inl g) = absurd (well_not (opened_in device
 fault_once device x y (inr (inl f)) (inr (inl g)) =
     let same = same_opened device f.opened g.opened f.opens g.opens in
     let ats : f.at ≡ g.at = same_places f.at g.at (sym f.damage ∙ ap (λ (o : Opened). damage_in o.layout.rows o.layout.areas o.head.count o.image) same ∙ g.damage) in
-    f.is ∙ (λ i. Damaged (number_of (same i).half) (image_at (same i).layout (same i).half + ats i)) ∙ sym g.is
+    f.is ∙ (λ i. Damaged (half_number (same i).half) (image_at (same i).layout (same i).half + ats i)) ∙ sym g.is
 fault_once device x y (inr (inl f)) (inr (inr g)) =
     let same = same_opened device g.opened f.opened g.opens f.opens in
     absurd (undamaged f.opened g.base f.at (subst (λ (o : Opened). Spells o g.base) same g.spells) f.damage)
@@ -95,4 +95,4 @@ fault_once device x y (inr (inr f)) (inr (inr g)) =
     let bases : f.base ≡ g.base = same_base g.opened f.base g.base (subst (λ (o : Opened). Spells o f.base) same f.spells) g.spells in
     let one : stored_in f.opened.head.version f.opened.head.epoch f.base f.opened.segment ≡ stored_in g.opened.head.version g.opened.head.epoch g.base g.opened.segment = (λ i. stored_in (same i).head.version (same i).head.epoch (bases i) (same i).segment) in
     let lefts = ill_is {A = Condensed × ℕ} f.left g.left (sym f.folds ∙ one ∙ g.folds) in
-    f.is ∙ (λ i. Damaged (number_of (same i).half) (end_of (same i) - lefts i)) ∙ sym g.is
+    f.is ∙ (λ i. Damaged (half_number (same i).half) (end_of (same i) - lefts i)) ∙ sym g.is

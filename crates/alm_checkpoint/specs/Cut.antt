@@ -4,11 +4,11 @@ use Rattle.alm_types.specs.declared.action.Action.{Action}
 use Rattle.alm_model.specs.Plant.{Condensed}
 use Rattle.alm_model.specs.Step.{run}
 use Rattle.alm_model.specs.Rules.{AreAdmitted}
-use Rattle.alm_codec.specs.Image.{IsImage, IsOf, image_text}
+use Rattle.alm_codec.specs.Image.{IsImageText, IsOf, image_text}
 use Rattle.alm_codec.specs.declared.version.Version.{Version}
 use Rattle.alm_codec.specs.declared.version.Version.TheVariants.{V02}
 use Rattle.alm_codec.specs.Versions.{AreBorne}
-use Rattle.alm_segment.specs.Course.{is_open}
+use Rattle.alm_segment.specs.Course.{is_gate_open}
 use Rattle.alm_segment.specs.Texts.{frames_text, AreFrames, actions_in}
 use Rattle.alm_checkpoint.specs.declared.layout.Layout.{Layout}
 use Rattle.alm_checkpoint.specs.declared.half.Half.{Half}
@@ -73,7 +73,7 @@ pub record Stores (c : Cut) (plant : Condensed) : Type 0 where
   pub layout : IsLayout c.layout
   pub version : allows c.layout.version c.version ≡ true
   pub epoch : c.epoch < 2 ^ 64
-  pub image : IsImage c.base (image_text c.base)
+  pub image : IsImageText c.base (image_text c.base)
   pub sizes : IsOf c.layout.rows c.layout.areas c.base.panel.count c.base
   pub count : c.base.panel.count ≤ 2 ^ 48
   pub frames : AreFrames c.epoch c.base.panel.count c.frames
@@ -94,8 +94,8 @@ abbrev pub with_other : Cut → List ℕ → Cut
 with_other c bytes = record c { other = bytes }
 
 -- the other half stands, in version 02 and the next epoch: with the image of this plant and no frames; these bytes end the half that stood before
-abbrev pub turned : Cut → Condensed → List ℕ → Cut
-turned c plant tail = record {
+abbrev pub turned_cut : Cut → Condensed → List ℕ → Cut
+turned_cut c plant tail = record {
   layout = c.layout;
   half = other c.half;
   version = V02;
@@ -113,7 +113,7 @@ pub record IsCut (device : List ℕ) (epoch : ℕ) (plant : Condensed) (place : 
   pub tail : List ℕ
   pub is : device ≡ device_of cut (gate ∷ tail)
   pub stores : Stores cut plant
-  pub shut : is_open gate ≡ false
+  pub shut : is_gate_open gate ≡ false
   pub reaches : Reaches cut (gate ∷ tail)
   pub of_epoch : cut.epoch ≡ epoch
   pub gate_is : length (front cut) ≡ place
@@ -129,4 +129,4 @@ side_back c Second tail = half_text c.layout c.version c.epoch c.base c.frames +
 
 -- the same, where the other half also has frames behind its image
 abbrev pub turned_with : Cut → Condensed → List (List Action) → List ℕ → Cut
-turned_with c base frames tail = record (turned c base tail) { frames = frames }
+turned_with c base frames tail = record (turned_cut c base tail) { frames = frames }

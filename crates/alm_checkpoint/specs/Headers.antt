@@ -3,33 +3,33 @@ use Rattle.std.specs.Prelude.{◌≡◌, ℕ, ◌+◌, ◌-◌, ◌*◌, ◌^◌
 use Rattle.std.specs.Int.{w16, w32, w64, to_be_bytes}
 use Rattle.alm_codec.specs.declared.version.Version.{Version}
 use Rattle.alm_codec.specs.declared.version.Version.TheVariants.{V01, V02}
-use Rattle.alm_codec.specs.Format.{Format, number, raw, coded, tested, both}
+use Rattle.alm_codec.specs.Format.{Format, number_field, raw, coded_field, tested_field, both}
 use Rattle.alm_checkpoint.specs.declared.layout.Layout.{Layout}
 use Rattle.alm_checkpoint.specs.declared.half_head.HalfHead.{HalfHead}
 use Rattle.alm_checkpoint.specs.Layouts.{image_size, device_len, is_rows, is_areas, is_segment}
 
 -- the last digit of a name: 1 or 2
-abbrev pub digit : Version → ℕ
-digit V01 = 49
-digit V02 = 50
+abbrev pub version_digit : Version → ℕ
+version_digit V01 = 49
+version_digit V02 = 50
 
 -- ALMSRV01 and ALMSRV02
 abbrev pub device_name : Version → List ℕ
-device_name version = 65 ∷ 76 ∷ 77 ∷ 83 ∷ 82 ∷ 86 ∷ 48 ∷ digit version ∷ []
+device_name version = 65 ∷ 76 ∷ 77 ∷ 83 ∷ 82 ∷ 86 ∷ 48 ∷ version_digit version ∷ []
 
 -- the version that a name tells
 abbrev pub version_named : List ℕ → Option Version
 version_named text = if bytes_eq text (device_name V01) then Some V01 else if bytes_eq text (device_name V02) then Some V02 else None
 
 abbrev pub name : Format Version
-name = coded (raw 8) version_named device_name
+name = coded_field (raw 8) version_named device_name
 
 abbrev pub of_rows : ℕ → ℕ → ℕ → Version → Layout
 of_rows rows areas segment version = record { rows = rows; areas = areas; segment = segment; version = version }
 
 -- a segment in its limits, where two halves fit the device
-abbrev pub suits : (size rows areas : ℕ) → ℕ → Bool
-suits size rows areas n = is_segment n && nat_le (device_len (of_rows rows areas n V02)) size
+abbrev pub segment_fits : (size rows areas : ℕ) → ℕ → Bool
+segment_fits size rows areas n = is_segment n && nat_le (device_len (of_rows rows areas n V02)) size
 
 -- the text of a header
 abbrev pub header_text : Layout → List ℕ
@@ -38,8 +38,8 @@ header_text l = device_name l.version ++ (to_be_bytes w32 l.rows ++ (to_be_bytes
 -- the header of a device of so many bytes
 abbrev pub header : (size : ℕ) → Format Layout
 header size =
-    coded (both name (λ _. both (tested (number w32 (2 ^ 32)) is_rows) (λ rows.
-    both (tested (number w16 (2 ^ 16)) is_areas) (λ areas. tested (number w64 (2 ^ 64)) (suits size rows areas)))))
+    coded_field (both name (λ _. both (tested_field (number_field w32 (2 ^ 32)) is_rows) (λ rows.
+    both (tested_field (number_field w16 (2 ^ 16)) is_areas) (λ areas. tested_field (number_field w64 (2 ^ 64)) (segment_fits size rows areas)))))
     (λ p. Some (of_rows p.1.0 p.1.1.0 p.1.1.1 p.0))
     (λ l. (l.version, (l.rows, (l.areas, l.segment))))
 
@@ -48,8 +48,8 @@ abbrev pub mark_weight : Version → ℕ
 mark_weight V01 = 0
 mark_weight V02 = 2 * 2 ^ 56
 
-abbrev pub marked : Version → (count : ℕ) → ℕ
-marked version count = mark_weight version + count
+abbrev pub mark_of : Version → (count : ℕ) → ℕ
+mark_of version count = mark_weight version + count
 
 -- whether a half of a version may stand under a header: under version 02 none of version 01
 abbrev pub is_first : Version → Bool
@@ -64,18 +64,18 @@ abbrev pub is_count : ℕ → Bool
 is_count n = nat_le n (2 ^ 48)
 
 -- the version and the count that the field stands for
-abbrev pub unmarked : (header : Version) → ℕ → Option (Version × ℕ)
-unmarked header n =
+abbrev pub mark_read : (header : Version) → ℕ → Option (Version × ℕ)
+mark_read header n =
     if is_count n && is_first header then Some (V01, n)
     else if nat_le (mark_weight V02) n && is_count (n - mark_weight V02) then Some (V02, n - mark_weight V02)
     else None
 
 abbrev pub mark : (header : Version) → Format (Version × ℕ)
-mark header = coded (number w64 (2 ^ 64)) (unmarked header) (λ m. marked m.0 m.1)
+mark header = coded_field (number_field w64 (2 ^ 64)) (mark_read header) (λ m. mark_of m.0 m.1)
 
 -- the text of a half's head
 abbrev pub half_head_text : Layout → Version → (epoch count : ℕ) → List ℕ
-half_head_text l version epoch count = to_be_bytes w64 epoch ++ (to_be_bytes w64 (marked version count) ++ to_be_bytes w64 (image_size l))
+half_head_text l version epoch count = to_be_bytes w64 epoch ++ (to_be_bytes w64 (mark_of version count) ++ to_be_bytes w64 (image_size l))
 
 -- a head that a half of a layout may have
 pub record IsHeadOf (l : Layout) (t : HalfHead) : Type 0 where
@@ -86,7 +86,7 @@ pub record IsHeadOf (l : Layout) (t : HalfHead) : Type 0 where
 -- the head of a half under a header, whose image has so many bytes
 abbrev pub half_head : (header : Version) (image : ℕ) → Format HalfHead
 half_head header image =
-    coded (both (number w64 (2 ^ 64)) (λ epoch.
-    both (mark header) (λ m. tested (number w64 (2 ^ 64)) (λ n. n == image))))
+    coded_field (both (number_field w64 (2 ^ 64)) (λ epoch.
+    both (mark header) (λ m. tested_field (number_field w64 (2 ^ 64)) (λ n. n == image))))
     (λ p. Some (record { epoch = p.0; version = p.1.0.0; count = p.1.0.1 }))
     (λ h. (h.epoch, ((h.version, h.count), image)))

@@ -1,7 +1,7 @@
 -- Opening the bytes of a device: the header, the half that stands and its head, in the order in which faults are told.
 use Rattle.std.specs.Prelude.{ℕ, ◌+◌, ◌-◌, List, length, drop, Bool, true, false, Result, Ok, Err, nat_lt, nat_le, ◌==◌, if◌then◌else◌}
 use Rattle.std.specs.Int.{w64, from_be_bytes}
-use Rattle.alm_segment.specs.Course.{is_open}
+use Rattle.alm_segment.specs.Course.{is_gate_open}
 use Rattle.alm_checkpoint.specs.declared.layout.Layout.{Layout}
 use Rattle.alm_checkpoint.specs.declared.half.Half.{Half}
 use Rattle.alm_checkpoint.specs.declared.half.Half.TheVariants.{First, Second}
@@ -10,7 +10,7 @@ use Rattle.alm_checkpoint.specs.declared.fault.Fault.TheVariants.{Unformatted, D
 use Rattle.alm_checkpoint.specs.declared.no_choice.NoChoice.{NoChoice}
 use Rattle.alm_checkpoint.specs.declared.no_choice.NoChoice.TheVariants.{NoneOpen, EqualEpochs}
 use Rattle.alm_checkpoint.specs.declared.half_head.HalfHead.{HalfHead}
-use Rattle.alm_checkpoint.specs.Layouts.{byte_at, part, header_len, head_len, half_at, image_at, segment_at, image_size, number_of}
+use Rattle.alm_checkpoint.specs.Layouts.{layout_byte, part, header_len, head_len, half_at, image_at, segment_at, image_size, half_number}
 use Rattle.alm_checkpoint.specs.Headers.{header, half_head}
 
 infixl 10 ◌>>=◌
@@ -32,7 +32,7 @@ read_to half end (Err left) = Err (Damaged half (end - left))
 unfoldable pub layout_from : (size : ℕ) → List ℕ → Result Layout Fault
 layout_from size start = do
   _ ← rule (nat_le header_len (length start)) Unformatted
-  _ ← rule (is_open (byte_at start 0)) Unformatted
+  _ ← rule (is_gate_open (layout_byte start 0)) Unformatted
   l ← read_to 2 header_len ((header size).read (drop 1 start))
   Ok l.0
 
@@ -54,7 +54,7 @@ or_fault l (Err why) = Err (no_half l why)
 
 -- the gate of a half and its epoch, by the bytes of its head
 abbrev pub gate_in : List ℕ → Bool
-gate_in bytes = is_open (byte_at bytes 0)
+gate_in bytes = is_gate_open (layout_byte bytes 0)
 
 abbrev pub epoch_in : List ℕ → ℕ
 epoch_in bytes = from_be_bytes w64 (part 1 8 bytes)
@@ -66,7 +66,7 @@ chosen_from l first second = or_fault l (choice (gate_in first) (gate_in second)
 -- what the head of a half says, by its bytes
 unfoldable pub half_head_from : Layout → Half → List ℕ → Result HalfHead Fault
 half_head_from l h bytes = do
-  x ← read_to (number_of h) (image_at l h) ((half_head l.version (image_size l)).read (drop 1 bytes))
+  x ← read_to (half_number h) (image_at l h) ((half_head l.version (image_size l)).read (drop 1 bytes))
   Ok x.0
 
 -- ---- on a device

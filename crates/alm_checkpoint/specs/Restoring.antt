@@ -10,7 +10,7 @@ use Rattle.alm_checkpoint.specs.declared.fault.Fault.{Fault}
 use Rattle.alm_checkpoint.specs.declared.fault.Fault.TheVariants.{Damaged}
 use Rattle.alm_checkpoint.specs.declared.restore_fault.RestoreFault.{RestoreFault}
 use Rattle.alm_checkpoint.specs.declared.restore_fault.RestoreFault.TheVariants as restore
-use Rattle.alm_checkpoint.specs.Layouts.{image_at, number_of}
+use Rattle.alm_checkpoint.specs.Layouts.{image_at, half_number}
 use Rattle.alm_checkpoint.specs.Opening.{Opened}
 use Rattle.alm_checkpoint.specs.Standing.{Spells, Stands, HasFault, gate_place, end_of}
 
@@ -26,7 +26,7 @@ pub record Holds (o : Opened) (plant : Condensed) (gate : ℕ) : Type 0 where
 pub record HasImageDamage (o : Opened) (fault : Fault) : Type 0 where
   pub at : ℕ
   pub damage : damage_in o.layout.rows o.layout.areas o.head.count o.image ≡ Some at
-  pub is : fault ≡ Damaged (number_of o.half) (image_at o.layout o.half + at)
+  pub is : fault ≡ Damaged (half_number o.half) (image_at o.layout o.half + at)
 
 -- .. or a frame, or an action isn't admitted there
 pub record HasFrameDamage (o : Opened) (fault : Fault) : Type 0 where
@@ -34,7 +34,7 @@ pub record HasFrameDamage (o : Opened) (fault : Fault) : Type 0 where
   pub spells : Spells o base
   pub left : ℕ
   pub folds : stored_in o.head.version o.head.epoch base o.segment ≡ Err left
-  pub is : fault ≡ Damaged (number_of o.half) (end_of o - left)
+  pub is : fault ≡ Damaged (half_number o.half) (end_of o - left)
 
 -- why it could not be restored; want of memory says nothing
 abbrev pub IsUnrestored : Opened → RestoreFault → Type 0

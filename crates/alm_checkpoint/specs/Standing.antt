@@ -1,12 +1,12 @@
 -- What the bytes of a device stand for, or their first fault.
 use Rattle.std.specs.Prelude.{◌≡◌, ◌⊎◌, ℕ, ◌+◌, ◌-◌, List, Some, Ok, Err}
 use Rattle.alm_model.specs.Plant.{Condensed}
-use Rattle.alm_codec.specs.Image.{IsImage, IsOf}
+use Rattle.alm_codec.specs.Image.{IsImageText, IsOf}
 use Rattle.alm_codec.specs.ImageFields.{damage_in}
 use Rattle.alm_segment.specs.Folding.{stored_in}
 use Rattle.alm_checkpoint.specs.declared.fault.Fault.{Fault}
 use Rattle.alm_checkpoint.specs.declared.fault.Fault.TheVariants.{Damaged}
-use Rattle.alm_checkpoint.specs.Layouts.{half_at, half_len, image_at, number_of}
+use Rattle.alm_checkpoint.specs.Layouts.{half_at, half_len, image_at, half_number}
 use Rattle.alm_checkpoint.specs.Opening.{Opened, opened_in}
 
 -- where the half that stands ends
@@ -16,7 +16,7 @@ end_of o = half_at o.layout o.half + half_len o.layout
 -- the image of the half that stands is that of a plant
 pub record Spells (o : Opened) (plant : Condensed) : Type 0 where
   pub sizes : IsOf o.layout.rows o.layout.areas o.head.count plant
-  pub image : IsImage plant o.image
+  pub image : IsImageText plant o.image
 
 -- The bytes stand for a plant in an epoch: of the halves with open gates the one of greater epoch has that epoch; its image
 -- is that of a plant, and the frames behind it up to the first closed gate make of it this plant. The count is the plant's.
@@ -40,7 +40,7 @@ pub record ImageFault (device : List ℕ) (fault : Fault) : Type 0 where
   pub opens : opened_in device ≡ Ok opened
   pub at : ℕ
   pub damage : damage_in opened.layout.rows opened.layout.areas opened.head.count opened.image ≡ Some at
-  pub is : fault ≡ Damaged (number_of opened.half) (image_at opened.layout opened.half + at)
+  pub is : fault ≡ Damaged (half_number opened.half) (image_at opened.layout opened.half + at)
 
 -- .. or a damaged frame, or one with an action that isn't admitted there
 pub record FrameFault (device : List ℕ) (fault : Fault) : Type 0 where
@@ -50,7 +50,7 @@ pub record FrameFault (device : List ℕ) (fault : Fault) : Type 0 where
   pub spells : Spells opened base
   pub left : ℕ
   pub folds : stored_in opened.head.version opened.head.epoch base opened.segment ≡ Err left
-  pub is : fault ≡ Damaged (number_of opened.half) (end_of opened - left)
+  pub is : fault ≡ Damaged (half_number opened.half) (end_of opened - left)
 
 -- the first fault of the bytes
 abbrev pub HasFault : List ℕ → Fault → Type 0

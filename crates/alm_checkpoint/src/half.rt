@@ -1,7 +1,7 @@
 //! The halves of a device.
 
 ghost use Rattle.std.specs.Prelude.{◌≡◌};
-ghost use Rattle.alm_checkpoint.specs.Layouts.{other, number_of};
+ghost use Rattle.alm_checkpoint.specs.Layouts.{other, half_number};
 
 /// A half of a device. Checkpoints go to the two in turn.
 #[derive(Clone, Copy, Debug, PartialEq, Eq)]
@@ -23,7 +23,7 @@ impl Half {
 
     /// Its number in a fault: 0 or 1. The header has the number 2.
     pub fn number(self) -> u8
-        ensures { result ≡ number_of self }
+        ensures { result ≡ half_number self }
     {
         match self {
             Half::First => 0,

@@ -3,7 +3,7 @@
 ghost use Rattle.std.specs.Prelude.{◌≡◌, ◌≤◌, ◌^◌, ◌==◌, length, true, IfOk};
 ghost use Rattle.std.specs.Int.{w64};
 ghost use Rattle.alm_codec.specs.Reading.{Gives};
-ghost use Rattle.alm_codec.specs.Format.{tested, number};
+ghost use Rattle.alm_codec.specs.Format.{tested_field, number_field};
 ghost use Rattle.alm_checkpoint.specs.Headers.{half_head, mark, mark_weight, allows, is_first};
 ghost use Rattle.alm_checkpoint.specs.Opening.{half_head_from};
 
@@ -59,7 +59,7 @@ fn mark_of(bytes: &[u8], header: Version) -> Result<((Version, u64), &[u8]), Lef
 /// The length of the image, which is known beforehand.
 fn image_of(bytes: &[u8], image: usize) -> Result<(u64, &[u8]), Left>
     ensures { Gives (λ x. (x.0, x.1.now)) result
-        ((tested (number w64 (2 ^ 64)) (λ n. n == image)).read bytes.now) }
+        ((tested_field (number_field w64 (2 ^ 64)) (λ n. n == image)).read bytes.now) }
 {
     let (found, rest) = u64_at(bytes)?;
     if found == image as u64 {

@@ -3,10 +3,10 @@
 ghost use Rattle.std.specs.Prelude.{◌≡◌, ◌≤◌, ◌^◌, true, length, IfOk};
 ghost use Rattle.std.specs.Int.{w16, w32, w64};
 ghost use Rattle.alm_codec.specs.Reading.{Gives};
-ghost use Rattle.alm_codec.specs.Format.{tested, number};
+ghost use Rattle.alm_codec.specs.Format.{tested_field, number_field};
 ghost use Rattle.alm_checkpoint.specs.Cut.{IsLayout};
 ghost use Rattle.alm_checkpoint.specs.Layouts.{device_len, is_rows, is_areas, is_segment};
-ghost use Rattle.alm_checkpoint.specs.Headers.{name, header, suits};
+ghost use Rattle.alm_checkpoint.specs.Headers.{name, header, segment_fits};
 ghost use Rattle.alm_checkpoint.specs.Opening.{layout_from};
 
 use crate::fault::Fault;
@@ -36,7 +36,7 @@ fn name_of(bytes: &[u8]) -> Result<(Version, &[u8]), Left>
 fn rows_of(bytes: &[u8]) -> Result<(u32, &[u8]), Left>
     ensures limits { IfOk result (λ x. is_rows x.0 ≡ true) }
     ensures rows { Gives (λ x. (x.0, x.1.now)) result
-        ((tested (number w32 (2 ^ 32)) is_rows).read bytes.now) }
+        ((tested_field (number_field w32 (2 ^ 32)) is_rows).read bytes.now) }
 {
     let (rows, rest) = u32_at(bytes)?;
     if rows >= 1 && rows <= 16_384 {
@@ -50,7 +50,7 @@ fn rows_of(bytes: &[u8]) -> Result<(u32, &[u8]), Left>
 fn areas_of(bytes: &[u8]) -> Result<(u8, &[u8]), Left>
     ensures limits { IfOk result (λ x. is_areas x.0 ≡ true) }
     ensures areas { Gives (λ x. (x.0, x.1.now)) result
-        ((tested (number w16 (2 ^ 16)) is_areas).read bytes.now) }
+        ((tested_field (number_field w16 (2 ^ 16)) is_areas).read bytes.now) }
 {
     let (areas, rest) = u16_at(bytes)?;
     if areas >= 1 && areas <= 64 {
@@ -69,7 +69,7 @@ fn segment_of(
     version: Version,
 ) -> Result<(Layout, &[u8]), Left>
     ensures segment { Gives (λ x. (x.0.segment, x.1.now)) result
-        ((tested (number w64 (2 ^ 64)) (suits size rows areas)).read bytes.now) }
+        ((tested_field (number_field w64 (2 ^ 64)) (segment_fits size rows areas)).read bytes.now) }
     ensures layout { IfOk result
         (λ x. (x.0.rows ≡ rows) × (x.0.areas ≡ areas) × (x.0.version ≡ version)) }
     ensures limits { IfOk result (λ x. is_segment x.0.segment ≡ true) }

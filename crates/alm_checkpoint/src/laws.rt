@@ -9,7 +9,7 @@ ghost use Rattle.alm_codec.specs.Frames.{IsFrame, frame_text};
 ghost use Rattle.alm_codec.specs.Reading.{IsBytes};
 ghost use Rattle.alm_codec.specs.declared.version.Version.TheVariants.{V02};
 ghost use Rattle.alm_codec.specs.Versions.{AreBorne};
-ghost use Rattle.alm_segment.specs.Course.{is_open};
+ghost use Rattle.alm_segment.specs.Course.{is_gate_open};
 ghost use Rattle.alm_checkpoint.specs.declared.fault.Fault.{Fault};
 ghost use Rattle.alm_checkpoint.specs.declared.half_head.HalfHead.{HalfHead};
 ghost use Rattle.alm_checkpoint.specs.declared.layout.Layout.{Layout};
@@ -17,7 +17,7 @@ ghost use Rattle.alm_checkpoint.specs.Layouts.{device_len, half_len};
 ghost use Rattle.alm_checkpoint.specs.Headers.{header_text, half_head_text, IsHeadOf};
 ghost use Rattle.alm_checkpoint.specs.Opening.{layout_from};
 ghost use Rattle.alm_checkpoint.specs.Standing.{Stands, HasFault, Meaning, gate_place};
-ghost use Rattle.alm_checkpoint.specs.Cut.{Cut, IsLayout, Stores, Reaches, IsBelow, IsCut, half_text, device_of, with_frame, with_other, turned};
+ghost use Rattle.alm_checkpoint.specs.Cut.{Cut, IsLayout, Stores, Reaches, IsBelow, IsCut, half_text, device_of, with_frame, with_other, turned_cut};
 
 /// No text of a header begins another's.
 pub fn no_header_begins_another()
@@ -42,7 +42,7 @@ pub fn a_header_is_read()
 /// A device of these fields stands for the plant that they store, whatever lies behind the first closed gate.
 pub fn a_cut_stands()
     ensures { (c : Cut) (plant : Condensed) (gate : ℕ) (tail : List ℕ) → Stores c plant →
-        is_open gate ≡ false → Reaches c (gate ∷ tail) →
+        is_gate_open gate ≡ false → Reaches c (gate ∷ tail) →
         Stands (device_of c (gate ∷ tail)) c.epoch plant }
 {}
 
@@ -75,9 +75,9 @@ pub fn another_half()
 pub fn a_turn()
     ensures { (c : Cut) (plant : Condensed) (tail new_tail : List ℕ) → Stores c plant →
         Reaches c tail → c.epoch + 1 < 2 ^ 64 →
-        Stores (turned c plant tail) plant ×
+        Stores (turned_cut c plant tail) plant ×
         (device_of (with_other c (half_text c.layout V02 (c.epoch + 1) plant [] ++ new_tail)) tail ≡
-        device_of (turned c plant tail) new_tail) }
+        device_of (turned_cut c plant tail) new_tail) }
 {}
 
 /// Bytes stand for at most one plant, in one epoch.

@@ -2,7 +2,7 @@
 
 ghost use Rattle.std.specs.Prelude.{◌≡◌, ◌≤◌, ℕ, true, false, IfSome, None};
 ghost use Rattle.alm_checkpoint.specs.Layouts.{is_segment};
-ghost use Rattle.alm_checkpoint.specs.Headers.{suits};
+ghost use Rattle.alm_checkpoint.specs.Headers.{segment_fits};
 
 use crate::layout::{HEADER_LEN, LONGEST_SEGMENT, Layout, SHORTEST_SEGMENT};
 use alm_codec::Version;
@@ -13,10 +13,10 @@ impl Layout {
     pub fn longest(rows: u32, areas: u8, size: u64, version: Version) -> Option<Layout>
         ensures of { IfSome result
             (λ l. (l.rows ≡ rows) × (l.areas ≡ areas) × (l.version ≡ version)) }
-        ensures suits { IfSome result (λ l. suits size rows areas l.segment ≡ true) }
+        ensures suits { IfSome result (λ l. segment_fits size rows areas l.segment ≡ true) }
         ensures most { IfSome result
-            (λ l. (n : ℕ) → suits size rows areas n ≡ true → n ≤ l.segment) }
-        ensures none { result ≡ None → (n : ℕ) → suits size rows areas n ≡ false }
+            (λ l. (n : ℕ) → segment_fits size rows areas n ≡ true → n ≤ l.segment) }
+        ensures none { result ≡ None → (n : ℕ) → segment_fits size rows areas n ≡ false }
     {
         let halves = size.checked_sub(HEADER_LEN as u64)? / 2;
         let fixed = Layout::of(rows, areas, 0, version).half_len() as u64;

@@ -13,7 +13,7 @@ use Rattle.alm_types.specs.declared.action.Action.TheVariants.{Clock, Value, Ack
 use Rattle.alm_types.specs.declared.alarm_id.AlarmId.{AlarmId}
 use Rattle.alm_types.specs.Actions.{alarm_of, HasArgument, IsAction}
 use Rattle.alm_types.specs.Readings.{IsReading}
-use Rattle.alm_codec.specs.Actions.{kind_of, argument_of, switch, text_of, action_text, limited, reading_at, without, either_way, meaning, action_at, action_in}
+use Rattle.alm_codec.specs.Actions.{kind_of, argument_of, switch_number, fields_text, action_text, if_reading, reading_at, without_argument, either_way, action_meant, action_at, action_in}
 use Rattle.alm_codec.specs.declared.version.Version.{Version}
 use Rattle.alm_codec.specs.Versions.{bears, IsBorne, borne}
 use Rattle.alm_codec.specs.Reading.{IsBytes}
@@ -21,20 +21,20 @@ use Rattle.alm_codec.proofs.Bytes.{IsBytes-drop, IsBytes-take, chosen}
 
 -- ---- what is spelled so is read
 
-pub text_again : (kind alarm argument : ℕ) → alarm < 2 ^ 32 → argument < 2 ^ 64 → action_at (text_of kind alarm argument) ≡ meaning kind alarm argument
+pub text_again : (kind alarm argument : ℕ) → alarm < 2 ^ 32 → argument < 2 ^ 64 → action_at (fields_text kind alarm argument) ≡ action_meant kind alarm argument
 text_again kind alarm argument small fits =
-    ap (λ (n : ℕ). meaning kind n (from_be_bytes w64 (to_be_bytes w64 argument))) (from_be_bytes-to_be_bytes_4 alarm small)
-    ∙ ap (λ (n : ℕ). meaning kind alarm n) (from_be_bytes-to_be_bytes_8 argument fits)
+    ap (λ (n : ℕ). action_meant kind n (from_be_bytes w64 (to_be_bytes w64 argument))) (from_be_bytes-to_be_bytes_4 alarm small)
+    ∙ ap (λ (n : ℕ). action_meant kind alarm n) (from_be_bytes-to_be_bytes_8 argument fits)
 
-limited_again : (v : ℤ) → IsReading v → limited v ≡ Some v
+limited_again : (v : ℤ) → IsReading v → if_reading v ≡ Some v
 limited_again v h = grind (arith, ints)
 
 pub reading_again : (v : ℤ) → IsReading v → reading_at (of_z w64 v) ≡ Some v
 reading_again v h =
     let fits : FitsSigned w64 v = omega (arith, ints) in
-    ap limited (to_z-of_z w64 v fits) ∙ limited_again v h
+    ap if_reading (to_z-of_z w64 v fits) ∙ limited_again v h
 
-meaning_again : (a : Action) → HasArgument a → meaning (kind_of a) (alarm_of a) (argument_of a) ≡ Some a
+meaning_again : (a : Action) → HasArgument a → action_meant (kind_of a) (alarm_of a) (argument_of a) ≡ Some a
 meaning_again (Clock t) h = rw (lt-ltb t (2 ^ 40) h) refl
 meaning_again (Value i v) h = ap (option_map (Value i)) (reading_again v h)
 meaning_again (Ack i) h = refl
@@ -52,7 +52,7 @@ pub word_fits : (v : ℤ) → IsReading v → of_z w64 v < 2 ^ 64
 word_fits (pos n) h = omega (arith, ints)
 word_fits (negsuc n) h = omega (arith, ints)
 
-switch_fits : (on : Bool) → switch on < 2 ^ 64
+switch_fits : (on : Bool) → switch_number on < 2 ^ 64
 switch_fits true = omega arith
 switch_fits false = omega arith
 
@@ -85,14 +85,14 @@ pub record Means (kind alarm argument : ℕ) (a : Action) : Type 0 where
   pub alarm_is : alarm ≡ alarm_of a
   pub argument_is : argument ≡ argument_of a
 
-without_takes : (kind alarm argument : ℕ) (b a : Action) → Means kind alarm 0 b → without argument b ≡ Some a → Means kind alarm argument a
+without_takes : (kind alarm argument : ℕ) (b a : Action) → Means kind alarm 0 b → without_argument argument b ≡ Some a → Means kind alarm argument a
 without_takes kind alarm argument b a m e =
     elim (chosen (eqb argument 0) (Some b) None (Some a) e) [
       | inl (t, s) ↦ subst (λ (n : ℕ). Means kind alarm n a) (sym (eqb-true argument 0 t)) (subst (Means kind alarm 0) (same_Some b a s) m)
       | inr (t, s) ↦ absurd (none-some a s)
     ]
 
-either_takes : (kind alarm argument : ℕ) (f : Bool → Action) (a : Action) → ((on : Bool) → Means kind alarm (switch on) (f on)) → either_way argument f ≡ Some a → Means kind alarm argument a
+either_takes : (kind alarm argument : ℕ) (f : Bool → Action) (a : Action) → ((on : Bool) → Means kind alarm (switch_number on) (f on)) → either_way argument f ≡ Some a → Means kind alarm argument a
 either_takes kind alarm argument f a m e =
     elim (chosen (eqb argument 0) (Some (f false)) (cond (eqb argument 1) (Some (f true)) None) (Some a) e) [
       | inl (t, s) ↦ subst (λ (n : ℕ). Means kind alarm n a) (sym (eqb-true argument 0 t)) (subst (Means kind alarm 0) (same_Some (f false) a s) (m false))
@@ -102,7 +102,7 @@ either_takes kind alarm argument f a m e =
       ]
     ]
 
-pub limited_takes : (z v : ℤ) → limited z ≡ Some v → (z ≡ v) × IsReading v
+pub limited_takes : (z v : ℤ) → if_reading z ≡ Some v → (z ≡ v) × IsReading v
 limited_takes z v e = grind (arith, ints)
 
 reading_takes : (kind alarm word : ℕ) (f : ℤ → Action) (a : Action) → word < 2 ^ 64 → ((v : ℤ) → IsReading v → Means kind alarm (of_z w64 v) (f v)) → (o : Option ℤ) → reading_at word ≡ o → option_map f o ≡ Some a → Means kind alarm word a
@@ -142,7 +142,7 @@ later_takes kind alarm argument a small fits e =
       ]
     ]
 
-meaning_takes : (kind alarm argument : ℕ) (a : Action) → alarm < 2 ^ 32 → argument < 2 ^ 64 → meaning kind alarm argument ≡ Some a → Means kind alarm argument a
+meaning_takes : (kind alarm argument : ℕ) (a : Action) → alarm < 2 ^ 32 → argument < 2 ^ 64 → action_meant kind alarm argument ≡ Some a → Means kind alarm argument a
 meaning_takes kind alarm argument a small fits e =
     let i : AlarmId = record { 0 = alarm } in
     let at : (k : ℕ) → eqb kind k ≡ true → Means k alarm argument a → Means kind alarm argument a = λ k t m. subst (λ (n : ℕ). Means n alarm argument a) (sym (eqb-true kind k t)) m in
@@ -176,7 +176,7 @@ both_words : (a b x y : List ℕ) → a ≡ b → x ≡ y → a ++ x ≡ b ++ y
 both_words a b x y e f = ap (λ (t : List ℕ). t ++ x) e ∙ ap (λ (t : List ℕ). b ++ t) f
 
 text_takes : (kind p q r s : ℕ) (rest : List ℕ) (a : Action) → IsBytes (p ∷ q ∷ r ∷ s ∷ rest)
-    → cond (eqb (length rest) 8) (meaning kind (from_be_bytes w32 (p ∷ q ∷ r ∷ s ∷ [])) (from_be_bytes w64 rest)) None ≡ Some a
+    → cond (eqb (length rest) 8) (action_meant kind (from_be_bytes w32 (p ∷ q ∷ r ∷ s ∷ [])) (from_be_bytes w64 rest)) None ≡ Some a
     → IsAction a × (kind ∷ 0 ∷ 0 ∷ 0 ∷ p ∷ q ∷ r ∷ s ∷ rest ≡ action_text a)
 text_takes kind p q r s rest a fits e =
     let alarm : ℕ = from_be_bytes w32 (p ∷ q ∷ r ∷ s ∷ []) in
@@ -190,7 +190,7 @@ text_takes kind p q r s rest a fits e =
           let large : argument < 2 ^ 64 = omega (arith, back 0, back 1, back 2, back 3, back 4, back 5, back 6, back 7) in
           let m = meaning_takes kind alarm argument a small large meant in
           let words : to_be_bytes w32 alarm ++ to_be_bytes w64 argument ≡ p ∷ q ∷ r ∷ s ∷ rest = both_words (to_be_bytes w32 alarm) (p ∷ q ∷ r ∷ s ∷ []) (to_be_bytes w64 argument) rest (be_bytes_4 (p ∷ q ∷ r ∷ s ∷ []) alarm refl front refl) (be_bytes_8 rest argument len back refl) in
-          let same : text_of kind alarm argument ≡ action_text a = rw (m.kind_is, m.alarm_is, m.argument_is) refl in
+          let same : fields_text kind alarm argument ≡ action_text a = rw (m.kind_is, m.alarm_is, m.argument_is) refl in
           (m.limits, sym (ap (λ (w : List ℕ). kind ∷ 0 ∷ 0 ∷ 0 ∷ w) words) ∙ same)
       | inr (t, none) ↦ absurd (none-some a none)
     ]
@@ -224,7 +224,7 @@ found_if_ok version bytes None d fits e = tt
 found_if_ok version bytes (Some a) d fits e = borne_action_takes version bytes a fits (sym e)
 
 -- the parts of a text, written one behind the other
-pub text_parts : (kind : ℕ) (p q : List ℕ) (k n m alarm argument : ℕ) → kind ≡ k → p ≡ to_be_bytes w32 n → n ≡ alarm → q ≡ to_be_bytes w64 m → m ≡ argument → kind ∷ 0 ∷ 0 ∷ 0 ∷ (p ++ q) ≡ text_of k alarm argument
+pub text_parts : (kind : ℕ) (p q : List ℕ) (k n m alarm argument : ℕ) → kind ≡ k → p ≡ to_be_bytes w32 n → n ≡ alarm → q ≡ to_be_bytes w64 m → m ≡ argument → kind ∷ 0 ∷ 0 ∷ 0 ∷ (p ++ q) ≡ fields_text k alarm argument
 text_parts kind p q k n m alarm argument a b c d e =
     ap (λ (x : ℕ). x ∷ 0 ∷ 0 ∷ 0 ∷ (p ++ q)) a
     ∙ ap (λ (x : List ℕ). k ∷ 0 ∷ 0 ∷ 0 ∷ (x ++ q)) (b ∙ ap (to_be_bytes w32) c)

@@ -5,7 +5,7 @@ use Rattle.std.proofs.lemmas.Bool.{and_parts, le-leb, lt-ltb, le-ltb, leb-true, 
 use Rattle.std.proofs.lemmas.List.{take_at, drop_at, length-append, length-replicate}
 use Rattle.std.proofs.lemmas.Option.{get_or_from_slice_get, slice_get_within}
 use Rattle.std.proofs.lemmas.List.Sums.{sum_by-cons}
-use Rattle.alm_types.specs.Texts.{padded, is_tag, is_text}
+use Rattle.alm_types.specs.Texts.{with_padding, is_tag, is_text}
 use Rattle.alm_types.specs.Attributes.{deadband_limit}
 use Rattle.alm_types.proofs.Padding.{length-tag, length-text}
 use Rattle.alm_types.specs.declared.attr.Attr.{Attr}
@@ -17,11 +17,11 @@ use Rattle.alm_state.specs.Rows.{State, is_suppressed, is_annunciated, is_active
 use Rattle.alm_state.specs.Suits.{suits, IsAhead}
 use Rattle.alm_model.specs.Plant.{Condensed}
 use Rattle.alm_model.specs.Rules.{IsAges, IsAlarm, IsFalling}
-use Rattle.alm_model.specs.Step.{is_flood, settled}
+use Rattle.alm_model.specs.Step.{is_flood, settled_floods}
 use Rattle.alm_codec.specs.declared.flags.Flags.{Flags}
-use Rattle.alm_codec.specs.Format.{Format, byte, coded, tested, KeepEach}
-use Rattle.alm_codec.specs.Image.{IsImage, IsOf}
-use Rattle.alm_codec.specs.ImageFields.{Area, u32, u64, flag, kind, zeros, padded_at, text_in, is_deadband, fixed, fixed_in, core, flags_in, flags_code, same_bool, is_flagged, deadline, stands_in, seen_then, is_stamp, is_moment, moments, alarm, age_field, ages, is_flooded, area, all_ages, image, areas_in, alarms_in, image_in}
+use Rattle.alm_codec.specs.Format.{Format, byte, coded_field, tested_field, KeepEach}
+use Rattle.alm_codec.specs.Image.{IsImageText, IsOf}
+use Rattle.alm_codec.specs.ImageFields.{Area, u32, u64, flag, kind_field, zeros, padded_at, text_in, is_deadband, fixed_fields, fixed_in, core, flags_in, flags_code, same_bool, is_flagged, deadline_field, is_among, seen_then, is_stamp, is_moment, moments, alarm_field, age_field, ages, is_flooded, area, all_ages, image, areas_in, alarms_in, image_in}
 use Rattle.alm_codec.proofs.Actions.{word_fits, reading_again}
 use Rattle.alm_codec.proofs.Alarms.{alarm_from}
 use Rattle.alm_codec.proofs.KeptImage.{stamp_at}
@@ -49,7 +49,7 @@ one_less : (i j : ℕ) → suc i ≡ suc j → i ≡ j
 one_less i j e = omega (arith, e)
 
 -- a field that passes its test
-pass : {A : Type 0} (f : Format A) (test : A → Bool) (n : A) → f.Keeps n → test n ≡ true → (tested f test).Keeps n
+pass : {A : Type 0} (f : Format A) (test : A → Bool) (n : A) → f.Keeps n → test n ≡ true → (tested_field f test).Keeps n
 pass f test n h e = (h, ap (λ (b : Bool). cond b (Some n) None) e)
 
 both_true : (a b : Bool) → a ≡ true → b ≡ true → (a && b) ≡ true
@@ -59,7 +59,7 @@ flag_keeps : (b : Bool) → flag.Keeps b
 flag_keeps true = (omega arith, refl)
 flag_keeps false = (omega arith, refl)
 
-kind_keeps : (k : Kind) → kind.Keeps k
+kind_keeps : (k : Kind) → kind_field.Keeps k
 kind_keeps High = (omega arith, refl)
 kind_keeps Low = (omega arith, refl)
 kind_keeps Discrete = (omega arith, refl)
@@ -78,7 +78,7 @@ core_keeps false LatchAcked e = absurd cc
 abbrev flags_from : Bool → Bool → Bool → Flags
 flags_from a b c = record { shelved = a; by_design = b; out_of_service = c }
 
-flags_byte : (a b c : Bool) → (coded byte flags_in flags_code).Keeps (flags_from a b c)
+flags_byte : (a b c : Bool) → (coded_field byte flags_in flags_code).Keeps (flags_from a b c)
 flags_byte true true true = (omega arith, refl)
 flags_byte true true false = (omega arith, refl)
 flags_byte true false true = (omega arith, refl)
@@ -96,19 +96,19 @@ flag_rule_holds : (set active : Bool) (c : Core) → (set ≡ true → c ≡ Nor
 flag_rule_holds true active c h g = rw (h refl) refl
 flag_rule_holds false active c h g = rw (g refl) (same_self (is_active_core c))
 
-stamp_holds : (next : ℕ) (seen : List ℕ) (b : Bool) (n : ℕ) → IsTrue b ↔ (0 < n) → n < next → (0 < n → stands_in n seen ≡ false) → is_stamp next seen b n ≡ true
+stamp_holds : (next : ℕ) (seen : List ℕ) (b : Bool) (n : ℕ) → IsTrue b ↔ (0 < n) → n < next → (0 < n → is_among n seen ≡ false) → is_stamp next seen b n ≡ true
 stamp_holds next seen true n h lt fresh = rw (lt-ltb 0 n (h.0 refl), lt-ltb n next lt, fresh (h.0 refl)) refl
 stamp_holds next seen false zero h lt fresh = refl
 stamp_holds next seen false (suc n) h lt fresh = absurd (clash (sym (h.1 (omega arith))))
 
-deadline_keeps : (now longest : ℕ) (d : Option ℕ) → now < 2 ^ 40 → longest ≤ 604800 → IsAhead now longest d → (deadline now longest (is_some d)).Keeps d
+deadline_keeps : (now longest : ℕ) (d : Option ℕ) → now < 2 ^ 40 → longest ≤ 604800 → IsAhead now longest d → (deadline_field now longest (is_some d)).Keeps d
 deadline_keeps now longest None few long h = (omega arith, refl)
 deadline_keeps now longest (Some k) few long h = (omega (arith, h.1, few, long), rw (lt-ltb now k h.0, le-leb k (now + longest) h.1) refl)
 
-moment_keeps : (left bound n : ℕ) → eqb left 0 ≡ false → bound < 2 ^ 64 → n ≤ bound → (tested u64 (is_moment (left, bound))).Keeps n
+moment_keeps : (left bound n : ℕ) → eqb left 0 ≡ false → bound < 2 ^ 64 → n ≤ bound → (tested_field u64 (is_moment (left, bound))).Keeps n
 moment_keeps left bound n some few le = pass u64 (is_moment (left, bound)) n (omega (arith, le, few)) (rw (some, le-leb n bound le) refl)
 
-none_keeps : (bound : ℕ) → (tested u64 (is_moment (0, bound))).Keeps 0
+none_keeps : (bound : ℕ) → (tested_field u64 (is_moment (0, bound))).Keeps 0
 none_keeps bound = pass u64 (is_moment (0, bound)) 0 (omega arith) refl
 
 moments_keep : (now : ℕ) (ms : List ℕ) → now < 2 ^ 40 → length ms ≤ 3 → IsFalling now ms → (moments (length ms) now).Keeps ms
@@ -136,10 +136,10 @@ text_keeps : (least room : ℕ) (test : List ℕ → Bool) (text : List ℕ) →
 text_keeps least room test text small le few good =
     let n : ℕ = length text in
     let rest : List ℕ = replicate (room - n) 0 in
-    let full : length (padded room text) ≡ room = omega (arith, length-append text rest, length-replicate {A = ℕ} (room - n) 0) in
-    let front : take n (padded room text) ≡ text = take_at text rest n refl in
-    let back : drop n (padded room text) ≡ rest = drop_at text rest n refl in
-    let stands : padded_at test n (padded room text) ≡ Some text = rw (front, back, good, zeros_hold (room - n)) refl in
+    let full : length (with_padding room text) ≡ room = omega (arith, length-append text rest, length-replicate {A = ℕ} (room - n) 0) in
+    let front : take n (with_padding room text) ≡ text = take_at text rest n refl in
+    let back : drop n (with_padding room text) ≡ rest = drop_at text rest n refl in
+    let stands : padded_at test n (with_padding room text) ≡ Some text = rw (front, back, good, zeros_hold (room - n)) refl in
     ((pass byte (λ n. leb least n && leb n room) n (omega (arith, small, few)) (both_true (leb least n) (leb n room) (le-leb least n le) (le-leb n room few)), (full, stands)), refl)
 
 tag_least : (tag : List ℕ) → IsTrue (is_tag tag) → 1 ≤ length tag
@@ -147,7 +147,7 @@ tag_least tag h = leb-true 1 (length tag) (and_parts (leb 1 (length tag)) (leb (
 
 -- ---- an alarm
 
-fixed_keeps : (areas : ℕ) (a : Attr) → areas ≤ 64 → a.area < areas → (fixed areas).Keeps (fixed_in a)
+fixed_keeps : (areas : ℕ) (a : Attr) → areas ≤ 64 → a.area < areas → (fixed_fields areas).Keeps (fixed_in a)
 fixed_keeps areas a few there = (
   (
     kind_keeps a.kind,
@@ -177,8 +177,8 @@ fixed_keeps areas a few there = (
   refl,
 )
 
-keep_one : (now next areas : ℕ) (seen : List ℕ) (a : Attr) (s : State) (ms : List ℕ) → now < 2 ^ 40 → next < 2 ^ 64 → areas ≤ 64 → a.area < areas → IsAlarm now next a s ms → (0 < s.stamp → stands_in s.stamp seen ≡ false)
-    → (alarm now next areas seen).Keeps (alarm_from a s ms)
+keep_one : (now next areas : ℕ) (seen : List ℕ) (a : Attr) (s : State) (ms : List ℕ) → now < 2 ^ 40 → next < 2 ^ 64 → areas ≤ 64 → a.area < areas → IsAlarm now next a s ms → (0 < s.stamp → is_among s.stamp seen ≡ false)
+    → (alarm_field now next areas seen).Keeps (alarm_from a s ms)
 keep_one now next areas seen a s ms small fits few there h fresh =
     let stamped : Bool = is_annunciated s.core || is_some s.shelved_until in
     let set : Flags = flags_from (is_some s.shelved_until) s.by_design s.out_of_service in
@@ -190,7 +190,7 @@ keep_one now next areas seen a s ms small fits few there h fresh =
           (
             core_keeps a.latching s.core h.suits,
             (
-              pass (coded byte flags_in flags_code) (is_flagged s.active s.core) set (flags_byte (is_some s.shelved_until) s.by_design s.out_of_service) (flag_rule_holds (is_suppressed s) s.active s.core h.state.suppressed h.state.active),
+              pass (coded_field byte flags_in flags_code) (is_flagged s.active s.core) set (flags_byte (is_some s.shelved_until) s.by_design s.out_of_service) (flag_rule_holds (is_suppressed s) s.active s.core h.state.suppressed h.state.active),
               (
                 pass byte (λ n. leb n 3 && (not (is_annunciated s.core) || ltb 0 n)) n (omega (arith, h.few)) (both_true (leb n 3) (not (is_annunciated s.core) || ltb 0 n) (le-leb n 3 h.few) (kept_holds s.core n h.annunciated)),
                 (
@@ -220,7 +220,7 @@ flood_holds : (f : Bool) (w : ℕ) → is_flood w f ≡ f → is_flooded f w ≡
 flood_holds true w e = elim (cases_lt w 5) [ inl lt ↦ absurd (clash (sym e ∙ rw (le-ltb 10 w (omega (arith, lt)), lt-ltb w 5 lt) refl)) | inr le ↦ le-leb 5 w le ]
 flood_holds false w e = elim (cases_lt 10 w) [ inl lt ↦ absurd (clash (rw (lt-ltb 10 w lt) at e)) | inr le ↦ le-leb w 10 le ]
 
-areas_keep : (now : ℕ) (floods : List Bool) (list : List (List ℕ)) → length list ≡ length floods → ((i : ℕ) (a : List ℕ) → slice_get list i ≡ Some a → IsAges now a) → settled (map sum list) floods ≡ floods → sum_by sum list < 2 ^ 64
+areas_keep : (now : ℕ) (floods : List Bool) (list : List (List ℕ)) → length list ≡ length floods → ((i : ℕ) (a : List ℕ) → slice_get list i ≡ Some a → IsAges now a) → settled_floods (map sum list) floods ≡ floods → sum_by sum list < 2 ^ 64
     → KeepEach {S = ℕ} (λ _. area now) (λ s _. s) 0 (length floods) (areas_in floods list)
 areas_keep now [] [] e h settle few = tt
 areas_keep now [] (a ∷ list) e h settle few = absurd (omega (arith, e))
@@ -229,7 +229,7 @@ areas_keep now (f ∷ floods) (a ∷ list) e h settle few =
     let total = sum_by-cons sum a list in
     let here = h 0 a refl in
     let kept : (ages now).Keeps a = subst (λ (n : ℕ). KeepEach (age_field now) (λ j _. j + 1) 0 n a) here.seconds (ages_keep now 0 a (λ i lt. here.young i (omega (arith, lt))) (omega (arith, total, few))) in
-    let same = cons_same (is_flood (sum a) f) f (settled (map sum list) floods) floods settle in
+    let same = cons_same (is_flood (sum a) f) f (settled_floods (map sum list) floods) floods settle in
     ((((flag_keeps f, kept), flood_holds f (sum a) same.0), refl), areas_keep now floods list (omega (arith, e)) (λ i. h (suc i)) same.1 (omega (arith, total, few)))
 
 areas_total : (floods : List Bool) (list : List (List ℕ)) → length list ≡ length floods → all_ages (areas_in floods list) ≡ sum_by sum list
@@ -243,9 +243,9 @@ areas_total (f ∷ floods) (a ∷ list) e = omega (arith, sum_by-cons (λ (x : A
 alarms_keep : (now next areas : ℕ) (seen : List ℕ) (attrs : List Attr) (rows : List State) (moments : List (List ℕ)) → now < 2 ^ 40 → next < 2 ^ 64 → areas ≤ 64 → length attrs ≡ length rows → length moments ≡ length rows
     → ((i : ℕ) (a : Attr) → slice_get attrs i ≡ Some a → a.area < areas)
     → ((i : ℕ) (a : Attr) (s : State) (ms : List ℕ) → slice_get attrs i ≡ Some a → slice_get rows i ≡ Some s → slice_get moments i ≡ Some ms → IsAlarm now next a s ms)
-    → ((i : ℕ) → 0 < stamp_at rows i → stands_in (stamp_at rows i) seen ≡ false)
+    → ((i : ℕ) → 0 < stamp_at rows i → is_among (stamp_at rows i) seen ≡ false)
     → ((i j : ℕ) → 0 < stamp_at rows i → stamp_at rows i ≡ stamp_at rows j → i ≡ j)
-    → KeepEach (alarm now next areas) (λ seen a. seen_then seen a.state.stamp) seen (length rows) (alarms_in attrs rows moments)
+    → KeepEach (alarm_field now next areas) (λ seen a. seen_then seen a.state.stamp) seen (length rows) (alarms_in attrs rows moments)
 alarms_keep now next areas seen [] [] moments small fits few e f there one fresh distinct = tt
 alarms_keep now next areas seen [] (s ∷ rows) moments small fits few e f there one fresh distinct = absurd (omega (arith, e))
 alarms_keep now next areas seen (a ∷ attrs) [] moments small fits few e f there one fresh distinct = absurd (omega (arith, e))
@@ -262,7 +262,7 @@ alarms_keep now next areas seen (a ∷ attrs) (s ∷ rows) (ms ∷ moments) smal
 all_at : {A : Type 0} (P : A → Type 0) (xs : List A) → All P xs → (i : ℕ) (x : A) → slice_get xs i ≡ Some x → P x
 all_at P xs h i x e = subst P (get_or_from_slice_get xs i x x e) (h i x (slice_get_within xs i x e))
 
-pub image_keeps : (rows areas count : ℕ) (q : Condensed) (bytes : List ℕ) → IsOf rows areas count q → IsImage q bytes → (image rows areas count).Keeps (image_in q)
+pub image_keeps : (rows areas count : ℕ) (q : Condensed) (bytes : List ℕ) → IsOf rows areas count q → IsImageText q bytes → (image rows areas count).Keeps (image_in q)
 image_keeps rows areas count q bytes of h =
     let p = q.panel in
     let r = h.rules in
@@ -270,7 +270,7 @@ image_keeps rows areas count q bytes of h =
     let area_of : (i : ℕ) (a : Attr) → slice_get p.attrs i ≡ Some a → a.area < areas = λ i a e. subst (λ (n : ℕ). a.area < n) of.by_areas (all_at (λ a. a.area < length q.floods) p.attrs r.in_areas i a e) in
     let by_area = subst (λ (n : ℕ). KeepEach {S = ℕ} (λ _. area p.now) (λ s _. s) 0 n (areas_in q.floods q.kept.ages)) of.by_areas
     (areas_keep p.now q.floods q.kept.ages r.measured (all_at (IsAges p.now) q.kept.ages r.ages) r.floods (omega (arith, r.annunciations, h.fits))) in
-    let by_alarm = subst (λ (n : ℕ). KeepEach (alarm p.now p.next_stamp areas) (λ seen a. seen_then seen a.state.stamp) [] n (alarms_in p.attrs p.rows q.kept.moments)) of.by_rows
+    let by_alarm = subst (λ (n : ℕ). KeepEach (alarm_field p.now p.next_stamp areas) (λ seen a. seen_then seen a.state.stamp) [] n (alarms_in p.attrs p.rows q.kept.moments)) of.by_rows
     (alarms_keep p.now p.next_stamp areas [] p.attrs p.rows q.kept.moments r.now h.fits few r.attrs r.recent area_of r.alarms (λ i lt. refl) r.distinct) in
     let total : ltb (all_ages (areas_in q.floods q.kept.ages)) p.next_stamp ≡ true = lt-ltb (all_ages (areas_in q.floods q.kept.ages)) p.next_stamp (omega (arith, areas_total q.floods q.kept.ages r.measured, r.annunciations)) in
     let stamps : p.next_stamp ≤ 1 + 16384 * count = subst (λ (n : ℕ). p.next_stamp ≤ 1 + 16384 * n) of.by_count r.stamps in (

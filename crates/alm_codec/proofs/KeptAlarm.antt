@@ -10,9 +10,9 @@ use Rattle.alm_state.specs.Rows.{State, IsState, is_annunciated, is_active_core,
 use Rattle.alm_state.specs.Suits.{suits, IsAhead}
 use Rattle.alm_model.specs.Rules.{IsFalling}
 use Rattle.alm_codec.specs.declared.flags.Flags.{Flags}
-use Rattle.alm_codec.specs.Format.{Format, byte, coded, tested}
+use Rattle.alm_codec.specs.Format.{Format, byte, coded_field, tested_field}
 use Rattle.alm_codec.specs.Image.{core_code}
-use Rattle.alm_codec.specs.ImageFields.{Alarm, u32, u64, is_deadband, core_at, flags_in, flags_code, same_bool, is_flagged, deadline_at, stands_in, is_stamp, is_moment, moments, alarm}
+use Rattle.alm_codec.specs.ImageFields.{Alarm, u32, u64, is_deadband, core_at, flags_in, flags_code, same_bool, is_flagged, deadline_at, is_among, is_stamp, is_moment, moments, alarm_field}
 
 -- what is known of an alarm behind others whose stamps were seen
 pub record Facts (now next areas : ℕ) (seen : List ℕ) (x : Alarm) : Type 0 where
@@ -24,12 +24,12 @@ pub record Facts (now next areas : ℕ) (seen : List ℕ) (x : Alarm) : Type 0 w
   pub suits : IsTrue (suits x.fixed.latching x.state.core)
   pub deadline : IsAhead now x.fixed.max_shelve x.state.shelved_until
   pub below : 0 < x.state.stamp → x.state.stamp < next
-  pub fresh : 0 < x.state.stamp → stands_in x.state.stamp seen ≡ false
+  pub fresh : 0 < x.state.stamp → is_among x.state.stamp seen ≡ false
   pub moments : IsFalling now x.moments
   pub few : length x.moments ≤ 3
   pub annunciated : is_annunciated x.state.core ≡ true → 0 < length x.moments
 
-pub passes : {A : Type 0} (f : Format A) (test : A → Bool) (n : A) → (tested f test).Keeps n → test n ≡ true
+pub passes : {A : Type 0} (f : Format A) (test : A → Bool) (n : A) → (tested_field f test).Keeps n → test n ≡ true
 passes f test n h = (cond_some (test n) n n h.1).0
 
 core_suits : (latching : Bool) (c : Core) → core_at latching (core_code c) ≡ Some c → IsTrue (suits latching c)
@@ -44,7 +44,7 @@ core_suits true LatchAcked e = refl
 core_suits false LatchAcked e = absurd (none-some LatchAcked e)
 
 abbrev flag_byte : Format Flags
-flag_byte = coded byte flags_in flags_code
+flag_byte = coded_field byte flags_in flags_code
 
 -- a rule of the flags, by whether one is set
 abbrev flag_rule : Bool → Bool → Core → Bool
@@ -69,9 +69,9 @@ flags_follow : (set active : Bool) (c : Core) → flag_rule set active c ≡ tru
 flags_follow true active c e s = absurd cc
 flags_follow false active c e s = same_is active (is_active_core c) e
 
-stamp_parts : (next : ℕ) (seen : List ℕ) (n : ℕ) → is_stamp next seen true n ≡ true → (ltb 0 n ≡ true) × ((ltb n next ≡ true) × (not (stands_in n seen) ≡ true))
+stamp_parts : (next : ℕ) (seen : List ℕ) (n : ℕ) → is_stamp next seen true n ≡ true → (ltb 0 n ≡ true) × ((ltb n next ≡ true) × (not (is_among n seen) ≡ true))
 stamp_parts next seen n e =
-    let p = and_parts (ltb 0 n && ltb n next) (not (stands_in n seen)) e in
+    let p = and_parts (ltb 0 n && ltb n next) (not (is_among n seen)) e in
     let q = and_parts (ltb 0 n) (ltb n next) p.0 in
     (q.0, (q.1, p.1))
 
@@ -91,8 +91,8 @@ not_true : (b : Bool) → not b ≡ true → b ≡ false
 not_true true e = absurd cc
 not_true false e = refl
 
-stamp_fresh : (next : ℕ) (seen : List ℕ) (b : Bool) (n : ℕ) → is_stamp next seen b n ≡ true → 0 < n → stands_in n seen ≡ false
-stamp_fresh next seen true n e lt = not_true (stands_in n seen) (stamp_parts next seen n e).1.1
+stamp_fresh : (next : ℕ) (seen : List ℕ) (b : Bool) (n : ℕ) → is_stamp next seen b n ≡ true → 0 < n → is_among n seen ≡ false
+stamp_fresh next seen true n e lt = not_true (is_among n seen) (stamp_parts next seen n e).1.1
 stamp_fresh next seen false n e lt = absurd (omega (arith, eqb-true n 0 e))
 
 ahead : (now longest : ℕ) (d : Option ℕ) → deadline_at now longest (is_some d) (unwrap_or d 0) ≡ Some d → IsAhead now longest d
@@ -101,7 +101,7 @@ ahead now longest (Some k) e =
     let p = and_parts (ltb now k) (leb k (now + longest)) (cond_some (ltb now k && leb k (now + longest)) (Some k) (Some k) e).0 in
     (ltb-true now k p.0, leb-true k (now + longest) p.1)
 
-moment_is : (left bound n : ℕ) → eqb left 0 ≡ false → (tested u64 (is_moment (left, bound))).Keeps n → n ≤ bound
+moment_is : (left bound n : ℕ) → eqb left 0 ≡ false → (tested_field u64 (is_moment (left, bound))).Keeps n → n ≤ bound
 moment_is left bound n some h = leb-true n bound (subst (λ b. cond b (eqb n 0) (leb n bound) ≡ true) some (passes u64 (is_moment (left, bound)) n h))
 
 falling : (now : ℕ) (ms : List ℕ) → length ms ≤ 3 → (moments (length ms) now).Keeps ms → IsFalling now ms
@@ -119,7 +119,7 @@ some_kept RtnUnack n e a = ltb-true 0 n e
 some_kept LatchUnack n e a = ltb-true 0 n e
 some_kept LatchAcked n e a = ltb-true 0 n e
 
-pub facts : (now next areas : ℕ) (seen : List ℕ) (x : Alarm) → (alarm now next areas seen).Keeps x → Facts now next areas seen x
+pub facts : (now next areas : ℕ) (seen : List ℕ) (x : Alarm) → (alarm_field now next areas seen).Keeps x → Facts now next areas seen x
 facts now next areas seen x h =
     let s : State = x.state in
     let stamped : Bool = is_annunciated s.core || is_some s.shelved_until in

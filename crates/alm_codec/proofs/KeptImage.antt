@@ -10,10 +10,10 @@ use Rattle.alm_state.specs.Rows.{State}
 use Rattle.alm_model.specs.Lists.{key_of, stamp}
 use Rattle.alm_model.specs.Plant.{Condensed}
 use Rattle.alm_model.specs.Rules.{IsAges, IsAlarm, KeepsRules}
-use Rattle.alm_model.specs.Step.{is_flood, settled}
+use Rattle.alm_model.specs.Step.{is_flood, settled_floods}
 use Rattle.alm_codec.specs.Format.{KeepEach}
 use Rattle.alm_codec.specs.Image.{IsOf}
-use Rattle.alm_codec.specs.ImageFields.{Area, u64, alarm, area, age_field, ages, is_flooded, stands_in, seen_then, all_ages, image, areas_in, alarms_in, image_in}
+use Rattle.alm_codec.specs.ImageFields.{Area, u64, alarm_field, area, age_field, ages, is_flooded, is_among, seen_then, all_ages, image, areas_in, alarms_in, image_in}
 use Rattle.alm_codec.proofs.Alarms.{alarm_from}
 use Rattle.alm_codec.proofs.ImageLaws.{each_length}
 use Rattle.alm_codec.proofs.KeptAlarm.{Facts, facts, passes}
@@ -46,7 +46,7 @@ flood_settled false w e = rw (le-ltb 10 w (leb-true w 10 e)) (neither (ltb w 5))
 
 pub record AreasKept (now n : ℕ) (flags : List Bool) (counts : List (List ℕ)) : Type 0 where
   pub ages : All (IsAges now) counts
-  pub floods : settled (map sum counts) flags ≡ flags
+  pub floods : settled_floods (map sum counts) flags ≡ flags
   pub all : all_ages (areas_in flags counts) ≡ sum_by sum counts
 
 pub areas_kept : (now n : ℕ) (floods : List Bool) (list : List (List ℕ)) → length list ≡ length floods → KeepEach {S = ℕ} (λ _. area now) (λ s _. s) 0 n (areas_in floods list) → AreasKept now n floods list
@@ -59,7 +59,7 @@ areas_kept now (suc n) (f ∷ floods) (a ∷ list) e h =
     let one = h.0.0 in
     record {
       ages = All-cons (IsAges now) a list (record { seconds = each_length (age_field now) (λ j _. j + 1) 0 600 a one.0.1; young = λ i lt. young now 0 600 a one.0.1 i (omega (arith, lt)) }) rest.ages;
-      floods = ap (λ (b : Bool). b ∷ settled (map sum list) floods) (flood_settled f (sum a) one.1) ∙ ap (λ (bs : List Bool). f ∷ bs) rest.floods;
+      floods = ap (λ (b : Bool). b ∷ settled_floods (map sum list) floods) (flood_settled f (sum a) one.1) ∙ ap (λ (bs : List Bool). f ∷ bs) rest.floods;
       all = omega (arith, sum_by-cons (λ (x : Area). sum x.ages) (record { flood = f; ages = a }) (areas_in floods list), sum_by-cons sum a list, rest.all);
     }
 
@@ -71,7 +71,7 @@ stamp_at rows i = key_of stamp (slice_get rows i)
 pub record AlarmsKept (now next areas : ℕ) (seen : List ℕ) (attrs : List Attr) (rows : List State) (moments : List (List ℕ)) : Type 0 where
   pub in_areas : All (λ a. a.area < areas) attrs
   pub alarms : (i : ℕ) (a : Attr) (s : State) (ms : List ℕ) → slice_get attrs i ≡ Some a → slice_get rows i ≡ Some s → slice_get moments i ≡ Some ms → IsAlarm now next a s ms
-  pub fresh : (i : ℕ) → 0 < stamp_at rows i → stands_in (stamp_at rows i) seen ≡ false
+  pub fresh : (i : ℕ) → 0 < stamp_at rows i → is_among (stamp_at rows i) seen ≡ false
   pub distinct : (i j : ℕ) → 0 < stamp_at rows i → stamp_at rows i ≡ stamp_at rows j → i ≡ j
 
 below : (n next : ℕ) → 1 ≤ next → (0 < n → n < next) → n < next
@@ -99,16 +99,16 @@ alarms_cons : (now next areas : ℕ) (a : Attr) (s : State) (ms : List ℕ) (att
 alarms_cons now next areas a s ms attrs rows moments one rest zero b t ns p q r = one_alarm now next areas a b s t ms ns one p q r
 alarms_cons now next areas a s ms attrs rows moments one rest (suc i) b t ns p q r = rest i b t ns p q r
 
-fresh_cons : (seen : List ℕ) (s : State) (rows : List State) → (0 < s.stamp → stands_in s.stamp seen ≡ false) → ((i : ℕ) → 0 < stamp_at rows i → stands_in (stamp_at rows i) (seen_then seen s.stamp) ≡ false)
-    → (i : ℕ) → 0 < stamp_at (s ∷ rows) i → stands_in (stamp_at (s ∷ rows) i) seen ≡ false
+fresh_cons : (seen : List ℕ) (s : State) (rows : List State) → (0 < s.stamp → is_among s.stamp seen ≡ false) → ((i : ℕ) → 0 < stamp_at rows i → is_among (stamp_at rows i) (seen_then seen s.stamp) ≡ false)
+    → (i : ℕ) → 0 < stamp_at (s ∷ rows) i → is_among (stamp_at (s ∷ rows) i) seen ≡ false
 fresh_cons seen s rows one rest zero lt = one lt
 fresh_cons seen s rows one rest (suc i) lt = then-before (stamp_at rows i) s.stamp seen (rest i lt)
 
 -- no alarm behind the first has its stamp
-apart : (seen : List ℕ) (n m : ℕ) → 0 < n → n ≡ m → stands_in m (seen_then seen n) ≡ false → ⊥
-apart seen n m lt same f = clash (sym (then-comes n seen lt) ∙ subst (λ (k : ℕ). stands_in k (seen_then seen n) ≡ false) (sym same) f)
+apart : (seen : List ℕ) (n m : ℕ) → 0 < n → n ≡ m → is_among m (seen_then seen n) ≡ false → ⊥
+apart seen n m lt same f = clash (sym (then-comes n seen lt) ∙ subst (λ (k : ℕ). is_among k (seen_then seen n) ≡ false) (sym same) f)
 
-distinct_cons : (seen : List ℕ) (s : State) (rows : List State) → ((i : ℕ) → 0 < stamp_at rows i → stands_in (stamp_at rows i) (seen_then seen s.stamp) ≡ false)
+distinct_cons : (seen : List ℕ) (s : State) (rows : List State) → ((i : ℕ) → 0 < stamp_at rows i → is_among (stamp_at rows i) (seen_then seen s.stamp) ≡ false)
     → ((i j : ℕ) → 0 < stamp_at rows i → stamp_at rows i ≡ stamp_at rows j → i ≡ j)
     → (i j : ℕ) → 0 < stamp_at (s ∷ rows) i → stamp_at (s ∷ rows) i ≡ stamp_at (s ∷ rows) j → i ≡ j
 distinct_cons seen s rows fresh rest zero zero lt same = refl
@@ -117,7 +117,7 @@ distinct_cons seen s rows fresh rest (suc i) zero lt same = absurd (apart seen s
 distinct_cons seen s rows fresh rest (suc i) (suc j) lt same = ap (λ (n : ℕ). suc n) (rest i j lt same)
 
 pub alarms_kept : (now next areas n : ℕ) (seen : List ℕ) (attrs : List Attr) (rows : List State) (moments : List (List ℕ)) → 1 ≤ next → length attrs ≡ length rows → length moments ≡ length rows
-    → KeepEach (alarm now next areas) (λ seen a. seen_then seen a.state.stamp) seen n (alarms_in attrs rows moments) → AlarmsKept now next areas seen attrs rows moments
+    → KeepEach (alarm_field now next areas) (λ seen a. seen_then seen a.state.stamp) seen n (alarms_in attrs rows moments) → AlarmsKept now next areas seen attrs rows moments
 alarms_kept now next areas n seen [] [] moments some e f h = record {
   in_areas = All-nil (λ a. a.area < areas);
   alarms = λ i a s ms p q r. absurd (none-some a p);

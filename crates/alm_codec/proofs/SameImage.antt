@@ -10,7 +10,7 @@ use Rattle.alm_state.specs.Rows.{State}
 use Rattle.alm_model.specs.Plant.{Condensed}
 use Rattle.alm_model.specs.Rules.{KeepsRules}
 use Rattle.alm_codec.specs.declared.fixed.Fixed.{Fixed}
-use Rattle.alm_codec.specs.Image.{IsImage, IsOf}
+use Rattle.alm_codec.specs.Image.{IsImageText, IsOf}
 use Rattle.alm_codec.specs.ImageFields.{Alarm, Area, Image, image, fixed_in, areas_in, alarms_in, image_in}
 use Rattle.alm_codec.specs.Reading.{IsBytes}
 use Rattle.alm_codec.proofs.Alarms.{alarm_from}
@@ -133,7 +133,7 @@ same_plant p q hp hq rows count e =
 -- ---- reading
 
 -- what is spelled is read
-pub image_again : (rows areas count : ℕ) (q : Condensed) (bytes rest : List ℕ) → IsOf rows areas count q → IsImage q bytes → (image rows areas count).read (bytes ++ rest) ≡ Ok (image_in q, rest)
+pub image_again : (rows areas count : ℕ) (q : Condensed) (bytes rest : List ℕ) → IsOf rows areas count q → IsImageText q bytes → (image rows areas count).read (bytes ++ rest) ≡ Ok (image_in q, rest)
 image_again rows areas count q bytes rest of h =
     ap (λ (t : List ℕ). (image rows areas count).read (t ++ rest)) (h.text ∙ sym (image_spells rows areas count q))
     ∙ (image_lawful rows areas count).again (image_in q) rest (image_keeps rows areas count q bytes of h)
@@ -141,7 +141,7 @@ image_again rows areas count q bytes rest of h =
 ok_image : (i j : Image) (a b : List ℕ) → ◌≡◌ {A = Result (Image × List ℕ) ℕ} (Ok (i, a)) (Ok (j, b)) → i ≡ j
 ok_image i j a b e = ap (λ (x : Image × List ℕ). x.0) (ok_is (i, a) (j, b) e)
 
-pub no_image_begins : (q r : Condensed) (a b x y : List ℕ) → IsImage q a → IsImage r b → IsOf (length r.panel.rows) (length r.floods) r.panel.count q → a ++ x ≡ b ++ y → q ≡ r
+pub no_image_begins : (q r : Condensed) (a b x y : List ℕ) → IsImageText q a → IsImageText r b → IsOf (length r.panel.rows) (length r.floods) r.panel.count q → a ++ x ≡ b ++ y → q ≡ r
 no_image_begins q r a b x y hq hr of e =
     let own : IsOf (length r.panel.rows) (length r.floods) r.panel.count r = record { by_rows = refl; by_areas = refl; by_count = refl } in
     let read = image_again (length r.panel.rows) (length r.floods) r.panel.count in
@@ -150,7 +150,7 @@ no_image_begins q r a b x y hq hr of e =
 
 -- what was read is an image
 pub image_found : (rows areas count : ℕ) (q : Condensed) (bytes : List ℕ) → (1 ≤ rows) × (rows ≤ 16384) → (1 ≤ areas) × (areas ≤ 64) → IsOf rows areas count q → length q.panel.attrs ≡ rows → length q.kept.moments ≡ rows → length q.kept.ages ≡ areas
-    → IsBytes bytes → (image rows areas count).read bytes ≡ Ok (image_in q, []) → IsImage q bytes
+    → IsBytes bytes → (image rows areas count).read bytes ≡ Ok (image_in q, []) → IsImageText q bytes
 image_found rows areas count q bytes r a of attrs moments ages fits read =
     let t = (image_lawful rows areas count).takes bytes (image_in q, []) fits read in
     let k = rules_kept rows areas count q r a of attrs moments ages t.1 in
@@ -160,7 +160,7 @@ err_ok : (left : ℕ) (x : Image × List ℕ) → ◌≡◌ {A = Result (Image �
 err_ok left x e = cc
 
 -- an image is read with nothing behind it
-pub image_whole : (rows areas count : ℕ) (q : Condensed) (bytes : List ℕ) → IsOf rows areas count q → IsImage q bytes → (image rows areas count).read bytes ≡ Ok (image_in q, [])
+pub image_whole : (rows areas count : ℕ) (q : Condensed) (bytes : List ℕ) → IsOf rows areas count q → IsImageText q bytes → (image rows areas count).read bytes ≡ Ok (image_in q, [])
 image_whole rows areas count q bytes of h = ap (λ (t : List ℕ). (image rows areas count).read t) (sym (append-nil bytes)) ∙ image_again rows areas count q bytes [] of h
 
 pub nothing : (bytes : List ℕ) → length bytes < 1 → bytes ≡ []
@@ -168,14 +168,14 @@ nothing [] lt = refl
 nothing (b ∷ bytes) lt = absurd (omega (arith, lt))
 
 -- the plant that was read is the one that was written
-pub image_only : (rows areas count : ℕ) (p q : Condensed) (bytes rest : List ℕ) → IsOf rows areas count p → IsOf rows areas count q → KeepsRules p → IsImage q bytes → (image rows areas count).read bytes ≡ Ok (image_in p, rest) → p ≡ q
+pub image_only : (rows areas count : ℕ) (p q : Condensed) (bytes rest : List ℕ) → IsOf rows areas count p → IsOf rows areas count q → KeepsRules p → IsImageText q bytes → (image rows areas count).read bytes ≡ Ok (image_in p, rest) → p ≡ q
 image_only rows areas count p q bytes rest own of rules h read =
     same_plant p q rules h.rules (own.by_rows ∙ sym of.by_rows) (own.by_count ∙ sym of.by_count) (ok_image (image_in p) (image_in q) rest [] (sym read ∙ image_whole rows areas count q bytes of h))
 
-pub image_ends : (rows areas count : ℕ) (q : Condensed) (i : Image) (bytes rest : List ℕ) → IsOf rows areas count q → IsImage q bytes → (image rows areas count).read bytes ≡ Ok (i, rest) → 1 ≤ length rest → ⊥
+pub image_ends : (rows areas count : ℕ) (q : Condensed) (i : Image) (bytes rest : List ℕ) → IsOf rows areas count q → IsImageText q bytes → (image rows areas count).read bytes ≡ Ok (i, rest) → 1 ≤ length rest → ⊥
 image_ends rows areas count q i bytes rest of h read long =
     let same : rest ≡ [] = ap (λ (x : Image × List ℕ). x.1) (ok_is (i, rest) (image_in q, []) (sym read ∙ image_whole rows areas count q bytes of h)) in
     omega (arith, long, ap length same)
 
-pub image_undamaged : (rows areas count left : ℕ) (q : Condensed) (bytes : List ℕ) → IsOf rows areas count q → IsImage q bytes → (image rows areas count).read bytes ≡ Err left → ⊥
+pub image_undamaged : (rows areas count left : ℕ) (q : Condensed) (bytes : List ℕ) → IsOf rows areas count q → IsImageText q bytes → (image rows areas count).read bytes ≡ Err left → ⊥
 image_undamaged rows areas count left q bytes of h read = err_ok left (image_in q, []) (sym read ∙ image_whole rows areas count q bytes of h)

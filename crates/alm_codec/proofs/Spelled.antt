@@ -4,7 +4,7 @@ use Rattle.std.specs.Prelude.{slice_get}
 use Rattle.std.proofs.lemmas.Option.{get_or_from_slice_get, slice_get_within}
 use Rattle.std.specs.Int.{w64, to_be_bytes}
 use Rattle.std.proofs.lemmas.List.{length-append, length-replicate}
-use Rattle.alm_types.specs.Texts.{padded}
+use Rattle.alm_types.specs.Texts.{with_padding}
 use Rattle.alm_types.proofs.Padding.{length-tag, length-text}
 use Rattle.alm_types.specs.declared.attr.Attr.{Attr}
 use Rattle.alm_state.specs.Rows.{State}
@@ -12,22 +12,22 @@ use Rattle.alm_model.specs.Plant.{Condensed}
 use Rattle.alm_model.specs.Rules.{KeepsRules}
 use Rattle.alm_state.specs.Showing.{flags_of}
 use Rattle.alm_model.specs.Lists.{deadline}
-use Rattle.alm_codec.specs.Actions.{switch}
-use Rattle.alm_codec.specs.Format.{tested, spell_each}
-use Rattle.alm_codec.specs.Image.{core_code, words, settings_text, placed, attr_text, row_text, area_text, area_texts, alarm_texts, image_text, image_len}
-use Rattle.alm_codec.specs.ImageFields.{u64, alarm, area, is_moment, seen_then, image, areas_in, alarms_in, image_in}
+use Rattle.alm_codec.specs.Actions.{switch_number}
+use Rattle.alm_codec.specs.Format.{tested_field, spell_each}
+use Rattle.alm_codec.specs.Image.{core_code, words, settings_text, placed_text, attr_text, row_text, area_text, area_texts, alarm_texts, image_text, image_len}
+use Rattle.alm_codec.specs.ImageFields.{u64, alarm_field, area, is_moment, seen_then, image, areas_in, alarms_in, image_in}
 use Rattle.alm_codec.proofs.Alarms.{alarm_from}
 
-spell_words : {S : Type 0} (test : S → ℕ → Bool) (next : S → ℕ → S) (s : S) (list : List ℕ) → spell_each (λ s. tested u64 (test s)) next s list ≡ words list
+spell_words : {S : Type 0} (test : S → ℕ → Bool) (next : S → ℕ → S) (s : S) (list : List ℕ) → spell_each (λ s. tested_field u64 (test s)) next s list ≡ words list
 spell_words test next s [] = refl
 spell_words test next s (n ∷ list) = ap (λ (t : List ℕ). to_be_bytes w64 n ++ t) (spell_words test next (next s n) list)
 
-alarm_spells : (now next areas : ℕ) (seen : List ℕ) (a : Attr) (s : State) (ms : List ℕ) → (alarm now next areas seen).spell (alarm_from a s ms) ≡ attr_text a ++ row_text s ms
+alarm_spells : (now next areas : ℕ) (seen : List ℕ) (a : Attr) (s : State) (ms : List ℕ) → (alarm_field now next areas seen).spell (alarm_from a s ms) ≡ attr_text a ++ row_text s ms
 alarm_spells now next areas seen a s ms =
-    ap (λ (t : List ℕ). attr_text a ++ (switch s.active ∷ core_code s.core ∷ flags_of s ∷ length ms ∷ to_be_bytes w64 (deadline s) ++ to_be_bytes w64 s.stamp ++ t)) (spell_words is_moment (λ s n. (s.0 - 1, n)) (length ms, now) (padded 3 ms))
+    ap (λ (t : List ℕ). attr_text a ++ (switch_number s.active ∷ core_code s.core ∷ flags_of s ∷ length ms ∷ to_be_bytes w64 (deadline s) ++ to_be_bytes w64 s.stamp ++ t)) (spell_words is_moment (λ s n. (s.0 - 1, n)) (length ms, now) (with_padding 3 ms))
 
 area_spells : (now : ℕ) (flood : Bool) (ages : List ℕ) → (area now).spell (record { flood = flood; ages = ages }) ≡ area_text flood ages
-area_spells now flood ages = ap (λ (t : List ℕ). switch flood ∷ t) (spell_words (λ j n. leb j now || eqb n 0) (λ j _. j + 1) 0 ages)
+area_spells now flood ages = ap (λ (t : List ℕ). switch_number flood ∷ t) (spell_words (λ j n. leb j now || eqb n 0) (λ j _. j + 1) 0 ages)
 
 areas_spell : (now : ℕ) (floods : List Bool) (ages : List (List ℕ)) → spell_each {S = ℕ} (λ _. area now) (λ s _. s) 0 (areas_in floods ages) ≡ area_texts floods ages
 areas_spell now [] ages = refl
@@ -36,18 +36,18 @@ areas_spell now (f ∷ floods) (a ∷ ages) =
     ap (λ (t : List ℕ). t ++ spell_each {S = ℕ} (λ _. area now) (λ s _. s) 0 (areas_in floods ages)) (area_spells now f a)
     ∙ ap (λ (t : List ℕ). area_text f a ++ t) (areas_spell now floods ages)
 
-alarms_spell : (now next areas : ℕ) (seen : List ℕ) (attrs : List Attr) (rows : List State) (moments : List (List ℕ)) → spell_each (alarm now next areas) (λ seen a. seen_then seen a.state.stamp) seen (alarms_in attrs rows moments) ≡ alarm_texts attrs rows moments
+alarms_spell : (now next areas : ℕ) (seen : List ℕ) (attrs : List Attr) (rows : List State) (moments : List (List ℕ)) → spell_each (alarm_field now next areas) (λ seen a. seen_then seen a.state.stamp) seen (alarms_in attrs rows moments) ≡ alarm_texts attrs rows moments
 alarms_spell now next areas seen [] rows moments = refl
 alarms_spell now next areas seen (a ∷ attrs) [] moments = refl
 alarms_spell now next areas seen (a ∷ attrs) (s ∷ rows) [] = refl
 alarms_spell now next areas seen (a ∷ attrs) (s ∷ rows) (ms ∷ moments) =
-    ap (λ (t : List ℕ). t ++ spell_each (alarm now next areas) (λ seen a. seen_then seen a.state.stamp) (seen_then seen s.stamp) (alarms_in attrs rows moments)) (alarm_spells now next areas seen a s ms)
+    ap (λ (t : List ℕ). t ++ spell_each (alarm_field now next areas) (λ seen a. seen_then seen a.state.stamp) (seen_then seen s.stamp) (alarms_in attrs rows moments)) (alarm_spells now next areas seen a s ms)
     ∙ ap (λ (t : List ℕ). attr_text a ++ row_text s ms ++ t) (alarms_spell now next areas (seen_then seen s.stamp) attrs rows moments)
 
 pub image_spells : (rows areas count : ℕ) (q : Condensed) → (image rows areas count).spell (image_in q) ≡ image_text q
 image_spells rows areas count q =
     let p = q.panel in
-    ap (λ (t : List ℕ). to_be_bytes w64 p.now ++ (to_be_bytes w64 p.next_stamp ++ (t ++ spell_each (alarm p.now p.next_stamp areas) (λ seen a. seen_then seen a.state.stamp) [] (alarms_in p.attrs p.rows q.kept.moments)))) (areas_spell p.now q.floods q.kept.ages)
+    ap (λ (t : List ℕ). to_be_bytes w64 p.now ++ (to_be_bytes w64 p.next_stamp ++ (t ++ spell_each (alarm_field p.now p.next_stamp areas) (λ seen a. seen_then seen a.state.stamp) [] (alarms_in p.attrs p.rows q.kept.moments)))) (areas_spell p.now q.floods q.kept.ages)
     ∙ ap (λ (t : List ℕ). to_be_bytes w64 p.now ++ (to_be_bytes w64 p.next_stamp ++ (area_texts q.floods q.kept.ages ++ t))) (alarms_spell p.now p.next_stamp areas [] p.attrs p.rows q.kept.moments)
 
 -- ---- lengths
@@ -56,15 +56,15 @@ words_length : (list : List ℕ) → length (words list) ≡ length list * 8
 words_length [] = refl
 words_length (n ∷ list) = omega (arith, length-append (to_be_bytes w64 n) (words list), words_length list)
 
-placed_length : (size : ℕ) (text : List ℕ) → length text ≤ size → length (placed size text) ≡ 1 + size
+placed_length : (size : ℕ) (text : List ℕ) → length text ≤ size → length (placed_text size text) ≡ 1 + size
 placed_length size text few = omega (arith, length-append text (replicate (size - length text) 0), length-replicate {A = ℕ} (size - length text) 0)
 
 attr_length : (a : Attr) → length (attr_text a) ≡ 138
 attr_length a =
-    omega (arith, length-append (settings_text a ++ placed 32 a.tag) (placed 80 a.text), length-append (settings_text a) (placed 32 a.tag), placed_length 32 a.tag (length-tag a.tag a.tag_limits), placed_length 80 a.text (length-text a.text a.text_limits))
+    omega (arith, length-append (settings_text a ++ placed_text 32 a.tag) (placed_text 80 a.text), length-append (settings_text a) (placed_text 32 a.tag), placed_length 32 a.tag (length-tag a.tag a.tag_limits), placed_length 80 a.text (length-text a.text a.text_limits))
 
 row_length : (s : State) (ms : List ℕ) → length ms ≤ 3 → length (row_text s ms) ≡ 44
-row_length s ms few = omega (arith, words_length (padded 3 ms), length-append ms (replicate (3 - length ms) 0), length-replicate {A = ℕ} (3 - length ms) 0)
+row_length s ms few = omega (arith, words_length (with_padding 3 ms), length-append ms (replicate (3 - length ms) 0), length-replicate {A = ℕ} (3 - length ms) 0)
 
 areas_length : (floods : List Bool) (ages : List (List ℕ)) → length ages ≡ length floods → ((i : ℕ) (list : List ℕ) → slice_get ages i ≡ Some list → length list ≡ 600) → length (area_texts floods ages) ≡ length floods * 4801
 areas_length [] ages e full = refl

@@ -5,14 +5,14 @@ use Rattle.std.specs.Int.{w64, cast_signed, cast_unsigned}
 use Rattle.std.proofs.lemmas.Bool.{and_parts}
 use Rattle.std.proofs.lemmas.List.{length-map}
 use Rattle.std.proofs.lemmas.Option.{cond_some}
-use Rattle.alm_types.specs.Texts.{is_tag, is_text, padded}
+use Rattle.alm_types.specs.Texts.{is_tag, is_text, with_padding}
 use Rattle.alm_types.specs.declared.attr.Attr.{Attr}
 use Rattle.alm_state.specs.Rows.{State}
 use Rattle.alm_model.specs.Plant.{Condensed}
 use Rattle.alm_codec.specs.declared.fixed.Fixed.{Fixed}
 use Rattle.alm_codec.specs.Format.{KeepEach}
-use Rattle.alm_codec.specs.Image.{IsImage, IsOf}
-use Rattle.alm_codec.specs.ImageFields.{Alarm, Area, Image, alarm, area, fixed_in, text_in, zeros, seen_then, image, areas_in, alarms_in, image_in, damage_in, left_at}
+use Rattle.alm_codec.specs.Image.{IsImageText, IsOf}
+use Rattle.alm_codec.specs.ImageFields.{Alarm, Area, Image, alarm_field, area, fixed_in, text_in, zeros, seen_then, image, areas_in, alarms_in, image_in, damage_in, left_at}
 use Rattle.alm_codec.specs.Reading.{IsBytes}
 use Rattle.alm_codec.proofs.Actions.{limited_takes}
 use Rattle.alm_codec.proofs.ImageLaws.{image_lawful, each_length}
@@ -22,7 +22,7 @@ use Rattle.alm_codec.proofs.SameImage.{image_found, image_whole}
 -- a text that is kept passes its test
 text_passes : (least room : ℕ) (test : List ℕ → Bool) (text : List ℕ) → (text_in least room test).Keeps text → test text ≡ true
 text_passes least room test text h =
-    let field : List ℕ = padded room text in
+    let field : List ℕ = with_padding room text in
     let g = cond_some (test (take (length text) field) && zeros (drop (length text) field)) (take (length text) field) text h.0.1.1 in
     subst (λ (t : List ℕ). test t ≡ true) g.1 (and_parts (test (take (length text) field)) (zeros (drop (length text) field)) g.0).0
 
@@ -31,7 +31,7 @@ record Attributes (f : Fixed) : Type 0 where
   attr : Attr
   is : fixed_in attr ≡ f
 
-attributes : (now next areas : ℕ) (seen : List ℕ) (x : Alarm) → areas ≤ 64 → (alarm now next areas seen).Keeps x → Attributes x.fixed
+attributes : (now next areas : ℕ) (seen : List ℕ) (x : Alarm) → areas ≤ 64 → (alarm_field now next areas seen).Keeps x → Attributes x.fixed
 attributes now next areas seen x few h =
     let k = facts now next areas seen x h in
     let f = x.fixed in
@@ -68,7 +68,7 @@ record Made (list : List Alarm) : Type 0 where
   by_rows : length rows ≡ length list
   by_moments : length moments ≡ length list
 
-made : (now next areas n : ℕ) (seen : List ℕ) (list : List Alarm) → areas ≤ 64 → KeepEach (alarm now next areas) (λ seen a. seen_then seen a.state.stamp) seen n list → Made list
+made : (now next areas n : ℕ) (seen : List ℕ) (list : List Alarm) → areas ≤ 64 → KeepEach (alarm_field now next areas) (λ seen a. seen_then seen a.state.stamp) seen n list → Made list
 made now next areas zero seen [] few h = record { attrs = []; rows = []; moments = []; is = refl; by_attrs = refl; by_rows = refl; by_moments = refl }
 made now next areas zero seen (x ∷ list) few h = absurd h
 made now next areas (suc n) seen [] few h = absurd h
@@ -98,13 +98,13 @@ no_left (Ok (i, [])) e = (i, refl)
 no_left (Ok (i, x ∷ rest)) e = absurd cc
 no_left (Err left) e = absurd cc
 
-pub image_there : (rows areas count : ℕ) (bytes : List ℕ) → (1 ≤ rows) × (rows ≤ 16384) → (1 ≤ areas) × (areas ≤ 64) → IsBytes bytes → damage_in rows areas count bytes ≡ None → (q : Condensed) × IsOf rows areas count q × IsImage q bytes
+pub image_there : (rows areas count : ℕ) (bytes : List ℕ) → (1 ≤ rows) × (rows ≤ 16384) → (1 ≤ areas) × (areas ≤ 64) → IsBytes bytes → damage_in rows areas count bytes ≡ None → (q : Condensed) × IsOf rows areas count q × IsImageText q bytes
 image_there rows areas count bytes r a fits e =
     let read = no_left ((image rows areas count).read bytes) (not_mapped (λ left. length bytes - left) (left_at ((image rows areas count).read bytes)) e) in
     let i = read.0 in
     let k = ((image_lawful rows areas count).takes bytes (i, []) fits read.1).1.0 in
     let m = made i.now i.next_stamp areas rows [] i.alarms a.1 k.1.1.1 in
-    let alarms : length i.alarms ≡ rows = each_length (alarm i.now i.next_stamp areas) (λ seen a. seen_then seen a.state.stamp) [] rows i.alarms k.1.1.1 in
+    let alarms : length i.alarms ≡ rows = each_length (alarm_field i.now i.next_stamp areas) (λ seen a. seen_then seen a.state.stamp) [] rows i.alarms k.1.1.1 in
     let by_area : length i.areas ≡ areas = each_length {S = ℕ} (λ _. area i.now) (λ s _. s) 0 areas i.areas k.1.1.0.0 in
     let q : Condensed = record {
       panel = record { now = i.now; count = count; next_stamp = i.next_stamp; attrs = m.attrs; rows = m.rows };
@@ -115,5 +115,5 @@ image_there rows areas count bytes r a fits e =
     let of : IsOf rows areas count q = record { by_rows = m.by_rows ∙ alarms; by_areas = length-map i.areas (λ (a : Area). a.flood) ∙ by_area; by_count = refl } in
     (q, of, image_found rows areas count q bytes r a of (m.by_attrs ∙ alarms) (m.by_moments ∙ alarms) (length-map i.areas (λ (a : Area). a.ages) ∙ by_area) fits (read.1 ∙ ap (λ (x : Image). Ok (x, [])) (sym same)))
 
-pub image_sound : (rows areas count : ℕ) (bytes : List ℕ) (q : Condensed) → IsOf rows areas count q → IsImage q bytes → damage_in rows areas count bytes ≡ None
+pub image_sound : (rows areas count : ℕ) (bytes : List ℕ) (q : Condensed) → IsOf rows areas count q → IsImageText q bytes → damage_in rows areas count bytes ≡ None
 image_sound rows areas count bytes q of h = ap (λ r. option_map (λ left. length bytes - left) (left_at r)) (image_whole rows areas count q bytes of h)

@@ -10,7 +10,7 @@ use Rattle.std.proofs.lemmas.Option.{slice_get-get_or}
 use Rattle.alm_model.specs.Plant.{Condensed}
 use Rattle.alm_model.specs.Lists.{moments_in}
 use Rattle.alm_model.specs.Rules.{KeepsRules}
-use Rattle.alm_codec.specs.Actions.{switch}
+use Rattle.alm_codec.specs.Actions.{switch_number}
 use Rattle.alm_codec.specs.Writing.{Wrote}
 use Rattle.alm_codec.specs.Image.{image_len, image_text, words, attr_text, row_text, area_text, area_text_of, area_texts, alarm_text_of, alarm_texts}
 
@@ -61,7 +61,7 @@ ages_full q area h lt =
     let within : area < length q.kept.ages = omega (arith, h.measured) in
     rw (slice_get-get_or q.kept.ages area [] within) (h.ages area [] within).seconds
 
-pub area_is : (f : Option Bool) (a : Option (List ℕ)) (flood : Bool) (ages : List ℕ) → f ≡ Some flood → a ≡ Some ages → switch flood ∷ words (unwrap_or a []) ≡ area_text_of f a
+pub area_is : (f : Option Bool) (a : Option (List ℕ)) (flood : Bool) (ages : List ℕ) → f ≡ Some flood → a ≡ Some ages → switch_number flood ∷ words (unwrap_or a []) ≡ area_text_of f a
 area_is f a flood ages e g = rw (e, g) refl
 
 pub moments_few : (q : Condensed) (i : ℕ) (a : Attr) (s : State) → KeepsRules q → i < length q.panel.rows → length (moments_in (slice_get q.kept.moments i)) ≤ 3

@@ -24,9 +24,9 @@ kind_of (SetPriority i priority) = 9
 kind_of (SetSetpoint i v) = 10
 
 -- 1 on, 0 off
-abbrev pub switch : Bool → ℕ
-switch true = 1
-switch false = 0
+abbrev pub switch_number : Bool → ℕ
+switch_number true = 1
+switch_number false = 0
 
 abbrev pub argument_of : Action → ℕ
 argument_of (Clock t) = t
@@ -35,30 +35,30 @@ argument_of (Ack i) = 0
 argument_of (Reset i) = 0
 argument_of (Shelve i seconds) = seconds
 argument_of (Unshelve i) = 0
-argument_of (Oos i on) = switch on
-argument_of (Design i on) = switch on
+argument_of (Oos i on) = switch_number on
+argument_of (Design i on) = switch_number on
 argument_of (SetPriority i priority) = priority
 argument_of (SetSetpoint i v) = cast_unsigned w64 v
 
 -- a text of a kind, an alarm and an argument
-abbrev pub text_of : ℕ → ℕ → ℕ → List ℕ
-text_of kind alarm argument = kind ∷ 0 ∷ 0 ∷ 0 ∷ to_be_bytes w32 alarm ++ to_be_bytes w64 argument
+abbrev pub fields_text : ℕ → ℕ → ℕ → List ℕ
+fields_text kind alarm argument = kind ∷ 0 ∷ 0 ∷ 0 ∷ to_be_bytes w32 alarm ++ to_be_bytes w64 argument
 
 abbrev pub action_text : Action → List ℕ
-action_text a = text_of (kind_of a) (alarm_of a) (argument_of a)
+action_text a = fields_text (kind_of a) (alarm_of a) (argument_of a)
 
 -- ---- reading
 
 -- the value of a 64-bit word, where it is within its limits
-abbrev pub limited : ℤ → Option ℤ
-limited v = if is_reading v then Some v else None
+abbrev pub if_reading : ℤ → Option ℤ
+if_reading v = if is_reading v then Some v else None
 
 abbrev pub reading_at : ℕ → Option ℤ
-reading_at word = limited (cast_signed w64 word)
+reading_at word = if_reading (cast_signed w64 word)
 
 -- an action that wants no argument
-abbrev pub without : ℕ → Action → Option Action
-without argument a = if argument == 0 then Some a else None
+abbrev pub without_argument : ℕ → Action → Option Action
+without_argument argument a = if argument == 0 then Some a else None
 
 -- an action that sets or clears
 abbrev pub either_way : ℕ → (Bool → Action) → Option Action
@@ -68,22 +68,22 @@ abbrev pub meaning_for : ℕ → AlarmId → ℕ → Option Action
 meaning_for kind i argument =
     if kind == 1 then (if (i.0 == 0) && nat_lt argument (2 ^ 40) then Some (Clock argument) else None)
     else if kind == 2 then option_map (Value i) (reading_at argument)
-    else if kind == 3 then without argument (Ack i)
-    else if kind == 4 then without argument (Reset i)
+    else if kind == 3 then without_argument argument (Ack i)
+    else if kind == 4 then without_argument argument (Reset i)
     else if kind == 5 then (if nat_lt argument (2 ^ 32) then Some (Shelve i argument) else None)
-    else if kind == 6 then without argument (Unshelve i)
+    else if kind == 6 then without_argument argument (Unshelve i)
     else if kind == 7 then either_way argument (Oos i)
     else if kind == 8 then either_way argument (Design i)
     else if kind == 9 then (if nat_lt argument (2 ^ 32) then Some (SetPriority i argument) else None)
     else if kind == 10 then option_map (SetSetpoint i) (reading_at argument)
     else None
 
-abbrev pub meaning : ℕ → ℕ → ℕ → Option Action
-meaning kind alarm argument = meaning_for kind (record { 0 = alarm }) argument
+abbrev pub action_meant : ℕ → ℕ → ℕ → Option Action
+action_meant kind alarm argument = meaning_for kind (record { 0 = alarm }) argument
 
 -- the action of any version that bytes are the text of, all of the bytes
 abbrev pub action_at : List ℕ → Option Action
-action_at (kind ∷ zero ∷ zero ∷ zero ∷ a ∷ b ∷ c ∷ d ∷ rest) = if length rest == 8 then meaning kind (from_be_bytes w32 (a ∷ b ∷ c ∷ d ∷ [])) (from_be_bytes w64 rest) else None
+action_at (kind ∷ zero ∷ zero ∷ zero ∷ a ∷ b ∷ c ∷ d ∷ rest) = if length rest == 8 then action_meant kind (from_be_bytes w32 (a ∷ b ∷ c ∷ d ∷ [])) (from_be_bytes w64 rest) else None
 action_at _ = None
 
 -- the action of a version

@@ -2,7 +2,7 @@
 use Rattle.std.specs.Prelude.{◌≡◌, ℕ, ◌+◌, ◌*◌, ◌^◌, ◌<◌, List, [], ◌∷◌, ◌++◌, length, Bool, Option, Some}
 use Rattle.std.specs.List.{flat_map}
 use Rattle.std.specs.Int.{w32, w64, to_be_bytes, cast_unsigned}
-use Rattle.alm_types.specs.Texts.{padded}
+use Rattle.alm_types.specs.Texts.{with_padding}
 use Rattle.alm_types.specs.declared.attr.Attr.{Attr}
 use Rattle.alm_types.specs.declared.kind.Kind.{Kind}
 use Rattle.alm_types.specs.declared.kind.Kind.TheVariants.{High, Low, Discrete}
@@ -13,7 +13,7 @@ use Rattle.alm_state.specs.Showing.{flags_of}
 use Rattle.alm_model.specs.Plant.{Condensed}
 use Rattle.alm_model.specs.Lists.{deadline}
 use Rattle.alm_model.specs.Rules.{KeepsRules}
-use Rattle.alm_codec.specs.Actions.{switch}
+use Rattle.alm_codec.specs.Actions.{switch_number}
 
 abbrev pub kind_code : Kind → ℕ
 kind_code High = 1
@@ -34,22 +34,22 @@ words numbers = flat_map (to_be_bytes w64) numbers
 
 -- a flood byte and the ages
 abbrev pub area_text : Bool → List ℕ → List ℕ
-area_text flood ages = switch flood ∷ words ages
+area_text flood ages = switch_number flood ∷ words ages
 
 -- a text behind its length, in a place of a size
-abbrev pub placed : ℕ → List ℕ → List ℕ
-placed size text = length text ∷ padded size text
+abbrev pub placed_text : ℕ → List ℕ → List ℕ
+placed_text size text = length text ∷ with_padding size text
 
 -- the attributes of an alarm
 abbrev pub settings_text : Attr → List ℕ
-settings_text a = kind_code a.kind ∷ a.priority ∷ a.area ∷ switch a.latching ∷ to_be_bytes w64 (cast_unsigned w64 a.setpoint) ++ to_be_bytes w64 a.deadband ++ to_be_bytes w32 a.max_shelve
+settings_text a = kind_code a.kind ∷ a.priority ∷ a.area ∷ switch_number a.latching ∷ to_be_bytes w64 (cast_unsigned w64 a.setpoint) ++ to_be_bytes w64 a.deadband ++ to_be_bytes w32 a.max_shelve
 
 abbrev pub attr_text : Attr → List ℕ
-attr_text a = settings_text a ++ placed 32 a.tag ++ placed 80 a.text
+attr_text a = settings_text a ++ placed_text 32 a.tag ++ placed_text 80 a.text
 
 -- what changes of an alarm, and its last moments
 abbrev pub row_text : State → List ℕ → List ℕ
-row_text s moments = switch s.active ∷ core_code s.core ∷ flags_of s ∷ length moments ∷ to_be_bytes w64 (deadline s) ++ to_be_bytes w64 s.stamp ++ words (padded 3 moments)
+row_text s moments = switch_number s.active ∷ core_code s.core ∷ flags_of s ∷ length moments ∷ to_be_bytes w64 (deadline s) ++ to_be_bytes w64 s.stamp ++ words (with_padding 3 moments)
 
 abbrev pub area_texts : List Bool → List (List ℕ) → List ℕ
 area_texts (flood ∷ floods) (ages ∷ others) = area_text flood ages ++ area_texts floods others
@@ -76,7 +76,7 @@ abbrev pub image_len : ℕ → ℕ → ℕ
 image_len rows areas = 16 + areas * 4801 + rows * 182
 
 -- the bytes are the image of a plant: every plant that keeps the rules has one, as long as its next stamp is a number of 64 bits
-pub record IsImage (q : Condensed) (bytes : List ℕ) : Type 0 where
+pub record IsImageText (q : Condensed) (bytes : List ℕ) : Type 0 where
   pub rules : KeepsRules q
   pub fits : q.panel.next_stamp < 2 ^ 64
   pub text : bytes ≡ image_text q

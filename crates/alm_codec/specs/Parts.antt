@@ -6,8 +6,8 @@ use Rattle.alm_codec.specs.declared.alarm_parts.AlarmParts.{AlarmParts}
 use Rattle.alm_codec.specs.declared.area_parts.AreaParts.{AreaParts}
 use Rattle.alm_codec.specs.ImageFields.{Alarm, Area}
 
-abbrev pub area_in : AreaParts → Area
-area_in p = record { flood = p.flood; ages = p.ages }
+abbrev pub area_from : AreaParts → Area
+area_from p = record { flood = p.flood; ages = p.ages }
 
 abbrev pub alarm_in : AlarmParts → Alarm
 alarm_in p = record {

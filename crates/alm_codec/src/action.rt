@@ -3,7 +3,7 @@
 ghost use Rattle.std.specs.Prelude.{◌≡◌, ◌+◌, ◌≤◌, ◌++◌, ℕ, List, length, drop, IfOk, IfErr, Ok};
 ghost use Rattle.alm_types.specs.declared.action.Action.{Action as AnAction};
 ghost use Rattle.alm_types.specs.Actions.{IsAction, alarm_of};
-ghost use Rattle.alm_codec.specs.Actions.{action_text, argument_of, kind_of, action_at, action_in, meaning, reading_at};
+ghost use Rattle.alm_codec.specs.Actions.{action_text, argument_of, kind_of, action_at, action_in, action_meant, reading_at};
 ghost use Rattle.alm_codec.specs.Versions.{IsBorne};
 ghost use Rattle.alm_codec.specs.Writing.{Wrote};
 
@@ -24,7 +24,7 @@ fn reading(word: u64) -> Option<Reading>
 
 /// The action that a kind, an alarm and an argument stand for.
 fn meaning(kind: u8, alarm: u32, argument: u64) -> Option<Action>
-    ensures { result ≡ meaning kind alarm argument }
+    ensures { result ≡ action_meant kind alarm argument }
 {
     let id = AlarmId(alarm);
     match (kind, argument) {

@@ -3,7 +3,7 @@
 ghost use Rattle.std.specs.Prelude.{◌≡◌, ◌||◌, ◌≤◌, take, IfOk};
 ghost use Rattle.alm_state.specs.Rows.{is_annunciated};
 ghost use Rattle.alm_codec.specs.Reading.{Gives};
-ghost use Rattle.alm_codec.specs.ImageFields.{alarm, fixed_in};
+ghost use Rattle.alm_codec.specs.ImageFields.{alarm_field, fixed_in};
 ghost use Rattle.alm_codec.specs.Parts.{alarm_in, InLimits};
 
 use crate::fixed::{Fixed, fixed_of, flag_of};
@@ -90,7 +90,7 @@ fn fields_of<'a>(
     seen: &BTreeSet<u64>,
 ) -> Result<(AlarmParts, &'a [u8]), Left>
     ensures alarm { Gives (λ x. (alarm_in x.0, x.1.now)) result
-        ((alarm clock next_stamp areas seen.now.keys).read bytes.now) }
+        ((alarm_field clock next_stamp areas seen.now.keys).read bytes.now) }
     ensures few { IfOk result (λ x. x.0.kept ≤ 3) }
 {
     let (fixed, rest) = match fixed_of(bytes, areas) {
@@ -131,7 +131,7 @@ pub fn alarm_of<'a>(
 ) -> Result<(AlarmParts, &'a [u8]), Left>
     requires { areas ≤ 64 }
     ensures alarm { Gives (λ x. (alarm_in x.0, x.1.now)) result
-        ((alarm clock next_stamp areas seen.now.keys).read bytes.now) }
+        ((alarm_field clock next_stamp areas seen.now.keys).read bytes.now) }
     ensures few { IfOk result (λ x. x.0.kept ≤ 3) }
     ensures limits { IfOk result (λ x. InLimits (alarm_in x.0)) }
 {

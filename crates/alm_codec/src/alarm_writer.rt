@@ -2,10 +2,10 @@
 
 ghost use Rattle.std.specs.Prelude.{◌≡◌, ◌+◌, ◌≤◌, ◌<◌, ◌++◌, length, slice_index_or};
 ghost use Rattle.std.specs.Int.{w64, cast_unsigned};
-ghost use Rattle.alm_types.specs.Texts.{padded};
-ghost use Rattle.alm_codec.specs.Actions.{switch};
+ghost use Rattle.alm_types.specs.Texts.{with_padding};
+ghost use Rattle.alm_codec.specs.Actions.{switch_number};
 ghost use Rattle.alm_codec.specs.Writing.{Wrote};
-ghost use Rattle.alm_codec.specs.Image.{kind_code, core_code, words, placed, settings_text, attr_text, row_text};
+ghost use Rattle.alm_codec.specs.Image.{kind_code, core_code, words, placed_text, settings_text, attr_text, row_text};
 
 use crate::fields::{put, put_word, put_zeros};
 use alm_state::{Core, Row};
@@ -36,7 +36,7 @@ fn core_code(core: Core) -> u8
 
 /// A flag: 1 on, 0 off.
 pub fn flag_code(flag: bool) -> u8
-    ensures { result ≡ switch flag }
+    ensures { result ≡ switch_number flag }
 {
     flag as u8
 }
@@ -47,7 +47,7 @@ fn put_placed(out: &mut [u8], at: usize, text: &[u8], size: usize) -> usize
     requires small { size < 256 }
     requires room { at + 1 + size ≤ length out.old }
     ensures end { result ≡ at + 1 + size }
-    ensures text { Wrote out.old out.new at result (placed size text.now) }
+    ensures text { Wrote out.old out.new at result (placed_text size text.now) }
 {
     let text_at = put(out, at, &[text.len() as u8]);
     let rest_at = put(out, text_at, text);
@@ -110,7 +110,7 @@ fn put_moments(out: &mut [u8], at: usize, moments: &[Moment]) -> usize
     requires few { length moments.now ≤ 3 }
     requires room { at + 24 ≤ length out.old }
     ensures end { result ≡ at + 24 }
-    ensures text { Wrote out.old out.new at result (words (padded 3 moments.now)) }
+    ensures text { Wrote out.old out.new at result (words (with_padding 3 moments.now)) }
 {
     let second_at = put_word(out, at, seconds_of(moments, 0));
     let third_at = put_word(out, second_at, seconds_of(moments, 1));

@@ -3,7 +3,7 @@
 ghost use Rattle.std.specs.Prelude.{◌≡◌, ◌-◌, nat_le, sum, Some, None, if◌then◌else◌};
 ghost use Rattle.alm_codec.specs.Reading.{Gives};
 ghost use Rattle.alm_codec.specs.ImageFields.{ages, age_field, is_flooded, area};
-ghost use Rattle.alm_codec.specs.Parts.{area_in};
+ghost use Rattle.alm_codec.specs.Parts.{area_from};
 ghost use Rattle.alm_codec.specs.Bounds.{under};
 
 use crate::fields::u64_at;
@@ -75,7 +75,7 @@ fn is_flooded(flood: bool, counts: &[u64]) -> bool
 
 /// An area.
 pub fn area_of(bytes: &[u8], clock: Moment) -> Result<(AreaParts, &[u8]), Left>
-    ensures { Gives (λ x. (area_in x.0, x.1.now)) result ((area clock).read bytes.now) }
+    ensures { Gives (λ x. (area_from x.0, x.1.now)) result ((area clock).read bytes.now) }
 {
     let (flood, rest) = flag_of(bytes)?;
     let (ages, rest) = ages_of(rest, clock.seconds())?;

@@ -3,8 +3,8 @@
 ghost use Rattle.std.specs.Prelude.{◌≡◌, ◌&&◌, ◌==◌, ◌≤◌, ◌<◌, nat_le, nat_lt, true, length, IfOk};
 ghost use Rattle.alm_types.specs.Texts.{is_tag, is_text};
 ghost use Rattle.alm_codec.specs.Reading.{Gives};
-ghost use Rattle.alm_codec.specs.Format.{byte, tested};
-ghost use Rattle.alm_codec.specs.ImageFields.{u32, u64, flag, kind, setpoint, text_in, is_deadband, zeros, fixed};
+ghost use Rattle.alm_codec.specs.Format.{byte, tested_field};
+ghost use Rattle.alm_codec.specs.ImageFields.{u32, u64, flag, kind_field, setpoint, text_in, is_deadband, zeros, fixed_fields};
 
 use crate::fields::{u8_at, u32_at, u64_at};
 use crate::left::Left;
@@ -37,7 +37,7 @@ pub fn flag_of(bytes: &[u8]) -> Result<(bool, &[u8]), Left>
 }
 
 fn kind_of(bytes: &[u8]) -> Result<(Kind, &[u8]), Left>
-    ensures { Gives (λ x. (x.0, x.1.now)) result (kind.read bytes.now) }
+    ensures { Gives (λ x. (x.0, x.1.now)) result (kind_field.read bytes.now) }
 {
     let (code, rest) = u8_at(bytes)?;
     match code {
@@ -105,7 +105,7 @@ fn text_of(bytes: &[u8]) -> Result<(Text, &[u8]), Left>
 
 fn priority_of(bytes: &[u8]) -> Result<(u8, &[u8]), Left>
     ensures { Gives (λ x. (x.0, x.1.now)) result
-        ((tested byte (λ n. nat_le 1 n && nat_le n 4)).read bytes.now) }
+        ((tested_field byte (λ n. nat_le 1 n && nat_le n 4)).read bytes.now) }
 {
     let (priority, rest) = u8_at(bytes)?;
     if 1 <= priority && priority <= 4 {
@@ -117,7 +117,7 @@ fn priority_of(bytes: &[u8]) -> Result<(u8, &[u8]), Left>
 
 fn area_of(bytes: &[u8], areas: u8) -> Result<(u8, &[u8]), Left>
     ensures { Gives (λ x. (x.0, x.1.now)) result
-        ((tested byte (λ n. nat_lt n areas)).read bytes.now) }
+        ((tested_field byte (λ n. nat_lt n areas)).read bytes.now) }
 {
     let (area, rest) = u8_at(bytes)?;
     if area < areas {
@@ -128,7 +128,8 @@ fn area_of(bytes: &[u8], areas: u8) -> Result<(u8, &[u8]), Left>
 }
 
 fn deadband_of(bytes: &[u8], kind: Kind) -> Result<(u64, &[u8]), Left>
-    ensures { Gives (λ x. (x.0, x.1.now)) result ((tested u64 (is_deadband kind)).read bytes.now) }
+    ensures { Gives (λ x. (x.0, x.1.now)) result
+        ((tested_field u64 (is_deadband kind)).read bytes.now) }
 {
     let (deadband, rest) = u64_at(bytes)?;
     if deadband <= kind.deadband_limit() {
@@ -140,7 +141,7 @@ fn deadband_of(bytes: &[u8], kind: Kind) -> Result<(u64, &[u8]), Left>
 
 fn max_shelve_of(bytes: &[u8]) -> Result<(u32, &[u8]), Left>
     ensures { Gives (λ x. (x.0, x.1.now)) result
-        ((tested u32 (λ n. nat_le n 604800)).read bytes.now) }
+        ((tested_field u32 (λ n. nat_le n 604800)).read bytes.now) }
 {
     let (seconds, rest) = u32_at(bytes)?;
     if seconds <= 604_800 {
@@ -152,7 +153,7 @@ fn max_shelve_of(bytes: &[u8]) -> Result<(u32, &[u8]), Left>
 
 /// What is fixed of an alarm in a plant of so many areas.
 pub fn fixed_of(bytes: &[u8], areas: u8) -> Result<(Fixed, &[u8]), Left>
-    ensures { Gives (λ x. (x.0, x.1.now)) result ((fixed areas).read bytes.now) }
+    ensures { Gives (λ x. (x.0, x.1.now)) result ((fixed_fields areas).read bytes.now) }
 {
     let (kind, rest) = kind_of(bytes)?;
     let (priority, rest) = priority_of(rest)?;

@@ -4,9 +4,9 @@ ghost use Rattle.std.specs.Prelude.{◌≡◌, ◌≤◌, ◌*◌, ◌+◌, ◌&
 ghost use Rattle.alm_model.specs.Plant.{Condensed};
 ghost use Rattle.alm_model.specs.Parts.{plant_of};
 ghost use Rattle.alm_codec.specs.Reading.{Gives, GivesOr};
-ghost use Rattle.alm_codec.specs.Format.{tested};
-ghost use Rattle.alm_codec.specs.Image.{IsImage, IsOf};
-ghost use Rattle.alm_codec.specs.ImageFields.{u64, moment, next_stamp, image, image_in, damage_in};
+ghost use Rattle.alm_codec.specs.Format.{tested_field};
+ghost use Rattle.alm_codec.specs.Image.{IsImageText, IsOf};
+ghost use Rattle.alm_codec.specs.ImageFields.{u64, moment_field, next_stamp, image, image_in, damage_in};
 ghost use Rattle.alm_codec.specs.Faults.{IsDamagedAt, IsReadAs};
 
 use crate::alarm_lists::alarms_of;
@@ -20,7 +20,7 @@ use alm_types::Moment;
 use std::alloc::Global;
 
 fn clock_of(bytes: &[u8]) -> Result<(Moment, &[u8]), Left>
-    ensures { Gives (λ x. (x.0, x.1.now)) result (moment.read bytes.now) }
+    ensures { Gives (λ x. (x.0, x.1.now)) result (moment_field.read bytes.now) }
 {
     let (seconds, rest) = u64_at(bytes)?;
     match Moment::new(seconds) {
@@ -97,10 +97,10 @@ pub fn read_image(
     requires rows { (1 ≤ rows) × (rows ≤ 16384) }
     requires areas { (1 ≤ areas) × (areas ≤ 64) }
     // What is read is the plant of that image; it can be built.
-    ensures found { IfOk result (λ p. IsImage (plant_of p) bytes.now) }
+    ensures found { IfOk result (λ p. IsImageText (plant_of p) bytes.now) }
     ensures sizes { IfOk result (λ p. IsOf rows areas count (plant_of p)) }
     // The image of a plant is read as that plant, unless memory runs out.
-    ensures only { (q : Condensed) → IsOf rows areas count q → IsImage q bytes.now →
+    ensures only { (q : Condensed) → IsOf rows areas count q → IsImageText q bytes.now →
         IsReadAs result q }
     // Damage is told at the first field that breaks a rule, and only there.
     ensures damage { IsDamagedAt result (damage_in rows areas count bytes.now) }

@@ -3,7 +3,7 @@
 ghost use Rattle.std.specs.Prelude.{◌≡◌, ◌+◌, ◌*◌, ◌≤◌, ◌<◌, ◌++◌, length, drop, slice_get};
 ghost use Rattle.alm_model.specs.Rules.{KeepsRules};
 ghost use Rattle.alm_codec.specs.Writing.{Wrote};
-ghost use Rattle.alm_codec.specs.Image.{alarm_text_of, alarm_texts, image_text, image_len, IsImage};
+ghost use Rattle.alm_codec.specs.Image.{alarm_text_of, alarm_texts, image_text, image_len, IsImageText};
 
 use crate::alarm_writer::put_alarm;
 use crate::area_writer::put_areas;
@@ -58,7 +58,7 @@ pub fn write_image<P: Alarms>(plant: &P, out: &mut [u8])
         drop (image_len (length (P.plant plant.now).panel.rows) (length (P.plant plant.now).floods))
         out.old }
     // It can be read back.
-    ensures image { IsImage (P.plant plant.now) (image_text (P.plant plant.now)) }
+    ensures image { IsImageText (P.plant plant.now) (image_text (P.plant plant.now)) }
 {
     let alarms = plant.alarms() as u32;
     let areas = plant.areas() as u8;

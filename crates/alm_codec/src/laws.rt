@@ -11,15 +11,15 @@ ghost use Rattle.alm_codec.specs.Reading.{IsBytes};
 ghost use Rattle.alm_codec.specs.declared.version.Version.{Version};
 ghost use Rattle.alm_codec.specs.Versions.{AreBorne};
 ghost use Rattle.alm_codec.specs.ImageFields.{damage_in};
-ghost use Rattle.alm_codec.specs.Image.{IsImage, IsOf, image_text, image_len};
+ghost use Rattle.alm_codec.specs.Image.{IsImageText, IsOf, image_text, image_len};
 
 /// Bytes are undamaged exactly where they are the image of a plant of so many rows, areas and actions.
 pub fn undamaged_is_an_image()
     ensures some { (rows areas count : ℕ) (bytes : List ℕ) → (1 ≤ rows) × (rows ≤ 16384) →
         (1 ≤ areas) × (areas ≤ 64) → IsBytes bytes → damage_in rows areas count bytes ≡ None →
-        (q : Condensed) × IsOf rows areas count q × IsImage q bytes }
+        (q : Condensed) × IsOf rows areas count q × IsImageText q bytes }
     ensures none { (rows areas count : ℕ) (bytes : List ℕ) (q : Condensed) →
-        IsOf rows areas count q → IsImage q bytes → damage_in rows areas count bytes ≡ None }
+        IsOf rows areas count q → IsImageText q bytes → damage_in rows areas count bytes ≡ None }
 {}
 
 /// Bytes are undamaged exactly where they begin with a frame of the version and its next gate.
@@ -60,6 +60,6 @@ pub fn image_has_its_length()
 
 /// No image of a plant begins another's of as many rows, areas and actions.
 pub fn no_image_begins_another()
-    ensures { (q r : Condensed) (a b x y : List ℕ) → IsImage q a → IsImage r b →
+    ensures { (q r : Condensed) (a b x y : List ℕ) → IsImageText q a → IsImageText r b →
         IsOf (length r.panel.rows) (length r.floods) r.panel.count q → a ++ x ≡ b ++ y → q ≡ r }
 {}

@@ -3,8 +3,8 @@
 ghost use Rattle.std.specs.Prelude.{◌≡◌, ◌&&◌, ◌||◌, ◌≤◌, ◌<◌, ◌+◌, ◌^◌, nat_le, nat_lt, true, not, length, IfOk};
 ghost use Rattle.alm_state.specs.Rows.{is_annunciated};
 ghost use Rattle.alm_codec.specs.Reading.{Gives};
-ghost use Rattle.alm_codec.specs.Format.{byte, tested};
-ghost use Rattle.alm_codec.specs.ImageFields.{u64, core, deadline, is_stamp, is_moment, moment_fields};
+ghost use Rattle.alm_codec.specs.Format.{byte, tested_field};
+ghost use Rattle.alm_codec.specs.ImageFields.{u64, core, deadline_field, is_stamp, is_moment, moment_fields};
 
 use crate::fields::{u8_at, u64_at};
 use crate::left::Left;
@@ -31,7 +31,7 @@ pub fn core_of(bytes: &[u8], latching: bool) -> Result<(Core, &[u8]), Left>
 /// How many moments are kept of an alarm in a core state.
 pub fn kept_of(bytes: &[u8], core: Core) -> Result<(u8, &[u8]), Left>
     ensures kept { Gives (λ x. (x.0, x.1.now)) result
-        ((tested byte (λ n. nat_le n 3 && (not (is_annunciated core) || nat_lt 0 n))).read
+        ((tested_field byte (λ n. nat_le n 3 && (not (is_annunciated core) || nat_lt 0 n))).read
         bytes.now) }
     ensures few { IfOk result (λ x. x.0 ≤ 3) }
 {
@@ -50,7 +50,7 @@ pub fn deadline_of(
     shelved: bool,
 ) -> Result<(Option<u64>, &[u8]), Left>
     ensures { Gives (λ x. (x.0, x.1.now)) result
-        ((deadline clock max_shelve shelved).read bytes.now) }
+        ((deadline_field clock max_shelve shelved).read bytes.now) }
 {
     let (moment, rest) = u64_at(bytes)?;
     if shelved {
@@ -72,7 +72,7 @@ pub fn stamp_of<'a>(
     seen: &BTreeSet<u64>,
 ) -> Result<(u64, &'a [u8]), Left>
     ensures { Gives (λ x. (x.0, x.1.now)) result
-        ((tested u64 (is_stamp next_stamp seen.now.keys stamped)).read bytes.now) }
+        ((tested_field u64 (is_stamp next_stamp seen.now.keys stamped)).read bytes.now) }
 {
     let (stamp, rest) = u64_at(bytes)?;
     let right = if stamped {
@@ -90,7 +90,7 @@ pub fn stamp_of<'a>(
 /// A moment at most a bound where one is left, else zero.
 fn moment_of(bytes: &[u8], left: u8, bound: Moment) -> Result<(Moment, &[u8]), Left>
     ensures { Gives (λ x. (x.0, x.1.now)) result
-        ((tested u64 (is_moment (left, bound))).read bytes.now) }
+        ((tested_field u64 (is_moment (left, bound))).read bytes.now) }
 {
     let (seconds, rest) = u64_at(bytes)?;
     let bound = if left == 0 { 0 } else { bound.seconds() };

@@ -11,21 +11,21 @@ use Rattle.std.specs.Io.KnownBytes.{Appends}
 use Rattle.alm_model.specs.Plant.{Condensed}
 use Rattle.alm_lines.specs.declared.line.Line.{Line}
 use Rattle.alm_lines.specs.Line.{line_of}
-use Rattle.alm_lines.specs.Stream.{is_end, held_after, fed, used, found}
-use Rattle.alm_desk.specs.Answers.{Standing, SlotLine, AnsweredLine, replies, after_all, after, reply, reply_on, plant_after, kept_after, failures_after, refused_after, standing_of}
+use Rattle.alm_lines.specs.Stream.{is_end, held_after, held_behind, bytes_used, line_ended}
+use Rattle.alm_desk.specs.Answers.{DeskState, SlotLine, AnsweredLine, replies, after_lines, after_line, reply, reply_on, plant_after, kept_after, failures_after, refused_after, standing_of}
 use Rattle.alm_lines.specs.Written.{IsCutShort}
 use Rattle.alm_desk.specs.Failing.{answered_line, IsCutLine, BreaksOff}
-use Rattle.alm_desk.specs.Feeding.{lines_at, asked, Progress, IsFedAt}
+use Rattle.alm_desk.specs.Feeding.{lines_at, line_asked, Progress, IsFedAt}
 use Rattle.alm_desk.specs.declared.hindrance.Hindrance.{Hindrance}
 
 -- what is answered to lines is answered to the first ones and then to the others
-pub replies-append : (s : Standing) (xs ys : List AnsweredLine) → replies s (xs ++ ys) ≡ replies s xs ++ replies (after_all s xs) ys
+pub replies-append : (s : DeskState) (xs ys : List AnsweredLine) → replies s (xs ++ ys) ≡ replies s xs ++ replies (after_lines s xs) ys
 replies-append s [] ys = refl
-replies-append s (x ∷ xs) ys = ap (λ t. reply s x ++ t) (replies-append (after s x) xs ys) ∙ sym (append_assoc (reply s x) (replies (after s x) xs) (replies (after_all (after s x) xs) ys))
+replies-append s (x ∷ xs) ys = ap (λ t. reply s x ++ t) (replies-append (after_line s x) xs ys) ∙ sym (append_assoc (reply s x) (replies (after_line s x) xs) (replies (after_lines (after_line s x) xs) ys))
 
-pub after_all-append : (s : Standing) (xs ys : List AnsweredLine) → after_all s (xs ++ ys) ≡ after_all (after_all s xs) ys
+pub after_all-append : (s : DeskState) (xs ys : List AnsweredLine) → after_lines s (xs ++ ys) ≡ after_lines (after_lines s xs) ys
 after_all-append s [] ys = refl
-after_all-append s (x ∷ xs) ys = after_all-append (after s x) xs ys
+after_all-append s (x ∷ xs) ys = after_all-append (after_line s x) xs ys
 
 said_at : ℕ → List ℕ → SlotLine
 said_at slot line = record { slot = slot; line = line_of line }
@@ -34,32 +34,32 @@ one_then : (b : Bool) (n : ℕ) → b ≡ false → cond b 1 (1 + n) ≡ suc n
 one_then b n e = rw e (omega arith)
 
 -- the first line, where there is one, and then the lines of the rest
-split_end : (slot : ℕ) (held bytes : List ℕ) (b : ℕ) → is_end b ≡ true → lines_at slot held (b ∷ bytes) ≡ cons_option (option_map (said_at slot) (found held (b ∷ bytes))) (lines_at slot (fed held (take (used (b ∷ bytes)) (b ∷ bytes))) (drop (used (b ∷ bytes)) (b ∷ bytes)))
+split_end : (slot : ℕ) (held bytes : List ℕ) (b : ℕ) → is_end b ≡ true → lines_at slot held (b ∷ bytes) ≡ cons_option (option_map (said_at slot) (line_ended held (b ∷ bytes))) (lines_at slot (held_behind held (take (bytes_used (b ∷ bytes)) (b ∷ bytes))) (drop (bytes_used (b ∷ bytes)) (b ∷ bytes)))
 unfolding said_at
 split_end slot held bytes b e = rw e (rw e refl)
 
 split_on : (slot : ℕ) (held bytes : List ℕ) (b : ℕ) → is_end b ≡ false
-    → lines_at slot (held_after held b) bytes ≡ cons_option (option_map (said_at slot) (found (held_after held b) bytes)) (lines_at slot (fed (held_after held b) (take (used bytes) bytes)) (drop (used bytes) bytes))
-    → lines_at slot held (b ∷ bytes) ≡ cons_option (option_map (said_at slot) (found held (b ∷ bytes))) (lines_at slot (fed held (take (used (b ∷ bytes)) (b ∷ bytes))) (drop (used (b ∷ bytes)) (b ∷ bytes)))
+    → lines_at slot (held_after held b) bytes ≡ cons_option (option_map (said_at slot) (line_ended (held_after held b) bytes)) (lines_at slot (held_behind (held_after held b) (take (bytes_used bytes) bytes)) (drop (bytes_used bytes) bytes))
+    → lines_at slot held (b ∷ bytes) ≡ cons_option (option_map (said_at slot) (line_ended held (b ∷ bytes))) (lines_at slot (held_behind held (take (bytes_used (b ∷ bytes)) (b ∷ bytes))) (drop (bytes_used (b ∷ bytes)) (b ∷ bytes)))
 split_on slot held bytes b e h =
     let rest : lines_at slot held (b ∷ bytes) ≡ lines_at slot (held_after held b) bytes =
     ap (λ (x : Bool). if x then record { slot = slot; line = line_of held } ∷ lines_at slot [] bytes else lines_at slot (held_after held b) bytes) e in
-    let line : found held (b ∷ bytes) ≡ found (held_after held b) bytes = ap (λ (x : Bool). if x then Some held else found (held_after held b) bytes) e in
-    let taken = λ (u : ℕ). lines_at slot (fed held (take u (b ∷ bytes))) (drop u (b ∷ bytes)) in
+    let line : line_ended held (b ∷ bytes) ≡ line_ended (held_after held b) bytes = ap (λ (x : Bool). if x then Some held else line_ended (held_after held b) bytes) e in
+    let taken = λ (u : ℕ). lines_at slot (held_behind held (take u (b ∷ bytes))) (drop u (b ∷ bytes)) in
     rest ∙ h
-    ∙ sym (ap (λ (f : Option (List ℕ)). cons_option (option_map (said_at slot) f) (taken (suc (used bytes)))) line)
-    ∙ sym (ap (λ (u : ℕ). cons_option (option_map (said_at slot) (found held (b ∷ bytes))) (taken u)) (one_then (is_end b) (used bytes) e))
+    ∙ sym (ap (λ (f : Option (List ℕ)). cons_option (option_map (said_at slot) f) (taken (suc (bytes_used bytes)))) line)
+    ∙ sym (ap (λ (u : ℕ). cons_option (option_map (said_at slot) (line_ended held (b ∷ bytes))) (taken u)) (one_then (is_end b) (bytes_used bytes) e))
 
-lines_split : (slot : ℕ) (held bytes : List ℕ) → lines_at slot held bytes ≡ cons_option (option_map (said_at slot) (found held bytes)) (lines_at slot (fed held (take (used bytes) bytes)) (drop (used bytes) bytes))
+lines_split : (slot : ℕ) (held bytes : List ℕ) → lines_at slot held bytes ≡ cons_option (option_map (said_at slot) (line_ended held bytes)) (lines_at slot (held_behind held (take (bytes_used bytes) bytes)) (drop (bytes_used bytes) bytes))
 lines_split slot held [] = refl
 lines_split slot held (b ∷ bytes) = elim (cases_Bool (is_end b)) [ inl e ↦ split_end slot held bytes b e | inr e ↦ split_on slot held bytes b e (lines_split slot (held_after held b) bytes) ]
 
-fed-append : (held xs ys : List ℕ) → fed held (xs ++ ys) ≡ fed (fed held xs) ys
+fed-append : (held xs ys : List ℕ) → held_behind held (xs ++ ys) ≡ held_behind (held_behind held xs) ys
 fed-append held [] ys = refl
 fed-append held (x ∷ xs) ys = fed-append (held_after held x) xs ys
 
-fed_split : (held bytes : List ℕ) (n : ℕ) → fed (fed held (take n bytes)) (drop n bytes) ≡ fed held bytes
-fed_split held bytes n = sym (fed-append held (take n bytes) (drop n bytes)) ∙ ap (fed held) (take-append-drop n bytes)
+fed_split : (held bytes : List ℕ) (n : ℕ) → held_behind (held_behind held (take n bytes)) (drop n bytes) ≡ held_behind held bytes
+fed_split held bytes n = sym (fed-append held (take n bytes) (drop n bytes)) ∙ ap (held_behind held) (take-append-drop n bytes)
 
 -- a line that was found is the one that is read
 found_line : (slot : ℕ) (line : Line) (f : Option (List ℕ)) → Some line ≡ option_map line_of f → option_map (said_at slot) f ≡ Some (record { slot = slot; line = line })
@@ -82,7 +82,7 @@ pub cut_line : (plant plant' : Option Condensed) (kept kept' : List Condensed) (
 cut_line plant plant' kept kept' failures failures' refused refused' s hindrance o n pi ei ci fi wi = record { hindrance = hindrance; written = wi; standing = standing_is pi ei ci fi }
 
 -- nothing was answered yet
-pub progress_none : (slot : ℕ) (before : Standing) (held bytes : List ℕ) (old : Option (List ℕ)) → Progress slot before held bytes old before held bytes old
+pub progress_none : (slot : ℕ) (before : DeskState) (held bytes : List ℕ) (old : Option (List ℕ)) → Progress slot before held bytes old before held bytes old
 progress_none slot before held bytes old = record {
   answered = [];
   lines = refl;
@@ -93,16 +93,16 @@ progress_none slot before held bytes old = record {
 
 -- a line is found, and then come the lines of the rest
 next_line : (slot : ℕ) (line : Line) (holds rest : List ℕ) (n : ℕ) (holds' rest' : List ℕ)
-    → n ≡ used rest → Some line ≡ option_map line_of (found holds rest) → holds' ≡ fed holds (take n rest) → rest' ≡ drop n rest
+    → n ≡ bytes_used rest → Some line ≡ option_map line_of (line_ended holds rest) → holds' ≡ held_behind holds (take n rest) → rest' ≡ drop n rest
     → lines_at slot holds rest ≡ record { slot = slot; line = line } ∷ lines_at slot holds' rest'
 next_line slot line holds rest n holds' rest' ni li hi ri =
-    rw (hi, ri, ni) (lines_split slot holds rest ∙ ap (λ (f : Option SlotLine). cons_option f (lines_at slot (fed holds (take (used rest) rest)) (drop (used rest) rest))) (found_line slot line (found holds rest) li))
+    rw (hi, ri, ni) (lines_split slot holds rest ∙ ap (λ (f : Option SlotLine). cons_option f (lines_at slot (held_behind holds (take (bytes_used rest) rest)) (drop (bytes_used rest) rest))) (found_line slot line (line_ended holds rest) li))
 
 -- one line more
-pub progress_line : {slot : ℕ} {before : Standing} {held bytes : List ℕ} {old : Option (List ℕ)} {later : Standing} {holds rest : List ℕ} {new : Option (List ℕ)}
+pub progress_line : {slot : ℕ} {before : DeskState} {held bytes : List ℕ} {old : Option (List ℕ)} {later : DeskState} {holds rest : List ℕ} {new : Option (List ℕ)}
     → Progress slot before held bytes old later holds rest new
     → (n : ℕ) (line : Line) (hindrance : Hindrance) (plant' : Option Condensed) (kept' : List Condensed) (failures' refused' : ℕ) (holds' rest' : List ℕ) (new' : Option (List ℕ))
-    → n ≡ used rest → Some line ≡ option_map line_of (found holds rest) → holds' ≡ fed holds (take n rest) → rest' ≡ drop n rest
+    → n ≡ bytes_used rest → Some line ≡ option_map line_of (line_ended holds rest) → holds' ≡ held_behind holds (take n rest) → rest' ≡ drop n rest
     → plant' ≡ plant_after later.plant (record { slot = slot; line = line }) hindrance → kept' ≡ kept_after later.plant later.kept (record { slot = slot; line = line }) hindrance → failures' ≡ failures_after later.plant later.failures (record { slot = slot; line = line }) hindrance
     → refused' ≡ refused_after later.plant later.refused (record { slot = slot; line = line }) hindrance
     → Appends new new' (reply later (answered_line (record { slot = slot; line = line }) hindrance))
@@ -113,17 +113,17 @@ progress_line {slot} {before} {held} {bytes} {old} {later} {holds} {rest} {new} 
     let lines = next_line slot line holds rest n holds' rest' ni li hi ri in
     record {
       answered = p.answered ++ m ∷ [];
-      lines = rw (map-append asked p.answered (m ∷ []), append_assoc (map asked p.answered) (s ∷ []) (lines_at slot holds' rest'), ← lines) p.lines;
+      lines = rw (map-append line_asked p.answered (m ∷ []), append_assoc (map line_asked p.answered) (s ∷ []) (lines_at slot holds' rest'), ← lines) p.lines;
       written = rw (replies-append before p.answered (m ∷ []), append-nil, ← p.standing) (Appends-trans old new new' (replies before p.answered) (reply later m) p.written wi);
       standing = rw (after_all-append before p.answered (m ∷ []), ← p.standing) (standing_is pi ei ci fi);
       left = rw (hi, ri) (fed_split holds rest n) ∙ p.left;
     }
 
 -- the reply to the next line is cut short
-pub progress_broken : {slot : ℕ} {before : Standing} {held bytes : List ℕ} {old : Option (List ℕ)} {later : Standing} {holds rest : List ℕ} {new : Option (List ℕ)}
+pub progress_broken : {slot : ℕ} {before : DeskState} {held bytes : List ℕ} {old : Option (List ℕ)} {later : DeskState} {holds rest : List ℕ} {new : Option (List ℕ)}
     → Progress slot before held bytes old later holds rest new
     → (n : ℕ) (line : Line) (hindrance : Hindrance) (plant' : Option Condensed) (kept' : List Condensed) (failures' refused' : ℕ) (holds' rest' : List ℕ) (new' : Option (List ℕ))
-    → n ≡ used rest → Some line ≡ option_map line_of (found holds rest) → holds' ≡ fed holds (take n rest) → rest' ≡ drop n rest
+    → n ≡ bytes_used rest → Some line ≡ option_map line_of (line_ended holds rest) → holds' ≡ held_behind holds (take n rest) → rest' ≡ drop n rest
     → plant' ≡ plant_after later.plant (record { slot = slot; line = line }) hindrance → kept' ≡ kept_after later.plant later.kept (record { slot = slot; line = line }) hindrance → failures' ≡ failures_after later.plant later.failures (record { slot = slot; line = line }) hindrance
     → refused' ≡ refused_after later.plant later.refused (record { slot = slot; line = line }) hindrance
     → IsCutShort new new' (reply later (answered_line (record { slot = slot; line = line }) hindrance))
@@ -141,13 +141,13 @@ progress_broken {slot} {before} {held} {bytes} {old} {later} {holds} {rest} {new
     }
 
 -- bytes that end no line
-pub progress_bytes : {slot : ℕ} {before : Standing} {held bytes : List ℕ} {old : Option (List ℕ)} {later : Standing} {holds rest : List ℕ} {new : Option (List ℕ)}
+pub progress_bytes : {slot : ℕ} {before : DeskState} {held bytes : List ℕ} {old : Option (List ℕ)} {later : DeskState} {holds rest : List ℕ} {new : Option (List ℕ)}
     → Progress slot before held bytes old later holds rest new
     → (n : ℕ) (holds' rest' : List ℕ)
-    → n ≡ used rest → option_map line_of (found holds rest) ≡ None → holds' ≡ fed holds (take n rest) → rest' ≡ drop n rest
+    → n ≡ bytes_used rest → option_map line_of (line_ended holds rest) ≡ None → holds' ≡ held_behind holds (take n rest) → rest' ≡ drop n rest
     → Progress slot before held bytes old later holds' rest' new
 progress_bytes {slot} {before} {held} {bytes} {old} {later} {holds} {rest} {new} p n holds' rest' ni li hi ri =
-    let lines : lines_at slot holds rest ≡ lines_at slot holds' rest' = rw (hi, ri, ni) (lines_split slot holds rest ∙ ap (λ (f : Option SlotLine). cons_option f (lines_at slot (fed holds (take (used rest) rest)) (drop (used rest) rest))) (found_none slot (found holds rest) li)) in
+    let lines : lines_at slot holds rest ≡ lines_at slot holds' rest' = rw (hi, ri, ni) (lines_split slot holds rest ∙ ap (λ (f : Option SlotLine). cons_option f (lines_at slot (held_behind holds (take (bytes_used rest) rest)) (drop (bytes_used rest) rest))) (found_none slot (line_ended holds rest) li)) in
     record {
       answered = p.answered;
       lines = rw (← lines) p.lines;
@@ -157,11 +157,11 @@ progress_bytes {slot} {before} {held} {bytes} {old} {later} {holds} {rest} {new}
     }
 
 -- no bytes are left
-pub progress_all : {slot : ℕ} {before : Standing} {held bytes : List ℕ} {old : Option (List ℕ)} {later : Standing} {holds rest : List ℕ} {new : Option (List ℕ)}
+pub progress_all : {slot : ℕ} {before : DeskState} {held bytes : List ℕ} {old : Option (List ℕ)} {later : DeskState} {holds rest : List ℕ} {new : Option (List ℕ)}
     → Progress slot before held bytes old later holds rest new → rest ≡ [] → IsFedAt slot before held bytes old later holds new
 progress_all {slot} {before} {held} {bytes} {old} {later} {holds} {rest} {new} p e = record {
   answered = p.answered;
-  lines = sym (append-nil (map asked p.answered)) ∙ (rw e at p.lines);
+  lines = sym (append-nil (map line_asked p.answered)) ∙ (rw e at p.lines);
   written = p.written;
   standing = p.standing;
   left = rw e at p.left;

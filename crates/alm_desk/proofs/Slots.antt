@@ -5,53 +5,53 @@ use Rattle.std.proofs.KnownBytes.{Appends-trans, Appends-nil}
 use Rattle.std.proofs.lemmas.List.{map-append, length-set, get_or-set_same, set-get_or, set-set}
 use Rattle.std.proofs.lemmas.Bool.{cases_Bool}
 use Rattle.alm_lines.specs.Line.{line_of}
-use Rattle.alm_lines.specs.Stream.{is_end, held_after, fed}
-use Rattle.alm_desk.specs.Answers.{Standing, SlotLine, replies}
+use Rattle.alm_lines.specs.Stream.{is_end, held_after, held_behind}
+use Rattle.alm_desk.specs.Answers.{DeskState, SlotLine, replies}
 use Rattle.alm_desk.specs.Failing.{BreaksOff}
-use Rattle.alm_desk.specs.Feeding.{lines_at, asked, IsFedAt}
-use Rattle.alm_desk.specs.Desks.{Desk, Tagged, tagged, tag, held_at, after_byte, held_by, lines_in, IsFed, HasFailed}
+use Rattle.alm_desk.specs.Feeding.{lines_at, line_asked, IsFedAt}
+use Rattle.alm_desk.specs.Desks.{Desk, Tagged, byte_of_slot, bytes_of_slot, line_held_at, after_byte, held_by, lines_among, IsFed, ClosesAfter}
 use Rattle.alm_desk.specs.declared.desk_fault.DeskFault.{DeskFault}
 use Rattle.alm_desk.specs.declared.desk_fault.DeskFault.TheVariants.{Write, Closed}
 use Rattle.alm_desk.proofs.Pieces.{replies-append, after_all-append}
 
 -- what comes at one slot ends the lines of that slot
-same_at : (helds : List (List ℕ)) (slot : ℕ) (x : List ℕ) → slot < length helds → held_at (slice_set helds slot x) slot ≡ x
+same_at : (helds : List (List ℕ)) (slot : ℕ) (x : List ℕ) → slot < length helds → line_held_at (slice_set helds slot x) slot ≡ x
 same_at helds slot x h = get_or-set_same helds slot x [] h
 
 -- the bytes of a slot after the first one
 moved : (slot : ℕ) (helds : List (List ℕ)) (bytes : List ℕ) (x : List ℕ) → slot < length helds
-    → slice_set (slice_set helds slot x) slot (fed (held_at (slice_set helds slot x) slot) bytes) ≡ slice_set helds slot (fed x bytes)
-moved slot helds bytes x h = set-set helds slot x (fed (held_at (slice_set helds slot x) slot) bytes) ∙ ap (λ (y : List ℕ). slice_set helds slot (fed y bytes)) (same_at helds slot x h)
+    → slice_set (slice_set helds slot x) slot (held_behind (line_held_at (slice_set helds slot x) slot) bytes) ≡ slice_set helds slot (held_behind x bytes)
+moved slot helds bytes x h = set-set helds slot x (held_behind (line_held_at (slice_set helds slot x) slot) bytes) ∙ ap (λ (y : List ℕ). slice_set helds slot (held_behind y bytes)) (same_at helds slot x h)
 
 kept_in : (slot : ℕ) (helds : List (List ℕ)) (x : List ℕ) → slot < length helds → slot < length (slice_set helds slot x)
 kept_in slot helds x h = omega (arith, length-set helds slot x)
 
-pub one_held : (slot : ℕ) (helds : List (List ℕ)) (bytes : List ℕ) → slot < length helds → held_by helds (tag slot bytes) ≡ slice_set helds slot (fed (held_at helds slot) bytes)
+pub one_held : (slot : ℕ) (helds : List (List ℕ)) (bytes : List ℕ) → slot < length helds → held_by helds (bytes_of_slot slot bytes) ≡ slice_set helds slot (held_behind (line_held_at helds slot) bytes)
 one_held slot helds [] h = sym (set-get_or helds slot [])
 one_held slot helds (b ∷ bytes) h =
-    let x = held_after (held_at helds slot) b in
+    let x = held_after (line_held_at helds slot) b in
     one_held slot (slice_set helds slot x) bytes (kept_in slot helds x h) ∙ moved slot helds bytes x h
 
 -- what one byte adds to the lines
 more_in : Bool → List (List ℕ) → Tagged → List SlotLine → List SlotLine
-more_in ends helds t rest = if ends then record { slot = t.slot; line = line_of (held_at helds t.slot) } ∷ rest else rest
+more_in ends helds t rest = if ends then record { slot = t.slot; line = line_of (line_held_at helds t.slot) } ∷ rest else rest
 
-lines_in-step : (helds : List (List ℕ)) (t : Tagged) (ts : List Tagged) → lines_in helds (t ∷ ts) ≡ more_in (is_end t.byte) helds t (lines_in (after_byte helds t) ts)
+lines_in-step : (helds : List (List ℕ)) (t : Tagged) (ts : List Tagged) → lines_among helds (t ∷ ts) ≡ more_in (is_end t.byte) helds t (lines_among (after_byte helds t) ts)
 unfolding more_in
 lines_in-step helds t ts = refl
 
-lines_at-step : (slot : ℕ) (helds : List (List ℕ)) (b : ℕ) (bytes : List ℕ) → lines_at slot (held_at helds slot) (b ∷ bytes) ≡ more_in (is_end b) helds (tagged slot b) (lines_at slot (held_after (held_at helds slot) b) bytes)
+lines_at-step : (slot : ℕ) (helds : List (List ℕ)) (b : ℕ) (bytes : List ℕ) → lines_at slot (line_held_at helds slot) (b ∷ bytes) ≡ more_in (is_end b) helds (byte_of_slot slot b) (lines_at slot (held_after (line_held_at helds slot) b) bytes)
 unfolding more_in
 lines_at-step slot helds b bytes =
     elim (cases_Bool (is_end b)) [ inl e ↦ rw e refl | inr e ↦ rw e refl ]
 
-pub one_slot : (slot : ℕ) (helds : List (List ℕ)) (bytes : List ℕ) → slot < length helds → lines_in helds (tag slot bytes) ≡ lines_at slot (held_at helds slot) bytes
+pub one_slot : (slot : ℕ) (helds : List (List ℕ)) (bytes : List ℕ) → slot < length helds → lines_among helds (bytes_of_slot slot bytes) ≡ lines_at slot (line_held_at helds slot) bytes
 one_slot slot helds [] h = refl
 one_slot slot helds (b ∷ bytes) h =
-    let x = held_after (held_at helds slot) b in
-    let rest : lines_in (slice_set helds slot x) (tag slot bytes) ≡ lines_at slot x bytes =
+    let x = held_after (line_held_at helds slot) b in
+    let rest : lines_among (slice_set helds slot x) (bytes_of_slot slot bytes) ≡ lines_at slot x bytes =
     one_slot slot (slice_set helds slot x) bytes (kept_in slot helds x h) ∙ ap (λ (y : List ℕ). lines_at slot y bytes) (same_at helds slot x h) in
-    lines_in-step helds (tagged slot b) (tag slot bytes) ∙ ap (more_in (is_end b) helds (tagged slot b)) rest ∙ sym (lines_at-step slot helds b bytes)
+    lines_in-step helds (byte_of_slot slot b) (bytes_of_slot slot bytes) ∙ ap (more_in (is_end b) helds (byte_of_slot slot b)) rest ∙ sym (lines_at-step slot helds b bytes)
 
 -- bytes in two parts
 more_in-append : (ends : Bool) (helds : List (List ℕ)) (t : Tagged) (xs ys : List SlotLine) → more_in ends helds t (xs ++ ys) ≡ more_in ends helds t xs ++ ys
@@ -59,12 +59,12 @@ unfolding more_in
 more_in-append true helds t xs ys = refl
 more_in-append false helds t xs ys = refl
 
-lines_in-append : (helds : List (List ℕ)) (xs ys : List Tagged) → lines_in helds (xs ++ ys) ≡ lines_in helds xs ++ lines_in (held_by helds xs) ys
+lines_in-append : (helds : List (List ℕ)) (xs ys : List Tagged) → lines_among helds (xs ++ ys) ≡ lines_among helds xs ++ lines_among (held_by helds xs) ys
 lines_in-append helds [] ys = refl
 lines_in-append helds (t ∷ xs) ys =
     lines_in-step helds t (xs ++ ys) ∙ ap (more_in (is_end t.byte) helds t) (lines_in-append (after_byte helds t) xs ys)
-    ∙ more_in-append (is_end t.byte) helds t (lines_in (after_byte helds t) xs) (lines_in (held_by (after_byte helds t) xs) ys)
-    ∙ sym (ap (λ (l : List SlotLine). l ++ lines_in (held_by (after_byte helds t) xs) ys) (lines_in-step helds t xs))
+    ∙ more_in-append (is_end t.byte) helds t (lines_among (after_byte helds t) xs) (lines_among (held_by (after_byte helds t) xs) ys)
+    ∙ sym (ap (λ (l : List SlotLine). l ++ lines_among (held_by (after_byte helds t) xs) ys) (lines_in-step helds t xs))
 
 held_by-append : (helds : List (List ℕ)) (xs ys : List Tagged) → held_by helds (xs ++ ys) ≡ held_by (held_by helds xs) ys
 held_by-append helds [] ys = refl
@@ -78,7 +78,7 @@ fed_none d o h = record { answered = []; lines = refl; written = Appends-nil o; 
 pub joined : {a b c : Desk} {xs ys : List Tagged} {o m n : Option (List ℕ)} → IsFed a xs o b m → IsFed b ys m c n → IsFed a (xs ++ ys) o c n
 joined {a} {b} {c} {xs} {ys} {o} {m} {n} p q = record {
   answered = p.answered ++ q.answered;
-  lines = rw (map-append asked p.answered q.answered, p.lines, q.lines, p.held) (sym (lines_in-append a.helds xs ys));
+  lines = rw (map-append line_asked p.answered q.answered, p.lines, q.lines, p.held) (sym (lines_in-append a.helds xs ys));
   written = rw (replies-append a.standing p.answered q.answered, ← p.standing) (Appends-trans o m n (replies a.standing p.answered) (replies b.standing q.answered) p.written q.written);
   standing = rw (after_all-append a.standing p.answered q.answered, ← p.standing) q.standing;
   held = rw (held_by-append a.helds xs ys, ← p.held) q.held;
@@ -88,21 +88,21 @@ joined {a} {b} {c} {xs} {ys} {o} {m} {n} p q = record {
 
 -- bytes at one slot
 pub fed_at : (before later : Desk) (slot : ℕ) (bytes : List ℕ) (o n : Option (List ℕ)) (held holds : List ℕ) → slot < length before.helds
-    → before.closed ≡ false → later.closed ≡ false → held ≡ held_at before.helds slot → later.helds ≡ slice_set before.helds slot holds
-    → IsFedAt slot before.standing held bytes o later.standing holds n → IsFed before (tag slot bytes) o later n
+    → before.closed ≡ false → later.closed ≡ false → held ≡ line_held_at before.helds slot → later.helds ≡ slice_set before.helds slot holds
+    → IsFedAt slot before.standing held bytes o later.standing holds n → IsFed before (bytes_of_slot slot bytes) o later n
 fed_at before later slot bytes o n held holds h cb cl hb hl p = record {
   answered = p.answered;
   lines = p.lines ∙ ap (λ (x : List ℕ). lines_at slot x bytes) hb ∙ sym (one_slot slot before.helds bytes h);
   written = p.written;
   standing = p.standing;
-  held = hl ∙ ap (slice_set before.helds slot) (p.left ∙ ap (λ (x : List ℕ). fed x bytes) hb) ∙ sym (one_held slot before.helds bytes h);
+  held = hl ∙ ap (slice_set before.helds slot) (p.left ∙ ap (λ (x : List ℕ). held_behind x bytes) hb) ∙ sym (one_held slot before.helds bytes h);
   open_before = cb;
   open_later = cl;
 }
 
 -- a writer that fails on the way, at one slot
-pub broken_at : {before later : Standing} {o n : Option (List ℕ)} (helds : List (List ℕ)) (slot : ℕ) (bytes held : List ℕ) → slot < length helds → held ≡ held_at helds slot
-    → BreaksOff before (lines_at slot held bytes) o later n → BreaksOff before (lines_in helds (tag slot bytes)) o later n
+pub broken_at : {before later : DeskState} {o n : Option (List ℕ)} (helds : List (List ℕ)) (slot : ℕ) (bytes held : List ℕ) → slot < length helds → held ≡ line_held_at helds slot
+    → BreaksOff before (lines_at slot held bytes) o later n → BreaksOff before (lines_among helds (bytes_of_slot slot bytes)) o later n
 broken_at {before} {later} {o} {n} helds slot bytes held h e p = rw (one_slot slot helds bytes h, ← e) p
 
 -- the first, then what is broken off, and then the others
@@ -111,26 +111,26 @@ in_order xs ys last others zs =
     append_assoc xs (ys ++ last ∷ others) zs ∙ ap (λ (t : List SlotLine). xs ++ t) (append_assoc ys (last ∷ others) zs) ∙ sym (append_assoc xs ys (last ∷ (others ++ zs)))
 
 -- bytes are fed, and the writer fails in the next ones
-pub broken_later : {a b : Desk} {later : Standing} {xs : List Tagged} {o m n : Option (List ℕ)} (ys zs : List Tagged)
-    → IsFed a xs o b m → BreaksOff b.standing (lines_in b.helds ys) m later n → BreaksOff a.standing (lines_in a.helds ((xs ++ ys) ++ zs)) o later n
+pub broken_later : {a b : Desk} {later : DeskState} {xs : List Tagged} {o m n : Option (List ℕ)} (ys zs : List Tagged)
+    → IsFed a xs o b m → BreaksOff b.standing (lines_among b.helds ys) m later n → BreaksOff a.standing (lines_among a.helds ((xs ++ ys) ++ zs)) o later n
 broken_later {a} {b} {later} {xs} {o} {m} {n} ys zs p q =
-    let rest = lines_in (held_by a.helds (xs ++ ys)) zs in
+    let rest = lines_among (held_by a.helds (xs ++ ys)) zs in
     let all = lines_in-append a.helds (xs ++ ys) zs ∙ ap (λ (t : List SlotLine). t ++ rest) (lines_in-append a.helds xs ys) in
-    let heads : lines_in a.helds xs ++ lines_in (held_by a.helds xs) ys ≡ map asked p.answered ++ (map asked q.answered ++ q.last ∷ q.others) = rw (p.lines, ← q.all, p.held) refl in
+    let heads : lines_among a.helds xs ++ lines_among (held_by a.helds xs) ys ≡ map line_asked p.answered ++ (map line_asked q.answered ++ q.last ∷ q.others) = rw (p.lines, ← q.all, p.held) refl in
     record {
       answered = p.answered ++ q.answered;
       last = q.last;
       others = q.others ++ rest;
-      all = all ∙ ap (λ (t : List SlotLine). t ++ rest) heads ∙ in_order (map asked p.answered) (map asked q.answered) q.last q.others rest ∙ ap (λ (t : List SlotLine). t ++ q.last ∷ (q.others ++ rest)) (sym (map-append asked p.answered q.answered));
+      all = all ∙ ap (λ (t : List SlotLine). t ++ rest) heads ∙ in_order (map line_asked p.answered) (map line_asked q.answered) q.last q.others rest ∙ ap (λ (t : List SlotLine). t ++ q.last ∷ (q.others ++ rest)) (sym (map-append line_asked p.answered q.answered));
       between = q.between;
       written = rw (replies-append a.standing p.answered q.answered, ← p.standing) (Appends-trans o m q.between (replies a.standing p.answered) (replies b.standing q.answered) p.written q.written);
       cut = rw (after_all-append a.standing p.answered q.answered, ← p.standing) q.cut;
     }
 
 -- an open desk fails by its writer
-pub only_writer : (e : DeskFault) (was is : Bool) (old new : ℕ) → was ≡ false → HasFailed e was is old new → e ≡ Write
+pub only_writer : (e : DeskFault) (was is : Bool) (old new : ℕ) → was ≡ false → ClosesAfter e was is old new → e ≡ Write
 only_writer Write was is old new h p = refl
 only_writer Closed was is old new h p = cc
 
-pub never_closed : {P : Type 0} (r : Result ⊤ DeskFault) (was is : Bool) (old new : ℕ) → was ≡ false → IfErr r (λ e. HasFailed e was is old new) → r ≡ Err Closed → P
+pub never_closed : {P : Type 0} (r : Result ⊤ DeskFault) (was is : Bool) (old new : ℕ) → was ≡ false → IfErr r (λ e. ClosesAfter e was is old new) → r ≡ Err Closed → P
 never_closed {P} r was is old new h p e = let q = rw e at p in cc

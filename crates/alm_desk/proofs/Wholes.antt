@@ -5,7 +5,7 @@ use Rattle.std.proofs.lemmas.Bool.{cases_Bool}
 use Rattle.std.proofs.lemmas.List.{take_all, length-take-le, take-append-le, take-take}
 use Rattle.alm_lines.specs.Line.{line_of}
 use Rattle.alm_lines.specs.Stream.{is_end, held_after}
-use Rattle.alm_desk.specs.Desks.{Tagged, held_at, after_byte, lines_in}
+use Rattle.alm_desk.specs.Desks.{Tagged, line_held_at, after_byte, lines_among}
 use Rattle.alm_desk.specs.Whole.{whole_after, whole_lines}
 
 -- a line of which 128 bytes are held
@@ -47,7 +47,7 @@ short-after : (xs : List ℕ) (b : ℕ) → held_after (take 128 xs) b ≡ take 
 short-after xs b = elim (cases_Bool (is_end b)) [ inl hit ↦ rw hit refl | inr miss ↦ rw miss (short-more xs b) ]
 
 -- what is held at a slot
-held-map : (wholes : List (List ℕ)) (slot : ℕ) → held_at (map (take 128) wholes) slot ≡ take 128 (held_at wholes slot)
+held-map : (wholes : List (List ℕ)) (slot : ℕ) → line_held_at (map (take 128) wholes) slot ≡ take 128 (line_held_at wholes slot)
 held-map [] slot = refl
 held-map (w ∷ wholes) zero = refl
 held-map (w ∷ wholes) (suc slot) = held-map wholes slot
@@ -57,24 +57,24 @@ set-map [] slot x = refl
 set-map (w ∷ wholes) zero x = refl
 set-map (w ∷ wholes) (suc slot) x = ap (λ (rest : List (List ℕ)). take 128 w ∷ rest) (set-map wholes slot x)
 
-after-map : (wholes : List (List ℕ)) (t : Tagged) → after_byte (map (take 128) wholes) t ≡ map (take 128) (slice_set wholes t.slot (whole_after (held_at wholes t.slot) t.byte))
+after-map : (wholes : List (List ℕ)) (t : Tagged) → after_byte (map (take 128) wholes) t ≡ map (take 128) (slice_set wholes t.slot (whole_after (line_held_at wholes t.slot) t.byte))
 after-map wholes t =
     ap (λ (x : List ℕ). slice_set (map (take 128) wholes) t.slot (held_after x t.byte)) (held-map wholes t.slot)
-    ∙ ap (λ (x : List ℕ). slice_set (map (take 128) wholes) t.slot x) (short-after (held_at wholes t.slot) t.byte)
-    ∙ set-map wholes t.slot (whole_after (held_at wholes t.slot) t.byte)
+    ∙ ap (λ (x : List ℕ). slice_set (map (take 128) wholes) t.slot x) (short-after (line_held_at wholes t.slot) t.byte)
+    ∙ set-map wholes t.slot (whole_after (line_held_at wholes t.slot) t.byte)
 
-line-map : (wholes : List (List ℕ)) (slot : ℕ) → line_of (held_at (map (take 128) wholes) slot) ≡ line_of (held_at wholes slot)
-line-map wholes slot = ap line_of (held-map wholes slot) ∙ short-line (held_at wholes slot)
+line-map : (wholes : List (List ℕ)) (slot : ℕ) → line_of (line_held_at (map (take 128) wholes) slot) ≡ line_of (line_held_at wholes slot)
+line-map wholes slot = ap line_of (held-map wholes slot) ∙ short-line (line_held_at wholes slot)
 
-pub lines-whole : (wholes : List (List ℕ)) (bytes : List Tagged) → lines_in (map (take 128) wholes) bytes ≡ whole_lines wholes bytes
+pub lines-whole : (wholes : List (List ℕ)) (bytes : List Tagged) → lines_among (map (take 128) wholes) bytes ≡ whole_lines wholes bytes
 lines-whole wholes [] = refl
 lines-whole wholes (t ∷ ts) =
-    let next = slice_set wholes t.slot (whole_after (held_at wholes t.slot) t.byte) in
-    let rest : lines_in (after_byte (map (take 128) wholes) t) ts ≡ whole_lines next ts =
-    ap (λ (helds : List (List ℕ)). lines_in helds ts) (after-map wholes t) ∙ lines-whole next ts in
+    let next = slice_set wholes t.slot (whole_after (line_held_at wholes t.slot) t.byte) in
+    let rest : lines_among (after_byte (map (take 128) wholes) t) ts ≡ whole_lines next ts =
+    ap (λ (helds : List (List ℕ)). lines_among helds ts) (after-map wholes t) ∙ lines-whole next ts in
     let line = line-map wholes t.slot in
     elim (cases_Bool (is_end t.byte)) [
-      | inl hit ↦ (let first : lines_in (map (take 128) wholes) (t ∷ ts) ≡ (record { slot = t.slot; line = line_of (held_at (map (take 128) wholes) t.slot) } ∷ lines_in (after_byte (map (take 128) wholes) t) ts) = rw hit refl in
+      | inl hit ↦ (let first : lines_among (map (take 128) wholes) (t ∷ ts) ≡ (record { slot = t.slot; line = line_of (line_held_at (map (take 128) wholes) t.slot) } ∷ lines_among (after_byte (map (take 128) wholes) t) ts) = rw hit refl in
           first ∙ (λ i. record { slot = t.slot; line = line i } ∷ rest i) ∙ rw hit refl)
-      | inr miss ↦ (let first : lines_in (map (take 128) wholes) (t ∷ ts) ≡ lines_in (after_byte (map (take 128) wholes) t) ts = rw miss refl in first ∙ rest ∙ rw miss refl)
+      | inr miss ↦ (let first : lines_among (map (take 128) wholes) (t ∷ ts) ≡ lines_among (after_byte (map (take 128) wholes) t) ts = rw miss refl in first ∙ rest ∙ rw miss refl)
     ]

@@ -17,20 +17,20 @@ use Rattle.alm_lines.specs.declared.line.Line.{Line}
 use Rattle.alm_lines.specs.declared.ask.Ask.{Ask}
 use Rattle.alm_lines.specs.declared.ask.Ask.TheVariants.{Act, Look, Bad}
 use Rattle.alm_lines.specs.Reply.{ok_text, no_text, told_text}
-use Rattle.alm_desk.specs.Backends.{if_accepted, judged}
+use Rattle.alm_desk.specs.Backends.{if_accepted, judged_on}
 use Rattle.alm_desk.specs.declared.judged.Judged.{Judged}
 use Rattle.alm_desk.specs.declared.hindrance.Hindrance.{Hindrance}
 use Rattle.alm_desk.specs.declared.hindrance.Hindrance.TheVariants as hindrance
 
 -- the plant, none once its storage has stopped; how often the storage failed, and how many growths of a list were refused
-pub record Standing : Type 0 where
+pub record DeskState : Type 0 where
   pub plant : Option Condensed
   -- the plants for one of which the storage stands
   pub kept : List Condensed
   pub failures : ℕ
   pub refused : ℕ
 
-abbrev pub standing_of : Option Condensed → List Condensed → ℕ → ℕ → Standing
+abbrev pub standing_of : Option Condensed → List Condensed → ℕ → ℕ → DeskState
 standing_of plant kept failures refused = record { plant = plant; kept = kept; failures = failures; refused = refused }
 
 -- a line that came at a slot
@@ -59,7 +59,7 @@ judged_reply id j = verdict_reply id j.number j.verdict
 
 abbrev pub action_reply : Condensed → ℕ → ℕ → Action → Hindrance → List ℕ
 action_reply q slot id want hindrance.Stopped = no_text id Stopped
-action_reply q slot id want _ = judged_reply id (judged q (request slot want))
+action_reply q slot id want _ = judged_reply id (judged_on q (request slot want))
 
 -- the reply to a query
 abbrev pub report_reply : ℕ → ℕ → Query → Result Report Refusal → List ℕ
@@ -87,7 +87,7 @@ reply_on None s c = stopped_reply s.line.id s.line.ask
 reply_on (Some q) s c = ask_reply q s.slot s.line.id s.line.ask c
 
 -- the reply to a line
-abbrev pub reply : Standing → AnsweredLine → List ℕ
+abbrev pub reply : DeskState → AnsweredLine → List ℕ
 reply s m = reply_on s.plant m.asked m.hindrance
 
 -- the plant after an action
@@ -133,16 +133,16 @@ refused_after None n s c = n
 refused_after (Some q) n s c = refused_by q n s.line.ask c
 
 -- what stands after a line
-abbrev pub after : Standing → AnsweredLine → Standing
-after s m =
+abbrev pub after_line : DeskState → AnsweredLine → DeskState
+after_line s m =
     standing_of (plant_after s.plant m.asked m.hindrance) (kept_after s.plant s.kept m.asked m.hindrance) (failures_after s.plant s.failures m.asked m.hindrance) (refused_after s.plant
     s.refused m.asked m.hindrance)
 
 -- the replies to lines, and what stands after them
-abbrev pub replies : Standing → List AnsweredLine → List ℕ
+abbrev pub replies : DeskState → List AnsweredLine → List ℕ
 replies s [] = []
-replies s (m ∷ ms) = reply s m ++ replies (after s m) ms
+replies s (m ∷ ms) = reply s m ++ replies (after_line s m) ms
 
-abbrev pub after_all : Standing → List AnsweredLine → Standing
-after_all s [] = s
-after_all s (m ∷ ms) = after_all (after s m) ms
+abbrev pub after_lines : DeskState → List AnsweredLine → DeskState
+after_lines s [] = s
+after_lines s (m ∷ ms) = after_lines (after_line s m) ms

@@ -21,8 +21,8 @@ abbrev pub judged_by : ℕ → Result Action Refusal → Judged
 judged_by count (Good action) = record { verdict = Accepted action; number = count + 1 }
 judged_by count (Wrong reason) = record { verdict = Refused reason count; number = count }
 
-abbrev pub judged : Condensed → Request → Judged
-judged q r = judged_by q.panel.count (accept q.panel r)
+abbrev pub judged_on : Condensed → Request → Judged
+judged_on q r = judged_by q.panel.count (accept q.panel r)
 
 abbrev pub if_accepted : Condensed → Result Action Refusal → Condensed
 if_accepted q (Good action) = step q action
@@ -31,7 +31,7 @@ if_accepted q (Wrong reason) = q
 -- a plant judges a request and does its action, or it stops; one that has stopped judges none
 abbrev pub IsJudged : Option Condensed → Request → Result Judged Stopped → Option Condensed → Type 0
 IsJudged None r (Good j) new = ⊥
-IsJudged (Some q) r (Good j) new = (j ≡ judged q r) × (new ≡ Some (if_accepted q (accept q.panel r)))
+IsJudged (Some q) r (Good j) new = (j ≡ judged_on q r) × (new ≡ Some (if_accepted q (accept q.panel r)))
 IsJudged old r (Wrong e) new = new ≡ None
 
 -- the plants for one of which a storage stands, after a request: the plant alone, and where the storage stopped in it the plant before,

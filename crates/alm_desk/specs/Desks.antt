@@ -4,14 +4,14 @@ use Rattle.std.specs.Io.KnownBytes.{Appends}
 use Rattle.alm_types.specs.Counts.{one_more}
 use Rattle.alm_lines.specs.Line.{line_of}
 use Rattle.alm_lines.specs.Stream.{is_end, held_after}
-use Rattle.alm_desk.specs.Answers.{Standing, SlotLine, AnsweredLine, replies, after_all}
-use Rattle.alm_desk.specs.Feeding.{asked}
+use Rattle.alm_desk.specs.Answers.{DeskState, SlotLine, AnsweredLine, replies, after_lines}
+use Rattle.alm_desk.specs.Feeding.{line_asked}
 use Rattle.alm_desk.specs.declared.desk_fault.DeskFault.{DeskFault}
 use Rattle.alm_desk.specs.declared.desk_fault.DeskFault.TheVariants.{Write, Closed}
 
 -- what a desk stands on, what it holds of the next line of each slot, and whether its writer has failed
 pub record Desk : Type 0 where
-  pub standing : Standing
+  pub standing : DeskState
   pub helds : List (List ℕ)
   pub closed : Bool
 
@@ -20,18 +20,18 @@ pub record Tagged : Type 0 where
   pub slot : ℕ
   pub byte : ℕ
 
-abbrev pub tagged : ℕ → ℕ → Tagged
-tagged slot b = record { slot = slot; byte = b }
+abbrev pub byte_of_slot : ℕ → ℕ → Tagged
+byte_of_slot slot b = record { slot = slot; byte = b }
 
-abbrev pub tag : ℕ → List ℕ → List Tagged
-tag slot bytes = map (tagged slot) bytes
+abbrev pub bytes_of_slot : ℕ → List ℕ → List Tagged
+bytes_of_slot slot bytes = map (byte_of_slot slot) bytes
 
 -- what is held of the next line of a slot
-abbrev pub held_at : List (List ℕ) → ℕ → List ℕ
-held_at helds slot = slice_index_or helds slot []
+abbrev pub line_held_at : List (List ℕ) → ℕ → List ℕ
+line_held_at helds slot = slice_index_or helds slot []
 
 abbrev pub after_byte : List (List ℕ) → Tagged → List (List ℕ)
-after_byte helds t = slice_set helds t.slot (held_after (held_at helds t.slot) t.byte)
+after_byte helds t = slice_set helds t.slot (held_after (line_held_at helds t.slot) t.byte)
 
 -- what is held after bytes, in the order in which they came
 abbrev pub held_by : List (List ℕ) → List Tagged → List (List ℕ)
@@ -39,23 +39,23 @@ held_by helds [] = helds
 held_by helds (t ∷ ts) = held_by (after_byte helds t) ts
 
 -- the lines that bytes end, in the order in which their ends came
-abbrev pub lines_in : List (List ℕ) → List Tagged → List SlotLine
-lines_in helds [] = []
-lines_in helds (t ∷ ts) =
-    if is_end t.byte then record { slot = t.slot; line = line_of (held_at helds t.slot) } ∷ lines_in (after_byte helds t) ts else lines_in
+abbrev pub lines_among : List (List ℕ) → List Tagged → List SlotLine
+lines_among helds [] = []
+lines_among helds (t ∷ ts) =
+    if is_end t.byte then record { slot = t.slot; line = line_of (line_held_at helds t.slot) } ∷ lines_among (after_byte helds t) ts else lines_among
     (after_byte helds t) ts
 
 -- bytes are fed: the replies to the lines that they end are written, in the order in which their ends came
 pub record IsFed (before : Desk) (bytes : List Tagged) (old : Option (List ℕ)) (later : Desk) (new : Option (List ℕ)) : Type 0 where
   pub answered : List AnsweredLine
-  pub lines : map asked answered ≡ lines_in before.helds bytes
+  pub lines : map line_asked answered ≡ lines_among before.helds bytes
   pub written : Appends old new (replies before.standing answered)
-  pub standing : later.standing ≡ after_all before.standing answered
+  pub standing : later.standing ≡ after_lines before.standing answered
   pub held : later.helds ≡ held_by before.helds bytes
   pub open_before : before.closed ≡ false
   pub open_later : later.closed ≡ false
 
 -- a desk closes where its writer failed, and is closed from then on
-abbrev pub HasFailed : DeskFault → Bool → Bool → ℕ → ℕ → Type 0
-HasFailed Write was is old new = (was ≡ false) × (is ≡ true) × (new ≡ one_more old)
-HasFailed Closed was is old new = (was ≡ true) × (is ≡ true) × (new ≡ old)
+abbrev pub ClosesAfter : DeskFault → Bool → Bool → ℕ → ℕ → Type 0
+ClosesAfter Write was is old new = (was ≡ false) × (is ≡ true) × (new ≡ one_more old)
+ClosesAfter Closed was is old new = (was ≡ true) × (is ≡ true) × (new ≡ old)

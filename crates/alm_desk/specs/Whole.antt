@@ -3,7 +3,7 @@ use Rattle.std.specs.Prelude.{ℕ, List, [], ◌∷◌, ◌++◌, slice_set, if�
 use Rattle.alm_lines.specs.Line.{line_of}
 use Rattle.alm_lines.specs.Stream.{is_end}
 use Rattle.alm_desk.specs.Answers.{SlotLine}
-use Rattle.alm_desk.specs.Desks.{Tagged, held_at}
+use Rattle.alm_desk.specs.Desks.{Tagged, line_held_at}
 
 -- what has come of the next line, after another byte
 abbrev pub whole_after : List ℕ → ℕ → List ℕ
@@ -16,7 +16,7 @@ whole_lines helds (t ∷ ts) =
     if is_end t.byte then record {
       slot =
           t.slot;
-      line = line_of (held_at helds t.slot);
-    } ∷ whole_lines (slice_set helds t.slot (whole_after (held_at helds t.slot) t.byte))
+      line = line_of (line_held_at helds t.slot);
+    } ∷ whole_lines (slice_set helds t.slot (whole_after (line_held_at helds t.slot) t.byte))
     ts
-    else whole_lines (slice_set helds t.slot (whole_after (held_at helds t.slot) t.byte)) ts
+    else whole_lines (slice_set helds t.slot (whole_after (line_held_at helds t.slot) t.byte)) ts

@@ -54,8 +54,8 @@ impl<B: Backend + Drop> LocalDesk<B> {
     ghost use Rattle.std.specs.Prelude.{◌≡◌, OnOk, IfErr, IfOk, Err, is_none, false, true, [], replicate};
     ghost use Rattle.std.specs.Io.KnownBytes.{Appends};
     ghost use Rattle.alm_lines.specs.Line.{line_of};
-    ghost use Rattle.alm_desk.specs.Answers.{reply, after, answered_at, standing_of};
-    ghost use Rattle.alm_desk.specs.Desks.{IsFed, HasFailed, tag, lines_in};
+    ghost use Rattle.alm_desk.specs.Answers.{reply, after_line, answered_at, standing_of};
+    ghost use Rattle.alm_desk.specs.Desks.{IsFed, ClosesAfter, bytes_of_slot, lines_among};
     ghost use Rattle.alm_desk.specs.Failing.{BreaksOff, IsCutLine};
 
     pub fn new(alloc: Global, backend: B) -> Result<Self, AllocError>
@@ -135,13 +135,14 @@ impl<B: Backend + Drop> LocalDesk<B> {
         writer: &mut CountedWriter<W>,
     ) -> Result<(), DeskFault>
         ensures fed { OnOk result
-            (IsFed self.old (tag slot piece.now) (W.contents writer.old.inner) self.new
+            (IsFed self.old (bytes_of_slot slot piece.now) (W.contents writer.old.inner) self.new
             (W.contents writer.new.inner)) }
         ensures whole { OnOk result (writer.new.failed ≡ writer.old.failed) }
         ensures fault { IfErr result
-            (λ e. HasFailed e self.old.closed self.new.closed writer.old.failed writer.new.failed) }
+            (λ e.
+            ClosesAfter e self.old.closed self.new.closed writer.old.failed writer.new.failed) }
         ensures broken { result ≡ Err DeskFault.Write →
-            BreaksOff self.old.standing (lines_in self.old.helds (tag slot piece.now))
+            BreaksOff self.old.standing (lines_among self.old.helds (bytes_of_slot slot piece.now))
             (W.contents writer.old.inner) self.new.standing (W.contents writer.new.inner) }
         ensures closed { result ≡ Err DeskFault.Closed →
             (self.new ≡ self.old) × (writer.new ≡ writer.old) }
@@ -177,13 +178,14 @@ impl<B: Backend + Drop> LocalDesk<B> {
             (λ hindrance. Appends (W.contents writer.old.inner) (W.contents writer.new.inner)
             (reply self.old.standing (answered_at slot (line_of line.now) hindrance))) }
         ensures standing { IfOk result (λ hindrance. self.new ≡ record self.old {
-          standing = after self.old.standing (answered_at slot
+          standing = after_line self.old.standing (answered_at slot
               (line_of line.now) hindrance);
         }) }
         ensures open { OnOk result (self.old.closed ≡ false) }
         ensures whole { OnOk result (writer.new.failed ≡ writer.old.failed) }
         ensures fault { IfErr result
-            (λ e. HasFailed e self.old.closed self.new.closed writer.old.failed writer.new.failed) }
+            (λ e.
+            ClosesAfter e self.old.closed self.new.closed writer.old.failed writer.new.failed) }
         ensures helds { self.new.helds ≡ self.old.helds }
         ensures cut { result ≡ Err DeskFault.Write →
             IsCutLine self.old.standing (record { slot = slot; line = line_of line.now })

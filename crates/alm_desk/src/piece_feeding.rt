@@ -1,7 +1,7 @@
 //! Pieces of the slots' streams.
 
 ghost use Rattle.std.specs.Prelude.{◌≡◌, IfErr, OnOk, Err};
-ghost use Rattle.alm_desk.specs.Desks.{IsFed, HasFailed, lines_in};
+ghost use Rattle.alm_desk.specs.Desks.{IsFed, ClosesAfter, lines_among};
 ghost use Rattle.alm_desk.specs.Failing.{BreaksOff};
 ghost use Rattle.alm_desk.specs.Pieces.{tag_all};
 
@@ -25,9 +25,9 @@ pub fn feed_all<B: Backend + Drop, W: Write + Drop>(
         (W.contents writer.new.inner)) }
     ensures whole { OnOk result (writer.new.failed ≡ writer.old.failed) }
     ensures fault { IfErr result
-        (λ e. HasFailed e desk.old.closed desk.new.closed writer.old.failed writer.new.failed) }
+        (λ e. ClosesAfter e desk.old.closed desk.new.closed writer.old.failed writer.new.failed) }
     ensures broken { result ≡ Err DeskFault.Write →
-        BreaksOff desk.old.standing (lines_in desk.old.helds (tag_all pieces.now))
+        BreaksOff desk.old.standing (lines_among desk.old.helds (tag_all pieces.now))
         (W.contents writer.old.inner) desk.new.standing (W.contents writer.new.inner) }
     ensures closed { result ≡ Err DeskFault.Closed →
         (desk.new ≡ desk.old) × (writer.new ≡ writer.old) }

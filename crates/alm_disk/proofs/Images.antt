@@ -2,7 +2,7 @@
 use Rattle.std.proofs.Common.{◌≡◌, ⊎_elim, ◌<◌, ◌≤◌, ◌+◌, ℕ, false, ◌||◌, List, ◌++◌, length, get_or, take, drop, Result, Ok, Err, refl, sym, ◌∙◌, ap, subst, arith, length-append, length-drop, take-append-drop, append_assoc}
 use Rattle.std.proofs.lemmas.List.{get_or_append_left, get_or-append_right, get_or-append-add, get_or-take, get_or-drop, length-take-le, take_at, drop_at, drop-drop, ext_get_or}
 use Rattle.std.proofs.lemmas.Bool.{or_parts}
-use Rattle.alm_disk.specs.Device.{DeviceState, IsBytes, IsImage, Reads, Writes, Syncs, byte_at, is_within}
+use Rattle.alm_disk.specs.Device.{DeviceState, AreBytes, IsImage, Reads, Writes, Syncs, byte_at, is_within}
 use Rattle.alm_disk.specs.Settled.{IsSettled, AwaitsSync}
 use Rattle.alm_disk.proofs.Places.{below, above, outside_cases}
 
@@ -67,7 +67,7 @@ same_outside front old mid back long place out = ⊎_elim before behind (outside
 -- a crash may leave any bytes in the range of a write
 pub any_image : {E : Type 0} (result : Result Unit E) (state new : DeviceState) (at : ℕ) (bytes front old mid back : List ℕ)
     → IsSettled state (front ++ old ++ back) → Writes at bytes result state new → at ≡ length front → length bytes ≡ length old → length mid ≡ length old
-    → IsBytes (front ++ mid ++ back) → IsImage new (front ++ mid ++ back)
+    → AreBytes (front ++ mid ++ back) → IsImage new (front ++ mid ++ back)
 any_image result state new at bytes front old mid back settled writes place long fits are_bytes = record {
   size = omega (arith, writes.size, ap length settled.reads, length-append (front ++ old) back, length-append front old, length-append (front ++ mid) back, length-append front mid);
   bytes = are_bytes;

@@ -10,10 +10,10 @@ abbrev pub IsOneCall : {D : Type 0} → (D → Call → Result Unit DiskFault �
 IsOneCall serves result old new = (call : Call) × serves old call result new
 
 -- its range lies inside a device of this size
-abbrev pub IsInRange : Call → ℕ → Type 0
-IsInRange (Read at n) size = at + n ≤ size
-IsInRange (Write at n) size = at + n ≤ size
-IsInRange Sync size = Unit {0}
+abbrev pub IsInside : Call → ℕ → Type 0
+IsInside (Read at n) size = at + n ≤ size
+IsInside (Write at n) size = at + n ≤ size
+IsInside Sync size = Unit {0}
 
 -- it writes at this place
 abbrev pub is_written_by : Call → ℕ → Bool

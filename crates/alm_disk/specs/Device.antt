@@ -14,8 +14,8 @@ abbrev pub byte_at : List ℕ → ℕ → ℕ
 byte_at bytes place = get_or bytes place 0
 
 -- each is a byte
-abbrev pub IsBytes : List ℕ → Type 0
-IsBytes bytes = (place : ℕ) → byte_at bytes place < 256
+abbrev pub AreBytes : List ℕ → Type 0
+AreBytes bytes = (place : ℕ) → byte_at bytes place < 256
 
 -- the place is one of the n places from at
 abbrev pub is_within : ℕ → ℕ → ℕ → Bool
@@ -24,7 +24,7 @@ is_within at n place = nat_le at place && nat_lt place (at + n)
 -- a crash may leave these bytes: as many as there are, and those that read outside the pending places
 pub record IsImage (state : DeviceState) (image : List ℕ) : Type 0 where
   pub size : length image ≡ length state.bytes
-  pub bytes : IsBytes image
+  pub bytes : AreBytes image
   pub stable : (place : ℕ) → state.pending place ≡ false → byte_at image place ≡ byte_at state.bytes place
 
 -- a read from a place, into a buffer that then holds these bytes

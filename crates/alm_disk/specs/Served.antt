@@ -21,7 +21,7 @@ pub record FailsOnce {E : Type 0} (result : Result Unit E) (old new : ℕ) (serv
   pub passed : old ≢ 1 → served
 
 -- a hold is asked before each sync, and the device serves those that it lets begin; it serves every other call
-abbrev pub IsHeld : {E : Type 0} → Call → Result Unit E → (Bool → Type 0) → (served untouched : Type 0) → Type 0
-IsHeld (Read at n) result answers served untouched = served
-IsHeld (Write at n) result answers served untouched = served
-IsHeld Sync result answers served untouched = (begins : Bool) × answers begins × MatchBool begins served (IsErr result × untouched)
+abbrev pub IsServedBehind : {E : Type 0} → Call → Result Unit E → (Bool → Type 0) → (served untouched : Type 0) → Type 0
+IsServedBehind (Read at n) result answers served untouched = served
+IsServedBehind (Write at n) result answers served untouched = served
+IsServedBehind Sync result answers served untouched = (begins : Bool) × answers begins × MatchBool begins served (IsErr result × untouched)

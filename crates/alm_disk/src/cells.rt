@@ -2,7 +2,7 @@
 
 ghost use Rattle.alm_disk.specs.Cells.{is_marked};
 ghost use Rattle.std.specs.Prelude.{◌≡◌, ◌≤◌, ◌<◌, ◌+◌, ◌||◌, ◌++◌, ℕ, true, false, length, take, drop};
-ghost use Rattle.alm_disk.specs.Device.{IsBytes, byte_at, is_within};
+ghost use Rattle.alm_disk.specs.Device.{AreBytes, byte_at, is_within};
 
 use crate::chooser::Chooser;
 
@@ -39,7 +39,7 @@ pub fn put(all: &mut Vec<u8>, at: usize, bytes: &[u8])
     ensures size { length all.new.items ≡ length all.old.items }
     ensures put { all.new.items ≡
         take at all.old.items ++ bytes.now ++ drop (at + length bytes.now) all.old.items }
-    ensures bytes { IsBytes all.new.items }
+    ensures bytes { AreBytes all.new.items }
 {
     put_in(all.as_mut_slice(), at, bytes);
 }
@@ -55,7 +55,7 @@ fn put_in(all: &mut [u8], at: usize, bytes: &[u8])
 pub fn tear<C: Chooser>(bytes: &mut Vec<u8>, pending: &[bool], chooser: &mut C)
     requires { length pending.now ≡ length bytes.old.items }
     ensures size { length bytes.new.items ≡ length bytes.old.items }
-    ensures bytes { IsBytes bytes.new.items }
+    ensures bytes { AreBytes bytes.new.items }
     ensures stable { (place : ℕ) → is_marked pending.now place ≡ false →
         byte_at bytes.new.items place ≡ byte_at bytes.old.items place }
     ensures named { (place : ℕ) → place < length bytes.old.items →

@@ -1,7 +1,7 @@
 //! Devices that can crash and be told to fail.
 
 ghost use Rattle.std.specs.Prelude.{◌≡◌, ◌↔◌, ℕ, Result, Err};
-ghost use Rattle.alm_disk.specs.Calls.{IsInRange, Fails};
+ghost use Rattle.alm_disk.specs.Calls.{IsInside, Fails};
 ghost use Rattle.alm_disk.specs.Device.{Crashes};
 ghost use Rattle.alm_disk.specs.Failures.{CountsFault};
 ghost use Rattle.alm_disk.specs.declared.call.Call.{Call};
@@ -32,7 +32,7 @@ pub trait Crashable: Disk {
 
     /// Lets this call fail, and write nothing.
     fn fail(&mut self, call: Call) -> DiskFault
-        requires { IsInRange call (Self.size self.old) }
+        requires { IsInside call (Self.size self.old) }
         ensures honest { Self.honest self.old ↔ Self.honest self.new }
         ensures fails { Self.honest self.old →
             Fails call (Self.state self.old) (Self.state self.new) }

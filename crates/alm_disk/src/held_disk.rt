@@ -41,7 +41,7 @@ impl<D: Disk, H: Hold> HeldDisk<D, H> {
 impl<D: Disk, H: Hold> Disk for HeldDisk<D, H> {
     ghost use Rattle.std.specs.Prelude.{ℕ, ◌+◌, ◌||◌, min};
     ghost use Rattle.alm_disk.specs.Device.{DeviceState};
-    ghost use Rattle.alm_disk.specs.Served.{IsHeld};
+    ghost use Rattle.alm_disk.specs.Served.{IsServedBehind};
 
     ghost honest = { λ d. D.honest d.disk };
 
@@ -56,7 +56,7 @@ impl<D: Disk, H: Hold> Disk for HeldDisk<D, H> {
     ghost failures = { λ d. min (D.failures d.disk + d.refusals) last_count };
 
     ghost serves = { λ old call result new. (new.hold ≡ old.hold)
-        × IsHeld call result (H.answers old.hold) (D.serves old.disk call result new.disk) (new.disk ≡ old.disk) };
+        × IsServedBehind call result (H.answers old.hold) (D.serves old.disk call result new.disk) (new.disk ≡ old.disk) };
 
     ghost whole = { λ d honest. D.whole d.disk honest };
 

@@ -2,7 +2,7 @@
 
 ghost use Rattle.std.specs.Prelude.{◌≡◌, ◌≤◌, ℕ, false, List, [], ◌∷◌, ◌++◌, length, Result, Ok, OnOk, OnErr};
 ghost use Rattle.alm_disk.specs.Calls.{IsOneCall};
-ghost use Rattle.alm_disk.specs.Device.{DeviceState, IsBytes, IsImage, Reads, Writes, Syncs, Crashes};
+ghost use Rattle.alm_disk.specs.Device.{DeviceState, AreBytes, IsImage, Reads, Writes, Syncs, Crashes};
 ghost use Rattle.alm_disk.specs.Failures.{CountsFault, HasFailed};
 ghost use Rattle.alm_disk.specs.Memory.{calls_of};
 ghost use Rattle.alm_disk.specs.Settled.{IsSettled, AwaitsSync};
@@ -42,7 +42,7 @@ pub fn any_image()
     ensures { (result : Result Unit DiskFault) (old new : DeviceState)
         (bytes front range left back : List ℕ) → IsSettled old (front ++ range ++ back) →
         length bytes ≡ length range → Writes (length front) bytes result old new →
-        length left ≡ length range → IsBytes (front ++ left ++ back) →
+        length left ≡ length range → AreBytes (front ++ left ++ back) →
         IsImage new (front ++ left ++ back) }
 {}
 

@@ -1,7 +1,7 @@
 //! A device in memory.
 
 ghost use Rattle.std.specs.Prelude.{◌≡◌, ◌≤◌, ◌<◌, ◌++◌, ◌∷◌, [], ℕ, length, vec_capacity, IfOk};
-ghost use Rattle.alm_disk.specs.Device.{IsBytes};
+ghost use Rattle.alm_disk.specs.Device.{AreBytes};
 ghost use Rattle.alm_disk.specs.Failures.{last_count};
 ghost use Rattle.alm_disk.specs.Settled.{IsSettled};
 
@@ -24,7 +24,7 @@ pub struct MemDisk {
     calls: Vec<Call>,
     room: usize,
     ghost beside: { length pending.items ≡ length bytes.items },
-    ghost are_bytes: { IsBytes bytes.items },
+    ghost are_bytes: { AreBytes bytes.items },
     ghost counted: { failures ≤ last_count },
     ghost reserved: { room ≤ vec_capacity calls },
     ghost in_room: { length calls.items ≤ room },

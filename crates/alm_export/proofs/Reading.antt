@@ -9,7 +9,7 @@ use Rattle.alm_types.specs.Attributes.{deadband_limit}
 use Rattle.alm_types.specs.Readings.{is_reading}
 use Rattle.alm_types.specs.Texts.{is_tag, is_text}
 use Rattle.alm_table.specs.TableFile.{read_alarm, read_alarms, read_file, kind_named, are_tables, count}
-use Rattle.alm_table.specs.Faults.{entry_of, device_table}
+use Rattle.alm_table.specs.Faults.{element_of, device_table}
 use Rattle.alm_export.specs.Tree.{alarm_members, alarm_items, file_members, kind_name}
 
 kind_read : (k : Kind) → kind_named (kind_name k) ≡ Some k
@@ -21,7 +21,7 @@ between : (least most n : ℕ) → least ≤ n → n ≤ most → (nat_le least 
 between least most n l m = rw (le-leb least n l, le-leb n most m) refl
 
 -- the table of an alarm reads as that alarm
-pub read_one : (a : Attr) (n areas : ℕ) → a.area < areas → read_alarm n areas (alarm_members a) ≡ Ok (entry_of a)
+pub read_one : (a : Attr) (n areas : ℕ) → a.area < areas → read_alarm n areas (alarm_members a) ≡ Ok (element_of a)
 read_one a n areas h =
     let setpoint : is_reading a.setpoint ≡ true = search (rules, a.setpoint_range) in
     let tag : is_tag a.tag ≡ true = a.tag_limits in
@@ -38,7 +38,7 @@ read_one a n areas h =
     ) refl
 
 -- the tables of alarms read as those alarms
-pub read_all : (attrs : List Attr) (n areas : ℕ) → All (λ a. a.area < areas) attrs → read_alarms n areas (alarm_items attrs) ≡ Ok (map entry_of attrs)
+pub read_all : (attrs : List Attr) (n areas : ℕ) → All (λ a. a.area < areas) attrs → read_alarms n areas (alarm_items attrs) ≡ Ok (map element_of attrs)
 read_all [] n areas h = refl
 read_all (a ∷ attrs) n areas h = rw (read_one a n areas (All-head (λ b. b.area < areas) a attrs h), read_all attrs (n + 1) areas (All-tail (λ b. b.area < areas) a attrs h)) refl
 

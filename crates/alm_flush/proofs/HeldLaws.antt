@@ -20,7 +20,7 @@ use Rattle.std.specs.Prelude.{slice_set}
 use Rattle.alm_board.specs.Fronts.{IsFront}
 use Rattle.alm_board.proofs.FrontLaws.{front_self, front_of}
 use Rattle.alm_flush.specs.Replies.{Reply, replies_to, replies_in}
-use Rattle.alm_flush.specs.HeldBatch.{batches_of, waiting_of, ready_of, stored_of, shown_of, told_of, next_of, passed, left_of}
+use Rattle.alm_flush.specs.HeldBatch.{batches_of, waiting_of, ready_of, stored_of, published_entries, released_entries, next_entry_of, after_release, left_of}
 use Rattle.alm_flush.specs.declared.held.Held.{Held}
 use Rattle.alm_flush.specs.declared.held.Held.TheVariants.{Nothing, Fetched, Failed, Committed, Published}
 
@@ -55,35 +55,35 @@ accepted_at_place (x ∷ xs) (suc n) e is =
     ap (λ l. when_accepted x.verdict ++ l) (accepted_at_place xs n e is)
     ∙ sym (append_assoc (when_accepted x.verdict) (accepted_of (take n xs)) (when_accepted e.verdict ++ accepted_of (drop (suc n) xs)))
 
-pub told_pass : (h : Held) (e : Entry) → next_of h ≡ Some e → told_of (passed h) ≡ told_of h ++ e ∷ []
+pub told_pass : (h : Held) (e : Entry) → next_entry_of h ≡ Some e → released_entries (after_release h) ≡ released_entries h ++ e ∷ []
 told_pass Nothing e is = absurd cc
 told_pass (Fetched b) e is = absurd cc
 told_pass (Failed b) e is = absurd cc
 told_pass (Committed b) e is = absurd cc
 told_pass (Published b n) e is = rw add-one (take_next b.entries n e is)
 
-pub stored_pass : (h : Held) → stored_of (passed h) ≡ stored_of h
+pub stored_pass : (h : Held) → stored_of (after_release h) ≡ stored_of h
 stored_pass Nothing = refl
 stored_pass (Fetched b) = refl
 stored_pass (Failed b) = refl
 stored_pass (Committed b) = refl
 stored_pass (Published b n) = refl
 
-pub shown_pass : (h : Held) → shown_of (passed h) ≡ shown_of h
+pub shown_pass : (h : Held) → published_entries (after_release h) ≡ published_entries h
 shown_pass Nothing = refl
 shown_pass (Fetched b) = refl
 shown_pass (Failed b) = refl
 shown_pass (Committed b) = refl
 shown_pass (Published b n) = refl
 
-pub waiting_pass : (h : Held) → waiting_of (passed h) ≡ waiting_of h
+pub waiting_pass : (h : Held) → waiting_of (after_release h) ≡ waiting_of h
 waiting_pass Nothing = refl
 waiting_pass (Fetched b) = refl
 waiting_pass (Failed b) = refl
 waiting_pass (Committed b) = refl
 waiting_pass (Published b n) = refl
 
-pub batches_pass : (h : Held) → batches_of (passed h) ≡ batches_of h
+pub batches_pass : (h : Held) → batches_of (after_release h) ≡ batches_of h
 batches_pass Nothing = refl
 batches_pass (Fetched b) = refl
 batches_pass (Failed b) = refl
@@ -91,14 +91,14 @@ batches_pass (Committed b) = refl
 batches_pass (Published b n) = refl
 
 -- what is shown is stored
-pub shown_stored : (h : Held) (e : Entry) → next_of h ≡ Some e → stored_of h ≡ shown_of h
+pub shown_stored : (h : Held) (e : Entry) → next_entry_of h ≡ Some e → stored_of h ≡ published_entries h
 shown_stored Nothing e is = absurd cc
 shown_stored (Fetched b) e is = absurd cc
 shown_stored (Failed b) e is = absurd cc
 shown_stored (Committed b) e is = absurd cc
 shown_stored (Published b n) e is = refl
 
-shown_split : (h : Held) (e : Entry) → next_of h ≡ Some e → accepted_of (shown_of h) ≡ accepted_of (told_of h) ++ (when_accepted e.verdict ++ left_of h)
+shown_split : (h : Held) (e : Entry) → next_entry_of h ≡ Some e → accepted_of (published_entries h) ≡ accepted_of (released_entries h) ++ (when_accepted e.verdict ++ left_of h)
 shown_split Nothing e is = absurd cc
 shown_split (Fetched b) e is = absurd cc
 shown_split (Failed b) e is = absurd cc
@@ -106,14 +106,14 @@ shown_split (Committed b) e is = absurd cc
 shown_split (Published b n) e is = accepted_at_place b.entries n e is
 
 -- the published list around the next verdict
-pub published_split : (before : List Entry) (h : Held) (e : Entry) → next_of h ≡ Some e → accepted_of (before ++ shown_of h) ≡ accepted_of (before ++ told_of h) ++ (when_accepted e.verdict ++ left_of h)
+pub published_split : (before : List Entry) (h : Held) (e : Entry) → next_entry_of h ≡ Some e → accepted_of (before ++ published_entries h) ≡ accepted_of (before ++ released_entries h) ++ (when_accepted e.verdict ++ left_of h)
 published_split before h e is =
-    accepted_append before (shown_of h) ∙ (ap (λ l. accepted_of before ++ l) (shown_split h e is)
-    ∙ (sym (append_assoc (accepted_of before) (accepted_of (told_of h)) (when_accepted e.verdict ++ left_of h))
-    ∙ ap (λ l. l ++ (when_accepted e.verdict ++ left_of h)) (sym (accepted_append before (told_of h)))))
+    accepted_append before (published_entries h) ∙ (ap (λ l. accepted_of before ++ l) (shown_split h e is)
+    ∙ (sym (append_assoc (accepted_of before) (accepted_of (released_entries h)) (when_accepted e.verdict ++ left_of h))
+    ∙ ap (λ l. l ++ (when_accepted e.verdict ++ left_of h)) (sym (accepted_append before (released_entries h)))))
 
-pub told_snoc : (before : List Entry) (h : Held) (e : Entry) → next_of h ≡ Some e → before ++ told_of (passed h) ≡ (before ++ told_of h) ++ e ∷ []
-told_snoc before h e is = ap (λ l. before ++ l) (told_pass h e is) ∙ sym (append_assoc before (told_of h) (e ∷ []))
+pub told_snoc : (before : List Entry) (h : Held) (e : Entry) → next_entry_of h ≡ Some e → before ++ released_entries (after_release h) ≡ (before ++ released_entries h) ++ e ∷ []
+told_snoc before h e is = ap (λ l. before ++ l) (told_pass h e is) ∙ sym (append_assoc before (released_entries h) (e ∷ []))
 
 pub accepted_snoc : (entries : List Entry) (e : Entry) → accepted_of (entries ++ e ∷ []) ≡ accepted_of entries ++ when_accepted e.verdict
 accepted_snoc entries e = accepted_append entries (e ∷ []) ∙ ap (λ l. accepted_of entries ++ l) (append-nil (when_accepted e.verdict))
@@ -124,7 +124,7 @@ get_middle [] ys a (suc n) is = absurd (omega arith)
 get_middle (x ∷ xs) ys a zero is = absurd (omega arith)
 get_middle (x ∷ xs) ys a (suc n) is = get_middle xs ys a n (omega arith)
 
-pub ready_pass : (h : Held) → ready_of (passed h) ≡ ready_of h
+pub ready_pass : (h : Held) → ready_of (after_release h) ≡ ready_of h
 ready_pass Nothing = refl
 ready_pass (Fetched b) = refl
 ready_pass (Failed b) = refl
@@ -132,7 +132,7 @@ ready_pass (Committed b) = refl
 ready_pass (Published b n) = refl
 
 -- what is shown is a front of what is stored
-pub shown_front : (before : List Entry) (h : Held) → IsFront (accepted_of (before ++ shown_of h)) (accepted_of (before ++ stored_of h))
+pub shown_front : (before : List Entry) (h : Held) → IsFront (accepted_of (before ++ published_entries h)) (accepted_of (before ++ stored_of h))
 shown_front before Nothing = front_self (accepted_of (before ++ []))
 shown_front before (Fetched b) = front_self (accepted_of (before ++ []))
 shown_front before (Failed b) = front_self (accepted_of (before ++ []))
@@ -140,7 +140,7 @@ shown_front before (Committed b) = front_of (accepted_of (before ++ [])) (accept
 shown_front before (Published b n) = front_self (accepted_of (before ++ b.entries))
 
 -- the verdicts that are released are of what is stored
-told_fewer : (h : Held) → length (accepted_of (told_of h)) ≤ length (accepted_of (stored_of h))
+told_fewer : (h : Held) → length (accepted_of (released_entries h)) ≤ length (accepted_of (stored_of h))
 told_fewer Nothing = omega arith
 told_fewer (Fetched b) = omega arith
 told_fewer (Failed b) = omega arith
@@ -150,7 +150,7 @@ told_fewer (Published b n) =
     let whole = ap accepted_of (take-append-drop n b.entries) in
     omega (arith, ap length parts, ap length whole, length-append (accepted_of (take n b.entries)) (accepted_of (drop n b.entries)))
 
-pub told_stored : (base stored : Condensed) (before : List Entry) (h : Held) (number last : ℕ) → number ≤ last → last ≡ base.panel.count + length (accepted_of (before ++ told_of h)) → stored ≡ run base (accepted_of (before ++ stored_of h)) → number ≤ stored.panel.count
+pub told_stored : (base stored : Condensed) (before : List Entry) (h : Held) (number last : ℕ) → number ≤ last → last ≡ base.panel.count + length (accepted_of (before ++ released_entries h)) → stored ≡ run base (accepted_of (before ++ stored_of h)) → number ≤ stored.panel.count
 told_stored base stored before h number last within is stands =
     omega (
       arith,
@@ -158,8 +158,8 @@ told_stored base stored before h number last within is stands =
       is,
       ap (λ q. q.panel.count) stands,
       run_count base (accepted_of (before ++ stored_of h)),
-      ap length (accepted_append before (told_of h)),
-      length-append (accepted_of before) (accepted_of (told_of h)),
+      ap length (accepted_append before (released_entries h)),
+      length-append (accepted_of before) (accepted_of (released_entries h)),
       ap length (accepted_append before (stored_of h)),
       length-append (accepted_of before) (accepted_of (stored_of h)),
       told_fewer h,

@@ -1,7 +1,11 @@
 -- What a step of a commit makes of the stored plant.
 use Rattle.std.specs.Prelude.{◌≡◌, ◌≢◌, ◌<◌, ◌≤◌, ◌+◌, ◌⊎◌, ℕ, List, length}
 use Rattle.alm_types.specs.declared.action.Action.{Action}
+use Rattle.alm_types.specs.Batches.{Judged}
 use Rattle.alm_model.specs.Plant.{Condensed}
+use Rattle.alm_model.specs.Judging.{accepted_of}
+use Rattle.alm_model.specs.Rules.{AllAdmitted}
+use Rattle.alm_store.specs.State.{StoreState}
 use Rattle.alm_model.specs.Step.{run}
 use Rattle.alm_store.specs.declared.phase.Phase.{Phase}
 use Rattle.alm_store.specs.declared.phase.Phase.TheVariants.{Idle, Committing, Copying, Paused, Stopped}
@@ -32,6 +36,10 @@ Behind m Committing left will_take actions = left ≤ m
 Behind m Copying left will_take actions = (will_take × (left + 5 ≤ m)) ⊎ ((actions ≤ 256) × (left + 326 ≤ m))
 Behind m Paused left will_take actions = (will_take × (left + 5 ≤ m)) ⊎ ((actions ≤ 256) × (left + 326 ≤ m))
 Behind m phase left will_take actions = ⊥
+
+-- the batch is the next one, and its actions are admitted
+abbrev pub IsNextOne : Judged → StoreState → Type 0
+IsNextOne b s = (b.first ≡ s.stored.panel.count + 1) × AllAdmitted s.stored (accepted_of b.entries)
 
 -- no checkpoint is to be begun: work is under way, or the next frame takes the actions
 abbrev pub IsSure : Phase → (takes : Type 0) → Type 0

@@ -16,7 +16,7 @@ use Rattle.alm_rings.specs.Batches.{fetched_of, coming_in}
 use Rattle.alm_store.specs.declared.phase.Phase.{Phase}
 use Rattle.alm_store.specs.declared.phase.Phase.TheVariants.{Idle, Stopped}
 use Rattle.alm_store.specs.Advancing.{IsOpen}
-use Rattle.alm_flush.specs.HeldBatch.{next_of, passed, left_of}
+use Rattle.alm_flush.specs.HeldBatch.{next_entry_of, after_release, left_of}
 use Rattle.alm_flush.specs.declared.advance.Advance.{Advance}
 use Rattle.alm_flush.specs.declared.advance.Advance.TheVariants as A
 use Rattle.alm_flush.specs.declared.publishes.Publishes.{Publishes}
@@ -72,12 +72,12 @@ IsFree (Failed b) = ⊥
 IsFree held = Unit {0}
 
 -- all verdicts of the published batch are released
-abbrev pub IsDone : Held → Type 0
-IsDone (Published b n) = length b.entries ≤ n
-IsDone held = ⊥
+abbrev pub AreAllReleased : Held → Type 0
+AreAllReleased (Published b n) = length b.entries ≤ n
+AreAllReleased held = ⊥
 
 pub record GivesBack (old new : Held) (given given' : List Judged) : Type 0 where
-  pub done : IsDone old
+  pub done : AreAllReleased old
   pub held : new ≡ Nothing
   pub more : length given' ≡ length given + 1
 
@@ -86,8 +86,8 @@ module _ {T : Type 0} {g : Ghosts T} where
   pub record Releases (slot : ℕ) (old new : Held) (from to : List (Outbox T g)) (base stored : Condensed) (published : List Action) : Type 0 where
     pub entry : Entry
     pub of : entry.slot ≡ slot
-    pub next : next_of old ≡ Some entry
-    pub held : new ≡ passed old
+    pub next : next_entry_of old ≡ Some entry
+    pub held : new ≡ after_release old
     pub receipt : Receipt T g
     pub released : released_by slot to ≡ released_by slot from ++ receipt ∷ []
     pub others : (s : ℕ) → s ≢ slot → outbox_at s to ≡ outbox_at s from
@@ -103,7 +103,7 @@ module _ {T : Type 0} {g : Ghosts T} where
   pub record IsFull (slot : ℕ) (old new : Held) (from to : List (Outbox T g)) : Type 0 where
     pub entry : Entry
     pub of : entry.slot ≡ slot
-    pub next : next_of old ≡ Some entry
+    pub next : next_entry_of old ≡ Some entry
     pub held : new ≡ old
     pub released : (s : ℕ) → released_by s to ≡ released_by s from
     pub room : (s : ℕ) → room_by s to ≡ room_by s from
@@ -112,4 +112,4 @@ module _ {T : Type 0} {g : Ghosts T} where
   abbrev pub ReleaseAnswers : Release → Held → Held → List (Outbox T g) → List (Outbox T g) → Condensed → Condensed → List Action → Type 0
   ReleaseAnswers (R.Released slot) old new from to base stored published = Releases slot old new from to base stored published
   ReleaseAnswers (R.Full slot) old new from to base stored published = IsFull slot old new from to
-  ReleaseAnswers R.Nothing old new from to base stored published = (next_of old ≡ None) × (new ≡ old) × (to ≡ from)
+  ReleaseAnswers R.Nothing old new from to base stored published = (next_entry_of old ≡ None) × (new ≡ old) × (to ≡ from)

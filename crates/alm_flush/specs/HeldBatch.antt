@@ -39,32 +39,32 @@ stored_of (Committed b) = b.entries
 stored_of (Published b n) = b.entries
 
 -- where they are published
-abbrev pub shown_of : Held → List Entry
-shown_of Nothing = []
-shown_of (Fetched b) = []
-shown_of (Failed b) = []
-shown_of (Committed b) = []
-shown_of (Published b n) = b.entries
+abbrev pub published_entries : Held → List Entry
+published_entries Nothing = []
+published_entries (Fetched b) = []
+published_entries (Failed b) = []
+published_entries (Committed b) = []
+published_entries (Published b n) = b.entries
 
 -- those whose verdicts are released
-abbrev pub told_of : Held → List Entry
-told_of Nothing = []
-told_of (Fetched b) = []
-told_of (Failed b) = []
-told_of (Committed b) = []
-told_of (Published b n) = take n b.entries
+abbrev pub released_entries : Held → List Entry
+released_entries Nothing = []
+released_entries (Fetched b) = []
+released_entries (Failed b) = []
+released_entries (Committed b) = []
+released_entries (Published b n) = take n b.entries
 
 -- the one that is next
-abbrev pub next_of : Held → Option Entry
-next_of Nothing = None
-next_of (Fetched b) = None
-next_of (Failed b) = None
-next_of (Committed b) = None
-next_of (Published b n) = slice_get b.entries n
+abbrev pub next_entry_of : Held → Option Entry
+next_entry_of Nothing = None
+next_entry_of (Fetched b) = None
+next_entry_of (Failed b) = None
+next_entry_of (Committed b) = None
+next_entry_of (Published b n) = slice_get b.entries n
 
-abbrev pub passed : Held → Held
-passed (Published b n) = Published b (n + 1)
-passed held = held
+abbrev pub after_release : Held → Held
+after_release (Published b n) = Published b (n + 1)
+after_release held = held
 
 -- the accepted actions behind the next one
 abbrev pub left_of : Held → List Action

@@ -1,16 +1,14 @@
 //! One step of the commit of a batch, or of a checkpoint.
 
-ghost use Rattle.std.specs.Prelude.{◌≡◌, ◌≢◌, ℕ, ◌⊎◌, ◌↔◌, ◌+◌, ◌*◌, ◌<◌, ◌≤◌, [], length, IsTrue, None, true, false};
+ghost use Rattle.std.specs.Prelude.{◌≡◌, ◌≢◌, ℕ, ◌⊎◌, ◌+◌, ◌*◌, ◌<◌, ◌≤◌, [], length, IsTrue, false};
 ghost use Rattle.alm_disk.specs.Failures.{HasFailed};
 ghost use Rattle.alm_model.specs.Judging.{accepted_of};
-ghost use Rattle.alm_model.specs.Rules.{AllAdmitted, admits_all};
-ghost use Rattle.alm_model.specs.Step.{run};
-ghost use Rattle.alm_store.specs.Calls.{IsCall, CallDone, CallFailed};
-ghost use Rattle.alm_store.specs.Pace.{KeepsPace, least_segment, most, most_actions, most_calls};
-ghost use Rattle.alm_store.specs.Advancing.{IsCalls, IsOpen};
-ghost use Rattle.alm_store.specs.Pacing.{SamePace};
-ghost use Rattle.alm_flush.specs.Advances.{Advances, Behind, GoesOn, IsSure, Within};
+ghost use Rattle.alm_store.specs.Pace.{most, most_actions, most_calls};
+ghost use Rattle.alm_store.specs.Advancing.{CommitIsNotBegun, IsOpen};
+ghost use Rattle.alm_store.specs.Pacing.{KeepsPace, SamePace};
+ghost use Rattle.alm_flush.specs.Advances.{Behind, GoesOn, IsNextOne, IsSure};
 ghost use Rattle.alm_flush.specs.Pacing.{NearPace};
+ghost use Rattle.alm_flush.specs.Steps.{BeginsInOrder, BeginsInPace, CallsDevice, CommitsOnly, EndsWithin, HasCauses, IsEither, IsInOrder, IsUntouched, KeepsPhase, NearsPace, OpensBehind, StartsInPace, StaysInPace, StoresBatch};
 
 use crate::advance::Advance;
 use alm_model::accepted_in;
@@ -18,7 +16,7 @@ use alm_store::{Phase, Progress, Store};
 use alm_types::Batch;
 
 // A batch has at most 256 accepted actions.
-pub(crate) fn few(batch: &Batch)
+pub fn few(batch: &Batch)
     ensures { length (accepted_of batch.now.entries) ≤ most_actions }
 {
     let _entries = batch.entries();
@@ -27,43 +25,29 @@ pub(crate) fn few(batch: &Batch)
 // Begins what comes first for this batch where nothing is under way: its commit, or a checkpoint where the batch isn't taken.
 // Whether that was begun.
 fn start<K: Store>(store: &mut K, batch: &Batch) -> bool
-    requires idle { K.phase store.old ≡ Phase.Idle }
+    requires idle { (K.state store.old).phase ≡ Phase.Idle }
     requires some { 0 < length (accepted_of batch.now.entries) }
-    ensures honest { K.honest store.old ↔ K.honest store.new }
-    ensures disk { K.disk store.new ≡ K.disk store.old }
-    ensures device { K.device store.new ≡ K.device store.old }
-    ensures exhausted { K.exhausted store.old ↔ K.exhausted store.new }
-    ensures stored { K.stored store.new ≡ K.stored store.old }
-    ensures failures { K.failures store.new ≡ K.failures store.old }
-    ensures written { K.written store.new ≡ K.written store.old }
-    ensures refused { result ≡ false →
-        (K.phase store.new ≢ Phase.Committing) × (K.next store.new ≡ K.next store.old) }
+    ensures kept { IsUntouched K.Store store.old store.new }
+    ensures refused { result ≡ false → CommitIsNotBegun (K.state store.old) (K.state store.new) }
     ensures begun { IsTrue result →
-        (K.phase store.new ≡ Phase.Committing) ⊎ IsOpen (K.phase store.new) }
+        ((K.state store.new).phase ≡ Phase.Committing) ⊎ IsOpen (K.state store.new).phase }
     ensures taken { IsTrue result → K.takes store.old (accepted_of batch.now.entries) →
-        K.phase store.new ≡ Phase.Committing }
-    ensures commit { IsTrue result → K.phase store.new ≡ Phase.Committing → K.left store.new ≤ 4 }
-    ensures copy { IsTrue result → IsOpen (K.phase store.new) →
-        (K.left store.new ≤ most_calls) ×
+        (K.state store.new).phase ≡ Phase.Committing }
+    ensures commit { IsTrue result →
+        CommitsOnly (accepted_of batch.now.entries) (K.state store.new) }
+    ensures calls { IsTrue result → (K.state store.new).phase ≡ Phase.Committing →
+        (K.state store.new).left ≤ 4 }
+    ensures copy { IsTrue result → IsOpen (K.state store.new).phase →
+        ((K.state store.new).left ≤ most_calls) ×
         (length (accepted_of batch.now.entries) ≤ most_actions →
         K.will_take store.new (accepted_of batch.now.entries)) }
-    ensures next { IsTrue result → K.phase store.new ≡ Phase.Committing →
-        K.next store.new ≡ run (K.stored store.old) (accepted_of batch.now.entries) }
-    ensures admitted { IsTrue result → K.phase store.new ≡ Phase.Committing →
-        admits_all (K.stored store.old) (accepted_of batch.now.entries) ≡ true }
     ensures sure { K.takes store.old (accepted_of batch.now.entries) →
-        batch.now.first ≡ (K.stored store.old).panel.count + 1 →
-        AllAdmitted (K.stored store.old) (accepted_of batch.now.entries) → IsTrue result }
-    ensures cause { ¬ (K.exhausted store.old) →
-        batch.now.first ≡ (K.stored store.old).panel.count + 1 →
-        AllAdmitted (K.stored store.old) (accepted_of batch.now.entries) → IsTrue result }
-    ensures segment { K.segment store.new ≡ K.segment store.old }
-    ensures newest { K.newest store.old → K.newest store.new }
-    ensures pace { IsTrue result → K.takes store.old (accepted_of batch.now.entries) →
-        SamePace (K.used store.old) (K.used store.new) (K.segment store.old) (K.segment store.new)
-        (K.going store.old) (K.going store.new) }
-    ensures alone { IsTrue result → K.phase store.new ≡ Phase.Committing →
-        K.going store.new ≡ K.going store.old }
+        IsNextOne batch.now (K.state store.old) → IsTrue result }
+    ensures cause { ¬ (K.exhausted store.old) → IsNextOne batch.now (K.state store.old) →
+        IsTrue result }
+    ensures pace { IsTrue result →
+        StartsInPace (K.takes store.old (accepted_of batch.now.entries)) (K.state store.old)
+        (K.state store.new) }
 {
     if store.takes(batch) {
         store.begin(batch).is_ok()
@@ -75,32 +59,22 @@ fn start<K: Store>(store: &mut K, batch: &Batch) -> bool
 // Begins the commit of this batch between two pieces of a checkpoint, where it is taken and a piece went out since the last one.
 // Whether it wasn't refused.
 fn interrupt<K: Store>(store: &mut K, batch: &Batch) -> bool
-    requires paused { K.phase store.old ≡ Phase.Paused }
+    requires paused { (K.state store.old).phase ≡ Phase.Paused }
     requires some { 0 < length (accepted_of batch.now.entries) }
-    ensures honest { K.honest store.old ↔ K.honest store.new }
-    ensures disk { K.disk store.new ≡ K.disk store.old }
-    ensures device { K.device store.new ≡ K.device store.old }
-    ensures exhausted { K.exhausted store.old ↔ K.exhausted store.new }
-    ensures stored { K.stored store.new ≡ K.stored store.old }
-    ensures failures { K.failures store.new ≡ K.failures store.old }
-    ensures written { K.written store.new ≡ K.written store.old }
-    ensures refused { result ≡ false →
-        (K.phase store.new ≢ Phase.Committing) × (K.next store.new ≡ K.next store.old) }
+    ensures kept { IsUntouched K.Store store.old store.new }
+    ensures refused { result ≡ false → CommitIsNotBegun (K.state store.old) (K.state store.new) }
     ensures begun { IsTrue result →
-        (K.phase store.new ≡ Phase.Committing) ⊎ (store.new ≡ store.old) }
-    ensures between { K.phase store.new ≡ Phase.Committing → 0 < K.written store.old }
+        ((K.state store.new).phase ≡ Phase.Committing) ⊎ (store.new ≡ store.old) }
+    ensures between { (K.state store.new).phase ≡ Phase.Committing →
+        0 < (K.state store.old).written }
     ensures waits { IsTrue result → K.takes store.old (accepted_of batch.now.entries) →
-        K.phase store.new ≢ Phase.Committing → K.written store.old ≡ 0 }
-    ensures commit { IsTrue result → K.phase store.new ≡ Phase.Committing → K.left store.new ≤ 4 }
-    ensures next { IsTrue result → K.phase store.new ≡ Phase.Committing →
-        K.next store.new ≡ run (K.stored store.old) (accepted_of batch.now.entries) }
-    ensures admitted { IsTrue result → K.phase store.new ≡ Phase.Committing →
-        admits_all (K.stored store.old) (accepted_of batch.now.entries) ≡ true }
-    ensures sure { batch.now.first ≡ (K.stored store.old).panel.count + 1 →
-        AllAdmitted (K.stored store.old) (accepted_of batch.now.entries) → IsTrue result }
-    ensures newest { K.newest store.old → K.newest store.new }
-    ensures pace { SamePace (K.used store.old) (K.used store.new) (K.segment store.old)
-        (K.segment store.new) (K.going store.old) (K.going store.new) }
+        (K.state store.new).phase ≢ Phase.Committing → (K.state store.old).written ≡ 0 }
+    ensures commit { IsTrue result →
+        CommitsOnly (accepted_of batch.now.entries) (K.state store.new) }
+    ensures calls { IsTrue result → (K.state store.new).phase ≡ Phase.Committing →
+        (K.state store.new).left ≤ 4 }
+    ensures sure { IsNextOne batch.now (K.state store.old) → IsTrue result }
+    ensures pace { SamePace (K.state store.old) (K.state store.new) }
 {
     if store.written_since() > 0 && store.takes(batch) {
         return store.begin(batch).is_ok();
@@ -110,58 +84,28 @@ fn interrupt<K: Store>(store: &mut K, batch: &Batch) -> bool
 
 // What is begun for this batch before the next device call. Whether nothing was refused.
 fn prepare<K: Store>(store: &mut K, batch: &Batch) -> bool
-    requires going { K.phase store.old ≢ Phase.Stopped }
+    requires going { (K.state store.old).phase ≢ Phase.Stopped }
     requires some { 0 < length (accepted_of batch.now.entries) }
-    requires next { K.phase store.old ≡ Phase.Committing →
-        K.next store.old ≡ run (K.stored store.old) (accepted_of batch.now.entries) }
-    requires admitted { K.phase store.old ≡ Phase.Committing →
-        admits_all (K.stored store.old) (accepted_of batch.now.entries) ≡ true }
-    ensures honest { K.honest store.old ↔ K.honest store.new }
-    ensures disk { K.disk store.new ≡ K.disk store.old }
-    ensures device { K.device store.new ≡ K.device store.old }
-    ensures exhausted { K.exhausted store.old ↔ K.exhausted store.new }
-    ensures stored { K.stored store.new ≡ K.stored store.old }
-    ensures failures { K.failures store.new ≡ K.failures store.old }
-    ensures written { K.written store.new ≡ K.written store.old }
-    ensures refused { result ≡ false →
-        (K.phase store.new ≢ Phase.Committing) × (K.next store.new ≡ K.next store.old) }
+    requires commit { CommitsOnly (accepted_of batch.now.entries) (K.state store.old) }
+    ensures kept { IsUntouched K.Store store.old store.new }
+    ensures refused { result ≡ false → CommitIsNotBegun (K.state store.old) (K.state store.new) }
     ensures begun { IsTrue result →
-        (K.phase store.new ≡ Phase.Committing) ⊎ IsOpen (K.phase store.new) }
-    ensures taken { IsTrue result → K.phase store.old ≡ Phase.Idle →
-        K.takes store.old (accepted_of batch.now.entries) → K.phase store.new ≡ Phase.Committing }
-    ensures takes { IsTrue result → K.takes store.old (accepted_of batch.now.entries) →
-        IsOpen (K.phase store.new) → K.takes store.new (accepted_of batch.now.entries) }
-    ensures between { K.phase store.old ≡ Phase.Paused → K.phase store.new ≡ Phase.Committing →
-        0 < K.written store.old }
-    ensures waits { IsTrue result → K.takes store.old (accepted_of batch.now.entries) →
-        K.phase store.new ≡ Phase.Paused → K.written store.old ≡ 0 }
+        ((K.state store.new).phase ≡ Phase.Committing) ⊎ IsOpen (K.state store.new).phase }
+    ensures commit { IsTrue result →
+        CommitsOnly (accepted_of batch.now.entries) (K.state store.new) }
+    ensures order { IsTrue result →
+        BeginsInOrder K.Store (accepted_of batch.now.entries) store.old store.new }
+    ensures pace { IsTrue result → BeginsInPace K.Store store.old store.new }
     ensures ends { (m : ℕ) → IsTrue result →
-        Within (m + 1) (K.phase store.old) (K.left store.old)
-        (K.takes store.old (accepted_of batch.now.entries))
-        (K.will_take store.old (accepted_of batch.now.entries))
-        (length (accepted_of batch.now.entries)) →
-        Behind m (K.phase store.new) (K.left store.new)
+        EndsWithin K.Store (m + 1) (accepted_of batch.now.entries) store.old →
+        Behind m (K.state store.new).phase (K.state store.new).left
         (K.will_take store.new (accepted_of batch.now.entries))
         (length (accepted_of batch.now.entries)) }
-    ensures next { IsTrue result → K.phase store.new ≡ Phase.Committing →
-        K.next store.new ≡ run (K.stored store.old) (accepted_of batch.now.entries) }
-    ensures admitted { IsTrue result → K.phase store.new ≡ Phase.Committing →
-        admits_all (K.stored store.old) (accepted_of batch.now.entries) ≡ true }
-    ensures sure { IsSure (K.phase store.old) (K.takes store.old (accepted_of batch.now.entries)) →
-        batch.now.first ≡ (K.stored store.old).panel.count + 1 →
-        AllAdmitted (K.stored store.old) (accepted_of batch.now.entries) → IsTrue result }
-    ensures cause { ¬ (K.exhausted store.old) →
-        batch.now.first ≡ (K.stored store.old).panel.count + 1 →
-        AllAdmitted (K.stored store.old) (accepted_of batch.now.entries) → IsTrue result }
-    ensures segment { K.segment store.new ≡ K.segment store.old }
-    ensures newest { K.newest store.old → K.newest store.new }
-    ensures pace { IsTrue result → K.newest store.old → least_segment ≤ K.segment store.old →
-        KeepsPace (K.segment store.old) (K.phase store.old) (K.used store.old) (K.written store.old)
-        (K.going store.old) →
-        KeepsPace (K.segment store.new) (K.phase store.new) (K.used store.new) (K.written store.new)
-        (K.going store.new) }
-    ensures alone { IsTrue result → K.phase store.new ≡ Phase.Committing →
-        K.going store.new ≡ K.going store.old }
+    ensures sure { IsSure (K.state store.old).phase
+        (K.takes store.old (accepted_of batch.now.entries)) →
+        IsNextOne batch.now (K.state store.old) → IsTrue result }
+    ensures cause { ¬ (K.exhausted store.old) → IsNextOne batch.now (K.state store.old) →
+        IsTrue result }
 {
     few(batch);
     match store.phase() {
@@ -173,68 +117,30 @@ fn prepare<K: Store>(store: &mut K, batch: &Batch) -> bool
 
 // One device call of what was begun for a batch.
 fn call<K: Store>(store: &mut K, batch: &Batch) -> Advance
-    requires working { (K.phase store.old ≡ Phase.Committing) ⊎ IsOpen (K.phase store.old) }
+    requires working { ((K.state store.old).phase ≡ Phase.Committing) ⊎
+        IsOpen (K.state store.old).phase }
     requires some { 0 < length (accepted_of batch.now.entries) }
-    requires next { K.phase store.old ≡ Phase.Committing →
-        K.next store.old ≡ run (K.stored store.old) (accepted_of batch.now.entries) }
-    requires admitted { K.phase store.old ≡ Phase.Committing →
-        admits_all (K.stored store.old) (accepted_of batch.now.entries) ≡ true }
-    ensures honest { K.honest store.old ↔ K.honest store.new }
-    ensures done { result ≢ Advance.Failed →
-        CallDone K.Device.serves (K.disk store.old) (K.disk store.new) }
-    ensures failed { result ≡ Advance.Failed →
-        CallFailed K.Device.serves (K.disk store.old) (K.disk store.new) }
-    ensures sound { result ≢ Advance.Failed → K.failures store.new ≡ K.failures store.old }
-    ensures exhausted { K.exhausted store.old → K.exhausted store.new }
-    ensures call { K.honest store.old → IsCall (K.device store.old) (K.device store.new) }
-    ensures commit { K.phase store.old ≡ Phase.Committing → result ≡ Advance.More →
-        K.phase store.new ≡ Phase.Committing }
-    ensures takes { IsOpen (K.phase store.old) → result ≢ Advance.Failed →
+    requires commit { CommitsOnly (accepted_of batch.now.entries) (K.state store.old) }
+    ensures device { CallsDevice K.Store K.Device.Disk result (accepted_of batch.now.entries)
+        store.old store.new }
+    ensures stores { StoresBatch result (accepted_of batch.now.entries) (K.state store.old)
+        (K.state store.new) }
+    ensures commit { CommitsOnly (accepted_of batch.now.entries) (K.state store.new) }
+    ensures phase { KeepsPhase result (K.state store.old) (K.state store.new) }
+    ensures takes { IsOpen (K.state store.old).phase → result ≢ Advance.Failed →
         K.takes store.old (accepted_of batch.now.entries) →
         K.takes store.new (accepted_of batch.now.entries) }
-    ensures written { K.written store.new ≤ K.written store.old + most }
-    ensures unwritten { K.phase store.old ≢ Phase.Paused →
-        K.written store.new ≤ K.written store.old }
-    ensures copies { IsOpen (K.phase store.old) → K.phase store.new ≢ Phase.Committing }
+    ensures written { ((K.state store.new).written ≤ (K.state store.old).written + most) ×
+        ((K.state store.old).phase ≢ Phase.Paused →
+        (K.state store.new).written ≤ (K.state store.old).written) }
     ensures ends { (m : ℕ) → result ≡ Advance.More →
-        Behind m (K.phase store.old) (K.left store.old)
+        Behind m (K.state store.old).phase (K.state store.old).left
         (K.will_take store.old (accepted_of batch.now.entries))
         (length (accepted_of batch.now.entries)) →
-        Within m (K.phase store.new) (K.left store.new)
-        (K.takes store.new (accepted_of batch.now.entries))
-        (K.will_take store.new (accepted_of batch.now.entries))
-        (length (accepted_of batch.now.entries)) }
-    ensures count { K.failures store.old ≤ K.failures store.new }
-    ensures going { result ≢ Advance.Failed → K.phase store.new ≢ Phase.Stopped }
-    ensures stopped { result ≡ Advance.Failed → K.phase store.new ≡ Phase.Stopped }
-    ensures answer { Advances result (K.phase store.old) (K.phase store.new) (K.stored store.old)
-        (K.stored store.new) (accepted_of batch.now.entries) }
-    ensures next { K.phase store.new ≡ Phase.Committing →
-        K.next store.new ≡ run (K.stored store.new) (accepted_of batch.now.entries) }
-    ensures admitted { K.phase store.new ≡ Phase.Committing →
-        admits_all (K.stored store.new) (accepted_of batch.now.entries) ≡ true }
-    ensures passed { result ≡ Advance.Committed →
-        admits_all (K.stored store.old) (accepted_of batch.now.entries) ≡ true }
-    ensures either { result ≢ Advance.Committed →
-        ∥ (K.next store.new ≡ K.stored store.new) ⊎
-        (K.next store.new ≡ run (K.stored store.new) (accepted_of batch.now.entries)) ∥₁ }
+        EndsWithin K.Store m (accepted_of batch.now.entries) store.new }
     ensures cause { result ≡ Advance.Failed →
-        HasFailed (K.failures store.old) (K.failures store.new) }
-    ensures segment { K.segment store.new ≡ K.segment store.old }
-    ensures newest { K.newest store.old → K.newest store.new }
-    ensures pace { result ≡ Advance.More → least_segment ≤ K.segment store.old →
-        KeepsPace (K.segment store.old) (K.phase store.old) (K.used store.old) (K.written store.old)
-        (K.going store.old) →
-        KeepsPace (K.segment store.new) (K.phase store.new) (K.used store.new) (K.written store.new)
-        (K.going store.new) }
-    ensures near { result ≡ Advance.Committed →
-        KeepsPace (K.segment store.old) (K.phase store.old) (K.used store.old) (K.written store.old)
-        (K.going store.old) →
-        NearPace (K.segment store.new) (K.phase store.new) (K.used store.new) (K.written store.new)
-        (K.going store.new) }
-    ensures commits { result ≡ Advance.Committed → K.phase store.old ≡ Phase.Committing }
-    ensures alone { result ≡ Advance.Committed → K.going store.old ≡ None →
-        K.going store.new ≡ None }
+        HasFailed (K.Device.failures (K.disk store.old)) (K.Device.failures (K.disk store.new)) }
+    ensures pace { NearsPace K.Store result store.old store.new }
 {
     let phase = store.phase();
     match store.advance() {
@@ -249,25 +155,18 @@ fn call<K: Store>(store: &mut K, batch: &Batch) -> Advance
 
 // Opens a checkpoint where none is open and more than half of the segment is used; not in the last epoch.
 fn open_checkpoint<K: Store>(store: &mut K)
-    requires other { (K.phase store.old ≢ Phase.Committing) × (K.phase store.old ≢ Phase.Stopped) }
-    ensures honest { K.honest store.old ↔ K.honest store.new }
-    ensures disk { K.disk store.new ≡ K.disk store.old }
-    ensures device { K.device store.new ≡ K.device store.old }
-    ensures exhausted { K.exhausted store.old ↔ K.exhausted store.new }
-    ensures stored { K.stored store.new ≡ K.stored store.old }
-    ensures failures { K.failures store.new ≡ K.failures store.old }
-    ensures phase { (K.phase store.new ≢ Phase.Committing) × (K.phase store.new ≢ Phase.Stopped) }
-    ensures opens { ¬ (K.exhausted store.old) → K.segment store.new < 2 * K.used store.new →
-        IsOpen (K.phase store.new) }
-    ensures segment { K.segment store.new ≡ K.segment store.old }
-    ensures newest { K.newest store.old → K.newest store.new }
-    ensures pace { ¬ (K.exhausted store.new) →
-        NearPace (K.segment store.old) (K.phase store.old) (K.used store.old) (K.written store.old)
-        (K.going store.old) →
-        KeepsPace (K.segment store.new) (K.phase store.new) (K.used store.new) (K.written store.new)
-        (K.going store.new) }
-    ensures only { 2 * K.used store.new ≤ K.segment store.new →
-        K.going store.new ≡ K.going store.old }
+    requires other { ((K.state store.old).phase ≢ Phase.Committing) ×
+        ((K.state store.old).phase ≢ Phase.Stopped) }
+    ensures kept { IsUntouched K.Store store.old store.new }
+    ensures phase { ((K.state store.new).phase ≢ Phase.Committing) ×
+        ((K.state store.new).phase ≢ Phase.Stopped) }
+    ensures opens { ¬ (K.exhausted store.old) →
+        (K.state store.new).segment < 2 * (K.state store.new).used →
+        IsOpen (K.state store.new).phase }
+    ensures pace { ¬ (K.exhausted store.new) → NearPace (K.state store.old) →
+        KeepsPace (K.state store.new) }
+    ensures only { 2 * (K.state store.new).used ≤ (K.state store.new).segment →
+        (K.state store.new).going ≡ (K.state store.old).going }
 {
     if store.phase() == Phase::Idle && store.is_half_used() {
         match store.begin_checkpoint() {
@@ -279,81 +178,22 @@ fn open_checkpoint<K: Store>(store: &mut K)
 
 // At most one device call for a batch with actions.
 fn commit<K: Store>(store: &mut K, batch: &Batch) -> Advance
-    requires going { K.phase store.old ≢ Phase.Stopped }
+    requires going { (K.state store.old).phase ≢ Phase.Stopped }
     requires some { 0 < length (accepted_of batch.now.entries) }
-    requires next { K.phase store.old ≡ Phase.Committing →
-        K.next store.old ≡ run (K.stored store.old) (accepted_of batch.now.entries) }
-    requires admitted { K.phase store.old ≡ Phase.Committing →
-        admits_all (K.stored store.old) (accepted_of batch.now.entries) ≡ true }
-    requires either { ∥ (K.next store.old ≡ K.stored store.old) ⊎
-        (K.next store.old ≡ run (K.stored store.old) (accepted_of batch.now.entries)) ∥₁ }
-    ensures honest { K.honest store.old ↔ K.honest store.new }
-    ensures done { result ≢ Advance.Failed →
-        CallDone K.Device.serves (K.disk store.old) (K.disk store.new) }
-    ensures failed { result ≡ Advance.Failed →
-        (K.disk store.new ≡ K.disk store.old) ⊎
-        CallFailed K.Device.serves (K.disk store.old) (K.disk store.new) }
-    ensures sound { result ≢ Advance.Failed → K.failures store.new ≡ K.failures store.old }
-    ensures exhausted { K.exhausted store.old → K.exhausted store.new }
-    ensures call { K.honest store.old → IsCalls (K.device store.old) (K.device store.new) }
-    ensures one { K.honest store.old → result ≢ Advance.Failed →
-        IsCall (K.device store.old) (K.device store.new) }
-    ensures taken { K.phase store.old ≡ Phase.Idle →
-        K.takes store.old (accepted_of batch.now.entries) → result ≡ Advance.More →
-        K.phase store.new ≡ Phase.Committing }
-    ensures between { K.phase store.old ≡ Phase.Paused → K.phase store.new ≡ Phase.Committing →
-        0 < K.written store.old }
-    ensures waits { result ≡ Advance.More → K.takes store.old (accepted_of batch.now.entries) →
-        K.written store.old ≤ most → K.written store.new ≤ most }
-    ensures still { result ≡ Advance.More → K.takes store.old (accepted_of batch.now.entries) →
-        K.phase store.new ≢ Phase.Committing → K.takes store.new (accepted_of batch.now.entries) }
+    requires commit { CommitsOnly (accepted_of batch.now.entries) (K.state store.old) }
+    requires either { IsEither (accepted_of batch.now.entries) (K.state store.old) }
+    ensures device { CallsDevice K.Store K.Device.Disk result (accepted_of batch.now.entries)
+        store.old store.new }
+    ensures stores { StoresBatch result (accepted_of batch.now.entries) (K.state store.old)
+        (K.state store.new) }
+    ensures commit { CommitsOnly (accepted_of batch.now.entries) (K.state store.new) }
+    ensures order { IsInOrder K.Store result (accepted_of batch.now.entries) store.old store.new }
     ensures ends { (m : ℕ) → result ≡ Advance.More →
-        Within (m + 1) (K.phase store.old) (K.left store.old)
-        (K.takes store.old (accepted_of batch.now.entries))
-        (K.will_take store.old (accepted_of batch.now.entries))
-        (length (accepted_of batch.now.entries)) →
-        Within m (K.phase store.new) (K.left store.new)
-        (K.takes store.new (accepted_of batch.now.entries))
-        (K.will_take store.new (accepted_of batch.now.entries))
-        (length (accepted_of batch.now.entries)) }
-    ensures count { K.failures store.old ≤ K.failures store.new }
-    ensures going { result ≢ Advance.Failed → K.phase store.new ≢ Phase.Stopped }
-    ensures answer { Advances result (K.phase store.old) (K.phase store.new) (K.stored store.old)
-        (K.stored store.new) (accepted_of batch.now.entries) }
-    ensures next { K.phase store.new ≡ Phase.Committing →
-        K.next store.new ≡ run (K.stored store.new) (accepted_of batch.now.entries) }
-    ensures admitted { K.phase store.new ≡ Phase.Committing →
-        admits_all (K.stored store.new) (accepted_of batch.now.entries) ≡ true }
-    ensures passed { result ≡ Advance.Committed →
-        admits_all (K.stored store.old) (accepted_of batch.now.entries) ≡ true }
-    ensures either { result ≢ Advance.Committed →
-        ∥ (K.next store.new ≡ K.stored store.new) ⊎
-        (K.next store.new ≡ run (K.stored store.new) (accepted_of batch.now.entries)) ∥₁ }
-    ensures sure { result ≡ Advance.Failed →
-        IsSure (K.phase store.old) (K.takes store.old (accepted_of batch.now.entries)) →
-        batch.now.first ≡ (K.stored store.old).panel.count + 1 →
-        AllAdmitted (K.stored store.old) (accepted_of batch.now.entries) →
-        HasFailed (K.failures store.old) (K.failures store.new) }
-    ensures cause { result ≡ Advance.Failed → ¬ (K.exhausted store.old) →
-        batch.now.first ≡ (K.stored store.old).panel.count + 1 →
-        AllAdmitted (K.stored store.old) (accepted_of batch.now.entries) →
-        HasFailed (K.failures store.old) (K.failures store.new) }
-    ensures segment { K.segment store.new ≡ K.segment store.old }
-    ensures newest { K.newest store.old → K.newest store.new }
-    ensures pace { result ≡ Advance.More → K.newest store.old →
-        least_segment ≤ K.segment store.old →
-        KeepsPace (K.segment store.old) (K.phase store.old) (K.used store.old) (K.written store.old)
-        (K.going store.old) →
-        KeepsPace (K.segment store.new) (K.phase store.new) (K.used store.new) (K.written store.new)
-        (K.going store.new) }
-    ensures near { result ≡ Advance.Committed → K.newest store.old →
-        least_segment ≤ K.segment store.old →
-        KeepsPace (K.segment store.old) (K.phase store.old) (K.used store.old) (K.written store.old)
-        (K.going store.old) →
-        NearPace (K.segment store.new) (K.phase store.new) (K.used store.new) (K.written store.new)
-        (K.going store.new) }
-    ensures alone { result ≡ Advance.Committed → K.going store.old ≡ None →
-        K.going store.new ≡ None }
+        EndsWithin K.Store (m + 1) (accepted_of batch.now.entries) store.old →
+        EndsWithin K.Store m (accepted_of batch.now.entries) store.new }
+    ensures causes { HasCauses K.Store K.Device.Disk result (accepted_of batch.now.entries)
+        (IsNextOne batch.now (K.state store.old)) store.old store.new }
+    ensures pace { NearsPace K.Store result store.old store.new }
 {
     if !prepare(store, batch) {
         return Advance::Failed;
@@ -363,82 +203,27 @@ fn commit<K: Store>(store: &mut K, batch: &Batch) -> Advance
 
 /// At most one device call. A batch without actions needs none; one that isn't taken needs a checkpoint first. Once a batch is
 /// committed a checkpoint is opened where more than half of the segment is used.
-pub(crate) fn advance_by<K: Store>(store: &mut K, batch: &Batch) -> Advance
-    requires idle { accepted_of batch.now.entries ≡ [] → K.phase store.old ≢ Phase.Committing }
-    requires next { K.phase store.old ≡ Phase.Committing →
-        K.next store.old ≡ run (K.stored store.old) (accepted_of batch.now.entries) }
-    requires admitted { K.phase store.old ≡ Phase.Committing →
-        admits_all (K.stored store.old) (accepted_of batch.now.entries) ≡ true }
-    requires either { ∥ (K.next store.old ≡ K.stored store.old) ⊎
-        (K.next store.old ≡ run (K.stored store.old) (accepted_of batch.now.entries)) ∥₁ }
-    ensures honest { K.honest store.old ↔ K.honest store.new }
-    ensures done { 0 < length (accepted_of batch.now.entries) → result ≢ Advance.Failed →
-        CallDone K.Device.serves (K.disk store.old) (K.disk store.new) }
-    ensures failed { result ≡ Advance.Failed →
-        (K.disk store.new ≡ K.disk store.old) ⊎
-        CallFailed K.Device.serves (K.disk store.old) (K.disk store.new) }
-    ensures sound { result ≢ Advance.Failed → K.failures store.new ≡ K.failures store.old }
-    ensures exhausted { K.exhausted store.old → K.exhausted store.new }
-    ensures call { K.honest store.old → IsCalls (K.device store.old) (K.device store.new) }
-    ensures one { K.honest store.old → 0 < length (accepted_of batch.now.entries) →
-        result ≢ Advance.Failed → IsCall (K.device store.old) (K.device store.new) }
-    ensures none { accepted_of batch.now.entries ≡ [] →
-        (K.disk store.new ≡ K.disk store.old) × (K.device store.new ≡ K.device store.old) ×
-        (K.failures store.new ≡ K.failures store.old) }
-    ensures taken { K.phase store.old ≡ Phase.Idle →
-        K.takes store.old (accepted_of batch.now.entries) → result ≡ Advance.More →
-        K.phase store.new ≡ Phase.Committing }
-    ensures opens { result ≡ Advance.Committed → ¬ (K.exhausted store.new) →
-        K.segment store.new < 2 * K.used store.new → IsOpen (K.phase store.new) }
-    ensures only { result ≡ Advance.Committed → K.going store.old ≡ None →
-        2 * K.used store.new ≤ K.segment store.new → K.going store.new ≡ None }
-    ensures between { K.phase store.old ≡ Phase.Paused → K.phase store.new ≡ Phase.Committing →
-        0 < K.written store.old }
-    ensures waits { result ≡ Advance.More → K.takes store.old (accepted_of batch.now.entries) →
-        K.written store.old ≤ most → K.written store.new ≤ most }
-    ensures still { result ≡ Advance.More → K.takes store.old (accepted_of batch.now.entries) →
-        K.phase store.new ≢ Phase.Committing → K.takes store.new (accepted_of batch.now.entries) }
+pub fn advance_by<K: Store>(store: &mut K, batch: &Batch) -> Advance
+    requires idle { accepted_of batch.now.entries ≡ [] →
+        (K.state store.old).phase ≢ Phase.Committing }
+    requires commit { CommitsOnly (accepted_of batch.now.entries) (K.state store.old) }
+    requires either { IsEither (accepted_of batch.now.entries) (K.state store.old) }
+    ensures device { CallsDevice K.Store K.Device.Disk result (accepted_of batch.now.entries)
+        store.old store.new }
+    ensures stores { StoresBatch result (accepted_of batch.now.entries) (K.state store.old)
+        (K.state store.new) }
+    ensures commit { CommitsOnly (accepted_of batch.now.entries) (K.state store.new) }
+    ensures order { IsInOrder K.Store result (accepted_of batch.now.entries) store.old store.new }
+    ensures behind { OpensBehind K.Store result store.old store.new }
+    ensures pace { StaysInPace K.Store result store.old store.new }
     ensures ends { (m : ℕ) → result ≡ Advance.More →
-        Within (m + 1) (K.phase store.old) (K.left store.old)
-        (K.takes store.old (accepted_of batch.now.entries))
-        (K.will_take store.old (accepted_of batch.now.entries))
-        (length (accepted_of batch.now.entries)) →
-        Within m (K.phase store.new) (K.left store.new)
-        (K.takes store.new (accepted_of batch.now.entries))
-        (K.will_take store.new (accepted_of batch.now.entries))
-        (length (accepted_of batch.now.entries)) }
-    ensures count { K.failures store.old ≤ K.failures store.new }
-    ensures going { result ≢ Advance.Failed → K.phase store.new ≢ Phase.Stopped }
-    ensures answer { Advances result (K.phase store.old) (K.phase store.new) (K.stored store.old)
-        (K.stored store.new) (accepted_of batch.now.entries) }
-    ensures next { K.phase store.new ≡ Phase.Committing →
-        K.next store.new ≡ run (K.stored store.new) (accepted_of batch.now.entries) }
-    ensures admitted { K.phase store.new ≡ Phase.Committing →
-        admits_all (K.stored store.new) (accepted_of batch.now.entries) ≡ true }
-    ensures passed { result ≡ Advance.Committed →
-        admits_all (K.stored store.old) (accepted_of batch.now.entries) ≡ true }
-    ensures either { result ≢ Advance.Committed →
-        ∥ (K.next store.new ≡ K.stored store.new) ⊎
-        (K.next store.new ≡ run (K.stored store.new) (accepted_of batch.now.entries)) ∥₁ }
-    ensures rests { result ≡ Advance.Committed → ∥ K.next store.new ≡ K.stored store.new ∥₁ }
-    ensures idle { accepted_of batch.now.entries ≡ [] → K.phase store.new ≢ Phase.Committing }
-    ensures sure { result ≡ Advance.Failed →
-        IsSure (K.phase store.old) (K.takes store.old (accepted_of batch.now.entries)) →
-        batch.now.first ≡ (K.stored store.old).panel.count + 1 →
-        AllAdmitted (K.stored store.old) (accepted_of batch.now.entries) →
-        HasFailed (K.failures store.old) (K.failures store.new) }
-    ensures cause { result ≡ Advance.Failed → K.phase store.old ≢ Phase.Stopped →
-        ¬ (K.exhausted store.old) → batch.now.first ≡ (K.stored store.old).panel.count + 1 →
-        AllAdmitted (K.stored store.old) (accepted_of batch.now.entries) →
-        HasFailed (K.failures store.old) (K.failures store.new) }
-    ensures segment { K.segment store.new ≡ K.segment store.old }
-    ensures newest { K.newest store.old → K.newest store.new }
-    ensures pace { result ≢ Advance.Failed → ¬ (K.exhausted store.new) → K.newest store.old →
-        least_segment ≤ K.segment store.old →
-        KeepsPace (K.segment store.old) (K.phase store.old) (K.used store.old) (K.written store.old)
-        (K.going store.old) →
-        KeepsPace (K.segment store.new) (K.phase store.new) (K.used store.new) (K.written store.new)
-        (K.going store.new) }
+        EndsWithin K.Store (m + 1) (accepted_of batch.now.entries) store.old →
+        EndsWithin K.Store m (accepted_of batch.now.entries) store.new }
+    ensures causes { HasCauses K.Store K.Device.Disk result (accepted_of batch.now.entries)
+        (IsNextOne batch.now (K.state store.old)) store.old store.new }
+    ensures idle { (accepted_of batch.now.entries ≡ [] →
+        (K.state store.new).phase ≢ Phase.Committing) ×
+        (result ≡ Advance.Committed → ∥ (K.state store.new).next ≡ (K.state store.new).stored ∥₁) }
 {
     if store.phase() == Phase::Stopped {
         return Advance::Failed;
@@ -455,35 +240,19 @@ pub(crate) fn advance_by<K: Store>(store: &mut K, batch: &Batch) -> Advance
 }
 
 /// Without a batch to commit an open checkpoint goes on by one device call.
-pub(crate) fn go_on<K: Store>(store: &mut K) -> Advance
-    requires other { K.phase store.old ≢ Phase.Committing }
-    ensures honest { K.honest store.old ↔ K.honest store.new }
-    ensures done { result ≡ Advance.More →
-        CallDone K.Device.serves (K.disk store.old) (K.disk store.new) }
-    ensures failed { result ≡ Advance.Failed →
-        (K.disk store.new ≡ K.disk store.old) ⊎
-        CallFailed K.Device.serves (K.disk store.old) (K.disk store.new) }
-    ensures sound { result ≢ Advance.Failed → K.failures store.new ≡ K.failures store.old }
-    ensures exhausted { K.exhausted store.old → K.exhausted store.new }
-    ensures call { K.honest store.old → IsCalls (K.device store.old) (K.device store.new) }
-    ensures one { K.honest store.old → result ≡ Advance.More →
-        IsCall (K.device store.old) (K.device store.new) }
-    ensures answer { GoesOn result (K.phase store.old) (K.phase store.new) }
-    ensures stored { K.stored store.new ≡ K.stored store.old }
-    ensures other { K.phase store.new ≢ Phase.Committing }
-    ensures next { K.phase store.old ≢ Phase.Stopped → K.next store.new ≡ K.stored store.new }
-    ensures stopped { K.phase store.old ≡ Phase.Stopped → store.new ≡ store.old }
+pub fn go_on<K: Store>(store: &mut K) -> Advance
+    requires other { (K.state store.old).phase ≢ Phase.Committing }
+    ensures device { CallsDevice K.Store K.Device.Disk result [] store.old store.new }
+    ensures answer { GoesOn result (K.state store.old).phase (K.state store.new).phase }
+    ensures stored { (K.state store.new).stored ≡ (K.state store.old).stored }
+    ensures other { (K.state store.new).phase ≢ Phase.Committing }
+    ensures next { (K.state store.old).phase ≢ Phase.Stopped →
+        (K.state store.new).next ≡ (K.state store.new).stored }
+    ensures stopped { (K.state store.old).phase ≡ Phase.Stopped → store.new ≡ store.old }
     ensures nothing { result ≡ Advance.Nothing → store.new ≡ store.old }
-    ensures count { K.failures store.old ≤ K.failures store.new }
-    ensures cause { result ≡ Advance.Failed → K.phase store.old ≢ Phase.Stopped →
-        HasFailed (K.failures store.old) (K.failures store.new) }
-    ensures segment { K.segment store.new ≡ K.segment store.old }
-    ensures newest { K.newest store.old → K.newest store.new }
-    ensures pace { result ≢ Advance.Failed → least_segment ≤ K.segment store.old →
-        KeepsPace (K.segment store.old) (K.phase store.old) (K.used store.old) (K.written store.old)
-        (K.going store.old) →
-        KeepsPace (K.segment store.new) (K.phase store.new) (K.used store.new) (K.written store.new)
-        (K.going store.new) }
+    ensures cause { result ≡ Advance.Failed → (K.state store.old).phase ≢ Phase.Stopped →
+        HasFailed (K.Device.failures (K.disk store.old)) (K.Device.failures (K.disk store.new)) }
+    ensures pace { StaysInPace K.Store result store.old store.new }
 {
     match store.phase() {
         Phase::Copying | Phase::Paused => match store.advance() {

@@ -10,7 +10,7 @@ ghost use Rattle.alm_rings.specs.Batches.{fetched_of};
 ghost use Rattle.alm_rings.specs.Placed.{released_by};
 ghost use Rattle.alm_board.specs.Fronts.{IsFront};
 ghost use Rattle.alm_store.specs.declared.phase.Phase.TheVariants.{Committing};
-ghost use Rattle.alm_flush.specs.HeldBatch.{batches_of, waiting_of, ready_of, stored_of, shown_of, told_of};
+ghost use Rattle.alm_flush.specs.HeldBatch.{batches_of, waiting_of, ready_of, stored_of, published_entries, released_entries};
 ghost use Rattle.alm_flush.specs.Replies.{replies_in, replies_to};
 
 use crate::advance::Advance;
@@ -45,26 +45,39 @@ pub struct Flusher<K: Store, T: Told + Drop, B: Board<Told = T>> {
     number: u64,
     // The ends when nothing was held.
     before: Snapshot<FetchEnds>,
-    pub ghost placed: { (k : ℕ) (o : Outbox _ _) → slice_get outboxes.items k ≡ Some o → slice_get places o.slot ≡ Some k },
-    pub ghost back: { (s k : ℕ) (o : Outbox _ _) → slice_get places s ≡ Some k → slice_get outboxes.items k ≡ Some o → o.slot ≡ s },
+    pub ghost placed: { (k : ℕ) (o : Outbox _ _) → slice_get outboxes.items k ≡ Some o →
+        slice_get places o.slot ≡ Some k },
+    pub ghost back: { (s k : ℕ) (o : Outbox _ _) → slice_get places s ≡ Some k →
+        slice_get outboxes.items k ≡ Some o → o.slot ≡ s },
     pub ghost held_is: { fetched_of fetch ≡ fetched_of before.value ++ batches_of held },
     /// What is stored,
-    pub ghost stored: { K.stored store ≡ run (B.base board) (accepted_of (entries_in (fetched_of before.value) ++ stored_of held)) },
+    pub ghost stored: { (K.state store).stored ≡
+        run (B.base board) (accepted_of (entries_in (fetched_of before.value) ++ stored_of held)) },
     /// what is published: a front of it,
-    pub ghost published: { B.published board ≡ accepted_of (entries_in (fetched_of before.value) ++ shown_of held) },
+    pub ghost published: { B.published board ≡
+        accepted_of (entries_in (fetched_of before.value) ++ published_entries held) },
     pub ghost pending: { IsFront (B.pending board) (accepted_of (ready_of held)) },
     /// and what is released to each slot.
-    pub ghost released: { (s : ℕ) → replies_in (released_by s outboxes.items) ≡ replies_to (of_slot s (entries_in (fetched_of before.value) ++ told_of held)) },
-    pub ghost number_is: { number ≡ (B.base board).panel.count + length (accepted_of (entries_in (fetched_of before.value) ++ told_of held)) },
+    pub ghost released: { (s : ℕ) →
+        replies_in (released_by s outboxes.items) ≡
+        replies_to (of_slot s (entries_in (fetched_of before.value) ++ released_entries held)) },
+    pub ghost number_is: { number ≡
+        (B.base board).panel.count +
+        length (accepted_of (entries_in (fetched_of before.value) ++ released_entries held)) },
     /// The numbers that were released are stored.
-    pub ghost numbers: { (s k : ℕ) (r : Receipt _ _) → slice_get (released_by s outboxes.items) k ≡ Some r → r.number ≤ number },
-    pub ghost idle: { accepted_of (waiting_of held) ≡ [] → K.phase store ≢ Committing },
-    pub ghost next: { K.phase store ≡ Committing → K.next store ≡ run (K.stored store) (accepted_of (waiting_of held)) },
+    pub ghost numbers: { (s k : ℕ) (r : Receipt _ _) →
+        slice_get (released_by s outboxes.items) k ≡ Some r → r.number ≤ number },
+    pub ghost idle: { accepted_of (waiting_of held) ≡ [] → (K.state store).phase ≢ Committing },
+    pub ghost next: { (K.state store).phase ≡ Committing →
+        (K.state store).next ≡ run (K.state store).stored (accepted_of (waiting_of held)) },
     /// What is being committed is admitted, and what is to be published.
-    pub ghost admitted: { K.phase store ≡ Committing → admits_all (K.stored store) (accepted_of (waiting_of held)) ≡ true },
-    pub ghost ready: { admits_all (run (B.base board) (B.published board)) (accepted_of (ready_of held)) ≡ true },
+    pub ghost admitted: { (K.state store).phase ≡ Committing →
+        admits_all (K.state store).stored (accepted_of (waiting_of held)) ≡ true },
+    pub ghost ready: { admits_all (run (B.base board) (B.published board))
+        (accepted_of (ready_of held)) ≡ true },
     /// The plant that the store is about to hold is the stored one, or the one with the held batch.
-    pub ghost either: { ∥ (K.next store ≡ K.stored store) ⊎ (K.next store ≡ run (K.stored store) (accepted_of (waiting_of held))) ∥₁ },
+    pub ghost either: { ∥ ((K.state store).next ≡ (K.state store).stored) ⊎
+        ((K.state store).next ≡ run (K.state store).stored (accepted_of (waiting_of held))) ∥₁ },
 }
 
 // The number that a receipt has with this verdict, behind the number before it.
@@ -84,18 +97,17 @@ fn number_of(verdict: Verdict, before: u64, count: u64) -> u64
 impl<K: Store, T: Told + Drop, B: Board<Told = T>> Flusher<K, T, B> {
     ghost use Rattle.std.specs.Prelude.{◌≡◌, ◌≢◌, ◌↔◌, ◌⊎◌, ◌+◌, ◌*◌, ◌<◌, ◌≤◌, ◌++◌, [], ℕ, List, length, MatchBool, false, slice_get, Some, None, IsSome, IsTrue};
     ghost use Rattle.alm_disk.specs.Failures.{HasFailed};
-    ghost use Rattle.alm_store.specs.Calls.{IsCall, CallDone, CallFailed};
-    ghost use Rattle.alm_store.specs.Pace.{KeepsPace, least_segment, most};
-    ghost use Rattle.alm_store.specs.Advancing.{IsCalls, IsOpen, Same, SameWords};
     ghost use Rattle.alm_types.specs.declared.action.Action.{Action};
+    ghost use Rattle.alm_store.specs.Pace.{least_segment};
+    ghost use Rattle.alm_store.specs.Pacing.{KeepsPace};
     ghost use Rattle.alm_rings.specs.Batches.{AreBatchEnds, SameSealEnds, SameFetchEnds, sealed_of, fetched_of, given_of, emptied_of, empties_in, coming_in, places_of, places_in};
     ghost use Rattle.alm_rings.specs.Placed.{AreApart, outbox_at, released_by, room_by, SameOutboxAt};
     ghost use Rattle.alm_rings.specs.Ends.{sent_of, received_of, coming_to, room_of, SameConsole};
     ghost use Rattle.rtrb.specs.Ring.{IsPair};
     ghost use Rattle.alm_rings.specs.declared.outbox.Outbox.{Outbox};
-    ghost use Rattle.alm_flush.specs.Advances.{IsSure, Within};
-    ghost use Rattle.alm_flush.specs.Flushes.{FetchAnswers, AdvanceAnswers, PublishAnswers, ReleaseAnswers, GivesBack, IsDone, IsFree, IsNext};
-    ghost use Rattle.alm_flush.specs.HeldBatch.{next_of, to_commit};
+    ghost use Rattle.alm_flush.specs.Flushes.{FetchAnswers, AdvanceAnswers, PublishAnswers, ReleaseAnswers, GivesBack, AreAllReleased, IsFree, IsNext};
+    ghost use Rattle.alm_flush.specs.HeldBatch.{next_entry_of, to_commit};
+    ghost use Rattle.alm_flush.specs.Steps.{CallsDevice, EndsWithin, HasCauses, IsAsBefore, IsInOrder, OpensBehind, StaysInPace};
     ghost use Rattle.alm_rings.specs.declared.receipt.Receipt.{Receipt};
 
     /// Nothing is held at first. The store has no work begun, and the board shows the plant that is stored.
@@ -103,8 +115,8 @@ impl<K: Store, T: Told + Drop, B: Board<Told = T>> Flusher<K, T, B> {
         requires apart { AreApart (λ o. o.slot) outboxes.items }
         requires released { (s : ℕ) → released_by s outboxes.items ≡ [] }
         requires fetched { fetched_of fetch ≡ [] }
-        requires idle { K.phase store ≡ Phase.Idle }
-        requires stored { K.stored store ≡ B.base board }
+        requires idle { (K.state store).phase ≡ Phase.Idle }
+        requires stored { (K.state store).stored ≡ B.base board }
         requires published { B.published board ≡ [] }
         requires pending { B.pending board ≡ [] }
         ensures parts { (result.store ≡ store) × (result.board ≡ board) ×
@@ -136,7 +148,7 @@ impl<K: Store, T: Told + Drop, B: Board<Told = T>> Flusher<K, T, B> {
 
     /// The entry whose verdict is the next to be released.
     pub fn next(&self) -> Option<Entry>
-        ensures { result ≡ next_of self.now.held }
+        ensures { result ≡ next_entry_of self.now.held }
     {
         self.held.next()
     }
@@ -150,28 +162,14 @@ impl<K: Store, T: Told + Drop, B: Board<Told = T>> Flusher<K, T, B> {
             (self.new.before.value ≡ self.old.before.value) }
         ensures kept { result ≢ Fetch.Got → self.new.store ≡ self.old.store }
         // The store counts what a checkpoint writes from here on; else it is as before.
-        ensures marked { result ≡ Fetch.Got → K.written self.new.store ≡ 0 }
-        ensures honest { K.honest self.old.store ↔ K.honest self.new.store }
-        ensures store { Same (K.device self.old.store) (K.device self.new.store)
-            (K.stored self.old.store) (K.stored self.new.store) (K.failures self.old.store)
-            (K.failures self.new.store) }
-        ensures words { SameWords (K.phase self.old.store) (K.phase self.new.store)
-            (K.next self.old.store) (K.next self.new.store) (K.left self.old.store)
-            (K.left self.new.store) (K.used self.old.store) (K.used self.new.store)
-            (K.segment self.old.store) (K.segment self.new.store) }
-        ensures takes { (actions : List Action) →
-            (K.takes self.old.store actions ↔ K.takes self.new.store actions) ×
-            (K.will_take self.old.store actions ↔ K.will_take self.new.store actions) }
+        ensures marked { result ≡ Fetch.Got → (K.state self.new.store).written ≡ 0 }
+        ensures store { IsAsBefore K.Store self.old.store self.new.store }
         // A store that keeps its pace does so, and takes the batch where the half that stands is of the newest version.
-        ensures newest { K.newest self.old.store → K.newest self.new.store }
-        ensures pace { KeepsPace (K.segment self.old.store) (K.phase self.old.store)
-            (K.used self.old.store) (K.written self.old.store) (K.going self.old.store) →
-            KeepsPace (K.segment self.new.store) (K.phase self.new.store) (K.used self.new.store)
-            (K.written self.new.store) (K.going self.new.store) }
+        ensures pace { KeepsPace (K.state self.old.store) →
+            KeepsPace (K.state self.new.store) }
         ensures taken { result ≡ Fetch.Got → K.newest self.new.store →
-            least_segment ≤ K.segment self.new.store →
-            KeepsPace (K.segment self.new.store) (K.phase self.new.store) (K.used self.new.store)
-            (K.written self.new.store) (K.going self.new.store) →
+            least_segment ≤ (K.state self.new.store).segment →
+            KeepsPace (K.state self.new.store) →
             K.takes self.new.store (to_commit self.new.held) }
         ensures answer { FetchAnswers result self.old.held self.new.held self.old.fetch
             self.new.fetch }
@@ -196,89 +194,32 @@ impl<K: Store, T: Told + Drop, B: Board<Told = T>> Flusher<K, T, B> {
     /// Where more than half of the segment is used behind a commit, a checkpoint is opened. It goes out in pieces: one before
     /// each commit of a batch that is taken, and as long as no batch is to be committed one after the other.
     pub fn advance(&mut self) -> Advance
-        ensures honest { K.honest self.old.store ↔ K.honest self.new.store }
         ensures same { (self.new.board ≡ self.old.board) × (self.new.outboxes ≡ self.old.outboxes) ×
             (self.new.before.value ≡ self.old.before.value) × (self.new.fetch ≡ self.old.fetch) }
-        // At most one device call, whatever the device does: one that was done where it goes on with a batch that has actions, or
-        // with a checkpoint; none for a batch without actions; and where it fails one that failed, or none.
-        ensures done { 0 < length (to_commit self.old.held) → result ≢ Advance.Failed →
-            CallDone K.Device.serves (K.disk self.old.store) (K.disk self.new.store) }
-        ensures goes { result ≡ Advance.More →
-            CallDone K.Device.serves (K.disk self.old.store) (K.disk self.new.store) }
-        ensures failed { result ≡ Advance.Failed →
-            (K.disk self.new.store ≡ K.disk self.old.store) ⊎
-            CallFailed K.Device.serves (K.disk self.old.store) (K.disk self.new.store) }
-        ensures sound { result ≢ Advance.Failed →
-            K.failures self.new.store ≡ K.failures self.old.store }
-        ensures exhausted { K.exhausted self.old.store → K.exhausted self.new.store }
-        // Of an honest one it is a write or a sync by its bytes.
-        ensures call { K.honest self.old.store →
-            IsCalls (K.device self.old.store) (K.device self.new.store) }
-        ensures one { K.honest self.old.store → 0 < length (to_commit self.old.held) →
-            result ≢ Advance.Failed → IsCall (K.device self.old.store) (K.device self.new.store) }
-        ensures more { K.honest self.old.store → result ≡ Advance.More →
-            IsCall (K.device self.old.store) (K.device self.new.store) }
-        ensures none { to_commit self.old.held ≡ [] → result ≡ Advance.Committed →
-            (K.disk self.new.store ≡ K.disk self.old.store) ×
-            (K.device self.new.store ≡ K.device self.old.store) ×
-            (K.failures self.new.store ≡ K.failures self.old.store) }
+        ensures device { CallsDevice K.Store K.Device.Disk result (to_commit self.old.held)
+            self.old.store self.new.store }
         ensures nothing { result ≡ Advance.Nothing → self.new.store ≡ self.old.store }
-        // A checkpoint only where the store doesn't take the batch.
-        ensures taken { K.phase self.old.store ≡ Phase.Idle →
-            K.takes self.old.store (to_commit self.old.held) → result ≡ Advance.More →
-            K.phase self.new.store ≡ Phase.Committing }
-        // Behind a commit a checkpoint is open where more than half of the segment is used, but for the last epoch.
-        ensures opens { result ≡ Advance.Committed → ¬ (K.exhausted self.new.store) →
-            K.segment self.new.store < 2 * K.used self.new.store → IsOpen (K.phase self.new.store) }
-        // Behind a commit none is opened where that isn't so.
-        ensures only { result ≡ Advance.Committed → K.going self.old.store ≡ None →
-            2 * K.used self.new.store ≤ K.segment self.new.store → K.going self.new.store ≡ None }
-        // A piece goes out before each commit within a checkpoint,
-        ensures between { K.phase self.old.store ≡ Phase.Paused →
-            K.phase self.new.store ≡ Phase.Committing → 0 < K.written self.old.store }
-        // and no more than one while a batch waits that was taken as it was fetched.
-        ensures waits { result ≡ Advance.More → K.takes self.old.store (to_commit self.old.held) →
-            0 < length (to_commit self.old.held) → K.written self.old.store ≤ most →
-            K.written self.new.store ≤ most }
-        ensures still { result ≡ Advance.More → K.takes self.old.store (to_commit self.old.held) →
-            0 < length (to_commit self.old.held) → K.phase self.new.store ≢ Phase.Committing →
-            K.takes self.new.store (to_commit self.old.held) }
-        // So the store keeps its pace, and takes every batch, as long as epochs are left.
-        ensures newest { K.newest self.old.store → K.newest self.new.store }
-        ensures pace { result ≢ Advance.Failed → ¬ (K.exhausted self.new.store) →
-            K.newest self.old.store → least_segment ≤ K.segment self.old.store →
-            KeepsPace (K.segment self.old.store) (K.phase self.old.store) (K.used self.old.store)
-            (K.written self.old.store) (K.going self.old.store) →
-            KeepsPace (K.segment self.new.store) (K.phase self.new.store) (K.used self.new.store)
-            (K.written self.new.store) (K.going self.new.store) }
-        ensures segment { K.segment self.new.store ≡ K.segment self.old.store }
+        ensures held { AdvanceAnswers result (K.state self.old.store).phase self.old.held
+            self.new.held }
+        ensures going { (K.state self.old.store).phase ≢ Phase.Stopped → result ≢ Advance.Failed →
+            (K.state self.new.store).phase ≢ Phase.Stopped }
+        ensures at_rest { result ≡ Advance.Committed →
+            (K.state self.new.store).phase ≢ Phase.Committing }
+        ensures order { IsInOrder K.Store result (to_commit self.old.held) self.old.store
+            self.new.store }
+        ensures behind { OpensBehind K.Store result self.old.store self.new.store }
+        ensures pace { StaysInPace K.Store result self.old.store self.new.store }
         // A batch is committed in a bounded number of steps: 326 where the store is idle.
         ensures ends { (m : ℕ) → result ≡ Advance.More → 0 < length (to_commit self.old.held) →
-            Within (m + 1) (K.phase self.old.store) (K.left self.old.store)
-            (K.takes self.old.store (to_commit self.old.held))
-            (K.will_take self.old.store (to_commit self.old.held))
-            (length (to_commit self.old.held)) →
-            Within m (K.phase self.new.store) (K.left self.new.store)
-            (K.takes self.new.store (to_commit self.new.held))
-            (K.will_take self.new.store (to_commit self.new.held))
-            (length (to_commit self.new.held)) }
-        ensures at_rest { result ≡ Advance.Committed → K.phase self.new.store ≢ Phase.Committing }
-        ensures count { K.failures self.old.store ≤ K.failures self.new.store }
-        ensures going { K.phase self.old.store ≢ Phase.Stopped → result ≢ Advance.Failed →
-            K.phase self.new.store ≢ Phase.Stopped }
-        ensures held { AdvanceAnswers result (K.phase self.old.store) self.old.held self.new.held }
-        // Only the device fails once no checkpoint is to be begun any more.
-        ensures sure { result ≡ Advance.Failed →
-            IsSure (K.phase self.old.store) (K.takes self.old.store (to_commit self.old.held)) →
-            IsNext self.old.held (K.stored self.old.store) →
-            HasFailed (K.failures self.old.store) (K.failures self.new.store) }
-        // The first failure has a cause.
-        ensures cause { result ≡ Advance.Failed → K.phase self.old.store ≢ Phase.Stopped →
-            ¬ (K.exhausted self.old.store) → IsNext self.old.held (K.stored self.old.store) →
-            HasFailed (K.failures self.old.store) (K.failures self.new.store) }
-        ensures broken { result ≡ Advance.Failed → K.phase self.old.store ≢ Phase.Stopped →
+            EndsWithin K.Store (m + 1) (to_commit self.old.held) self.old.store →
+            EndsWithin K.Store m (to_commit self.new.held) self.new.store }
+        // The first failure has a cause, and once no checkpoint is to be begun any more only the device fails.
+        ensures causes { HasCauses K.Store K.Device.Disk result (to_commit self.old.held)
+            (IsNext self.old.held (K.state self.old.store).stored) self.old.store self.new.store }
+        ensures broken { result ≡ Advance.Failed → (K.state self.old.store).phase ≢ Phase.Stopped →
             IsFree self.old.held →
-            HasFailed (K.failures self.old.store) (K.failures self.new.store) }
+            HasFailed (K.Device.failures (K.disk self.old.store))
+            (K.Device.failures (K.disk self.new.store)) }
     {
         match replace(&mut self.held, Held::Nothing) {
             Held::Fetched(batch) => {
@@ -342,7 +283,8 @@ impl<K: Store, T: Told + Drop, B: Board<Told = T>> Flusher<K, T, B> {
             (given_of self.new.fetch))
             ((self.new.held ≡ self.old.held) × (given_of self.new.fetch ≡ given_of self.old.fetch) ×
             (self.new.before.value ≡ self.old.before.value)) }
-        ensures cause { result ≡ false → IsDone self.old.held → ¬ (0 < places_in self.old.fetch) }
+        ensures cause { result ≡ false → AreAllReleased self.old.held →
+            ¬ (0 < places_in self.old.fetch) }
     {
         match self.held.next() {
             Some(_) => return false,
@@ -384,7 +326,7 @@ impl<K: Store, T: Told + Drop, B: Board<Told = T>> Flusher<K, T, B> {
         ensures same { (self.new.store ≡ self.old.store) × (self.new.board ≡ self.old.board) ×
             (self.new.before.value ≡ self.old.before.value) × (self.new.fetch ≡ self.old.fetch) }
         ensures answer { ReleaseAnswers result self.old.held self.new.held self.old.outboxes.items
-            self.new.outboxes.items (B.base self.old.board) (K.stored self.old.store)
+            self.new.outboxes.items (B.base self.old.board) (K.state self.old.store).stored
             (B.published self.old.board) }
     {
         let Some(entry) = self.held.next() else {
@@ -510,7 +452,8 @@ impl<K: Store, T: Told + Drop, B: Board<Told = T>> Flusher<K, T, B> {
         ensures released { (s : ℕ) →
             replies_in (released_by s self.now.outboxes.items) ≡
             replies_to
-            (of_slot s (entries_in (fetched_of self.now.before.value) ++ told_of self.now.held)) }
+            (of_slot s
+            (entries_in (fetched_of self.now.before.value) ++ released_entries self.now.held)) }
     {
         &self.board
     }
@@ -519,11 +462,11 @@ impl<K: Store, T: Told + Drop, B: Board<Told = T>> Flusher<K, T, B> {
     pub fn keeper(&self) -> &K
         ensures keeper { result.now ≡ self.now.store }
         ensures front { (list : List Action) ×
-            ((K.stored self.now.store ≡ run (B.base self.now.board) list) ×
+            (((K.state self.now.store).stored ≡ run (B.base self.now.board) list) ×
             IsFront (B.published self.now.board) list) }
         ensures numbers { (s k : ℕ) (r : Receipt _ _) →
             slice_get (released_by s self.now.outboxes.items) k ≡ Some r →
-            r.number ≤ (K.stored self.now.store).panel.count }
+            r.number ≤ (K.state self.now.store).stored.panel.count }
     {
         &self.store
     }

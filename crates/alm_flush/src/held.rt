@@ -16,11 +16,11 @@ pub enum Held {
 
 impl Held {
     ghost use Rattle.std.specs.Prelude.{◌≡◌, IsSome};
-    ghost use Rattle.alm_flush.specs.HeldBatch.{next_of, passed};
+    ghost use Rattle.alm_flush.specs.HeldBatch.{next_entry_of, after_release};
 
     /// The entry whose verdict is the next to be released.
     pub fn next(&self) -> Option<Entry>
-        ensures { result ≡ next_of self.now }
+        ensures { result ≡ next_entry_of self.now }
     {
         match self {
             Held::Published(batch, released) => batch.entries().get(*released).copied(),
@@ -33,8 +33,8 @@ impl Held {
 
     /// One verdict more is released.
     pub fn pass(&mut self)
-        requires { IsSome (next_of self.old) }
-        ensures { self.new ≡ passed self.old }
+        requires { IsSome (next_entry_of self.old) }
+        ensures { self.new ≡ after_release self.old }
     {
         if let Held::Published(batch, released) = self {
             let _entries = batch.entries();

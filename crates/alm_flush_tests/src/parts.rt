@@ -34,8 +34,8 @@ impl<K: Store> Parts<K> {
         requires all { (s : ℕ) → s < 18 → IsSome (inbox_at s ends.inboxes.items) }
         requires taken { (s : ℕ) → taken_by s ends.inboxes.items ≡ [] }
         requires released { (s : ℕ) → released_by s ends.outboxes.items ≡ [] }
-        requires idle { K.phase store ≡ Phase.Idle }
-        requires limit { (K.stored store).panel.count ≤ 2 ^ 48 }
+        requires idle { (K.state store).phase ≡ Phase.Idle }
+        requires limit { (K.state store).stored.panel.count ≤ 2 ^ 48 }
     {
         let live = store.stored().copy(alloc)?;
         let shown = store.stored().copy(alloc)?;

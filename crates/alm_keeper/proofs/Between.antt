@@ -8,14 +8,14 @@ use Rattle.alm_model.specs.Rules.{AreAdmitted}
 use Rattle.alm_codec.specs.Frames.{IsFrame, frame_body}
 use Rattle.alm_disk.specs.Device.{DeviceState, is_within}
 use Rattle.alm_disk.specs.Device.{IsImage as IsLeft}
-use Rattle.alm_segment.specs.Course.{is_open}
+use Rattle.alm_segment.specs.Course.{is_gate_open}
 use Rattle.alm_checkpoint.specs.Layouts.{half_len}
 use Rattle.alm_checkpoint.specs.Cut.{Cut, Stores, Reaches, front, back}
 use Rattle.alm_checkpoint.specs.Cut.{device_of}
-use Rattle.alm_keeper.specs.Stand.{Account, account_of, Ready, end_of, other_at, Takes, committed}
+use Rattle.alm_keeper.specs.Stand.{Account, account_of, Ready, end_of_half, other_at, TakesFrame, with_commit}
 use Rattle.alm_keeper.specs.Resting.{Rests, Blind, Guarded, Kept}
 use Rattle.alm_keeper.specs.declared.stage.Stage.TheVariants.{Body}
-use Rattle.alm_keeper.specs.Piecewise.{Copy, open_text, IsCopy, went, Paused}
+use Rattle.alm_keeper.specs.Piecewise.{Copy, open_text, IsCopy, is_sent, Paused}
 use Rattle.alm_keeper.proofs.Commit.{n, room_long, left_long, parts, ready, body_long}
 use Rattle.alm_keeper.proofs.Sides.{regroup}
 use Rattle.alm_keeper.proofs.Piecewise.{ready_blind}
@@ -31,12 +31,12 @@ no_place at n place is = elim (cases_Bool (is_within at n place)) [
   | inr out ↦ out
 ]
 
-pub loose_blind : (a : Account) (n : ℕ) → Loosely a n → Blind (went a n) (Ready a)
+pub loose_blind : (a : Account) (n : ℕ) → Loosely a n → Blind (is_sent a n) (Ready a)
 loose_blind a n (inl zero) b c is beside = subst (Ready a) (sym (ext_get_or 0 c b beside.size (λ i _. beside.same i (no_place (other_at a + 1) n i zero)))) is
 loose_blind a n (inr x) b c is beside = ready_blind a n x.0 x.1 b c is beside
 
 module _ (c : Cut) (plant : Condensed) (actions : List Action) (gate : ℕ) (tail : List ℕ) (stores : Stores c plant) (frame : IsFrame c.epoch (plant.panel.count + 1) actions) (admitted : AreAdmitted plant actions)
-    (closed : is_open gate ≡ false) (reaches : Reaches c (gate ∷ tail)) (takes : Takes (account_of c plant) actions) where
+    (closed : is_gate_open gate ≡ false) (reaches : Reaches c (gate ∷ tail)) (takes : TakesFrame (account_of c plant) actions) where
   abbrev size : ℕ
   size = 19 + 16 * length actions
 
@@ -60,7 +60,7 @@ module _ (c : Cut) (plant : Condensed) (actions : List Action) (gate : ℕ) (tai
   }
 
   pub guarded : (loose : ℕ) → Loosely (account_of c plant) loose
-      → Guarded (went (account_of c plant) loose) (Ready (account_of c plant)) (Ready (committed (account_of c plant) actions)) (length (front c)) (frame_body c.epoch (plant.panel.count + 1) actions)
+      → Guarded (is_sent (account_of c plant) loose) (Ready (account_of c plant)) (Ready (with_commit (account_of c plant) actions)) (length (front c)) (frame_body c.epoch (plant.panel.count + 1) actions)
   guarded loose is = record {
     front = front c;
     room = take size tail;
@@ -70,28 +70,28 @@ module _ (c : Cut) (plant : Condensed) (actions : List Action) (gate : ℕ) (tai
     closed = held;
     whole = ready c plant actions gate tail stores frame admitted closed reaches takes;
     blind_before = loose_blind (account_of c plant) loose is;
-    blind_after = loose_blind (committed (account_of c plant) actions) loose is;
+    blind_after = loose_blind (with_commit (account_of c plant) actions) loose is;
   }
 
-  pub begun : (loose : ℕ) → Loosely (account_of c plant) loose → (state : DeviceState) (b : List ℕ) → b ≡ device_of c (gate ∷ tail) → ((x : List ℕ) → IsLeft state x → Ready (account_of c plant) x) → Rests (went (account_of c plant) loose) state b
-      → Kept (went (account_of c plant) loose) (Ready (account_of c plant)) (Ready (committed (account_of c plant) actions)) Body state (length (front c)) (frame_body c.epoch (plant.panel.count + 1) actions)
+  pub begun : (loose : ℕ) → Loosely (account_of c plant) loose → (state : DeviceState) (b : List ℕ) → b ≡ device_of c (gate ∷ tail) → ((x : List ℕ) → IsLeft state x → Ready (account_of c plant) x) → Rests (is_sent (account_of c plant) loose) state b
+      → Kept (is_sent (account_of c plant) loose) (Ready (account_of c plant)) (Ready (with_commit (account_of c plant) actions)) Body state (length (front c)) (frame_body c.epoch (plant.panel.count + 1) actions)
   unfolding guarded
   begun loose is state b shown images rests =
       let here : b ≡ front c ++ (gate ∷ take size tail) ++ (drop size tail ++ back c) =
       shown ∙ ap (λ (t : List ℕ). front c ++ (gate ∷ t) ++ back c) (sym (parts c plant actions gate tail stores frame admitted closed reaches takes)) ∙ sym (regroup (front c) (take size tail) (drop size tail) (back c) gate) in
-      record { images = images; stands = (guarded loose is, gate, eqb-false gate 165 closed, subst (Rests (went (account_of c plant) loose) state) here rests) }
+      record { images = images; stands = (guarded loose is, gate, eqb-false gate 165 closed, subst (Rests (is_sent (account_of c plant) loose) state) here rests) }
 
 -- a commit is begun, with or without an open checkpoint
-pub begins : (a : Account) (actions : List Action) (loose : ℕ) (state : DeviceState) (b : List ℕ) → Loosely a loose → IsFrame a.epoch (a.plant.panel.count + 1) actions → AreAdmitted a.plant actions → Takes a actions
-    → ((x : List ℕ) → IsLeft state x → Ready a x) → Ready a b → Rests (went a loose) state b
-    → Kept (went a loose) (Ready a) (Ready (committed a actions)) Body state a.gate (frame_body a.epoch (a.plant.panel.count + 1) actions)
+pub begins : (a : Account) (actions : List Action) (loose : ℕ) (state : DeviceState) (b : List ℕ) → Loosely a loose → IsFrame a.epoch (a.plant.panel.count + 1) actions → AreAdmitted a.plant actions → TakesFrame a actions
+    → ((x : List ℕ) → IsLeft state x → Ready a x) → Ready a b → Rests (is_sent a loose) state b
+    → Kept (is_sent a loose) (Ready a) (Ready (with_commit a actions)) Body state a.gate (frame_body a.epoch (a.plant.panel.count + 1) actions)
 begins a actions loose state b is frame admitted takes images r rests =
-    subst (λ (y : Account). Kept (went y loose) (Ready y) (Ready (committed y actions)) Body state y.gate (frame_body y.epoch (y.plant.panel.count + 1) actions)) (sym r.is)
-    (begun r.cut a.plant actions r.gate r.tail r.stores (subst (λ (y : Account). IsFrame y.epoch (y.plant.panel.count + 1) actions) r.is frame) admitted r.closed r.reaches (subst (λ (y : Account). Takes y actions) r.is takes)
-    loose (subst (λ (y : Account). Loosely y loose) r.is is) state b r.text (subst (λ (y : Account). (x : List ℕ) → IsLeft state x → Ready y x) r.is images) (subst (λ (y : Account). Rests (went y loose) state b) r.is rests))
+    subst (λ (y : Account). Kept (is_sent y loose) (Ready y) (Ready (with_commit y actions)) Body state y.gate (frame_body y.epoch (y.plant.panel.count + 1) actions)) (sym r.is)
+    (begun r.cut a.plant actions r.gate r.tail r.stores (subst (λ (y : Account). IsFrame y.epoch (y.plant.panel.count + 1) actions) r.is frame) admitted r.closed r.reaches (subst (λ (y : Account). TakesFrame y actions) r.is takes)
+    loose (subst (λ (y : Account). Loosely y loose) r.is is) state b r.text (subst (λ (y : Account). (x : List ℕ) → IsLeft state x → Ready y x) r.is images) (subst (λ (y : Account). Rests (is_sent y loose) state b) r.is rests))
 
 -- in a pause
-pub between : (a : Account) (k : Copy) (actions : List Action) (state : DeviceState) → IsCopy a k → a.gate + 1 ≤ end_of a → Paused a k state → IsFrame a.epoch (a.plant.panel.count + 1) actions → AreAdmitted a.plant actions → Takes a actions
-    → Kept (went a k.out) (Ready a) (Ready (committed a actions)) Body state a.gate (frame_body a.epoch (a.plant.panel.count + 1) actions)
+pub between : (a : Account) (k : Copy) (actions : List Action) (state : DeviceState) → IsCopy a k → a.gate + 1 ≤ end_of_half a → Paused a k state → IsFrame a.epoch (a.plant.panel.count + 1) actions → AreAdmitted a.plant actions → TakesFrame a actions
+    → Kept (is_sent a k.out) (Ready a) (Ready (with_commit a actions)) Body state a.gate (frame_body a.epoch (a.plant.panel.count + 1) actions)
 between a k actions state copy gate p frame admitted takes =
     begins a actions k.out state p.bytes (inr (copy.shut, omega (arith, copy.left, run_fits a k copy gate, length-append (open_text a k) (0 ∷ [])))) frame admitted takes p.images p.ready p.rests

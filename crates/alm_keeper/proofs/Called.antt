@@ -17,8 +17,8 @@ use Rattle.alm_keeper.specs.declared.stage.Work.{Work}
 use Rattle.alm_keeper.specs.declared.stage.Work.TheVariants.{Commit, Checkpoint}
 use Rattle.alm_keeper.specs.Calls.{stage_call}
 use Rattle.alm_keeper.specs.Stand.{other_at}
-use Rattle.alm_keeper.specs.Keeper.{Held, half_from, gate_by, piece, counted, sends, after, after_by, call_by, call_of, bytes_of, SendsPiece, CallsOnce, Advances}
-use Rattle.alm_keeper.specs.Keeping.{account, piece_of, held, InOrder}
+use Rattle.alm_keeper.specs.Keeper.{KeeperView, half_from, gate_by, piece, written_after, sends, after_call, after_by, call_by, call_of, bytes_of, SendsPiece, CallsOnce, Progresses}
+use Rattle.alm_keeper.specs.Keeping.{account, piece_of, keeper_of, InOrder}
 
 -- the gates
 half_is : (l : Layout) (h : Half) → half_at l h ≡ half_from (half_len l) h
@@ -31,13 +31,13 @@ gate_is l Second gate within = omega (arith, within)
 
 module _ {D : Type 0} (disk : D) (b : Book) where
   -- of a commit
-  pub commit_call : InOrder b → (stage : Stage) (n : ℕ) → n ≡ frame_len (length b.actions.items) → b.work ≡ Commit → stage_call stage b.gate n ≡ call_by stage b.work (held disk b)
-  commit_call i stage n long is = by_stage stage ∙ ap (λ (w : Work). call_by stage w (held disk b)) (sym is)
+  pub commit_call : InOrder b → (stage : Stage) (n : ℕ) → n ≡ frame_len (length b.actions.items) → b.work ≡ Commit → stage_call stage b.gate n ≡ call_by stage b.work (keeper_of disk b)
+  commit_call i stage n long is = by_stage stage ∙ ap (λ (w : Work). call_by stage w (keeper_of disk b)) (sym is)
     where
-      at : b.gate ≡ gate_by Commit (held disk b)
+      at : b.gate ≡ gate_by Commit (keeper_of disk b)
       at = gate_is b.layout b.half b.gate i.gate
 
-      by_stage : (s : Stage) → stage_call s b.gate n ≡ call_by s Commit (held disk b)
+      by_stage : (s : Stage) → stage_call s b.gate n ≡ call_by s Commit (keeper_of disk b)
       by_stage Idle = refl
       by_stage Close = ap (λ (p : ℕ). Write p 1) at
       by_stage CloseSync = refl
@@ -47,26 +47,26 @@ module _ {D : Type 0} (disk : D) (b : Book) where
       by_stage GateSync = refl
       by_stage Stopped = refl
 
-  other_is : other_at (account b) ≡ gate_by Checkpoint (held disk b)
+  other_is : other_at (account b) ≡ gate_by Checkpoint (keeper_of disk b)
   other_is = half_is b.layout (other b.half)
 
   -- of a checkpoint: a piece, any other
-  pub piece_call : (at n : ℕ) → b.stage ≡ Body → b.work ≡ Checkpoint → at ≡ other_at (account b) + b.out → n ≡ piece_of b → stage_call Body at n ≡ call_of (held disk b)
-  piece_call at n body is place long = here ∙ λ j. call_by (sym body j) (sym is j) (held disk b)
+  pub piece_call : (at n : ℕ) → b.stage ≡ Body → b.work ≡ Checkpoint → at ≡ other_at (account b) + b.out → n ≡ piece_of b → stage_call Body at n ≡ call_of (keeper_of disk b)
+  piece_call at n body is place long = here ∙ λ j. call_by (sym body j) (sym is j) (keeper_of disk b)
     where
-      from : at ≡ gate_by Checkpoint (held disk b) + b.out
+      from : at ≡ gate_by Checkpoint (keeper_of disk b) + b.out
       from = place ∙ ap (λ (p : ℕ). p + b.out) other_is
 
-      here : stage_call Body at n ≡ call_by Body Checkpoint (held disk b)
+      here : stage_call Body at n ≡ call_by Body Checkpoint (keeper_of disk b)
       here = λ j. Write (from j + 1) (long j)
 
-  pub checkpoint_call : (stage : Stage) (at n : ℕ) → (stage ≡ Body → ⊥) → at ≡ other_at (account b) → b.work ≡ Checkpoint → stage_call stage at n ≡ call_by stage b.work (held disk b)
-  checkpoint_call stage at n pieces place is = by_stage stage pieces ∙ ap (λ (w : Work). call_by stage w (held disk b)) (sym is)
+  pub checkpoint_call : (stage : Stage) (at n : ℕ) → (stage ≡ Body → ⊥) → at ≡ other_at (account b) → b.work ≡ Checkpoint → stage_call stage at n ≡ call_by stage b.work (keeper_of disk b)
+  checkpoint_call stage at n pieces place is = by_stage stage pieces ∙ ap (λ (w : Work). call_by stage w (keeper_of disk b)) (sym is)
     where
-      from : at ≡ gate_by Checkpoint (held disk b)
+      from : at ≡ gate_by Checkpoint (keeper_of disk b)
       from = place ∙ other_is
 
-      by_stage : (s : Stage) → (s ≡ Body → ⊥) → stage_call s at n ≡ call_by s Checkpoint (held disk b)
+      by_stage : (s : Stage) → (s ≡ Body → ⊥) → stage_call s at n ≡ call_by s Checkpoint (keeper_of disk b)
       by_stage Idle not = refl
       by_stage Close not = ap (λ (p : ℕ). Write p 1) from
       by_stage CloseSync not = refl
@@ -77,22 +77,22 @@ module _ {D : Type 0} (disk : D) (b : Book) where
       by_stage Stopped not = refl
 
 -- as callers see it
-pub calls_of : {D : Type 0} (serves : D → Call → Result Unit DiskFault → D → Type 0) (disk to : D) (b : Book) (k : Held D) (result : Progress) → held disk b ≡ k → CallsOnce serves (call_of (held disk b)) result disk to → CallsOnce serves (call_of k) result k.disk to
-calls_of {D = D} serves disk to b k result same c = subst (λ (h : Held D). CallsOnce serves (call_of h) result h.disk to) same c
+pub calls_of : {D : Type 0} (serves : D → Call → Result Unit DiskFault → D → Type 0) (disk to : D) (b : Book) (k : KeeperView D) (result : Progress) → keeper_of disk b ≡ k → CallsOnce serves (call_of (keeper_of disk b)) result disk to → CallsOnce serves (call_of k) result k.disk to
+calls_of {D = D} serves disk to b k result same c = subst (λ (h : KeeperView D). CallsOnce serves (call_of h) result h.disk to) same c
 
-module _ {D : Type 0} (result : Progress) (old new : Held D) (body : old.stage ≡ Body) (is : old.work ≡ Checkpoint) where
-  sent_piece : new ≡ record (after old) { disk = new.disk } → SendsPiece old new
+module _ {D : Type 0} (result : Progress) (old new : KeeperView D) (body : old.stage ≡ Body) (is : old.work ≡ Checkpoint) where
+  sent_piece : new ≡ record (after_call old) { disk = new.disk } → SendsPiece old new
   sent_piece goes =
-      let here : after old ≡ sends (piece (old.run - old.out)) old = λ j. after_by (body j) (is j) old in
+      let here : after_call old ≡ sends (piece (old.run - old.out)) old = λ j. after_by (body j) (is j) old in
       let bytes : bytes_of (call_of old) ≡ piece (old.run - old.out) = λ j. bytes_of (call_by (body j) (is j) old) in (
-        ap (λ (k : Held D). k.out) goes ∙ ap (λ (k : Held D). k.out) here ∙ ap (λ (n : ℕ). old.out + n) (sym bytes),
-        ap (λ (k : Held D). k.written) goes ∙ ap (λ (k : Held D). k.written) here ∙ ap (counted old.written) (sym bytes),
+        ap (λ (k : KeeperView D). k.out) goes ∙ ap (λ (k : KeeperView D). k.out) here ∙ ap (λ (n : ℕ). old.out + n) (sym bytes),
+        ap (λ (k : KeeperView D). k.written) goes ∙ ap (λ (k : KeeperView D). k.written) here ∙ ap (written_after old.written) (sym bytes),
       )
 
-  pub sends_piece : result ≢ Failed → Advances result old new → SendsPiece old new
+  pub sends_piece : result ≢ Failed → Progresses result old new → SendsPiece old new
   sends_piece = by_result result
     where
-      by_result : (r : Progress) → r ≢ Failed → Advances r old new → SendsPiece old new
+      by_result : (r : Progress) → r ≢ Failed → Progresses r old new → SendsPiece old new
       by_result More not a = sent_piece a.1
       by_result Done not a = sent_piece a.1
       by_result Failed not a = absurd (not refl)

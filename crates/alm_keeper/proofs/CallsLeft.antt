@@ -15,8 +15,8 @@ use Rattle.alm_codec.specs.declared.version.Version.{Version}
 use Rattle.alm_codec.specs.declared.version.Version.TheVariants.{V02}
 use Rattle.alm_codec.specs.Versions.{AreBorne}
 use Rattle.alm_codec.proofs.Frames.{all_borne}
-use Rattle.alm_keeper.specs.Keeper.{Held, Standing, Takes, next, next_by, begun_by, first_run, piece, sends, after, after_by, BeginsCommit, BeginsCheckpoint, Advances}
-use Rattle.alm_store.specs.Advancing.{IsOpen}
+use Rattle.alm_keeper.specs.Keeper.{KeeperView, Standing, Takes, next, next_by, begun_by, first_run, piece, sends, after_call, after_by, BeginsCommit, BeginsCheckpoint, Progresses}
+use Rattle.alm_store.specs.Advancing.{IsOpen, TakesOn}
 use Rattle.alm_keeper.specs.AsStore.{pieces, body_calls, calls_left}
 
 -- a call is next of a work that is under way
@@ -64,7 +64,7 @@ piece_less out run false is within =
 
 -- ---- what a call makes of them
 
-abbrev pub Left : {D : Type 0} → Held D → ℕ
+abbrev pub Left : {D : Type 0} → KeeperView D → ℕ
 Left k = calls_left k.stage k.work (k.run - k.out)
 
 sent_next : (b : Bool) (stored begun : Standing) → next_by (if b then BodySync else Body) stored begun ≡ begun
@@ -75,7 +75,7 @@ pub first_next : (b : Bool) (stored begun : Standing) → next_by (first_stage b
 first_next true stored begun = refl
 first_next false stored begun = refl
 
-module _ {D : Type 0} (k : Held D) where
+module _ {D : Type 0} (k : KeeperView D) where
   fewer_by : (s : Stage) (w : Work) → k.work ≡ w → s ≢ GateSync → IsWorking s → (w ≡ Checkpoint → k.out ≤ k.run) → Left (after_by s w k) < calls_left s w (k.run - k.out)
   fewer_by Idle w is not at_work runs = absurd at_work
   fewer_by Stopped w is not at_work runs = absurd at_work
@@ -151,7 +151,7 @@ module _ {D : Type 0} (k : Held D) where
   unwritten_by GateSync Checkpoint not = omega arith
 
 -- another device changes nothing of it
-pub same_next : {D : Type 0} (k : Held D) (disk : D) → next (record k { disk = disk }) ≡ next k
+pub same_next : {D : Type 0} (k : KeeperView D) (disk : D) → next (record k { disk = disk }) ≡ next k
 same_next k disk = ap (next_by k.stage k.stored) (by_work k.work)
   where
     by_work : (w : Work) → begun_by w (record k { disk = disk }) ≡ begun_by w k
@@ -171,11 +171,11 @@ open_work Gate Commit e = absurd e
 open_work GateSync Commit e = absurd e
 
 module _ {D : Type 0} where
-  pub commit_calls : (result : Result Unit Refused) (actions : List Action) (old new : Held D) → BeginsCommit result actions old new → OnOk result (Left new ≤ 4)
+  pub commit_calls : (result : Result Unit Refused) (actions : List Action) (old new : KeeperView D) → BeginsCommit result actions old new → OnOk result (Left new ≤ 4)
   commit_calls (Ok u) actions old new begins = let is = ap Left begins in omega (arith, is)
   commit_calls (Err why) actions old new begins = tt
 
-  pub checkpoint_calls : (result : Result Unit Refused) (old new : Held D) → old.image ≤ 3289168 → BeginsCheckpoint result old new → OnOk result (Left new ≤ 320)
+  pub checkpoint_calls : (result : Result Unit Refused) (old new : KeeperView D) → old.image ≤ 3289168 → BeginsCheckpoint result old new → OnOk result (Left new ≤ 320)
   checkpoint_calls (Ok u) old new small begins =
       let is = ap Left begins in
       let few = first_calls old.other_open (first_run old - 0) (omega (arith, small)) in
@@ -183,7 +183,7 @@ module _ {D : Type 0} where
   checkpoint_calls (Err why) old new small begins = tt
 
   -- a checkpoint makes room for a whole batch
-  pub checkpoint_room : (result : Result Unit Refused) (old new : Held D) → 4116 ≤ old.segment → BeginsCheckpoint result old new
+  pub checkpoint_room : (result : Result Unit Refused) (old new : KeeperView D) → 4116 ≤ old.segment → BeginsCheckpoint result old new
       → OnOk result ((actions : List Action) → length actions ≤ 256 → Takes (next new) actions)
   checkpoint_room (Ok u) old new least begins = λ actions few.
       let is = ap next begins ∙ first_next old.other_open old.stored _ in
@@ -192,42 +192,39 @@ module _ {D : Type 0} where
       (omega (arith, room, least, few), subst (λ (v : Version). AreBorne v actions) version (all_borne actions))
   checkpoint_room (Err why) old new least begins = tt
 
-  pub fewer : (result : Progress) (old new : Held D) → IsWorking old.stage → (old.work ≡ Checkpoint → old.out ≤ old.run) → Advances result old new → result ≡ More
-      → (Left new < Left old) × ((actions : List Action) → Takes (next old) actions → Takes (next new) actions)
-  fewer More old new works runs goes is =
+  pub fewer : (old new : KeeperView D) → IsWorking old.stage → (old.work ≡ Checkpoint → old.out ≤ old.run) → Progresses More old new → Left new < Left old
+  fewer old new works runs goes =
       let left = ap Left goes.1 in
       let less = fewer_by old old.stage old.work refl goes.0 works runs in
-      let same : next new ≡ next old = ap next goes.1 ∙ same_next (after old) new.disk ∙ next_kept old old.stage old.work refl goes.0 works in (
-        omega (arith, left, less),
-        λ actions room. subst (λ (s : Standing). Takes s actions) (sym same) room,
-      )
-  fewer Done old new works runs goes is = absurd cc
-  fewer Failed old new works runs goes is = absurd cc
+      omega (arith, left, less)
 
   -- a checkpoint is done
-  turned : (old new : Held D) → IsOpen (phase_of old.stage old.work) → Advances Done old new → (new.stage ≡ Idle) × (new.stored ≡ begun_by Checkpoint old)
+  turned : (old new : KeeperView D) → IsOpen (phase_of old.stage old.work) → Progresses Done old new → (new.stage ≡ Idle) × (new.stored ≡ begun_by Checkpoint old)
   turned old new goes_on goes =
       let work = open_work old.stage old.work goes_on in
-      let is : after old ≡ after_by GateSync Checkpoint old = λ i. after_by (goes.0 i) (work i) old in
-      (ap (λ (k : Held D). k.stage) (goes.1) ∙ ap (λ (k : Held D). k.stage) is, ap (λ (k : Held D). k.stored) (goes.1) ∙ ap (λ (k : Held D). k.stored) is)
+      let is : after_call old ≡ after_by GateSync Checkpoint old = λ i. after_by (goes.0 i) (work i) old in
+      (ap (λ (k : KeeperView D). k.stage) (goes.1) ∙ ap (λ (k : KeeperView D). k.stage) is, ap (λ (k : KeeperView D). k.stored) (goes.1) ∙ ap (λ (k : KeeperView D). k.stored) is)
 
-  pub done : (result : Progress) (old new : Held D) → Advances result old new → result ≡ Done → IsOpen (phase_of old.stage old.work)
-      → (phase_of new.stage new.work ≡ at.Idle) × ((actions : List Action) → Takes (next old) actions → Takes new.stored actions)
-  done Done old new goes is goes_on =
-      let t = turned old new goes_on goes in
+  pub idle_then : (old new : KeeperView D) → Progresses Done old new → IsOpen (phase_of old.stage old.work) → phase_of new.stage new.work ≡ at.Idle
+  idle_then old new goes goes_on = ap (λ (s : Stage). phase_of s new.work) (turned old new goes_on goes).0
+
+  -- what will be taken is taken then, and will be until then
+  pub will_take_on : (result : Progress) (old new : KeeperView D) → IsWorking old.stage → Progresses result old new
+      → (actions : List Action) → Takes (next old) actions → TakesOn result (phase_of old.stage old.work) (Takes (next new) actions) (Takes new.stored actions)
+  will_take_on More old new works goes actions room =
+      let same : next new ≡ next old = ap next goes.1 ∙ same_next (after_call old) new.disk ∙ next_kept old old.stage old.work refl goes.0 works in
+      subst (λ (s : Standing). Takes s actions) (sym same) room
+  will_take_on Done old new works goes actions room = λ goes_on.
       let work = open_work old.stage old.work goes_on in
-      let same : next old ≡ new.stored = (λ i. next_by (goes.0 i) old.stored (begun_by (work i) old)) ∙ sym t.1 in (
-        ap (λ (s : Stage). phase_of s new.work) t.0,
-        λ actions room. subst (λ (s : Standing). Takes s actions) same room,
-      )
-  done More old new goes is goes_on = absurd cc
-  done Failed old new goes is goes_on = absurd cc
+      let same : next old ≡ new.stored = (λ i. next_by (goes.0 i) old.stored (begun_by (work i) old)) ∙ sym (turned old new goes_on goes).1 in
+      subst (λ (s : Standing). Takes s actions) same room
+  will_take_on Failed old new works goes actions room = tt
 
   -- what was taken is taken behind a checkpoint's call
-  pub takes_kept : (result : Progress) (old new : Held D) → IsOpen (phase_of old.stage old.work) → old.run + old.stored.room ≤ 25 + old.image + old.segment → Advances result old new → result ≢ Failed
+  pub takes_kept : (result : Progress) (old new : KeeperView D) → IsOpen (phase_of old.stage old.work) → old.run + old.stored.room ≤ 25 + old.image + old.segment → Progresses result old new → result ≢ Failed
       → (actions : List Action) → Takes old.stored actions → Takes new.stored actions
   takes_kept More old new goes_on runs goes not actions room =
-      subst (λ (s : Standing). Takes s actions) (sym (ap (λ (k : Held D). k.stored) goes.1 ∙ stored_kept old old.stage old.work goes.0)) room
+      subst (λ (s : Standing). Takes s actions) (sym (ap (λ (k : KeeperView D). k.stored) goes.1 ∙ stored_kept old old.stage old.work goes.0)) room
   takes_kept Done old new goes_on runs goes not actions room =
       let turns = (turned old new goes_on goes).1 in
       let left : new.stored.room ≡ 25 + old.image + old.segment - old.run = ap (λ (s : Standing). s.room) turns in
@@ -235,12 +232,12 @@ module _ {D : Type 0} where
       (omega (arith, left, runs, room.0), subst (λ (v : Version). AreBorne v actions) version (all_borne actions))
   takes_kept Failed old new goes_on runs goes not actions room = absurd (not refl)
 
-  pub written_more : (result : Progress) (old new : Held D) → Advances result old new → new.written ≤ old.written + 65536
-  written_more More old new goes = let is = ap (λ (k : Held D). k.written) goes.1 in omega (arith, is, written_by old old.stage old.work)
-  written_more Done old new goes = let is = ap (λ (k : Held D). k.written) goes.1 in omega (arith, is, written_by old old.stage old.work)
-  written_more Failed old new goes = let is = ap (λ (k : Held D). k.written) goes in omega (arith, is)
+  pub written_more : (result : Progress) (old new : KeeperView D) → Progresses result old new → new.written ≤ old.written + 65536
+  written_more More old new goes = let is = ap (λ (k : KeeperView D). k.written) goes.1 in omega (arith, is, written_by old old.stage old.work)
+  written_more Done old new goes = let is = ap (λ (k : KeeperView D). k.written) goes.1 in omega (arith, is, written_by old old.stage old.work)
+  written_more Failed old new goes = let is = ap (λ (k : KeeperView D). k.written) goes in omega (arith, is)
 
-  pub unwritten : (result : Progress) (old new : Held D) → Advances result old new → phase_of old.stage old.work ≢ at.Paused → new.written ≤ old.written
-  unwritten More old new goes not = let is = ap (λ (k : Held D). k.written) goes.1 in omega (arith, is, unwritten_by old old.stage old.work not)
-  unwritten Done old new goes not = let is = ap (λ (k : Held D). k.written) goes.1 in omega (arith, is, unwritten_by old old.stage old.work not)
-  unwritten Failed old new goes not = let is = ap (λ (k : Held D). k.written) goes in omega (arith, is)
+  pub unwritten : (result : Progress) (old new : KeeperView D) → Progresses result old new → phase_of old.stage old.work ≢ at.Paused → new.written ≤ old.written
+  unwritten More old new goes not = let is = ap (λ (k : KeeperView D). k.written) goes.1 in omega (arith, is, unwritten_by old old.stage old.work not)
+  unwritten Done old new goes not = let is = ap (λ (k : KeeperView D). k.written) goes.1 in omega (arith, is, unwritten_by old old.stage old.work not)
+  unwritten Failed old new goes not = let is = ap (λ (k : KeeperView D). k.written) goes in omega (arith, is)

@@ -18,10 +18,10 @@ use Rattle.alm_checkpoint.specs.declared.half.Half.TheVariants.{First, Second}
 use Rattle.alm_checkpoint.specs.declared.layout.Layout.{Layout}
 use Rattle.alm_checkpoint.specs.Layouts.{part, half_at, half_len, other}
 use Rattle.alm_checkpoint.specs.Headers.{half_head_text}
-use Rattle.alm_keeper.specs.Stand.{Account, Ready, end_of, other_at, committed}
+use Rattle.alm_keeper.specs.Stand.{Account, Ready, end_of_half, other_at, with_commit}
 use Rattle.alm_keeper.specs.Resting.{Rests, Kept}
 use Rattle.alm_keeper.specs.declared.stage.Stage.TheVariants.{Idle}
-use Rattle.alm_keeper.specs.Piecewise.{Copy, since_text, open_text, run_text, IsCopy, went, Wrote, Paused, copied}
+use Rattle.alm_keeper.specs.Piecewise.{Copy, since_text, open_text, run_text, IsCopy, is_sent, WrotePart, Paused, with_copied_frame}
 use Rattle.alm_keeper.proofs.Devices.{frame_long}
 use Rattle.alm_model.proofs.Runs.{admitted_join, run_append, run_count}
 
@@ -41,12 +41,12 @@ outside l Second s m place from to ge lt = below s m place (omega (arith, from, 
 
 -- a write into the half that stands, done or failed
 pub wrote_write : {E : Type 0} (result : Result Unit E) (a : Account) (text : List ℕ) (state new : DeviceState) (at : ℕ) (bytes : List ℕ)
-    → length text + 1 ≤ half_len a.layout → other_at a + half_len a.layout ≤ length state.bytes → half_at a.layout a.half ≤ at → at + length bytes ≤ end_of a → Writes at bytes result state new → Wrote a text state → Wrote a text new
+    → length text + 1 ≤ half_len a.layout → other_at a + half_len a.layout ≤ length state.bytes → half_at a.layout a.half ≤ at → at + length bytes ≤ end_of_half a → Writes at bytes result state new → WrotePart a text state → WrotePart a text new
 wrote_write result a text state new at bytes short long from to writes wrote =
     part_same (other_at a + 1) (length text) state.bytes new.bytes writes.size (omega (arith, short, long))
     (λ place ge lt. writes.outside place (outside a.layout a.half at (length bytes) place from to (omega (arith, ge)) (omega (arith, lt, short)))) ∙ wrote
 
-pub wrote_sync : {E : Type 0} (loose : ℕ → Bool) (a : Account) (text : List ℕ) (state new : DeviceState) (b : List ℕ) → Rests loose state b → Syncs {E = E} (Ok tt) state new → Wrote a text state → Wrote a text new
+pub wrote_sync : {E : Type 0} (loose : ℕ → Bool) (a : Account) (text : List ℕ) (state new : DeviceState) (b : List ℕ) → Rests loose state b → Syncs {E = E} (Ok tt) state new → WrotePart a text state → WrotePart a text new
 wrote_sync loose a text state new b rests syncs wrote = ap (part (other_at a + 1) (length text)) (syncs.read_stays rests.sound) ∙ wrote
 
 -- ---- the copy
@@ -63,28 +63,28 @@ module _ (a : Account) (k : Copy) (actions : List Action) (copy : IsCopy a k) wh
   unfolding frame
   frame_is = ap (λ (n : ℕ). 165 ∷ frame_text (a.epoch + 1) (n + 1) actions) (sym counted)
 
-  since_grows : since_text (committed a actions) (copied k actions) ≡ since_text a k ++ frame
+  since_grows : since_text (with_commit a actions) (with_copied_frame k actions) ≡ since_text a k ++ frame
   unfolding frame
   since_grows = text_pushed (a.epoch + 1) k.base.panel.count k.since actions
 
-  pub since_long : length (since_text (committed a actions) (copied k actions)) ≡ length (since_text a k) + (19 + 16 * length actions)
+  pub since_long : length (since_text (with_commit a actions) (with_copied_frame k actions)) ≡ length (since_text a k) + (19 + 16 * length actions)
   unfolding frame
   since_long = omega (arith, ap length since_grows, length-append (since_text a k) frame, frame_long (a.epoch + 1) (k.base.panel.count + length (actions_in k.since) + 1) actions)
 
   abbrev start : List ℕ
   start = half_head_text a.layout V02 (a.epoch + 1) k.base.panel.count ++ image_text k.base
 
-  pub open_grows : open_text (committed a actions) (copied k actions) ≡ open_text a k ++ frame
+  pub open_grows : open_text (with_commit a actions) (with_copied_frame k actions) ≡ open_text a k ++ frame
   open_grows = ap (λ (t : List ℕ). start ++ t) since_grows ∙ sym (append_assoc start (since_text a k) frame)
 
   -- what went out is the front of the longer run as well
-  pub same_front : take k.out (run_text a k) ≡ take k.out (run_text (committed a actions) (copied k actions))
+  pub same_front : take k.out (run_text a k) ≡ take k.out (run_text (with_commit a actions) (with_copied_frame k actions))
   same_front =
       take-append-le k.out (open_text a k) (0 ∷ []) copy.left
       ∙ sym (take-append-le k.out (open_text a k) (frame ++ 0 ∷ []) copy.left)
       ∙ ap (take k.out) (sym (append_assoc (open_text a k) frame (0 ∷ [])) ∙ ap (λ (t : List ℕ). t ++ 0 ∷ []) (sym open_grows))
 
-  pub still : IsFrame a.epoch (a.plant.panel.count + 1) actions → AreAdmitted a.plant actions → IsCopy (committed a actions) (copied k actions)
+  pub still : IsFrame a.epoch (a.plant.panel.count + 1) actions → AreAdmitted a.plant actions → IsCopy (with_commit a actions) (with_copied_frame k actions)
   still spelled admitted = record {
     more = copy.more;
     image = copy.image;
@@ -100,8 +100,8 @@ module _ (a : Account) (k : Copy) (actions : List Action) (copy : IsCopy a k) wh
   }
 
   -- after the commit's end the checkpoint is paused as before, with one frame more in its run
-  pub resumes : (state : DeviceState) → Kept (went a k.out) (Ready a) (Ready (committed a actions)) Idle state a.gate (frame_body a.epoch (a.plant.panel.count + 1) actions) → Wrote a (take k.out (run_text a k)) state
-      → Paused (committed a actions) (copied k actions) state
+  pub resumes : (state : DeviceState) → Kept (is_sent a k.out) (Ready a) (Ready (with_commit a actions)) Idle state a.gate (frame_body a.epoch (a.plant.panel.count + 1) actions) → WrotePart a (take k.out (run_text a k)) state
+      → Paused (with_commit a actions) (with_copied_frame k actions) state
   resumes state kept wrote = record {
     images = kept.images;
     bytes = kept.stands.0;

@@ -4,13 +4,13 @@ use Rattle.alm_model.specs.Plant.{Condensed}
 use Rattle.alm_disk.specs.Device.{DeviceState, Writes, Syncs}
 use Rattle.alm_disk.specs.Device.{IsImage as IsLeft}
 use Rattle.alm_disk.proofs.Images.{synced_image}
-use Rattle.alm_segment.specs.Course.{is_open}
-use Rattle.alm_checkpoint.specs.Layouts.{byte_at, half_at, half_len, other}
+use Rattle.alm_segment.specs.Course.{is_gate_open}
+use Rattle.alm_checkpoint.specs.Layouts.{layout_byte, half_at, half_len, other}
 use Rattle.alm_checkpoint.specs.Cut.{Cut, Stores, Reaches, IsBelow, front, with_other, side_front, side_back}
 use Rattle.alm_checkpoint.specs.Cut.{device_of}
-use Rattle.alm_keeper.specs.Stand.{Holds, Account, account_of, Ready, other_at}
-use Rattle.alm_keeper.specs.Resting.{Rests, also}
-use Rattle.alm_keeper.specs.Phases.{shut, Closes, Rested}
+use Rattle.alm_keeper.specs.Stand.{HoldsPlant, Account, account_of, Ready, other_at}
+use Rattle.alm_keeper.specs.Resting.{Rests, or_within}
+use Rattle.alm_keeper.specs.Phases.{with_other_shut, ClosesOther, Rested}
 use Rattle.alm_checkpoint.proofs.Grown.{gate_at}
 use Rattle.alm_checkpoint.proofs.Turned.{stores_other}
 use Rattle.alm_keeper.proofs.Sides.{by_gate}
@@ -18,7 +18,7 @@ use Rattle.alm_keeper.proofs.Resting.{any_gate, gate_rests, syncs_rest, resting}
 use Rattle.alm_keeper.proofs.Piecewise.{there, ahead_long}
 use Rattle.alm_keeper.proofs.Ending.{none, blind_none}
 
-module _ (c : Cut) (plant : Condensed) (gate : ℕ) (tail : List ℕ) (stores : Stores c plant) (closed : is_open gate ≡ false) (reaches : Reaches c (gate ∷ tail)) (opened : is_open (byte_at c.other 0) ≡ true) where
+module _ (c : Cut) (plant : Condensed) (gate : ℕ) (tail : List ℕ) (stores : Stores c plant) (closed : is_gate_open gate ≡ false) (reaches : Reaches c (gate ∷ tail)) (opened : is_gate_open (layout_byte c.other 0) ≡ true) where
   abbrev ahead : List ℕ
   ahead = side_front c c.half (gate ∷ tail)
 
@@ -28,7 +28,7 @@ module _ (c : Cut) (plant : Condensed) (gate : ℕ) (tail : List ℕ) (stores : 
   abbrev body : List ℕ
   body = drop 1 c.other
 
-  other_is : c.other ≡ byte_at c.other 0 ∷ body
+  other_is : c.other ≡ layout_byte c.other 0 ∷ body
   other_is = by_gate c.other (omega (arith, stores.size))
 
   body_long : 1 + length body ≡ half_len c.layout
@@ -41,7 +41,7 @@ module _ (c : Cut) (plant : Condensed) (gate : ℕ) (tail : List ℕ) (stores : 
   with_gate : (g : ℕ) → Stores (with_other c (g ∷ body)) plant
   with_gate g = stores_other c plant (g ∷ body) stores (omega (arith, body_long)) (older g)
 
-  pub holds : (g : ℕ) → Holds c.epoch plant (ahead ++ (g ∷ body) ++ rear)
+  pub holds : (g : ℕ) → HoldsPlant c.epoch plant (ahead ++ (g ∷ body) ++ rear)
   holds g = record {
     cut = with_other c (g ∷ body);
     in_epoch = refl;
@@ -53,7 +53,7 @@ module _ (c : Cut) (plant : Condensed) (gate : ℕ) (tail : List ℕ) (stores : 
     text = sym (there c plant gate tail stores closed reaches (g ∷ body));
   }
 
-  pub now_shut : Ready (shut (account_of c plant)) (ahead ++ (0 ∷ body) ++ rear)
+  pub now_shut : Ready (with_other_shut (account_of c plant)) (ahead ++ (0 ∷ body) ++ rear)
   now_shut =
       let place : length (front c) ≡ length (front (with_other c (0 ∷ body))) = omega (arith, gate_at c plant (gate ∷ tail) stores reaches, gate_at (with_other c (0 ∷ body)) plant (gate ∷ tail) (with_gate 0) reaches) in
       record {
@@ -67,40 +67,40 @@ module _ (c : Cut) (plant : Condensed) (gate : ℕ) (tail : List ℕ) (stores : 
         text = sym (there c plant gate tail stores closed reaches (0 ∷ body));
       }
 
-  shown : (state : DeviceState) (b : List ℕ) → b ≡ device_of c (gate ∷ tail) → Rests none state b → Rests none state (ahead ++ (byte_at c.other 0 ∷ body) ++ rear)
+  shown : (state : DeviceState) (b : List ℕ) → b ≡ device_of c (gate ∷ tail) → Rests none state b → Rests none state (ahead ++ (layout_byte c.other 0 ∷ body) ++ rear)
   shown state b is rests = subst (Rests none state) (is ∙ there c plant gate tail stores closed reaches c.other ∙ ap (λ (o : List ℕ). ahead ++ o ++ rear) other_is) rests
 
-  pub close_images : {E : Type 0} (result : Result Unit E) (state new : DeviceState) (b : List ℕ) → b ≡ device_of c (gate ∷ tail) → Rests none state b → Writes (half_at c.layout (other c.half)) (0 ∷ []) result state new → (x : List ℕ) → IsLeft new x → Holds c.epoch plant x
+  pub close_images : {E : Type 0} (result : Result Unit E) (state new : DeviceState) (b : List ℕ) → b ≡ device_of c (gate ∷ tail) → Rests none state b → Writes (half_at c.layout (other c.half)) (0 ∷ []) result state new → (x : List ℕ) → IsLeft new x → HoldsPlant c.epoch plant x
   close_images result state new b is rests writes x image =
-      any_gate result none state new (half_at c.layout (other c.half)) (byte_at c.other 0) 0 ahead body rear (Holds c.epoch plant) (blind_none (Holds c.epoch plant)) (shown state b is rests) writes (sym (ahead_long c plant gate tail stores closed reaches)) holds x image
+      any_gate result none state new (half_at c.layout (other c.half)) (layout_byte c.other 0) 0 ahead body rear (HoldsPlant c.epoch plant) (blind_none (HoldsPlant c.epoch plant)) (shown state b is rests) writes (sym (ahead_long c plant gate tail stores closed reaches)) holds x image
 
-  pub close_rests : (E : Type 0) (state new : DeviceState) (b : List ℕ) → b ≡ device_of c (gate ∷ tail) → Rests none state b → Writes {E = E} (half_at c.layout (other c.half)) (0 ∷ []) (Ok tt) state new → Rests (also (half_at c.layout (other c.half)) 1 none) new (ahead ++ (0 ∷ body) ++ rear)
+  pub close_rests : (E : Type 0) (state new : DeviceState) (b : List ℕ) → b ≡ device_of c (gate ∷ tail) → Rests none state b → Writes {E = E} (half_at c.layout (other c.half)) (0 ∷ []) (Ok tt) state new → Rests (or_within (half_at c.layout (other c.half)) 1 none) new (ahead ++ (0 ∷ body) ++ rear)
   close_rests E state new b is rests writes =
-      gate_rests none state new (half_at c.layout (other c.half)) (byte_at c.other 0) 0 ahead body rear (shown state b is rests) writes (sym (ahead_long c plant gate tail stores closed reaches))
+      gate_rests none state new (half_at c.layout (other c.half)) (layout_byte c.other 0) 0 ahead body rear (shown state b is rests) writes (sym (ahead_long c plant gate tail stores closed reaches))
 
 -- the write of the closed gate
-pub closes_images : {E : Type 0} (result : Result Unit E) (a : Account) (state new : DeviceState) → a.other_open ≡ true → Rested a state → Writes (other_at a) (0 ∷ []) result state new → (b : List ℕ) → IsLeft new b → Holds a.epoch a.plant b
+pub closes_images : {E : Type 0} (result : Result Unit E) (a : Account) (state new : DeviceState) → a.other_open ≡ true → Rested a state → Writes (other_at a) (0 ∷ []) result state new → (b : List ℕ) → IsLeft new b → HoldsPlant a.epoch a.plant b
 closes_images result a state new opened p writes =
     let r = p.ready in
-    subst (λ (y : Account). Writes (other_at y) (0 ∷ []) result state new → (b : List ℕ) → IsLeft new b → Holds y.epoch y.plant b) (sym r.is)
+    subst (λ (y : Account). Writes (other_at y) (0 ∷ []) result state new → (b : List ℕ) → IsLeft new b → HoldsPlant y.epoch y.plant b) (sym r.is)
     (close_images r.cut a.plant r.gate r.tail r.stores r.closed r.reaches (ap (λ (y : Account). y.other_open) (sym r.is) ∙ opened) result state new p.bytes r.text p.rests) writes
 
-pub closes : (E : Type 0) (a : Account) (state new : DeviceState) → a.other_open ≡ true → Rested a state → Writes {E = E} (other_at a) (0 ∷ []) (Ok tt) state new → Closes a new
+pub closes : (E : Type 0) (a : Account) (state new : DeviceState) → a.other_open ≡ true → Rested a state → Writes {E = E} (other_at a) (0 ∷ []) (Ok tt) state new → ClosesOther a new
 closes E a state new opened p writes =
     let r = p.ready in
     let done : Result Unit E = Ok tt in
     let here = ap (λ (y : Account). y.other_open) (sym r.is) ∙ opened in
     let images = closes_images done a state new opened p writes in
-    let goes : (y : Account) → y ≡ account_of r.cut a.plant → Writes {E = E} (other_at y) (0 ∷ []) (Ok tt) state new → ((b : List ℕ) → IsLeft new b → Holds y.epoch y.plant b) → Closes y new = λ y is.
-    subst (λ (z : Account). Writes {E = E} (other_at z) (0 ∷ []) (Ok tt) state new → ((b : List ℕ) → IsLeft new b → Holds z.epoch z.plant b) → Closes z new) (sym is)
+    let goes : (y : Account) → y ≡ account_of r.cut a.plant → Writes {E = E} (other_at y) (0 ∷ []) (Ok tt) state new → ((b : List ℕ) → IsLeft new b → HoldsPlant y.epoch y.plant b) → ClosesOther y new = λ y is.
+    subst (λ (z : Account). Writes {E = E} (other_at z) (0 ∷ []) (Ok tt) state new → ((b : List ℕ) → IsLeft new b → HoldsPlant z.epoch z.plant b) → ClosesOther z new) (sym is)
     (λ w im. record { images = im; bytes = _; ready = now_shut r.cut a.plant r.gate r.tail r.stores r.closed r.reaches here; rests = close_rests r.cut a.plant r.gate r.tail r.stores r.closed r.reaches here E state new p.bytes r.text p.rests w }) in
     goes a r.is writes images
 
 -- its sync: the other half is free
-pub closed_rests : (E : Type 0) (a : Account) (state new : DeviceState) → Closes a state → Syncs {E = E} (Ok tt) state new → Rested (shut a) new
+pub closed_rests : (E : Type 0) (a : Account) (state new : DeviceState) → ClosesOther a state → Syncs {E = E} (Ok tt) state new → Rested (with_other_shut a) new
 closed_rests E a state new p syncs =
-    let rests : Rests none new p.bytes = syncs_rest (also (other_at a) 1 none) none state new p.bytes p.rests syncs in
-    record { images = λ b image. resting none new p.bytes b (Ready (shut a)) (blind_none (Ready (shut a))) rests p.ready image; bytes = p.bytes; ready = p.ready; rests = rests }
+    let rests : Rests none new p.bytes = syncs_rest (or_within (other_at a) 1 none) none state new p.bytes p.rests syncs in
+    record { images = λ b image. resting none new p.bytes b (Ready (with_other_shut a)) (blind_none (Ready (with_other_shut a))) rests p.ready image; bytes = p.bytes; ready = p.ready; rests = rests }
 
-pub sync_images : {E : Type 0} (result : Result Unit E) (a : Account) (state new : DeviceState) → Closes a state → Syncs result state new → (b : List ℕ) → IsLeft new b → Holds a.epoch a.plant b
+pub sync_images : {E : Type 0} (result : Result Unit E) (a : Account) (state new : DeviceState) → ClosesOther a state → Syncs result state new → (b : List ℕ) → IsLeft new b → HoldsPlant a.epoch a.plant b
 sync_images result a state new p syncs b image = p.images b (synced_image result state new b syncs image)

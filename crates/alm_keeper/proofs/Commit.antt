@@ -6,10 +6,10 @@ use Rattle.alm_model.specs.Plant.{Condensed}
 use Rattle.alm_model.specs.Step.{run}
 use Rattle.alm_model.specs.Rules.{AreAdmitted}
 use Rattle.alm_codec.specs.Frames.{IsFrame, frame_text, frame_body}
-use Rattle.alm_segment.specs.Course.{is_open}
+use Rattle.alm_segment.specs.Course.{is_gate_open}
 use Rattle.alm_checkpoint.specs.Cut.{Cut, Stores, Reaches, front, back, with_frame}
 use Rattle.alm_checkpoint.proofs.Grown.{pushes, reaches_pushed, stores_pushed, gate_at}
-use Rattle.alm_keeper.specs.Stand.{Holds, Account, account_of, Ready, Takes, committed}
+use Rattle.alm_keeper.specs.Stand.{HoldsPlant, Account, account_of, Ready, TakesFrame, with_commit}
 use Rattle.alm_keeper.proofs.Devices.{frame_long}
 
 regroup : (f m l b : List ℕ) (g : ℕ) → f ++ (g ∷ m) ++ (l ++ b) ≡ f ++ (g ∷ (m ++ l)) ++ b
@@ -19,14 +19,14 @@ regroup_body : (f t l b : List ℕ) → f ++ (165 ∷ (t ++ 0 ∷ [])) ++ (l ++ 
 regroup_body f t l b = simp append_assoc
 
 -- what is held, by the account
-pub ready_holds : (a : Account) (b : List ℕ) → Ready a b → Holds a.epoch a.plant b
+pub ready_holds : (a : Account) (b : List ℕ) → Ready a b → HoldsPlant a.epoch a.plant b
 ready_holds a b r = record { cut = r.cut; in_epoch = sym (ap (λ (x : Account). x.epoch) r.is); stores = r.stores; gate = r.gate; closed = r.closed; tail = r.tail; reaches = r.reaches; text = r.text }
 
 pub body_long : (e n : ℕ) (actions : List Action) → length (frame_body e n actions) ≡ 19 + 16 * length actions
 body_long e n actions = omega (arith, frame_long e n actions, length-append (frame_text e n actions) (0 ∷ []))
 
 module _ (c : Cut) (plant : Condensed) (actions : List Action) (gate : ℕ) (tail : List ℕ) (stores : Stores c plant) (frame : IsFrame c.epoch (plant.panel.count + 1) actions) (admitted : AreAdmitted plant actions)
-    (closed : is_open gate ≡ false) (reaches : Reaches c (gate ∷ tail)) (takes : Takes (account_of c plant) actions) where
+    (closed : is_gate_open gate ≡ false) (reaches : Reaches c (gate ∷ tail)) (takes : TakesFrame (account_of c plant) actions) where
   abbrev pub n : ℕ
   n = 19 + 16 * length actions
 
@@ -54,7 +54,7 @@ module _ (c : Cut) (plant : Condensed) (actions : List Action) (gate : ℕ) (tai
   grown_reaches : Reaches (with_frame c actions) (0 ∷ drop n tail)
   grown_reaches = reaches_pushed c plant actions (0 ∷ drop n tail) stores (omega (arith, reaches, left_long, length-append (165 ∷ t) (0 ∷ drop n tail), frame_long c.epoch (plant.panel.count + 1) actions))
 
-  pub ready : Ready (committed (account_of c plant) actions) (front c ++ (165 ∷ text) ++ (drop n tail ++ back c))
+  pub ready : Ready (with_commit (account_of c plant) actions) (front c ++ (165 ∷ text) ++ (drop n tail ++ back c))
   ready =
       let place : length (front c) + (19 + 16 * length actions) ≡ length (front (with_frame c actions)) =
       omega (arith, gate_at c plant (gate ∷ tail) stores reaches, gate_at (with_frame c actions) (run plant actions) (0 ∷ drop n tail) grown grown_reaches, left_long) in

@@ -7,16 +7,16 @@ use Rattle.alm_model.specs.Plant.{Condensed}
 use Rattle.alm_codec.specs.Image.{image_text}
 use Rattle.alm_disk.specs.Device.{DeviceState}
 use Rattle.alm_disk.specs.Device.{IsImage as IsLeft}
-use Rattle.alm_segment.specs.Course.{is_open}
-use Rattle.alm_checkpoint.specs.Layouts.{byte_at, part, half_at, half_len, other}
+use Rattle.alm_segment.specs.Course.{is_gate_open}
+use Rattle.alm_checkpoint.specs.Layouts.{layout_byte, part, half_at, half_len, other}
 use Rattle.alm_checkpoint.specs.Headers.{half_head_text}
 use Rattle.alm_checkpoint.specs.Cut.{Cut, Stores, Reaches, half_text, front, turned_with, side_front, side_back}
 use Rattle.alm_checkpoint.specs.Cut.{device_of}
 use Rattle.alm_checkpoint.proofs.Pieces.{part_is}
-use Rattle.alm_keeper.specs.Stand.{Account, account_of, Ready, end_of, other_at}
+use Rattle.alm_keeper.specs.Stand.{Account, account_of, Ready, end_of_half, other_at}
 use Rattle.alm_keeper.specs.Resting.{Rests, Blind, Guarded, Kept}
 use Rattle.alm_keeper.specs.declared.stage.Stage.TheVariants.{BodySync}
-use Rattle.alm_keeper.specs.Piecewise.{Copy, since_text, open_text, run_text, IsCopy, went, Paused, turned_by}
+use Rattle.alm_keeper.specs.Piecewise.{Copy, since_text, open_text, run_text, IsCopy, is_sent, Paused, turned_by}
 use Rattle.alm_checkpoint.proofs.Grown.{gate_at}
 use Rattle.alm_checkpoint.proofs.Turned.{turns_with, stores_turned_with}
 use Rattle.alm_keeper.proofs.Sides.{regroup, regroup_half}
@@ -32,7 +32,7 @@ blind_none P b c is beside = subst P (sym (ext_get_or 0 c b beside.size (λ i _.
 at_body : (a b d : List ℕ) (g : ℕ) → (a ++ g ∷ []) ++ b ++ d ≡ a ++ (g ∷ b) ++ d
 at_body a b d g = simp append_assoc
 
-module _ (c : Cut) (plant : Condensed) (gate : ℕ) (tail : List ℕ) (stores : Stores c plant) (closed : is_open gate ≡ false) (reaches : Reaches c (gate ∷ tail)) (k : Copy) (copy : IsCopy (account_of c plant) k)
+module _ (c : Cut) (plant : Condensed) (gate : ℕ) (tail : List ℕ) (stores : Stores c plant) (closed : is_gate_open gate ≡ false) (reaches : Reaches c (gate ∷ tail)) (k : Copy) (copy : IsCopy (account_of c plant) k)
     (within : length (run_text (account_of c plant) k) + 1 ≤ half_len c.layout) where
   abbrev run : List ℕ
   run = run_text (account_of c plant) k
@@ -95,11 +95,11 @@ module _ (c : Cut) (plant : Condensed) (gate : ℕ) (tail : List ℕ) (stores : 
     blind_after = blind_none (Ready (turned_by (account_of c plant) k));
   }
 
-  pub ending : (state : DeviceState) (b : List ℕ) → b ≡ device_of c (gate ∷ tail) → ((x : List ℕ) → IsLeft state x → Ready (account_of c plant) x) → Rests (went (account_of c plant) n) state b → part (half_at c.layout (other c.half) + 1) n b ≡ run
+  pub ending : (state : DeviceState) (b : List ℕ) → b ≡ device_of c (gate ∷ tail) → ((x : List ℕ) → IsLeft state x → Ready (account_of c plant) x) → Rests (is_sent (account_of c plant) n) state b → part (half_at c.layout (other c.half) + 1) n b ≡ run
       → Kept none (Ready (account_of c plant)) (Ready (turned_by (account_of c plant) k)) BodySync state (half_at c.layout (other c.half)) run
   unfolding guarded
   ending state b is images rests wrote =
-      let g = byte_at c.other 0 in
+      let g = layout_byte c.other 0 in
       let text : b ≡ (ahead ++ g ∷ []) ++ take n (drop 1 c.other) ++ (left ++ rear) = is ∙ here c plant gate tail stores closed reaches n within copy.shut in
       let room_is : take n (drop 1 c.other) ≡ run =
       sym (part_is (half_at c.layout (other c.half) + 1) n (ahead ++ g ∷ []) (take n (drop 1 c.other)) (left ++ rear) b (sym (front_is c plant gate tail stores closed reaches n within copy.shut)) (room_long c plant gate tail stores closed reaches n within copy.shut)
@@ -111,12 +111,12 @@ module _ (c : Cut) (plant : Condensed) (gate : ℕ) (tail : List ℕ) (stores : 
           guarded,
           g,
           eqb-false g 165 copy.shut,
-          record { reads = rests.reads ∙ shown; within = λ i out. rests.within i (or_parts (went (account_of c plant) n i) false out).0; sound = rests.sound },
+          record { reads = rests.reads ∙ shown; within = λ i out. rests.within i (or_parts (is_sent (account_of c plant) n i) false out).0; sound = rests.sound },
         );
       }
 
 -- all of the run went out: it awaits its sync, and then the gate's
-pub ends : (a : Account) (k : Copy) (state : DeviceState) → IsCopy a k → a.gate + 1 ≤ end_of a → Paused a (record k { out = length (run_text a k) }) state
+pub ends : (a : Account) (k : Copy) (state : DeviceState) → IsCopy a k → a.gate + 1 ≤ end_of_half a → Paused a (record k { out = length (run_text a k) }) state
     → Kept none (Ready a) (Ready (turned_by a k)) BodySync state (other_at a) (run_text a k)
 ends a k state copy gate p = go r.cut r.is
   where
@@ -126,7 +126,7 @@ ends a k state copy gate p = go r.cut r.is
     go : (x : Cut) → a ≡ account_of r.cut a.plant → Kept none (Ready a) (Ready (turned_by a k)) BodySync state (other_at a) (run_text a k)
     go x is = subst (λ (y : Account). Kept none (Ready y) (Ready (turned_by y k)) BodySync state (other_at y) (run_text y k)) (sym is)
         (ending r.cut a.plant r.gate r.tail r.stores r.closed r.reaches k (subst (λ (y : Account). IsCopy y k) is copy) (subst (λ (y : Account). length (run_text y k) + 1 ≤ half_len y.layout) is (run_fits a k copy gate)) state p.bytes r.text
-        (subst (λ (y : Account). (x : List ℕ) → IsLeft state x → Ready y x) is p.images) (subst (λ (y : Account). Rests (went y (length (run_text y k))) state p.bytes) is p.rests)
+        (subst (λ (y : Account). (x : List ℕ) → IsLeft state x → Ready y x) is p.images) (subst (λ (y : Account). Rests (is_sent y (length (run_text y k))) state p.bytes) is p.rests)
         (subst (λ (y : Account). part (other_at y + 1) (length (run_text y k)) p.bytes ≡ run_text y k) is wrote))
       where
         whole : take (length (run_text a k)) (run_text a k) ≡ run_text a k

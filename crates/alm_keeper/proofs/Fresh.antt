@@ -20,11 +20,11 @@ use Rattle.alm_checkpoint.specs.Headers.{header_text, half_head_text, of_rows, a
 use Rattle.alm_checkpoint.specs.Cut.{Cut, IsLayout, Stores, device_of}
 use Rattle.alm_checkpoint.proofs.Shown.{shown, shown_opens}
 use Rattle.alm_segment.proofs.Segments.{folds}
-use Rattle.alm_keeper.specs.Formatting.{IsLongest, IsNew, IsWritten, Leaves, LeavesOf, put, filled, opened, first_half, IsOfVersion}
+use Rattle.alm_keeper.specs.Formatting.{IsLongest, IsNewDevice, IsWritten, Leaves, LeavesOf, overwritten, with_empty_half, with_open_gate, first_half, IsOfVersion}
 
 -- ---- the bytes
 
-put_mid : (at : ℕ) (bytes front old back : List ℕ) → at ≡ length front → length bytes ≡ length old → put at bytes (front ++ old ++ back) ≡ front ++ bytes ++ back
+put_mid : (at : ℕ) (bytes front old back : List ℕ) → at ≡ length front → length bytes ≡ length old → overwritten at bytes (front ++ old ++ back) ≡ front ++ bytes ++ back
 put_mid at bytes front old back place long = (λ i. take (place i) (front ++ old ++ back) ++ bytes ++ drop (place i + long i) (front ++ old ++ back)) ∙ (λ i. take_front i ++ bytes ++ drop_back i)
   where
     take_front : take (length front) (front ++ old ++ back) ≡ front
@@ -34,8 +34,8 @@ put_mid at bytes front old back place long = (λ i. take (place i) (front ++ old
     drop_back = drop_at (front ++ old) back (length front + length old) (length-append front old)
 
 -- the same, where the list is regrouped before and behind
-put_in : (at : ℕ) (bytes front old back all after : List ℕ) → all ≡ front ++ old ++ back → front ++ bytes ++ back ≡ after → at ≡ length front → length bytes ≡ length old → put at bytes all ≡ after
-put_in at bytes front old back all after is to place long = ap (put at bytes) is ∙ put_mid at bytes front old back place long ∙ to
+put_in : (at : ℕ) (bytes front old back all after : List ℕ) → all ≡ front ++ old ++ back → front ++ bytes ++ back ≡ after → at ≡ length front → length bytes ≡ length old → overwritten at bytes all ≡ after
+put_in at bytes front old back all after is to place long = ap (overwritten at bytes) is ∙ put_mid at bytes front old back place long ∙ to
 
 record Split (n : ℕ) (x : List ℕ) : Type 0 where
   first : List ℕ
@@ -120,28 +120,28 @@ g5 : (a h k m s g r : List ℕ) → (a ++ h) ++ k ++ (m ++ (s ++ (g ++ r))) ≡ 
 g5 a h k m s g r = simp append_assoc
 
 module _ (l : Layout) (header body a h m s g r : List ℕ) (by_a : length a ≡ 1) (by_h : length h ≡ length header) (header_long : length header ≡ 22) (by_m : length m ≡ suc (length body)) (body_long : length body ≡ 25 + image_size l) (by_s : length s + 1 ≡ l.segment) (by_g : length g ≡ 1) where
-  one : put 1 header (a ++ (h ++ (m ++ (s ++ (g ++ r))))) ≡ (a ++ header) ++ m ++ (s ++ (g ++ r))
+  one : overwritten 1 header (a ++ (h ++ (m ++ (s ++ (g ++ r))))) ≡ (a ++ header) ++ m ++ (s ++ (g ++ r))
   one = put_in 1 header a h (m ++ (s ++ (g ++ r))) _ _ (g1 a h m s g r) (g2 a header m s g r) (sym by_a) (sym by_h)
 
   front_long : 23 ≡ length (a ++ header)
   front_long = omega (arith, length-append a header)
 
-  two : put 23 (0 ∷ body) ((a ++ header) ++ m ++ (s ++ (g ++ r))) ≡ (a ++ header ++ (0 ∷ body) ++ s) ++ g ++ r
+  two : overwritten 23 (0 ∷ body) ((a ++ header) ++ m ++ (s ++ (g ++ r))) ≡ (a ++ header ++ (0 ∷ body) ++ s) ++ g ++ r
   two = put_in 23 (0 ∷ body) (a ++ header) m (s ++ (g ++ r)) _ _ refl (g3 a header (0 ∷ body) s g r) front_long (sym by_m)
 
   second_long : half_at l Second ≡ length (a ++ header ++ (0 ∷ body) ++ s)
   second_long = omega (arith, length-append (a ++ header ++ (0 ∷ body)) s, length-append (a ++ header) (0 ∷ body), length-append a header)
 
-  three : put (half_at l Second) (0 ∷ []) ((a ++ header ++ (0 ∷ body) ++ s) ++ g ++ r) ≡ (a ++ header) ++ (0 ∷ []) ++ (body ++ (s ++ ((0 ∷ []) ++ r)))
+  three : overwritten (half_at l Second) (0 ∷ []) ((a ++ header ++ (0 ∷ body) ++ s) ++ g ++ r) ≡ (a ++ header) ++ (0 ∷ []) ++ (body ++ (s ++ ((0 ∷ []) ++ r)))
   three = put_in (half_at l Second) (0 ∷ []) (a ++ header ++ (0 ∷ body) ++ s) g r _ _ refl (g4 a header body s (0 ∷ []) r) second_long (sym by_g)
 
-  four : put 23 (165 ∷ []) ((a ++ header) ++ (0 ∷ []) ++ (body ++ (s ++ ((0 ∷ []) ++ r)))) ≡ [] ++ a ++ (header ++ (165 ∷ []) ++ (body ++ (s ++ ((0 ∷ []) ++ r))))
+  four : overwritten 23 (165 ∷ []) ((a ++ header) ++ (0 ∷ []) ++ (body ++ (s ++ ((0 ∷ []) ++ r)))) ≡ [] ++ a ++ (header ++ (165 ∷ []) ++ (body ++ (s ++ ((0 ∷ []) ++ r))))
   four = put_in 23 (165 ∷ []) (a ++ header) (0 ∷ []) (body ++ (s ++ ((0 ∷ []) ++ r))) _ _ refl (g5 a header (165 ∷ []) body s (0 ∷ []) r) front_long refl
 
-  all_put : opened (filled l header (0 ∷ body) (a ++ (h ++ (m ++ (s ++ (g ++ r)))))) ≡ (165 ∷ []) ++ (header ++ (165 ∷ []) ++ (body ++ (s ++ ((0 ∷ []) ++ r))))
+  all_put : with_open_gate (with_empty_half l header (0 ∷ body) (a ++ (h ++ (m ++ (s ++ (g ++ r)))))) ≡ (165 ∷ []) ++ (header ++ (165 ∷ []) ++ (body ++ (s ++ ((0 ∷ []) ++ r))))
   all_put =
-      ap (λ (x : List ℕ). opened (put 23 (165 ∷ []) (put (half_at l Second) (0 ∷ []) (put 23 (0 ∷ body) x)))) one
-      ∙ ap (λ (x : List ℕ). opened (put 23 (165 ∷ []) (put (half_at l Second) (0 ∷ []) x))) two ∙ ap (λ (x : List ℕ). opened (put 23 (165 ∷ []) x)) three ∙ ap opened four
+      ap (λ (x : List ℕ). with_open_gate (overwritten 23 (165 ∷ []) (overwritten (half_at l Second) (0 ∷ []) (overwritten 23 (0 ∷ body) x)))) one
+      ∙ ap (λ (x : List ℕ). with_open_gate (overwritten 23 (165 ∷ []) (overwritten (half_at l Second) (0 ∷ []) x))) two ∙ ap (λ (x : List ℕ). with_open_gate (overwritten 23 (165 ∷ []) x)) three ∙ ap with_open_gate four
       ∙ put_mid 0 (165 ∷ []) [] a (header ++ (165 ∷ []) ++ (body ++ (s ++ ((0 ∷ []) ++ r)))) refl (sym by_a)
 
 -- ---- what is cut so
@@ -216,7 +216,7 @@ module _ (size : ℕ) (t : Listing) (l : Layout) (h : IsTable t) (k : IsLongest 
     below = inl refl;
   }
 
-  fresh_stands : (s o rest : List ℕ) → length s + 1 ≡ l.segment → length o + 1 ≡ half_len l → IsNew size t (device_of (fresh l (new_plant t) (0 ∷ o) rest) (0 ∷ s))
+  fresh_stands : (s o rest : List ℕ) → length s + 1 ≡ l.segment → length o + 1 ≡ half_len l → IsNewDevice size t (device_of (fresh l (new_plant t) (0 ∷ o) rest) (0 ∷ s))
   unfolding fresh
   fresh_stands s o rest by_s by_o =
       let c = fresh l (new_plant t) (0 ∷ o) rest in
@@ -246,21 +246,21 @@ module _ (size : ℕ) (t : Listing) (l : Layout) (h : IsTable t) (k : IsLongest 
       let c = fresh l (new_plant t) (0 ∷ o) rest in
       record { opened = shown c (0 ∷ s); opens = shown_opens c (new_plant t) (0 ∷ s) (fresh_stores o rest by_o) (omega (arith, by_s)); of_header = refl; of_half = refl }
 
-  new_cut : (x : List ℕ) (p : Pieces l x) → opened (filled l (header_text l) (0 ∷ body) x) ≡ (165 ∷ []) ++ (header_text l ++ (165 ∷ []) ++ (body ++ (p.s ++ ((0 ∷ []) ++ (p.o ++ p.r)))))
+  new_cut : (x : List ℕ) (p : Pieces l x) → with_open_gate (with_empty_half l (header_text l) (0 ∷ body) x) ≡ (165 ∷ []) ++ (header_text l ++ (165 ∷ []) ++ (body ++ (p.s ++ ((0 ∷ []) ++ (p.o ++ p.r)))))
   new_cut x p =
-      ap (λ (z : List ℕ). opened (filled l (header_text l) (0 ∷ body) z)) p.is
+      ap (λ (z : List ℕ). with_open_gate (with_empty_half l (header_text l) (0 ∷ body) z)) p.is
       ∙ all_put l (header_text l) body p.a p.h p.m p.s p.g (p.o ++ p.r) p.by_a p.by_h refl (omega (arith, p.by_m, body_long)) body_long p.by_s p.by_g
 
-  new_is : (x b : List ℕ) → b ≡ opened (filled l (header_text l) (0 ∷ body) x) → Pieces l x → IsNew size t b
-  new_is x b is p = subst (IsNew size t) (sym (is ∙ new_cut x p ∙ fresh_is p.s p.o p.r)) (fresh_stands p.s p.o p.r p.by_s p.by_o)
+  new_is : (x b : List ℕ) → b ≡ with_open_gate (with_empty_half l (header_text l) (0 ∷ body) x) → Pieces l x → IsNewDevice size t b
+  new_is x b is p = subst (IsNewDevice size t) (sym (is ∙ new_cut x p ∙ fresh_is p.s p.o p.r)) (fresh_stands p.s p.o p.r p.by_s p.by_o)
 
-  version_is : (x b : List ℕ) → b ≡ opened (filled l (header_text l) (0 ∷ body) x) → Pieces l x → IsOfVersion l.version b
+  version_is : (x b : List ℕ) → b ≡ with_open_gate (with_empty_half l (header_text l) (0 ∷ body) x) → Pieces l x → IsOfVersion l.version b
   version_is x b is p = subst (IsOfVersion l.version) (sym (is ∙ new_cut x p ∙ fresh_is p.s p.o p.r)) (fresh_version p.s p.o p.r p.by_s p.by_o)
 
   pub version_here : (b : List ℕ) → IsWritten size l (header_text l) (first_half l (new_plant t)) b → IsOfVersion l.version b
   version_here b w = version_is w.before b w.is (pieces l w.before some_segment (omega (arith, fits_device, w.long)))
 
-  pub new_here : (b : List ℕ) → IsWritten size l (header_text l) (first_half l (new_plant t)) b → IsNew size t b
+  pub new_here : (b : List ℕ) → IsWritten size l (header_text l) (first_half l (new_plant t)) b → IsNewDevice size t b
   new_here b w = new_is w.before b w.is (pieces l w.before some_segment (omega (arith, fits_device, w.long)))
 
   -- what a crash leaves of a device whose formatting failed

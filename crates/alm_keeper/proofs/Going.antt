@@ -17,10 +17,10 @@ use Rattle.alm_store.specs.declared.progress.Progress.TheVariants.{More, Done, F
 use Rattle.alm_keeper.specs.declared.stage.Work.{Work}
 use Rattle.alm_keeper.specs.declared.stage.Work.TheVariants.{Commit, Checkpoint}
 use Rattle.alm_keeper.specs.Stages.{IsWorking, rest_stage, rest_work, During}
-use Rattle.alm_keeper.specs.Stand.{Holds, Ready, Account, other_at, committed, turned}
-use Rattle.alm_keeper.specs.Piecewise.{Copy, IsCopy, open_text, run_text, turned_by, copied, sent}
-use Rattle.alm_keeper.specs.Phases.{Rest, Pause, End, KeptIn, StageCall, Call, DuringIn, next_work, next_account}
-use Rattle.alm_keeper.specs.Keeping.{account, run_in, piece_of, done_by, next_of, next, InOrder, Closes, Turns, Grows, GrowsWhere, GoesOn, sent_by, alone, beside, at_out, KeptBy, Keeps, PassesBy, PassesOn, MayLeave, Ends}
+use Rattle.alm_keeper.specs.Stand.{HoldsPlant, Ready, Account, other_at, with_commit, turned_half}
+use Rattle.alm_keeper.specs.Piecewise.{Copy, IsCopy, open_text, run_text, turned_by, with_copied_frame, with_sent_bytes}
+use Rattle.alm_keeper.specs.Phases.{Rest, Pause, End, KeptIn, StageCall, MakesCall, DuringIn, next_work, next_account}
+use Rattle.alm_keeper.specs.Keeping.{account, run_in, piece_of, done_by, account_next_at, account_next, InOrder, ClosesBook, TurnsBook, GrowsBook, GrowsWhere, IsBookAfter, sent_by, work_alone, work_beside, at_out, KeptBy, Keeps, PassesBy, PassesOn, MayLeave, Ends}
 use Rattle.alm_keeper.proofs.Carried.{open_grows, frame_is}
 use Rattle.alm_keeper.proofs.Commit.{ready_holds}
 use Rattle.alm_keeper.proofs.Order.{Possible, possible, opened}
@@ -32,8 +32,8 @@ half_within l First size fits = omega (arith, fits)
 half_within l Second size fits = omega (arith, fits)
 
 -- a run by its length
-pub turned_is : (a : Account) (k : Copy) (n : ℕ) → length (run_text a k) ≡ n → turned_by a k ≡ turned a n
-turned_is a k n long = ap (λ (gate : ℕ). record (turned a n) { gate = gate }) place
+pub turned_is : (a : Account) (k : Copy) (n : ℕ) → length (run_text a k) ≡ n → turned_by a k ≡ turned_half a n
+turned_is a k n long = ap (λ (gate : ℕ). record (turned_half a n) { gate = gate }) place
   where
     place : other_at a + 1 + length (open_text a k) ≡ other_at a + n
     place = omega (arith, long, length-append (open_text a k) (0 ∷ []))
@@ -60,7 +60,7 @@ module _ (result : Result Unit DiskFault) (a : Account) (actions : List Action) 
   abbrev body : List ℕ
   body = frame_body a.epoch (a.plant.panel.count + 1) actions
 
-  pub alone_call : (stage : Stage) → StageCall stage a.gate body result old new → Call (alone stage actions) a n result old new
+  pub alone_call : (stage : Stage) → StageCall stage a.gate body result old new → MakesCall (work_alone stage actions) a n result old new
   alone_call Idle call = absurd call
   alone_call Close call = call
   alone_call CloseSync call = call
@@ -70,7 +70,7 @@ module _ (result : Result Unit DiskFault) (a : Account) (actions : List Action) 
   alone_call GateSync call = call
   alone_call Stopped call = absurd call
 
-  pub commit_call : (k : Copy) (stage : Stage) → Possible stage true Commit → StageCall stage a.gate body result old new → Call (beside stage Commit k actions) a n result old new
+  pub commit_call : (k : Copy) (stage : Stage) → Possible stage true Commit → StageCall stage a.gate body result old new → MakesCall (work_beside stage Commit k actions) a n result old new
   commit_call k Idle may call = absurd may
   commit_call k Close may call = absurd may
   commit_call k CloseSync may call = absurd may
@@ -81,7 +81,7 @@ module _ (result : Result Unit DiskFault) (a : Account) (actions : List Action) 
   commit_call k Stopped may call = absurd may
 
   -- of a checkpoint, but for its pieces
-  pub checkpoint_call : (k : Copy) (stage : Stage) → (stage ≡ Body → ⊥) → StageCall stage (other_at a) [] result old new → Call (beside stage Checkpoint k actions) a n result old new
+  pub checkpoint_call : (k : Copy) (stage : Stage) → (stage ≡ Body → ⊥) → StageCall stage (other_at a) [] result old new → MakesCall (work_beside stage Checkpoint k actions) a n result old new
   checkpoint_call k Idle pieces call = absurd call
   checkpoint_call k Close pieces call = call
   checkpoint_call k CloseSync pieces call = call
@@ -91,14 +91,14 @@ module _ (result : Result Unit DiskFault) (a : Account) (actions : List Action) 
   checkpoint_call k GateSync pieces call = call
   checkpoint_call k Stopped pieces call = absurd call
 
-  pub piece_call : (k : Copy) → k.out + n ≤ length (run_text a k) → Writes (other_at a + k.out + 1) (take n (drop k.out (run_text a k))) result old new → Call (Pause k) a n result old new
+  pub piece_call : (k : Copy) → k.out + n ≤ length (run_text a k) → Writes (other_at a + k.out + 1) (take n (drop k.out (run_text a k))) result old new → MakesCall (Pause k) a n result old new
   piece_call k within call =
       let at : other_at a + k.out + 1 ≡ other_at a + 1 + k.out = omega arith in
       (within, subst (λ (m : ℕ). Writes m (take n (drop k.out (run_text a k))) result old new) at call)
 
 -- at work a book's device is kept by what is under way
 module _ (b : Book) (state : DeviceState) where
-  pub kept_alone : (stage : Stage) (work : Work) → IsWorking stage → KeptBy stage false work b state → KeptIn (alone stage b.actions.items) (account b) state
+  pub kept_alone : (stage : Stage) (work : Work) → IsWorking stage → KeptBy stage false work b state → KeptIn (work_alone stage b.actions.items) (account b) state
   kept_alone Idle work works kept = absurd works
   kept_alone Close work works kept = kept
   kept_alone CloseSync work works kept = kept
@@ -108,7 +108,7 @@ module _ (b : Book) (state : DeviceState) where
   kept_alone GateSync work works kept = kept
   kept_alone Stopped work works kept = absurd works
 
-  pub kept_beside : (stage : Stage) (work : Work) → IsWorking stage → KeptBy stage true work b state → (k : Copy) × (run_text (account b) k ≡ run_in b) × KeptIn (beside stage work (at_out k b.out) b.actions.items) (account b) state
+  pub kept_beside : (stage : Stage) (work : Work) → IsWorking stage → KeptBy stage true work b state → (k : Copy) × (run_text (account b) k ≡ run_in b) × KeptIn (work_beside stage work (at_out k b.out) b.actions.items) (account b) state
   kept_beside Idle work works kept = absurd works
   kept_beside Close work works kept = kept
   kept_beside CloseSync work works kept = kept
@@ -126,13 +126,13 @@ module _ (result : Result Unit DiskFault) (old new : DeviceState) (b : Book) (i 
   abbrev acts : List Action
   acts = b.actions.items
 
-  by_copying : (copying : Bool) → (copying ≡ false → Call (alone b.stage acts) a (piece_of b) result old new)
-      → (copying ≡ true → (k : Copy) → run_text a k ≡ run_in b → Call (beside b.stage b.work (at_out k b.out) acts) a (piece_of b) result old new)
+  by_copying : (copying : Bool) → (copying ≡ false → MakesCall (work_alone b.stage acts) a (piece_of b) result old new)
+      → (copying ≡ true → (k : Copy) → run_text a k ≡ run_in b → MakesCall (work_beside b.stage b.work (at_out k b.out) acts) a (piece_of b) result old new)
       → KeptBy b.stage copying b.work b old → PassesBy copying b.stage b.work b result old new
-  by_copying false without with_copy kept = advances result (alone b.stage acts) a (piece_of b) old new i.gate (kept_alone b old b.stage b.work works kept) (without refl)
+  by_copying false without with_copy kept = advances result (work_alone b.stage acts) a (piece_of b) old new i.gate (kept_alone b old b.stage b.work works kept) (without refl)
   by_copying true without with_copy kept =
       let here = kept_beside b old b.stage b.work works kept in
-      (here.0, here.1, here.2, advances result (beside b.stage b.work (at_out here.0 b.out) acts) a (piece_of b) old new i.gate here.2 (with_copy refl here.0 here.1))
+      (here.0, here.1, here.2, advances result (work_beside b.stage b.work (at_out here.0 b.out) acts) a (piece_of b) old new i.gate here.2 (with_copy refl here.0 here.1))
 
   pub commit_passes : (text : List ℕ) → b.work ≡ Commit → text ≡ frame_body b.epoch (b.stored.panel.count + 1) acts → StageCall b.stage b.gate text result old new → Keeps old b → PassesOn result old new b
   commit_passes text is same call kept =
@@ -140,7 +140,7 @@ module _ (result : Result Unit DiskFault) (old new : DeviceState) (b : Book) (i 
       by_copying b.copying (λ off. alone_call result a acts (piece_of b) old new b.stage here)
       (λ on k run.
       let may : Possible b.stage true Commit = subst (λ (w : Work). Possible b.stage true w) is (subst (λ (o : Bool). Possible b.stage o b.work) on (possible b i works)) in
-      subst (λ (w : Work). Call (beside b.stage w (at_out k b.out) acts) a (piece_of b) result old new) (sym is) (commit_call result a acts (piece_of b) old new (at_out k b.out) b.stage may here)) kept
+      subst (λ (w : Work). MakesCall (work_beside b.stage w (at_out k b.out) acts) a (piece_of b) result old new) (sym is) (commit_call result a acts (piece_of b) old new (at_out k b.out) b.stage may here)) kept
 
   never_without : b.work ≡ Checkpoint → b.copying ≡ false → ⊥
   never_without is off = never_alone b.stage (subst (λ (w : Work). Possible b.stage false w) is (subst (λ (o : Bool). Possible b.stage o b.work) off (possible b i works)))
@@ -149,7 +149,7 @@ module _ (result : Result Unit DiskFault) (old new : DeviceState) (b : Book) (i 
   checkpoint_passes at is pieces place call kept =
       let here : StageCall b.stage (other_at a) [] result old new = subst (λ (n : ℕ). StageCall b.stage n [] result old new) place call in
       by_copying b.copying (λ off. absurd (never_without is off))
-      (λ on k run. subst (λ (w : Work). Call (beside b.stage w (at_out k b.out) acts) a (piece_of b) result old new) (sym is) (checkpoint_call result a acts (piece_of b) old new (at_out k b.out) b.stage pieces here)) kept
+      (λ on k run. subst (λ (w : Work). MakesCall (work_beside b.stage w (at_out k b.out) acts) a (piece_of b) result old new) (sym is) (checkpoint_call result a acts (piece_of b) old new (at_out k b.out) b.stage pieces here)) kept
 
   pub piece_passes : (at : ℕ) (text : List ℕ) → b.work ≡ Checkpoint → b.stage ≡ Body → at ≡ other_at a + b.out → text ≡ take (piece_of b) (drop b.out (run_in b)) → b.out + piece_of b ≤ length (run_in b)
       → Writes (at + 1) text result old new → Keeps old b → PassesOn result old new b
@@ -160,16 +160,16 @@ module _ (result : Result Unit DiskFault) (old new : DeviceState) (b : Book) (i 
       (λ on k run.
       let there : Writes (other_at a + b.out + 1) (take (piece_of b) (drop b.out (run_text a k))) result old new = subst (λ (t : List ℕ). Writes (other_at a + b.out + 1) (take (piece_of b) (drop b.out t)) result old new) (sym run) here in
       let inside : b.out + piece_of b ≤ length (run_text a k) = subst (λ (t : List ℕ). b.out + piece_of b ≤ length t) (sym run) within in
-      subst (λ (w : Work). Call (beside b.stage w (at_out k b.out) acts) a (piece_of b) result old new) (sym is)
-      (subst (λ (s : Stage). Call (beside s Checkpoint (at_out k b.out) acts) a (piece_of b) result old new) (sym body) (piece_call result a acts (piece_of b) old new (at_out k b.out) inside there))) kept
+      subst (λ (w : Work). MakesCall (work_beside b.stage w (at_out k b.out) acts) a (piece_of b) result old new) (sym is)
+      (subst (λ (s : Stage). MakesCall (work_beside s Checkpoint (at_out k b.out) acts) a (piece_of b) result old new) (sym body) (piece_call result a acts (piece_of b) old new (at_out k b.out) inside there))) kept
 
 -- ---- what a crash leaves
 
 -- the work that is begun stays the same as long as it is done
-pub next_is : (b : Book) (stage : Stage) → b.stage ≡ stage → IsWorking stage → next b ≡ done_by b.work b
-next_is b stage is works = ap (λ (s : Stage). next_of s b.work b) is ∙ by_stage stage works
+pub next_is : (b : Book) (stage : Stage) → b.stage ≡ stage → IsWorking stage → account_next b ≡ done_by b.work b
+next_is b stage is works = ap (λ (s : Stage). account_next_at s b.work b) is ∙ by_stage stage works
   where
-    by_stage : (s : Stage) → IsWorking s → next_of s b.work b ≡ done_by b.work b
+    by_stage : (s : Stage) → IsWorking s → account_next_at s b.work b ≡ done_by b.work b
     by_stage Idle never = absurd never
     by_stage Close works = refl
     by_stage CloseSync works = refl
@@ -182,12 +182,12 @@ next_is b stage is works = ap (λ (s : Stage). next_of s b.work b) is ∙ by_sta
 -- at any moment of a call, by what is under way
 module _ (a : Account) (actions : List Action) (x : List ℕ) where
   abbrev Before : List ℕ → Type 0
-  Before b = Holds a.epoch a.plant b
+  Before b = HoldsPlant a.epoch a.plant b
 
   abbrev Committed : List ℕ → Type 0
-  Committed b = Ready (committed a actions) b
+  Committed b = Ready (with_commit a actions) b
 
-  pub leaves_alone : (stage : Stage) → IsWorking stage → DuringIn (alone stage actions) a x → During Before Committed stage x
+  pub leaves_alone : (stage : Stage) → IsWorking stage → DuringIn (work_alone stage actions) a x → During Before Committed stage x
   leaves_alone Idle works d = absurd works
   leaves_alone Close works d = ready_holds a x d
   leaves_alone CloseSync works d = ready_holds a x d
@@ -197,7 +197,7 @@ module _ (a : Account) (actions : List Action) (x : List ℕ) where
   leaves_alone GateSync works d = ⊎_elim (λ r. inl (ready_holds a x r)) inr d
   leaves_alone Stopped works d = absurd works
 
-  pub leaves_commit : (k : Copy) (stage : Stage) → Possible stage true Commit → DuringIn (beside stage Commit k actions) a x → During Before Committed stage x
+  pub leaves_commit : (k : Copy) (stage : Stage) → Possible stage true Commit → DuringIn (work_beside stage Commit k actions) a x → During Before Committed stage x
   leaves_commit k Idle may d = absurd may
   leaves_commit k Close may d = absurd may
   leaves_commit k CloseSync may d = absurd may
@@ -208,13 +208,13 @@ module _ (a : Account) (actions : List Action) (x : List ℕ) where
   leaves_commit k Stopped may d = absurd may
 
   module _ (k : Copy) (n : ℕ) (long : length (run_text a k) ≡ n) where
-    turns : Ready (turned_by a k) x → Ready (turned a n) x
+    turns : Ready (turned_by a k) x → Ready (turned_half a n) x
     turns r = subst (λ (y : Account). Ready y x) (turned_is a k n long) r
 
     abbrev Turned : List ℕ → Type 0
-    Turned b = Ready (turned a n) b
+    Turned b = Ready (turned_half a n) b
 
-    pub leaves_checkpoint : (stage : Stage) → Possible stage true Checkpoint → DuringIn (beside stage Checkpoint k actions) a x → During Before Turned stage x
+    pub leaves_checkpoint : (stage : Stage) → Possible stage true Checkpoint → DuringIn (work_beside stage Checkpoint k actions) a x → During Before Turned stage x
     leaves_checkpoint Idle may d = absurd may
     leaves_checkpoint Close may d = d
     leaves_checkpoint CloseSync may d = d
@@ -244,7 +244,7 @@ run_size b i works on = length-take-le b.run b.buffer.items (run_within b i work
 
 module _ (b : Book) (i : InOrder b) (works : IsWorking b.stage) (result : Result Unit DiskFault) (old new : DeviceState) where
   abbrev Stored : List ℕ → Type 0
-  Stored x = Holds b.epoch b.stored x
+  Stored x = HoldsPlant b.epoch b.stored x
 
   abbrev Then : Work → List ℕ → Type 0
   Then work x = Ready (done_by work b) x
@@ -277,10 +277,10 @@ rested b a state idle off is kept =
     subst (λ (s : Stage). KeptBy s b.copying b.work b state) (sym idle) (subst (λ (o : Bool). KeptBy Idle o b.work b state) (sym off) (subst (λ (x : Account). KeptIn Rest x state) (sym is) kept))
 
 -- a commit's frame in the run of an open checkpoint
-grows_run : (old new : Book) (k : Copy) → IsCopy (account old) k → run_text (account old) k ≡ run_in old → length (run_in old) ≡ old.run → account new ≡ committed (account old) old.actions.items → Grows old new
-    → run_text (account new) (copied k old.actions.items) ≡ run_in new
+grows_run : (old new : Book) (k : Copy) → IsCopy (account old) k → run_text (account old) k ≡ run_in old → length (run_in old) ≡ old.run → account new ≡ with_commit (account old) old.actions.items → GrowsBook old new
+    → run_text (account new) (with_copied_frame k old.actions.items) ≡ run_in new
 grows_run old new k copy run long account_is g =
-    (λ j. run_text (account_is j) (copied k old.actions.items))
+    (λ j. run_text (account_is j) (with_copied_frame k old.actions.items))
     ∙ ap (λ (t : List ℕ). t ++ 0 ∷ []) (open_grows (account old) k old.actions.items copy ∙ ap (λ (t : List ℕ). open_text (account old) k ++ t) (frame_is (account old) k old.actions.items copy))
     ∙ append_assoc (open_text (account old) k) (165 ∷ frame_text (old.epoch + 1) (old.stored.panel.count + 1) old.actions.items) (0 ∷ [])
     ∙ ap (λ (t : List ℕ). t ++ (165 ∷ frame_body (old.epoch + 1) (old.stored.panel.count + 1) old.actions.items)) front
@@ -305,12 +305,12 @@ module _ (step : Progress) (old new : Book) (state : DeviceState) (i : InOrder o
 
   -- without an open checkpoint
   abbrev NextAlone : Stage → Type 0
-  NextAlone stage = KeptIn (next_work (alone stage listed) (account old) (piece_of old)) (next_account (alone stage listed) (account old)) state
+  NextAlone stage = KeptIn (next_work (work_alone stage listed) (account old) (piece_of old)) (next_account (work_alone stage listed) (account old)) state
 
-  commit_closes : Closes old new → old.copying ≡ false → KeptIn Rest (committed (account old) listed) state → Keeps state new
-  commit_closes c off kept = rested new (committed (account old) listed) state (c.stage ∙ ap rest_stage off) (c.copying ∙ off) c.account kept
+  commit_closes : ClosesBook old new → old.copying ≡ false → KeptIn Rest (with_commit (account old) listed) state → Keeps state new
+  commit_closes c off kept = rested new (with_commit (account old) listed) state (c.stage ∙ ap rest_stage off) (c.copying ∙ off) c.account kept
 
-  goes_alone : (stage : Stage) → old.copying ≡ false → old.work ≡ Commit → Possible stage false Commit → GoesOn stage Commit step old new → NextAlone stage → Keeps state new
+  goes_alone : (stage : Stage) → old.copying ≡ false → old.work ≡ Commit → Possible stage false Commit → IsBookAfter stage Commit step old new → NextAlone stage → Keeps state new
   goes_alone Idle off is may goes kept = absurd may
   goes_alone Close off is may goes kept = absurd may
   goes_alone CloseSync off is may goes kept = absurd may
@@ -326,7 +326,7 @@ module _ (step : Progress) (old new : Book) (state : DeviceState) (i : InOrder o
     here = at_out k old.out
 
     abbrev Next : Stage → Work → Type 0
-    Next stage work = KeptIn (next_work (beside stage work here listed) (account old) (piece_of old)) (next_account (beside stage work here listed) (account old)) state
+    Next stage work = KeptIn (next_work (work_beside stage work here listed) (account old) (piece_of old)) (next_account (work_beside stage work here listed) (account old)) state
 
     to_stage : (stage : Stage) (work : Work) → IsWorking stage → old.work ≡ work → KeptBy stage true work old state → new ≡ record old { stage = stage } → Keeps state new
     to_stage stage work goes_on is kept goes = moved (record old { stage = stage }) goes (as_book (record old { stage = stage }) stage true work refl on is (again stage goes_on kept))
@@ -341,15 +341,15 @@ module _ (step : Progress) (old new : Book) (state : DeviceState) (i : InOrder o
         again GateSync on x = x
         again Stopped never x = absurd never
 
-    resumes : Closes old new → IsCopy (account old) here → KeptIn (Pause (copied here listed)) (committed (account old) listed) state → Keeps state new
+    resumes : ClosesBook old new → IsCopy (account old) here → KeptIn (Pause (with_copied_frame here listed)) (with_commit (account old) listed) state → Keeps state new
     resumes c copy kept =
         as_book new Body true Checkpoint (c.stage ∙ ap rest_stage on) (c.copying ∙ on) (c.work ∙ ap rest_work on) (
-          copied k listed,
+          with_copied_frame k listed,
           grows_run old new here copy run (run_size old i works on) c.account (subst (λ (o : Bool). GrowsWhere o old new) on c.grows),
-          subst (λ (n : ℕ). KeptIn (Pause (at_out (copied k listed) n)) (account new) state) (sym c.out) (subst (λ (y : Account). KeptIn (Pause (copied here listed)) y state) (sym c.account) kept),
+          subst (λ (n : ℕ). KeptIn (Pause (at_out (with_copied_frame k listed) n)) (account new) state) (sym c.out) (subst (λ (y : Account). KeptIn (Pause (with_copied_frame here listed)) y state) (sym c.account) kept),
         )
 
-    goes_commit : (was : DeviceState) (stage : Stage) → old.work ≡ Commit → Possible stage true Commit → GoesOn stage Commit step old new → KeptIn (beside stage Commit here listed) (account old) was → Next stage Commit → Keeps state new
+    goes_commit : (was : DeviceState) (stage : Stage) → old.work ≡ Commit → Possible stage true Commit → IsBookAfter stage Commit step old new → KeptIn (work_beside stage Commit here listed) (account old) was → Next stage Commit → Keeps state new
     goes_commit was Idle is may goes before kept = absurd may
     goes_commit was Close is may goes before kept = absurd may
     goes_commit was CloseSync is may goes before kept = absurd may
@@ -361,7 +361,7 @@ module _ (step : Progress) (old new : Book) (state : DeviceState) (i : InOrder o
 
     -- all of the run went out, or another piece is next
     abbrev Placed : Bool → Type 0
-    Placed last = KeptIn (if last then End here BodySync else Pause (sent here (piece_of old))) (account old) state
+    Placed last = KeptIn (if last then End here BodySync else Pause (with_sent_bytes here (piece_of old))) (account old) state
 
     by_place : (last : Bool) → old.work ≡ Checkpoint → (old.out + piece_of old == old.run) ≡ last → Placed last → Keeps state (sent_by (piece_of old) old)
     by_place true is at x = as_book (sent_by (piece_of old) old) BodySync true Checkpoint (ap (λ (l : Bool). if l then BodySync else Body) at) on is (k, run, x)
@@ -371,10 +371,10 @@ module _ (step : Progress) (old new : Book) (state : DeviceState) (i : InOrder o
     sends is goes kept =
         moved (sent_by (piece_of old) old) goes (by_place (old.out + piece_of old == old.run) is refl (subst (λ (n : ℕ). Placed (old.out + piece_of old == n)) (ap length run ∙ run_size old i works on) kept))
 
-    turned_rest : Turns old new → KeptIn Rest (turned_by (account old) here) state → Keeps state new
+    turned_rest : TurnsBook old new → KeptIn Rest (turned_by (account old) here) state → Keeps state new
     turned_rest t kept = rested new (turned_by (account old) here) state t.stage t.copying (t.account ∙ sym (turned_is (account old) here old.run (ap length run ∙ run_size old i works on))) kept
 
-    goes_checkpoint : (stage : Stage) → old.work ≡ Checkpoint → Possible stage true Checkpoint → GoesOn stage Checkpoint step old new → Next stage Checkpoint → Keeps state new
+    goes_checkpoint : (stage : Stage) → old.work ≡ Checkpoint → Possible stage true Checkpoint → IsBookAfter stage Checkpoint step old new → Next stage Checkpoint → Keeps state new
     goes_checkpoint Idle is may goes kept = absurd may
     goes_checkpoint Close is may goes kept = to_stage CloseSync Checkpoint tt is (k, run, kept) goes.1
     goes_checkpoint CloseSync is may goes kept =
@@ -385,10 +385,10 @@ module _ (step : Progress) (old new : Book) (state : DeviceState) (i : InOrder o
     goes_checkpoint GateSync is may goes kept = turned_rest goes.1 kept
     goes_checkpoint Stopped is may goes kept = absurd may
 
-  pub goes_on : (was : DeviceState) (result : Result Unit DiskFault) → result ≡ Ok tt → GoesOn old.stage old.work step old new → PassesOn result was state old → Keeps state new
+  pub goes_on : (was : DeviceState) (result : Result Unit DiskFault) → result ≡ Ok tt → IsBookAfter old.stage old.work step old new → PassesOn result was state old → Keeps state new
   goes_on was result done goes p = by_copying old.copying old.work refl refl (possible old i works) goes p
     where
-      by_copying : (copying : Bool) (work : Work) → old.copying ≡ copying → old.work ≡ work → Possible old.stage copying work → GoesOn old.stage work step old new → PassesBy copying old.stage work old result was state → Keeps state new
+      by_copying : (copying : Bool) (work : Work) → old.copying ≡ copying → old.work ≡ work → Possible old.stage copying work → IsBookAfter old.stage work step old new → PassesBy copying old.stage work old result was state → Keeps state new
       by_copying false Commit on is may g p = goes_alone old.stage on is may g (p.kept done)
       by_copying false Checkpoint on is may g p = absurd (never_alone old.stage may)
       by_copying true Commit on is may g p = goes_commit p.0 p.1 on was old.stage is may g p.2 (p.3.kept done)
@@ -402,7 +402,7 @@ IsFailed step = ⊥
 told : (step is : Progress) → step ≡ is → (IsFailed is → ⊥) → step ≡ Failed → ⊥
 told step is same not failed = not (subst IsFailed (sym failed ∙ same) tt)
 
-pub not_failed : (stage : Stage) (work : Work) (step : Progress) (old new : Book) → GoesOn stage work step old new → step ≡ Failed → ⊥
+pub not_failed : (stage : Stage) (work : Work) (step : Progress) (old new : Book) → IsBookAfter stage work step old new → step ≡ Failed → ⊥
 not_failed Idle work step old new goes = told step More goes.0 (λ f. f)
 not_failed Close work step old new goes = told step More goes.0 (λ f. f)
 not_failed CloseSync work step old new goes = told step More goes.0 (λ f. f)
@@ -413,13 +413,13 @@ not_failed Gate work step old new goes = told step More goes.0 (λ f. f)
 not_failed GateSync work step old new goes = told step Done goes.0 (λ f. f)
 not_failed Stopped work step old new goes = told step More goes.0 (λ f. f)
 
-pub ends_by : (step : Progress) (old new : Book) → GoesOn old.stage old.work step old new → Ends step old new
+pub ends_by : (step : Progress) (old new : Book) → IsBookAfter old.stage old.work step old new → Ends step old new
 ends_by More old new goes = goes
 ends_by Done old new goes = goes
 ends_by Failed old new goes = absurd (not_failed old.stage old.work Failed old new goes refl)
 
 -- a call leaves the layout as it is
-pub gone_layout : (stage : Stage) (work : Work) (step : Progress) (old new : Book) → GoesOn stage work step old new → new.layout ≡ old.layout
+pub gone_layout : (stage : Stage) (work : Work) (step : Progress) (old new : Book) → IsBookAfter stage work step old new → new.layout ≡ old.layout
 gone_layout Idle work step old new g = ap (λ (b : Book). b.layout) g.1
 gone_layout Close work step old new g = ap (λ (b : Book). b.layout) g.1
 gone_layout CloseSync work step old new g = ap (λ (b : Book). b.layout) g.1

@@ -1,8 +1,8 @@
 -- What an opened device is.
 use Rattle.std.proofs.Common.{◌≡◌, inl, inr, ⊎_elim, ℕ, ◌^◌, ◌<◌, ◌≤◌, List, length, Result, Ok, Err, refl, sym, ◌∙◌, ap, subst, arith}
 use Rattle.std.specs.Prelude.{OnOk, IfOk}
-use Rattle.alm_disk.specs.Device.{IsBytes}
-use Rattle.alm_segment.specs.Course.{is_open}
+use Rattle.alm_disk.specs.Device.{AreBytes}
+use Rattle.alm_segment.specs.Course.{is_gate_open}
 use Rattle.alm_checkpoint.specs.declared.layout.Layout.{Layout}
 use Rattle.alm_checkpoint.specs.declared.half.Half.{Half}
 use Rattle.alm_checkpoint.specs.declared.half.Half.TheVariants.{First, Second}
@@ -10,7 +10,7 @@ use Rattle.alm_checkpoint.specs.declared.half_head.HalfHead.{HalfHead}
 use Rattle.alm_checkpoint.specs.declared.fault.Fault.{Fault}
 use Rattle.alm_checkpoint.specs.declared.fault.Fault.TheVariants as found
 use Rattle.alm_checkpoint.specs.declared.restore_fault.RestoreFault.TheVariants as unrestored
-use Rattle.alm_checkpoint.specs.Layouts.{byte_at, part, other, image_at, image_size, segment_at, device_len}
+use Rattle.alm_checkpoint.specs.Layouts.{layout_byte, part, other, image_at, image_size, segment_at, device_len}
 use Rattle.alm_checkpoint.specs.Cut.{front}
 use Rattle.alm_checkpoint.specs.Opening.{◌>>=◌, Opened, opened_half, layout_in, chosen_in, half_head_from, head_of, gate_in, opened_in}
 use Rattle.alm_checkpoint.specs.Standing.{HasFault}
@@ -65,7 +65,7 @@ marks_fault l b (Damaged half at) header e = heads_fault l b (found.Damaged half
 marks_fault l b Disk header e = tt
 marks_fault l b OutOfMemory header e = tt
 
-module _ (b : List ℕ) (l : Layout) (m : Marks) (bytes : IsBytes b) (header : layout_in b ≡ Ok l) (marks : AreMarks l b (Ok m)) where
+module _ (b : List ℕ) (l : Layout) (m : Marks) (bytes : AreBytes b) (header : layout_in b ≡ Ok l) (marks : AreMarks l b (Ok m)) where
   told : half_head_from l m.half (head_of l m.half b) ≡ Ok m.head
   told = ap (half_head_from l m.half) (sym (head_is l b m.half)) ∙ marks.1
 
@@ -81,7 +81,7 @@ module _ (b : List ℕ) (l : Layout) (m : Marks) (bytes : IsBytes b) (header : l
   ready book h is =
       let c = cut_at b l m.half m.head h.base book.stored h.left bytes header marks.0 told h.spells h.folds in
       let gate : book.gate ≡ length (front c.cut) = omega (arith, h.gate_is, c.gate_there) in
-      let beside : m.other_open ≡ is_open (byte_at c.cut.other 0) = marks.2 ∙ ap gate_in (head_is l b (other m.half)) ∙ c.of_other in
+      let beside : m.other_open ≡ is_gate_open (layout_byte c.cut.other 0) = marks.2 ∙ ap gate_in (head_is l b (other m.half)) ∙ c.of_other in
       record {
         cut = c.cut;
         is = is ∙ (λ i. record { layout = sym c.of_layout i; half = sym c.of_half i; other_open = beside i; version = sym c.of_version i; epoch = sym c.of_epoch i; gate = gate i; plant = book.stored });

@@ -22,8 +22,8 @@ use Rattle.alm_segment.specs.Course.{frame_len}
 use Rattle.alm_checkpoint.specs.declared.layout.Layout.{Layout}
 use Rattle.alm_checkpoint.specs.Cut.{IsLayout}
 use Rattle.alm_store.specs.declared.phase.Phase.TheVariants as at
-use Rattle.alm_keeper.specs.Stand.{Account, end_of, committed}
-use Rattle.alm_keeper.specs.Keeping.{account, run_in, Committing, DoesWork, Does, Opened, Sent, IsCopying, Grows, GrowsWhere, Closes, InOrder}
+use Rattle.alm_keeper.specs.Stand.{Account, end_of_half, with_commit}
+use Rattle.alm_keeper.specs.Keeping.{account, run_in, Committing, DoesWork, Does, OpenedBook, Sent, IsCopying, GrowsBook, GrowsWhere, ClosesBook, InOrder}
 
 -- what may be under way: a gate is closed by a checkpoint alone, and a checkpoint is open as long as it is under way
 abbrev pub Possible : Stage → Bool → Work → Type 0
@@ -87,10 +87,10 @@ pub copies : (b : Book) → InOrder b → IsWorking b.stage → b.work ≡ Check
 copies b i works work = subst (λ (w : Work). DoesWork w b) work (working b b.stage i refl works)
 
 -- an open checkpoint
-pub opened : (b : Book) → InOrder b → IsWorking b.stage → b.copying ≡ true → Opened b.stage b
+pub opened : (b : Book) → InOrder b → IsWorking b.stage → b.copying ≡ true → OpenedBook b.stage b
 opened b i works on = by_stage b.stage works (subst (λ (o : Bool). IsCopying o b.stage b) on i.copy)
   where
-    by_stage : (s : Stage) → IsWorking s → IsCopying true s b → Opened s b
+    by_stage : (s : Stage) → IsWorking s → IsCopying true s b → OpenedBook s b
     by_stage Idle works o = absurd works
     by_stage Stopped works o = absurd works
     by_stage Close works o = o
@@ -176,9 +176,9 @@ opens_copy new false is more run first out within = record {
 
 -- a commit that is done
 abbrev Ordered : Account → Type 0
-Ordered a = IsLayout a.layout × (device_len a.layout < 2 ^ 64) × KeepsRules a.plant × IsOf a.layout.rows a.layout.areas a.plant.panel.count a.plant × (a.plant.panel.count ≤ 2 ^ 48) × (segment_at a.layout a.half ≤ a.gate) × (a.gate + 1 ≤ end_of a)
+Ordered a = IsLayout a.layout × (device_len a.layout < 2 ^ 64) × KeepsRules a.plant × IsOf a.layout.rows a.layout.areas a.plant.panel.count a.plant × (a.plant.panel.count ≤ 2 ^ 48) × (segment_at a.layout a.half ≤ a.gate) × (a.gate + 1 ≤ end_of_half a)
 
-module _ (old new : Book) (i : InOrder old) (last : old.stage ≡ GateSync) (is : old.work ≡ Commit) (c : Closes old new) (ahead : new.ahead ≡ old.ahead) (frame : length new.frame.items ≡ 4115) (frame_room : vec_capacity new.frame ≡ 4115) (room : vec_capacity new.actions ≡ 256)
+module _ (old new : Book) (i : InOrder old) (last : old.stage ≡ GateSync) (is : old.work ≡ Commit) (c : ClosesBook old new) (ahead : new.ahead ≡ old.ahead) (frame : length new.frame.items ≡ 4115) (frame_room : vec_capacity new.frame ≡ 4115) (room : vec_capacity new.actions ≡ 256)
     (buffer : vec_capacity new.buffer ≡ vec_capacity old.buffer) (within : old.copying ≡ true → new.run ≤ length new.buffer.items) where
   works : IsWorking old.stage
   works = subst IsWorking (sym last) tt
@@ -196,10 +196,10 @@ module _ (old new : Book) (i : InOrder old) (last : old.stage ≡ GateSync) (is 
   does true on = (c.copying ∙ on, stored)
   does false off = (c.copying ∙ off, stored)
 
-  opened_by : old.copying ≡ true → Opened Body new
+  opened_by : old.copying ≡ true → OpenedBook Body new
   opened_by on =
       let o = opened old i works on in
-      let g : Grows old new = subst (λ (b : Bool). GrowsWhere b old new) on c.grows in
+      let g : GrowsBook old new = subst (λ (b : Bool). GrowsWhere b old new) on c.grows in
       let sent : old.out < old.run = sent_at old GateSync Commit i tt last is on in
       let layout : new.layout ≡ old.layout = ap (λ (a : Account). a.layout) c.account in
       let half : new.half ≡ old.half = ap (λ (a : Account). a.half) c.account in
@@ -245,9 +245,9 @@ grows_within b i last is on =
 
 -- what storing a commit leaves
 abbrev pub Stores : (old mid : Book) → Type 0
-Stores old mid = (account mid ≡ committed (account old) old.actions.items) × (mid ≡ record old { gate = mid.gate; stored = mid.stored; written = 0 })
+Stores old mid = (account mid ≡ with_commit (account old) old.actions.items) × (mid ≡ record old { gate = mid.gate; stored = mid.stored; written = 0 })
 
-pub closed_by : (old mid : Book) → old.work ≡ Commit → old.copying ≡ false → Stores old mid → Closes old (record mid { stage = Idle })
+pub closed_by : (old mid : Book) → old.work ≡ Commit → old.copying ≡ false → Stores old mid → ClosesBook old (record mid { stage = Idle })
 closed_by old mid is off s = record {
   stage = sym (ap rest_stage off);
   work = ap (λ (b : Book). b.work) s.1 ∙ is ∙ sym (ap rest_work off);
@@ -259,7 +259,7 @@ closed_by old mid is off s = record {
   written = ap (λ (b : Book). b.written) s.1;
 }
 
-pub resumed_by : (old mid new : Book) → old.copying ≡ true → Stores old mid → new.stage ≡ Body → new.work ≡ Checkpoint → new ≡ record mid { stage = new.stage; work = new.work; buffer = new.buffer; run = new.run } → Grows old new → Closes old new
+pub resumed_by : (old mid new : Book) → old.copying ≡ true → Stores old mid → new.stage ≡ Body → new.work ≡ Checkpoint → new ≡ record mid { stage = new.stage; work = new.work; buffer = new.buffer; run = new.run } → GrowsBook old new → ClosesBook old new
 resumed_by old mid new on s stage work same g = record {
   stage = stage ∙ sym (ap rest_stage on);
   work = work ∙ sym (ap rest_work on);
@@ -272,7 +272,7 @@ resumed_by old mid new on s stage work same g = record {
 }
 
 -- what stays of a book where a commit is stored
-pub ordered_by : (old mid new : Book) → InOrder old → old.stage ≡ GateSync → old.work ≡ Commit → Stores old mid → Closes old new → new.ahead ≡ mid.ahead → new.frame ≡ mid.frame → new.actions ≡ mid.actions → vec_capacity new.buffer ≡ vec_capacity mid.buffer → (old.copying ≡ true → new.run ≤ length new.buffer.items) → InOrder new
+pub ordered_by : (old mid new : Book) → InOrder old → old.stage ≡ GateSync → old.work ≡ Commit → Stores old mid → ClosesBook old new → new.ahead ≡ mid.ahead → new.frame ≡ mid.frame → new.actions ≡ mid.actions → vec_capacity new.buffer ≡ vec_capacity mid.buffer → (old.copying ≡ true → new.run ≤ length new.buffer.items) → InOrder new
 ordered_by old mid new i last is s c ahead frame actions buffer within =
     closes_order old new i last is c (ahead ∙ ap (λ (b : Book). b.ahead) s.1) (ap (λ f. length f.items) frame ∙ ap (λ (b : Book). length b.frame.items) s.1 ∙ i.frame)
     (ap (λ f. vec_capacity f) frame ∙ ap (λ (b : Book). vec_capacity b.frame) s.1 ∙ i.frame_room)
@@ -280,7 +280,7 @@ ordered_by old mid new i last is s c ahead frame actions buffer within =
 
 -- a frame at the end of the run
 pub grown_by : (old mid new : Book) → Stores old mid → (actions : List Action) (first : ℕ) → actions ≡ mid.actions.items → first ≡ old.stored.panel.count + 1
-    → take (mid.run + (19 + 16 * length actions)) new.buffer.items ≡ take (mid.run - 1) mid.buffer.items ++ (165 ∷ frame_body (mid.epoch + 1) first actions) → new.run ≡ mid.run + (19 + 16 * length mid.actions.items) → Grows old new
+    → take (mid.run + (19 + 16 * length actions)) new.buffer.items ≡ take (mid.run - 1) mid.buffer.items ++ (165 ∷ frame_body (mid.epoch + 1) first actions) → new.run ≡ mid.run + (19 + 16 * length mid.actions.items) → GrowsBook old new
 grown_by old mid new s actions first same is text run = record { run = grows; text = all }
   where
     acts : actions ≡ old.actions.items
@@ -313,13 +313,13 @@ layout_limits l i =
     (omega (arith, few_rows, few_areas), leb-true l.segment 16777216 segment.1)
 
 -- a run that is under way
-pub runs_by : (b : Book) → InOrder b → IsWorking b.stage → b.work ≡ Checkpoint → (b.out ≤ b.run) × (b.run + (end_of (account b) - b.gate) ≤ head_len + image_size b.layout + b.layout.segment)
+pub runs_by : (b : Book) → InOrder b → IsWorking b.stage → b.work ≡ Checkpoint → (b.out ≤ b.run) × (b.run + (end_of_half (account b) - b.gate) ≤ head_len + image_size b.layout + b.layout.segment)
 runs_by b i works is = (by_stage b.stage refl, omega (arith, o.room, i.first, i.gate))
   where
     on : b.copying ≡ true
     on = (copies b i works is).0
 
-    o : Opened b.stage b
+    o : OpenedBook b.stage b
     o = opened b i works on
 
     sent : (s : Stage) → b.stage ≡ s → IsWorking s → Sent s Checkpoint b.out b.run

@@ -7,13 +7,13 @@ use Rattle.alm_codec.specs.Frames.{frame_body}
 use Rattle.alm_disk.specs.Device.{DeviceState}
 use Rattle.alm_disk.specs.Device.{IsImage as IsLeft}
 use Rattle.alm_checkpoint.specs.Layouts.{half_len, part}
-use Rattle.alm_keeper.specs.Stand.{Ready, Account, other_at, end_of, Takes, committed}
-use Rattle.alm_keeper.specs.Resting.{also, shows, Kept}
-use Rattle.alm_keeper.specs.Stages.{During, following}
+use Rattle.alm_keeper.specs.Stand.{Ready, Account, other_at, end_of_half, TakesFrame, with_commit}
+use Rattle.alm_keeper.specs.Resting.{or_within, with_gate, Kept}
+use Rattle.alm_keeper.specs.Stages.{During, next_stage}
 use Rattle.alm_keeper.specs.declared.stage.Stage.{Stage}
 use Rattle.alm_keeper.specs.declared.stage.Stage.TheVariants.{Close, CloseSync, Body, BodySync, Gate, GateSync, Idle, Stopped}
-use Rattle.alm_keeper.specs.Piecewise.{Copy, open_text, run_text, IsCopy, went, Wrote, Paused, turned_by, sent}
-use Rattle.alm_keeper.specs.Phases.{shut, Rested, UnderWay, Rest, Shut, ShutSync, Pause, Frame, End, Commits, out_of, Beside, KeptIn, StageCall, Call, DuringIn, resumed, next_work, next_account, Advances}
+use Rattle.alm_keeper.specs.Piecewise.{Copy, open_text, run_text, IsCopy, is_sent, WrotePart, Paused, turned_by, with_sent_bytes}
+use Rattle.alm_keeper.specs.Phases.{with_other_shut, Rested, UnderWay, Rest, Shut, ShutSync, Pause, Frame, End, Commits, out_of, Beside, KeptIn, StageCall, MakesCall, DuringIn, without_pause, next_work, next_account, WorkAdvances}
 use Rattle.alm_keeper.proofs.Commit.{ready_holds, body_long}
 use Rattle.alm_keeper.proofs.Resting.{body_passes, body_sync_passes, gate_passes, gate_sync_passes}
 use Rattle.alm_keeper.proofs.Sending.{piece_images, piece_goes, ready_long, run_fits}
@@ -32,8 +32,8 @@ opens a k state zero r = record {
   wrote = subst (λ (n : ℕ). part (other_at a + 1) (length (take n (run_text a k))) state.bytes ≡ take n (run_text a k)) (sym zero) refl;
 }
 
-module _ (a : Account) (k : Copy) (n : ℕ) (state : DeviceState) (c : IsCopy a k) (gate : a.gate + 1 ≤ end_of a) (within : k.out + n ≤ length (run_text a k)) (p : Paused a (sent k n) state) where
-  by_place : (last : Bool) → (k.out + n == length (run_text a k)) ≡ last → KeptIn (if last then End k BodySync else Pause (sent k n)) a state
+module _ (a : Account) (k : Copy) (n : ℕ) (state : DeviceState) (c : IsCopy a k) (gate : a.gate + 1 ≤ end_of_half a) (within : k.out + n ≤ length (run_text a k)) (p : Paused a (with_sent_bytes k n) state) where
+  by_place : (last : Bool) → (k.out + n == length (run_text a k)) ≡ last → KeptIn (if last then End k BodySync else Pause (with_sent_bytes k n)) a state
   by_place true is = ends a k state c gate (subst (λ (m : ℕ). Paused a (record k { out = m }) state) (eqb-true (k.out + n) (length (run_text a k)) is) p)
   by_place false is =
       let differs : k.out + n ≢ length (run_text a k) = eqb-false (k.out + n) (length (run_text a k)) is in
@@ -53,7 +53,7 @@ module _ {E : Type 0} (result : Result Unit E) (loose : ℕ → Bool) (Before Af
   moments Stopped call kept = absurd call
 
 module _ (E : Type 0) (loose : ℕ → Bool) (Before After : List ℕ → Type 0) (old new : DeviceState) (at : ℕ) (text : List ℕ) where
-  pub goes : (step : Stage) → StageCall {E = E} step at text (Ok tt) old new → Kept loose Before After step old at text → Kept loose Before After (following step) new at text
+  pub goes : (step : Stage) → StageCall {E = E} step at text (Ok tt) old new → Kept loose Before After step old at text → Kept loose Before After (next_stage step) new at text
   goes Close call kept = absurd kept.stands
   goes CloseSync call kept = absurd kept.stands
   goes Body call kept = (body_passes {E = E} loose Before After old new at text (Ok tt) call kept).kept
@@ -64,7 +64,7 @@ module _ (E : Type 0) (loose : ℕ → Bool) (Before After : List ℕ → Type 0
   goes Stopped call kept = absurd call
 
 -- what went out stays in a commit's calls
-module _ (E : Type 0) (a : Account) (k : Copy) (actions : List Action) (old new : DeviceState) (c : IsCopy a k) (takes : Takes a actions) (gate : a.gate + 1 ≤ end_of a) where
+module _ (E : Type 0) (a : Account) (k : Copy) (actions : List Action) (old new : DeviceState) (c : IsCopy a k) (takes : TakesFrame a actions) (gate : a.gate + 1 ≤ end_of_half a) where
   abbrev gone : List ℕ
   gone = take k.out (run_text a k)
 
@@ -74,21 +74,21 @@ module _ (E : Type 0) (a : Account) (k : Copy) (actions : List Action) (old new 
   short : length gone + 1 ≤ half_len a.layout
   short = omega (arith, length-take-le k.out (run_text a k) (omega (arith, c.left, length-append (open_text a k) (0 ∷ []))), run_fits a k c gate, c.left, length-append (open_text a k) (0 ∷ []))
 
-  pub stays : (step : Stage) → StageCall {E = E} step a.gate body (Ok tt) old new → Kept (went a k.out) (Ready a) (Ready (committed a actions)) step old a.gate body → Wrote a gone old → Wrote a gone new
+  pub stays : (step : Stage) → StageCall {E = E} step a.gate body (Ok tt) old new → Kept (is_sent a k.out) (Ready a) (Ready (with_commit a actions)) step old a.gate body → WrotePart a gone old → WrotePart a gone new
   stays Close call kept wrote = absurd kept.stands
   stays CloseSync call kept wrote = absurd kept.stands
   stays Body call kept wrote =
       let g = kept.stands.0 in
-      let long : other_at a + half_len a.layout ≤ length old.bytes = omega (arith, ap length kept.stands.3.reads, ready_long a (shows g kept.stands.1 g.room) (g.closed kept.stands.1 kept.stands.2 g.room refl)) in
+      let long : other_at a + half_len a.layout ≤ length old.bytes = omega (arith, ap length kept.stands.3.reads, ready_long a (with_gate g kept.stands.1 g.room) (g.closed kept.stands.1 kept.stands.2 g.room refl)) in
       wrote_write {E = E} (Ok tt) a gone old new (a.gate + 1) body short long (omega (arith, c.room)) (omega (arith, takes.0, body_long a.epoch (a.plant.panel.count + 1) actions)) call wrote
   stays BodySync call kept wrote =
-      wrote_sync {E = E} (also (a.gate + 1) (length body) (went a k.out)) a gone old new (shows kept.stands.0 kept.stands.1 body) kept.stands.3 call wrote
+      wrote_sync {E = E} (or_within (a.gate + 1) (length body) (is_sent a k.out)) a gone old new (with_gate kept.stands.0 kept.stands.1 body) kept.stands.3 call wrote
   stays Gate call kept wrote =
       let g = kept.stands.0 in
-      let long : other_at a + half_len a.layout ≤ length old.bytes = omega (arith, ap length kept.stands.3.reads, ready_long a (shows g kept.stands.1 body) (g.closed kept.stands.1 kept.stands.2 body (sym g.fits))) in
+      let long : other_at a + half_len a.layout ≤ length old.bytes = omega (arith, ap length kept.stands.3.reads, ready_long a (with_gate g kept.stands.1 body) (g.closed kept.stands.1 kept.stands.2 body (sym g.fits))) in
       wrote_write {E = E} (Ok tt) a gone old new a.gate (165 ∷ []) short long (omega (arith, c.room)) (omega (arith, gate)) call wrote
   stays GateSync call kept wrote =
-      wrote_sync {E = E} (also a.gate 1 (went a k.out)) a gone old new (shows kept.stands.0 165 body) kept.stands.1 call wrote
+      wrote_sync {E = E} (or_within a.gate 1 (is_sent a k.out)) a gone old new (with_gate kept.stands.0 165 body) kept.stands.1 call wrote
   stays Idle call kept wrote = absurd call
   stays Stopped call kept wrote = absurd call
 
@@ -102,26 +102,26 @@ rested_by a state loose Before at text free kept = record {
   rests = record { reads = kept.stands.2.reads; within = λ i f. kept.stands.2.within i (free i); sound = kept.stands.2.sound };
 }
 
-module _ (E : Type 0) (a : Account) (actions : List Action) (old new : DeviceState) (gate : a.gate + 1 ≤ end_of a) where
+module _ (E : Type 0) (a : Account) (actions : List Action) (old new : DeviceState) (gate : a.gate + 1 ≤ end_of_half a) where
   abbrev text : List ℕ
   text = frame_body a.epoch (a.plant.panel.count + 1) actions
 
-  besides : (other : Option Copy) (step : Stage) → Takes a actions → StageCall {E = E} step a.gate text (Ok tt) old new → Kept (went a (out_of other)) (Ready a) (Ready (committed a actions)) step old a.gate text
+  besides : (other : Option Copy) (step : Stage) → TakesFrame a actions → StageCall {E = E} step a.gate text (Ok tt) old new → Kept (is_sent a (out_of other)) (Ready a) (Ready (with_commit a actions)) step old a.gate text
       → Beside other a old → Beside other a new
   besides None step takes call kept beside = tt
   besides (Some k) step takes call kept beside = (beside.0, stays E a k actions old new beside.0 takes gate step call kept beside.1)
 
-  commit_ends : (other : Option Copy) → Commits a actions → Beside other a new → Kept (went a (out_of other)) (Ready a) (Ready (committed a actions)) Idle new a.gate text → KeptIn (resumed other actions) (committed a actions) new
-  commit_ends None is beside kept = rested_by (committed a actions) new (went a 0) (Ready a) a.gate text (λ place. no_place (other_at a + 1) 0 place refl) kept
+  commit_ends : (other : Option Copy) → Commits a actions → Beside other a new → Kept (is_sent a (out_of other)) (Ready a) (Ready (with_commit a actions)) Idle new a.gate text → KeptIn (without_pause other actions) (with_commit a actions) new
+  commit_ends None is beside kept = rested_by (with_commit a actions) new (is_sent a 0) (Ready a) a.gate text (λ place. no_place (other_at a + 1) 0 place refl) kept
   commit_ends (Some k) is beside kept = (still a k actions beside.0 is.0 is.1, resumes a k actions beside.0 new kept beside.1)
 
   commit_goes : (n : ℕ) (other : Option Copy) (step : Stage) → StageCall {E = E} step a.gate text (Ok tt) old new → KeptIn (Frame other step actions) a old → KeptIn (next_work (Frame other step actions) a n) (next_account (Frame other step actions) a) new
   commit_goes n other Close call kept = absurd kept.2.stands
   commit_goes n other CloseSync call kept = absurd kept.2.stands
-  commit_goes n other Body call kept = (kept.0, besides other Body kept.0.2 call kept.2 kept.1, goes E (went a (out_of other)) (Ready a) (Ready (committed a actions)) old new a.gate text Body call kept.2)
-  commit_goes n other BodySync call kept = (kept.0, besides other BodySync kept.0.2 call kept.2 kept.1, goes E (went a (out_of other)) (Ready a) (Ready (committed a actions)) old new a.gate text BodySync call kept.2)
-  commit_goes n other Gate call kept = (kept.0, besides other Gate kept.0.2 call kept.2 kept.1, goes E (went a (out_of other)) (Ready a) (Ready (committed a actions)) old new a.gate text Gate call kept.2)
-  commit_goes n other GateSync call kept = commit_ends other kept.0 (besides other GateSync kept.0.2 call kept.2 kept.1) (goes E (went a (out_of other)) (Ready a) (Ready (committed a actions)) old new a.gate text GateSync call kept.2)
+  commit_goes n other Body call kept = (kept.0, besides other Body kept.0.2 call kept.2 kept.1, goes E (is_sent a (out_of other)) (Ready a) (Ready (with_commit a actions)) old new a.gate text Body call kept.2)
+  commit_goes n other BodySync call kept = (kept.0, besides other BodySync kept.0.2 call kept.2 kept.1, goes E (is_sent a (out_of other)) (Ready a) (Ready (with_commit a actions)) old new a.gate text BodySync call kept.2)
+  commit_goes n other Gate call kept = (kept.0, besides other Gate kept.0.2 call kept.2 kept.1, goes E (is_sent a (out_of other)) (Ready a) (Ready (with_commit a actions)) old new a.gate text Gate call kept.2)
+  commit_goes n other GateSync call kept = commit_ends other kept.0 (besides other GateSync kept.0.2 call kept.2 kept.1) (goes E (is_sent a (out_of other)) (Ready a) (Ready (with_commit a actions)) old new a.gate text GateSync call kept.2)
   commit_goes n other Idle call kept = absurd call
   commit_goes n other Stopped call kept = absurd call
 
@@ -140,26 +140,26 @@ module _ (E : Type 0) (a : Account) (k : Copy) (n : ℕ) (old new : DeviceState)
   end_goes Stopped call kept = absurd call
 
 -- a call that was done
-pub phase_goes : (E : Type 0) (phase : UnderWay) (a : Account) (n : ℕ) (old new : DeviceState) → a.gate + 1 ≤ end_of a → KeptIn phase a old → Call {E = E} phase a n (Ok tt) old new → KeptIn (next_work phase a n) (next_account phase a) new
+pub phase_goes : (E : Type 0) (phase : UnderWay) (a : Account) (n : ℕ) (old new : DeviceState) → a.gate + 1 ≤ end_of_half a → KeptIn phase a old → MakesCall {E = E} phase a n (Ok tt) old new → KeptIn (next_work phase a n) (next_account phase a) new
 phase_goes E Rest a n old new gate kept call = absurd call
 phase_goes E (Shut k) a n old new gate kept call = (kept.1, kept.2, closes E a old new kept.0 kept.3 call)
-phase_goes E (ShutSync k) a n old new gate kept call = (kept.0, opens (shut a) k new kept.1 (closed_rests E a old new kept.2 call))
+phase_goes E (ShutSync k) a n old new gate kept call = (kept.0, opens (with_other_shut a) k new kept.1 (closed_rests E a old new kept.2 call))
 phase_goes E (Pause k) a n old new gate kept call = by_place a k n new kept.0 gate call.0 (piece_goes a k n old new kept.0 gate call.0 kept.1 E call.1) (k.out + n == length (run_text a k)) refl
 phase_goes E (Frame other step actions) a n old new gate kept call = commit_goes E a actions old new gate n other step call kept
 phase_goes E (End k step) a n old new gate kept call = end_goes E a k n old new step call kept
 
 -- done or failed
-pub phase_moments : {E : Type 0} (result : Result Unit E) (phase : UnderWay) (a : Account) (n : ℕ) (old new : DeviceState) → a.gate + 1 ≤ end_of a → KeptIn phase a old → Call phase a n result old new → (b : List ℕ) → IsLeft old b ⊎ IsLeft new b → DuringIn phase a b
+pub phase_moments : {E : Type 0} (result : Result Unit E) (phase : UnderWay) (a : Account) (n : ℕ) (old new : DeviceState) → a.gate + 1 ≤ end_of_half a → KeptIn phase a old → MakesCall phase a n result old new → (b : List ℕ) → IsLeft old b ⊎ IsLeft new b → DuringIn phase a b
 phase_moments result Rest a n old new gate kept call b moment = absurd call
 phase_moments result (Shut k) a n old new gate kept call b moment = ⊎_elim (λ image. ready_holds a b (kept.3.images b image)) (closes_images result a old new kept.0 kept.3 call b) moment
 phase_moments result (ShutSync k) a n old new gate kept call b moment = ⊎_elim (kept.2.images b) (sync_images result a old new kept.2 call b) moment
 phase_moments result (Pause k) a n old new gate kept call b moment = ⊎_elim (kept.1.images b) (piece_images a k n old new kept.0 gate call.0 kept.1 result call.1 b) moment
 phase_moments result (Frame other step actions) a n old new gate kept call b moment =
-    moments result (went a (out_of other)) (Ready a) (Ready (committed a actions)) old new a.gate (frame_body a.epoch (a.plant.panel.count + 1) actions) step call kept.2 b moment
+    moments result (is_sent a (out_of other)) (Ready a) (Ready (with_commit a actions)) old new a.gate (frame_body a.epoch (a.plant.panel.count + 1) actions) step call kept.2 b moment
 phase_moments result (End k step) a n old new gate kept call b moment = moments result (λ place. false) (Ready a) (Ready (turned_by a k)) old new (other_at a) (run_text a k) step call kept b moment
 
-pub advances : {E : Type 0} (result : Result Unit E) (phase : UnderWay) (a : Account) (n : ℕ) (old new : DeviceState) → a.gate + 1 ≤ end_of a → KeptIn phase a old → Call phase a n result old new → Advances phase a n result old new
+pub advances : {E : Type 0} (result : Result Unit E) (phase : UnderWay) (a : Account) (n : ℕ) (old new : DeviceState) → a.gate + 1 ≤ end_of_half a → KeptIn phase a old → MakesCall phase a n result old new → WorkAdvances phase a n result old new
 advances {E} result phase a n old new gate kept call = record {
   any_moment = phase_moments result phase a n old new gate kept call;
-  kept = λ done. phase_goes E phase a n old new gate kept (subst (λ (r : Result Unit E). Call phase a n r old new) done call);
+  kept = λ done. phase_goes E phase a n old new gate kept (subst (λ (r : Result Unit E). MakesCall phase a n r old new) done call);
 }

@@ -5,20 +5,20 @@ use Rattle.alm_model.specs.Plant.{Condensed}
 use Rattle.alm_disk.specs.Device.{is_within}
 use Rattle.alm_disk.specs.Device.{byte_at as byte_of}
 use Rattle.alm_disk.proofs.Images.{middle}
-use Rattle.alm_segment.specs.Course.{is_open}
-use Rattle.alm_checkpoint.specs.Layouts.{byte_at, half_at, half_len, other}
+use Rattle.alm_segment.specs.Course.{is_gate_open}
+use Rattle.alm_checkpoint.specs.Layouts.{layout_byte, half_at, half_len, other}
 use Rattle.alm_checkpoint.specs.Cut.{Cut, Stores, Reaches, front, with_other, side_front, side_back}
 use Rattle.alm_checkpoint.specs.Cut.{device_of}
 use Rattle.alm_keeper.specs.Stand.{Account, account_of, Ready}
 use Rattle.alm_keeper.specs.Resting.{IsBeside, Blind}
-use Rattle.alm_keeper.specs.Piecewise.{went}
+use Rattle.alm_keeper.specs.Piecewise.{is_sent}
 use Rattle.alm_checkpoint.proofs.Grown.{gate_at}
 use Rattle.alm_checkpoint.proofs.Turned.{stores_other, beside}
 use Rattle.alm_keeper.proofs.Sides.{side_long, by_gate}
 
 -- ---- the other half among the bytes
 
-module _ (c : Cut) (plant : Condensed) (gate : ℕ) (tail : List ℕ) (stores : Stores c plant) (closed : is_open gate ≡ false) (reaches : Reaches c (gate ∷ tail)) where
+module _ (c : Cut) (plant : Condensed) (gate : ℕ) (tail : List ℕ) (stores : Stores c plant) (closed : is_gate_open gate ≡ false) (reaches : Reaches c (gate ∷ tail)) where
   abbrev ahead : List ℕ
   ahead = side_front c c.half (gate ∷ tail)
 
@@ -32,7 +32,7 @@ module _ (c : Cut) (plant : Condensed) (gate : ℕ) (tail : List ℕ) (stores : 
   ahead_long = side_long c plant (gate ∷ tail) stores reaches c.half refl
 
   -- any other half behind its closed gate
-  pub ready_with : is_open (byte_at c.other 0) ≡ false → (o : List ℕ) → length o ≡ half_len c.layout → is_open (byte_at o 0) ≡ false → Ready (account_of c plant) (ahead ++ o ++ rear)
+  pub ready_with : is_gate_open (layout_byte c.other 0) ≡ false → (o : List ℕ) → length o ≡ half_len c.layout → is_gate_open (layout_byte o 0) ≡ false → Ready (account_of c plant) (ahead ++ o ++ rear)
   ready_with old o long shut =
       let kept : Stores (with_other c o) plant = stores_other c plant o stores long (inl shut) in
       let place : length (front c) ≡ length (front (with_other c o)) = omega (arith, gate_at c plant (gate ∷ tail) stores reaches, gate_at (with_other c o) plant (gate ∷ tail) kept reaches) in
@@ -48,7 +48,7 @@ module _ (c : Cut) (plant : Condensed) (gate : ℕ) (tail : List ℕ) (stores : 
       }
 
   -- the same with the bytes behind that gate set apart
-  module _ (n : ℕ) (within : n + 1 ≤ half_len c.layout) (shut : is_open (byte_at c.other 0) ≡ false) where
+  module _ (n : ℕ) (within : n + 1 ≤ half_len c.layout) (shut : is_gate_open (layout_byte c.other 0) ≡ false) where
     abbrev room : List ℕ
     room = take n (drop 1 c.other)
 
@@ -61,34 +61,34 @@ module _ (c : Cut) (plant : Condensed) (gate : ℕ) (tail : List ℕ) (stores : 
     pub left_long : 1 + (n + length left) ≡ half_len c.layout
     left_long = omega (arith, stores.size, within, length-drop 1 c.other, length-drop n (drop 1 c.other))
 
-    pub other_is : c.other ≡ byte_at c.other 0 ∷ (room ++ left)
-    other_is = by_gate c.other (omega (arith, stores.size, within)) ∙ ap (λ (t : List ℕ). byte_at c.other 0 ∷ t) (sym (take-append-drop n (drop 1 c.other)))
+    pub other_is : c.other ≡ layout_byte c.other 0 ∷ (room ++ left)
+    other_is = by_gate c.other (omega (arith, stores.size, within)) ∙ ap (λ (t : List ℕ). layout_byte c.other 0 ∷ t) (sym (take-append-drop n (drop 1 c.other)))
 
     apart : (f m l b : List ℕ) (g : ℕ) → (f ++ g ∷ []) ++ m ++ (l ++ b) ≡ f ++ (g ∷ (m ++ l)) ++ b
     apart f m l b g = simp append_assoc
 
-    pub here : device_of c (gate ∷ tail) ≡ (ahead ++ byte_at c.other 0 ∷ []) ++ room ++ (left ++ rear)
-    here = there c.other ∙ ap (λ (o : List ℕ). ahead ++ o ++ rear) other_is ∙ sym (apart ahead room left rear (byte_at c.other 0))
+    pub here : device_of c (gate ∷ tail) ≡ (ahead ++ layout_byte c.other 0 ∷ []) ++ room ++ (left ++ rear)
+    here = there c.other ∙ ap (λ (o : List ℕ). ahead ++ o ++ rear) other_is ∙ sym (apart ahead room left rear (layout_byte c.other 0))
 
-    pub front_is : half_at c.layout (other c.half) + 1 ≡ length (ahead ++ byte_at c.other 0 ∷ [])
-    front_is = omega (arith, ahead_long, length-append ahead (byte_at c.other 0 ∷ []))
+    pub front_is : half_at c.layout (other c.half) + 1 ≡ length (ahead ++ layout_byte c.other 0 ∷ [])
+    front_is = omega (arith, ahead_long, length-append ahead (layout_byte c.other 0 ∷ []))
 
-    pub ready_mid : (mid : List ℕ) → length mid ≡ n → Ready (account_of c plant) ((ahead ++ byte_at c.other 0 ∷ []) ++ mid ++ (left ++ rear))
-    ready_mid mid long = subst (Ready (account_of c plant)) (sym (apart ahead mid left rear (byte_at c.other 0)))
-        (ready_with shut (byte_at c.other 0 ∷ (mid ++ left)) (omega (arith, long, left_long, length-append mid left)) shut)
+    pub ready_mid : (mid : List ℕ) → length mid ≡ n → Ready (account_of c plant) ((ahead ++ layout_byte c.other 0 ∷ []) ++ mid ++ (left ++ rear))
+    ready_mid mid long = subst (Ready (account_of c plant)) (sym (apart ahead mid left rear (layout_byte c.other 0)))
+        (ready_with shut (layout_byte c.other 0 ∷ (mid ++ left)) (omega (arith, long, left_long, length-append mid left)) shut)
 
     -- what is known of the device doesn't hang on them
     pub blind : (b : List ℕ) → IsBeside (is_within (half_at c.layout (other c.half) + 1) n) (device_of c (gate ∷ tail)) b → Ready (account_of c plant) b
     blind b beside =
-        let at = ahead ++ byte_at c.other 0 ∷ [] in
+        let at = ahead ++ layout_byte c.other 0 ∷ [] in
         let found = middle at room (left ++ rear) b (beside.size ∙ ap length here)
         (λ place out. beside.same place ((λ i. is_within (front_is i) (sym room_long i) place) ∙ out) ∙ ap (λ (l : List ℕ). byte_of l place) here) in
         subst (Ready (account_of c plant)) (sym found.2) (ready_mid found.0 (found.1 ∙ room_long))
 
 -- the places behind the other half's closed gate
-pub ready_blind : (a : Account) (n : ℕ) → a.other_open ≡ false → n + 1 ≤ half_len a.layout → Blind (went a n) (Ready a)
+pub ready_blind : (a : Account) (n : ℕ) → a.other_open ≡ false → n + 1 ≤ half_len a.layout → Blind (is_sent a n) (Ready a)
 ready_blind a n shut within b c r beside =
-    let shut_here : is_open (byte_at r.cut.other 0) ≡ false = ap (λ (y : Account). y.other_open) (sym r.is) ∙ shut in
+    let shut_here : is_gate_open (layout_byte r.cut.other 0) ≡ false = ap (λ (y : Account). y.other_open) (sym r.is) ∙ shut in
     subst (λ (y : Account). Ready y c) (sym r.is)
     (blind r.cut a.plant r.gate r.tail r.stores r.closed r.reaches n (subst (λ (y : Account). n + 1 ≤ half_len y.layout) r.is within) shut_here c
-    (subst (λ (x : List ℕ). IsBeside (went (account_of r.cut a.plant) n) x c) r.text (subst (λ (y : Account). IsBeside (went y n) b c) r.is beside)))
+    (subst (λ (x : List ℕ). IsBeside (is_sent (account_of r.cut a.plant) n) x c) r.text (subst (λ (y : Account). IsBeside (is_sent y n) b c) r.is beside)))

@@ -5,7 +5,7 @@ use Rattle.std.proofs.lemmas.List.{get_or_append_left, get_or-append_right, get_
 use Rattle.alm_disk.specs.Device.{DeviceState, IsImage, Writes, Syncs, byte_at, is_within}
 use Rattle.alm_disk.proofs.Images.{synced_image}
 use Rattle.alm_disk.proofs.Places.{outside_cases}
-use Rattle.alm_keeper.specs.Resting.{Rests, also, IsBeside, Blind, Guarded, shows, Kept, Passes}
+use Rattle.alm_keeper.specs.Resting.{Rests, or_within, IsBeside, Blind, Guarded, with_gate, Kept, Passes}
 use Rattle.alm_keeper.specs.Stages.{stage_after}
 use Rattle.alm_keeper.specs.declared.stage.Stage.TheVariants.{Body, BodySync, Gate, GateSync}
 
@@ -66,7 +66,7 @@ module _ (loose : ℕ → Bool) (front old back list : List ℕ) (long : length 
 
 -- a range was written that is awaited: what holds with any bytes there, and doesn't hang on the loose places, holds of each image
 pub left_over : (loose : ℕ → Bool) (state : DeviceState) (at n : ℕ) (front old back c : List ℕ) (P : List ℕ → Type 0) → Blind loose P
-    → Rests (also at n loose) state (front ++ old ++ back) → at ≡ length front → n ≡ length old
+    → Rests (or_within at n loose) state (front ++ old ++ back) → at ≡ length front → n ≡ length old
     → ((mid : List ℕ) → length mid ≡ length old → P (front ++ mid ++ back)) → IsImage state c → P c
 left_over loose state at n front old back c P blind rests place long any image =
     let found = over loose front old back c (image.size ∙ ap length rests.reads)
@@ -81,7 +81,7 @@ resting loose state b c P blind rests is image =
 -- a write: what was pending and its range are
 pub writes_rest : {E : Type 0} (loose : ℕ → Bool) (state new : DeviceState) (at : ℕ) (bytes front old back : List ℕ)
     → Rests loose state (front ++ old ++ back) → Writes {E = E} at bytes (Ok tt) state new → at ≡ length front → length bytes ≡ length old
-    → Rests (also at (length bytes) loose) new (front ++ bytes ++ back)
+    → Rests (or_within at (length bytes) loose) new (front ++ bytes ++ back)
 writes_rest loose state new at bytes front old back rests writes place long = record {
   reads = writes.written ∙ (λ i. take (place i) (rests.reads i) ++ bytes ++ drop (place i + long i) (rests.reads i)) ∙ (λ i. take_front i ++ bytes ++ drop_back i);
   within = λ i out.
@@ -133,18 +133,18 @@ any_gate result loose state new at g g' front left back P blind rests writes pla
 
 pub gate_rests : {E : Type 0} (loose : ℕ → Bool) (state new : DeviceState) (at g g' : ℕ) (front left back : List ℕ)
     → Rests loose state (front ++ (g ∷ left) ++ back) → Writes {E = E} at (g' ∷ []) (Ok tt) state new → at ≡ length front
-    → Rests (also at 1 loose) new (front ++ (g' ∷ left) ++ back)
+    → Rests (or_within at 1 loose) new (front ++ (g' ∷ left) ++ back)
 gate_rests loose state new at g g' front left back rests writes place =
-    subst (Rests (also at 1 loose) new) (sym (at_gate front left back g'))
+    subst (Rests (or_within at 1 loose) new) (sym (at_gate front left back g'))
     (writes_rest loose state new at (g' ∷ []) front (g ∷ []) (left ++ back) (subst (Rests loose state) (at_gate front left back g) rests) writes place refl)
 
 module _ (loose : ℕ → Bool) (Before After : List ℕ → Type 0) (at : ℕ) (text : List ℕ) where
   blind_either : Blind loose Before → Blind loose After → Blind loose (λ b. Before b ⊎ After b)
   blind_either before after b c = λ is beside. ⊎_elim (λ x. inl (before b c x beside)) (λ x. inr (after b c x beside)) is
 
-  either : (k : Guarded loose Before After at text) (gate : ℕ) → Before (shows k gate text) ⊎ After (shows k gate text)
+  either : (k : Guarded loose Before After at text) (gate : ℕ) → Before (with_gate k gate text) ⊎ After (with_gate k gate text)
   either k gate = elim (cases_eq gate 165) [
-    | inl opened ↦ inr (subst (λ (n : ℕ). After (shows k n text)) (sym opened) k.whole)
+    | inl opened ↦ inr (subst (λ (n : ℕ). After (with_gate k n text)) (sym opened) k.whole)
     | inr shut ↦ inl (k.closed gate shut text (sym k.fits))
   ]
 
@@ -170,7 +170,7 @@ module _ {E : Type 0} (loose : ℕ → Bool) (Before After : List ℕ → Type 0
           k,
           g,
           kept.stands.2,
-          subst (Rests (also (at + 1) (length text) loose) new) (sym (at_body k.front text k.back g))
+          subst (Rests (or_within (at + 1) (length text) loose) new) (sym (at_body k.front text k.back g))
               (writes_rest loose state new (at + 1) text (k.front ++ g ∷ []) k.room k.back (subst (Rests loose state) (at_body k.front k.room k.back g) kept.stands.3) writes (behind loose Before After at text k g) (sym k.fits)),
         );
       }
@@ -193,14 +193,14 @@ module _ {E : Type 0} (loose : ℕ → Bool) (Before After : List ℕ → Type 0
       let k = kept.stands.0 in
       let g = kept.stands.1 in
       let done : Result Unit E = Ok tt in
-      record { images = λ c image. kept.images c (synced_image done state new c syncs image); stands = (k, g, kept.stands.2, syncs_rest (also (at + 1) (length text) loose) loose state new (shows k g text) kept.stands.3 syncs) }
+      record { images = λ c image. kept.images c (synced_image done state new c syncs image); stands = (k, g, kept.stands.2, syncs_rest (or_within (at + 1) (length text) loose) loose state new (with_gate k g text) kept.stands.3 syncs) }
   body_sync_goes (Err e) kept syncs = record { images = λ c image. inl (kept.images c (synced_image (Err e) state new c syncs image)); stands = tt }
 
   pub gate_sync_goes : (result : Result Unit E) → Kept loose Before After GateSync state at text → Syncs result state new → Kept loose Before After (stage_after GateSync result) new at text
   gate_sync_goes (Ok _) kept syncs =
       let k = kept.stands.0 in
-      let rests : Rests loose new (shows k 165 text) = syncs_rest (also at 1 loose) loose state new (shows k 165 text) kept.stands.1 syncs in
-      record { images = λ c image. resting loose new (shows k 165 text) c After k.blind_after rests k.whole image; stands = (shows k 165 text, k.whole, rests) }
+      let rests : Rests loose new (with_gate k 165 text) = syncs_rest (or_within at 1 loose) loose state new (with_gate k 165 text) kept.stands.1 syncs in
+      record { images = λ c image. resting loose new (with_gate k 165 text) c After k.blind_after rests k.whole image; stands = (with_gate k 165 text, k.whole, rests) }
   gate_sync_goes (Err e) kept syncs = record { images = λ c image. kept.images c (synced_image (Err e) state new c syncs image); stands = tt }
 
   -- the calls

@@ -1,6 +1,6 @@
 -- What a restored plant keeps.
 use Rattle.std.proofs.Common.{◌≡◌, ℕ, ◌+◌, ◌^◌, ◌≤◌, List, ◌∷◌, length, Err, refl, sym, ◌∙◌, ap, subst, arith, length-append}
-use Rattle.alm_disk.specs.Device.{IsBytes}
+use Rattle.alm_disk.specs.Device.{AreBytes}
 use Rattle.alm_model.specs.Plant.{Condensed}
 use Rattle.alm_model.specs.Rules.{KeepsRules}
 use Rattle.alm_model.proofs.Kept.{run-keeps}
@@ -26,7 +26,7 @@ pub record Restored (o : Opened) (plant : Condensed) (gate : ℕ) : Type 0 where
   pub behind : segment_at o.layout o.half ≤ gate
   pub inside : gate + 1 ≤ half_at o.layout o.half + half_len o.layout
 
-pub restored : (o : Opened) (plant : Condensed) (gate : ℕ) → Holds o plant gate → IsBytes o.segment → length o.segment ≡ o.layout.segment → o.head.count ≤ 2 ^ 48 → Restored o plant gate
+pub restored : (o : Opened) (plant : Condensed) (gate : ℕ) → Holds o plant gate → AreBytes o.segment → length o.segment ≡ o.layout.segment → o.head.count ≤ 2 ^ 48 → Restored o plant gate
 restored o plant gate h bytes long few =
     let f = found_in o.head.version h.base o.head.epoch h.base.panel.count o.segment (plant, h.left) bytes h.folds in
     let s = run_sizes h.base (actions_in f.frames) h.spells.image.rules.measured in

@@ -14,25 +14,25 @@ use Rattle.alm_keeper.specs.declared.stage.Stage.{Stage}
 use Rattle.alm_keeper.specs.declared.stage.Stage.TheVariants.{Idle, Close, CloseSync, Body, BodySync, Gate, GateSync, Stopped}
 use Rattle.alm_keeper.specs.declared.stage.Work.{Work}
 use Rattle.alm_keeper.specs.declared.stage.Work.TheVariants.{Commit, Checkpoint}
-use Rattle.alm_keeper.specs.Stand.{Account, Fits, Takes, committed, turned, end_of}
-use Rattle.alm_keeper.specs.Keeper.{HasRoom, Takes as StandingTakes, with_actions, with_checkpoint, begun, begun_by, next_by, grown, after, after_by, BeginsCommit, BeginsCheckpoint, Advances}
-use Rattle.alm_keeper.specs.Keeping.{account, done_by, next_of, standing, held, Begins, Copies, Closes, Turns, GrowsWhere, GoesOn, Ends}
+use Rattle.alm_keeper.specs.Stand.{Account, FitsFrame, TakesFrame, with_commit, turned_half, end_of_half}
+use Rattle.alm_keeper.specs.Keeper.{HasRoom, Takes as StandingTakes, with_actions, with_checkpoint, begun_standing, begun_by, next_by, after_frame, after_call, after_by, BeginsCommit, BeginsCheckpoint, Progresses}
+use Rattle.alm_keeper.specs.Keeping.{account, done_by, account_next_at, standing_by, keeper_of, Begins, Copies, ClosesBook, TurnsBook, GrowsWhere, IsBookAfter, Ends}
 
 -- a commit, a checkpoint
-pub after_commit : (a : Account) (actions : List Action) → standing (committed a actions) ≡ with_actions (standing a) actions
+pub after_commit : (a : Account) (actions : List Action) → standing_by (with_commit a actions) ≡ with_actions (standing_by a) actions
 after_commit a actions = λ i. record { version = a.version; epoch = a.epoch; plant = run a.plant actions; room = left i }
   where
-    left : end_of a - (a.gate + frame_len (length actions)) ≡ end_of a - a.gate - frame_len (length actions)
+    left : end_of_half a - (a.gate + frame_len (length actions)) ≡ end_of_half a - a.gate - frame_len (length actions)
     left = omega arith
 
-pub after_checkpoint : (a : Account) (n : ℕ) → standing (turned a n) ≡ with_checkpoint (head_len + image_size a.layout + a.layout.segment) n (standing a)
+pub after_checkpoint : (a : Account) (n : ℕ) → standing_by (turned_half a n) ≡ with_checkpoint (head_len + image_size a.layout + a.layout.segment) n (standing_by a)
 after_checkpoint a n = λ i. record { version = V02; epoch = a.epoch + 1; plant = a.plant; room = left i }
   where
-    left : end_of (turned a n) - (turned a n).gate ≡ head_len + image_size a.layout + a.layout.segment - n
+    left : end_of_half (turned_half a n) - (turned_half a n).gate ≡ head_len + image_size a.layout + a.layout.segment - n
     left = omega arith
 
 module _ {D : Type 0} (disk : D) where
-  pub begins_seen : (result : Result Unit Refused) (actions : List Action) (old new : Book) → Begins result actions old new → BeginsCommit result actions (held disk old) (held disk new)
+  pub begins_seen : (result : Result Unit Refused) (actions : List Action) (old new : Book) → Begins result actions old new → BeginsCommit result actions (keeper_of disk old) (keeper_of disk new)
   begins_seen (Ok _) actions old new b = λ i. record {
     disk = disk;
     stage = b.1 i;
@@ -41,7 +41,7 @@ module _ {D : Type 0} (disk : D) where
     other_open = (b.4.account i).other_open;
     image = image_size (b.4.account i).layout;
     segment = (b.4.account i).layout.segment;
-    stored = standing (b.4.account i);
+    stored = standing_by (b.4.account i);
     actions = b.3 i;
     copying = b.4.copying i;
     run = b.4.run i;
@@ -56,19 +56,19 @@ module _ {D : Type 0} (disk : D) where
     other_open = (b.4.account i).other_open;
     image = image_size (b.4.account i).layout;
     segment = (b.4.account i).layout.segment;
-    stored = standing (b.4.account i);
+    stored = standing_by (b.4.account i);
     actions = b.3 i;
     copying = b.4.copying i;
     run = b.4.run i;
     out = b.4.out i;
     written = b.4.written i;
   }
-  begins_seen (Err no.Stopped) actions old new b = ap (held disk) b
-  begins_seen (Err no.Working) actions old new b = ap (held disk) b
-  begins_seen (Err no.Gap) actions old new b = ap (held disk) b
-  begins_seen (Err no.Exhausted) actions old new b = ap (held disk) b
+  begins_seen (Err no.Stopped) actions old new b = ap (keeper_of disk) b
+  begins_seen (Err no.Working) actions old new b = ap (keeper_of disk) b
+  begins_seen (Err no.Gap) actions old new b = ap (keeper_of disk) b
+  begins_seen (Err no.Exhausted) actions old new b = ap (keeper_of disk) b
 
-  pub copies_seen : (result : Result Unit Refused) (old new : Book) → Copies result old new → BeginsCheckpoint result (held disk old) (held disk new)
+  pub copies_seen : (result : Result Unit Refused) (old new : Book) → Copies result old new → BeginsCheckpoint result (keeper_of disk old) (keeper_of disk new)
   copies_seen (Ok _) old new b = λ i. record {
     disk = disk;
     stage = b.stage i;
@@ -77,18 +77,18 @@ module _ {D : Type 0} (disk : D) where
     other_open = (b.account i).other_open;
     image = image_size (b.account i).layout;
     segment = (b.account i).layout.segment;
-    stored = standing (b.account i);
+    stored = standing_by (b.account i);
     actions = b.actions i;
     copying = b.copying i;
     run = b.run i;
     out = b.out i;
     written = b.written i;
   }
-  copies_seen (Err why) old new b = ap (held disk) b
+  copies_seen (Err why) old new b = ap (keeper_of disk) b
 
 -- a call that was done
 module _ {D : Type 0} (disk to : D) (old new : Book) where
-  closes_seen : Closes old new → held to new ≡ record (after_by GateSync Commit (held disk old)) { disk = to }
+  closes_seen : ClosesBook old new → keeper_of to new ≡ record (after_by GateSync Commit (keeper_of disk old)) { disk = to }
   closes_seen c = λ i. record {
     disk = to;
     stage = c.stage i;
@@ -97,7 +97,7 @@ module _ {D : Type 0} (disk to : D) (old new : Book) where
     other_open = (c.account i).other_open;
     image = image_size (c.account i).layout;
     segment = (c.account i).layout.segment;
-    stored = (ap standing c.account ∙ after_commit (account old) old.actions.items) i;
+    stored = (ap standing_by c.account ∙ after_commit (account old) old.actions.items) i;
     actions = c.actions i;
     copying = c.copying i;
     run = by_copying old.copying c.grows i;
@@ -105,11 +105,11 @@ module _ {D : Type 0} (disk to : D) (old new : Book) where
     written = c.written i;
   }
     where
-      by_copying : (copying : Bool) → GrowsWhere copying old new → new.run ≡ grown copying old.run (length old.actions.items)
+      by_copying : (copying : Bool) → GrowsWhere copying old new → new.run ≡ after_frame copying old.run (length old.actions.items)
       by_copying true g = g.run
       by_copying false g = g
 
-  turns_seen : Turns old new → held to new ≡ record (after_by GateSync Checkpoint (held disk old)) { disk = to }
+  turns_seen : TurnsBook old new → keeper_of to new ≡ record (after_by GateSync Checkpoint (keeper_of disk old)) { disk = to }
   turns_seen t = λ i. record {
     disk = to;
     stage = t.stage i;
@@ -118,7 +118,7 @@ module _ {D : Type 0} (disk to : D) (old new : Book) where
     other_open = (t.account i).other_open;
     image = image_size (t.account i).layout;
     segment = (t.account i).layout.segment;
-    stored = (ap standing t.account ∙ after_checkpoint (account old) old.run) i;
+    stored = (ap standing_by t.account ∙ after_checkpoint (account old) old.run) i;
     actions = t.actions i;
     copying = t.copying i;
     run = t.run i;
@@ -126,19 +126,19 @@ module _ {D : Type 0} (disk to : D) (old new : Book) where
     written = t.written i;
   }
 
-  by_stage : (stage : Stage) (work : Work) (step : Progress) → old.stage ≡ stage → old.work ≡ work → GoesOn stage work step old new → held to new ≡ record (after_by stage work (held disk old)) { disk = to }
-  by_stage Idle work step at is g = ap (held to) g.1
-  by_stage Close work step at is g = ap (held to) g.1
-  by_stage CloseSync work step at is g = ap (held to) g.1
-  by_stage Body Commit step at is g = ap (held to) g.1
-  by_stage Body Checkpoint step at is g = ap (held to) g.1
-  by_stage BodySync work step at is g = ap (held to) g.1
-  by_stage Gate work step at is g = ap (held to) g.1
+  by_stage : (stage : Stage) (work : Work) (step : Progress) → old.stage ≡ stage → old.work ≡ work → IsBookAfter stage work step old new → keeper_of to new ≡ record (after_by stage work (keeper_of disk old)) { disk = to }
+  by_stage Idle work step at is g = ap (keeper_of to) g.1
+  by_stage Close work step at is g = ap (keeper_of to) g.1
+  by_stage CloseSync work step at is g = ap (keeper_of to) g.1
+  by_stage Body Commit step at is g = ap (keeper_of to) g.1
+  by_stage Body Checkpoint step at is g = ap (keeper_of to) g.1
+  by_stage BodySync work step at is g = ap (keeper_of to) g.1
+  by_stage Gate work step at is g = ap (keeper_of to) g.1
   by_stage GateSync Commit step at is g = closes_seen g.1
   by_stage GateSync Checkpoint step at is g = turns_seen g.1
-  by_stage Stopped work step at is g = ap (held to) g.1
+  by_stage Stopped work step at is g = ap (keeper_of to) g.1
 
-  goes_seen : (step : Progress) → GoesOn old.stage old.work step old new → held to new ≡ record (after (held disk old)) { disk = to }
+  goes_seen : (step : Progress) → IsBookAfter old.stage old.work step old new → keeper_of to new ≡ record (after_call (keeper_of disk old)) { disk = to }
   goes_seen step g = by_stage old.stage old.work step refl refl g
 
   -- Done is told at the end alone
@@ -146,7 +146,7 @@ module _ {D : Type 0} (disk to : D) (old new : Book) where
   IsMore More = Unit {0}
   IsMore step = ⊥
 
-  is_done : (stage : Stage) (work : Work) → GoesOn stage work Done old new → stage ≡ GateSync
+  is_done : (stage : Stage) (work : Work) → IsBookAfter stage work Done old new → stage ≡ GateSync
   is_done Idle work g = absurd (subst IsMore (sym g.0) tt)
   is_done Close work g = absurd (subst IsMore (sym g.0) tt)
   is_done CloseSync work g = absurd (subst IsMore (sym g.0) tt)
@@ -157,20 +157,20 @@ module _ {D : Type 0} (disk to : D) (old new : Book) where
   is_done GateSync work g = refl
   is_done Stopped work g = absurd (subst IsMore (sym g.0) tt)
 
-  not_more : (work : Work) → GoesOn GateSync work More old new → ⊥
+  not_more : (work : Work) → IsBookAfter GateSync work More old new → ⊥
   not_more work g = absurd (subst IsMore g.0 tt)
 
-  pub ends_seen : (result : Progress) → Ends result old new → Advances result (held disk old) (held to new)
-  ends_seen More e = (λ at. not_more old.work (subst (λ (s : Stage). GoesOn s old.work More old new) at e), goes_seen More e)
+  pub ends_seen : (result : Progress) → Ends result old new → Progresses result (keeper_of disk old) (keeper_of to new)
+  ends_seen More e = (λ at. not_more old.work (subst (λ (s : Stage). IsBookAfter s old.work More old new) at e), goes_seen More e)
   ends_seen Done e = (is_done old.stage old.work e, goes_seen Done e)
-  ends_seen Failed e = ap (held to) e
+  ends_seen Failed e = ap (keeper_of to) e
 
 -- what is next
-pub begun_seen : {D : Type 0} (disk : D) (b : Book) (work : Work) → standing (done_by work b) ≡ begun_by work (held disk b)
+pub begun_seen : {D : Type 0} (disk : D) (b : Book) (work : Work) → standing_by (done_by work b) ≡ begun_by work (keeper_of disk b)
 begun_seen disk b Commit = after_commit (account b) b.actions.items
 begun_seen disk b Checkpoint = after_checkpoint (account b) b.run
 
-pub next_seen : {D : Type 0} (disk : D) (b : Book) (stage : Stage) → standing (next_of stage b.work b) ≡ next_by stage (standing (account b)) (begun (held disk b))
+pub next_seen : {D : Type 0} (disk : D) (b : Book) (stage : Stage) → standing_by (account_next_at stage b.work b) ≡ next_by stage (standing_by (account b)) (begun_standing (keeper_of disk b))
 next_seen disk b Idle = refl
 next_seen disk b Close = begun_seen disk b b.work
 next_seen disk b CloseSync = begun_seen disk b b.work
@@ -181,14 +181,14 @@ next_seen disk b GateSync = begun_seen disk b b.work
 next_seen disk b Stopped = begun_seen disk b b.work
 
 -- the room for frames
-pub room_seen : (a : Account) (n : ℕ) → Fits a n → HasRoom (standing a) n
+pub room_seen : (a : Account) (n : ℕ) → FitsFrame a n → HasRoom (standing_by a) n
 room_seen a n fits = omega (arith, fits)
 
-pub room_of : (a : Account) (n : ℕ) → HasRoom (standing a) n → Fits a n
+pub room_of : (a : Account) (n : ℕ) → HasRoom (standing_by a) n → FitsFrame a n
 room_of a n room = omega (arith, room)
 
-pub takes_seen : (a : Account) (actions : List Action) → Takes a actions → StandingTakes (standing a) actions
+pub takes_seen : (a : Account) (actions : List Action) → TakesFrame a actions → StandingTakes (standing_by a) actions
 takes_seen a actions takes = (room_seen a (length actions) takes.0, takes.1)
 
-pub takes_of : (a : Account) (actions : List Action) → StandingTakes (standing a) actions → Takes a actions
+pub takes_of : (a : Account) (actions : List Action) → StandingTakes (standing_by a) actions → TakesFrame a actions
 takes_of a actions takes = (room_of a (length actions) takes.0, takes.1)

@@ -12,8 +12,8 @@ use Rattle.alm_checkpoint.specs.Layouts.{half_len, image_size}
 use Rattle.alm_checkpoint.specs.Headers.{half_head_text}
 use Rattle.alm_checkpoint.specs.Cut.{side_front, side_back}
 use Rattle.alm_checkpoint.proofs.Pieces.{part_is}
-use Rattle.alm_keeper.specs.Stand.{Account, Ready, end_of, other_at}
-use Rattle.alm_keeper.specs.Piecewise.{Copy, since_text, open_text, run_text, IsCopy, went, Paused, sent}
+use Rattle.alm_keeper.specs.Stand.{Account, Ready, end_of_half, other_at}
+use Rattle.alm_keeper.specs.Piecewise.{Copy, since_text, open_text, run_text, IsCopy, is_sent, Paused, with_sent_bytes}
 use Rattle.alm_keeper.proofs.Devices.{head_long}
 use Rattle.alm_keeper.proofs.Piecewise.{ready_blind, there, ahead_long}
 
@@ -38,7 +38,7 @@ open_long a k c =
 pub run_long : (a : Account) (k : Copy) → IsCopy a k → length (run_text a k) ≡ 25 + image_size a.layout + length (since_text a k)
 run_long a k c = omega (arith, open_long a k c, length-append (open_text a k) (0 ∷ []))
 
-pub run_fits : (a : Account) (k : Copy) → IsCopy a k → a.gate + 1 ≤ end_of a → length (run_text a k) + 1 ≤ half_len a.layout
+pub run_fits : (a : Account) (k : Copy) → IsCopy a k → a.gate + 1 ≤ end_of_half a → length (run_text a k) + 1 ≤ half_len a.layout
 run_fits a k c gate = omega (arith, run_long a k c, c.room, gate)
 
 pub ready_long : (a : Account) (b : List ℕ) → Ready a b → other_at a + half_len a.layout ≤ length b
@@ -60,7 +60,7 @@ grows s m n place out = ⊎_elim (λ lt. (below s m place lt, below (s + m) n pl
 
 -- ---- a piece
 
-module _ (a : Account) (k : Copy) (n : ℕ) (state new : DeviceState) (c : IsCopy a k) (gate : a.gate + 1 ≤ end_of a) (within : k.out + n ≤ length (run_text a k)) (p : Paused a k state) where
+module _ (a : Account) (k : Copy) (n : ℕ) (state new : DeviceState) (c : IsCopy a k) (gate : a.gate + 1 ≤ end_of_half a) (within : k.out + n ≤ length (run_text a k)) (p : Paused a k state) where
   abbrev run : List ℕ
   run = run_text a k
 
@@ -76,18 +76,18 @@ module _ (a : Account) (k : Copy) (n : ℕ) (state new : DeviceState) (c : IsCop
   inside : k.out + n + 1 ≤ half_len a.layout
   inside = omega (arith, within, run_fits a k c gate)
 
-  free : (place : ℕ) → went a (k.out + n) place ≡ false → (is_within at (length piece) place ≡ false) × (state.pending place ≡ false)
+  free : (place : ℕ) → is_sent a (k.out + n) place ≡ false → (is_within at (length piece) place ≡ false) × (state.pending place ≡ false)
   free place out =
       let parts = grows (other_at a + 1) k.out n place out in
       ((λ i. is_within at (piece_long i) place) ∙ parts.1, p.rests.within place parts.0)
 
   module _ {E : Type 0} (result : Result Unit E) (writes : Writes at piece result state new) where
-    unpending : (place : ℕ) → went a (k.out + n) place ≡ false → new.pending place ≡ false
+    unpending : (place : ℕ) → is_sent a (k.out + n) place ≡ false → new.pending place ≡ false
     unpending place out =
         let f = free place out in
         writes.pending place ∙ (λ i. f.0 i || state.pending place) ∙ f.1
 
-    beside : (b : List ℕ) → length b ≡ length new.bytes → ((place : ℕ) → went a (k.out + n) place ≡ false → byte_of b place ≡ byte_of new.bytes place) → Ready a b
+    beside : (b : List ℕ) → length b ≡ length new.bytes → ((place : ℕ) → is_sent a (k.out + n) place ≡ false → byte_of b place ≡ byte_of new.bytes place) → Ready a b
     beside b long same =
         ready_blind a (k.out + n) c.shut inside p.bytes b p.ready
         (record { size = long ∙ writes.size ∙ ap length p.rests.reads; same = λ place out. same place out ∙ writes.outside place (free place out).0 ∙ ap (λ (l : List ℕ). byte_of l place) p.rests.reads })
@@ -96,7 +96,7 @@ module _ (a : Account) (k : Copy) (n : ℕ) (state new : DeviceState) (c : IsCop
     pub piece_images : (b : List ℕ) → IsLeft new b → Ready a b
     piece_images b image = beside b image.size (λ place out. image.stable place (unpending place out))
 
-  pub piece_goes : (E : Type 0) → Writes {E = E} at piece (Ok tt) state new → Paused a (sent k n) new
+  pub piece_goes : (E : Type 0) → Writes {E = E} at piece (Ok tt) state new → Paused a (with_sent_bytes k n) new
   piece_goes E writes = record {
     images = piece_images {E = E} (Ok tt) writes;
     bytes = new.bytes;

@@ -3,7 +3,7 @@ use Rattle.std.proofs.Common.{◌≡◌, ℕ, ◌≤◌, List, [], ◌∷◌, �
 use Rattle.alm_model.specs.Plant.{Condensed}
 use Rattle.alm_checkpoint.specs.declared.half.Half.{Half}
 use Rattle.alm_checkpoint.specs.declared.half.Half.TheVariants.{First, Second}
-use Rattle.alm_checkpoint.specs.Layouts.{byte_at, half_at, other}
+use Rattle.alm_checkpoint.specs.Layouts.{layout_byte, half_at, other}
 use Rattle.alm_checkpoint.specs.Cut.{Cut, Stores, Reaches, front, side_front}
 use Rattle.alm_checkpoint.proofs.Grown.{gate_at}
 
@@ -12,7 +12,7 @@ pub side_long : (c : Cut) (plant : Condensed) (tail : List ℕ) → Stores c pla
 side_long c plant tail s reaches First is = omega (arith, gate_at c plant tail s reaches, ap (half_at c.layout) is, length-append (front c) tail)
 side_long c plant tail s reaches Second is = refl
 
-pub by_gate : (o : List ℕ) → 1 ≤ length o → o ≡ byte_at o 0 ∷ drop 1 o
+pub by_gate : (o : List ℕ) → 1 ≤ length o → o ≡ layout_byte o 0 ∷ drop 1 o
 by_gate [] long = absurd (omega arith)
 by_gate (g ∷ o) long = refl
 

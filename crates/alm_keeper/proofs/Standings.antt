@@ -20,14 +20,14 @@ use Rattle.alm_keeper.specs.declared.stage.Work.TheVariants.{Commit, Checkpoint}
 use Rattle.alm_types.specs.declared.action.Action.{Action}
 use Rattle.alm_keeper.specs.Stages.{IsWorking, During, phase_of}
 use Rattle.alm_store.specs.Advancing.{IsResting}
-use Rattle.alm_keeper.specs.Stand.{Holds, Ready, Account, account_of, committed, turned}
+use Rattle.alm_keeper.specs.Stand.{HoldsPlant, Ready, Account, account_of, with_commit, turned_half}
 use Rattle.alm_keeper.specs.Piecewise.{Copy, run_text, turned_by}
 use Rattle.alm_keeper.specs.Phases.{KeptIn}
-use Rattle.alm_keeper.specs.Keeper.{Standing, Held, StandsFor, StandsWithRoom, LiesIn, MayStand}
+use Rattle.alm_keeper.specs.Keeper.{Standing, KeeperView, IsStoredIn, StandsWithRoom, LiesIn, MayStand}
 use Rattle.alm_keeper.specs.Keeper.{next as next_seen_of}
-use Rattle.alm_keeper.specs.Keeper.{Advances as AdvancesSeen}
+use Rattle.alm_keeper.specs.Keeper.{Progresses as AdvancesSeen}
 use Rattle.alm_store.specs.declared.progress.Progress.{Progress}
-use Rattle.alm_keeper.specs.Keeping.{account, done_by, next_of, next, alone, beside, at_out, standing, held, InOrder, KeptBy, Keeps, MayLeave, Ends}
+use Rattle.alm_keeper.specs.Keeping.{account, done_by, account_next_at, account_next, work_alone, work_beside, at_out, standing_by, keeper_of, InOrder, KeptBy, Keeps, MayLeave, Ends}
 use Rattle.alm_keeper.proofs.Commit.{ready_holds}
 use Rattle.alm_keeper.proofs.Order.{Possible, possible, layout_limits, runs_by, frames_by, piece_by, copies_by}
 use Rattle.alm_keeper.proofs.Going.{turned_is, kept_alone, kept_beside, never_alone, next_is, run_size, rested}
@@ -36,7 +36,7 @@ use Rattle.alm_keeper.proofs.Seen.{next_seen, ends_seen}
 
 -- ---- what a device stands for, by what it holds
 
-pub holds_stands : (epoch : ℕ) (plant : Condensed) (b : List ℕ) → Holds epoch plant b → Stands b epoch plant
+pub holds_stands : (epoch : ℕ) (plant : Condensed) (b : List ℕ) → HoldsPlant epoch plant b → Stands b epoch plant
 holds_stands epoch plant b h =
     subst (λ (e : ℕ). Stands b e plant) h.in_epoch (subst (λ (bytes : List ℕ). Stands bytes h.cut.epoch plant) (sym h.text) (stands h.cut plant h.gate h.tail h.stores h.closed h.reaches))
 
@@ -44,10 +44,10 @@ pub ready_stands : (a : Account) (b : List ℕ) → Ready a b → Stands b a.epo
 ready_stands a b r = holds_stands a.epoch a.plant b (ready_holds a b r)
 
 -- .. with its room
-pub ready_room : (a : Account) (b : List ℕ) → Ready a b → StandsWithRoom (standing a) b
+pub ready_room : (a : Account) (b : List ℕ) → Ready a b → StandsWithRoom (standing_by a) b
 ready_room a b r =
-    subst (λ (y : Account). StandsWithRoom (standing y) b) (sym r.is)
-    (subst (StandsWithRoom (standing (account_of r.cut a.plant))) (sym r.text) (here, left, refl))
+    subst (λ (y : Account). StandsWithRoom (standing_by y) b) (sym r.is)
+    (subst (StandsWithRoom (standing_by (account_of r.cut a.plant))) (sym r.text) (here, left, refl))
   where
     here : Stands (device_of r.cut (r.gate ∷ r.tail)) r.cut.epoch a.plant
     here = record {
@@ -61,7 +61,7 @@ ready_room a b r =
           ∙ ap (λ (q : Condensed). Ok (q, suc (length r.tail))) r.stores.runs;
     }
 
-    left : suc (length r.tail) ≡ (standing (account_of r.cut a.plant)).room
+    left : suc (length r.tail) ≡ (standing_by (account_of r.cut a.plant)).room
     left = omega (arith, gate_at r.cut a.plant (r.gate ∷ r.tail) r.stores r.reaches)
 
 -- .. in its half
@@ -86,17 +86,17 @@ during_map B A B' A' Stopped b f g d = ⊎_elim (λ x. inl (f x)) (λ x. inr (g 
 
 -- what stands, by the book
 abbrev After : Book → List ℕ → Type 0
-After book b = Stands b (next book).epoch (next book).plant
+After book b = Stands b (account_next book).epoch (account_next book).plant
 
-pub after_seen : {D : Type 0} (disk : D) (book : Book) (b : List ℕ) → After book b → StandsFor (next_seen_of (held disk book)) b
-after_seen disk book b s = subst (λ (x : Standing). StandsFor x b) (next_seen disk book book.stage) s
+pub after_seen : {D : Type 0} (disk : D) (book : Book) (b : List ℕ) → After book b → IsStoredIn (next_seen_of (keeper_of disk book)) b
+after_seen disk book b s = subst (λ (x : Standing). IsStoredIn x b) (next_seen disk book book.stage) s
 
 -- by what is under way
 module _ (a : Account) (actions : List Action) (state : DeviceState) (b : List ℕ) (left : IsImage state b) where
   abbrev Stored : Type 0
-  Stored = Holds a.epoch a.plant b
+  Stored = HoldsPlant a.epoch a.plant b
 
-  pub alone_leaves : (stage : Stage) → KeptIn (alone stage actions) a state → Stored ⊎ Ready (committed a actions) b
+  pub alone_leaves : (stage : Stage) → KeptIn (work_alone stage actions) a state → Stored ⊎ Ready (with_commit a actions) b
   alone_leaves Idle k = inl (ready_holds a b (k.images b left))
   alone_leaves Close k = absurd k.2.stands
   alone_leaves CloseSync k = absurd k.2.stands
@@ -106,7 +106,7 @@ module _ (a : Account) (actions : List Action) (state : DeviceState) (b : List �
   alone_leaves GateSync k = ⊎_elim (λ x. inl (ready_holds a b x)) inr (k.2.images b left)
   alone_leaves Stopped k = ⊎_elim (λ x. inl (ready_holds a b x)) inr (k.2.images b left)
 
-  pub commit_leaves : (k : Copy) (stage : Stage) → Possible stage true Commit → KeptIn (beside stage Commit k actions) a state → Stored ⊎ Ready (committed a actions) b
+  pub commit_leaves : (k : Copy) (stage : Stage) → Possible stage true Commit → KeptIn (work_beside stage Commit k actions) a state → Stored ⊎ Ready (with_commit a actions) b
   commit_leaves c Idle may k = absurd may
   commit_leaves c Close may k = absurd may
   commit_leaves c CloseSync may k = absurd may
@@ -117,10 +117,10 @@ module _ (a : Account) (actions : List Action) (state : DeviceState) (b : List �
   commit_leaves c Stopped may k = absurd may
 
   module _ (c : Copy) (n : ℕ) (long : length (run_text a c) ≡ n) where
-    turns : Ready (turned_by a c) b → Ready (turned a n) b
+    turns : Ready (turned_by a c) b → Ready (turned_half a n) b
     turns r = subst (λ (x : Account). Ready x b) (turned_is a c n long) r
 
-    pub checkpoint_leaves : (stage : Stage) → Possible stage true Checkpoint → KeptIn (beside stage Checkpoint c actions) a state → Stored ⊎ Ready (turned a n) b
+    pub checkpoint_leaves : (stage : Stage) → Possible stage true Checkpoint → KeptIn (work_beside stage Checkpoint c actions) a state → Stored ⊎ Ready (turned_half a n) b
     checkpoint_leaves Idle may k = absurd may
     checkpoint_leaves Close may k = inl (ready_holds a b (k.3.images b left))
     checkpoint_leaves CloseSync may k = inl (k.2.images b left)
@@ -133,7 +133,7 @@ module _ (a : Account) (actions : List Action) (state : DeviceState) (b : List �
 -- of a book's device
 module _ (book : Book) (i : InOrder book) (state : DeviceState) (b : List ℕ) (left : IsImage state b) where
   abbrev Either : Account → Type 0
-  Either a = Holds book.epoch book.stored b ⊎ Ready a b
+  Either a = HoldsPlant book.epoch book.stored b ⊎ Ready a b
 
   at_work : IsWorking book.stage → (copying : Bool) (work : Work) → book.copying ≡ copying → Possible book.stage copying work → KeptBy book.stage copying work book state → Either (done_by work book)
   at_work works false Commit is may k = alone_leaves (account book) book.actions.items state b left book.stage (kept_alone book state book.stage Commit works k)
@@ -143,13 +143,13 @@ module _ (book : Book) (i : InOrder book) (state : DeviceState) (b : List ℕ) (
       let here = kept_beside book state book.stage Checkpoint works k in
       checkpoint_leaves (account book) book.actions.items state b left (at_out here.0 book.out) book.run (ap length here.1 ∙ run_size book i works is) book.stage may here.2
 
-  works_next : (works : IsWorking book.stage) → Keeps state book → Either (next book)
+  works_next : (works : IsWorking book.stage) → Keeps state book → Either (account_next book)
   works_next works k = subst Either (sym (next_is book book.stage refl works)) (at_work works book.copying book.work refl (possible book i works) k)
 
-  next_at : (stage : Stage) → book.stage ≡ stage → IsWorking stage → Keeps state book → Either (next_of stage book.work book)
-  next_at stage is works kept = subst (λ (s : Stage). Either (next_of s book.work book)) is (works_next (subst IsWorking (sym is) works) kept)
+  next_at : (stage : Stage) → book.stage ≡ stage → IsWorking stage → Keeps state book → Either (account_next_at stage book.work book)
+  next_at stage is works kept = subst (λ (s : Stage). Either (account_next_at s book.work book)) is (works_next (subst IsWorking (sym is) works) kept)
 
-  by_stage : (stage : Stage) → book.stage ≡ stage → Keeps state book → Either (next_of stage book.work book)
+  by_stage : (stage : Stage) → book.stage ≡ stage → Keeps state book → Either (account_next_at stage book.work book)
   by_stage Idle is kept = inr (rest_ready book state (at_rest book state i (subst (λ (s : Stage). IsResting (phase_of s book.work)) (sym is) tt) kept) b left)
   by_stage Close is kept = next_at Close is tt kept
   by_stage CloseSync is kept = next_at CloseSync is tt kept
@@ -159,26 +159,26 @@ module _ (book : Book) (i : InOrder book) (state : DeviceState) (b : List ℕ) (
   by_stage GateSync is kept = next_at GateSync is tt kept
   by_stage Stopped is kept = subst (λ (s : Stage). KeptBy s book.copying book.work book state) is kept b left
 
-  pub either_is : Keeps state book → Either (next book)
+  pub either_is : Keeps state book → Either (account_next book)
   either_is kept = by_stage book.stage refl kept
 
 pub image_stands : {D : Type 0} (disk : D) (book : Book) (state : DeviceState) (b : List ℕ) → InOrder book → Keeps state book → IsImage state b
-    → StandsFor (standing (account book)) b ⊎ StandsFor (next_seen_of (held disk book)) b
+    → IsStoredIn (standing_by (account book)) b ⊎ IsStoredIn (next_seen_of (keeper_of disk book)) b
 image_stands disk book state b i k image =
-    ⊎_elim (λ h. inl (holds_stands book.epoch book.stored b h)) (λ r. inr (after_seen disk book b (ready_stands (next book) b r)))
+    ⊎_elim (λ h. inl (holds_stands book.epoch book.stored b h)) (λ r. inr (after_seen disk book b (ready_stands (account_next book) b r)))
     (either_is book i state b image k)
 
-pub leaves_stands : {D : Type 0} (disk : D) (book : Book) (b : List ℕ) → MayLeave book b → MayStand (held disk book) b
+pub leaves_stands : {D : Type 0} (disk : D) (book : Book) (b : List ℕ) → MayLeave book b → MayStand (keeper_of disk book) b
 leaves_stands disk book b m =
-    during_map (Holds book.epoch book.stored) (Ready (next book)) (StandsFor (standing (account book))) (StandsFor (next_seen_of (held disk book))) book.stage b
-    (holds_stands book.epoch book.stored b) (λ r. after_seen disk book b (ready_stands (next book) b r)) m
+    during_map (HoldsPlant book.epoch book.stored) (Ready (account_next book)) (IsStoredIn (standing_by (account book))) (IsStoredIn (next_seen_of (keeper_of disk book))) book.stage b
+    (holds_stands book.epoch book.stored b) (λ r. after_seen disk book b (ready_stands (account_next book) b r)) m
 
-pub rest_stands : (book : Book) (state : DeviceState) → InOrder book → IsResting (phase_of book.stage book.work) → Keeps state book → StandsWithRoom (standing (account book)) state.bytes
+pub rest_stands : (book : Book) (state : DeviceState) → InOrder book → IsResting (phase_of book.stage book.work) → Keeps state book → StandsWithRoom (standing_by (account book)) state.bytes
 rest_stands book state i rests k = by_rest (at_rest book state i rests k)
   where
-    by_rest : AtRest book state → StandsWithRoom (standing (account book)) state.bytes
-    by_rest (Idles off kept) = subst (StandsWithRoom (standing (account book))) (sym kept.rests.reads) (ready_room (account book) kept.bytes kept.ready)
-    by_rest (Pauses c on run kept) = subst (StandsWithRoom (standing (account book))) (sym kept.1.rests.reads) (ready_room (account book) kept.1.bytes kept.1.ready)
+    by_rest : AtRest book state → StandsWithRoom (standing_by (account book)) state.bytes
+    by_rest (Idles off kept) = subst (StandsWithRoom (standing_by (account book))) (sym kept.rests.reads) (ready_room (account book) kept.bytes kept.ready)
+    by_rest (Pauses c on run kept) = subst (StandsWithRoom (standing_by (account book))) (sym kept.1.rests.reads) (ready_room (account book) kept.1.bytes kept.1.ready)
 
 rest_lies : (book : Book) (state : DeviceState) → InOrder book → IsResting (phase_of book.stage book.work) → Keeps state book → LiesIn book.half (image_size book.layout) book.layout.segment state.bytes
 rest_lies book state i rests k = by_rest (at_rest book state i rests k)
@@ -188,42 +188,42 @@ rest_lies book state i rests k = by_rest (at_rest book state i rests k)
     by_rest (Pauses c on run kept) = subst (LiesIn book.half (image_size book.layout) book.layout.segment) (sym kept.1.rests.reads) (ready_lies (account book) kept.1.bytes kept.1.ready)
 
 -- the same of a keeper as its callers see it
-module _ {D : Type 0} (honest : D → Type 0) (state : D → DeviceState) (disk : D) (book : Book) (k : Held D) (same : held disk book ≡ k) (order : InOrder book) (kept : honest disk → ∥ Keeps (state disk) book ∥₁) where
-  pub images_of : honest k.disk → (b : List ℕ) → IsImage (state k.disk) b → ∥ StandsFor k.stored b ⊎ StandsFor (next_seen_of k) b ∥₁
-  images_of = subst (λ (h : Held D). honest h.disk → (b : List ℕ) → IsImage (state h.disk) b → ∥ StandsFor h.stored b ⊎ StandsFor (next_seen_of h) b ∥₁) same
+module _ {D : Type 0} (honest : D → Type 0) (state : D → DeviceState) (disk : D) (book : Book) (k : KeeperView D) (same : keeper_of disk book ≡ k) (order : InOrder book) (kept : honest disk → ∥ Keeps (state disk) book ∥₁) where
+  pub images_of : honest k.disk → (b : List ℕ) → IsImage (state k.disk) b → ∥ IsStoredIn k.stored b ⊎ IsStoredIn (next_seen_of k) b ∥₁
+  images_of = subst (λ (h : KeeperView D). honest h.disk → (b : List ℕ) → IsImage (state h.disk) b → ∥ IsStoredIn h.stored b ⊎ IsStoredIn (next_seen_of h) b ∥₁) same
       (λ is b image. ∥∥₁_map (kept is) (λ x. image_stands disk book (state disk) b order x image))
 
   pub rest_of : honest k.disk → IsResting (phase_of k.stage k.work) → ∥ StandsWithRoom k.stored (state k.disk).bytes ∥₁
-  rest_of = subst (λ (h : Held D). honest h.disk → IsResting (phase_of h.stage h.work) → ∥ StandsWithRoom h.stored (state h.disk).bytes ∥₁) same
+  rest_of = subst (λ (h : KeeperView D). honest h.disk → IsResting (phase_of h.stage h.work) → ∥ StandsWithRoom h.stored (state h.disk).bytes ∥₁) same
       (λ is rests. ∥∥₁_map (kept is) (λ x. rest_stands book (state disk) order rests x))
 
   pub lies_of : honest k.disk → IsResting (phase_of k.stage k.work) → ∥ LiesIn k.half k.image k.segment (state k.disk).bytes ∥₁
-  lies_of = subst (λ (h : Held D). honest h.disk → IsResting (phase_of h.stage h.work) → ∥ LiesIn h.half h.image h.segment (state h.disk).bytes ∥₁) same
+  lies_of = subst (λ (h : KeeperView D). honest h.disk → IsResting (phase_of h.stage h.work) → ∥ LiesIn h.half h.image h.segment (state h.disk).bytes ∥₁) same
       (λ is rests. ∥∥₁_map (kept is) (λ x. rest_lies book (state disk) order rests x))
 
   pub lengths_of : (k.image ≤ 3289168) × (k.segment ≤ 16777216)
-  lengths_of = subst (λ (h : Held D). (h.image ≤ 3289168) × (h.segment ≤ 16777216)) same (layout_limits book.layout order.layout)
+  lengths_of = subst (λ (h : KeeperView D). (h.image ≤ 3289168) × (h.segment ≤ 16777216)) same (layout_limits book.layout order.layout)
 
   pub runs_of : IsWorking k.stage → k.work ≡ Checkpoint → (k.out ≤ k.run) × (k.run + k.stored.room ≤ head_len + k.image + k.segment)
-  runs_of = subst (λ (h : Held D). IsWorking h.stage → h.work ≡ Checkpoint → (h.out ≤ h.run) × (h.run + h.stored.room ≤ head_len + h.image + h.segment)) same (λ works is. runs_by book order works is)
+  runs_of = subst (λ (h : KeeperView D). IsWorking h.stage → h.work ≡ Checkpoint → (h.out ≤ h.run) × (h.run + h.stored.room ≤ head_len + h.image + h.segment)) same (λ works is. runs_by book order works is)
 
   pub frames_of : IsWorking k.stage → k.work ≡ Commit → (length k.actions ≤ 256) × (k.copying ≡ true → k.out + 1 ≤ k.run)
-  frames_of = subst (λ (h : Held D). IsWorking h.stage → h.work ≡ Commit → (length h.actions ≤ 256) × (h.copying ≡ true → h.out + 1 ≤ h.run)) same (λ works is. frames_by book order works is)
+  frames_of = subst (λ (h : KeeperView D). IsWorking h.stage → h.work ≡ Commit → (length h.actions ≤ 256) × (h.copying ≡ true → h.out + 1 ≤ h.run)) same (λ works is. frames_by book order works is)
 
   pub pieces_of : k.stage ≡ Body → k.work ≡ Checkpoint → k.out + 1 ≤ k.run
-  pieces_of = subst (λ (h : Held D). h.stage ≡ Body → h.work ≡ Checkpoint → h.out + 1 ≤ h.run) same (λ at is. piece_by book order at is)
+  pieces_of = subst (λ (h : KeeperView D). h.stage ≡ Body → h.work ≡ Checkpoint → h.out + 1 ≤ h.run) same (λ at is. piece_by book order at is)
 
   pub copies_of : (k.stage ≡ Idle → k.copying ≡ false) × (IsWorking k.stage → k.work ≡ Checkpoint → k.copying ≡ true)
-  copies_of = subst (λ (h : Held D). (h.stage ≡ Idle → h.copying ≡ false) × (IsWorking h.stage → h.work ≡ Checkpoint → h.copying ≡ true)) same (copies_by book order)
+  copies_of = subst (λ (h : KeeperView D). (h.stage ≡ Idle → h.copying ≡ false) × (IsWorking h.stage → h.work ≡ Checkpoint → h.copying ≡ true)) same (copies_by book order)
 
   pub moments_of : (new : DeviceState) → (honest disk → (b : List ℕ) → IsImage (state disk) b ⊎ IsImage new b → ∥ MayLeave book b ∥₁)
       → honest k.disk → (b : List ℕ) → IsImage (state k.disk) b ⊎ IsImage new b → ∥ MayStand k b ∥₁
-  moments_of new leaves = subst (λ (h : Held D). honest h.disk → (b : List ℕ) → IsImage (state h.disk) b ⊎ IsImage new b → ∥ MayStand h b ∥₁) same
+  moments_of new leaves = subst (λ (h : KeeperView D). honest h.disk → (b : List ℕ) → IsImage (state h.disk) b ⊎ IsImage new b → ∥ MayStand h b ∥₁) same
       (λ is b moment. ∥∥₁_map (leaves is b moment) (λ m. leaves_stands disk book b m))
 
 -- a call, as callers see it
-pub advances_of : (D : Type 0) (disk to : D) (old new : Book) (k : Held D) (result : Progress) → held disk old ≡ k → Ends result old new → AdvancesSeen result k (held to new)
-advances_of D disk to old new k result same e = subst (λ (h : Held D). AdvancesSeen result h (held to new)) same (ends_seen disk to old new result e)
+pub advances_of : (D : Type 0) (disk to : D) (old new : Book) (k : KeeperView D) (result : Progress) → keeper_of disk old ≡ k → Ends result old new → AdvancesSeen result k (keeper_of to new)
+advances_of D disk to old new k result same e = subst (λ (h : KeeperView D). AdvancesSeen result h (keeper_of to new)) same (ends_seen disk to old new result e)
 
 -- a device that was opened is kept
 pub opened_keeps : (book : Book) (state : DeviceState) → book.stage ≡ Idle → book.copying ≡ false → IsSettled state state.bytes → Ready (account book) state.bytes → Keeps state book

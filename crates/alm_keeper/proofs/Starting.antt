@@ -17,10 +17,10 @@ use Rattle.alm_keeper.specs.declared.stage.Work.{Work}
 use Rattle.alm_keeper.specs.declared.stage.Work.TheVariants.{Commit, Checkpoint}
 use Rattle.alm_keeper.specs.Stages.{IsWorking, first_stage, phase_of}
 use Rattle.alm_store.specs.Advancing.{IsResting}
-use Rattle.alm_keeper.specs.Stand.{Holds, Account, Ready}
-use Rattle.alm_keeper.specs.Piecewise.{Copy, fresh, run_text}
+use Rattle.alm_keeper.specs.Stand.{HoldsPlant, Account, Ready}
+use Rattle.alm_keeper.specs.Piecewise.{Copy, new_copy, run_text}
 use Rattle.alm_keeper.specs.Phases.{Rest, Shut, Pause, KeptIn, Commits}
-use Rattle.alm_keeper.specs.Keeping.{account, run_in, at_out, Does, Opened, IsCopying, InOrder, FitsDevice, Begins, Copies, KeptBy, Keeps}
+use Rattle.alm_keeper.specs.Keeping.{account, run_in, at_out, Does, OpenedBook, IsCopying, InOrder, FitsDevice, Begins, Copies, KeptBy, Keeps}
 use Rattle.alm_keeper.proofs.Commit.{ready_holds}
 use Rattle.alm_keeper.proofs.Order.{commits, opened}
 use Rattle.alm_keeper.proofs.Begun.{idle_commits, paused_commits, idle_copies, first_work}
@@ -84,7 +84,7 @@ begun_keeps (Ok _) actions old new state b before i k = by_rest (at_rest old sta
 begun_keeps (Err (no.NotAccepted place)) actions old new state b before i k =
     let here = at_rest old state before b.0 k in
     subst (λ (s : Stage). KeptBy s new.copying new.work new state) (sym b.1)
-    (λ image left. inl (subst (λ (a : Account). Holds a.epoch a.plant image) (sym b.4.account) (ready_holds (account old) image (rest_ready old state here image left))))
+    (λ image left. inl (subst (λ (a : Account). HoldsPlant a.epoch a.plant image) (sym b.4.account) (ready_holds (account old) image (rest_ready old state here image left))))
 begun_keeps (Err no.Stopped) actions old new state b before i k = subst (Keeps state) (sym b) k
 begun_keeps (Err no.Working) actions old new state b before i k = subst (Keeps state) (sym b) k
 begun_keeps (Err no.Gap) actions old new state b before i k = subst (Keeps state) (sym b) k
@@ -102,7 +102,7 @@ pub still_fits : (old new : Book) (size : ℕ) → new.layout ≡ old.layout →
 still_fits old new size same f = record { fits = subst (λ (l : Layout). device_len l ≤ size) (sym same) f.fits; in_memory = f.in_memory }
 
 -- the run of a copy of which nothing went out
-run_is : (a : Account) → run_text a (fresh a) ≡ half_head_text a.layout V02 (a.epoch + 1) a.plant.panel.count ++ image_text a.plant ++ 0 ∷ []
+run_is : (a : Account) → run_text a (new_copy a) ≡ half_head_text a.layout V02 (a.epoch + 1) a.plant.panel.count ++ image_text a.plant ++ 0 ∷ []
 run_is a = ap (λ (l : List ℕ). l ++ 0 ∷ []) (append-nil (half_head_text a.layout V02 (a.epoch + 1) a.plant.panel.count ++ image_text a.plant))
 
 pub copied_keeps : (result : Result Unit Refused) (old new : Book) (state : DeviceState) → Copies result old new → InOrder old → InOrder new → Keeps state old → Keeps state new
@@ -126,16 +126,16 @@ copied_keeps (Ok _) old new state b before i k =
     more : new.epoch + 1 < 2 ^ 64
     more = (opened new i (subst IsWorking (sym b.stage) (first_works old.other_open)) b.copying).more
 
-    text : run_text (account new) (fresh (account new)) ≡ run_in new
-    text = ap (λ (a : Account). run_text a (fresh a)) b.account ∙ run_is (account old) ∙ sym b.text
+    text : run_text (account new) (new_copy (account new)) ≡ run_in new
+    text = ap (λ (a : Account). run_text a (new_copy a)) b.account ∙ run_is (account old) ∙ sym b.text
 
-    by_mark : (o : Bool) → new.other_open ≡ o → KeptIn (first_work new.other_open (fresh (account new))) (account new) state → KeptBy (first_stage o) true Checkpoint new state
+    by_mark : (o : Bool) → new.other_open ≡ o → KeptIn (first_work new.other_open (new_copy (account new))) (account new) state → KeptBy (first_stage o) true Checkpoint new state
     by_mark true is kept =
-        let here = subst (λ (m : Bool). KeptIn (first_work m (fresh (account new))) (account new) state) is kept in
-        (fresh (account new), text, subst (λ (n : ℕ). KeptIn (Shut (at_out (fresh (account new)) n)) (account new) state) (sym b.out) here)
+        let here = subst (λ (m : Bool). KeptIn (first_work m (new_copy (account new))) (account new) state) is kept in
+        (new_copy (account new), text, subst (λ (n : ℕ). KeptIn (Shut (at_out (new_copy (account new)) n)) (account new) state) (sym b.out) here)
     by_mark false is kept =
-        let here = subst (λ (m : Bool). KeptIn (first_work m (fresh (account new))) (account new) state) is kept in
-        (fresh (account new), text, subst (λ (n : ℕ). KeptIn (Pause (at_out (fresh (account new)) n)) (account new) state) (sym b.out) here)
+        let here = subst (λ (m : Bool). KeptIn (first_work m (new_copy (account new))) (account new) state) is kept in
+        (new_copy (account new), text, subst (λ (n : ℕ). KeptIn (Pause (at_out (new_copy (account new)) n)) (account new) state) (sym b.out) here)
 copied_keeps (Err why) old new state b before i k = subst (Keeps state) (sym b) k
 
 pub copied_layout : (result : Result Unit Refused) (old new : Book) → Copies result old new → new.layout ≡ old.layout
@@ -176,7 +176,7 @@ marked_order b n i = record {
     does GateSync Checkpoint d = d
     does Stopped w d = tt
 
-    same : (s : Stage) → Opened s b → Opened s (record b { written = n })
+    same : (s : Stage) → OpenedBook s b → OpenedBook s (record b { written = n })
     same s o = record { more = o.more; least = o.least; room = o.room; within = o.within; sent = o.sent }
 
     copies : (o : Bool) (s : Stage) → IsCopying o s b → IsCopying o s (record b { written = n })

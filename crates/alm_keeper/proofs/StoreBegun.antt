@@ -18,24 +18,24 @@ use Rattle.alm_store.specs.declared.phase.Phase.{Phase}
 use Rattle.alm_store.specs.declared.phase.Phase.TheVariants as at
 use Rattle.alm_store.specs.declared.refused.Refused as R
 use Rattle.alm_store.specs.declared.refused.Refused.TheVariants as no
-use Rattle.alm_keeper.specs.Batch.{tried, tried_one, unless_refused}
-use Rattle.alm_keeper.specs.Keeper.{Held, begin_answer, checkpoint_answer, trial}
+use Rattle.alm_keeper.specs.Batch.{tried_batch, tried_one, or_place}
+use Rattle.alm_keeper.specs.Keeper.{KeeperView, begin_answer, checkpoint_answer, trial}
 use Rattle.alm_keeper.specs.Stages.{phase_of}
 use Rattle.alm_store.specs.Advancing.{IsResting}
 use Rattle.alm_keeper.proofs.Tried.{tried_admitted}
 
 -- a batch whose trial went well has admitted actions
-one_tried : (o : Option Refusal) (place : ℕ) (p r : Condensed) (f : Condensed → Result Condensed ℕ) (b : Bool) → ((q : Condensed) → f p ≡ Ok q → b ≡ true) → (unless_refused o place p >>= f) ≡ Ok r → (is_none o && b) ≡ true
+one_tried : (o : Option Refusal) (place : ℕ) (p r : Condensed) (f : Condensed → Result Condensed ℕ) (b : Bool) → ((q : Condensed) → f p ≡ Ok q → b ≡ true) → (or_place o place p >>= f) ≡ Ok r → (is_none o && b) ≡ true
 one_tried None place p r f b rest is = rest r is
 one_tried (Some why) place p r f b rest is = absurd cc
 
-verdict_tried : (q r : Condensed) (place : ℕ) (v : Verdict) (entries : List Entry) → ((p s : Condensed) → tried p (place + 1) entries ≡ Ok s → admits_all p (accepted_of entries) ≡ true)
-    → (tried_one q place v >>= λ p. tried p (place + 1) entries) ≡ Ok r → admits_all q (when_accepted v ++ accepted_of entries) ≡ true
+verdict_tried : (q r : Condensed) (place : ℕ) (v : Verdict) (entries : List Entry) → ((p s : Condensed) → tried_batch p (place + 1) entries ≡ Ok s → admits_all p (accepted_of entries) ≡ true)
+    → (tried_one q place v >>= λ p. tried_batch p (place + 1) entries) ≡ Ok r → admits_all q (when_accepted v ++ accepted_of entries) ≡ true
 verdict_tried q r place (Accepted a) entries rest is =
-    one_tried (refusal q.panel a) place (step q a) r (λ p. tried p (place + 1) entries) (admits_all (step q a) (accepted_of entries)) (λ s. rest (step q a) s) is
+    one_tried (refusal q.panel a) place (step q a) r (λ p. tried_batch p (place + 1) entries) (admits_all (step q a) (accepted_of entries)) (λ s. rest (step q a) s) is
 verdict_tried q r place (Refused why count) entries rest is = rest q r is
 
-tried_admits : (entries : List Entry) (q r : Condensed) (place : ℕ) → tried q place entries ≡ Ok r → admits_all q (accepted_of entries) ≡ true
+tried_admits : (entries : List Entry) (q r : Condensed) (place : ℕ) → tried_batch q place entries ≡ Ok r → admits_all q (accepted_of entries) ≡ true
 tried_admits [] q r place is = refl
 tried_admits (e ∷ entries) q r place is = verdict_tried q r place e.verdict entries (λ p s. tried_admits entries p s (place + 1)) is
 
@@ -49,10 +49,10 @@ if_ok false t x is = absurd cc
 
 answered : (phase : Phase) (plant : Condensed) (batch : Judged) (x : Unit) → begin_answer phase plant batch ≡ Ok x → admits_all plant (accepted_of batch.entries) ≡ true
 answered at.Idle plant batch x is =
-    let went = trial_ok (tried plant 0 batch.entries) x (if_ok (batch.first == plant.panel.count + 1) (trial (tried plant 0 batch.entries)) x is) in
+    let went = trial_ok (tried_batch plant 0 batch.entries) x (if_ok (batch.first == plant.panel.count + 1) (trial (tried_batch plant 0 batch.entries)) x is) in
     tried_admits batch.entries plant went.0 0 went.1
 answered at.Paused plant batch x is =
-    let went = trial_ok (tried plant 0 batch.entries) x (if_ok (batch.first == plant.panel.count + 1) (trial (tried plant 0 batch.entries)) x is) in
+    let went = trial_ok (tried_batch plant 0 batch.entries) x (if_ok (batch.first == plant.panel.count + 1) (trial (tried_batch plant 0 batch.entries)) x is) in
     tried_admits batch.entries plant went.0 0 went.1
 answered at.Committing plant batch x is = absurd cc
 answered at.Copying plant batch x is = absurd cc
@@ -73,12 +73,12 @@ next_begun at.Committing plant batch rest first all = absurd rest
 next_begun at.Copying plant batch rest first all = absurd rest
 next_begun at.Stopped plant batch rest first all = absurd rest
 
-pub begun_cause : {D : Type 0} (result : Result Unit R.Refused) (k : Held D) (batch : Judged) → result ≡ begin_answer (phase_of k.stage k.work) k.stored.plant batch → IsResting (phase_of k.stage k.work)
+pub begun_cause : {D : Type 0} (result : Result Unit R.Refused) (k : KeeperView D) (batch : Judged) → result ≡ begin_answer (phase_of k.stage k.work) k.stored.plant batch → IsResting (phase_of k.stage k.work)
     → batch.first ≡ k.stored.plant.panel.count + 1 → AllAdmitted k.stored.plant (accepted_of batch.entries) → IsOk result
 begun_cause result k batch is rest first all = ok_of result tt (is ∙ next_begun (phase_of k.stage k.work) k.stored.plant batch rest first all)
 
 -- and a checkpoint, before the last epoch
-pub copied_cause : {D : Type 0} (result : Result Unit R.Refused) (k : Held D) → result ≡ checkpoint_answer (phase_of k.stage k.work) k.stored.epoch → phase_of k.stage k.work ≡ at.Idle → ¬ (2 ^ 64 ≤ k.stored.epoch + 1) → IsOk result
+pub copied_cause : {D : Type 0} (result : Result Unit R.Refused) (k : KeeperView D) → result ≡ checkpoint_answer (phase_of k.stage k.work) k.stored.epoch → phase_of k.stage k.work ≡ at.Idle → ¬ (2 ^ 64 ≤ k.stored.epoch + 1) → IsOk result
 copied_cause result k is idle left = by_epoch (cases_eq (k.stored.epoch + 1) (2 ^ 64))
   where
     here : result ≡ checkpoint_answer at.Idle k.stored.epoch

@@ -1,5 +1,5 @@
 -- What the calls of a keeper make of an open checkpoint and of the use of its segment.
-use Rattle.std.proofs.Common.{◌≡◌, ◌≢◌, ◌≤◌, ◌+◌, ◌-◌, ◌*◌, ◌/◌, ◌==◌, ℕ, Bool, true, false, List, length, Some, Result, Ok, Err, OnOk, OnErr, IfOk, if◌then◌else◌, refl, sym, ◌∙◌, ap, subst, arith}
+use Rattle.std.proofs.Common.{◌≡◌, ◌≢◌, ◌≤◌, ◌+◌, ◌-◌, ◌*◌, ◌/◌, ◌==◌, ℕ, Bool, true, false, List, length, Some, Result, Ok, Err, OnOk, IfOk, if◌then◌else◌, refl, sym, ◌∙◌, ap, subst, arith}
 use Rattle.std.proofs.lemmas.Bool.{eqb-true, eqb-false, ne_eqb}
 use Rattle.alm_types.specs.declared.action.Action.{Action}
 use Rattle.alm_codec.specs.declared.version.Version.TheVariants.{V02}
@@ -13,11 +13,12 @@ use Rattle.alm_keeper.specs.declared.stage.Work.{Work}
 use Rattle.alm_keeper.specs.declared.stage.Work.TheVariants.{Commit, Checkpoint}
 use Rattle.alm_keeper.specs.Stages.{IsWorking, first_stage, sent_stage, rest_stage, rest_work, phase_of}
 use Rattle.alm_store.specs.Advancing.{IsResting}
-use Rattle.alm_keeper.specs.Keeper.{Held, used, first_run, piece, grown, sends, after_by, BeginsCommit, BeginsCheckpoint, Advances}
+use Rattle.alm_keeper.specs.Keeper.{KeeperView, used_room, first_run, piece, after_frame, sends, after_by, BeginsCommit, BeginsCheckpoint, Progresses}
 use Rattle.alm_store.specs.Pace.{most}
-use Rattle.alm_store.specs.Pace.{Going, KeepsPace}
-use Rattle.alm_keeper.specs.AsStore.{pieces_out, run_of, is_open, going_if, going}
-use Rattle.alm_store.specs.Pacing.{SamePace, IsFresh, Grows, Sends, Goes}
+use Rattle.alm_store.specs.Pace.{Going, IsInPace}
+use Rattle.alm_keeper.specs.AsStore.{pieces_out, run_of, is_checkpoint_open, going_if, going_of, store_state_of}
+use Rattle.alm_keeper.proofs.CallsLeft.{written_more, unwritten}
+use Rattle.alm_store.specs.Pacing.{KeepsPace, SamePace, IsJustOpened, Grows, SendsOnePiece, PaceAfter, Goes}
 
 -- ---- pieces
 
@@ -36,27 +37,27 @@ whole_pieces out run some = ap (λ (b : Bool). if b then out / most + 1 else out
 
 -- ---- calls
 
-module _ {D : Type 0} (k : Held D) where
+module _ {D : Type 0} (k : KeeperView D) where
   abbrev g : Going
   g = run_of k
 
   -- where a call that isn't the last leads
-  abbrev To : Stage → Work → Held D → Type 0
-  To s w h = Goes More (phase_of s w) (used k) (used h) h.written (going_if (is_open s w k.copying) g) (going h)
+  abbrev To : Stage → Work → KeeperView D → Type 0
+  To s w h = PaceAfter More (phase_of s w) (used_room k) (used_room h) h.written (going_if (is_checkpoint_open s w k.copying) g) (going_of h)
 
-  sent_open : (b : Bool) → is_open (if b then BodySync else Body) Checkpoint k.copying ≡ true
+  sent_open : (b : Bool) → is_checkpoint_open (if b then BodySync else Body) Checkpoint k.copying ≡ true
   sent_open true = refl
   sent_open false = refl
 
-  sends_piece : k.out + 1 ≤ k.run → k.work ≡ Checkpoint → Sends (Some g) (going (sends (piece (k.run - k.out)) k))
+  sends_piece : k.out + 1 ≤ k.run → k.work ≡ Checkpoint → SendsOnePiece (Some g) (going_of (sends (piece (k.run - k.out)) k))
   sends_piece some is =
       let n = piece (k.run - k.out) in
       let h : Going = record { since = k.run - first_run k; pieces = pieces_out (k.out + n) k.run } in
-      let goes : is_open (sent_stage (k.out + n) k.run) k.work k.copying ≡ true = ap (λ (w : Work). is_open (sent_stage (k.out + n) k.run) w k.copying) is ∙ sent_open (k.out + n == k.run) in
-      subst (λ (b : Bool). Sends (Some g) (going_if b h)) (sym goes) (refl, more_pieces k.out k.run some)
+      let goes : is_checkpoint_open (sent_stage (k.out + n) k.run) k.work k.copying ≡ true = ap (λ (w : Work). is_checkpoint_open (sent_stage (k.out + n) k.run) w k.copying) is ∙ sent_open (k.out + n == k.run) in
+      subst (λ (b : Bool). SendsOnePiece (Some g) (going_if b h)) (sym goes) (refl, more_pieces k.out k.run some)
 
-  stays : (s t : Stage) (w : Work) → k.work ≡ w → going_if (is_open t w k.copying) g ≡ going_if (is_open s w k.copying) g → going_if (is_open t k.work k.copying) g ≡ going_if (is_open s w k.copying) g
-  stays s t w is same = ap (λ (v : Work). going_if (is_open t v k.copying) g) is ∙ same
+  stays : (s t : Stage) (w : Work) → k.work ≡ w → going_if (is_checkpoint_open t w k.copying) g ≡ going_if (is_checkpoint_open s w k.copying) g → going_if (is_checkpoint_open t k.work k.copying) g ≡ going_if (is_checkpoint_open s w k.copying) g
+  stays s t w is same = ap (λ (v : Work). going_if (is_checkpoint_open t v k.copying) g) is ∙ same
 
   goes_by : (s : Stage) (w : Work) → k.work ≡ w → s ≢ GateSync → IsWorking s → (s ≡ Body → w ≡ Checkpoint → k.out + 1 ≤ k.run) → To s w (after_by s w k)
   goes_by Idle w is not works some = absurd works
@@ -75,16 +76,16 @@ module _ {D : Type 0} (k : Held D) where
 
   -- a frame goes out with the checkpoint that is open
   grows : (c : Bool) → (c ≡ true → k.out + 1 ≤ k.run) → k.image ≤ 3289168 → length k.actions ≤ 256
-      → Grows (going_if c g) (going_if (is_open (rest_stage c) (rest_work c) c) (record { since = grown c k.run (length k.actions) - first_run k; pieces = pieces_out k.out (grown c k.run (length k.actions)) }))
+      → Grows (going_if c g) (going_if (is_checkpoint_open (rest_stage c) (rest_work c) c) (record { since = after_frame c k.run (length k.actions) - first_run k; pieces = pieces_out k.out (after_frame c k.run (length k.actions)) }))
   grows false to_come small few = refl
   grows true to_come small few =
       let some = to_come refl in
       let now = whole_pieces k.out k.run some in
-      let later = whole_pieces k.out (grown true k.run (length k.actions)) (omega (arith, some)) in
+      let later = whole_pieces k.out (after_frame true k.run (length k.actions)) (omega (arith, some)) in
       (omega arith, omega (arith, few), later ∙ sym now, omega (arith, now, some, small))
 
   ends_by : (w : Work) → (w ≡ Commit → (length k.actions ≤ 256) × (k.copying ≡ true → k.out + 1 ≤ k.run)) → k.image ≤ 3289168
-      → Goes Done (phase_of GateSync w) (used k) (used (after_by GateSync w k)) (after_by GateSync w k).written (going_if (is_open GateSync w k.copying) g) (going (after_by GateSync w k))
+      → PaceAfter Done (phase_of GateSync w) (used_room k) (used_room (after_by GateSync w k)) (after_by GateSync w k).written (going_if (is_checkpoint_open GateSync w k.copying) g) (going_of (after_by GateSync w k))
   ends_by Commit frame small = let f = frame refl in (omega (arith, f.0), refl, grows k.copying f.1 small f.0)
   ends_by Checkpoint frame small = (omega arith, refl)
 
@@ -112,43 +113,52 @@ module _ {D : Type 0} (k : Held D) where
   segment_by GateSync Commit = refl
   segment_by GateSync Checkpoint = refl
 
-module _ {D : Type 0} (old new : Held D) where
-  pub segment_stays : (result : Progress) → Advances result old new → new.segment ≡ old.segment
-  segment_stays More goes = ap (λ (k : Held D). k.segment) goes.1 ∙ segment_by old old.stage old.work
-  segment_stays Done goes = ap (λ (k : Held D). k.segment) goes.1 ∙ segment_by old old.stage old.work
-  segment_stays Failed goes = ap (λ (k : Held D). k.segment) goes
+module _ {D : Type 0} (old new : KeeperView D) where
+  segment_stays : (result : Progress) → Progresses result old new → new.segment ≡ old.segment
+  segment_stays More goes = ap (λ (k : KeeperView D). k.segment) goes.1 ∙ segment_by old old.stage old.work
+  segment_stays Done goes = ap (λ (k : KeeperView D). k.segment) goes.1 ∙ segment_by old old.stage old.work
+  segment_stays Failed goes = ap (λ (k : KeeperView D). k.segment) goes
 
-  pub newest_stays : (result : Progress) → Advances result old new → old.stored.version ≡ V02 → new.stored.version ≡ V02
-  newest_stays More goes is = ap (λ (k : Held D). k.stored.version) goes.1 ∙ version_by old old.stage old.work is
-  newest_stays Done goes is = ap (λ (k : Held D). k.stored.version) goes.1 ∙ version_by old old.stage old.work is
-  newest_stays Failed goes is = ap (λ (k : Held D). k.stored.version) goes ∙ is
+  pub newest_stays : (result : Progress) → Progresses result old new → old.stored.version ≡ V02 → new.stored.version ≡ V02
+  newest_stays More goes is = ap (λ (k : KeeperView D). k.stored.version) goes.1 ∙ version_by old old.stage old.work is
+  newest_stays Done goes is = ap (λ (k : KeeperView D). k.stored.version) goes.1 ∙ version_by old old.stage old.work is
+  newest_stays Failed goes is = ap (λ (k : KeeperView D). k.stored.version) goes ∙ is
 
   pub newest_begun : (result : Result Unit Refused) (actions : List Action) → BeginsCommit result actions old new → old.stored.version ≡ V02 → new.stored.version ≡ V02
-  newest_begun (Ok u) actions begins is = ap (λ (k : Held D). k.stored.version) begins ∙ is
-  newest_begun (Err (no.NotAccepted place)) actions begins is = ap (λ (k : Held D). k.stored.version) begins ∙ is
-  newest_begun (Err no.Stopped) actions begins is = ap (λ (k : Held D). k.stored.version) begins ∙ is
-  newest_begun (Err no.Working) actions begins is = ap (λ (k : Held D). k.stored.version) begins ∙ is
-  newest_begun (Err no.Gap) actions begins is = ap (λ (k : Held D). k.stored.version) begins ∙ is
-  newest_begun (Err no.Exhausted) actions begins is = ap (λ (k : Held D). k.stored.version) begins ∙ is
+  newest_begun (Ok u) actions begins is = ap (λ (k : KeeperView D). k.stored.version) begins ∙ is
+  newest_begun (Err (no.NotAccepted place)) actions begins is = ap (λ (k : KeeperView D). k.stored.version) begins ∙ is
+  newest_begun (Err no.Stopped) actions begins is = ap (λ (k : KeeperView D). k.stored.version) begins ∙ is
+  newest_begun (Err no.Working) actions begins is = ap (λ (k : KeeperView D). k.stored.version) begins ∙ is
+  newest_begun (Err no.Gap) actions begins is = ap (λ (k : KeeperView D). k.stored.version) begins ∙ is
+  newest_begun (Err no.Exhausted) actions begins is = ap (λ (k : KeeperView D). k.stored.version) begins ∙ is
 
   pub newest_copied : (result : Result Unit Refused) → BeginsCheckpoint result old new → old.stored.version ≡ V02 → new.stored.version ≡ V02
-  newest_copied (Ok u) begins is = ap (λ (k : Held D). k.stored.version) begins ∙ is
-  newest_copied (Err why) begins is = ap (λ (k : Held D). k.stored.version) begins ∙ is
+  newest_copied (Ok u) begins is = ap (λ (k : KeeperView D). k.stored.version) begins ∙ is
+  newest_copied (Err why) begins is = ap (λ (k : KeeperView D). k.stored.version) begins ∙ is
+
+  pace_after : (result : Progress) → IsWorking old.stage → old.image ≤ 3289168 → (IsWorking old.stage → old.work ≡ Commit → (length old.actions ≤ 256) × (old.copying ≡ true → old.out + 1 ≤ old.run))
+      → (old.stage ≡ Body → old.work ≡ Checkpoint → old.out + 1 ≤ old.run) → Progresses result old new → PaceAfter result (phase_of old.stage old.work) (used_room old) (used_room new) new.written (going_of old) (going_of new)
+  pace_after More works small frame some goes =
+      subst (λ (h : KeeperView D). PaceAfter More (phase_of old.stage old.work) (used_room old) (used_room h) h.written (going_of old) (going_of h)) (sym goes.1)
+      (goes_by old old.stage old.work refl goes.0 works some)
+  pace_after Done works small frame some goes =
+      subst (λ (h : KeeperView D). PaceAfter Done (phase_of old.stage old.work) (used_room old) (used_room h) h.written (going_of old) (going_of h)) (sym goes.1)
+      (subst (λ (s : Stage). PaceAfter Done (phase_of s old.work) (used_room old) (used_room (after_by s old.work old)) (after_by s old.work old).written (going_if (is_checkpoint_open s old.work old.copying) (run_of old)) (going_of (after_by s old.work old))) (sym goes.0)
+      (ends_by old old.work (λ is. frame works is) small))
+  pace_after Failed works small frame some goes = tt
 
   pub goes_on : (result : Progress) → IsWorking old.stage → old.image ≤ 3289168 → (IsWorking old.stage → old.work ≡ Commit → (length old.actions ≤ 256) × (old.copying ≡ true → old.out + 1 ≤ old.run))
-      → (old.stage ≡ Body → old.work ≡ Checkpoint → old.out + 1 ≤ old.run) → Advances result old new → Goes result (phase_of old.stage old.work) (used old) (used new) new.written (going old) (going new)
-  goes_on More works small frame some goes =
-      subst (λ (h : Held D). Goes More (phase_of old.stage old.work) (used old) (used h) h.written (going old) (going h)) (sym goes.1)
-      (goes_by old old.stage old.work refl goes.0 works some)
-  goes_on Done works small frame some goes =
-      subst (λ (h : Held D). Goes Done (phase_of old.stage old.work) (used old) (used h) h.written (going old) (going h)) (sym goes.1)
-      (subst (λ (s : Stage). Goes Done (phase_of s old.work) (used old) (used (after_by s old.work old)) (after_by s old.work old).written (going_if (is_open s old.work old.copying) (run_of old)) (going (after_by s old.work old))) (sym goes.0)
-      (ends_by old old.work (λ is. frame works is) small))
-  goes_on Failed works small frame some goes = tt
+      → (old.stage ≡ Body → old.work ≡ Checkpoint → old.out + 1 ≤ old.run) → Progresses result old new → Goes result (store_state_of old) (store_state_of new)
+  goes_on result works small frame some goes = record {
+    segment = segment_stays result goes;
+    written = written_more result old new goes;
+    unwritten = unwritten result old new goes;
+    pace = pace_after result works small frame some goes;
+  }
 
   -- ---- beginnings
 
-  rest_open : (s : Stage) (w : Work) (c : Bool) → IsResting (phase_of s w) → (s ≡ Idle → c ≡ false) → (IsWorking s → w ≡ Checkpoint → c ≡ true) → c ≡ is_open s w c
+  rest_open : (s : Stage) (w : Work) (c : Bool) → IsResting (phase_of s w) → (s ≡ Idle → c ≡ false) → (IsWorking s → w ≡ Checkpoint → c ≡ true) → c ≡ is_checkpoint_open s w c
   rest_open Idle w c rest off on = off refl
   rest_open Stopped w c rest off on = absurd rest
   rest_open Close Commit c rest off on = absurd rest
@@ -164,14 +174,14 @@ module _ {D : Type 0} (old new : Held D) where
   rest_open GateSync Commit c rest off on = absurd rest
   rest_open GateSync Checkpoint c rest off on = absurd rest
 
-  abbrev Stays : Held D → Type 0
-  Stays h = SamePace (used old) (used h) old.segment h.segment (going old) (going h)
+  abbrev Stays : KeeperView D → Type 0
+  Stays h = SamePace (store_state_of old) (store_state_of h)
 
   pub begun_pace : (result : Result Unit Refused) (actions : List Action) → (old.stage ≡ Idle → old.copying ≡ false) → (IsWorking old.stage → old.work ≡ Checkpoint → old.copying ≡ true)
       → BeginsCommit result actions old new → IsResting (phase_of old.stage old.work) → Stays new
   begun_pace result actions off on begins rest = by_result result begins
     where
-      same : going_if old.copying (run_of old) ≡ going old
+      same : going_if old.copying (run_of old) ≡ going_of old
       same = ap (λ (b : Bool). going_if b (run_of old)) (rest_open old.stage old.work old.copying rest off on)
 
       by_result : (result : Result Unit Refused) → BeginsCommit result actions old new → Stays new
@@ -182,25 +192,21 @@ module _ {D : Type 0} (old new : Held D) where
       by_result (Err no.Gap) begins = subst Stays (sym begins) (refl, refl, refl)
       by_result (Err no.Exhausted) begins = subst Stays (sym begins) (refl, refl, refl)
 
-  first_open : (b : Bool) → is_open (first_stage b) Checkpoint true ≡ true
+  first_open : (b : Bool) → is_checkpoint_open (first_stage b) Checkpoint true ≡ true
   first_open true = refl
   first_open false = refl
 
-  pub fresh : (result : Result Unit Refused) → BeginsCheckpoint result old new → OnOk result (IsFresh (going new))
+  pub fresh : (result : Result Unit Refused) → BeginsCheckpoint result old new → OnOk result (IsJustOpened (going_of new))
   fresh (Ok u) begins =
       let n : Going = record { since = first_run old - first_run old; pieces = pieces_out 0 (first_run old) } in
-      subst (λ (h : Held D). IsFresh (going h)) (sym begins) (subst (λ (b : Bool). IsFresh (going_if b n)) (sym (first_open old.other_open)) (omega arith))
+      subst (λ (h : KeeperView D). IsJustOpened (going_of h)) (sym begins) (subst (λ (b : Bool). IsJustOpened (going_if b n)) (sym (first_open old.other_open)) (omega arith))
   fresh (Err why) begins = tt
 
-  pub not_begun : (result : Result Unit Refused) → BeginsCheckpoint result old new → OnErr result (going new ≡ going old)
-  not_begun (Ok u) begins = tt
-  not_begun (Err why) begins = ap going begins
-
 -- a keeper that is opened has no checkpoint open
-pub opened_pace : {D : Type 0} (k : Held D) → k.stage ≡ Idle → 2 * used k ≤ k.segment → KeepsPace k.segment (phase_of k.stage k.work) (used k) k.written (going k)
+pub opened_pace : {D : Type 0} (k : KeeperView D) → k.stage ≡ Idle → 2 * used_room k ≤ k.segment → KeepsPace (store_state_of k)
 opened_pace k idle half =
-    subst (KeepsPace k.segment (phase_of k.stage k.work) (used k) k.written)
-    (ap (λ (s : Stage). going_if (is_open s k.work k.copying) (run_of k)) (sym idle)) half
+    subst (IsInPace k.segment (phase_of k.stage k.work) (used_room k) k.written)
+    (ap (λ (s : Stage). going_if (is_checkpoint_open s k.work k.copying) (run_of k)) (sym idle)) half
 
 pub if_ok : {A : Type 0} {E : Type 0} {P Q : A → Type 0} (result : Result A E) → IfOk result P → ((a : A) → P a → Q a) → IfOk result Q
 if_ok (Ok a) p f = f a p

@@ -1,9 +1,8 @@
 -- What the calls of a keeper make of its phase and its plants.
-use Rattle.std.proofs.Common.{◌≡◌, ◌≢◌, ◌↔◌, ◌+◌, ◌-◌, ◌==◌, Bool, true, false, List, if◌then◌else◌, Result, Ok, Err, OnOk, OnErr, refl, sym, ◌∙◌, ap, subst}
+use Rattle.std.proofs.Common.{◌≡◌, ◌≢◌, ◌↔◌, ◌≤◌, ◌+◌, ◌-◌, ◌==◌, Bool, true, false, List, if◌then◌else◌, Result, Ok, Err, OnOk, OnErr, refl, sym, ◌∙◌, ap, subst}
 use Rattle.alm_types.specs.declared.action.Action.{Action}
 use Rattle.alm_types.specs.Batches.{Judged}
 use Rattle.alm_model.specs.Plant.{Condensed}
-use Rattle.alm_model.specs.Step.{run}
 use Rattle.alm_store.specs.declared.phase.Phase.{Phase}
 use Rattle.alm_store.specs.declared.phase.Phase.TheVariants as at
 use Rattle.alm_store.specs.declared.progress.Progress.{Progress}
@@ -15,11 +14,13 @@ use Rattle.alm_keeper.specs.declared.stage.Stage.TheVariants.{Idle, Close, Close
 use Rattle.alm_keeper.specs.declared.stage.Work.{Work}
 use Rattle.alm_keeper.specs.declared.stage.Work.TheVariants.{Commit, Checkpoint}
 use Rattle.alm_keeper.specs.Stages.{IsWorking, first_stage, sent_stage, rest_stage, rest_work, phase_of}
-use Rattle.alm_store.specs.Advancing.{IsResting}
-use Rattle.alm_keeper.specs.Keeper.{Held, Standing, next, next_by, begun_by, piece, commits, after, after_by, begin_answer, checkpoint_answer, BeginsCommit, BeginsCheckpoint, Advances}
-use Rattle.alm_store.specs.Advancing.{Advanced, IsOpen}
+use Rattle.alm_keeper.specs.Keeper.{KeeperView, Standing, next, next_by, begun_by, piece, commits, after_call, after_by, begin_answer, checkpoint_answer, BeginsCommit, BeginsCheckpoint, Progresses}
+use Rattle.alm_model.specs.Rules.{admits_all}
+use Rattle.alm_store.specs.Advancing.{Advanced, CheckpointIsNotOpened, CheckpointIsOpened, CommitIsBegun, CommitIsNotBegun, IsOpen, IsResting}
+use Rattle.alm_store.specs.Pacing.{IsJustOpened}
 use Rattle.alm_keeper.specs.StoreLaws.{rests}
-use Rattle.alm_keeper.proofs.CallsLeft.{next_kept, same_next, stored_kept, first_next}
+use Rattle.alm_keeper.specs.AsStore.{store_state_of, going_of}
+use Rattle.alm_keeper.proofs.CallsLeft.{Left, fewer, idle_then, next_kept, same_next, stored_kept, first_next}
 
 -- a call that isn't the last leaves a commit a commit, and another work another one
 abbrev Moves : (p p' : Phase) → Type 0
@@ -44,7 +45,7 @@ sent_moves : (b : Bool) → Moves at.Paused (phase_of (if b then BodySync else B
 sent_moves true = pause_copies
 sent_moves false = pause_moves
 
-module _ {D : Type 0} (k : Held D) where
+module _ {D : Type 0} (k : KeeperView D) where
   abbrev To : Stage → Work → Phase → Type 0
   To s w p = Moves p (phase_of s w)
 
@@ -65,7 +66,7 @@ module _ {D : Type 0} (k : Held D) where
   moves_by GateSync w is not works = absurd (not refl)
 
   -- a work is done
-  abbrev Ends : Held D → Condensed → Type 0
+  abbrev Ends : KeeperView D → Condensed → Type 0
   Ends new q = (phase_of new.stage new.work ≢ at.Committing) × (phase_of new.stage new.work ≢ at.Stopped) × (new.stored.plant ≡ q) × ((next new).plant ≡ q)
 
   commit_ends : (b : Bool) → k.copying ≡ b → Ends (commits k) (begun_by Commit k).plant
@@ -96,33 +97,34 @@ next_working BodySync stored begun is = refl
 next_working Gate stored begun is = refl
 next_working GateSync stored begun is = refl
 
-begun_stays : {D : Type 0} (k : Held D) (disk : D) (s : Stage) (w : Work) → begun_by w (record k { disk = disk; stage = s }) ≡ begun_by w k
+begun_stays : {D : Type 0} (k : KeeperView D) (disk : D) (s : Stage) (w : Work) → begun_by w (record k { disk = disk; stage = s }) ≡ begun_by w k
 begun_stays k disk s Commit = refl
 begun_stays k disk s Checkpoint = refl
 
-module _ {D : Type 0} (old new : Held D) (works : IsWorking old.stage) where
-  pub advanced : (result : Progress) → Advances result old new → Advanced result (phase_of old.stage old.work) (phase_of new.stage new.work) old.stored.plant (next old).plant new.stored.plant (next new).plant
-  advanced More goes =
+module _ {D : Type 0} (old new : KeeperView D) (works : IsWorking old.stage) where
+  pub advanced : (result : Progress) → (old.work ≡ Checkpoint → old.out ≤ old.run) → Progresses result old new → Advanced result (store_state_of old) (store_state_of new)
+  advanced More runs goes =
       let m = moves_by old old.stage old.work refl goes.0 works in
-      let moves : Moves (phase_of old.stage old.work) (phase_of new.stage new.work) = subst (λ (k : Held D). Moves (phase_of old.stage old.work) (phase_of k.stage k.work)) (sym goes.1) m in (
+      let moves : Moves (phase_of old.stage old.work) (phase_of new.stage new.work) = subst (λ (k : KeeperView D). Moves (phase_of old.stage old.work) (phase_of k.stage k.work)) (sym goes.1) m in (
         moves.0,
         moves.1,
         moves.2,
-        ap (λ (k : Held D). k.stored.plant) goes.1 ∙ ap (λ (s : Standing). s.plant) (stored_kept old old.stage old.work goes.0),
-        ap (λ (k : Held D). (next k).plant) goes.1 ∙ ap (λ (s : Standing). s.plant) (same_next (after old) new.disk ∙ next_kept old old.stage old.work refl goes.0 works),
+        ap (λ (k : KeeperView D). k.stored.plant) goes.1 ∙ ap (λ (s : Standing). s.plant) (stored_kept old old.stage old.work goes.0),
+        ap (λ (k : KeeperView D). (next k).plant) goes.1 ∙ ap (λ (s : Standing). s.plant) (same_next (after_call old) new.disk ∙ next_kept old old.stage old.work refl goes.0 works),
+        fewer old new works runs goes,
       )
-  advanced Done goes =
-      let is : after old ≡ after_by GateSync old.work old = ap (λ (s : Stage). after_by s old.work old) goes.0 in
+  advanced Done runs goes =
+      let is : after_call old ≡ after_by GateSync old.work old = ap (λ (s : Stage). after_by s old.work old) goes.0 in
       let e = ends_by old old.work in
       let n : (next old).plant ≡ (begun_by old.work old).plant = ap (λ (s : Standing). s.plant) (next_working old.stage old.stored (begun_by old.work old) works) in
       let here : Ends old new (begun_by old.work old).plant =
-      subst (λ (k : Held D). Ends old k (begun_by old.work old).plant) (sym goes.1)
-      (subst (λ (k : Held D). Ends old (record k { disk = new.disk }) (begun_by old.work old).plant) (sym is) (e.0, e.1, e.2, ap (λ (s : Standing). s.plant) (same_next (after_by GateSync old.work old) new.disk) ∙ e.3)) in
-      (here.0, here.1, here.2 ∙ sym n, here.3 ∙ sym n)
-  advanced Failed goes = (
-    ap (λ (k : Held D). phase_of k.stage k.work) goes,
-    ap (λ (k : Held D). k.stored.plant) goes,
-    ap (λ (k : Held D). (next k).plant) goes ∙ ap (λ (s : Standing). s.plant) (begun_stays old new.disk Stopped old.work ∙ sym (next_working old.stage old.stored (begun_by old.work old) works)),
+      subst (λ (k : KeeperView D). Ends old k (begun_by old.work old).plant) (sym goes.1)
+      (subst (λ (k : KeeperView D). Ends old (record k { disk = new.disk }) (begun_by old.work old).plant) (sym is) (e.0, e.1, e.2, ap (λ (s : Standing). s.plant) (same_next (after_by GateSync old.work old) new.disk) ∙ e.3)) in
+      (here.0, here.1, here.2 ∙ sym n, here.3 ∙ sym n, idle_then old new goes)
+  advanced Failed runs goes = (
+    ap (λ (k : KeeperView D). phase_of k.stage k.work) goes,
+    ap (λ (k : KeeperView D). k.stored.plant) goes,
+    ap (λ (k : KeeperView D). (next k).plant) goes ∙ ap (λ (s : Standing). s.plant) (begun_stays old new.disk Stopped old.work ∙ sym (next_working old.stage old.stored (begun_by old.work old) works)),
   )
 
 -- ---- beginnings
@@ -155,34 +157,46 @@ first_open : (b : Bool) → IsOpen (phase_of (first_stage b) Checkpoint)
 first_open true = tt
 first_open false = tt
 
-module _ {D : Type 0} (old new : Held D) where
-  pub begun_phase : (result : Result Unit R.Refused) (actions : List Action) (batch : Judged) → result ≡ begin_answer (phase_of old.stage old.work) old.stored.plant batch → BeginsCommit result actions old new
-      → OnOk result (IsResting (phase_of old.stage old.work) × (phase_of new.stage new.work ≡ at.Committing) × ((next new).plant ≡ run old.stored.plant actions))
-  begun_phase (Ok x) actions batch is goes = (began (phase_of old.stage old.work) old.stored.plant batch x (sym is), ap (λ (k : Held D). phase_of k.stage k.work) goes, ap (λ (k : Held D). (next k).plant) goes)
-  begun_phase (Err why) actions batch is goes = tt
+module _ {D : Type 0} (old new : KeeperView D) where
+  pub begun_commit : (result : Result Unit R.Refused) (actions : List Action) (batch : Judged) → result ≡ begin_answer (phase_of old.stage old.work) old.stored.plant batch → BeginsCommit result actions old new
+      → OnOk result (admits_all old.stored.plant actions ≡ true) → OnOk result (Left new ≤ 4) → OnOk result (CommitIsBegun actions (store_state_of old) (store_state_of new))
+  begun_commit (Ok x) actions batch is goes admitted calls = record {
+    resting = began (phase_of old.stage old.work) old.stored.plant batch x (sym is);
+    committing = ap (λ (k : KeeperView D). phase_of k.stage k.work) goes;
+    next = ap (λ (k : KeeperView D). (next k).plant) goes;
+    admitted = admitted;
+    calls = calls;
+  }
+  begun_commit (Err why) actions batch is goes admitted calls = tt
 
   pub refused_phase : (result : Result Unit R.Refused) (actions : List Action) → BeginsCommit result actions old new → IsResting (phase_of old.stage old.work)
-      → OnErr result ((phase_of new.stage new.work ≢ at.Committing) × ((next new).plant ≡ (next old).plant))
+      → OnErr result (CommitIsNotBegun (store_state_of old) (store_state_of new))
   refused_phase (Ok x) actions goes rest = tt
   refused_phase (Err (no.NotAccepted place)) actions goes rest =
       let o = resting_other (phase_of old.stage old.work) rest in
-      let p : phase_of new.stage new.work ≡ at.Stopped = ap (λ (k : Held D). phase_of k.stage k.work) goes in (
+      let p : phase_of new.stage new.work ≡ at.Stopped = ap (λ (k : KeeperView D). phase_of k.stage k.work) goes in (
         λ e. absurd (stopped (sym p ∙ e)),
-        ap (λ (k : Held D). (next k).plant) goes ∙ sym (rests old o.0 o.1),
+        ap (λ (k : KeeperView D). (next k).plant) goes ∙ sym (rests old o.0 o.1),
       )
     where
       stopped : at.Stopped ≡ at.Committing → ⊥
       stopped e = absurd cc
-  refused_phase (Err no.Stopped) actions goes rest = (λ e. (resting_other (phase_of old.stage old.work) rest).0 (sym (ap (λ (k : Held D). phase_of k.stage k.work) goes) ∙ e), ap (λ (k : Held D). (next k).plant) goes)
-  refused_phase (Err no.Working) actions goes rest = (λ e. (resting_other (phase_of old.stage old.work) rest).0 (sym (ap (λ (k : Held D). phase_of k.stage k.work) goes) ∙ e), ap (λ (k : Held D). (next k).plant) goes)
-  refused_phase (Err no.Gap) actions goes rest = (λ e. (resting_other (phase_of old.stage old.work) rest).0 (sym (ap (λ (k : Held D). phase_of k.stage k.work) goes) ∙ e), ap (λ (k : Held D). (next k).plant) goes)
-  refused_phase (Err no.Exhausted) actions goes rest = (λ e. (resting_other (phase_of old.stage old.work) rest).0 (sym (ap (λ (k : Held D). phase_of k.stage k.work) goes) ∙ e), ap (λ (k : Held D). (next k).plant) goes)
+  refused_phase (Err no.Stopped) actions goes rest = (λ e. (resting_other (phase_of old.stage old.work) rest).0 (sym (ap (λ (k : KeeperView D). phase_of k.stage k.work) goes) ∙ e), ap (λ (k : KeeperView D). (next k).plant) goes)
+  refused_phase (Err no.Working) actions goes rest = (λ e. (resting_other (phase_of old.stage old.work) rest).0 (sym (ap (λ (k : KeeperView D). phase_of k.stage k.work) goes) ∙ e), ap (λ (k : KeeperView D). (next k).plant) goes)
+  refused_phase (Err no.Gap) actions goes rest = (λ e. (resting_other (phase_of old.stage old.work) rest).0 (sym (ap (λ (k : KeeperView D). phase_of k.stage k.work) goes) ∙ e), ap (λ (k : KeeperView D). (next k).plant) goes)
+  refused_phase (Err no.Exhausted) actions goes rest = (λ e. (resting_other (phase_of old.stage old.work) rest).0 (sym (ap (λ (k : KeeperView D). phase_of k.stage k.work) goes) ∙ e), ap (λ (k : KeeperView D). (next k).plant) goes)
 
-  pub opened_phase : (result : Result Unit R.Refused) → result ≡ checkpoint_answer (phase_of old.stage old.work) old.stored.epoch → BeginsCheckpoint result old new
-      → OnOk result ((phase_of old.stage old.work ≡ at.Idle) × IsOpen (phase_of new.stage new.work) × ((next new).plant ≡ old.stored.plant))
-  opened_phase (Ok x) is goes = (
-    opened old.stage old.work old.stored.epoch x (sym is),
-    subst IsOpen (sym (ap (λ (k : Held D). phase_of k.stage k.work) goes)) (first_open old.other_open),
-    ap (λ (k : Held D). (next k).plant) goes ∙ ap (λ (s : Standing). s.plant) (first_next old.other_open old.stored _),
-  )
-  opened_phase (Err why) is goes = tt
+  pub opened_checkpoint : (result : Result Unit R.Refused) → result ≡ checkpoint_answer (phase_of old.stage old.work) old.stored.epoch → BeginsCheckpoint result old new → OnOk result (Left new ≤ 320)
+      → OnOk result (IsJustOpened (going_of new)) → OnOk result (CheckpointIsOpened (store_state_of old) (store_state_of new))
+  opened_checkpoint (Ok x) is goes calls fresh = record {
+    idle = opened old.stage old.work old.stored.epoch x (sym is);
+    is_open = subst IsOpen (sym (ap (λ (k : KeeperView D). phase_of k.stage k.work) goes)) (first_open old.other_open);
+    next = ap (λ (k : KeeperView D). (next k).plant) goes ∙ ap (λ (s : Standing). s.plant) (first_next old.other_open old.stored _);
+    calls = calls;
+    fresh = fresh;
+  }
+  opened_checkpoint (Err why) is goes calls fresh = tt
+
+  pub not_opened : (result : Result Unit R.Refused) → BeginsCheckpoint result old new → OnErr result (CheckpointIsNotOpened (store_state_of old) (store_state_of new))
+  not_opened (Ok x) goes = tt
+  not_opened (Err why) goes = (ap (λ (k : KeeperView D). phase_of k.stage k.work) goes, ap (λ (k : KeeperView D). (next k).plant) goes, ap going_of goes)

@@ -12,18 +12,18 @@ use Rattle.alm_model.specs.Rules.{AreAdmitted}
 use Rattle.alm_codec.specs.Reading.{◌>>=◌}
 use Rattle.alm_model.specs.Rules.{AllAdmitted}
 use Rattle.alm_model.specs.Judging.{when_accepted, accepted_of}
-use Rattle.alm_keeper.specs.Batch.{unless_refused, tried_one, tried, Tries}
+use Rattle.alm_keeper.specs.Batch.{or_place, tried_one, tried_batch, Tries}
 use Rattle.alm_model.proofs.Runs.{admitted_join, run_append}
 
 module _ (entries : List Entry) (place : ℕ) (e : Entry) (lt : place < length entries) (is : e ≡ get_or entries place e) where
   at : drop place entries ≡ e ∷ drop (place + 1) entries
   at = drop_more entries place e lt ∙ ap (λ (x : Entry). x ∷ drop (place + 1) entries) (sym is)
 
-  pub same_more : (q now new : Condensed) (before after : List Action) → tried q 0 entries ≡ tried now place (drop place entries) → Tries now new e.verdict before after → tried q 0 entries ≡ tried new (place + 1) (drop (place + 1) entries)
-  same_more q now new before after same t = same ∙ ap (tried now place) at ∙ ap (λ (r : Result Condensed ℕ). r >>= λ x. tried x (place + 1) (drop (place + 1) entries)) (t.tried place)
+  pub same_more : (q now new : Condensed) (before after : List Action) → tried_batch q 0 entries ≡ tried_batch now place (drop place entries) → Tries now new e.verdict before after → tried_batch q 0 entries ≡ tried_batch new (place + 1) (drop (place + 1) entries)
+  same_more q now new before after same t = same ∙ ap (tried_batch now place) at ∙ ap (λ (r : Result Condensed ℕ). r >>= λ x. tried_batch x (place + 1) (drop (place + 1) entries)) (t.tried place)
 
-  pub same_none : (q now : Condensed) → tried q 0 entries ≡ tried now place (drop place entries) → tried_one now place e.verdict ≡ Err place → tried q 0 entries ≡ Err place
-  same_none q now same t = same ∙ ap (tried now place) at ∙ ap (λ (r : Result Condensed ℕ). r >>= λ x. tried x (place + 1) (drop (place + 1) entries)) t
+  pub same_none : (q now : Condensed) → tried_batch q 0 entries ≡ tried_batch now place (drop place entries) → tried_one now place e.verdict ≡ Err place → tried_batch q 0 entries ≡ Err place
+  same_none q now same t = same ∙ ap (tried_batch now place) at ∙ ap (λ (r : Result Condensed ℕ). r >>= λ x. tried_batch x (place + 1) (drop (place + 1) entries)) t
 
   pub actions_more : (now new : Condensed) (before after : List Action) → accepted_of entries ≡ before ++ accepted_of (drop place entries) → Tries now new e.verdict before after → accepted_of entries ≡ after ++ accepted_of (drop (place + 1) entries)
   actions_more now new before after so_far t =
@@ -45,11 +45,11 @@ accepted_few (e ∷ entries) = omega (arith, accepted_few entries, length-append
     one (Refused why count) = omega arith
 
 -- a batch of admitted actions is taken
-tried_first : (q : Condensed) (place : ℕ) (v : Verdict) (entries : List Entry) → ((r : Condensed) → AllAdmitted r (accepted_of entries) → tried r (place + 1) entries ≡ Ok (run r (accepted_of entries)))
-    → AllAdmitted q (when_accepted v ++ accepted_of entries) → (tried_one q place v >>= λ r. tried r (place + 1) entries) ≡ Ok (run q (when_accepted v ++ accepted_of entries))
-tried_first q place (Accepted x) entries others p = ap (λ (r : Option Refusal). unless_refused r place (step q x) >>= λ r. tried r (place + 1) entries) p.0 ∙ others (step q x) p.1
+tried_first : (q : Condensed) (place : ℕ) (v : Verdict) (entries : List Entry) → ((r : Condensed) → AllAdmitted r (accepted_of entries) → tried_batch r (place + 1) entries ≡ Ok (run r (accepted_of entries)))
+    → AllAdmitted q (when_accepted v ++ accepted_of entries) → (tried_one q place v >>= λ r. tried_batch r (place + 1) entries) ≡ Ok (run q (when_accepted v ++ accepted_of entries))
+tried_first q place (Accepted x) entries others p = ap (λ (r : Option Refusal). or_place r place (step q x) >>= λ r. tried_batch r (place + 1) entries) p.0 ∙ others (step q x) p.1
 tried_first q place (Refused why count) entries others p = others q p
 
-pub tried_admitted : (q : Condensed) (place : ℕ) (entries : List Entry) → AllAdmitted q (accepted_of entries) → tried q place entries ≡ Ok (run q (accepted_of entries))
+pub tried_admitted : (q : Condensed) (place : ℕ) (entries : List Entry) → AllAdmitted q (accepted_of entries) → tried_batch q place entries ≡ Ok (run q (accepted_of entries))
 tried_admitted q place [] a = refl
 tried_admitted q place (e ∷ entries) a = tried_first q place e.verdict entries (λ r p. tried_admitted r (place + 1) entries p) a

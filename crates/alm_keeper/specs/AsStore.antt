@@ -3,9 +3,10 @@ use Rattle.std.specs.Prelude.{◌+◌, ◌-◌, ◌/◌, ◌^◌, ◌==◌, ℕ,
 use Rattle.alm_disk.specs.Device.{DeviceState}
 use Rattle.alm_model.specs.Plant.{Condensed}
 use Rattle.alm_checkpoint.specs.Standing.{Stands}
-use Rattle.alm_keeper.specs.Keeper.{Held, first_run}
-use Rattle.alm_store.specs.Pace.{most}
-use Rattle.alm_store.specs.Pace.{Going}
+use Rattle.alm_keeper.specs.Keeper.{KeeperView, first_run, next, used_room}
+use Rattle.alm_keeper.specs.Stages.{phase_of}
+use Rattle.alm_store.specs.Pace.{Going, most}
+use Rattle.alm_store.specs.State.{StoreState}
 use Rattle.alm_keeper.specs.declared.stage.Stage.{Stage}
 use Rattle.alm_keeper.specs.declared.stage.Stage.TheVariants.{Idle, Close, CloseSync, Body, BodySync, Gate, GateSync}
 use Rattle.alm_keeper.specs.declared.stage.Work.{Work}
@@ -16,8 +17,8 @@ abbrev pub StandsFor : List ℕ → Condensed → Type 0
 StandsFor bytes plant = (epoch : ℕ) × Stands bytes epoch plant
 
 -- the device stands at the last epoch
-abbrev pub IsSpent : DeviceState → Type 0
-IsSpent state = ∥ ((plant : Condensed) × Stands state.bytes (2 ^ 64 - 1) plant) ∥₁
+abbrev pub IsLastEpoch : DeviceState → Type 0
+IsLastEpoch state = ∥ ((plant : Condensed) × Stands state.bytes (2 ^ 64 - 1) plant) ∥₁
 
 -- in how many pieces so many bytes go out
 abbrev pub pieces : ℕ → ℕ
@@ -45,17 +46,31 @@ abbrev pub pieces_out : (out run : ℕ) → ℕ
 pieces_out out run = if out == run then out / most + 1 else out / most
 
 -- one is open
-abbrev pub is_open : Stage → Work → (copying : Bool) → Bool
-is_open Idle work copying = false
-is_open stage Checkpoint copying = true
-is_open stage Commit copying = copying
+abbrev pub is_checkpoint_open : Stage → Work → (copying : Bool) → Bool
+is_checkpoint_open Idle work copying = false
+is_checkpoint_open stage Checkpoint copying = true
+is_checkpoint_open stage Commit copying = copying
 
 abbrev pub going_if : Bool → Going → Option Going
 going_if true g = Some g
 going_if false g = None
 
-abbrev pub run_of : {D : Type 0} → Held D → Going
+abbrev pub run_of : {D : Type 0} → KeeperView D → Going
 run_of k = record { since = k.run - first_run k; pieces = pieces_out k.out k.run }
 
-abbrev pub going : {D : Type 0} → Held D → Option Going
-going k = going_if (is_open k.stage k.work k.copying) (run_of k)
+abbrev pub going_of : {D : Type 0} → KeeperView D → Option Going
+going_of k = going_if (is_checkpoint_open k.stage k.work k.copying) (run_of k)
+
+-- ---- what is told of it
+
+abbrev pub store_state_of : {D : Type 0} → KeeperView D → StoreState
+store_state_of k = record {
+  phase = phase_of k.stage k.work;
+  left = calls_left k.stage k.work (k.run - k.out);
+  stored = k.stored.plant;
+  next = (next k).plant;
+  segment = k.segment;
+  used = used_room k;
+  going = going_of k;
+  written = k.written;
+}

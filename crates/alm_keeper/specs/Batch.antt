@@ -15,18 +15,18 @@ use Rattle.alm_codec.specs.declared.version.Version.{Version}
 use Rattle.alm_codec.specs.Versions.{bears}
 
 -- the plant, unless there is a reason against it
-abbrev pub unless_refused : Option Refusal → ℕ → Condensed → Result Condensed ℕ
-unless_refused None place q = Ok q
-unless_refused (Some why) place q = Err place
+abbrev pub or_place : Option Refusal → ℕ → Condensed → Result Condensed ℕ
+or_place None place q = Ok q
+or_place (Some why) place q = Err place
 
 abbrev pub tried_one : Condensed → ℕ → Verdict → Result Condensed ℕ
-tried_one q place (Accepted a) = unless_refused (refusal q.panel a) place (step q a)
+tried_one q place (Accepted a) = or_place (refusal q.panel a) place (step q a)
 tried_one q place (Refused why count) = Ok q
 
 -- the plant after the actions of entries from a place on, or the place of the first that isn't admitted there
-abbrev pub tried : Condensed → ℕ → List Entry → Result Condensed ℕ
-tried q place [] = Ok q
-tried q place (e ∷ entries) = tried_one q place e.verdict >>= λ r. tried r (place + 1) entries
+abbrev pub tried_batch : Condensed → ℕ → List Entry → Result Condensed ℕ
+tried_batch q place [] = Ok q
+tried_batch q place (e ∷ entries) = tried_one q place e.verdict >>= λ r. tried_batch r (place + 1) entries
 
 -- what trying one entry comes to
 pub record Tries (old new : Condensed) (verdict : Verdict) (before after : List Action) : Type 0 where
@@ -37,7 +37,7 @@ pub record Tries (old new : Condensed) (verdict : Verdict) (before after : List 
 
 -- what trying all of them comes to
 pub record TriesAll (old new : Condensed) (entries : List Entry) (found : List Action) : Type 0 where
-  pub tried : tried old 0 entries ≡ Ok new
+  pub tried : tried_batch old 0 entries ≡ Ok new
   pub actions : found ≡ accepted_of entries
   pub admitted : AreAdmitted old found
   pub plant : new ≡ run old found

@@ -7,11 +7,11 @@ use Rattle.alm_codec.specs.declared.version.Version.{Version}
 use Rattle.alm_codec.specs.Image.{image_text}
 use Rattle.alm_disk.specs.Device.{DeviceState, IsImage, is_within}
 use Rattle.alm_disk.specs.Settled.{IsSettled}
-use Rattle.alm_segment.specs.Course.{is_open}
+use Rattle.alm_segment.specs.Course.{is_gate_open}
 use Rattle.alm_checkpoint.specs.declared.layout.Layout.{Layout}
 use Rattle.alm_checkpoint.specs.declared.half.Half.TheVariants.{Second}
-use Rattle.alm_checkpoint.specs.Layouts.{byte_at, half_at}
-use Rattle.alm_checkpoint.specs.Headers.{half_head_text, suits}
+use Rattle.alm_checkpoint.specs.Layouts.{layout_byte, half_at}
+use Rattle.alm_checkpoint.specs.Headers.{half_head_text, segment_fits}
 use Rattle.alm_checkpoint.specs.declared.fault.Fault.TheVariants.{Unformatted}
 use Rattle.alm_checkpoint.specs.Standing.{HasFault, Stands}
 use Rattle.alm_checkpoint.specs.Opening.{Opened, opened_in}
@@ -24,11 +24,11 @@ IsUnformatted b = HasFault b Unformatted
 pub record IsLongest (size : ℕ) (t : Listing) (l : Layout) : Type 0 where
   pub of_rows : l.rows ≡ length t.alarms
   pub of_areas : l.areas ≡ t.areas
-  pub fits : suits size (length t.alarms) t.areas l.segment ≡ true
-  pub most : (n : ℕ) → suits size (length t.alarms) t.areas n ≡ true → n ≤ l.segment
+  pub fits : segment_fits size (length t.alarms) t.areas l.segment ≡ true
+  pub most : (n : ℕ) → segment_fits size (length t.alarms) t.areas n ≡ true → n ≤ l.segment
 
 -- the bytes stand for the new plant of the table in epoch 1 (its count is 0), with the longest segment that fits twice
-pub record IsNew (size : ℕ) (t : Listing) (bytes : List ℕ) : Type 0 where
+pub record IsNewDevice (size : ℕ) (t : Listing) (bytes : List ℕ) : Type 0 where
   pub stands : Stands bytes 1 (new_plant t)
   pub longest : IsLongest size t stands.opened.layout
 
@@ -42,7 +42,7 @@ pub record IsOfVersion (version : Version) (bytes : List ℕ) : Type 0 where
 -- the header's gate reads closed, and no crash opens it
 pub record IsShut (state : DeviceState) : Type 0 where
   pub stable : state.pending 0 ≡ false
-  pub closed : is_open (byte_at state.bytes 0) ≡ false
+  pub closed : is_gate_open (layout_byte state.bytes 0) ≡ false
 
 -- at any moment of a call a crash leaves a device that isn't formatted
 abbrev pub StaysUnformatted : (old new : DeviceState) → Type 0
@@ -57,25 +57,25 @@ abbrev pub LeavesBefore : (old new : DeviceState) → Type 0
 LeavesBefore old new = (b : List ℕ) → IsImage new b → IsImage (gate_pending old) b
 
 -- these bytes in place of what stood from a place on
-abbrev pub put : ℕ → List ℕ → List ℕ → List ℕ
-put at bytes device = take at device ++ bytes ++ drop (at + length bytes) device
+abbrev pub overwritten : ℕ → List ℕ → List ℕ → List ℕ
+overwritten at bytes device = take at device ++ bytes ++ drop (at + length bytes) device
 
 -- the device with all that is written behind the header's gate: the header, half 0 up to its segment's first gate, half 1's gate,
 -- and half 0's gate, open
-abbrev pub filled : Layout → (header half : List ℕ) → List ℕ → List ℕ
-filled l header half device = put 23 (165 ∷ []) (put (half_at l Second) (0 ∷ []) (put 23 half (put 1 header device)))
+abbrev pub with_empty_half : Layout → (header half : List ℕ) → List ℕ → List ℕ
+with_empty_half l header half device = overwritten 23 (165 ∷ []) (overwritten (half_at l Second) (0 ∷ []) (overwritten 23 half (overwritten 1 header device)))
 
 -- the header's gate is open too
-abbrev pub opened : List ℕ → List ℕ
-opened device = put 0 (165 ∷ []) device
+abbrev pub with_open_gate : List ℕ → List ℕ
+with_open_gate device = overwritten 0 (165 ∷ []) device
 
 -- the device is settled, with the header's gate closed
-abbrev pub IsClosed : DeviceState → Type 0
-IsClosed state = IsSettled state state.bytes × (is_open (byte_at state.bytes 0) ≡ false)
+abbrev pub IsGateClosed : DeviceState → Type 0
+IsGateClosed state = IsSettled state state.bytes × (is_gate_open (layout_byte state.bytes 0) ≡ false)
 
 -- these bytes are those of the device with the header's gate open
 abbrev pub IsOpened : DeviceState → List ℕ → Type 0
-IsOpened state b = b ≡ opened state.bytes
+IsOpened state b = b ≡ with_open_gate state.bytes
 
 -- half 0 from its closed gate on, up to its segment's first gate, also closed
 abbrev pub first_half : Layout → Condensed → List ℕ
@@ -85,7 +85,7 @@ first_half l plant = 0 ∷ (half_head_text l l.version 1 plant.panel.count ++ im
 pub record IsWritten (size : ℕ) (l : Layout) (header half bytes : List ℕ) : Type 0 where
   pub before : List ℕ
   pub long : length before ≡ size
-  pub is : bytes ≡ opened (filled l header half before)
+  pub is : bytes ≡ with_open_gate (with_empty_half l header half before)
 
 -- it is not formatted, or all is written
 abbrev pub MayBe : (size : ℕ) → Layout → (header half : List ℕ) → List ℕ → Type 0
@@ -98,4 +98,4 @@ Leaves size l header half old new = LeavesBefore old new ⊎ ((b : List ℕ) →
 
 -- the same, of a table
 abbrev pub LeavesOf : (size : ℕ) → Listing → (old new : DeviceState) → Type 0
-LeavesOf size t old new = LeavesBefore old new ⊎ ((b : List ℕ) → IsImage new b → IsUnformatted b ⊎ IsNew size t b)
+LeavesOf size t old new = LeavesBefore old new ⊎ ((b : List ℕ) → IsImage new b → IsUnformatted b ⊎ IsNewDevice size t b)

@@ -27,8 +27,8 @@ use Rattle.alm_store.specs.declared.refused.Refused.TheVariants as no
 use Rattle.alm_store.specs.declared.progress.Progress.{Progress}
 use Rattle.alm_store.specs.declared.progress.Progress.TheVariants.{More, Done, Failed}
 use Rattle.alm_store.specs.Pace.{most}
-use Rattle.alm_keeper.specs.Batch.{tried}
-use Rattle.alm_keeper.specs.Stages.{first_stage, following, sent_stage, rest_stage, rest_work, During}
+use Rattle.alm_keeper.specs.Batch.{tried_batch}
+use Rattle.alm_keeper.specs.Stages.{first_stage, next_stage, sent_stage, rest_stage, rest_work, During}
 
 -- what a device stands for: a plant in an epoch, the version of its half, and how many bytes of the segment are left from its first
 -- closed gate on
@@ -39,7 +39,7 @@ pub record Standing : Type 0 where
   pub room : ℕ
 
 -- a keeper of a device
-pub record Held (D : Type 0) : Type 0 where
+pub record KeeperView (D : Type 0) : Type 0 where
   pub disk : D
   -- which device call is next, and of which work
   pub stage : Stage
@@ -65,12 +65,12 @@ abbrev pub HasRoom : Standing → ℕ → Type 0
 HasRoom s actions = frame_len actions + 1 ≤ s.room
 
 -- how long the run of a checkpoint is at first: the head from its offset 1, the image, and a closed gate
-abbrev pub first_run : {D : Type 0} → Held D → ℕ
+abbrev pub first_run : {D : Type 0} → KeeperView D → ℕ
 first_run k = head_len + k.image
 
 -- where the first closed gate stands in the segment
-abbrev pub used : {D : Type 0} → Held D → ℕ
-used k = k.segment - k.stored.room
+abbrev pub used_room : {D : Type 0} → KeeperView D → ℕ
+used_room k = k.segment - k.stored.room
 
 -- a frame of these actions fits, and the half may hold them
 abbrev pub Takes : Standing → List Action → Type 0
@@ -84,23 +84,23 @@ abbrev pub with_checkpoint : (half run : ℕ) → Standing → Standing
 with_checkpoint half run s = record { version = V02; epoch = s.epoch + 1; plant = s.plant; room = half - run }
 
 -- what the work that is begun makes of what is stored
-abbrev pub begun_by : {D : Type 0} → Work → Held D → Standing
+abbrev pub begun_by : {D : Type 0} → Work → KeeperView D → Standing
 begun_by Commit k = with_actions k.stored k.actions
 begun_by Checkpoint k = with_checkpoint (head_len + k.image + k.segment) k.run k.stored
 
-abbrev pub begun : {D : Type 0} → Held D → Standing
-begun k = begun_by k.work k
+abbrev pub begun_standing : {D : Type 0} → KeeperView D → Standing
+begun_standing k = begun_by k.work k
 
 -- what is stored when the work that is begun is done
-abbrev pub next_by : Stage → (stored begun : Standing) → Standing
-next_by Idle stored begun = stored
-next_by stage stored begun = begun
+abbrev pub next_by : Stage → (stored begun_standing : Standing) → Standing
+next_by Idle stored begun_standing = stored
+next_by stage stored begun_standing = begun_standing
 
-abbrev pub next : {D : Type 0} → Held D → Standing
-next k = next_by k.stage k.stored (begun k)
+abbrev pub next : {D : Type 0} → KeeperView D → Standing
+next k = next_by k.stage k.stored (begun_standing k)
 
 -- an open checkpoint waits between two pieces, or while a commit is under way
-abbrev pub IsPaused : {D : Type 0} → Phase → Held D → Type 0
+abbrev pub IsPaused : {D : Type 0} → Phase → KeeperView D → Type 0
 IsPaused at.Paused k = k.copying ≡ true
 IsPaused at.Committing k = k.copying ≡ true
 IsPaused phase k = ⊥
@@ -108,8 +108,8 @@ IsPaused phase k = ⊥
 -- ---- bytes
 
 -- they stand for the plant in its epoch
-abbrev pub StandsFor : Standing → List ℕ → Type 0
-StandsFor s bytes = Stands bytes s.epoch s.plant
+abbrev pub IsStoredIn : Standing → List ℕ → Type 0
+IsStoredIn s bytes = Stands bytes s.epoch s.plant
 
 -- .. in a half of that version, with just that room
 abbrev pub StandsWithRoom : Standing → List ℕ → Type 0
@@ -125,8 +125,8 @@ pub record LiesIn (half : Half) (image segment : ℕ) (bytes : List ℕ) : Type 
 
 -- at any moment of the call that is next: until the gate's write begins they stand for what is stored, from then on for that or for
 -- what is begun
-abbrev pub MayStand : {D : Type 0} → Held D → List ℕ → Type 0
-MayStand k bytes = During (StandsFor k.stored) (StandsFor (next k)) k.stage bytes
+abbrev pub MayStand : {D : Type 0} → KeeperView D → List ℕ → Type 0
+MayStand k bytes = During (IsStoredIn k.stored) (IsStoredIn (next k)) k.stage bytes
 
 -- ---- answers
 
@@ -139,7 +139,7 @@ abbrev pub begin_answer : Phase → Condensed → Judged → Result Unit Refused
 begin_answer at.Stopped plant batch = Err no.Stopped
 begin_answer at.Committing plant batch = Err no.Working
 begin_answer at.Copying plant batch = Err no.Working
-begin_answer phase plant batch = if batch.first == plant.panel.count + 1 then trial (tried plant 0 batch.entries) else Err no.Gap
+begin_answer phase plant batch = if batch.first == plant.panel.count + 1 then trial (tried_batch plant 0 batch.entries) else Err no.Gap
 
 -- to a checkpoint, in an epoch
 abbrev pub checkpoint_answer : Phase → ℕ → Result Unit Refused
@@ -150,13 +150,13 @@ checkpoint_answer phase epoch = Err no.Working
 -- ---- what a call makes of a keeper
 
 -- a batch with these actions: the commit is begun; a batch that isn't accepted stops the keeper, and nothing of it is begun
-abbrev pub BeginsCommit : {D : Type 0} → Result Unit Refused → List Action → (old new : Held D) → Type 0
+abbrev pub BeginsCommit : {D : Type 0} → Result Unit Refused → List Action → (old new : KeeperView D) → Type 0
 BeginsCommit (Ok _) actions old new = new ≡ record old { stage = Body; work = Commit; actions = actions }
 BeginsCommit (Err (no.NotAccepted place)) actions old new = new ≡ record old { stage = Stopped; work = Commit; actions = [] }
 BeginsCommit (Err why) actions old new = new ≡ old
 
 -- the stored plant is copied, and the checkpoint is open
-abbrev pub BeginsCheckpoint : {D : Type 0} → Result Unit Refused → (old new : Held D) → Type 0
+abbrev pub BeginsCheckpoint : {D : Type 0} → Result Unit Refused → (old new : KeeperView D) → Type 0
 BeginsCheckpoint (Ok _) old new = new ≡ record old { stage = first_stage old.other_open; work = Checkpoint; copying = true; run = first_run old; out = 0 }
 BeginsCheckpoint (Err why) old new = new ≡ old
 
@@ -165,46 +165,46 @@ abbrev pub piece : (left : ℕ) → ℕ
 piece left = min left most
 
 -- so many bytes went out
-abbrev pub counted : (written n : ℕ) → ℕ
-counted written n = min (written + n) (2 ^ 64 - 1)
+abbrev pub written_after : (written n : ℕ) → ℕ
+written_after written n = min (written + n) (2 ^ 64 - 1)
 
-abbrev pub sends : {D : Type 0} → (n : ℕ) → Held D → Held D
-sends n k = record k { stage = sent_stage (k.out + n) k.run; out = k.out + n; written = counted k.written n }
+abbrev pub sends : {D : Type 0} → (n : ℕ) → KeeperView D → KeeperView D
+sends n k = record k { stage = sent_stage (k.out + n) k.run; out = k.out + n; written = written_after k.written n }
 
 -- a frame of so many actions is copied behind the image
-abbrev pub grown : (copying : Bool) → (run actions : ℕ) → ℕ
-grown true run actions = run + frame_len actions
-grown false run actions = run
+abbrev pub after_frame : (copying : Bool) → (run actions : ℕ) → ℕ
+after_frame true run actions = run + frame_len actions
+after_frame false run actions = run
 
 -- a commit is done
-abbrev pub commits : {D : Type 0} → Held D → Held D
-commits k = record k { stage = rest_stage k.copying; work = rest_work k.copying; stored = with_actions k.stored k.actions; run = grown k.copying k.run (length k.actions); written = 0 }
+abbrev pub commits : {D : Type 0} → KeeperView D → KeeperView D
+commits k = record k { stage = rest_stage k.copying; work = rest_work k.copying; stored = with_actions k.stored k.actions; run = after_frame k.copying k.run (length k.actions); written = 0 }
 
 -- a checkpoint is done
-abbrev pub turns : {D : Type 0} → Held D → Held D
+abbrev pub turns : {D : Type 0} → KeeperView D → KeeperView D
 turns k = record k { stage = Idle; half = other k.half; other_open = true; stored = begun_by Checkpoint k; copying = false }
 
 -- the keeper after the call that is next was done
-abbrev pub after_by : {D : Type 0} → Stage → Work → Held D → Held D
+abbrev pub after_by : {D : Type 0} → Stage → Work → KeeperView D → KeeperView D
 after_by CloseSync work k = record k { stage = Body; other_open = false }
 after_by Body Checkpoint k = sends (piece (k.run - k.out)) k
 after_by GateSync Commit k = commits k
 after_by GateSync Checkpoint k = turns k
-after_by stage work k = record k { stage = following stage }
+after_by stage work k = record k { stage = next_stage stage }
 
-abbrev pub after : {D : Type 0} → Held D → Held D
-after k = after_by k.stage k.work k
+abbrev pub after_call : {D : Type 0} → KeeperView D → KeeperView D
+after_call k = after_by k.stage k.work k
 
 -- one device call of the work: Done is told at its end
-abbrev pub Advances : {D : Type 0} → Progress → (old new : Held D) → Type 0
-Advances More old new = (old.stage ≢ GateSync) × (new ≡ record (after old) { disk = new.disk })
-Advances Done old new = (old.stage ≡ GateSync) × (new ≡ record (after old) { disk = new.disk })
-Advances Failed old new = new ≡ record old { disk = new.disk; stage = Stopped }
+abbrev pub Progresses : {D : Type 0} → Progress → (old new : KeeperView D) → Type 0
+Progresses More old new = (old.stage ≢ GateSync) × (new ≡ record (after_call old) { disk = new.disk })
+Progresses Done old new = (old.stage ≡ GateSync) × (new ≡ record (after_call old) { disk = new.disk })
+Progresses Failed old new = new ≡ record old { disk = new.disk; stage = Stopped }
 
 -- ---- the device call
 
 -- how long a half is: its head, its image and its segment
-abbrev pub half_size : {D : Type 0} → Held D → ℕ
+abbrev pub half_size : {D : Type 0} → KeeperView D → ℕ
 half_size k = head_len + k.image + k.segment
 
 -- where a half begins, whose length is this: its gate
@@ -213,12 +213,12 @@ half_from size First = header_len
 half_from size Second = header_len + size
 
 -- the gate that the work opens: the first closed one of the half that stands, or that of the other half
-abbrev pub gate_by : {D : Type 0} → Work → Held D → ℕ
+abbrev pub gate_by : {D : Type 0} → Work → KeeperView D → ℕ
 gate_by Commit k = half_from (half_size k) k.half + half_size k - k.stored.room
 gate_by Checkpoint k = half_from (half_size k) (other k.half)
 
 -- a write at this place of so many bytes, or a sync. Behind the gate goes the body of the frame, or the next piece of the run
-abbrev pub call_by : {D : Type 0} → Stage → Work → Held D → Call
+abbrev pub call_by : {D : Type 0} → Stage → Work → KeeperView D → Call
 call_by Close work k = Write (gate_by work k) 1
 call_by Body Commit k = Write (gate_by Commit k + 1) (frame_len (length k.actions))
 call_by Body Checkpoint k = Write (gate_by Checkpoint k + k.out + 1) (piece (k.run - k.out))
@@ -226,7 +226,7 @@ call_by Gate work k = Write (gate_by work k) 1
 call_by stage work k = Sync
 
 -- the device call that is next
-abbrev pub call_of : {D : Type 0} → Held D → Call
+abbrev pub call_of : {D : Type 0} → KeeperView D → Call
 call_of k = call_by k.stage k.work k
 
 -- how many bytes a call writes
@@ -236,8 +236,8 @@ bytes_of (Write at n) = n
 bytes_of Sync = 0
 
 -- just the bytes that the call writes went out, and are counted
-abbrev pub SendsPiece : {D : Type 0} → (old new : Held D) → Type 0
-SendsPiece old new = (new.out ≡ old.out + bytes_of (call_of old)) × (new.written ≡ counted old.written (bytes_of (call_of old)))
+abbrev pub SendsPiece : {D : Type 0} → (old new : KeeperView D) → Type 0
+SendsPiece old new = (new.out ≡ old.out + bytes_of (call_of old)) × (new.written ≡ written_after old.written (bytes_of (call_of old)))
 
 -- this call was made of the device and no other, and it failed where that is told
 pub record CallsOnce {D : Type 0} (serves : D → Call → Result Unit DiskFault → D → Type 0) (call : Call) (told : Progress) (old new : D) : Type 0 where

@@ -1,7 +1,7 @@
 -- What a keeper knows and has begun.
 use Rattle.std.specs.Prelude.{◌≡◌, ◌⊎◌, ℕ, ◌+◌, ◌-◌, ◌*◌, ◌^◌, ◌<◌, ◌≤◌, Bool, true, false, None, Some, List, [], ◌∷◌, ◌++◌, length, take, vec_capacity, Result, Ok, Err}
-use Rattle.alm_keeper.specs.Keeper.{Standing, Held, piece, counted}
-use Rattle.alm_keeper.specs.Stages.{During, following, first_stage, sent_stage, rest_stage, rest_work, phase_of}
+use Rattle.alm_keeper.specs.Keeper.{Standing, KeeperView, piece, written_after}
+use Rattle.alm_keeper.specs.Stages.{During, next_stage, first_stage, sent_stage, rest_stage, rest_work, phase_of}
 use Rattle.alm_store.specs.Advancing.{IsResting}
 use Rattle.alm_types.specs.declared.action.Action.{Action}
 use Rattle.alm_model.specs.Plant.{Condensed}
@@ -26,8 +26,8 @@ use Rattle.alm_store.specs.declared.progress.Progress.{Progress}
 use Rattle.alm_store.specs.declared.progress.Progress.TheVariants.{More, Done, Failed}
 use Rattle.alm_keeper.specs.Piecewise.{Copy, run_text}
 use Rattle.alm_keeper.specs.Phases.{UnderWay, Rest, Shut, ShutSync, Pause, Frame, End, KeptIn}
-use Rattle.alm_keeper.specs.Phases.{Advances as AdvancesOn}
-use Rattle.alm_keeper.specs.Stand.{Holds, Ready, Account, end_of, Takes, committed, turned}
+use Rattle.alm_keeper.specs.Phases.{WorkAdvances as AdvancesOn}
+use Rattle.alm_keeper.specs.Stand.{HoldsPlant, Ready, Account, end_of_half, TakesFrame, with_commit, turned_half}
 
 -- what the book tells of the device
 abbrev pub account : Book → Account
@@ -43,23 +43,23 @@ piece_of b = piece (b.run - b.out)
 
 -- what the device will be when the work is done
 abbrev pub done_by : Work → Book → Account
-done_by Commit b = committed (account b) b.actions.items
-done_by Checkpoint b = turned (account b) b.run
+done_by Commit b = with_commit (account b) b.actions.items
+done_by Checkpoint b = turned_half (account b) b.run
 
-abbrev pub next_of : Stage → Work → Book → Account
-next_of Idle work b = account b
-next_of stage work b = done_by work b
+abbrev pub account_next_at : Stage → Work → Book → Account
+account_next_at Idle work b = account b
+account_next_at stage work b = done_by work b
 
-abbrev pub next : Book → Account
-next b = next_of b.stage b.work b
+abbrev pub account_next : Book → Account
+account_next b = account_next_at b.stage b.work b
 
 -- a commit is begun
 pub record Committing (a : Account) (actions : List Action) (frame : List ℕ) (ahead : Condensed) : Type 0 where
   pub spells : IsFrame a.epoch (a.plant.panel.count + 1) actions
   pub admitted : AreAdmitted a.plant actions
-  pub takes : Takes a actions
+  pub takes : TakesFrame a actions
   pub text : take (19 + 16 * length actions) frame ≡ frame_body a.epoch (a.plant.panel.count + 1) actions
-  pub tried : ahead ≡ (committed a actions).plant
+  pub tried : ahead ≡ (with_commit a actions).plant
 
 abbrev pub DoesWork : Work → Book → Type 0
 DoesWork Commit b = Committing (account b) b.actions.items b.frame.items b.ahead
@@ -82,7 +82,7 @@ Sent stage Checkpoint out run = out ≡ run
 
 -- a checkpoint is open: its run is in the buffer, and the frames in it stand among the frames of the half that stands, so they fit
 -- the other half
-pub record Opened (stage : Stage) (b : Book) : Type 0 where
+pub record OpenedBook (stage : Stage) (b : Book) : Type 0 where
   pub more : b.epoch + 1 < 2 ^ 64
   pub least : head_len + image_size b.layout ≤ b.run
   pub room : segment_at b.layout b.half + b.run ≤ b.gate + (head_len + image_size b.layout)
@@ -92,7 +92,7 @@ pub record Opened (stage : Stage) (b : Book) : Type 0 where
 abbrev pub IsCopying : Bool → Stage → Book → Type 0
 IsCopying false stage b = Unit {0}
 IsCopying true Stopped b = Unit {0}
-IsCopying true stage b = Opened stage b
+IsCopying true stage b = OpenedBook stage b
 
 -- what holds of a book, whatever the device does. The room of its vectors is the same always: no call takes memory
 pub record InOrder (b : Book) : Type 0 where
@@ -102,7 +102,7 @@ pub record InOrder (b : Book) : Type 0 where
   pub sizes : IsOf b.layout.rows b.layout.areas b.stored.panel.count b.stored
   pub count : b.stored.panel.count ≤ 2 ^ 48
   pub first : segment_at b.layout b.half ≤ b.gate
-  pub gate : b.gate + 1 ≤ end_of (account b)
+  pub gate : b.gate + 1 ≤ end_of_half (account b)
   pub room : vec_capacity b.actions ≡ 256
   pub frame : length b.frame.items ≡ 4115
   pub frame_room : vec_capacity b.frame ≡ 4115
@@ -148,29 +148,29 @@ Copies (Ok _) old new = Opens old new
 Copies (Err why) old new = new ≡ old
 
 -- the frame of the commit that is done goes out with an open checkpoint
-pub record Grows (old new : Book) : Type 0 where
+pub record GrowsBook (old new : Book) : Type 0 where
   pub run : new.run ≡ old.run + frame_len (length old.actions.items)
   pub text : run_in new ≡ take (old.run - 1) (run_in old) ++ (165 ∷ frame_body (old.epoch + 1) (old.stored.panel.count + 1) old.actions.items)
 
 abbrev pub GrowsWhere : Bool → (old new : Book) → Type 0
-GrowsWhere true old new = Grows old new
+GrowsWhere true old new = GrowsBook old new
 GrowsWhere false old new = new.run ≡ old.run
 
 -- a commit is done, a checkpoint is done
-pub record Closes (old new : Book) : Type 0 where
+pub record ClosesBook (old new : Book) : Type 0 where
   pub stage : new.stage ≡ rest_stage old.copying
   pub work : new.work ≡ rest_work old.copying
-  pub account : account new ≡ committed (account old) old.actions.items
+  pub account : account new ≡ with_commit (account old) old.actions.items
   pub actions : new.actions.items ≡ old.actions.items
   pub copying : new.copying ≡ old.copying
   pub grows : GrowsWhere old.copying old new
   pub out : new.out ≡ old.out
   pub written : new.written ≡ 0
 
-pub record Turns (old new : Book) : Type 0 where
+pub record TurnsBook (old new : Book) : Type 0 where
   pub stage : new.stage ≡ Idle
   pub work : new.work ≡ old.work
-  pub account : account new ≡ turned (account old) old.run
+  pub account : account new ≡ turned_half (account old) old.run
   pub actions : new.actions.items ≡ old.actions.items
   pub copying : new.copying ≡ false
   pub run : new.run ≡ old.run
@@ -178,32 +178,32 @@ pub record Turns (old new : Book) : Type 0 where
   pub written : new.written ≡ old.written
 
 abbrev pub Finishes : Work → (old new : Book) → Type 0
-Finishes Commit old new = Closes old new
-Finishes Checkpoint old new = Turns old new
+Finishes Commit old new = ClosesBook old new
+Finishes Checkpoint old new = TurnsBook old new
 
 -- so many bytes of the run went out
 abbrev pub sent_by : ℕ → Book → Book
-sent_by n b = record b { stage = sent_stage (b.out + n) b.run; out = b.out + n; written = counted b.written n }
+sent_by n b = record b { stage = sent_stage (b.out + n) b.run; out = b.out + n; written = written_after b.written n }
 
 -- the book after a call that was done. Once the other half's gate was synced closed, it reads closed
-abbrev pub GoesOn : Stage → Work → Progress → (old new : Book) → Type 0
-GoesOn GateSync work step old new = (step ≡ Done) × Finishes work old new
-GoesOn CloseSync work step old new = (step ≡ More) × (new ≡ record old { stage = Body; other_open = false })
-GoesOn Body Checkpoint step old new = (step ≡ More) × (new ≡ sent_by (piece_of old) old)
-GoesOn stage work step old new = (step ≡ More) × (new ≡ record old { stage = following stage })
+abbrev pub IsBookAfter : Stage → Work → Progress → (old new : Book) → Type 0
+IsBookAfter GateSync work step old new = (step ≡ Done) × Finishes work old new
+IsBookAfter CloseSync work step old new = (step ≡ More) × (new ≡ record old { stage = Body; other_open = false })
+IsBookAfter Body Checkpoint step old new = (step ≡ More) × (new ≡ sent_by (piece_of old) old)
+IsBookAfter stage work step old new = (step ≡ More) × (new ≡ record old { stage = next_stage stage })
 
 -- what is under way on the device, without an open checkpoint
-abbrev pub alone : Stage → List Action → UnderWay
-alone Idle actions = Rest
-alone stage actions = Frame None stage actions
+abbrev pub work_alone : Stage → List Action → UnderWay
+work_alone Idle actions = Rest
+work_alone stage actions = Frame None stage actions
 
 -- .. and with one
-abbrev pub beside : Stage → Work → Copy → List Action → UnderWay
-beside Close work k actions = Shut k
-beside CloseSync work k actions = ShutSync k
-beside stage Commit k actions = Frame (Some k) stage actions
-beside Body Checkpoint k actions = Pause k
-beside stage Checkpoint k actions = End k stage
+abbrev pub work_beside : Stage → Work → Copy → List Action → UnderWay
+work_beside Close work k actions = Shut k
+work_beside CloseSync work k actions = ShutSync k
+work_beside stage Commit k actions = Frame (Some k) stage actions
+work_beside Body Checkpoint k actions = Pause k
+work_beside stage Checkpoint k actions = End k stage
 
 -- the copy, of which so many bytes went out
 abbrev pub at_out : Copy → ℕ → Copy
@@ -212,39 +212,39 @@ at_out k out = record k { out = out }
 -- what is kept of the device, where the device keeps to its model. The copied plant and the frames since stand in no field: some copy
 -- has this run
 abbrev pub KeptBy : Stage → Bool → Work → Book → DeviceState → Type 0
-KeptBy Stopped copying work b state = (x : List ℕ) → IsImage state x → Holds b.epoch b.stored x ⊎ Ready (done_by work b) x
-KeptBy stage false work b state = KeptIn (alone stage b.actions.items) (account b) state
-KeptBy stage true work b state = (k : Copy) × (run_text (account b) k ≡ run_in b) × KeptIn (beside stage work (at_out k b.out) b.actions.items) (account b) state
+KeptBy Stopped copying work b state = (x : List ℕ) → IsImage state x → HoldsPlant b.epoch b.stored x ⊎ Ready (done_by work b) x
+KeptBy stage false work b state = KeptIn (work_alone stage b.actions.items) (account b) state
+KeptBy stage true work b state = (k : Copy) × (run_text (account b) k ≡ run_in b) × KeptIn (work_beside stage work (at_out k b.out) b.actions.items) (account b) state
 
 abbrev pub Keeps : DeviceState → Book → Type 0
 Keeps state b = KeptBy b.stage b.copying b.work b state
 
 -- what a call makes of it
 abbrev pub PassesBy : Bool → Stage → Work → Book → Result Unit DiskFault → (old new : DeviceState) → Type 0
-PassesBy false stage work b result old new = AdvancesOn (alone stage b.actions.items) (account b) (piece_of b) result old new
-PassesBy true stage work b result old new = (k : Copy) × (run_text (account b) k ≡ run_in b) × KeptIn (beside stage work (at_out k b.out) b.actions.items) (account b) old
-    × AdvancesOn (beside stage work (at_out k b.out) b.actions.items) (account b) (piece_of b) result old new
+PassesBy false stage work b result old new = AdvancesOn (work_alone stage b.actions.items) (account b) (piece_of b) result old new
+PassesBy true stage work b result old new = (k : Copy) × (run_text (account b) k ≡ run_in b) × KeptIn (work_beside stage work (at_out k b.out) b.actions.items) (account b) old
+    × AdvancesOn (work_beside stage work (at_out k b.out) b.actions.items) (account b) (piece_of b) result old new
 
 abbrev pub PassesOn : Result Unit DiskFault → (old new : DeviceState) → Book → Type 0
 PassesOn result old new b = PassesBy b.copying b.stage b.work b result old new
 
 -- what a crash leaves at any moment of the call that is next
 abbrev pub MayLeave : Book → List ℕ → Type 0
-MayLeave b bytes = During (Holds b.epoch b.stored) (Ready (next b)) b.stage bytes
+MayLeave b bytes = During (HoldsPlant b.epoch b.stored) (Ready (account_next b)) b.stage bytes
 
 -- what a device stands for, by what is known of it
-abbrev pub standing : Account → Standing
-standing a = record { version = a.version; epoch = a.epoch; plant = a.plant; room = end_of a - a.gate }
+abbrev pub standing_by : Account → Standing
+standing_by a = record { version = a.version; epoch = a.epoch; plant = a.plant; room = end_of_half a - a.gate }
 
 -- how a step ends
 abbrev pub Ends : Progress → (old new : Book) → Type 0
 Ends Failed old new = new ≡ record old { stage = Stopped }
-Ends step old new = GoesOn old.stage old.work step old new
+Ends step old new = IsBookAfter old.stage old.work step old new
 
 -- ---- for callers
 
-abbrev pub held : {D : Type 0} → D → Book → Held D
-held disk b = record {
+abbrev pub keeper_of : {D : Type 0} → D → Book → KeeperView D
+keeper_of disk b = record {
   disk = disk;
   stage = b.stage;
   work = b.work;
@@ -252,7 +252,7 @@ held disk b = record {
   other_open = b.other_open;
   image = image_size b.layout;
   segment = b.layout.segment;
-  stored = standing (account b);
+  stored = standing_by (account b);
   actions = b.actions.items;
   copying = b.copying;
   run = b.run;

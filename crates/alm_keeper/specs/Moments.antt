@@ -9,7 +9,7 @@ use Rattle.alm_disk.specs.declared.disk_fault.DiskFault.{DiskFault}
 use Rattle.alm_checkpoint.specs.declared.layout.Layout.{Layout}
 use Rattle.alm_checkpoint.specs.declared.half.Half.TheVariants.{Second}
 use Rattle.alm_checkpoint.specs.Layouts.{half_at, image_size}
-use Rattle.alm_keeper.specs.Formatting.{IsUnformatted, IsLongest, IsNew}
+use Rattle.alm_keeper.specs.Formatting.{IsUnformatted, IsLongest, IsNewDevice}
 
 -- the header's gate is closed; all else is written behind it; the header's gate is opened
 pub data Part : Type 0 where
@@ -33,20 +33,20 @@ format_calls l = close_calls ++ (behind_calls l ++ open_calls)
 
 -- what a crash may leave: anything until the header's gate is known to be closed, then an unformatted device, and from the write that
 -- opens the gate on an unformatted or a new one
-abbrev pub MayLeave : (new : List ℕ → Type 0) → Part → List ℕ → Type 0
-MayLeave new Closing b = Unit {0}
-MayLeave new Behind b = IsUnformatted b
-MayLeave new Opening b = IsUnformatted b ⊎ new b
+abbrev pub MayLeaveWhile : (new : List ℕ → Type 0) → Part → List ℕ → Type 0
+MayLeaveWhile new Closing b = Unit {0}
+MayLeaveWhile new Behind b = IsUnformatted b
+MayLeaveWhile new Opening b = IsUnformatted b ⊎ new b
 
 -- one call, between two devices, and its result; under the premise, what a crash leaves at any moment of it
-pub record Moment {Dev : Type 0} (serves : Dev → Call → Result Unit DiskFault → Dev → Type 0) (state : Dev → DeviceState) (premise : Type 0) (new : List ℕ → Type 0) (result : Result Unit DiskFault) (step : Part × Call) (before after : Dev) : Type 0 where
+pub record FormatMoment {Dev : Type 0} (serves : Dev → Call → Result Unit DiskFault → Dev → Type 0) (state : Dev → DeviceState) (premise : Type 0) (new : List ℕ → Type 0) (result : Result Unit DiskFault) (step : Part × Call) (before after : Dev) : Type 0 where
   pub served : serves before step.1 result after
-  pub any_moment : premise → (b : List ℕ) → IsImage (state before) b ⊎ IsImage (state after) b → MayLeave new step.0 b
+  pub any_moment : premise → (b : List ℕ) → IsImage (state before) b ⊎ IsImage (state after) b → MayLeaveWhile new step.0 b
 
 -- from one device to another by these calls, in this order; each was done
-abbrev pub Goes : {Dev : Type 0} → (Result Unit DiskFault → Part × Call → Dev → Dev → Type 0) → Dev → List (Part × Call) → Dev → Type 0
-Goes step first [] last = first ≡ last
-Goes step first (c ∷ calls) last = (d : _) × step (Ok tt) c first d × Goes step d calls last
+abbrev pub IsLedBy : {Dev : Type 0} → (Result Unit DiskFault → Part × Call → Dev → Dev → Type 0) → Dev → List (Part × Call) → Dev → Type 0
+IsLedBy step first [] last = first ≡ last
+IsLedBy step first (c ∷ calls) last = (d : _) × step (Ok tt) c first d × IsLedBy step d calls last
 
 -- some of them were done, and the next one failed
 pub record FailsIn {Dev : Type 0} (step : Result Unit DiskFault → Part × Call → Dev → Dev → Type 0) (first : Dev) (all : List (Part × Call)) (last : Dev) : Type 0 where
@@ -55,7 +55,7 @@ pub record FailsIn {Dev : Type 0} (step : Result Unit DiskFault → Part × Call
   pub left : List (Part × Call)
   pub are : made ++ call ∷ left ≡ all
   pub middle : Dev
-  pub goes : Goes step first made middle
+  pub goes : IsLedBy step first made middle
   pub fault : DiskFault
   pub fails : step (Err fault) call middle last
 
@@ -67,4 +67,4 @@ Never b = ⊥
 pub record Formats {Dev : Type 0} (course : (Result Unit DiskFault → Part × Call → Dev → Dev → Type 0) → Dev → List (Part × Call) → Dev → Type 0) (serves : Dev → Call → Result Unit DiskFault → Dev → Type 0) (state : Dev → DeviceState) (premise : Type 0) (size : ℕ) (t : Listing) (first last : Dev) : Type 0 where
   pub layout : Layout
   pub longest : IsLongest size t layout
-  pub calls : course (Moment serves state premise (IsNew size t)) first (format_calls layout) last
+  pub calls : course (FormatMoment serves state premise (IsNewDevice size t)) first (format_calls layout) last

@@ -25,10 +25,10 @@ open_fault found.Unformatted = Unformatted
 open_fault (found.Damaged half at) = Damaged half at
 
 -- the device fails, or the count of its failures stays
-abbrev pub Counts : {A : Type 0} → Result A OpenFault → (before now : ℕ) → Type 0
-Counts (Ok x) before now = now ≡ before
-Counts (Err Disk) before now = HasFailed before now
-Counts (Err fault) before now = now ≡ before
+abbrev pub CountsOpening : {A : Type 0} → Result A OpenFault → (before now : ℕ) → Type 0
+CountsOpening (Ok x) before now = now ≡ before
+CountsOpening (Err Disk) before now = HasFailed before now
+CountsOpening (Err fault) before now = now ≡ before
 
 -- a fault of the device is told only where it failed
 abbrev pub CountsAs : OpenFault → (before now : ℕ) → Type 0

@@ -5,23 +5,23 @@ use Rattle.alm_model.specs.Rules.{AreAdmitted}
 use Rattle.alm_codec.specs.Frames.{IsFrame, frame_body}
 use Rattle.alm_disk.specs.Device.{DeviceState, Writes, Syncs}
 use Rattle.alm_disk.specs.Device.{IsImage as IsLeft}
-use Rattle.alm_keeper.specs.Stand.{Holds, Ready, Account, other_at, Takes, committed}
-use Rattle.alm_keeper.specs.Resting.{Rests, also, Kept}
-use Rattle.alm_keeper.specs.Stages.{During, following}
+use Rattle.alm_keeper.specs.Stand.{HoldsPlant, Ready, Account, other_at, TakesFrame, with_commit}
+use Rattle.alm_keeper.specs.Resting.{Rests, or_within, Kept}
+use Rattle.alm_keeper.specs.Stages.{During, next_stage}
 use Rattle.alm_keeper.specs.declared.stage.Stage.{Stage}
 use Rattle.alm_keeper.specs.declared.stage.Stage.TheVariants.{Close, CloseSync, Body, BodySync, Gate, GateSync}
-use Rattle.alm_keeper.specs.Piecewise.{Copy, run_text, IsCopy, went, Wrote, Paused, turned_by, copied, sent}
+use Rattle.alm_keeper.specs.Piecewise.{Copy, run_text, IsCopy, is_sent, WrotePart, Paused, turned_by, with_copied_frame, with_sent_bytes}
 
 -- the other half's gate reads closed
-abbrev pub shut : Account → Account
-shut a = record a { other_open = false }
+abbrev pub with_other_shut : Account → Account
+with_other_shut a = record a { other_open = false }
 
 -- the gate was written closed, and awaits its sync
-pub record Closes (a : Account) (state : DeviceState) : Type 0 where
-  pub images : (b : List ℕ) → IsLeft state b → Holds a.epoch a.plant b
+pub record ClosesOther (a : Account) (state : DeviceState) : Type 0 where
+  pub images : (b : List ℕ) → IsLeft state b → HoldsPlant a.epoch a.plant b
   pub bytes : List ℕ
-  pub ready : Ready (shut a) bytes
-  pub rests : Rests (also (other_at a) 1 (λ place. false)) state bytes
+  pub ready : Ready (with_other_shut a) bytes
+  pub rests : Rests (or_within (other_at a) 1 (λ place. false)) state bytes
 
 -- nothing is under way
 pub record Rested (a : Account) (state : DeviceState) : Type 0 where
@@ -44,7 +44,7 @@ pub data UnderWay : Type 0 where
   End : Copy → Stage → UnderWay
 
 abbrev pub Commits : Account → List Action → Type 0
-Commits a actions = IsFrame a.epoch (a.plant.panel.count + 1) actions × AreAdmitted a.plant actions × Takes a actions
+Commits a actions = IsFrame a.epoch (a.plant.panel.count + 1) actions × AreAdmitted a.plant actions × TakesFrame a actions
 
 abbrev pub out_of : Option Copy → ℕ
 out_of None = 0
@@ -53,14 +53,14 @@ out_of (Some k) = k.out
 -- the open checkpoint beside a commit
 abbrev pub Beside : Option Copy → Account → DeviceState → Type 0
 Beside None a state = Unit {0}
-Beside (Some k) a state = IsCopy a k × Wrote a (take k.out (run_text a k)) state
+Beside (Some k) a state = IsCopy a k × WrotePart a (take k.out (run_text a k)) state
 
 abbrev pub KeptIn : UnderWay → Account → DeviceState → Type 0
 KeptIn Rest a state = Rested a state
-KeptIn (Shut k) a state = (a.other_open ≡ true) × IsCopy (shut a) k × (k.out ≡ 0) × Rested a state
-KeptIn (ShutSync k) a state = IsCopy (shut a) k × (k.out ≡ 0) × Closes a state
+KeptIn (Shut k) a state = (a.other_open ≡ true) × IsCopy (with_other_shut a) k × (k.out ≡ 0) × Rested a state
+KeptIn (ShutSync k) a state = IsCopy (with_other_shut a) k × (k.out ≡ 0) × ClosesOther a state
 KeptIn (Pause k) a state = IsCopy a k × Paused a k state
-KeptIn (Frame other stage actions) a state = Commits a actions × Beside other a state × Kept (went a (out_of other)) (Ready a) (Ready (committed a actions)) stage state a.gate (frame_body a.epoch (a.plant.panel.count + 1) actions)
+KeptIn (Frame other stage actions) a state = Commits a actions × Beside other a state × Kept (is_sent a (out_of other)) (Ready a) (Ready (with_commit a actions)) stage state a.gate (frame_body a.epoch (a.plant.panel.count + 1) actions)
 KeptIn (End k stage) a state = Kept (λ place. false) (Ready a) (Ready (turned_by a k)) stage state (other_at a) (run_text a k)
 
 -- the one call of a stage, for the gate at a place and the text behind it
@@ -74,46 +74,46 @@ StageCall GateSync at text result old new = Syncs result old new
 StageCall stage at text result old new = ⊥
 
 -- the device call that is next; of a pause a piece of n bytes
-abbrev pub Call : {E : Type 0} → UnderWay → Account → (n : ℕ) → Result Unit E → (old new : DeviceState) → Type 0
-Call Rest a n result old new = ⊥
-Call (Shut k) a n result old new = Writes (other_at a) (0 ∷ []) result old new
-Call (ShutSync k) a n result old new = Syncs result old new
-Call (Pause k) a n result old new = (k.out + n ≤ length (run_text a k)) × Writes (other_at a + 1 + k.out) (take n (drop k.out (run_text a k))) result old new
-Call (Frame other stage actions) a n result old new = StageCall stage a.gate (frame_body a.epoch (a.plant.panel.count + 1) actions) result old new
-Call (End k stage) a n result old new = StageCall stage (other_at a) (run_text a k) result old new
+abbrev pub MakesCall : {E : Type 0} → UnderWay → Account → (n : ℕ) → Result Unit E → (old new : DeviceState) → Type 0
+MakesCall Rest a n result old new = ⊥
+MakesCall (Shut k) a n result old new = Writes (other_at a) (0 ∷ []) result old new
+MakesCall (ShutSync k) a n result old new = Syncs result old new
+MakesCall (Pause k) a n result old new = (k.out + n ≤ length (run_text a k)) × Writes (other_at a + 1 + k.out) (take n (drop k.out (run_text a k))) result old new
+MakesCall (Frame other stage actions) a n result old new = StageCall stage a.gate (frame_body a.epoch (a.plant.panel.count + 1) actions) result old new
+MakesCall (End k stage) a n result old new = StageCall stage (other_at a) (run_text a k) result old new
 
 -- what a crash leaves at any moment of it
 abbrev pub DuringIn : UnderWay → Account → List ℕ → Type 0
 DuringIn Rest a b = Ready a b
-DuringIn (Shut k) a b = Holds a.epoch a.plant b
-DuringIn (ShutSync k) a b = Holds a.epoch a.plant b
+DuringIn (Shut k) a b = HoldsPlant a.epoch a.plant b
+DuringIn (ShutSync k) a b = HoldsPlant a.epoch a.plant b
 DuringIn (Pause k) a b = Ready a b
-DuringIn (Frame other stage actions) a b = During (Ready a) (Ready (committed a actions)) stage b
+DuringIn (Frame other stage actions) a b = During (Ready a) (Ready (with_commit a actions)) stage b
 DuringIn (End k stage) a b = During (Ready a) (Ready (turned_by a k)) stage b
 
 -- after a commit's end
-abbrev pub resumed : Option Copy → List Action → UnderWay
-resumed None actions = Rest
-resumed (Some k) actions = Pause (copied k actions)
+abbrev pub without_pause : Option Copy → List Action → UnderWay
+without_pause None actions = Rest
+without_pause (Some k) actions = Pause (with_copied_frame k actions)
 
 -- what is under way after the call was done, and the account
 abbrev pub next_work : UnderWay → Account → ℕ → UnderWay
 next_work Rest a n = Rest
 next_work (Shut k) a n = ShutSync k
 next_work (ShutSync k) a n = Pause k
-next_work (Pause k) a n = if k.out + n == length (run_text a k) then End k BodySync else Pause (sent k n)
-next_work (Frame other GateSync actions) a n = resumed other actions
-next_work (Frame other stage actions) a n = Frame other (following stage) actions
+next_work (Pause k) a n = if k.out + n == length (run_text a k) then End k BodySync else Pause (with_sent_bytes k n)
+next_work (Frame other GateSync actions) a n = without_pause other actions
+next_work (Frame other stage actions) a n = Frame other (next_stage stage) actions
 next_work (End k GateSync) a n = Rest
-next_work (End k stage) a n = End k (following stage)
+next_work (End k stage) a n = End k (next_stage stage)
 
 abbrev pub next_account : UnderWay → Account → Account
-next_account (ShutSync k) a = shut a
-next_account (Frame other GateSync actions) a = committed a actions
+next_account (ShutSync k) a = with_other_shut a
+next_account (Frame other GateSync actions) a = with_commit a actions
 next_account (End k GateSync) a = turned_by a k
 next_account work a = a
 
 -- what a call makes of the device
-pub record Advances {E : Type 0} (work : UnderWay) (a : Account) (n : ℕ) (result : Result Unit E) (old new : DeviceState) : Type 0 where
+pub record WorkAdvances {E : Type 0} (work : UnderWay) (a : Account) (n : ℕ) (result : Result Unit E) (old new : DeviceState) : Type 0 where
   pub any_moment : (b : List ℕ) → IsLeft old b ⊎ IsLeft new b → DuringIn work a b
   pub kept : result ≡ Ok tt → KeptIn (next_work work a n) (next_account work a) new

@@ -5,7 +5,7 @@ use Rattle.alm_model.specs.Plant.{Condensed}
 use Rattle.alm_model.specs.Step.{run}
 use Rattle.alm_model.specs.Rules.{AreAdmitted}
 use Rattle.alm_codec.specs.declared.version.Version.TheVariants.{V02}
-use Rattle.alm_codec.specs.Image.{IsImage, IsOf, image_text}
+use Rattle.alm_codec.specs.Image.{IsImageText, IsOf, image_text}
 use Rattle.alm_disk.specs.Device.{DeviceState, is_within}
 use Rattle.alm_disk.specs.Device.{IsImage as IsLeft}
 use Rattle.alm_segment.specs.Texts.{frames_text, AreFrames, actions_in}
@@ -21,8 +21,8 @@ pub record Copy : Type 0 where
   pub out : ℕ
 
 -- the copy of what is stored, as the checkpoint is begun
-abbrev pub fresh : Account → Copy
-fresh a = record { base = a.plant; since = []; out = 0 }
+abbrev pub new_copy : Account → Copy
+new_copy a = record { base = a.plant; since = []; out = 0 }
 
 -- the frames since, with the new epoch and open gates
 abbrev pub since_text : Account → Copy → List ℕ
@@ -39,7 +39,7 @@ run_text a k = open_text a k ++ 0 ∷ []
 -- the copy is of this account: its frames make the stored plant of the copied one
 pub record IsCopy (a : Account) (k : Copy) : Type 0 where
   pub more : a.epoch + 1 < 2 ^ 64
-  pub image : IsImage k.base (image_text k.base)
+  pub image : IsImageText k.base (image_text k.base)
   pub sizes : IsOf a.layout.rows a.layout.areas k.base.panel.count k.base
   pub count : k.base.panel.count ≤ 2 ^ 48
   pub frames : AreFrames (a.epoch + 1) k.base.panel.count k.since
@@ -52,29 +52,29 @@ pub record IsCopy (a : Account) (k : Copy) : Type 0 where
   pub left : k.out ≤ length (open_text a k)
 
 -- the places that went out: nothing that is kept hangs on them, they may be pending
-abbrev pub went : Account → ℕ → ℕ → Bool
-went a out = is_within (other_at a + 1) out
+abbrev pub is_sent : Account → ℕ → ℕ → Bool
+is_sent a out = is_within (other_at a + 1) out
 
 -- the other half reads so from behind its gate
-abbrev pub Wrote : Account → List ℕ → DeviceState → Type 0
-Wrote a text state = part (other_at a + 1) (length text) state.bytes ≡ text
+abbrev pub WrotePart : Account → List ℕ → DeviceState → Type 0
+WrotePart a text state = part (other_at a + 1) (length text) state.bytes ≡ text
 
 -- a paused checkpoint: no call is under way
 pub record Paused (a : Account) (k : Copy) (state : DeviceState) : Type 0 where
   pub images : (b : List ℕ) → IsLeft state b → Ready a b
   pub bytes : List ℕ
   pub ready : Ready a bytes
-  pub rests : Rests (went a k.out) state bytes
-  pub wrote : Wrote a (take k.out (run_text a k)) state
+  pub rests : Rests (is_sent a k.out) state bytes
+  pub wrote : WrotePart a (take k.out (run_text a k)) state
 
 -- the device after the checkpoint's end
 abbrev pub turned_by : Account → Copy → Account
 turned_by a k = record a { half = other a.half; other_open = true; version = V02; epoch = a.epoch + 1; gate = other_at a + 1 + length (open_text a k) }
 
 -- one frame more
-abbrev pub copied : Copy → List Action → Copy
-copied k actions = record k { since = k.since ++ actions ∷ [] }
+abbrev pub with_copied_frame : Copy → List Action → Copy
+with_copied_frame k actions = record k { since = k.since ++ actions ∷ [] }
 
 -- so many bytes more went out
-abbrev pub sent : Copy → ℕ → Copy
-sent k n = record k { out = k.out + n }
+abbrev pub with_sent_bytes : Copy → ℕ → Copy
+with_sent_bytes k n = record k { out = k.out + n }

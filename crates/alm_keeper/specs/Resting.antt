@@ -12,8 +12,8 @@ pub record Rests (loose : ℕ → Bool) (state : DeviceState) (bytes : List ℕ)
   pub sound : state.faulted ≡ false
 
 -- so many places from a place on are loose as well
-abbrev pub also : (at n : ℕ) → (ℕ → Bool) → ℕ → Bool
-also at n loose place = is_within at n place || loose place
+abbrev pub or_within : (at n : ℕ) → (ℕ → Bool) → ℕ → Bool
+or_within at n loose place = is_within at n place || loose place
 
 -- the same bytes but for the loose places
 pub record IsBeside (loose : ℕ → Bool) (bytes other : List ℕ) : Type 0 where
@@ -36,15 +36,15 @@ pub record Guarded (loose : ℕ → Bool) (Before After : List ℕ → Type 0) (
   pub blind_before : Blind loose Before
   pub blind_after : Blind loose After
 
-abbrev pub shows : {loose : ℕ → Bool} {Before After : List ℕ → Type 0} {at : ℕ} {text : List ℕ} → Guarded loose Before After at text → ℕ → List ℕ → List ℕ
-shows k gate left = k.front ++ (gate ∷ left) ++ k.back
+abbrev pub with_gate : {loose : ℕ → Bool} {Before After : List ℕ → Type 0} {at : ℕ} {text : List ℕ} → Guarded loose Before After at text → ℕ → List ℕ → List ℕ
+with_gate k gate left = k.front ++ (gate ∷ left) ++ k.back
 
 -- the gate is closed before the fourth call: the device is one of those before, whatever stands behind it
 abbrev pub AtStage : (loose : ℕ → Bool) (Before After : List ℕ → Type 0) → Stage → DeviceState → ℕ → List ℕ → Type 0
-AtStage loose Before After Body state at text = (k : Guarded loose Before After at text) × (gate : ℕ) × (gate ≢ 165) × Rests loose state (shows k gate k.room)
-AtStage loose Before After BodySync state at text = (k : Guarded loose Before After at text) × (gate : ℕ) × (gate ≢ 165) × Rests (also (at + 1) (length text) loose) state (shows k gate text)
-AtStage loose Before After Gate state at text = (k : Guarded loose Before After at text) × (gate : ℕ) × (gate ≢ 165) × Rests loose state (shows k gate text)
-AtStage loose Before After GateSync state at text = (k : Guarded loose Before After at text) × Rests (also at 1 loose) state (shows k 165 text)
+AtStage loose Before After Body state at text = (k : Guarded loose Before After at text) × (gate : ℕ) × (gate ≢ 165) × Rests loose state (with_gate k gate k.room)
+AtStage loose Before After BodySync state at text = (k : Guarded loose Before After at text) × (gate : ℕ) × (gate ≢ 165) × Rests (or_within (at + 1) (length text) loose) state (with_gate k gate text)
+AtStage loose Before After Gate state at text = (k : Guarded loose Before After at text) × (gate : ℕ) × (gate ≢ 165) × Rests loose state (with_gate k gate text)
+AtStage loose Before After GateSync state at text = (k : Guarded loose Before After at text) × Rests (or_within at 1 loose) state (with_gate k 165 text)
 AtStage loose Before After Idle state at text = (b : List ℕ) × After b × Rests loose state b
 AtStage loose Before After Stopped state at text = Unit {0}
 AtStage loose Before After stage state at text = ⊥

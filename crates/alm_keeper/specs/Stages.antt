@@ -13,17 +13,17 @@ IsWorking Stopped = ⊥
 IsWorking stage = Unit {0}
 
 -- the stage after a call that was done
-abbrev pub following : Stage → Stage
-following Close = CloseSync
-following CloseSync = Body
-following Body = BodySync
-following BodySync = Gate
-following Gate = GateSync
-following stage = Idle
+abbrev pub next_stage : Stage → Stage
+next_stage Close = CloseSync
+next_stage CloseSync = Body
+next_stage Body = BodySync
+next_stage BodySync = Gate
+next_stage Gate = GateSync
+next_stage stage = Idle
 
 -- the stage after a call
 abbrev pub stage_after : {E : Type 0} → Stage → Result Unit E → Stage
-stage_after stage (Ok _) = following stage
+stage_after stage (Ok _) = next_stage stage
 stage_after stage (Err _) = Stopped
 
 -- the first stage of a checkpoint: it closes the gate of the half that doesn't stand only where that gate reads open

@@ -6,19 +6,19 @@ use Rattle.alm_model.specs.Step.{run}
 use Rattle.alm_codec.specs.declared.version.Version.{Version}
 use Rattle.alm_codec.specs.declared.version.Version.TheVariants.{V02}
 use Rattle.alm_codec.specs.Versions.{AreBorne}
-use Rattle.alm_segment.specs.Course.{is_open, frame_len}
+use Rattle.alm_segment.specs.Course.{is_gate_open, frame_len}
 use Rattle.alm_checkpoint.specs.declared.layout.Layout.{Layout}
 use Rattle.alm_checkpoint.specs.declared.half.Half.{Half}
-use Rattle.alm_checkpoint.specs.Layouts.{byte_at, half_at, half_len, other}
+use Rattle.alm_checkpoint.specs.Layouts.{layout_byte, half_at, half_len, other}
 use Rattle.alm_checkpoint.specs.Cut.{Cut, Stores, Reaches, front, device_of}
 
 -- the device holds this plant in this epoch, in front of a closed gate
-pub record Holds (epoch : ℕ) (plant : Condensed) (bytes : List ℕ) : Type 0 where
+pub record HoldsPlant (epoch : ℕ) (plant : Condensed) (bytes : List ℕ) : Type 0 where
   pub cut : Cut
   pub in_epoch : cut.epoch ≡ epoch
   pub stores : Stores cut plant
   pub gate : ℕ
-  pub closed : is_open gate ≡ false
+  pub closed : is_gate_open gate ≡ false
   pub tail : List ℕ
   pub reaches : Reaches cut (gate ∷ tail)
   pub text : bytes ≡ device_of cut (gate ∷ tail)
@@ -39,7 +39,7 @@ pub record Account : Type 0 where
 
 -- what a keeper knows of a device that is cut so
 abbrev pub account_of : Cut → Condensed → Account
-account_of c plant = record { layout = c.layout; half = c.half; other_open = is_open (byte_at c.other 0); version = c.version; epoch = c.epoch; gate = length (front c); plant = plant }
+account_of c plant = record { layout = c.layout; half = c.half; other_open = is_gate_open (layout_byte c.other 0); version = c.version; epoch = c.epoch; gate = length (front c); plant = plant }
 
 -- the device is as the account tells
 pub record Ready (a : Account) (bytes : List ℕ) : Type 0 where
@@ -47,7 +47,7 @@ pub record Ready (a : Account) (bytes : List ℕ) : Type 0 where
   pub is : a ≡ account_of cut a.plant
   pub stores : Stores cut a.plant
   pub gate : ℕ
-  pub closed : is_open gate ≡ false
+  pub closed : is_gate_open gate ≡ false
   pub tail : List ℕ
   pub reaches : Reaches cut (gate ∷ tail)
   pub text : bytes ≡ device_of cut (gate ∷ tail)
@@ -57,21 +57,21 @@ abbrev pub other_at : Account → ℕ
 other_at a = half_at a.layout (other a.half)
 
 -- where the half that stands ends
-abbrev pub end_of : Account → ℕ
-end_of a = half_at a.layout a.half + half_len a.layout
+abbrev pub end_of_half : Account → ℕ
+end_of_half a = half_at a.layout a.half + half_len a.layout
 
 -- a frame of so many actions and the next gate fit
-abbrev pub Fits : Account → ℕ → Type 0
-Fits a n = a.gate + frame_len n + 1 ≤ end_of a
+abbrev pub FitsFrame : Account → ℕ → Type 0
+FitsFrame a n = a.gate + frame_len n + 1 ≤ end_of_half a
 
 -- a frame of these actions fits, and the half may hold them
-abbrev pub Takes : Account → List Action → Type 0
-Takes a actions = Fits a (length actions) × AreBorne a.version actions
+abbrev pub TakesFrame : Account → List Action → Type 0
+TakesFrame a actions = FitsFrame a (length actions) × AreBorne a.version actions
 
 -- after a commit, after a checkpoint
-abbrev pub committed : Account → List Action → Account
-committed a actions = record a { gate = a.gate + frame_len (length actions); plant = run a.plant actions }
+abbrev pub with_commit : Account → List Action → Account
+with_commit a actions = record a { gate = a.gate + frame_len (length actions); plant = run a.plant actions }
 
 -- .. whose run is so long
-abbrev pub turned : Account → (run : ℕ) → Account
-turned a run = record a { half = other a.half; other_open = true; version = V02; epoch = a.epoch + 1; gate = other_at a + run }
+abbrev pub turned_half : Account → (run : ℕ) → Account
+turned_half a run = record a { half = other a.half; other_open = true; version = V02; epoch = a.epoch + 1; gate = other_at a + run }

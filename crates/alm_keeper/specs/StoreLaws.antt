@@ -1,7 +1,7 @@
 -- What a store's laws are of a keeper.
-use Rattle.std.specs.Prelude.{◌≡◌, ◌≢◌, ◌≤◌, ◌↔◌, List, length, ℕ, None, IsSome}
+use Rattle.std.specs.Prelude.{◌≡◌, ◌≢◌, ◌≤◌, List, length, ℕ, None, IsSome}
 use Rattle.std.proofs.Common.{refl, sym, subst}
-use Rattle.alm_disk.specs.Device.{DeviceState, IsBytes}
+use Rattle.alm_disk.specs.Device.{AreBytes}
 use Rattle.alm_model.specs.Plant.{Condensed}
 use Rattle.alm_model.specs.Rules.{KeepsRules}
 use Rattle.alm_checkpoint.proofs.CutOf.{stands_cut}
@@ -17,11 +17,11 @@ use Rattle.alm_codec.specs.declared.version.Version.{Version}
 use Rattle.alm_codec.specs.declared.version.Version.TheVariants.{V02}
 use Rattle.alm_codec.specs.Versions.{AreBorne}
 use Rattle.alm_codec.proofs.Frames.{all_borne}
-use Rattle.alm_keeper.specs.Keeper.{Held, Takes, next, next_by, begun_by, used}
-use Rattle.alm_store.specs.Pace.{TakesAny}
+use Rattle.alm_keeper.specs.Keeper.{KeeperView, Takes, next, next_by, begun_by}
+use Rattle.alm_store.specs.Pacing.{TakesAny}
 use Rattle.alm_types.specs.declared.action.Action.{Action}
 use Rattle.alm_store.specs.Advancing.{IsOpen}
-use Rattle.alm_keeper.specs.AsStore.{StandsFor, run_of, is_open, going_if, going}
+use Rattle.alm_keeper.specs.AsStore.{StandsFor, store_state_of, run_of, is_checkpoint_open, going_if, going_of}
 use Rattle.alm_store.proofs.Pace.{room_for}
 
 -- a keeper whose phase is idle is at no stage of a work
@@ -42,7 +42,7 @@ is_idle GateSync Commit e = absurd cc
 is_idle GateSync Checkpoint e = absurd cc
 
 -- where no commit is under way the next plant is the stored one
-rests_by : {D : Type 0} (s : Stage) (w : Work) (k : Held D) → phase_of s w ≢ at.Committing → phase_of s w ≢ at.Stopped → (next_by s k.stored (begun_by w k)).plant ≡ k.stored.plant
+rests_by : {D : Type 0} (s : Stage) (w : Work) (k : KeeperView D) → phase_of s w ≢ at.Committing → phase_of s w ≢ at.Stopped → (next_by s k.stored (begun_by w k)).plant ≡ k.stored.plant
 rests_by Idle w k other going = refl
 rests_by Stopped w k other going = absurd (going refl)
 rests_by Close Commit k other going = absurd (other refl)
@@ -58,23 +58,19 @@ rests_by Gate Checkpoint k other going = refl
 rests_by GateSync Commit k other going = absurd (other refl)
 rests_by GateSync Checkpoint k other going = refl
 
-pub rests : {D : Type 0} (k : Held D) → phase_of k.stage k.work ≢ at.Committing → phase_of k.stage k.work ≢ at.Stopped → (next k).plant ≡ k.stored.plant
+pub rests : {D : Type 0} (k : KeeperView D) → phase_of k.stage k.work ≢ at.Committing → phase_of k.stage k.work ≢ at.Stopped → (next k).plant ≡ k.stored.plant
 rests k other going = rests_by k.stage k.work k other going
-
--- what is told of a keeper's device is that device's
-pub told_of : {D : Type 0} (honest : D → Type 0) (state : D → DeviceState) (failures : D → ℕ) (disk : D) → (honest disk ↔ honest disk) × (state disk ≡ state disk) × (failures disk ≡ failures disk)
-told_of honest state failures disk = ((λ x. x, λ x. x), refl, refl)
 
 -- no bytes stand for two plants
 pub stands_for_one : (bytes : List ℕ) (p q : Condensed) → StandsFor bytes p → StandsFor bytes q → p ≡ q
 stands_for_one bytes p q x y = (stands_once bytes x.0 y.0 p q x.1 y.1).1
 
 -- what bytes stand for keeps the rules of every plant
-pub keeps_rules : (bytes : List ℕ) (p : Condensed) → IsBytes bytes → StandsFor bytes p → KeepsRules p
+pub keeps_rules : (bytes : List ℕ) (p : Condensed) → AreBytes bytes → StandsFor bytes p → KeepsRules p
 keeps_rules bytes p are x = let k = stands_cut bytes x.0 p x.1 are in rules_stored k.cut p k.stores
 
 -- no checkpoint is open where a keeper is idle, and one is as it goes on
-alone_by : {D : Type 0} (k : Held D) (s : Stage) (w : Work) → phase_of s w ≡ at.Idle → going_if (is_open s w k.copying) (run_of k) ≡ None
+alone_by : {D : Type 0} (k : KeeperView D) (s : Stage) (w : Work) → phase_of s w ≡ at.Idle → going_if (is_checkpoint_open s w k.copying) (run_of k) ≡ None
 alone_by k Idle w e = refl
 alone_by k Stopped w e = absurd cc
 alone_by k Close Commit e = absurd cc
@@ -90,7 +86,7 @@ alone_by k Gate Checkpoint e = absurd cc
 alone_by k GateSync Commit e = absurd cc
 alone_by k GateSync Checkpoint e = absurd cc
 
-open_by : {D : Type 0} (k : Held D) (s : Stage) (w : Work) → IsOpen (phase_of s w) → IsSome (going_if (is_open s w k.copying) (run_of k))
+open_by : {D : Type 0} (k : KeeperView D) (s : Stage) (w : Work) → IsOpen (phase_of s w) → IsSome (going_if (is_checkpoint_open s w k.copying) (run_of k))
 open_by k Idle w e = absurd e
 open_by k Stopped w e = absurd e
 open_by k Close Commit e = absurd e
@@ -106,12 +102,12 @@ open_by k Gate Checkpoint e = refl
 open_by k GateSync Commit e = absurd e
 open_by k GateSync Checkpoint e = refl
 
-pub goes_alone : {D : Type 0} (k : Held D) → phase_of k.stage k.work ≡ at.Idle → going k ≡ None
+pub goes_alone : {D : Type 0} (k : KeeperView D) → phase_of k.stage k.work ≡ at.Idle → going_of k ≡ None
 goes_alone k is = alone_by k k.stage k.work is
 
-pub goes_open : {D : Type 0} (k : Held D) → IsOpen (phase_of k.stage k.work) → IsSome (going k)
+pub goes_open : {D : Type 0} (k : KeeperView D) → IsOpen (phase_of k.stage k.work) → IsSome (going_of k)
 goes_open k is = open_by k k.stage k.work is
 
 -- where there is room for the longest frame any batch is taken by a half of version 02
-pub fits_any : {D : Type 0} (k : Held D) (actions : List Action) → k.stored.version ≡ V02 → length actions ≤ 256 → TakesAny k.segment (used k) → Takes k.stored actions
+pub fits_any : {D : Type 0} (k : KeeperView D) (actions : List Action) → k.stored.version ≡ V02 → length actions ≤ 256 → TakesAny (store_state_of k) → Takes k.stored actions
 fits_any k actions newest few any = (room_for k.stored.room k.segment (length actions) few any, subst (λ (v : Version). AreBorne v actions) (sym newest) (all_borne actions))

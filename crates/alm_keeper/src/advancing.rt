@@ -6,7 +6,7 @@ ghost use Rattle.alm_disk.specs.Device.{IsImage};
 ghost use Rattle.alm_disk.specs.Failures.{CountsFault, HasFailed};
 ghost use Rattle.alm_store.specs.Calls.{IsCall};
 ghost use Rattle.alm_keeper.specs.Keeper.{call_of, CallsOnce};
-ghost use Rattle.alm_keeper.specs.Keeping.{held, InOrder, FitsDevice, Keeps, PassesOn, MayLeave, Ends};
+ghost use Rattle.alm_keeper.specs.Keeping.{keeper_of, InOrder, FitsDevice, Keeps, PassesOn, MayLeave, Ends};
 
 use crate::book::Book;
 use crate::gated::call;
@@ -22,7 +22,7 @@ fn call_next<D: Disk>(disk: &mut D, book: &Book) -> Result<(), DiskFault>
     ensures honest { D.honest disk.old ↔ D.honest disk.new }
     ensures size { D.size disk.new ≡ D.size disk.old }
     ensures count { CountsFault result (D.failures disk.old) (D.failures disk.new) }
-    ensures serves { D.serves disk.old (call_of (held disk.old book.now)) result disk.new }
+    ensures serves { D.serves disk.old (call_of (keeper_of disk.old book.now)) result disk.new }
     ensures is_call { D.honest disk.old → IsCall (D.state disk.old) (D.state disk.new) }
     ensures passes { D.honest disk.old → ∥ Keeps (D.state disk.old) book.now ∥₁ →
         ∥ PassesOn result (D.state disk.old) (D.state disk.new) book.now ∥₁ }
@@ -46,16 +46,15 @@ pub fn advance<D: Disk>(disk: &mut D, book: &mut Book) -> Progress
     requires working { IsWorking book.old.stage }
     requires in_order { InOrder book.old }
     requires fits { FitsDevice book.old (D.size disk.old) }
-    ensures honest { D.honest disk.old ↔ D.honest disk.new }
-    ensures size { D.size disk.new ≡ D.size disk.old }
+    ensures same { (D.honest disk.old ↔ D.honest disk.new) × (D.size disk.new ≡ D.size disk.old) }
     ensures in_order { InOrder book.new }
     ensures fits { FitsDevice book.new (D.size disk.new) }
     ensures ends { Ends result book.old book.new }
-    ensures failed { result ≡ Progress.Failed →
-        HasFailed (D.failures disk.old) (D.failures disk.new) }
-    ensures sound { result ≢ Progress.Failed → D.failures disk.new ≡ D.failures disk.old }
-    ensures count { D.failures disk.old ≤ D.failures disk.new }
-    ensures call { CallsOnce D.serves (call_of (held disk.old book.old)) result disk.old disk.new }
+    ensures counts { (D.failures disk.old ≤ D.failures disk.new) ×
+        (result ≢ Progress.Failed → D.failures disk.new ≡ D.failures disk.old) ×
+        (result ≡ Progress.Failed → HasFailed (D.failures disk.old) (D.failures disk.new)) }
+    ensures call { CallsOnce D.serves (call_of (keeper_of disk.old book.old)) result disk.old
+        disk.new }
     ensures is_call { D.honest disk.old → IsCall (D.state disk.old) (D.state disk.new) }
     ensures keeps { D.honest disk.old → ∥ Keeps (D.state disk.old) book.old ∥₁ →
         ∥ Keeps (D.state disk.new) book.new ∥₁ }

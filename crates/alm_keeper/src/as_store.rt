@@ -10,46 +10,25 @@ use std::alloc::Global;
 impl<D: Disk + Drop> Store for Keeper<D> {
     ghost use Rattle.std.specs.Prelude.{◌≡◌, ◌≤◌, ◌+◌, ◌-◌, ◌^◌, length};
     ghost use Rattle.alm_codec.specs.declared.version.Version.TheVariants.{V02};
-    ghost use Rattle.alm_keeper.specs.Keeper.{Takes, next, used};
-    ghost use Rattle.alm_keeper.specs.Stages.{phase_of};
-    ghost use Rattle.alm_keeper.specs.AsStore.{StandsFor, IsSpent, calls_left, going};
-    ghost use Rattle.alm_keeper.specs.StoreLaws.{fits_any, goes_alone, goes_open, keeps_rules, rests, stands_for_one, told_of};
+    ghost use Rattle.alm_keeper.specs.Keeper.{Takes, next};
+    ghost use Rattle.alm_keeper.specs.AsStore.{StandsFor, IsLastEpoch, store_state_of};
+    ghost use Rattle.alm_keeper.specs.StoreLaws.{fits_any, goes_alone, goes_open, keeps_rules, rests, stands_for_one};
 
     type Device = D;
 
     ghost disk = { λ k. k.disk };
 
-    ghost honest = { λ k. D.honest k.disk };
-
-    ghost device = { λ k. D.state k.disk };
-
-    ghost failures = { λ k. D.failures k.disk };
+    ghost state = { λ k. store_state_of k };
 
     ghost recovers = { StandsFor };
-
-    ghost phase = { λ k. phase_of k.stage k.work };
-
-    ghost stored = { λ k. k.stored.plant };
-
-    ghost next = { λ k. (next k).plant };
 
     ghost takes = { λ k actions. Takes k.stored actions };
 
     ghost will_take = { λ k actions. Takes (next k) actions };
 
-    ghost left = { λ k. calls_left k.stage k.work (k.run - k.out) };
-
-    ghost written = { λ k. k.written };
-
-    ghost used = { λ k. used k };
-
-    ghost segment = { λ k. k.segment };
-
-    ghost going = { λ k. going k };
-
     ghost newest = { λ k. k.stored.version ≡ V02 };
 
-    ghost spent = { IsSpent };
+    ghost spent = { IsLastEpoch };
 
     ghost exhausted = { λ k. 2 ^ 64 ≤ k.stored.epoch + 1 };
 
@@ -109,8 +88,6 @@ impl<D: Disk + Drop> Store for Keeper<D> {
         Keeper::images(self);
         Keeper::advance(self)
     }
-
-    ghost of_disk = { λ k. told_of D.honest D.state D.failures k.disk };
 
     ghost idle = { λ k other going. rests k other going };
 

@@ -1,17 +1,17 @@
 //! What a keeper knows of its device, and what it has begun.
 
 ghost use Rattle.std.specs.Prelude.{◌≡◌, ◌≤◌, ◌<◌, ◌+◌, ◌*◌, ◌^◌, ◌-◌, ◌∷◌, ◌++◌, ℕ, ◌↔◌, IsTrue, length, OnOk, OnErr, IfErr, take, drop, true, false};
-ghost use Rattle.alm_keeper.specs.Stages.{IsWorking, following, first_stage, rest_stage, rest_work};
+ghost use Rattle.alm_keeper.specs.Stages.{IsWorking, next_stage, first_stage, rest_stage, rest_work};
 ghost use Rattle.alm_checkpoint.specs.Layouts.{half_at, half_len};
 ghost use Rattle.alm_codec.specs.Frames.{frame_body};
 ghost use Rattle.alm_segment.specs.Course.{frame_len};
 ghost use Rattle.alm_model.specs.Judging.{accepted_of};
-ghost use Rattle.alm_keeper.specs.Stand.{other_at, end_of, Fits, Takes, committed};
+ghost use Rattle.alm_keeper.specs.Stand.{other_at, end_of_half, FitsFrame, TakesFrame, with_commit};
 ghost use Rattle.alm_keeper.specs.declared.stage.Stage.{Stage};
 ghost use Rattle.alm_keeper.specs.declared.stage.Work.{Work};
 ghost use Rattle.alm_keeper.specs.Stages.{phase_of};
 ghost use Rattle.alm_keeper.specs.Keeper.{begin_answer, checkpoint_answer};
-ghost use Rattle.alm_keeper.specs.Keeping.{account, run_in, piece_of, InOrder, Begins, Copies, Closes, Turns, Finishes, sent_by, GoesOn};
+ghost use Rattle.alm_keeper.specs.Keeping.{account, run_in, piece_of, InOrder, Begins, Copies, ClosesBook, TurnsBook, Finishes, sent_by, IsBookAfter};
 
 use crate::bearing::bears_all;
 use crate::frame::{append_frame, write_frame};
@@ -91,7 +91,7 @@ impl Book {
 
     /// Where the half that stands ends.
     pub fn end(&self) -> u64
-        ensures { result ≡ end_of (account self.now) }
+        ensures { result ≡ end_of_half (account self.now) }
     {
         let Layout {
             rows: _rows,
@@ -108,7 +108,8 @@ impl Book {
     /// Where the first closed gate stands in the segment.
     pub fn used(&self) -> u64
         requires { InOrder self.now }
-        ensures { result + (end_of (account self.now) - self.now.gate) ≡ self.now.layout.segment }
+        ensures { result + (end_of_half (account self.now) - self.now.gate) ≡
+            self.now.layout.segment }
     {
         self.gate - self.layout.segment_at(self.half)
     }
@@ -124,7 +125,7 @@ impl Book {
     /// Begins a commit, without a device call.
     pub fn begin(&mut self, batch: &Batch) -> Result<(), Refused>
         requires some { 1 ≤ length (accepted_of batch.now.entries) }
-        requires takes { Takes (account self.old) (accepted_of batch.now.entries) }
+        requires takes { TakesFrame (account self.old) (accepted_of batch.now.entries) }
         requires in_order { InOrder self.old }
         ensures answer { result ≡
             begin_answer (phase_of self.old.stage self.old.work) self.old.stored batch.now }
@@ -162,7 +163,7 @@ impl Book {
         requires working { IsWorking self.old.stage }
         requires commit { self.old.work ≡ Work.Commit }
         requires in_order { InOrder self.old }
-        ensures account { account self.new ≡ committed (account self.old) self.old.actions.items }
+        ensures account { account self.new ≡ with_commit (account self.old) self.old.actions.items }
         ensures same { self.new ≡
             record self.old { gate = self.new.gate; stored = self.new.stored; written = 0 } }
     {
@@ -177,7 +178,7 @@ impl Book {
         requires last { self.old.stage ≡ Stage.GateSync }
         requires copying { self.old.copying ≡ false }
         requires in_order { InOrder self.old }
-        ensures closes { Closes self.old self.new }
+        ensures closes { ClosesBook self.old self.new }
         ensures in_order { InOrder self.new }
     {
         self.store();
@@ -190,7 +191,7 @@ impl Book {
         requires last { self.old.stage ≡ Stage.GateSync }
         requires copying { self.old.copying ≡ true }
         requires in_order { InOrder self.old }
-        ensures closes { Closes self.old self.new }
+        ensures closes { ClosesBook self.old self.new }
         ensures in_order { InOrder self.new }
     {
         let first = self.stored.count() + 1;
@@ -212,7 +213,7 @@ impl Book {
         requires last { self.old.stage ≡ Stage.GateSync }
         requires checkpoint { self.old.work ≡ Work.Checkpoint }
         requires in_order { InOrder self.old }
-        ensures turns { Turns self.old self.new }
+        ensures turns { TurnsBook self.old self.new }
         ensures in_order { InOrder self.new }
     {
         self.gate = self.other_at() + self.run as u64;
@@ -262,7 +263,7 @@ impl Book {
     pub fn go_on(&mut self) -> Progress
         requires working { IsWorking self.old.stage }
         requires in_order { InOrder self.old }
-        ensures goes { GoesOn self.old.stage self.old.work result self.old self.new }
+        ensures goes { IsBookAfter self.old.stage self.old.work result self.old self.new }
         ensures in_order { InOrder self.new }
     {
         match self.stage {
@@ -315,7 +316,7 @@ impl Book {
     /// Whether a frame of so many actions fits behind what is stored.
     pub fn fits(&self, actions: usize) -> bool
         requires { InOrder self.now }
-        ensures { IsTrue result ↔ Fits (account self.now) actions }
+        ensures { IsTrue result ↔ FitsFrame (account self.now) actions }
     {
         let room = self.end() - self.gate;
         room > 19 && actions as u64 <= (room - 20) / 16
@@ -324,7 +325,7 @@ impl Book {
     /// Whether a frame of a batch's accepted actions fits behind what is stored, and the half may hold them.
     pub fn takes(&self, batch: &Batch) -> bool
         requires { InOrder self.now }
-        ensures { IsTrue result ↔ Takes (account self.now) (accepted_of batch.now.entries) }
+        ensures { IsTrue result ↔ TakesFrame (account self.now) (accepted_of batch.now.entries) }
     {
         self.fits(accepted_in(batch)) && bears_all(self.version, batch.entries())
     }

@@ -5,10 +5,10 @@ ghost use Rattle.std.specs.Prelude.{◌≡◌, ◌≤◌, ◌<◌, ◌+◌, ◌^
 ghost use Rattle.alm_disk.specs.Device.{IsImage, Writes, Syncs};
 ghost use Rattle.alm_disk.specs.Failures.{CountsFault, HasFailed};
 ghost use Rattle.alm_disk.specs.Settled.{IsSettled};
-ghost use Rattle.alm_segment.specs.Course.{is_open};
-ghost use Rattle.alm_checkpoint.specs.Layouts.{byte_at, device_len, image_size};
-ghost use Rattle.alm_keeper.specs.Formatting.{IsShut, IsUnformatted, StaysUnformatted, LeavesBefore, filled, opened, IsClosed, IsOpened, IsWritten, Leaves};
-ghost use Rattle.alm_keeper.specs.Moments.{Moment, Never, Goes, FailsIn, close_calls, behind_calls, open_calls, format_calls};
+ghost use Rattle.alm_segment.specs.Course.{is_gate_open};
+ghost use Rattle.alm_checkpoint.specs.Layouts.{layout_byte, device_len, image_size};
+ghost use Rattle.alm_keeper.specs.Formatting.{IsShut, IsUnformatted, StaysUnformatted, LeavesBefore, with_empty_half, with_open_gate, IsGateClosed, IsOpened, IsWritten, Leaves};
+ghost use Rattle.alm_keeper.specs.Moments.{FormatMoment, Never, IsLedBy, FailsIn, close_calls, behind_calls, open_calls, format_calls};
 ghost use Rattle.alm_disk.specs.declared.call.Call.TheVariants.{Write, Sync};
 
 use alm_checkpoint::{Half, Layout};
@@ -19,8 +19,7 @@ fn close_header<D: Disk>(disk: &mut D) -> Result<(), DiskFault>
     requires gate { 1 ≤ D.size disk.old }
     ensures honest { D.honest disk.old ↔ D.honest disk.new }
     ensures size { D.size disk.new ≡ D.size disk.old }
-    ensures counts { OnOk result (D.failures disk.new ≡ D.failures disk.old) }
-    ensures failed { OnErr result (HasFailed (D.failures disk.old) (D.failures disk.new)) }
+    ensures counts { CountsFault result (D.failures disk.old) (D.failures disk.new) }
     ensures settled { D.honest disk.old →
         OnOk result (IsSettled (D.state disk.new) (D.state disk.new).bytes) }
     ensures shut { D.honest disk.old → (D.state disk.old).faulted ≡ false →
@@ -28,9 +27,9 @@ fn close_header<D: Disk>(disk: &mut D) -> Result<(), DiskFault>
     ensures before { D.honest disk.old →
         OnErr result (LeavesBefore (D.state disk.old) (D.state disk.new)) }
     ensures goes { OnOk result
-        (Goes (Moment D.serves D.state (Unit {0}) Never) disk.old close_calls disk.new) }
+        (IsLedBy (FormatMoment D.serves D.state (Unit {0}) Never) disk.old close_calls disk.new) }
     ensures fails { OnErr result
-        (FailsIn (Moment D.serves D.state (Unit {0}) Never) disk.old close_calls disk.new) }
+        (FailsIn (FormatMoment D.serves D.state (Unit {0}) Never) disk.old close_calls disk.new) }
 {
     disk.write_at(0, &[0])?;
     disk.sync()
@@ -82,21 +81,22 @@ fn write_behind<D: Disk>(
     requires segment { 1 ≤ layout.now.segment }
     ensures honest { D.honest disk.old ↔ D.honest disk.new }
     ensures size { D.size disk.new ≡ D.size disk.old }
-    ensures counts { OnOk result (D.failures disk.new ≡ D.failures disk.old) }
-    ensures failed { OnErr result (HasFailed (D.failures disk.old) (D.failures disk.new)) }
+    ensures counts { CountsFault result (D.failures disk.old) (D.failures disk.new) }
     ensures filled { D.honest disk.old → (D.state disk.old).faulted ≡ false →
         OnOk result
         (IsSettled (D.state disk.new)
-        (filled layout.now header.now half.now (D.state disk.old).bytes)) }
+        (with_empty_half layout.now header.now half.now (D.state disk.old).bytes)) }
     ensures shut { D.honest disk.old → IsShut (D.state disk.old) →
         OnOk result (IsShut (D.state disk.new)) }
     ensures unformatted { D.honest disk.old → IsShut (D.state disk.old) →
         StaysUnformatted (D.state disk.new) (D.state disk.new) }
     ensures goes { OnOk result
-        (Goes (Moment D.serves D.state (D.honest disk.old × IsShut (D.state disk.old)) Never)
+        (IsLedBy
+        (FormatMoment D.serves D.state (D.honest disk.old × IsShut (D.state disk.old)) Never)
         disk.old (behind_calls layout.now) disk.new) }
     ensures fails { OnErr result
-        (FailsIn (Moment D.serves D.state (D.honest disk.old × IsShut (D.state disk.old)) Never)
+        (FailsIn
+        (FormatMoment D.serves D.state (D.honest disk.old × IsShut (D.state disk.old)) Never)
         disk.old (behind_calls layout.now) disk.new) }
 {
     write_shut(disk, 1, header)?;
@@ -117,9 +117,9 @@ fn open_gate<D: Disk>(disk: &mut D) -> Result<(), DiskFault>
     ensures writes { D.honest disk.old →
         Writes 0 (165 ∷ []) result (D.state disk.old) (D.state disk.new) }
     ensures any_moment { (b c : List ℕ) → D.honest disk.old → IsSettled (D.state disk.old) b →
-        is_open (byte_at b 0) ≡ false →
+        is_gate_open (layout_byte b 0) ≡ false →
         IsImage (D.state disk.old) c ⊎ IsImage (D.state disk.new) c →
-        IsUnformatted c ⊎ (c ≡ opened b) }
+        IsUnformatted c ⊎ (c ≡ with_open_gate b) }
 {
     disk.write_at(0, &[0xA5])
 }
@@ -142,20 +142,19 @@ fn open_header<D: Disk>(disk: &mut D) -> Result<(), DiskFault>
     requires gate { 1 ≤ D.size disk.old }
     ensures honest { D.honest disk.old ↔ D.honest disk.new }
     ensures size { D.size disk.new ≡ D.size disk.old }
-    ensures counts { OnOk result (D.failures disk.new ≡ D.failures disk.old) }
-    ensures failed { OnErr result (HasFailed (D.failures disk.old) (D.failures disk.new)) }
+    ensures counts { CountsFault result (D.failures disk.old) (D.failures disk.new) }
     ensures opened { (b : List ℕ) → D.honest disk.old → IsSettled (D.state disk.old) b →
-        OnOk result (IsSettled (D.state disk.new) (opened b)) }
+        OnOk result (IsSettled (D.state disk.new) (with_open_gate b)) }
     ensures either { (b c : List ℕ) → D.honest disk.old → IsSettled (D.state disk.old) b →
-        is_open (byte_at b 0) ≡ false → IsImage (D.state disk.new) c →
-        IsUnformatted c ⊎ (c ≡ opened b) }
+        is_gate_open (layout_byte b 0) ≡ false → IsImage (D.state disk.new) c →
+        IsUnformatted c ⊎ (c ≡ with_open_gate b) }
     ensures goes { OnOk result
-        (Goes
-        (Moment D.serves D.state (D.honest disk.old × IsClosed (D.state disk.old))
+        (IsLedBy
+        (FormatMoment D.serves D.state (D.honest disk.old × IsGateClosed (D.state disk.old))
         (IsOpened (D.state disk.old))) disk.old open_calls disk.new) }
     ensures fails { OnErr result
         (FailsIn
-        (Moment D.serves D.state (D.honest disk.old × IsClosed (D.state disk.old))
+        (FormatMoment D.serves D.state (D.honest disk.old × IsGateClosed (D.state disk.old))
         (IsOpened (D.state disk.old))) disk.old open_calls disk.new) }
 {
     open_gate(disk)?;
@@ -175,21 +174,20 @@ pub fn write_all<D: Disk>(
     requires segment { 1 ≤ layout.now.segment }
     ensures honest { D.honest disk.old ↔ D.honest disk.new }
     ensures size { D.size disk.new ≡ D.size disk.old }
-    ensures counts { OnOk result (D.failures disk.new ≡ D.failures disk.old) }
-    ensures failed { OnErr result (HasFailed (D.failures disk.old) (D.failures disk.new)) }
+    ensures counts { CountsFault result (D.failures disk.old) (D.failures disk.new) }
     ensures settled { D.honest disk.old →
         OnOk result (IsSettled (D.state disk.new) (D.state disk.new).bytes) }
     ensures written { D.honest disk.old →
         OnOk result
         (IsWritten (D.size disk.old) layout.now header.now half.now (D.state disk.new).bytes) }
     ensures goes { OnOk result
-        (Goes
-        (Moment D.serves D.state (D.honest disk.old × ((D.state disk.old).faulted ≡ false))
+        (IsLedBy
+        (FormatMoment D.serves D.state (D.honest disk.old × ((D.state disk.old).faulted ≡ false))
         (IsWritten (D.size disk.old) layout.now header.now half.now)) disk.old
         (format_calls layout.now) disk.new) }
     ensures fails { OnErr result
         (FailsIn
-        (Moment D.serves D.state (D.honest disk.old × ((D.state disk.old).faulted ≡ false))
+        (FormatMoment D.serves D.state (D.honest disk.old × ((D.state disk.old).faulted ≡ false))
         (IsWritten (D.size disk.old) layout.now header.now half.now)) disk.old
         (format_calls layout.now) disk.new) }
     ensures leaves { D.honest disk.old → (D.state disk.old).faulted ≡ false →

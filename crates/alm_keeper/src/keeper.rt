@@ -14,7 +14,7 @@ ghost use Rattle.alm_store.specs.Calls.{IsCall, AreMade};
 ghost use Rattle.alm_keeper.specs.Stages.{IsWorking, phase_of};
 ghost use Rattle.alm_store.specs.Advancing.{IsResting};
 ghost use Rattle.alm_keeper.specs.Opening.{Opens, CountsAs};
-ghost use Rattle.alm_keeper.specs.Keeper.{Held, next, HasRoom, Takes, IsPaused, StandsFor, StandsWithRoom, LiesIn, MayStand, begin_answer, checkpoint_answer, BeginsCommit, BeginsCheckpoint, Advances, call_of, SendsPiece, CallsOnce};
+ghost use Rattle.alm_keeper.specs.Keeper.{KeeperView, next, HasRoom, Takes, IsPaused, IsStoredIn, StandsWithRoom, LiesIn, MayStand, begin_answer, checkpoint_answer, BeginsCommit, BeginsCheckpoint, Progresses, call_of, SendsPiece, CallsOnce};
 
 use crate::advancing::advance;
 use crate::book::Book;
@@ -36,12 +36,12 @@ pub struct Keeper<D: Disk + Drop> {
 }
 
 impl<D: Disk + Drop> Model for Keeper<D> {
-    ghost use Rattle.alm_keeper.specs.Keeper.{Held};
-    ghost use Rattle.alm_keeper.specs.Keeping.{held, InOrder, FitsDevice, Keeps};
+    ghost use Rattle.alm_keeper.specs.Keeper.{KeeperView};
+    ghost use Rattle.alm_keeper.specs.Keeping.{keeper_of, InOrder, FitsDevice, Keeps};
 
-    ghost Value = { Held D };
+    ghost Value = { KeeperView D };
 
-    ghost view = { λ k. held k.disk k.book };
+    ghost view = { λ k. keeper_of k.disk k.book };
 
     ghost invariant = { λ k. InOrder k.book × FitsDevice k.book (D.size k.disk) ×
         (D.honest k.disk → ∥ Keeps (D.state k.disk) k.book ∥₁) };
@@ -54,7 +54,7 @@ impl<D: Disk + Drop> Keeper<D> {
     pub fn advance(&mut self) -> Progress
         requires working { IsWorking self.old.stage }
         ensures honest { D.honest self.old.disk ↔ D.honest self.new.disk }
-        ensures advances { Advances result self.old self.new }
+        ensures advances { Progresses result self.old self.new }
         // Which call it is: a write at this place of so many bytes, or a sync.
         ensures call { CallsOnce D.serves (call_of self.old) result self.old.disk self.new.disk }
         ensures piece { self.old.stage ≡ Stage.Body → self.old.work ≡ Work.Checkpoint →
@@ -107,7 +107,7 @@ impl<D: Disk + Drop> Keeper<D> {
     /// nothing is under way the device stands for what is stored, with its room.
     pub fn images(&self)
         ensures either { D.honest self.now.disk → (b : List ℕ) → IsImage (D.state self.now.disk) b →
-            ∥ StandsFor self.now.stored b ⊎ StandsFor (next self.now) b ∥₁ }
+            ∥ IsStoredIn self.now.stored b ⊎ IsStoredIn (next self.now) b ∥₁ }
         ensures rests { D.honest self.now.disk → IsResting (phase_of self.now.stage self.now.work) →
             ∥ StandsWithRoom self.now.stored (D.state self.now.disk).bytes ∥₁ }
         // The half that stands, and the lengths by which `call_of` has its places.

@@ -1,6 +1,6 @@
 //! Laws: each function does nothing, and its contract is the law.
 
-ghost use Rattle.std.specs.Prelude.{◌≡◌, ◌≤◌, ◌+◌, ℕ, Option, Result, Ok};
+ghost use Rattle.std.specs.Prelude.{◌≡◌, ◌≤◌, ◌+◌, ℕ, Result, Ok};
 ghost use Rattle.alm_disk.specs.Device.{DeviceState};
 ghost use Rattle.alm_disk.specs.declared.disk_fault.DiskFault.{DiskFault};
 ghost use Rattle.alm_types.specs.Batches.{Judged};
@@ -8,9 +8,11 @@ ghost use Rattle.alm_model.specs.Plant.{Condensed};
 ghost use Rattle.alm_model.specs.Rules.{AllAdmitted};
 ghost use Rattle.alm_model.specs.Judging.{accepted_of};
 ghost use Rattle.alm_keeper.specs.Keeper.{begin_answer};
-ghost use Rattle.alm_store.specs.Pace.{least_segment, Going, Paced, IsAhead, KeepsPace, TakesAny};
-ghost use Rattle.alm_keeper.specs.Phases.{UnderWay, KeptIn, Call, Advances};
-ghost use Rattle.alm_keeper.specs.Stand.{Account, end_of};
+ghost use Rattle.alm_store.specs.Pace.{least_segment, Going, Paced, IsPieceAhead};
+ghost use Rattle.alm_store.specs.Pacing.{KeepsPace, TakesAny};
+ghost use Rattle.alm_store.specs.State.{StoreState};
+ghost use Rattle.alm_keeper.specs.Phases.{UnderWay, KeptIn, MakesCall, WorkAdvances};
+ghost use Rattle.alm_keeper.specs.Stand.{Account, end_of_half};
 ghost use Rattle.alm_store.specs.declared.phase.Phase.{Phase};
 ghost use Rattle.alm_store.specs.Advancing.{IsResting};
 
@@ -25,16 +27,14 @@ pub fn next_batch_is_begun()
 /// pieces, and of a commit between its pieces.
 pub fn each_call_keeps_what_is_under_way()
     ensures { (work : UnderWay) (a : Account) (n : ℕ) (result : Result Unit DiskFault)
-        (old new : DeviceState) → a.gate + 1 ≤ end_of a → KeptIn work a old →
-        Call work a n result old new → Advances work a n result old new }
+        (old new : DeviceState) → a.gate + 1 ≤ end_of_half a → KeptIn work a old →
+        MakesCall work a n result old new → WorkAdvances work a n result old new }
 {}
 
 /// A store that keeps its pace takes any batch, where the segment has 452,651 bytes or more.
 pub fn a_store_that_keeps_its_pace_takes_any_batch()
-    ensures takes { (segment : ℕ) (phase : Phase) (used written : ℕ) (going : Option Going) →
-        least_segment ≤ segment → KeepsPace segment phase used written going →
-        TakesAny segment used }
+    ensures takes { (s : StoreState) → least_segment ≤ s.segment → KeepsPace s → TakesAny s }
     // At most 53 commits come into one checkpoint.
     ensures few { (segment : ℕ) (phase : Phase) (used written : ℕ) (g : Going)
-        (p : Paced segment used (IsAhead phase written) g) → p.commits ≤ 53 }
+        (p : Paced segment used (IsPieceAhead phase written) g) → p.commits ≤ 53 }
 {}

@@ -1,7 +1,7 @@
 //! Opening a device.
 
 ghost use Rattle.std.specs.Prelude.{◌≡◌, ◌≤◌, ◌<◌, ◌+◌, ◌^◌, ◌↔◌, ◌⊎◌, List, [], ◌∷◌, ℕ, length, take, OnOk, OnErr, IfOk, IfErr, ◌≢◌, false};
-ghost use Rattle.alm_disk.specs.Device.{IsImage, IsBytes};
+ghost use Rattle.alm_disk.specs.Device.{IsImage, AreBytes};
 ghost use Rattle.alm_disk.specs.Failures.{HasFailed};
 ghost use Rattle.alm_disk.specs.Settled.{IsSettled};
 ghost use Rattle.alm_disk.specs.declared.call.Call.{Call};
@@ -11,7 +11,7 @@ ghost use Rattle.alm_checkpoint.specs.Cut.{IsLayout};
 ghost use Rattle.alm_checkpoint.specs.Opening.{layout_in};
 ghost use Rattle.alm_store.specs.Calls.{AreMade};
 ghost use Rattle.alm_keeper.specs.Calls.{reads_of};
-ghost use Rattle.alm_keeper.specs.Opening.{Counts, IsReadOf, AreMarks, MarksFrom, Opens, Restores};
+ghost use Rattle.alm_keeper.specs.Opening.{CountsOpening, IsReadOf, AreMarks, MarksFrom, Opens, Restores};
 ghost use Rattle.alm_keeper.specs.Keeping.{InOrder, FitsDevice};
 
 use crate::book::Book;
@@ -50,7 +50,7 @@ fn read<D: Disk>(disk: &mut D, at: u64, into: &mut [u8]) -> Result<(), DiskFault
 fn read_layout<D: Disk>(disk: &mut D) -> Result<Layout, OpenFault>
     ensures honest { D.honest disk.old ↔ D.honest disk.new }
     ensures size { D.size disk.new ≡ D.size disk.old }
-    ensures counts { Counts result (D.failures disk.old) (D.failures disk.new) }
+    ensures counts { CountsOpening result (D.failures disk.old) (D.failures disk.new) }
     ensures keeps { (b : List ℕ) → D.honest disk.old → IsSettled (D.state disk.old) b →
         IsSettled (D.state disk.new) b }
     ensures layout { (b : List ℕ) → D.honest disk.old → IsSettled (D.state disk.old) b →
@@ -92,7 +92,7 @@ fn read_marks<D: Disk>(disk: &mut D, layout: Layout) -> Result<Marks, OpenFault>
     requires small { device_len layout < 2 ^ 64 }
     ensures honest { D.honest disk.old ↔ D.honest disk.new }
     ensures size { D.size disk.new ≡ D.size disk.old }
-    ensures counts { Counts result (D.failures disk.old) (D.failures disk.new) }
+    ensures counts { CountsOpening result (D.failures disk.old) (D.failures disk.new) }
     ensures keeps { (b : List ℕ) → D.honest disk.old → IsSettled (D.state disk.old) b →
         IsSettled (D.state disk.new) b }
     ensures marks { (b : List ℕ) → D.honest disk.old → IsSettled (D.state disk.old) b →
@@ -151,7 +151,7 @@ fn marks_of(layout: Layout, first: &[u8], second: &[u8]) -> Result<Marks, OpenFa
 pub fn open_book<D: Disk>(alloc: Global, disk: &mut D) -> Result<Book, OpenFault>
     ensures honest { D.honest disk.old ↔ D.honest disk.new }
     ensures size { D.size disk.new ≡ D.size disk.old }
-    ensures counts { Counts result (D.failures disk.old) (D.failures disk.new) }
+    ensures counts { CountsOpening result (D.failures disk.old) (D.failures disk.new) }
     // Nothing is written: what a crash may leave afterwards it could leave before.
     ensures unwritten { D.honest disk.old → (b : List ℕ) → IsImage (D.state disk.new) b →
         IsImage (D.state disk.old) b }
@@ -175,10 +175,10 @@ pub fn open_book<D: Disk>(alloc: Global, disk: &mut D) -> Result<Book, OpenFault
 fn read_book<D: Disk>(alloc: Global, disk: &mut D) -> Result<Book, OpenFault>
     ensures honest { D.honest disk.old ↔ D.honest disk.new }
     ensures size { D.size disk.new ≡ D.size disk.old }
-    ensures counts { Counts result (D.failures disk.old) (D.failures disk.new) }
+    ensures counts { CountsOpening result (D.failures disk.old) (D.failures disk.new) }
     ensures keeps { (b : List ℕ) → D.honest disk.old → IsSettled (D.state disk.old) b →
         IsSettled (D.state disk.new) b }
-    ensures opens { (b : List ℕ) → D.honest disk.old → IsSettled (D.state disk.old) b → IsBytes b →
+    ensures opens { (b : List ℕ) → D.honest disk.old → IsSettled (D.state disk.old) b → AreBytes b →
         length b ≡ D.size disk.old → Opens b result }
     ensures in_order { IfOk result InOrder }
     ensures idle { IfOk result
@@ -216,7 +216,7 @@ fn read_room<D: Disk>(
     requires { at + len ≤ D.size disk.old }
     ensures honest { D.honest disk.old ↔ D.honest disk.new }
     ensures size { D.size disk.new ≡ D.size disk.old }
-    ensures counts { Counts result (D.failures disk.old) (D.failures disk.new) }
+    ensures counts { CountsOpening result (D.failures disk.old) (D.failures disk.new) }
     ensures keeps { (b : List ℕ) → D.honest disk.old → IsSettled (D.state disk.old) b →
         IsSettled (D.state disk.new) b }
     ensures given { (b : List ℕ) → D.honest disk.old → IsSettled (D.state disk.old) b →

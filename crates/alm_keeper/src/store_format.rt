@@ -9,12 +9,12 @@ ghost use Rattle.alm_checkpoint.specs.Cut.{IsLayout};
 ghost use Rattle.alm_disk.specs.Device.{IsImage};
 ghost use Rattle.alm_disk.specs.Failures.{HasFailed};
 ghost use Rattle.alm_disk.specs.Settled.{IsSettled};
-ghost use Rattle.alm_checkpoint.specs.Headers.{header_text, suits};
+ghost use Rattle.alm_checkpoint.specs.Headers.{header_text, segment_fits};
 ghost use Rattle.alm_checkpoint.specs.declared.layout.Layout.{Layout};
 ghost use Rattle.alm_checkpoint.specs.Layouts.{device_len, image_size};
 ghost use Rattle.alm_codec.specs.declared.version.Version.TheVariants.{V02};
-ghost use Rattle.alm_keeper.specs.Moments.{Formats, Goes, FailsIn};
-ghost use Rattle.alm_keeper.specs.Formatting.{IsLongest, IsNew, IsOfVersion, LeavesOf, first_half};
+ghost use Rattle.alm_keeper.specs.Moments.{Formats, IsLedBy, FailsIn};
+ghost use Rattle.alm_keeper.specs.Formatting.{IsLongest, IsNewDevice, IsOfVersion, LeavesOf, first_half};
 
 use crate::format_fault::FormatFault;
 use crate::formatting::write_all;
@@ -33,7 +33,7 @@ fn layout_for(table: &Table, size: u64, version: Version) -> Option<Layout>
     ensures longest { IfSome result (IsLongest size table.now) }
     ensures version { IfSome result (λ l. l.version ≡ version) }
     ensures none { result ≡ None → (n : ℕ) →
-        suits size (length table.now.alarms) table.now.areas n ≡ false }
+        segment_fits size (length table.now.alarms) table.now.areas n ≡ false }
 {
     Layout::longest(table.alarms().len() as u32, table.areas(), size, version)
 }
@@ -75,19 +75,18 @@ pub fn format_as<D: Disk + Drop>(
     table: &Table,
     version: Version,
 ) -> Result<D, (FormatFault, D)>
-    ensures honest { IfOk result (λ d. D.honest disk ↔ D.honest d) }
-    ensures honest_back { IfErr result (λ x. D.honest disk ↔ D.honest x.1) }
-    ensures size { IfOk result (λ d. D.size d ≡ D.size disk) }
-    ensures size_back { IfErr result (λ x. D.size x.1 ≡ D.size disk) }
+    ensures same { IfOk result (λ d. (D.honest disk ↔ D.honest d) × (D.size d ≡ D.size disk)) }
+    ensures same_back { IfErr result
+        (λ x. (D.honest disk ↔ D.honest x.1) × (D.size x.1 ≡ D.size disk)) }
     // It reads as one that stands for the new plant in epoch 1, and a crash leaves just that.
     ensures settled { D.honest disk → IfOk result (λ d. IsSettled (D.state d) (D.state d).bytes) }
     ensures stands { D.honest disk →
-        IfOk result (λ d. IsNew (D.size disk) table.now (D.state d).bytes) }
+        IfOk result (λ d. IsNewDevice (D.size disk) table.now (D.state d).bytes) }
     // Its header and the half that stands are of the version.
     ensures version { D.honest disk → IfOk result (λ d. IsOfVersion version (D.state d).bytes) }
     ensures too_small { IfErr result
         (λ x. x.0 ≡ FormatFault.TooSmall → (n : ℕ) →
-        suits (D.size disk) (length table.now.alarms) table.now.areas n ≡ false) }
+        segment_fits (D.size disk) (length table.now.alarms) table.now.areas n ≡ false) }
     ensures fits { IfErr result
         (λ x. x.0 ≢ FormatFault.TooSmall → (l : Layout) × IsLongest (D.size disk) table.now l) }
     ensures unchanged { IfErr result (λ x. x.0 ≢ FormatFault.Disk → x.1 ≡ disk) }
@@ -95,7 +94,7 @@ pub fn format_as<D: Disk + Drop>(
         (λ x. x.0 ≡ FormatFault.Disk → HasFailed (D.failures disk) (D.failures x.1)) }
     // The device calls that were made, and, where nothing had failed before, what a crash leaves at any moment of each.
     ensures moments { IfOk result
-        (λ d. Formats Goes D.serves D.state (D.honest disk × ((D.state disk).faulted ≡ false))
+        (λ d. Formats IsLedBy D.serves D.state (D.honest disk × ((D.state disk).faulted ≡ false))
         (D.size disk) table.now disk d) }
     ensures moments_back { IfErr result
         (λ x. x.0 ≡ FormatFault.Disk →
@@ -122,19 +121,18 @@ pub fn format_as<D: Disk + Drop>(
 
 /// Formats a device for a table in version 02, as [`format_as`] does.
 pub fn format<D: Disk + Drop>(alloc: Global, disk: D, table: &Table) -> Result<D, (FormatFault, D)>
-    ensures honest { IfOk result (λ d. D.honest disk ↔ D.honest d) }
-    ensures honest_back { IfErr result (λ x. D.honest disk ↔ D.honest x.1) }
-    ensures size { IfOk result (λ d. D.size d ≡ D.size disk) }
-    ensures size_back { IfErr result (λ x. D.size x.1 ≡ D.size disk) }
+    ensures same { IfOk result (λ d. (D.honest disk ↔ D.honest d) × (D.size d ≡ D.size disk)) }
+    ensures same_back { IfErr result
+        (λ x. (D.honest disk ↔ D.honest x.1) × (D.size x.1 ≡ D.size disk)) }
     // It reads as one that stands for the new plant in epoch 1, and a crash leaves just that.
     ensures settled { D.honest disk → IfOk result (λ d. IsSettled (D.state d) (D.state d).bytes) }
     ensures stands { D.honest disk →
-        IfOk result (λ d. IsNew (D.size disk) table.now (D.state d).bytes) }
+        IfOk result (λ d. IsNewDevice (D.size disk) table.now (D.state d).bytes) }
     // Its header and the half that stands are of the version.
     ensures version { D.honest disk → IfOk result (λ d. IsOfVersion V02 (D.state d).bytes) }
     ensures too_small { IfErr result
         (λ x. x.0 ≡ FormatFault.TooSmall → (n : ℕ) →
-        suits (D.size disk) (length table.now.alarms) table.now.areas n ≡ false) }
+        segment_fits (D.size disk) (length table.now.alarms) table.now.areas n ≡ false) }
     ensures fits { IfErr result
         (λ x. x.0 ≢ FormatFault.TooSmall → (l : Layout) × IsLongest (D.size disk) table.now l) }
     ensures unchanged { IfErr result (λ x. x.0 ≢ FormatFault.Disk → x.1 ≡ disk) }
@@ -142,7 +140,7 @@ pub fn format<D: Disk + Drop>(alloc: Global, disk: D, table: &Table) -> Result<D
         (λ x. x.0 ≡ FormatFault.Disk → HasFailed (D.failures disk) (D.failures x.1)) }
     // The device calls that were made, and, where nothing had failed before, what a crash leaves at any moment of each.
     ensures moments { IfOk result
-        (λ d. Formats Goes D.serves D.state (D.honest disk × ((D.state disk).faulted ≡ false))
+        (λ d. Formats IsLedBy D.serves D.state (D.honest disk × ((D.state disk).faulted ≡ false))
         (D.size disk) table.now disk d) }
     ensures moments_back { IfErr result
         (λ x. x.0 ≡ FormatFault.Disk →

@@ -1,7 +1,7 @@
 //! Trying the actions of a batch on a plant.
 
 ghost use Rattle.std.specs.Prelude.{◌≡◌, ◌+◌, ◌<◌, ◌≤◌, ◌++◌, [], ℕ, length, MatchBool, MatchOption, Ok, Err, vec_len, vec_capacity};
-ghost use Rattle.alm_keeper.specs.Batch.{tried_one, tried, Tries, TriesAll};
+ghost use Rattle.alm_keeper.specs.Batch.{tried_one, tried_batch, Tries, TriesAll};
 
 use alm_model::Alarms;
 use alm_plant::Plant;
@@ -36,7 +36,7 @@ pub fn try_all(plant: &mut Plant, entries: &[Entry], actions: &mut Vec<Action>) 
     requires none { actions.old.items ≡ [] }
     requires room { length entries.now ≤ vec_capacity actions.old }
     ensures tries { MatchOption result (TriesAll plant.old plant.new entries.now actions.new.items)
-        (λ place. tried plant.old 0 entries.now ≡ Err place) }
+        (λ place. tried_batch plant.old 0 entries.now ≡ Err place) }
     ensures room { vec_capacity actions.new ≡ vec_capacity actions.old }
 {
     let mut place: usize = 0;

@@ -9,7 +9,7 @@ use Rattle.std.proofs.lemmas.List.Sums.{split_at_first, passes_at_first}
 use Rattle.std.specs.Str.Parse.{AllDigits}
 use Rattle.std.proofs.lemmas.Str.Parse.{digit_from_value}
 use Rattle.std.proofs.lemmas.Fmt.{decimal_is_IsNumeral}
-use Rattle.alm_lines.specs.Line.{cut, same}
+use Rattle.alm_lines.specs.Line.{cut_at_space, same}
 
 abbrev is_space : ℕ → Bool
 is_space b = b == 32
@@ -20,7 +20,7 @@ joined first None = first
 joined first (Some rest) = first ++ 32 ∷ rest
 
 -- the parts make the whole
-pub cut-joined : (xs : List ℕ) → xs ≡ joined (cut xs).0 (cut xs).1
+pub cut-joined : (xs : List ℕ) → xs ≡ joined (cut_at_space xs).0 (cut_at_space xs).1
 cut-joined xs =
     elim (cases_Bool (nat_lt (position_or_len is_space xs) (length xs))) [
       | inl hit ↦
@@ -64,13 +64,13 @@ drop-front : (a : List ℕ) (x : ℕ) (b : List ℕ) → drop (length a + 1) (a 
 drop-front [] x b = refl
 drop-front (c ∷ cs) x b = rw add-one (let next = drop-front cs x b in rw add-one at next)
 
-pub cut-spaced : (a b : List ℕ) → is_spaceless a ≡ true → cut (a ++ 32 ∷ b) ≡ (a, Some b)
+pub cut-spaced : (a b : List ℕ) → is_spaceless a ≡ true → cut_at_space (a ++ 32 ∷ b) ≡ (a, Some b)
 cut-spaced a b e =
     let place = place-spaced a b e in
     let within : nat_lt (length a) (length (a ++ 32 ∷ b)) ≡ true = grind (arith, length-append a (32 ∷ b)) in
     rw (place, within, take-front a (32 ∷ b), drop-front a 32 b) refl
 
-pub cut-alone : (a : List ℕ) → is_spaceless a ≡ true → cut a ≡ (a, None)
+pub cut-alone : (a : List ℕ) → is_spaceless a ≡ true → cut_at_space a ≡ (a, None)
 cut-alone a e =
     let place = place-none a e in
     let none : nat_lt (length a) (length a) ≡ false = grind arith in

@@ -11,7 +11,7 @@ use Rattle.alm_types.specs.Actions.{IsAction}
 use Rattle.alm_types.specs.Readings.{IsReading}
 use Rattle.alm_lines.specs.declared.ask.Ask.{Ask}
 use Rattle.alm_lines.specs.declared.ask.Ask.TheVariants.{Act, Look, Bad}
-use Rattle.alm_lines.specs.Texts.{value_text, switch_text, with_one, with_two, ask_text, action_text, query_text, request_text, IsInRange, IsQueryInRange}
+use Rattle.alm_lines.specs.Texts.{value_text, switch_text, with_one, with_two, ask_text, action_words, query_text, request_text, IsAskInRange, IsQueryInRange}
 
 -- a number of 64 bits has at most 20 digits
 number-length : (n : ℕ) → n < 2 ^ 64 → length (decimal n) ≤ 20
@@ -39,7 +39,7 @@ two-length word first second w f s = grind (arith, length-append word (32 ∷ (f
 alarm-length : (n : ℕ) → n < 2 ^ 32 → length (decimal n) ≤ 20
 alarm-length n h = number-length n (omega (arith, h))
 
-action-length : (action : Action) → IsAction action → length (action_text action) ≤ 60
+action-length : (action : Action) → IsAction action → length (action_words action) ≤ 60
 action-length (Clock t) h = one-length (codes "CLOCK") (decimal t) (omega arith) (omega (arith, number-length t (omega (arith, h.argument))))
 action-length (Value i v) h = two-length (codes "VAL") (decimal i.0) (value_text v) (omega arith) (alarm-length i.0 h.alarm) (value-length v h.argument)
 action-length (Ack i) h = one-length (codes "ACK") (decimal i.0) (omega arith) (omega (arith, alarm-length i.0 h.alarm))
@@ -60,12 +60,12 @@ query-length (Flood n) h = one-length (codes "FLOOD") (decimal n) (omega arith) 
 query-length Stale h = omega arith
 query-length Chatter h = omega arith
 
-ask-length : (ask : Ask) → IsInRange ask → length (ask_text ask) ≤ 60
+ask-length : (ask : Ask) → IsAskInRange ask → length (ask_text ask) ≤ 60
 ask-length (Act action) h = action-length action h
 ask-length (Look query) h = query-length query h
 ask-length (Bad refusal) h = absurd h
 
 -- so a request has less than 128 bytes, with the end of its line
-pub request-length : (id : ℕ) (ask : Ask) → id < 2 ^ 32 → IsInRange ask → length (request_text id ask) ≤ 127
+pub request-length : (id : ℕ) (ask : Ask) → id < 2 ^ 32 → IsAskInRange ask → length (request_text id ask) ≤ 127
 request-length id ask below range =
     grind (arith, alarm-length id below, ask-length ask range, length-append (decimal id) (32 ∷ ask_text ask))

@@ -15,10 +15,10 @@ use Rattle.alm_types.specs.declared.query.Query.{Query}
 use Rattle.alm_types.specs.declared.query.Query.TheVariants.{State, Priority, Area, Wheel, Flood, Stale, Chatter}
 use Rattle.alm_lines.specs.declared.ask.Ask.{Ask}
 use Rattle.alm_lines.specs.declared.ask.Ask.TheVariants.{Act, Look, Bad}
-use Rattle.alm_lines.specs.Line.{number, word, alarm, moment, negative, reading, same, switch, cut, of_none, of_one, of_letter, of_two, of_fields, of_rest, asked, line_under, line_of}
+use Rattle.alm_lines.specs.Line.{number, word, alarm, moment_in, negative, reading_from, same, switch, cut_at_space, of_none, of_one, of_letter, of_two, of_fields, of_rest, ask_in, line_under, line_of}
 use Rattle.alm_types.specs.Actions.{IsAction}
 use Rattle.alm_types.specs.Readings.{IsReading}
-use Rattle.alm_lines.specs.Texts.{value_text, switch_text, with_one, with_two, ask_text, action_text, query_text, request_text, IsInRange, IsQueryInRange, IsAsking}
+use Rattle.alm_lines.specs.Texts.{value_text, switch_text, with_one, with_two, ask_text, action_words, query_text, request_text, IsAskInRange, IsQueryInRange, IsAsking}
 use Rattle.alm_lines.proofs.Numerals.{number-decimal, decimal-number}
 use Rattle.alm_lines.proofs.Lengths.{request-length}
 use Rattle.alm_lines.proofs.Cutting.{joined, cut-joined, cut-spaced, cut-alone, spaceless-decimal, is_spaceless, same-is}
@@ -66,7 +66,7 @@ taken-one name first =
     pick (same name (codes "ACK")) _ _ text (one-alarm (λ i. Act (Ack i)) (codes "ACK") name first (word first) refl (λ i. refl))
     (λ _. pick (same name (codes "RESET")) _ _ text (one-alarm (λ i. Act (Reset i)) (codes "RESET") name first (word first) refl (λ i. refl))
     (λ _. pick (same name (codes "UNSHELVE")) _ _ text (one-alarm (λ i. Act (Unshelve i)) (codes "UNSHELVE") name first (word first) refl (λ i. refl))
-    (λ _. pick (same name (codes "CLOCK")) _ _ text (one-number (2 ^ 40) (λ t. Act (Clock t)) (codes "CLOCK") name first (moment first) refl (omega arith) (λ n. refl))
+    (λ _. pick (same name (codes "CLOCK")) _ _ text (one-number (2 ^ 40) (λ t. Act (Clock t)) (codes "CLOCK") name first (moment_in first) refl (omega arith) (λ n. refl))
     (λ _. pick (same name (codes "STATE")) _ _ text (one-alarm (λ i. Look (State i)) (codes "STATE") name first (word first) refl (λ i. refl))
     (λ _. pick (same name (codes "FLOOD")) _ _ text (one-number (2 ^ 32) (λ n. Look (Flood n)) (codes "FLOOD") name first (word first) refl small (λ n. refl))
     (λ _. nothing text))))))
@@ -99,7 +99,7 @@ positive-text ds (Some n) v e h =
     let same : pos n ≡ v = same_Some (pos n) v h in
     rw (← same) (decimal-number 1000000000001 ds n (omega arith) e)
 
-reading-text : (ds : List ℕ) (v : ℤ) → reading ds ≡ Some v → ds ≡ value_text v
+reading-text : (ds : List ℕ) (v : ℤ) → reading_from ds ≡ Some v → ds ≡ value_text v
 reading-text [] v e = absurd (none-some v e)
 reading-text (d ∷ ds) v e =
     elim (cases_Bool (d == 45)) [
@@ -141,12 +141,12 @@ list-text name first second (Some n) e hit h = letter-text first second name n (
 taken-two : (name first second : List ℕ) → Taken (with_two name first second) (of_two name first second)
 taken-two name first second =
     let text = with_two name first second in
-    pick (same name (codes "VAL")) _ _ text (two-alarm (λ i v. Act (Value i v)) (codes "VAL") name first second value_text (word first) (reading second) refl (reading-text second) (λ i v. refl))
+    pick (same name (codes "VAL")) _ _ text (two-alarm (λ i v. Act (Value i v)) (codes "VAL") name first second value_text (word first) (reading_from second) refl (reading-text second) (λ i v. refl))
     (λ _. pick (same name (codes "SHELVE")) _ _ text (two-alarm (λ i s. Act (Shelve i s)) (codes "SHELVE") name first second decimal (word first) (word second) refl (word-text second) (λ i s. refl))
     (λ _. pick (same name (codes "OOS")) _ _ text (two-alarm (λ i on. Act (Oos i on)) (codes "OOS") name first second switch_text (word first) (switch second) refl (switch-text second) (λ i on. refl))
     (λ _. pick (same name (codes "DESIGN")) _ _ text (two-alarm (λ i on. Act (Design i on)) (codes "DESIGN") name first second switch_text (word first) (switch second) refl (switch-text second) (λ i on. refl))
     (λ _. pick (same name (codes "PRIO")) _ _ text (two-alarm (λ i n. Act (SetPriority i n)) (codes "PRIO") name first second decimal (word first) (word second) refl (word-text second) (λ i n. refl))
-    (λ _. pick (same name (codes "SETP")) _ _ text (two-alarm (λ i v. Act (SetSetpoint i v)) (codes "SETP") name first second value_text (word first) (reading second) refl (reading-text second) (λ i v. refl))
+    (λ _. pick (same name (codes "SETP")) _ _ text (two-alarm (λ i v. Act (SetSetpoint i v)) (codes "SETP") name first second value_text (word first) (reading_from second) refl (reading-text second) (λ i v. refl))
     (λ _. pick (same name (codes "LIST")) _ _ text (list-text name first second (word second) refl)
     (λ _. nothing text)))))))
 
@@ -163,10 +163,10 @@ taken-fields name first (Some second) = taken-two name first second
 taken-rest : (name : List ℕ) (fields : Option (List ℕ)) → Taken (joined name fields) (of_rest (name, fields))
 taken-rest name None h = taken-none name h
 taken-rest name (Some fields) h =
-    ap (λ (f : List ℕ). name ++ 32 ∷ f) (cut-joined fields) ∙ taken-fields name (cut fields).0 (cut fields).1 h
+    ap (λ (f : List ℕ). name ++ 32 ∷ f) (cut-joined fields) ∙ taken-fields name (cut_at_space fields).0 (cut_at_space fields).1 h
 
-taken-asked : (rest : List ℕ) → Taken rest (asked (Some rest))
-taken-asked rest h = cut-joined rest ∙ taken-rest (cut rest).0 (cut rest).1 h
+taken-asked : (rest : List ℕ) → Taken rest (ask_in (Some rest))
+taken-asked rest h = cut-joined rest ∙ taken-rest (cut_at_space rest).0 (cut_at_space rest).1 h
 
 taken-under : (first : List ℕ) (id : Option ℕ) (rest : Option (List ℕ)) → word first ≡ id → IsAsking (line_under id rest).ask
     → joined first rest ≡ request_text (line_under id rest).id (line_under id rest).ask
@@ -179,7 +179,7 @@ pub taken : (bytes : List ℕ) → IsAsking (line_of bytes).ask → bytes ≡ re
 taken bytes h =
     elim (cases_Bool (nat_lt 127 (length bytes))) [
       | inl hit ↦ absurd (rw hit at h)
-      | inr miss ↦ rw miss (cut-joined bytes ∙ taken-under (cut bytes).0 (word (cut bytes).0) (cut bytes).1 refl (rw miss at h))
+      | inr miss ↦ rw miss (cut-joined bytes ∙ taken-under (cut_at_space bytes).0 (word (cut_at_space bytes).0) (cut_at_space bytes).1 refl (rw miss at h))
     ]
 
 -- an alarm and a number are read back
@@ -189,7 +189,7 @@ alarm-read i below = ap (option_map (λ (n : ℕ). record { 0 = n })) (number-de
 word-read : (n : ℕ) → n < 2 ^ 32 → word (decimal n) ≡ Some n
 word-read n below = number-decimal (2 ^ 32) n below (omega (arith, below))
 
-moment-read : (t : ℕ) → t < 2 ^ 40 → moment (decimal t) ≡ Some t
+moment-read : (t : ℕ) → t < 2 ^ 40 → moment_in (decimal t) ≡ Some t
 moment-read t below = number-decimal (2 ^ 40) t below (omega (arith, below))
 
 switch-read : (on : Bool) → switch (switch_text on) ≡ Some on
@@ -197,14 +197,14 @@ switch-read true = refl
 switch-read false = refl
 
 -- digits don't begin with minus
-digits-read : (ds : List ℕ) (n : ℕ) → AllDigits 10 ds → 0 < length ds → number 1000000000001 ds ≡ Some n → reading ds ≡ Some (pos n)
+digits-read : (ds : List ℕ) (n : ℕ) → AllDigits 10 ds → 0 < length ds → number 1000000000001 ds ≡ Some n → reading_from ds ≡ Some (pos n)
 digits-read [] n d some e = absurd (omega arith)
 digits-read (c ∷ cs) n d some e =
     let k = digit_from_value c d.0 in
     let no : (c == 45) ≡ false = grind (arith, k) in
     rw (no, e) refl
 
-reading-read : (v : ℤ) → IsReading v → reading (value_text v) ≡ Some v
+reading-read : (v : ℤ) → IsReading v → reading_from (value_text v) ≡ Some v
 reading-read (pos n) h =
     let within : n ≤ 1000000000000 = leb_yes h.1.le in
     let small : n < 2 ^ 64 = omega arith in
@@ -216,7 +216,7 @@ reading-read (negsuc n) h =
     let some : (suc n == 0) ≡ false = grind arith in
     rw (number-decimal 1000000000001 (n + 1) below (omega (arith, below)), add-one, some) refl
 
-action-read : (action : Action) → IsAction action → of_rest (cut (action_text action)) ≡ Some (Act action)
+action-read : (action : Action) → IsAction action → of_rest (cut_at_space (action_words action)) ≡ Some (Act action)
 action-read (Clock t) h = rw (cut-spaced (codes "CLOCK") (decimal t) refl, cut-alone (decimal t) (spaceless-decimal t (omega (arith, h.argument))), moment-read t h.argument) refl
 action-read (Value i v) h =
     rw (cut-spaced (codes "VAL") (decimal i.0 ++ 32 ∷ value_text v) refl, cut-spaced (decimal i.0) (value_text v) (spaceless-decimal i.0 (omega (arith, h.alarm))), alarm-read i h.alarm, reading-read v h.argument) refl
@@ -234,11 +234,11 @@ action-read (SetPriority i n) h =
 action-read (SetSetpoint i v) h =
     rw (cut-spaced (codes "SETP") (decimal i.0 ++ 32 ∷ value_text v) refl, cut-spaced (decimal i.0) (value_text v) (spaceless-decimal i.0 (omega (arith, h.alarm))), alarm-read i h.alarm, reading-read v h.argument) refl
 
-list-read : (letter : List ℕ) (n : ℕ) → is_spaceless letter ≡ true → n < 2 ^ 32 → of_rest (cut (with_two (codes "LIST") letter (decimal n))) ≡ of_letter letter n
+list-read : (letter : List ℕ) (n : ℕ) → is_spaceless letter ≡ true → n < 2 ^ 32 → of_rest (cut_at_space (with_two (codes "LIST") letter (decimal n))) ≡ of_letter letter n
 list-read letter n e below =
     rw (cut-spaced (codes "LIST") (letter ++ 32 ∷ decimal n) refl, cut-spaced letter (decimal n) e, word-read n below) refl
 
-query-read : (query : Query) → IsQueryInRange query → of_rest (cut (query_text query)) ≡ Some (Look query)
+query-read : (query : Query) → IsQueryInRange query → of_rest (cut_at_space (query_text query)) ≡ Some (Look query)
 query-read (State i) h = rw (cut-spaced (codes "STATE") (decimal i.0) refl, cut-alone (decimal i.0) (spaceless-decimal i.0 (omega (arith, h))), alarm-read i h) refl
 query-read (Priority n) h = list-read (codes "P") n refl h
 query-read (Area n) h = list-read (codes "A") n refl h
@@ -247,12 +247,12 @@ query-read (Flood n) h = rw (cut-spaced (codes "FLOOD") (decimal n) refl, cut-al
 query-read Stale h = refl
 query-read Chatter h = refl
 
-ask-read : (ask : Ask) → IsInRange ask → asked (Some (ask_text ask)) ≡ Some ask
+ask-read : (ask : Ask) → IsAskInRange ask → ask_in (Some (ask_text ask)) ≡ Some ask
 ask-read (Act action) h = action-read action h
 ask-read (Look query) h = query-read query h
 ask-read (Bad refusal) h = absurd h
 
-pub request-read : (id : ℕ) (ask : Ask) → id < 2 ^ 32 → IsInRange ask → line_of (request_text id ask) ≡ record { id = id; ask = ask }
+pub request-read : (id : ℕ) (ask : Ask) → id < 2 ^ 32 → IsAskInRange ask → line_of (request_text id ask) ≡ record { id = id; ask = ask }
 request-read id ask below range =
     let fits = request-length id ask below range in
     let short : nat_lt 127 (length (request_text id ask)) ≡ false = grind (arith, fits) in

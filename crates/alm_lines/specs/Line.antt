@@ -33,8 +33,8 @@ abbrev pub alarm : List ℕ → Option AlarmId
 alarm digits = option_map (λ n. record { 0 = n }) (word digits)
 
 -- a moment
-abbrev pub moment : List ℕ → Option ℕ
-moment = number (2 ^ 40)
+abbrev pub moment_in : List ℕ → Option ℕ
+moment_in = number (2 ^ 40)
 
 -- minus and a number that is not 0
 abbrev pub negative : Option ℕ → Option ℤ
@@ -42,9 +42,9 @@ negative None = None
 negative (Some n) = if n == 0 then None else Some (neg_ℤ (pos n))
 
 -- a value of the process, with or without minus
-abbrev pub reading : List ℕ → Option ℤ
-reading [] = None
-reading (d ∷ digits) = if d == 45 then negative (number 1000000000001 digits) else option_map pos (number 1000000000001 (d ∷ digits))
+abbrev pub reading_from : List ℕ → Option ℤ
+reading_from [] = None
+reading_from (d ∷ digits) = if d == 45 then negative (number 1000000000001 digits) else option_map pos (number 1000000000001 (d ∷ digits))
 
 abbrev pub same : List ℕ → List ℕ → Bool
 same = pointwise nat_eq
@@ -58,8 +58,8 @@ abbrev pub cut_at : List ℕ → Option ℕ → List ℕ × Option (List ℕ)
 cut_at bytes None = (bytes, None)
 cut_at bytes (Some at) = (take at bytes, Some (drop (at + 1) bytes))
 
-abbrev pub cut : List ℕ → List ℕ × Option (List ℕ)
-cut bytes = cut_at bytes (position (λ b. b == 32) bytes)
+abbrev pub cut_at_space : List ℕ → List ℕ × Option (List ℕ)
+cut_at_space bytes = cut_at bytes (position (λ b. b == 32) bytes)
 
 -- what a word asks alone
 abbrev pub of_none : List ℕ → Option Ask
@@ -74,7 +74,7 @@ of_one name first =
     if same name (codes "ACK") then option_map (λ i. Act (Ack i)) (alarm first)
     else if same name (codes "RESET") then option_map (λ i. Act (Reset i)) (alarm first)
     else if same name (codes "UNSHELVE") then option_map (λ i. Act (Unshelve i)) (alarm first)
-    else if same name (codes "CLOCK") then option_map (λ t. Act (Clock t)) (moment first)
+    else if same name (codes "CLOCK") then option_map (λ t. Act (Clock t)) (moment_in first)
     else if same name (codes "STATE") then option_map (λ i. Look (State i)) (alarm first)
     else if same name (codes "FLOOD") then option_map (λ a. Look (Flood a)) (word first)
     else None
@@ -90,12 +90,12 @@ of_letter letter n =
 -- and of two
 abbrev pub of_two : List ℕ → List ℕ → List ℕ → Option Ask
 of_two name first second =
-    if same name (codes "VAL") then option_and_then (λ i. option_map (λ v. Act (Value i v)) (reading second)) (alarm first)
+    if same name (codes "VAL") then option_and_then (λ i. option_map (λ v. Act (Value i v)) (reading_from second)) (alarm first)
     else if same name (codes "SHELVE") then option_and_then (λ i. option_map (λ s. Act (Shelve i s)) (word second)) (alarm first)
     else if same name (codes "OOS") then option_and_then (λ i. option_map (λ on. Act (Oos i on)) (switch second)) (alarm first)
     else if same name (codes "DESIGN") then option_and_then (λ i. option_map (λ on. Act (Design i on)) (switch second)) (alarm first)
     else if same name (codes "PRIO") then option_and_then (λ i. option_map (λ n. Act (SetPriority i n)) (word second)) (alarm first)
-    else if same name (codes "SETP") then option_and_then (λ i. option_map (λ v. Act (SetSetpoint i v)) (reading second)) (alarm first)
+    else if same name (codes "SETP") then option_and_then (λ i. option_map (λ v. Act (SetSetpoint i v)) (reading_from second)) (alarm first)
     else if same name (codes "LIST") then option_and_then (of_letter first) (word second)
     else None
 
@@ -105,17 +105,17 @@ of_fields name (first, Some second) = of_two name first second
 
 abbrev pub of_rest : List ℕ × Option (List ℕ) → Option Ask
 of_rest (name, None) = of_none name
-of_rest (name, Some fields) = of_fields name (cut fields)
+of_rest (name, Some fields) = of_fields name (cut_at_space fields)
 
 -- what stands behind the id
-abbrev pub asked : Option (List ℕ) → Option Ask
-asked None = None
-asked (Some rest) = of_rest (cut rest)
+abbrev pub ask_in : Option (List ℕ) → Option Ask
+ask_in None = None
+ask_in (Some rest) = of_rest (cut_at_space rest)
 
 -- a line whose id is read asks what stands behind it; another, and one that is too long, has id 0
 abbrev pub line_under : Option ℕ → Option (List ℕ) → Line
 line_under None rest = record { id = 0; ask = Bad BadLine }
-line_under (Some id) rest = record { id = id; ask = unwrap_or (asked rest) (Bad BadLine) }
+line_under (Some id) rest = record { id = id; ask = unwrap_or (ask_in rest) (Bad BadLine) }
 
 -- the most bytes of a line, its line end not counted
 abbrev pub line_limit : ℕ
@@ -123,4 +123,4 @@ line_limit = 127
 
 abbrev pub line_of : List ℕ → Line
 line_of bytes =
-    if nat_lt line_limit (length bytes) then record { id = 0; ask = Bad LineTooLong } else line_under (word (cut bytes).0) (cut bytes).1
+    if nat_lt line_limit (length bytes) then record { id = 0; ask = Bad LineTooLong } else line_under (word (cut_at_space bytes).0) (cut_at_space bytes).1

@@ -36,17 +36,17 @@ letters flags =
     else codes "ODS"
 
 -- the moment of a deadline, or -
-abbrev pub deadline : Option ℕ → List ℕ
-deadline None = codes "-"
-deadline (Some t) = decimal t
+abbrev pub deadline_text : Option ℕ → List ℕ
+deadline_text None = codes "-"
+deadline_text (Some t) = decimal t
 
 -- 1 or 0
 abbrev pub digit : Bool → ℕ
 digit b = if b then 1 else 0
 
 -- each number after a space
-abbrev pub spaced : List ℕ → List ℕ
-spaced = flat_map (λ i. 32 ∷ decimal i)
+abbrev pub with_spaces : List ℕ → List ℕ
+with_spaces = flat_map (λ i. 32 ∷ decimal i)
 
 -- the word of a reply
 abbrev pub query_word : Query → List ℕ
@@ -61,9 +61,9 @@ query_word Chatter = codes " CHATTER "
 -- what follows the count, without the line's end
 abbrev pub report_text : Report → List ℕ
 report_text (alarm shown active flags until) =
-    codes " " ++ shown_word shown ++ codes " " ++ decimal (digit active) ++ codes " " ++ letters flags ++ codes " " ++ deadline until
+    codes " " ++ shown_word shown ++ codes " " ++ decimal (digit active) ++ codes " " ++ letters flags ++ codes " " ++ deadline_text until
 report_text (flood window on) = codes " " ++ decimal window ++ codes " " ++ decimal (digit on)
-report_text (alarms list) = codes " " ++ decimal (length list) ++ spaced list
+report_text (alarms list) = codes " " ++ decimal (length list) ++ with_spaces list
 
 -- an accepted action, by its number
 abbrev pub ok_text : ℕ → ℕ → List ℕ

@@ -25,17 +25,17 @@ with_one word field = word ++ 32 ∷ field
 abbrev pub with_two : List ℕ → List ℕ → List ℕ → List ℕ
 with_two word first second = word ++ 32 ∷ (first ++ 32 ∷ second)
 
-abbrev pub action_text : Action → List ℕ
-action_text (Clock t) = with_one (codes "CLOCK") (decimal t)
-action_text (Value i v) = with_two (codes "VAL") (decimal i.0) (value_text v)
-action_text (Ack i) = with_one (codes "ACK") (decimal i.0)
-action_text (Reset i) = with_one (codes "RESET") (decimal i.0)
-action_text (Shelve i seconds) = with_two (codes "SHELVE") (decimal i.0) (decimal seconds)
-action_text (Unshelve i) = with_one (codes "UNSHELVE") (decimal i.0)
-action_text (Oos i on) = with_two (codes "OOS") (decimal i.0) (switch_text on)
-action_text (Design i on) = with_two (codes "DESIGN") (decimal i.0) (switch_text on)
-action_text (SetPriority i n) = with_two (codes "PRIO") (decimal i.0) (decimal n)
-action_text (SetSetpoint i v) = with_two (codes "SETP") (decimal i.0) (value_text v)
+abbrev pub action_words : Action → List ℕ
+action_words (Clock t) = with_one (codes "CLOCK") (decimal t)
+action_words (Value i v) = with_two (codes "VAL") (decimal i.0) (value_text v)
+action_words (Ack i) = with_one (codes "ACK") (decimal i.0)
+action_words (Reset i) = with_one (codes "RESET") (decimal i.0)
+action_words (Shelve i seconds) = with_two (codes "SHELVE") (decimal i.0) (decimal seconds)
+action_words (Unshelve i) = with_one (codes "UNSHELVE") (decimal i.0)
+action_words (Oos i on) = with_two (codes "OOS") (decimal i.0) (switch_text on)
+action_words (Design i on) = with_two (codes "DESIGN") (decimal i.0) (switch_text on)
+action_words (SetPriority i n) = with_two (codes "PRIO") (decimal i.0) (decimal n)
+action_words (SetSetpoint i v) = with_two (codes "SETP") (decimal i.0) (value_text v)
 
 abbrev pub query_text : Query → List ℕ
 query_text (State i) = with_one (codes "STATE") (decimal i.0)
@@ -48,7 +48,7 @@ query_text Chatter = codes "CHATTER"
 
 -- what stands behind the id and its space; a line that asks nothing has no such text
 abbrev pub ask_text : Ask → List ℕ
-ask_text (Act action) = action_text action
+ask_text (Act action) = action_words action
 ask_text (Look query) = query_text query
 ask_text (Bad refusal) = []
 
@@ -67,10 +67,10 @@ IsQueryInRange Stale = Unit {0}
 IsQueryInRange Chatter = Unit {0}
 
 -- a line asks for an action or a query, in range
-abbrev pub IsInRange : Ask → Type 0
-IsInRange (Act action) = IsAction action
-IsInRange (Look query) = IsQueryInRange query
-IsInRange (Bad refusal) = ⊥
+abbrev pub IsAskInRange : Ask → Type 0
+IsAskInRange (Act action) = IsAction action
+IsAskInRange (Look query) = IsQueryInRange query
+IsAskInRange (Bad refusal) = ⊥
 
 -- a line asks for an action or a query
 abbrev pub IsAsking : Ask → Type 0

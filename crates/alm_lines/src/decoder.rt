@@ -2,7 +2,7 @@
 
 ghost use Rattle.std.specs.Prelude.{◌≡◌, ℕ, ◌+◌, ◌≤◌, ◌<◌, ◌++◌, List, [], ◌∷◌, length, take, drop, Option, Some, None, unwrap_or, option_map};
 ghost use Rattle.std.specs.List.{position_or_len};
-ghost use Rattle.alm_lines.specs.Stream.{is_end, fed, used, found};
+ghost use Rattle.alm_lines.specs.Stream.{is_end, held_behind, bytes_used, line_ended};
 ghost use Rattle.alm_lines.specs.Line.{line_of};
 
 use crate::grammar::line_of;
@@ -54,9 +54,9 @@ impl Decoder {
     pub fn feed(&mut self, piece: &[u8]) -> (usize, Option<Line>)
         ensures within { result.0 ≤ length piece.now }
         ensures progress { 0 < length piece.now → 0 < result.0 }
-        ensures used { result.0 ≡ used piece.now }
-        ensures line { result.1 ≡ option_map line_of (found self.old piece.now) }
-        ensures held { self.new ≡ fed self.old (take result.0 piece.now) }
+        ensures used { result.0 ≡ bytes_used piece.now }
+        ensures line { result.1 ≡ option_map line_of (line_ended self.old piece.now) }
+        ensures held { self.new ≡ held_behind self.old (take result.0 piece.now) }
     {
         for (i, byte) in piece.iter().enumerate() {
             if *byte == b'\n' {

@@ -1,7 +1,7 @@
 //! What the bytes of a line ask.
 
 ghost use Rattle.std.specs.Prelude.{◌≡◌, ◌+◌, take, drop, option_map, position, ◌==◌};
-ghost use Rattle.alm_lines.specs.Line.{line_of, cut, asked, of_none, of_one, of_two, of_letter};
+ghost use Rattle.alm_lines.specs.Line.{line_of, cut_at_space, ask_in, of_none, of_one, of_two, of_letter};
 
 use crate::ask::Ask;
 use crate::line::Line;
@@ -20,8 +20,8 @@ fn space(bytes: &[u8]) -> Option<usize>
 
 /// What stands before the first space, and what behind it.
 pub fn cut(bytes: &[u8]) -> (&[u8], Option<&[u8]>)
-    ensures first { result.0.now ≡ (cut bytes.now).0 }
-    ensures rest { option_map (λ rest. rest.now) result.1 ≡ (cut bytes.now).1 }
+    ensures first { result.0.now ≡ (cut_at_space bytes.now).0 }
+    ensures rest { option_map (λ rest. rest.now) result.1 ≡ (cut_at_space bytes.now).1 }
 {
     match space(bytes) {
         Some(at) => (&bytes[..at], Some(&bytes[at + 1..])),
@@ -52,7 +52,7 @@ pub fn line_of(bytes: &[u8]) -> Line
 
 /// What stands behind the id.
 fn asked(rest: Option<&[u8]>) -> Option<Ask>
-    ensures { result ≡ asked (option_map (λ rest. rest.now) rest.entry) }
+    ensures { result ≡ ask_in (option_map (λ rest. rest.now) rest.entry) }
 {
     let (name, rest) = cut(rest?);
     let Some(fields) = rest else {

@@ -1,7 +1,7 @@
 //! Numbers in digits.
 
 ghost use Rattle.std.specs.Prelude.{◌≡◌, ◌<◌, ◌≤◌, ◌^◌, length, ℕ};
-ghost use Rattle.alm_lines.specs.Line.{value, up_to, number, word, alarm, moment, reading, switch};
+ghost use Rattle.alm_lines.specs.Line.{value, up_to, number, word, alarm, moment_in, reading_from, switch};
 
 use alm_types::{AlarmId, Moment, Reading};
 
@@ -58,7 +58,7 @@ pub fn alarm(digits: &[u8]) -> Option<AlarmId>
 }
 
 pub fn moment(digits: &[u8]) -> Option<Moment>
-    ensures { result ≡ moment digits.now }
+    ensures { result ≡ moment_in digits.now }
 {
     match number(digits, 1 << 40) {
         Some(seconds) => Moment::new(seconds),
@@ -68,7 +68,7 @@ pub fn moment(digits: &[u8]) -> Option<Moment>
 
 /// A value of the process, with or without minus.
 pub fn reading(digits: &[u8]) -> Option<Reading>
-    ensures { result ≡ reading digits.now }
+    ensures { result ≡ reading_from digits.now }
 {
     match digits {
         [b'-', digits @ ..] => match number(digits, 1_000_000_000_001) {

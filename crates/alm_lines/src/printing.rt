@@ -3,7 +3,7 @@
 ghost use Rattle.std.specs.Prelude.{◌≡◌, ◌++◌};
 ghost use Rattle.alm_types.specs.Reports.{report, alarms};
 ghost use Rattle.alm_lines.specs.Parts.{part_text, text_of_parts};
-ghost use Rattle.alm_lines.specs.Reply.{text_of, shown_word, letters, query_word, told_text, report_text, spaced, deadline};
+ghost use Rattle.alm_lines.specs.Reply.{text_of, shown_word, letters, query_word, told_text, report_text, with_spaces, deadline_text};
 ghost use Rattle.alm_lines.specs.Written.{Prints};
 
 use crate::part::{Part, put_each, put_parts};
@@ -61,7 +61,7 @@ fn query_word(query: Query) -> &'static str
 
 /// The end of a shelving, if there is one.
 fn deadline_part(until: Option<u64>) -> Part<'static>
-    ensures { part_text result ≡ deadline until }
+    ensures { part_text result ≡ deadline_text until }
 {
     match until {
         Some(moment) => Part::Number(moment),
@@ -71,7 +71,8 @@ fn deadline_part(until: Option<u64>) -> Part<'static>
 
 /// Prints each number after a space.
 fn print_spaced<W: io::Write>(numbers: &[u32], writer: &mut W) -> io::Result<()>
-    ensures { Prints (W.contents writer.old) (W.contents writer.new) (spaced numbers.now) result }
+    ensures { Prints (W.contents writer.old) (W.contents writer.new) (with_spaces numbers.now)
+        result }
 {
     for number in numbers {
         put_parts(&[Part::Word(" "), Part::Number(u64::from(*number))], writer)?;

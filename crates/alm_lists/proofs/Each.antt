@@ -4,7 +4,7 @@ use Rattle.std.specs.Prelude.{filter}
 use Rattle.std.specs.List.{AllByRecursion, range_with_len}
 use Rattle.std.proofs.lemmas.Bool.{cases_eq, cond_both}
 use Rattle.std.proofs.lemmas.Bool.Decides.{nat_tests}
-use Rattle.alm_lists.specs.Lists.{times, without, put_before, put_by}
+use Rattle.alm_lists.specs.Lists.{times, list_without, put_before, put_by}
 use Rattle.alm_lists.specs.Orders.{put_in_order, in_order}
 
 pub every : {P Q : ℕ → Type 0} → ((x : ℕ) → P x → Q x) → (xs : List ℕ) → AllByRecursion P xs → AllByRecursion Q xs
@@ -40,7 +40,7 @@ pub all-filter : (P : ℕ → Type 0) (test : ℕ → Bool) (xs : List ℕ) → 
 all-filter P test [] a = tt
 all-filter P test (x ∷ xs) a = cond_both (test x) (x ∷ filter test xs) (filter test xs) (AllByRecursion P) (λ e. (a.0, all-filter P test xs a.1)) (λ e. all-filter P test xs a.1)
 
-pub all-without : (P : ℕ → Type 0) (n : ℕ) (xs : List ℕ) → AllByRecursion P xs → AllByRecursion P (without n xs)
+pub all-without : (P : ℕ → Type 0) (n : ℕ) (xs : List ℕ) → AllByRecursion P xs → AllByRecursion P (list_without n xs)
 all-without P n xs a = all-filter P (λ x. not (nat_eq n x)) xs a
 
 pub all-put_before : (P : ℕ → Type 0) (at n : ℕ) (xs : List ℕ) → P n → AllByRecursion P xs → AllByRecursion P (put_before at n xs)

@@ -5,7 +5,7 @@ use Rattle.std.specs.List.{AllByRecursion, IsDistinct, list_any}
 use Rattle.std.proofs.lemmas.Bool.{eqb-true, cases_eq, cond_both, or_cases}
 use Rattle.std.proofs.lemmas.Bool.Decides.{nat_tests}
 use Rattle.std.proofs.lemmas.Map.Steps.{length-le_from_distinct_below}
-use Rattle.alm_lists.specs.Lists.{times, without, put_before, put_by}
+use Rattle.alm_lists.specs.Lists.{times, list_without, put_before, put_by}
 
 -- what is not in a list is not its first, and not in the rest
 pub absent : (n x t : ℕ) → cond (nat_eq n x) (1 + t) t ≡ 0 → (x ≢ n) × (t ≡ 0)
@@ -19,11 +19,11 @@ pub times-push_other : (n x : ℕ) (xs : List ℕ) → x ≢ n → times x (xs +
 times-push_other n x [] e = grind (arith, nat_tests)
 times-push_other n x (y ∷ xs) e = grind (arith, nat_tests, times-push_other n x xs e)
 
-pub times-without_same : (n : ℕ) (xs : List ℕ) → times n (without n xs) ≡ 0
+pub times-without_same : (n : ℕ) (xs : List ℕ) → times n (list_without n xs) ≡ 0
 times-without_same n [] = refl
 times-without_same n (x ∷ xs) = grind (arith, nat_tests, times-without_same n xs)
 
-pub times-without_other : (n x : ℕ) (xs : List ℕ) → x ≢ n → times x (without n xs) ≡ times x xs
+pub times-without_other : (n x : ℕ) (xs : List ℕ) → x ≢ n → times x (list_without n xs) ≡ times x xs
 times-without_other n x [] e = refl
 times-without_other n x (y ∷ xs) e = grind (arith, nat_tests, times-without_other n x xs e)
 
@@ -36,7 +36,7 @@ times-put_same at n [] h = refl
 times-put_same at n (y ∷ xs) h = grind (arith, nat_tests, times-put_same at n xs)
 
 -- a list without a node that isn't in it
-pub without-absent : (n : ℕ) (xs : List ℕ) → times n xs ≡ 0 → without n xs ≡ xs
+pub without-absent : (n : ℕ) (xs : List ℕ) → times n xs ≡ 0 → list_without n xs ≡ xs
 without-absent n [] h = refl
 without-absent n (x ∷ xs) h = grind (arith, nat_tests, without-absent n xs)
 
@@ -45,7 +45,7 @@ pub put_before-absent : (at n : ℕ) (xs : List ℕ) → times at xs ≡ 0 → p
 put_before-absent at n [] h = refl
 put_before-absent at n (x ∷ xs) h = grind (arith, nat_tests, put_before-absent at n xs)
 
-pub length-without : (n : ℕ) (xs : List ℕ) → length (without n xs) + times n xs ≡ length xs
+pub length-without : (n : ℕ) (xs : List ℕ) → length (list_without n xs) + times n xs ≡ length xs
 length-without n [] = refl
 length-without n (x ∷ xs) = grind (arith, nat_tests, length-without n xs)
 

@@ -12,8 +12,8 @@ stands n [] = false
 stands n (x ∷ xs) = if n == x then true else stands n xs
 
 -- a list without a number
-abbrev pub without : ℕ → List ℕ → List ℕ
-without n xs = filter (λ x. not (n == x)) xs
+abbrev pub list_without : ℕ → List ℕ → List ℕ
+list_without n xs = filter (λ x. not (n == x)) xs
 
 -- a list with a number put before another
 abbrev pub put_before : ℕ → ℕ → List ℕ → List ℕ

@@ -6,7 +6,7 @@ use Rattle.std.proofs.lemmas.List.{get_or-map, set-get_or}
 use Rattle.std.proofs.lemmas.Option.{slice_get-get_or}
 use Rattle.std.proofs.lemmas.List.Sums.{get_or-le-sum_by}
 use Rattle.alm_types.specs.declared.attr.Attr.{Attr}
-use Rattle.alm_model.specs.Keeping.{area_in, change, changed}
+use Rattle.alm_model.specs.Keeping.{area_in, change, with_change}
 use Rattle.alm_measure.specs.Metrics.{Metrics, window_around}
 
 -- no area has more annunciations than all together
@@ -28,7 +28,7 @@ full-stays i area m ages after at h in_areas is stays full =
 
 -- an element that is written back changed
 pub written-back : {A : Type 0} (xs : List A) (i : ℕ) (f : A → A) (old after : A) → i < length xs → old ≡ slice_index_or xs i old → after ≡ f old → slice_set xs i after ≡ change xs i f
-written-back xs i f old after h at is = ap (slice_set xs i) (is ∙ ap f at) ∙ sym (ap (changed xs i f) (slice_get-get_or xs i old h))
+written-back xs i f old after h at is = ap (slice_set xs i) (is ∙ ap f at) ∙ sym (ap (with_change xs i f) (slice_get-get_or xs i old h))
 
 -- the area of an alarm
 pub area-at : (attrs : List Attr) (i : ℕ) → area_in (slice_get attrs i) ≡ slice_index (map (λ a. a.area) attrs) i

@@ -7,7 +7,7 @@ use Rattle.alm_types.specs.Tables.{Listing, IsTable}
 use Rattle.alm_types.specs.declared.action.Action.{Action}
 use Rattle.alm_model.specs.Condense.{IsRecorded, condense}
 use Rattle.alm_model.specs.Counted.{IsCounted, new_whole, run_whole}
-use Rattle.alm_model.specs.Keeping.{change, condensed, in_full, one_more, recent}
+use Rattle.alm_model.specs.Keeping.{change, in_brief, in_full, one_younger, recent}
 use Rattle.alm_model.specs.Lists.{is_frequent, list_of, moments_in}
 use Rattle.alm_model.specs.New.{new_plant}
 use Rattle.alm_model.specs.Plant.{Condensed, Plant}
@@ -17,32 +17,32 @@ use Rattle.alm_model.specs.declared.list.List.TheVariants.{Chatter}
 use Rattle.alm_model.proofs.Condensing.{ages-note, moments-note}
 use Rattle.alm_model.proofs.Together.{cond-later, cond-settle, cond-windows, past-recorded}
 use Rattle.alm_model.proofs.Whole.{all-alarms, along-new, chatter-same, counted-new, GoesAlong}
-use Rattle.alm_measure.specs.Counted.{AreCounted, noted}
-use Rattle.alm_measure.specs.Metrics.{advanced, annunciated, chattering, metrics_of, settled_by_windows}
+use Rattle.alm_measure.specs.Counted.{AreCounted, with_annunciation}
+use Rattle.alm_measure.specs.Metrics.{after_clock, after_annunciation, chattering_by_moments, metrics_of, settled_by_windows}
 use Rattle.alm_measure.proofs.Areas.{area-at}
 
 -- an alarm is annunciated in a plant
-pub annunciated-along : (q : Condensed) (i : ℕ) → metrics_of (record q { kept = condensed.note q.panel i q.kept }) ≡ annunciated i (metrics_of q)
-annunciated-along q i = ap (λ area. record (metrics_of q) { ages = change q.kept.ages area one_more; moments = change q.kept.moments i (recent q.panel.now) }) (area-at q.panel.attrs i)
+pub annunciated-along : (q : Condensed) (i : ℕ) → metrics_of (record q { kept = in_brief.note q.panel i q.kept }) ≡ after_annunciation i (metrics_of q)
+annunciated-along q i = ap (λ area. record (metrics_of q) { ages = change q.kept.ages area one_younger; moments = change q.kept.moments i (recent q.panel.now) }) (area-at q.panel.attrs i)
 
 -- the alarms of a plant that chatter
-chattering-same : (q : Condensed) → length q.kept.moments ≡ length q.panel.rows → length q.panel.attrs ≡ length q.panel.rows → chattering (metrics_of q) ≡ list_of Chatter q
+chattering-same : (q : Condensed) → length q.kept.moments ≡ length q.panel.rows → length q.panel.attrs ≡ length q.panel.rows → chattering_by_moments (metrics_of q) ≡ list_of Chatter q
 chattering-same q moments attrs = ap (filter (λ i. is_frequent q.panel.now (moments_in (slice_get q.kept.moments i)))) (ap (range_with_len 0) moments ∙ sym (all-alarms q.panel attrs))
 
-pub chattering-along : (q : Condensed) → KeepsRules q → chattering (metrics_of q) ≡ list_of Chatter q
+pub chattering-along : (q : Condensed) → KeepsRules q → chattering_by_moments (metrics_of q) ≡ list_of Chatter q
 chattering-along q rules = chattering-same q rules.recent rules.attrs
 
 -- a call, and the same counted anew
-cond-noted : (p : Plant) (i : ℕ) → condense (noted i p) ≡ record (condense p) { kept = condensed.note p.panel i (condense p).kept }
+cond-noted : (p : Plant) (i : ℕ) → condense (with_annunciation i p) ≡ record (condense p) { kept = in_brief.note p.panel i (condense p).kept }
 cond-noted p i =
     let ages = ages-note p.panel p.kept i 599 (length p.floods) in
     let moments = moments-note p.kept i p.panel.now (length p.panel.attrs) in
     λ j. record { panel = p.panel; kept = record { ages = ages j; moments = moments j }; floods = p.floods }
 
-pub annunciated-anew : (p : Plant) (i : ℕ) → annunciated i (metrics_of (condense p)) ≡ metrics_of (condense (noted i p))
+pub annunciated-anew : (p : Plant) (i : ℕ) → after_annunciation i (metrics_of (condense p)) ≡ metrics_of (condense (with_annunciation i p))
 annunciated-anew p i = sym (ap metrics_of (cond-noted p i) ∙ annunciated-along (condense p) i)
 
-pub advanced-anew : (p : Plant) (t : ℕ) → IsRecorded p.panel.now p.kept → p.panel.now ≤ t → advanced t (metrics_of (condense p)) ≡ metrics_of (condense (later in_full t p))
+pub advanced-anew : (p : Plant) (t : ℕ) → IsRecorded p.panel.now p.kept → p.panel.now ≤ t → after_clock t (metrics_of (condense p)) ≡ metrics_of (condense (later in_full t p))
 advanced-anew p t r l = sym (ap metrics_of (cond-later p t (past-recorded p.panel.now p.kept r) l))
 
 pub settled-anew : (p : Plant) → IsRecorded p.panel.now p.kept → settled_by_windows (metrics_of (condense p)) ≡ metrics_of (condense (settle in_full p))

@@ -3,8 +3,8 @@ use Rattle.std.specs.Prelude.{ℕ, ◌≤◌, List, [], ◌∷◌}
 use Rattle.alm_model.specs.Keeping.{in_full}
 use Rattle.alm_model.specs.Plant.{Plant}
 use Rattle.alm_model.specs.Step.{later, settle}
-use Rattle.alm_measure.specs.Counted.{noted}
-use Rattle.alm_measure.specs.Metrics.{Metrics, advanced, annunciated, settled_by_windows}
+use Rattle.alm_measure.specs.Counted.{with_annunciation}
+use Rattle.alm_measure.specs.Metrics.{Metrics, after_clock, after_annunciation, settled_by_windows}
 
 -- an alarm is annunciated, the clock moves to a moment, the floods are settled
 pub data Call : Type 0 where
@@ -13,14 +13,14 @@ pub data Call : Type 0 where
   Settled : Call
 
 -- what a call makes of the metrics
-abbrev pub called : Metrics → Call → Metrics
-called m (Annunciated alarm) = annunciated alarm m
-called m (Advanced t) = advanced t m
-called m Settled = settled_by_windows m
+abbrev pub after_metrics_call : Metrics → Call → Metrics
+after_metrics_call m (Annunciated alarm) = after_annunciation alarm m
+after_metrics_call m (Advanced t) = after_clock t m
+after_metrics_call m Settled = settled_by_windows m
 
 -- the same with the list of all annunciations
 abbrev pub called_in_full : Plant → Call → Plant
-called_in_full p (Annunciated alarm) = noted alarm p
+called_in_full p (Annunciated alarm) = with_annunciation alarm p
 called_in_full p (Advanced t) = later in_full t p
 called_in_full p Settled = settle in_full p
 

@@ -3,9 +3,9 @@ use Rattle.std.specs.Prelude.{ℕ, ◌-◌, List, [], false, Bool, filter, lengt
 use Rattle.std.specs.List.{range_with_len}
 use Rattle.alm_types.specs.Tables.{Listing}
 use Rattle.alm_model.specs.Plant.{Condensed}
-use Rattle.alm_model.specs.Keeping.{aged, change, one_more, recent}
+use Rattle.alm_model.specs.Keeping.{ages_after, change, one_younger, recent}
 use Rattle.alm_model.specs.Lists.{is_frequent, moments_in}
-use Rattle.alm_model.specs.Step.{settled}
+use Rattle.alm_model.specs.Step.{settled_floods}
 
 -- the clock; the area of each alarm; for each area how many annunciations are 0, 1, .. 599 seconds old, and whether there is a
 -- flood; for each alarm its last three moments, the newest first
@@ -31,12 +31,12 @@ new_metrics t = record {
 }
 
 -- an alarm is annunciated now
-abbrev pub annunciated : ℕ → Metrics → Metrics
-annunciated alarm m = record m { ages = change m.ages (slice_index m.areas alarm) one_more; moments = change m.moments alarm (recent m.now) }
+abbrev pub after_annunciation : ℕ → Metrics → Metrics
+after_annunciation alarm m = record m { ages = change m.ages (slice_index m.areas alarm) one_younger; moments = change m.moments alarm (recent m.now) }
 
 -- the clock moves to a later moment
-abbrev pub advanced : ℕ → Metrics → Metrics
-advanced t m = record m { now = t; ages = map (aged (t - m.now)) m.ages }
+abbrev pub after_clock : ℕ → Metrics → Metrics
+after_clock t m = record m { now = t; ages = map (ages_after (t - m.now)) m.ages }
 
 -- the window of each area: its annunciations of the last 600 seconds
 abbrev pub windows : Metrics → List ℕ
@@ -48,11 +48,11 @@ window_around alarm m = slice_index (windows m) (slice_index m.areas alarm)
 
 -- the floods begin and end by their windows
 abbrev pub settled_by_windows : Metrics → Metrics
-settled_by_windows m = record m { floods = settled (windows m) m.floods }
+settled_by_windows m = record m { floods = settled_floods (windows m) m.floods }
 
 -- the alarms with three annunciations within the last minute, by number
 abbrev pub chattering_at : ℕ → List (List ℕ) → List ℕ
 chattering_at now moments = filter (λ i. is_frequent now (moments_in (slice_get moments i))) (range_with_len 0 (length moments))
 
-abbrev pub chattering : Metrics → List ℕ
-chattering m = chattering_at m.now m.moments
+abbrev pub chattering_by_moments : Metrics → List ℕ
+chattering_by_moments m = chattering_at m.now m.moments

@@ -2,11 +2,11 @@
 use Rattle.std.specs.Prelude.{◌≡◌, ℕ, ◌<◌, List, ◌++◌, drop, length, sum, take}
 
 -- the counts from the place of the present second on, round the ring
-abbrev pub turned : ℕ → List ℕ → List ℕ
-turned present counts = drop present counts ++ take present counts
+abbrev pub rotated : ℕ → List ℕ → List ℕ
+rotated present counts = drop present counts ++ take present counts
 
 -- the present second has a place, and the total is that of all seconds
 pub record IsRing (counts : List ℕ) (present total : ℕ) : Type 0 where
   pub seconds : length counts ≡ 600
   pub place : present < 600
-  pub all : total ≡ sum (turned present counts)
+  pub all : total ≡ sum (rotated present counts)

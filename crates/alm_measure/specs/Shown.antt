@@ -3,8 +3,8 @@ use Rattle.std.specs.Prelude.{◌≡◌, ◌<◌, ◌≤◌, All, length, vec_ca
 use Rattle.alm_measure.specs.Metrics.{Metrics}
 use Rattle.alm_measure.specs.declared.measure.Measure.TheInside.{Inside}
 
-abbrev pub shown : Inside → Metrics
-shown m = record { now = m.clock; areas = m.areas.items; ages = m.rings.items; floods = m.floods.items; moments = m.moments.items }
+abbrev pub metrics_in : Inside → Metrics
+metrics_in m = record { now = m.clock; areas = m.areas.items; ages = m.rings.items; floods = m.floods.items; moments = m.moments.items }
 
 -- no more alarms than a table has, each in an area that there is, and each with moments; a flag for each area
 pub record IsSound (m : Metrics) : Type 0 where

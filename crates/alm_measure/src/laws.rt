@@ -5,24 +5,25 @@ ghost use Rattle.alm_types.specs.Tables.{Listing, IsTable};
 ghost use Rattle.alm_types.specs.declared.action.Action.{Action};
 ghost use Rattle.alm_model.specs.Condense.{IsRecorded, condense};
 ghost use Rattle.alm_model.specs.Counted.{new_whole, run_whole};
-ghost use Rattle.alm_model.specs.Keeping.{condensed, in_full};
+ghost use Rattle.alm_model.specs.Keeping.{in_brief, in_full};
 ghost use Rattle.alm_model.specs.Lists.{list_of};
 ghost use Rattle.alm_model.specs.New.{new_plant};
 ghost use Rattle.alm_model.specs.Plant.{Condensed, Plant};
 ghost use Rattle.alm_model.specs.Rules.{AreAdmitted, KeepsRules};
 ghost use Rattle.alm_model.specs.Step.{later, run, settle};
 ghost use Rattle.alm_model.specs.declared.list.List.TheVariants.{Chatter};
-ghost use Rattle.alm_measure.specs.Calls.{Call, GoForward, called, called_in_full};
-ghost use Rattle.alm_measure.specs.Counted.{AreCounted, noted};
-ghost use Rattle.alm_measure.specs.Metrics.{advanced, annunciated, chattering, metrics_of, new_metrics, settled_by_windows};
+ghost use Rattle.alm_measure.specs.Calls.{Call, GoForward, after_metrics_call, called_in_full};
+ghost use Rattle.alm_measure.specs.Counted.{AreCounted, with_annunciation};
+ghost use Rattle.alm_measure.specs.Metrics.{after_clock, after_annunciation, chattering_by_moments, metrics_of, new_metrics, settled_by_windows};
 
 /// What a call makes of the metrics of a plant is what they are when they are counted anew from the list of all its
 /// annunciations: with one more of an alarm, at a later moment, and with its floods settled.
 pub fn calls_count_anew()
     ensures annunciated { (p : Plant) (i : ℕ) →
-        annunciated i (metrics_of (condense p)) ≡ metrics_of (condense (noted i p)) }
+        after_annunciation i (metrics_of (condense p)) ≡
+        metrics_of (condense (with_annunciation i p)) }
     ensures advanced { (p : Plant) (t : ℕ) → IsRecorded p.panel.now p.kept → p.panel.now ≤ t →
-        advanced t (metrics_of (condense p)) ≡ metrics_of (condense (later in_full t p)) }
+        after_clock t (metrics_of (condense p)) ≡ metrics_of (condense (later in_full t p)) }
     ensures settled { (p : Plant) → IsRecorded p.panel.now p.kept →
         settled_by_windows (metrics_of (condense p)) ≡ metrics_of (condense (settle in_full p)) }
 {}
@@ -31,10 +32,12 @@ pub fn calls_count_anew()
 /// counted from the list of all annunciations.
 pub fn calls_are_counted()
     ensures new { (t : Listing) (calls : List Call) → IsTable t → GoForward 0 calls →
-        AreCounted (fold called_in_full (new_whole t) calls) (fold called (new_metrics t) calls) }
+        AreCounted (fold called_in_full (new_whole t) calls)
+        (fold after_metrics_call (new_metrics t) calls) }
     ensures any { (p : Plant) (calls : List Call) → IsRecorded p.panel.now p.kept →
         length p.panel.attrs ≡ length p.panel.rows → GoForward p.panel.now calls →
-        AreCounted (fold called_in_full p calls) (fold called (metrics_of (condense p)) calls) }
+        AreCounted (fold called_in_full p calls)
+        (fold after_metrics_call (metrics_of (condense p)) calls) }
 {}
 
 /// What becomes of the metrics of a plant is what its step does: at an annunciation, as its clock moves, and where its floods
@@ -42,14 +45,14 @@ pub fn calls_are_counted()
 pub fn metrics_go_along()
     ensures new { (t : Listing) → metrics_of (new_plant t) ≡ new_metrics t }
     ensures annunciated { (q : Condensed) (i : ℕ) →
-        metrics_of (record q { kept = condensed.note q.panel i q.kept }) ≡
-        annunciated i (metrics_of q) }
+        metrics_of (record q { kept = in_brief.note q.panel i q.kept }) ≡
+        after_annunciation i (metrics_of q) }
     ensures advanced { (q : Condensed) (t : ℕ) →
-        metrics_of (later condensed t q) ≡ advanced t (metrics_of q) }
+        metrics_of (later in_brief t q) ≡ after_clock t (metrics_of q) }
     ensures settled { (q : Condensed) →
-        metrics_of (settle condensed q) ≡ settled_by_windows (metrics_of q) }
+        metrics_of (settle in_brief q) ≡ settled_by_windows (metrics_of q) }
     ensures chattering { (q : Condensed) → KeepsRules q →
-        chattering (metrics_of q) ≡ list_of Chatter q }
+        chattering_by_moments (metrics_of q) ≡ list_of Chatter q }
 {}
 
 /// From a new plant on, after any admitted actions, its metrics are those counted from the list of all annunciations.

@@ -5,7 +5,7 @@ ghost use Rattle.alm_model.specs.Keeping.{change};
 ghost use Rattle.alm_model.specs.Step.{is_flood};
 ghost use Rattle.alm_model.specs.Lists.{moments_in};
 ghost use Rattle.alm_model.specs.Parts.{age_in};
-ghost use Rattle.alm_measure.specs.Metrics.{advanced, annunciated, chattering, new_metrics, settled_by_windows, window_around, windows};
+ghost use Rattle.alm_measure.specs.Metrics.{after_clock, after_annunciation, chattering_by_moments, new_metrics, settled_by_windows, window_around, windows};
 
 use crate::chatter::fill_chattering;
 use crate::exact::exact;
@@ -34,11 +34,11 @@ impl Model for Measure {
 
     ghost Value = { Metrics };
 
-    ghost use Rattle.alm_measure.specs.Shown.{IsExact, IsSound, shown};
+    ghost use Rattle.alm_measure.specs.Shown.{IsExact, IsSound, metrics_in};
 
-    ghost view = { shown };
+    ghost view = { metrics_in };
 
-    ghost invariant = { λ m. IsSound (shown m) × IsExact m };
+    ghost invariant = { λ m. IsSound (metrics_in m) × IsExact m };
 }
 
 /// The area of each alarm.
@@ -146,9 +146,9 @@ impl Measure {
     pub fn annunciated(&mut self, id: AlarmId)
         requires { id.0 < length self.old.areas }
         ensures counted { window_around id.0 self.old + 1 < 2 ^ 64 →
-            self.new ≡ annunciated id.0 self.old }
+            self.new ≡ after_annunciation id.0 self.old }
         ensures full { 2 ^ 64 ≤ window_around id.0 self.old + 1 →
-            self.new ≡ record (annunciated id.0 self.old) { ages = self.old.ages } }
+            self.new ≡ record (after_annunciation id.0 self.old) { ages = self.old.ages } }
     {
         let alarm = id.0 as usize;
         let area = self.areas[alarm] as usize;
@@ -159,7 +159,7 @@ impl Measure {
     /// The clock moves to a later moment, however far.
     pub fn advance(&mut self, now: Moment)
         requires { self.old.now < now }
-        ensures { self.new ≡ advanced now self.old }
+        ensures { self.new ≡ after_clock now self.old }
     {
         let seconds = now.seconds() - self.clock.seconds();
         pass_all(&mut self.rings, seconds);
@@ -255,7 +255,7 @@ impl Measure {
     /// for all alarms.
     pub fn chattering(&self, out: &mut Vec<u32>)
         requires room { length self.now.areas ≤ vec_capacity out.old }
-        ensures list { out.new.items ≡ chattering self.now }
+        ensures list { out.new.items ≡ chattering_by_moments self.now }
         ensures room { vec_capacity out.new ≡ vec_capacity out.old }
     {
         fill_chattering(&self.moments, self.clock, out);

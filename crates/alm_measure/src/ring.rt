@@ -1,7 +1,7 @@
 //! Counts of the last 600 seconds.
 
 ghost use Rattle.std.specs.Prelude.{◌+◌, ◌^◌, ◌<◌, ◌≤◌, ◌≡◌, replicate, slice_index, sum};
-ghost use Rattle.alm_model.specs.Keeping.{aged, one_more};
+ghost use Rattle.alm_model.specs.Keeping.{ages_after, one_younger};
 
 use alm_model::Ages;
 use std::marker::Model;
@@ -22,11 +22,11 @@ pub struct Ring {
 
 impl Model for Ring {
     ghost use Rattle.std.specs.Prelude.{ℕ, List};
-    ghost use Rattle.alm_measure.specs.Rings.{turned, IsRing};
+    ghost use Rattle.alm_measure.specs.Rings.{rotated, IsRing};
 
     ghost Value = { List ℕ };
 
-    ghost view = { λ r. turned r.present r.counts };
+    ghost view = { λ r. rotated r.present r.counts };
 
     ghost invariant = { λ r. IsRing r.counts r.present r.total };
 }
@@ -87,7 +87,7 @@ impl Ring {
 
     /// One more annunciation of age 0. Where the total is 2^64 - 1, the counts stay.
     pub fn note(&mut self)
-        ensures counted { sum self.old + 1 < 2 ^ 64 → self.new ≡ one_more self.old }
+        ensures counted { sum self.old + 1 < 2 ^ 64 → self.new ≡ one_younger self.old }
         ensures full { 2 ^ 64 ≤ sum self.old + 1 → self.new ≡ self.old }
     {
         let Some(total) = self.total.checked_add(1) else {
@@ -99,7 +99,7 @@ impl Ring {
 
     /// A second passes.
     fn tick(&mut self)
-        ensures { self.new ≡ aged 1 self.old }
+        ensures { self.new ≡ ages_after 1 self.old }
     {
         let oldest = if self.present == 0 {
             SECONDS - 1
@@ -113,7 +113,7 @@ impl Ring {
 
     /// Some seconds pass. After 600 none is left that was counted, so no more are stepped over.
     pub fn pass(&mut self, seconds: u64)
-        ensures { self.new ≡ aged seconds self.old }
+        ensures { self.new ≡ ages_after seconds self.old }
     {
         if self.total == 0 {
             return;

@@ -1,8 +1,8 @@
 //! The rings of all areas.
 
 ghost use Rattle.std.specs.Prelude.{◌^◌, ◌<◌, ◌≡◌, All, IfOk, length, map, replicate, sum, vec_capacity};
-ghost use Rattle.alm_model.specs.Keeping.{aged};
-ghost use Rattle.alm_model.specs.Step.{settled};
+ghost use Rattle.alm_model.specs.Keeping.{ages_after};
+ghost use Rattle.alm_model.specs.Step.{settled_floods};
 
 use crate::ring::Ring;
 use alm_model::{Ages, is_flood};
@@ -47,7 +47,7 @@ pub fn copy_rings(alloc: Global, rings: &[Ring]) -> Result<Vec<Ring>, AllocError
 
 /// Some seconds pass in each area.
 pub fn pass_all(rings: &mut [Ring], seconds: u64)
-    ensures { rings.new ≡ map (aged seconds) rings.old }
+    ensures { rings.new ≡ map (ages_after seconds) rings.old }
 {
     for ring in rings.iter_mut() {
         ring.pass(seconds);
@@ -57,7 +57,7 @@ pub fn pass_all(rings: &mut [Ring], seconds: u64)
 /// The flood flags by the windows of the areas.
 pub fn settle_all(floods: &mut [bool], rings: &[Ring])
     requires { length floods.old ≡ length rings.now }
-    ensures { floods.new ≡ settled (map sum rings.now) floods.old }
+    ensures { floods.new ≡ settled_floods (map sum rings.now) floods.old }
 {
     for (area, ring) in rings.iter().enumerate() {
         floods[area] = is_flood(ring.window(), floods[area]);

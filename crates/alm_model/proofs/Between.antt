@@ -7,14 +7,14 @@ use Rattle.std.proofs.lemmas.List.{length-set}
 use Rattle.alm_types.specs.declared.attr.Attr.{Attr}
 use Rattle.alm_state.specs.Rows.{State, IsState, is_annunciated}
 use Rattle.alm_state.specs.Suits.{suits, IsAhead}
-use Rattle.alm_state.specs.Outcome.{unshelved}
+use Rattle.alm_state.specs.Outcome.{without_shelving}
 use Rattle.alm_state.specs.declared.outcome.Outcome.{Outcome}
 use Rattle.alm_state.specs.declared.outcome.Outcome.TheVariants.{Changed, Annunciated, Shelved}
 use Rattle.alm_state.proofs.OutcomeLaws.{IsOutcome, IsChanged, IsAnnunciated, IsShelved, unshelved-good, unshelved-ended, row_of}
 use Rattle.alm_model.specs.Plant.{Condensed}
-use Rattle.alm_model.specs.Keeping.{condensed, area_of, one_more, recent, change}
+use Rattle.alm_model.specs.Keeping.{in_brief, area_of, one_younger, recent, change}
 use Rattle.alm_model.specs.Rules.{IsFalling, IsAges}
-use Rattle.alm_model.specs.Step.{put, touched, touch, unshelve}
+use Rattle.alm_model.specs.Step.{with_outcome, with_touched_alarm, touch, unshelve}
 use Rattle.alm_model.proofs.Stamps.{Stamped, stamped-after, get-set-same, get-set-other}
 use Rattle.alm_model.proofs.Measured.{change-all, change-length, change-sum, change-at, change-off, falling-recent, recent-few, recent-some, ages-one_more}
 
@@ -122,7 +122,7 @@ alarms-put rest i now attrs rows moments later a s t here there old off at j b r
 pub between-put : (rest : List ℕ) (q : Condensed) (i : ℕ) (a : Attr) (s : State) (o : Outcome)
     → slice_get q.panel.attrs i ≡ Some a → slice_get q.panel.rows i ≡ Some s → IsOutcome a q.panel.now q.panel.next_stamp s o
     → ((d : ℕ) → (row_of o).shelved_until ≡ Some d → d ≤ q.panel.now → Contains rest i)
-    → Between (i ∷ rest) q → Between rest (put condensed q i o)
+    → Between (i ∷ rest) q → Between rest (with_outcome in_brief q i o)
 between-put rest q i a s (Changed t) here there good ending h =
     let size = length-set q.panel.rows i t in
     record {
@@ -144,7 +144,7 @@ between-put rest q i a s (Changed t) here there good ending h =
 between-put rest q i a s (Annunciated t) here there good ending h =
     let size = length-set q.panel.rows i t in
     let noted = change-length q.kept.moments i (recent q.panel.now) in
-    let aged = change-length q.kept.ages (area_of q.panel i) one_more in
+    let aged = change-length q.kept.ages (area_of q.panel i) one_younger in
     let more = change-sum q.kept.ages (area_of q.panel i) in
     record {
       some = rw size h.some;
@@ -155,7 +155,7 @@ between-put rest q i a s (Annunciated t) here there good ending h =
       measured = aged ∙ h.measured;
       now = h.now;
       stamps = (let b = h.stamps in omega arith);
-      ages = change-all (IsAges q.panel.now) q.kept.ages (area_of q.panel i) one_more (ages-one_more q.panel.now) h.ages;
+      ages = change-all (IsAges q.panel.now) q.kept.ages (area_of q.panel i) one_younger (ages-one_more q.panel.now) h.ages;
       annunciations = (let b = h.annunciations in omega arith);
       in_areas = h.in_areas;
       alarms = alarms-put rest i q.panel.now q.panel.attrs q.panel.rows q.kept.moments (change q.kept.moments i (recent q.panel.now)) a s t here there h.alarms (λ j d. change-off q.kept.moments i j (recent q.panel.now) d)
@@ -208,7 +208,7 @@ between-touched : (rest : List ℕ) (q : Condensed) (i : ℕ) (f : Attr → Stat
     → slice_get q.panel.attrs i ≡ oa → slice_get q.panel.rows i ≡ os
     → ((a : Attr) (s : State) → slice_get q.panel.attrs i ≡ Some a → slice_get q.panel.rows i ≡ Some s → IsOutcome a q.panel.now q.panel.next_stamp s (f a s))
     → ((a : Attr) (s : State) → slice_get q.panel.attrs i ≡ Some a → slice_get q.panel.rows i ≡ Some s → (d : ℕ) → (row_of (f a s)).shelved_until ≡ Some d → d ≤ q.panel.now → Contains rest i)
-    → Between (i ∷ rest) q → Between rest (touched condensed q i f oa os)
+    → Between (i ∷ rest) q → Between rest (with_touched_alarm in_brief q i f oa os)
 between-touched rest q i f (Some a) (Some s) e g good ending h = between-put rest q i a s (f a s) e g (good a s e g) (ending a s e g) h
 between-touched rest q i f (Some a) None e g good ending h = between-none rest q i (λ b s k l. none-some s (sym g ∙ l)) h
 between-touched rest q i f None os e g good ending h = between-none rest q i (λ b s k l. none-some b (sym e ∙ k)) h
@@ -216,7 +216,7 @@ between-touched rest q i f None os e g good ending h = between-none rest q i (λ
 pub between-touch : (rest : List ℕ) (q : Condensed) (i : ℕ) (f : Attr → State → Outcome)
     → ((a : Attr) (s : State) → slice_get q.panel.attrs i ≡ Some a → slice_get q.panel.rows i ≡ Some s → IsOutcome a q.panel.now q.panel.next_stamp s (f a s))
     → ((a : Attr) (s : State) → slice_get q.panel.attrs i ≡ Some a → slice_get q.panel.rows i ≡ Some s → (d : ℕ) → (row_of (f a s)).shelved_until ≡ Some d → d ≤ q.panel.now → Contains rest i)
-    → Between (i ∷ rest) q → Between rest (touch condensed q i f)
+    → Between (i ∷ rest) q → Between rest (touch in_brief q i f)
 between-touch rest q i f good ending h = between-touched rest q i f (slice_get q.panel.attrs i) (slice_get q.panel.rows i) refl refl good ending h
 
 moments-there : (moments : List (List ℕ)) (i : ℕ) → i < length moments → (ms : List ℕ) × (slice_get moments i ≡ Some ms)
@@ -232,13 +232,13 @@ state-there rest q i a s h e f =
     (ms.0, h.alarms i a s ms.0 e f ms.1)
 
 -- the shelvings end, one after the other
-pub between-unshelve : (rest : List ℕ) (q : Condensed) (i : ℕ) → Between (i ∷ rest) q → Between rest (unshelve condensed q i)
+pub between-unshelve : (rest : List ℕ) (q : Condensed) (i : ℕ) → Between (i ∷ rest) q → Between rest (unshelve in_brief q i)
 between-unshelve rest q i h =
-    between-touch rest q i (λ a s. unshelved q.panel.next_stamp s)
+    between-touch rest q i (λ a s. without_shelving q.panel.next_stamp s)
     (λ a s e f. unshelved-good a q.panel.now q.panel.next_stamp s (let b = h.annunciations in omega arith) (state-there (i ∷ rest) q i a s h e f).1.state)
     (λ a s e f d g. absurd (none-some d (sym (unshelved-ended q.panel.next_stamp s) ∙ g)))
     h
 
-pub between-fold : (rest : List ℕ) (q : Condensed) → Between rest q → Between [] (fold (unshelve condensed) q rest)
+pub between-fold : (rest : List ℕ) (q : Condensed) → Between rest q → Between [] (fold (unshelve in_brief) q rest)
 between-fold [] q h = h
-between-fold (i ∷ rest) q h = between-fold rest (unshelve condensed q i) (between-unshelve rest q i h)
+between-fold (i ∷ rest) q h = between-fold rest (unshelve in_brief q i) (between-unshelve rest q i h)

@@ -13,9 +13,9 @@ use Rattle.alm_state.specs.Rows.{State}
 use Rattle.alm_state.specs.Outcome.{attr_after}
 use Rattle.alm_model.specs.Accept.{alarm_refusal}
 use Rattle.alm_model.specs.Plant.{Condensed}
-use Rattle.alm_model.specs.Keeping.{area_in, change, changed}
+use Rattle.alm_model.specs.Keeping.{area_in, change, with_change}
 use Rattle.alm_model.specs.Sound.{IsSound}
-use Rattle.alm_model.specs.Step.{configured}
+use Rattle.alm_model.specs.Step.{with_attributes}
 use Rattle.alm_model.proofs.Between.{IsBetween}
 use Rattle.alm_model.proofs.Measured.{change-at, change-off, change-all, change-length}
 use Rattle.alm_model.proofs.Stamps.{get-set-same}
@@ -60,7 +60,7 @@ after_keeps (Oos i on) = same_keeps
 after_keeps (Design i on) = same_keeps
 
 -- each alarm stays in its area
-area_here : (attrs : List Attr) (i : ℕ) (f : Attr → Attr) (o : Option Attr) → KeepsPlace f → slice_get attrs i ≡ o → area_in (slice_get (changed attrs i f o) i) ≡ area_in (slice_get attrs i)
+area_here : (attrs : List Attr) (i : ℕ) (f : Attr → Attr) (o : Option Attr) → KeepsPlace f → slice_get attrs i ≡ o → area_in (slice_get (with_change attrs i f o) i) ≡ area_in (slice_get attrs i)
 area_here attrs i f None same e = refl
 area_here attrs i f (Some a) same e = ap area_in (get-set-same attrs i a (f a) e) ∙ same.area a ∙ sym (ap area_in e)
 
@@ -94,7 +94,7 @@ between-configured rest now attrs rows moments i f same old j b s ms e r m = eli
 ]
 
 -- a plant's fields stay as they have to be
-pub sound-configured : (q : Condensed) (i : ℕ) (f : Attr → Attr) → KeepsPlace f → IsSound q → IsSound (configured q i f)
+pub sound-configured : (q : Condensed) (i : ℕ) (f : Attr → Attr) → KeepsPlace f → IsSound q → IsSound (with_attributes q i f)
 sound-configured q i f same h = record {
   rows = h.rows;
   attrs = change-length q.panel.attrs i f ∙ h.attrs;
@@ -115,4 +115,4 @@ admitted-there action (Some a) None h = (a, refl)
 admitted-there action (Some a) (Some s) h = (a, refl)
 
 pub set-changed : (attrs : List Attr) (i : ℕ) (f : Attr → Attr) (a b : Attr) → slice_get attrs i ≡ Some a → b ≡ f a → slice_set attrs i b ≡ change attrs i f
-set-changed attrs i f a b here is = ap (slice_set attrs i) is ∙ sym (ap (changed attrs i f) here)
+set-changed attrs i f a b here is = ap (slice_set attrs i) is ∙ sym (ap (with_change attrs i f) here)

@@ -24,12 +24,12 @@ use Rattle.alm_state.proofs.OutcomeLaws.{IsOutcome, outcome-good, row_of}
 use Rattle.alm_model.specs.Plant.{Panel, Condensed}
 use Rattle.alm_types.specs.Actions.{alarm_of}
 use Rattle.alm_model.specs.Accept.{refusal, own_refusal, alarm_refusal}
-use Rattle.alm_model.specs.Keeping.{condensed, aged}
+use Rattle.alm_model.specs.Keeping.{in_brief, ages_after}
 use Rattle.alm_model.specs.Lists.{due, is_due, deadline, stamp, key_of}
 use Rattle.alm_model.specs.New.{at_rest, new_plant}
 use Rattle.alm_model.specs.Rules.{KeepsRules, IsAlarm, IsAges, IsTimely, AreAdmitted}
 use Rattle.alm_model.specs.Sound.{IsSound}
-use Rattle.alm_model.specs.Step.{acted, configured, counted, later, settle, settled, is_flood, step, run, touch, unshelve}
+use Rattle.alm_model.specs.Step.{with_effect, with_attributes, with_one_more, later, settle, settled_floods, is_flood, step, run, touch, unshelve}
 use Rattle.alm_model.proofs.Between.{Between, IsBetween, between-touch, between-fold, state-there}
 use Rattle.alm_model.proofs.Configured.{KeepsPlace, priority_keeps, setpoint_keeps, between-configured}
 use Rattle.alm_model.proofs.Measured.{change-length, change-all}
@@ -75,17 +75,17 @@ stamped-kept q h = record { below = stamp-below q h; distinct = h.distinct }
 -- an action is counted, and time passes, perhaps none
 begun : (q : Condensed) (t : ℕ) (rest : List ℕ) → KeepsRules q → q.panel.now ≤ t → t < 2 ^ 40 → length rest ≤ 16384
     → ((i : ℕ) (a : Attr) (s : State) → slice_get q.panel.attrs i ≡ Some a → slice_get q.panel.rows i ≡ Some s → (d : ℕ) → s.shelved_until ≡ Some d → d ≤ t → Contains rest i)
-    → Between rest (later condensed t (counted q))
+    → Between rest (later in_brief t (with_one_more q))
 begun q t rest h l early few ending = record {
   some = h.some;
   few = h.few;
   attrs = h.attrs;
   recent = h.recent;
   areas = h.areas;
-  measured = length-map q.kept.ages (aged (t - q.panel.now)) ∙ h.measured;
+  measured = length-map q.kept.ages (ages_after (t - q.panel.now)) ∙ h.measured;
   now = early;
   stamps = (let b = h.stamps in omega arith);
-  ages = All-map (IsAges t) (aged (t - q.panel.now)) q.kept.ages (All-weaker (IsAges q.panel.now) (λ ages. IsAges t (aged (t - q.panel.now) ages)) (λ ages k. ages-aged q.panel.now t ages l k) q.kept.ages h.ages);
+  ages = All-map (IsAges t) (ages_after (t - q.panel.now)) q.kept.ages (All-weaker (IsAges q.panel.now) (λ ages. IsAges t (ages_after (t - q.panel.now) ages)) (λ ages k. ages-aged q.panel.now t ages l k) q.kept.ages h.ages);
   annunciations = (let b = h.annunciations in let c = sum_by-aged (t - q.panel.now) q.kept.ages in omega arith);
   in_areas = h.in_areas;
   alarms = λ i a s ms e f g. between-later rest i q.panel.now q.panel.next_stamp t a s ms l (ending i a s e f) (h.alarms i a s ms e f g);
@@ -93,7 +93,7 @@ begun q t rest h l early few ending = record {
 }
 
 -- the same for an action that takes no time
-counted-between : (q : Condensed) (i : ℕ) → KeepsRules q → Between (i ∷ []) (counted q)
+counted-between : (q : Condensed) (i : ℕ) → KeepsRules q → Between (i ∷ []) (with_one_more q)
 counted-between q i h = record {
   some = h.some;
   few = h.few;
@@ -125,15 +125,15 @@ ended-not q i a s (Shelved t) d h e f good k l = let r = (ahead-of q.panel.now a
 
 -- what an action leads to, before the floods are settled
 touch-kept : (q : Condensed) (action : Action) → KeepsRules q → alarm_refusal action (slice_get q.panel.attrs (alarm_of action)) (slice_get q.panel.rows (alarm_of action)) ≡ None
-    → Between [] (touch condensed (counted q) (alarm_of action) (outcome q.panel.now q.panel.next_stamp action))
+    → Between [] (touch in_brief (with_one_more q) (alarm_of action) (outcome q.panel.now q.panel.next_stamp action))
 touch-kept q action h free =
     let i = alarm_of action in
     let admitted : (a : Attr) (s : State) → slice_get q.panel.attrs i ≡ Some a → slice_get q.panel.rows i ≡ Some s → row_refusal action a s ≡ None =
     λ a s e f. sym (ap (λ o. alarm_refusal action o (slice_get q.panel.rows i)) e ∙ ap (alarm_refusal action (Some a)) f) ∙ free in
     let good : (a : Attr) (s : State) → slice_get q.panel.attrs i ≡ Some a → slice_get q.panel.rows i ≡ Some s → IsOutcome a q.panel.now q.panel.next_stamp s (outcome q.panel.now q.panel.next_stamp action a s) =
-    λ a s e f. (let old = (state-there (i ∷ []) (counted q) i a s (counted-between q i h) e f).1 in
+    λ a s e f. (let old = (state-there (i ∷ []) (with_one_more q) i a s (counted-between q i h) e f).1 in
     outcome-good a q.panel.now q.panel.next_stamp action s (let n = h.first_stamp in omega arith) old.state old.suits (admitted a s e f)) in
-    between-touch [] (counted q) i (outcome q.panel.now q.panel.next_stamp action) good
+    between-touch [] (with_one_more q) i (outcome q.panel.now q.panel.next_stamp action) good
     (λ a s e f d k l. absurd (ended-not q i a s (outcome q.panel.now q.panel.next_stamp action a s) d h e f (good a s e f) k l))
     (counted-between q i h)
 
@@ -147,14 +147,14 @@ forward p t h = elim (cases_Bool (nat_lt p.now t)) [
   | inr f ↦ (let no : unless false ClockBack ≡ None = rw f at h in absurd (none-some _ (sym no)))
 ]
 
-clock-kept : (q : Condensed) (t : ℕ) → KeepsRules q → t < 2 ^ 40 → unless (nat_lt q.panel.now t) ClockBack ≡ None → Between [] (fold (unshelve condensed) (later condensed t (counted q)) (due t q.panel))
+clock-kept : (q : Condensed) (t : ℕ) → KeepsRules q → t < 2 ^ 40 → unless (nat_lt q.panel.now t) ClockBack ≡ None → Between [] (fold (unshelve in_brief) (later in_brief t (with_one_more q)) (due t q.panel))
 clock-kept q t h early free =
     let l = forward q.panel t free in
-    between-fold (due t q.panel) (later condensed t (counted q))
+    between-fold (due t q.panel) (later in_brief t (with_one_more q))
     (begun q t (due t q.panel) h (omega arith) early (let n = listed-few deadline (is_due t) q.panel.attrs q.panel.rows in let m = h.few in omega arith) (λ i a s e f d k m. due-there q t i a s e f d k m))
 
 -- other attributes end no shelving, and suit the alarm as those before did
-configured-kept : (q : Condensed) (i : ℕ) (f : Attr → Attr) → KeepsPlace f → KeepsRules q → Between [] (configured (counted q) i f)
+configured-kept : (q : Condensed) (i : ℕ) (f : Attr → Attr) → KeepsPlace f → KeepsRules q → Between [] (with_attributes (with_one_more q) i f)
 configured-kept q i f same h = record {
   some = h.some;
   few = h.few;
@@ -173,7 +173,7 @@ configured-kept q i f same h = record {
   stamped = stamped-kept q h;
 }
 
-acted-kept : (q : Condensed) (action : Action) → KeepsRules q → IsTimely action → own_refusal q.panel action ≡ None → Between [] (acted condensed (counted q) action)
+acted-kept : (q : Condensed) (action : Action) → KeepsRules q → IsTimely action → own_refusal q.panel action ≡ None → Between [] (with_effect in_brief (with_one_more q) action)
 acted-kept q (Clock t) h early free = clock-kept q t h early free
 acted-kept q (Value i v) h early free = touch-kept q (Value i v) h free
 acted-kept q (Ack i) h early free = touch-kept q (Ack i) h free
@@ -192,12 +192,12 @@ flood-again w b = elim (nat_lt 10 w) as (λ x. cond x true (cond (nat_lt w 5) fa
   | false ↦ elim (nat_lt w 5) as (λ y. cond y false (cond y false b) ≡ cond y false b) [ true ↦ refl | false ↦ refl ]
 ]
 
-settled-again : (ws : List ℕ) (floods : List Bool) → settled ws (settled ws floods) ≡ settled ws floods
+settled-again : (ws : List ℕ) (floods : List Bool) → settled_floods ws (settled_floods ws floods) ≡ settled_floods ws floods
 settled-again [] floods = refl
 settled-again (w ∷ ws) [] = refl
 settled-again (w ∷ ws) (b ∷ floods) = let first = flood-again w b in let rest = settled-again ws floods in cc
 
-length-settled : (ws : List ℕ) (floods : List Bool) → length ws ≡ length floods → length (settled ws floods) ≡ length floods
+length-settled : (ws : List ℕ) (floods : List Bool) → length ws ≡ length floods → length (settled_floods ws floods) ≡ length floods
 length-settled [] [] e = refl
 length-settled [] (b ∷ floods) e = absurd (omega arith)
 length-settled (w ∷ ws) [] e = absurd (omega arith)
@@ -219,9 +219,9 @@ between-alarm i now next a s ms l h = record {
   annunciated = h.annunciated;
 }
 
-settle-kept : (q : Condensed) → Between [] q → KeepsRules (settle condensed q)
+settle-kept : (q : Condensed) → Between [] q → KeepsRules (settle in_brief q)
 settle-kept q h =
-    let size : length (settled (map sum q.kept.ages) q.floods) ≡ length q.floods = length-settled (map sum q.kept.ages) q.floods (length-map q.kept.ages sum ∙ h.measured) in
+    let size : length (settled_floods (map sum q.kept.ages) q.floods) ≡ length q.floods = length-settled (map sum q.kept.ages) q.floods (length-map q.kept.ages sum ∙ h.measured) in
     record {
       some = h.some;
       few = h.few;
@@ -245,7 +245,7 @@ own-first None last h = refl
 own-first (Some r) last h = absurd (none-some _ (sym h))
 
 pub step-keeps : (q : Condensed) (action : Action) → KeepsRules q → IsTimely action → refusal q.panel action ≡ None → KeepsRules (step q action)
-step-keeps q action h early free = settle-kept (acted condensed (counted q) action) (acted-kept q action h early (own-first (own_refusal q.panel action) _ free))
+step-keeps q action h early free = settle-kept (with_effect in_brief (with_one_more q) action) (acted-kept q action h early (own-first (own_refusal q.panel action) _ free))
 
 -- a new plant
 zeros : (n age : ℕ) → slice_index (replicate n 0) age ≡ 0
@@ -266,7 +266,7 @@ no-stamp zero i = refl
 no-stamp (suc n) zero = refl
 no-stamp (suc n) (suc i) = no-stamp n i
 
-no-floods : (n : ℕ) (ages : List ℕ) → sum ages ≡ 0 → settled (map sum (replicate n ages)) (replicate n false) ≡ replicate n false
+no-floods : (n : ℕ) (ages : List ℕ) → sum ages ≡ 0 → settled_floods (map sum (replicate n ages)) (replicate n false) ≡ replicate n false
 no-floods zero ages e = refl
 no-floods (suc n) ages e = let first : is_flood (sum ages) false ≡ false = rw e refl in let rest = no-floods n ages e in cc
 

@@ -17,7 +17,7 @@ use Rattle.alm_model.specs.Plant.{Condensed}
 use Rattle.alm_model.specs.Accept.{accept, answer, refusal}
 use Rattle.alm_model.specs.Step.{step, run}
 use Rattle.alm_model.specs.Rules.{AllAdmitted}
-use Rattle.alm_model.specs.Judging.{verdict_from, verdict_of, after_verdict, when_accepted, accepted_of, request_of, requests_of, verdicts_of, judged, IsLegal, of_slot, wants_of, serials_of, entries_in, firsts_of, firsts_from}
+use Rattle.alm_model.specs.Judging.{verdict_from, verdict_of, after_verdict, when_accepted, accepted_of, request_of, requests_of, verdicts_of, verdicts_on, IsLegal, of_slot, wants_of, serials_of, entries_in, firsts_of, firsts_from}
 use Rattle.alm_model.proofs.Runs.{run_count, run_append}
 
 -- runs
@@ -86,7 +86,7 @@ pub legal_snoc : (base : Condensed) (entries : List Entry) (e : Entry) → IsLeg
 legal_snoc base [] e legal is = ap (λ v. v ∷ []) is
 legal_snoc base (x ∷ entries) e legal is =
     let first : x.verdict ≡ verdict_of base (request_of x) = cc legal in
-    let rest : verdicts_of entries ≡ judged (after_verdict base (verdict_of base (request_of x))) (requests_of entries) = cc legal in
+    let rest : verdicts_of entries ≡ verdicts_on (after_verdict base (verdict_of base (request_of x))) (requests_of entries) = cc legal in
     let plant : run base (accepted_of (x ∷ entries)) ≡ run (after_verdict base (verdict_of base (request_of x))) (accepted_of entries) =
     run_append base (when_accepted x.verdict) (accepted_of entries)
     ∙ ap (λ p. run p (accepted_of entries)) (step_of base x.verdict ∙ ap (after_verdict base) first) in
@@ -102,7 +102,7 @@ pub legal_admitted : (base : Condensed) (entries : List Entry) → IsLegal base 
 legal_admitted base [] legal = tt
 legal_admitted base (x ∷ entries) legal =
     let first : x.verdict ≡ verdict_of base (request_of x) = cc legal in
-    let rest : verdicts_of entries ≡ judged (after_verdict base x.verdict) (requests_of entries) = cc (legal, first) in
+    let rest : verdicts_of entries ≡ verdicts_on (after_verdict base x.verdict) (requests_of entries) = cc (legal, first) in
     admitted_step base (request_of x) x.verdict (accepted_of entries) first (legal_admitted (after_verdict base x.verdict) entries rest)
 
 -- the actions up to and with entry k

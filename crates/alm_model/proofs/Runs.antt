@@ -10,38 +10,38 @@ use Rattle.alm_types.specs.declared.action.Action.TheVariants.{Clock, Value, Ack
 use Rattle.alm_types.specs.declared.refusal.Refusal.{Refusal}
 use Rattle.alm_types.specs.declared.refusal.Refusal.TheVariants.{Exhausted}
 use Rattle.alm_state.specs.Rows.{State}
-use Rattle.alm_state.specs.Outcome.{outcome, unshelved, or_else, unless}
+use Rattle.alm_state.specs.Outcome.{outcome, without_shelving, or_else, unless}
 use Rattle.alm_state.specs.declared.outcome.Outcome.{Outcome}
 use Rattle.alm_state.specs.declared.outcome.Outcome.TheVariants.{Changed, Annunciated, Shelved}
 use Rattle.alm_model.specs.Plant.{Condensed}
 use Rattle.alm_model.specs.Accept.{own_refusal, refusal}
 use Rattle.alm_model.specs.Lists.{due}
-use Rattle.alm_model.specs.Keeping.{condensed, aged, one_more, area_of}
-use Rattle.alm_model.specs.Step.{put, touched, touch, unshelve, later, acted, counted, settled, step, run}
+use Rattle.alm_model.specs.Keeping.{in_brief, ages_after, one_younger, area_of}
+use Rattle.alm_model.specs.Step.{with_outcome, with_touched_alarm, touch, unshelve, later, with_effect, with_one_more, settled_floods, step, run}
 use Rattle.alm_model.specs.Rules.{AreAdmitted, AllAdmitted, admits_all}
 use Rattle.alm_model.proofs.Measured.{change-length}
 
 -- ---- each action is counted
 
-put_count : (q : Condensed) (i : ℕ) (o : Outcome) → (put condensed q i o).panel.count ≡ q.panel.count
+put_count : (q : Condensed) (i : ℕ) (o : Outcome) → (with_outcome in_brief q i o).panel.count ≡ q.panel.count
 put_count q i (Changed s) = refl
 put_count q i (Annunciated s) = refl
 put_count q i (Shelved s) = refl
 
-touched_count : (q : Condensed) (i : ℕ) (f : Attr → State → Outcome) (a : Option Attr) (s : Option State) → (touched condensed q i f a s).panel.count ≡ q.panel.count
+touched_count : (q : Condensed) (i : ℕ) (f : Attr → State → Outcome) (a : Option Attr) (s : Option State) → (with_touched_alarm in_brief q i f a s).panel.count ≡ q.panel.count
 touched_count q i f (Some a) (Some s) = put_count q i (f a s)
 touched_count q i f (Some a) None = refl
 touched_count q i f None s = refl
 
-touch_count : (q : Condensed) (i : ℕ) (f : Attr → State → Outcome) → (touch condensed q i f).panel.count ≡ q.panel.count
+touch_count : (q : Condensed) (i : ℕ) (f : Attr → State → Outcome) → (touch in_brief q i f).panel.count ≡ q.panel.count
 touch_count q i f = touched_count q i f (slice_get q.panel.attrs i) (slice_get q.panel.rows i)
 
-unshelves_count : (q : Condensed) (list : List ℕ) → (fold (unshelve condensed) q list).panel.count ≡ q.panel.count
+unshelves_count : (q : Condensed) (list : List ℕ) → (fold (unshelve in_brief) q list).panel.count ≡ q.panel.count
 unshelves_count q [] = refl
-unshelves_count q (i ∷ list) = unshelves_count (unshelve condensed q i) list ∙ touch_count q i (λ a s. unshelved q.panel.next_stamp s)
+unshelves_count q (i ∷ list) = unshelves_count (unshelve in_brief q i) list ∙ touch_count q i (λ a s. without_shelving q.panel.next_stamp s)
 
-acted_count : (q : Condensed) (a : Action) → (acted condensed q a).panel.count ≡ q.panel.count
-acted_count q (Clock t) = unshelves_count (later condensed t q) (due t q.panel)
+acted_count : (q : Condensed) (a : Action) → (with_effect in_brief q a).panel.count ≡ q.panel.count
+acted_count q (Clock t) = unshelves_count (later in_brief t q) (due t q.panel)
 acted_count q (Value i v) = touch_count q i.0 (outcome q.panel.now q.panel.next_stamp (Value i v))
 acted_count q (Ack i) = touch_count q i.0 (outcome q.panel.now q.panel.next_stamp (Ack i))
 acted_count q (Reset i) = touch_count q i.0 (outcome q.panel.now q.panel.next_stamp (Reset i))
@@ -53,7 +53,7 @@ acted_count q (SetPriority i priority) = refl
 acted_count q (SetSetpoint i setpoint) = refl
 
 pub step_count : (q : Condensed) (a : Action) → (step q a).panel.count ≡ q.panel.count + 1
-step_count q a = acted_count (counted q) a
+step_count q a = acted_count (with_one_more q) a
 
 pub run_count : (q : Condensed) (actions : List Action) → (run q actions).panel.count ≡ q.panel.count + length actions
 run_count q [] = omega arith
@@ -73,28 +73,28 @@ as_many q = record { rows = refl; floods = refl; ages = refl }
 then : (p q r : Condensed) → AsMany p q → AsMany q r → AsMany p r
 then p q r a b = record { rows = a.rows ∙ b.rows; floods = a.floods ∙ b.floods; ages = a.ages ∙ b.ages }
 
-put_sizes : (q : Condensed) (i : ℕ) (o : Outcome) → AsMany (put condensed q i o) q
+put_sizes : (q : Condensed) (i : ℕ) (o : Outcome) → AsMany (with_outcome in_brief q i o) q
 put_sizes q i (Changed s) = record { rows = length-set q.panel.rows i s; floods = refl; ages = refl }
-put_sizes q i (Annunciated s) = record { rows = length-set q.panel.rows i s; floods = refl; ages = change-length q.kept.ages (area_of q.panel i) one_more }
+put_sizes q i (Annunciated s) = record { rows = length-set q.panel.rows i s; floods = refl; ages = change-length q.kept.ages (area_of q.panel i) one_younger }
 put_sizes q i (Shelved s) = record { rows = length-set q.panel.rows i s; floods = refl; ages = refl }
 
-touched_sizes : (q : Condensed) (i : ℕ) (f : Attr → State → Outcome) (a : Option Attr) (s : Option State) → AsMany (touched condensed q i f a s) q
+touched_sizes : (q : Condensed) (i : ℕ) (f : Attr → State → Outcome) (a : Option Attr) (s : Option State) → AsMany (with_touched_alarm in_brief q i f a s) q
 touched_sizes q i f (Some a) (Some s) = put_sizes q i (f a s)
 touched_sizes q i f (Some a) None = as_many q
 touched_sizes q i f None s = as_many q
 
-touch_sizes : (q : Condensed) (i : ℕ) (f : Attr → State → Outcome) → AsMany (touch condensed q i f) q
+touch_sizes : (q : Condensed) (i : ℕ) (f : Attr → State → Outcome) → AsMany (touch in_brief q i f) q
 touch_sizes q i f = touched_sizes q i f (slice_get q.panel.attrs i) (slice_get q.panel.rows i)
 
-unshelves_sizes : (q : Condensed) (list : List ℕ) → AsMany (fold (unshelve condensed) q list) q
+unshelves_sizes : (q : Condensed) (list : List ℕ) → AsMany (fold (unshelve in_brief) q list) q
 unshelves_sizes q [] = as_many q
-unshelves_sizes q (i ∷ list) = then _ _ _ (unshelves_sizes (unshelve condensed q i) list) (touch_sizes q i (λ a s. unshelved q.panel.next_stamp s))
+unshelves_sizes q (i ∷ list) = then _ _ _ (unshelves_sizes (unshelve in_brief q i) list) (touch_sizes q i (λ a s. without_shelving q.panel.next_stamp s))
 
-later_sizes : (t : ℕ) (q : Condensed) → AsMany (later condensed t q) q
-later_sizes t q = record { rows = refl; floods = refl; ages = length-map q.kept.ages (aged (t - q.panel.now)) }
+later_sizes : (t : ℕ) (q : Condensed) → AsMany (later in_brief t q) q
+later_sizes t q = record { rows = refl; floods = refl; ages = length-map q.kept.ages (ages_after (t - q.panel.now)) }
 
-acted_sizes : (q : Condensed) (a : Action) → AsMany (acted condensed q a) q
-acted_sizes q (Clock t) = then _ _ _ (unshelves_sizes (later condensed t q) (due t q.panel)) (later_sizes t q)
+acted_sizes : (q : Condensed) (a : Action) → AsMany (with_effect in_brief q a) q
+acted_sizes q (Clock t) = then _ _ _ (unshelves_sizes (later in_brief t q) (due t q.panel)) (later_sizes t q)
 acted_sizes q (Value i v) = touch_sizes q i.0 (outcome q.panel.now q.panel.next_stamp (Value i v))
 acted_sizes q (Ack i) = touch_sizes q i.0 (outcome q.panel.now q.panel.next_stamp (Ack i))
 acted_sizes q (Reset i) = touch_sizes q i.0 (outcome q.panel.now q.panel.next_stamp (Reset i))
@@ -105,7 +105,7 @@ acted_sizes q (Design i on) = touch_sizes q i.0 (outcome q.panel.now q.panel.nex
 acted_sizes q (SetPriority i priority) = record { rows = refl; floods = refl; ages = refl }
 acted_sizes q (SetSetpoint i setpoint) = record { rows = refl; floods = refl; ages = refl }
 
-settled_length : (windows : List ℕ) (floods : List Bool) → length windows ≡ length floods → length (settled windows floods) ≡ length floods
+settled_length : (windows : List ℕ) (floods : List Bool) → length windows ≡ length floods → length (settled_floods windows floods) ≡ length floods
 settled_length [] [] e = refl
 settled_length [] (f ∷ floods) e = absurd (omega (arith, e))
 settled_length (w ∷ windows) [] e = absurd (omega (arith, e))
@@ -113,8 +113,8 @@ settled_length (w ∷ windows) (f ∷ floods) e = omega (arith, settled_length w
 
 step_sizes : (q : Condensed) (a : Action) → length q.kept.ages ≡ length q.floods → AsMany (step q a) q
 step_sizes q a e =
-    let m = acted_sizes (counted q) a in
-    let p : Condensed = acted condensed (counted q) a in
+    let m = acted_sizes (with_one_more q) a in
+    let p : Condensed = with_effect in_brief (with_one_more q) a in
     record { rows = m.rows; floods = settled_length (map sum p.kept.ages) p.floods (omega (arith, length-map p.kept.ages sum, m.ages, m.floods, e)) ∙ m.floods; ages = m.ages }
 
 pub run_sizes : (q : Condensed) (actions : List Action) → length q.kept.ages ≡ length q.floods → (length (run q actions).panel.rows ≡ length q.panel.rows) × (length (run q actions).floods ≡ length q.floods)

@@ -13,23 +13,23 @@ use Rattle.std.proofs.lemmas.Bool.{cases_Bool}
 use borrow.Author.Tests.{ltb-true}
 use Rattle.alm_types.specs.declared.refusal.Refusal.{Refusal}
 use Rattle.alm_types.specs.declared.refusal.Refusal.TheVariants.{ClockBack}
-use Rattle.alm_state.specs.Outcome.{outcome, unshelved, or_else, unless}
+use Rattle.alm_state.specs.Outcome.{outcome, without_shelving, or_else, unless}
 use Rattle.alm_state.specs.declared.outcome.Outcome.{Outcome}
 use Rattle.alm_state.specs.declared.outcome.Outcome.TheVariants.{Changed, Annunciated, Shelved}
 use Rattle.std.proofs.lemmas.List.FromFn.{length-map-range_with_len}
 use Rattle.alm_model.specs.Lists.{due}
 use Rattle.alm_model.specs.Accept.{refusal}
 use Rattle.alm_model.specs.Plant.{Panel, Plant, History}
-use Rattle.alm_model.specs.Keeping.{in_full, condensed, aged, window_of, change}
+use Rattle.alm_model.specs.Keeping.{in_full, in_brief, ages_after, window_of, change}
 use Rattle.alm_model.specs.Condense.{condense, IsPast, IsRecorded, of_age, moments_of}
-use Rattle.alm_model.specs.Step.{put, configured, touch, touched, unshelve, later, acted, settle, settled, counted, with_stamped, after, step}
+use Rattle.alm_model.specs.Step.{with_outcome, with_attributes, touch, with_touched_alarm, unshelve, later, with_effect, settle, settled_floods, with_one_more, with_stamped, after, step}
 use Rattle.alm_model.proofs.Configured.{KeepsPlace, priority_keeps, setpoint_keeps, area_kept}
 use Rattle.alm_model.proofs.Measured.{change-length}
 use Rattle.alm_model.proofs.Condensing.{ages-note, moments-note, map-same}
 use Rattle.alm_model.proofs.Passing.{ages-pass}
 use Rattle.alm_model.proofs.Windows.{window-sum}
 
-cond-put : (q : Plant) (i : ℕ) (o : Outcome) → condense (put in_full q i o) ≡ put condensed (condense q) i o
+cond-put : (q : Plant) (i : ℕ) (o : Outcome) → condense (with_outcome in_full q i o) ≡ with_outcome in_brief (condense q) i o
 cond-put q i (Changed s) = refl
 cond-put q i (Shelved s) = refl
 cond-put q i (Annunciated s) =
@@ -37,20 +37,20 @@ cond-put q i (Annunciated s) =
     let moments = moments-note q.kept i q.panel.now (length q.panel.attrs) in
     λ j. record { panel = with_stamped q.panel i s; kept = record { ages = ages j; moments = moments j }; floods = q.floods }
 
-cond-touched : (q : Plant) (i : ℕ) (f : Attr → State → Outcome) (a : Option Attr) (s : Option State) → condense (touched in_full q i f a s) ≡ touched condensed (condense q) i f a s
+cond-touched : (q : Plant) (i : ℕ) (f : Attr → State → Outcome) (a : Option Attr) (s : Option State) → condense (with_touched_alarm in_full q i f a s) ≡ with_touched_alarm in_brief (condense q) i f a s
 cond-touched q i f (Some a) (Some s) = cond-put q i (f a s)
 cond-touched q i f (Some a) None = refl
 cond-touched q i f None s = refl
 
-cond-touch : (q : Plant) (i : ℕ) (f : Attr → State → Outcome) → condense (touch in_full q i f) ≡ touch condensed (condense q) i f
+cond-touch : (q : Plant) (i : ℕ) (f : Attr → State → Outcome) → condense (touch in_full q i f) ≡ touch in_brief (condense q) i f
 cond-touch q i f = cond-touched q i f (slice_get q.panel.attrs i) (slice_get q.panel.rows i)
 
 -- other attributes of an alarm leave it in its area, so all is counted as before
-pub cond-configured : (q : Plant) (i : ℕ) (f : Attr → Attr) → KeepsPlace f → condense (configured q i f) ≡ configured (condense q) i f
+pub cond-configured : (q : Plant) (i : ℕ) (f : Attr → Attr) → KeepsPlace f → condense (with_attributes q i f) ≡ with_attributes (condense q) i f
 cond-configured q i f same =
     let size : length (change q.panel.attrs i f) ≡ length q.panel.attrs = change-length q.panel.attrs i f in
     λ j. record {
-      panel = (configured q i f).panel;
+      panel = (with_attributes q i f).panel;
       kept = record {
         ages = map (λ area. map (λ age. count_by (λ a. (area_kept q.panel.attrs i a.alarm f same j == area) && (a.moment + age == q.panel.now)) q.kept) (range_with_len 0 600)) (range_with_len 0 (length q.floods));
         moments = map (λ k. take 3 (moments_of q.kept k)) (range_with_len 0 (size j));
@@ -58,22 +58,22 @@ cond-configured q i f same =
       floods = q.floods;
     }
 
-cond-fold : (q : Plant) (is : List ℕ) → condense (fold (unshelve in_full) q is) ≡ fold (unshelve condensed) (condense q) is
+cond-fold : (q : Plant) (is : List ℕ) → condense (fold (unshelve in_full) q is) ≡ fold (unshelve in_brief) (condense q) is
 cond-fold q [] = refl
 cond-fold q (i ∷ is) =
-    cond-fold (unshelve in_full q i) is ∙ ap (λ r. fold (unshelve condensed) r is) (cond-touch q i (λ a s. unshelved q.panel.next_stamp s))
+    cond-fold (unshelve in_full q i) is ∙ ap (λ r. fold (unshelve in_brief) r is) (cond-touch q i (λ a s. without_shelving q.panel.next_stamp s))
 
 map-map : {A B C : Type 0} (f : B → C) (g : A → B) (xs : List A) → map f (map g xs) ≡ map (λ x. f (g x)) xs
 map-map f g [] = refl
 map-map f g (x ∷ xs) = ap (λ l. f (g x) ∷ l) (map-map f g xs)
 
 ages-later : (p : Panel) (h : History) (t d areas : ℕ) → IsPast p.now h → t ≡ p.now + d
-    → map (λ area. map (of_age (record p { now = t }) h area) (range_with_len 0 600)) (range_with_len 0 areas) ≡ map (aged d) (map (λ area. map (of_age p h area) (range_with_len 0 600)) (range_with_len 0 areas))
+    → map (λ area. map (of_age (record p { now = t }) h area) (range_with_len 0 600)) (range_with_len 0 areas) ≡ map (ages_after d) (map (λ area. map (of_age p h area) (range_with_len 0 600)) (range_with_len 0 areas))
 ages-later p h t d areas past e =
-    rw e (map-same (λ area. aged d (map (of_age p h area) (range_with_len 0 600))) (λ area. map (of_age (record p { now = p.now + d }) h area) (range_with_len 0 600)) 0 areas (λ area k. ages-pass p h d area 600 past)
-    ∙ sym (map-map (aged d) (λ area. map (of_age p h area) (range_with_len 0 600)) (range_with_len 0 areas)))
+    rw e (map-same (λ area. ages_after d (map (of_age p h area) (range_with_len 0 600))) (λ area. map (of_age (record p { now = p.now + d }) h area) (range_with_len 0 600)) 0 areas (λ area k. ages-pass p h d area 600 past)
+    ∙ sym (map-map (ages_after d) (λ area. map (of_age p h area) (range_with_len 0 600)) (range_with_len 0 areas)))
 
-pub cond-later : (q : Plant) (t : ℕ) → IsPast q.panel.now q.kept → q.panel.now ≤ t → condense (later in_full t q) ≡ later condensed t (condense q)
+pub cond-later : (q : Plant) (t : ℕ) → IsPast q.panel.now q.kept → q.panel.now ≤ t → condense (later in_full t q) ≡ later in_brief t (condense q)
 cond-later q t past k =
     let ages = ages-later q.panel q.kept t (t - q.panel.now) (length q.floods) past (omega arith) in
     λ j. record { panel = record q.panel { now = t }; kept = record { ages = ages j; moments = map (λ i. take 3 (moments_of q.kept i)) (range_with_len 0 (length q.panel.attrs)) }; floods = q.floods }
@@ -86,12 +86,12 @@ IsPast-later now t (a ∷ h) k past = let early : a.moment ≤ now = past.0 in (
 abbrev IsPastPlant : Plant → Type 0
 IsPastPlant q = IsPast q.panel.now q.kept
 
-past-put : (q : Plant) (i : ℕ) (o : Outcome) → IsPastPlant q → IsPastPlant (put in_full q i o)
+past-put : (q : Plant) (i : ℕ) (o : Outcome) → IsPastPlant q → IsPastPlant (with_outcome in_full q i o)
 past-put q i (Changed s) past = past
 past-put q i (Shelved s) past = past
 past-put q i (Annunciated s) past = (omega arith, past)
 
-past-touched : (q : Plant) (i : ℕ) (f : Attr → State → Outcome) (a : Option Attr) (s : Option State) → IsPastPlant q → IsPastPlant (touched in_full q i f a s)
+past-touched : (q : Plant) (i : ℕ) (f : Attr → State → Outcome) (a : Option Attr) (s : Option State) → IsPastPlant q → IsPastPlant (with_touched_alarm in_full q i f a s)
 past-touched q i f (Some a) (Some s) past = past-put q i (f a s) past
 past-touched q i f (Some a) None past = past
 past-touched q i f None s past = past
@@ -101,22 +101,22 @@ past-touch q i f past = past-touched q i f (slice_get q.panel.attrs i) (slice_ge
 
 past-fold : (q : Plant) (is : List ℕ) → IsPastPlant q → IsPastPlant (fold (unshelve in_full) q is)
 past-fold q [] past = past
-past-fold q (i ∷ is) past = past-fold (unshelve in_full q i) is (past-touch q i (λ a s. unshelved q.panel.next_stamp s) past)
+past-fold q (i ∷ is) past = past-fold (unshelve in_full q i) is (past-touch q i (λ a s. without_shelving q.panel.next_stamp s) past)
 
-length-settled : (ws : List ℕ) (floods : List Bool) → length ws ≡ length floods → length (settled ws floods) ≡ length floods
+length-settled : (ws : List ℕ) (floods : List Bool) → length ws ≡ length floods → length (settled_floods ws floods) ≡ length floods
 length-settled [] [] e = refl
 length-settled [] (b ∷ floods) e = absurd (omega arith)
 length-settled (w ∷ ws) [] e = absurd (omega arith)
 length-settled (w ∷ ws) (b ∷ floods) e = let rest = length-settled ws floods (omega arith) in omega arith
 
 -- the floods are settled by the same windows
-pub cond-settle : (q : Plant) → IsPastPlant q → condense (settle in_full q) ≡ settle condensed (condense q)
+pub cond-settle : (q : Plant) → IsPastPlant q → condense (settle in_full q) ≡ settle in_brief (condense q)
 cond-settle q past =
     let areas = length q.floods in
     let windows : map (window_of q.panel q.kept) (range_with_len 0 areas) ≡ map sum (map (λ area. map (of_age q.panel q.kept area) (range_with_len 0 600)) (range_with_len 0 areas)) =
     map-same (λ area. sum (map (of_age q.panel q.kept area) (range_with_len 0 600))) (window_of q.panel q.kept) 0 areas (λ area k. sym (window-sum q.panel q.kept area 600 past))
     ∙ sym (map-map sum (λ area. map (of_age q.panel q.kept area) (range_with_len 0 600)) (range_with_len 0 areas)) in
-    let size : length (settled (map (window_of q.panel q.kept) (range_with_len 0 areas)) q.floods) ≡ areas =
+    let size : length (settled_floods (map (window_of q.panel q.kept) (range_with_len 0 areas)) q.floods) ≡ areas =
     length-settled (map (window_of q.panel q.kept) (range_with_len 0 areas)) q.floods (length-map-range_with_len (window_of q.panel q.kept) 0 areas) in
     λ j. record {
       panel = q.panel;
@@ -124,7 +124,7 @@ cond-settle q past =
         ages = map (λ area. map (of_age q.panel q.kept area) (range_with_len 0 600)) (range_with_len 0 (size j));
         moments = map (λ i. take 3 (moments_of q.kept i)) (range_with_len 0 (length q.panel.attrs));
       };
-      floods = settled (windows j) q.floods;
+      floods = settled_floods (windows j) q.floods;
     }
 
 -- the clock goes forward
@@ -150,9 +150,9 @@ forward p (Design i on) h = tt
 forward p (SetPriority i priority) h = tt
 forward p (SetSetpoint i setpoint) h = tt
 
-cond-acted : (q : Plant) (action : Action) → IsPastPlant q → Forward q.panel.now action → condense (acted in_full q action) ≡ acted condensed (condense q) action
+cond-acted : (q : Plant) (action : Action) → IsPastPlant q → Forward q.panel.now action → condense (with_effect in_full q action) ≡ with_effect in_brief (condense q) action
 cond-acted q (Clock t) past h =
-    cond-fold (later in_full t q) (due t q.panel) ∙ ap (λ r. fold (unshelve condensed) r (due t q.panel)) (cond-later q t past h)
+    cond-fold (later in_full t q) (due t q.panel) ∙ ap (λ r. fold (unshelve in_brief) r (due t q.panel)) (cond-later q t past h)
 cond-acted q (Value i v) past h = cond-touch q i.0 (outcome q.panel.now q.panel.next_stamp (Value i v))
 cond-acted q (Ack i) past h = cond-touch q i.0 (outcome q.panel.now q.panel.next_stamp (Ack i))
 cond-acted q (Reset i) past h = cond-touch q i.0 (outcome q.panel.now q.panel.next_stamp (Reset i))
@@ -163,7 +163,7 @@ cond-acted q (Design i on) past h = cond-touch q i.0 (outcome q.panel.now q.pane
 cond-acted q (SetPriority i priority) past h = cond-configured q i.0 (with_priority priority) (priority_keeps priority)
 cond-acted q (SetSetpoint i setpoint) past h = cond-configured q i.0 (with_setpoint setpoint) (setpoint_keeps setpoint)
 
-past-acted : (q : Plant) (action : Action) → IsPastPlant q → Forward q.panel.now action → IsPastPlant (acted in_full q action)
+past-acted : (q : Plant) (action : Action) → IsPastPlant q → Forward q.panel.now action → IsPastPlant (with_effect in_full q action)
 past-acted q (Clock t) past h = past-fold (later in_full t q) (due t q.panel) (IsPast-later q.panel.now t q.kept h past)
 past-acted q (Value i v) past h = past-touch q i.0 (outcome q.panel.now q.panel.next_stamp (Value i v)) past
 past-acted q (Ack i) past h = past-touch q i.0 (outcome q.panel.now q.panel.next_stamp (Ack i)) past
@@ -178,7 +178,7 @@ past-acted q (SetSetpoint i setpoint) past h = past
 pub cond-after : (q : Plant) (action : Action) → IsPast q.panel.now q.kept → refusal q.panel action ≡ None → condense (after q action) ≡ step (condense q) action
 cond-after q action past h =
     let f = forward q.panel action h in
-    cond-settle (acted in_full (counted q) action) (past-acted (counted q) action past f) ∙ ap (settle condensed) (cond-acted (counted q) action past f)
+    cond-settle (with_effect in_full (with_one_more q) action) (past-acted (with_one_more q) action past f) ∙ ap (settle in_brief) (cond-acted (with_one_more q) action past f)
 
 pub recorded-later : (now t : ℕ) (h : History) → now ≤ t → IsRecorded now h → IsRecorded t h
 recorded-later now t [] k r = tt
@@ -191,12 +191,12 @@ past-recorded now (a ∷ h) r = (r.0, IsPast-later a.moment now h r.0 (past-reco
 abbrev Recorded : Plant → Type 0
 Recorded q = IsRecorded q.panel.now q.kept
 
-recorded-put : (q : Plant) (i : ℕ) (o : Outcome) → Recorded q → Recorded (put in_full q i o)
+recorded-put : (q : Plant) (i : ℕ) (o : Outcome) → Recorded q → Recorded (with_outcome in_full q i o)
 recorded-put q i (Changed s) r = r
 recorded-put q i (Shelved s) r = r
 recorded-put q i (Annunciated s) r = (omega arith, r)
 
-recorded-touched : (q : Plant) (i : ℕ) (f : Attr → State → Outcome) (a : Option Attr) (s : Option State) → Recorded q → Recorded (touched in_full q i f a s)
+recorded-touched : (q : Plant) (i : ℕ) (f : Attr → State → Outcome) (a : Option Attr) (s : Option State) → Recorded q → Recorded (with_touched_alarm in_full q i f a s)
 recorded-touched q i f (Some a) (Some s) r = recorded-put q i (f a s) r
 recorded-touched q i f (Some a) None r = r
 recorded-touched q i f None s r = r
@@ -206,9 +206,9 @@ recorded-touch q i f r = recorded-touched q i f (slice_get q.panel.attrs i) (sli
 
 recorded-fold : (q : Plant) (is : List ℕ) → Recorded q → Recorded (fold (unshelve in_full) q is)
 recorded-fold q [] r = r
-recorded-fold q (i ∷ is) r = recorded-fold (unshelve in_full q i) is (recorded-touch q i (λ a s. unshelved q.panel.next_stamp s) r)
+recorded-fold q (i ∷ is) r = recorded-fold (unshelve in_full q i) is (recorded-touch q i (λ a s. without_shelving q.panel.next_stamp s) r)
 
-recorded-acted : (q : Plant) (action : Action) → Recorded q → Forward q.panel.now action → Recorded (acted in_full q action)
+recorded-acted : (q : Plant) (action : Action) → Recorded q → Forward q.panel.now action → Recorded (with_effect in_full q action)
 recorded-acted q (Clock t) r h = recorded-fold (later in_full t q) (due t q.panel) (recorded-later q.panel.now t q.kept h r)
 recorded-acted q (Value i v) r h = recorded-touch q i.0 (outcome q.panel.now q.panel.next_stamp (Value i v)) r
 recorded-acted q (Ack i) r h = recorded-touch q i.0 (outcome q.panel.now q.panel.next_stamp (Ack i)) r
@@ -221,7 +221,7 @@ recorded-acted q (SetPriority i priority) r h = r
 recorded-acted q (SetSetpoint i setpoint) r h = r
 
 pub falling-after : (q : Plant) (action : Action) → Recorded q → refusal q.panel action ≡ None → Recorded (after q action)
-falling-after q action r h = recorded-acted (counted q) action r (forward q.panel action h)
+falling-after q action r h = recorded-acted (with_one_more q) action r (forward q.panel action h)
 
 -- the windows of the condensed plant are those of all annunciations
 pub cond-windows : (q : Plant) → IsPastPlant q → map sum (condense q).kept.ages ≡ map (window_of q.panel q.kept) (range_with_len 0 (length q.floods))

@@ -47,13 +47,13 @@ verdicts_of [] = []
 verdicts_of (e ∷ entries) = e.verdict ∷ verdicts_of entries
 
 -- the answers to these requests, each on the plant of the accepted actions before it
-abbrev pub judged : Condensed → List Request → List Verdict
-judged q [] = []
-judged q (r ∷ requests) = verdict_of q r ∷ judged (after_verdict q (verdict_of q r)) requests
+abbrev pub verdicts_on : Condensed → List Request → List Verdict
+verdicts_on q [] = []
+verdicts_on q (r ∷ requests) = verdict_of q r ∷ verdicts_on (after_verdict q (verdict_of q r)) requests
 
 -- these entries are one legal history of one thread
 abbrev pub IsLegal : Condensed → List Entry → Type 0
-IsLegal base entries = verdicts_of entries ≡ judged base (requests_of entries)
+IsLegal base entries = verdicts_of entries ≡ verdicts_on base (requests_of entries)
 
 -- the entries of a slot
 abbrev pub of_slot : ℕ → List Entry → List Entry

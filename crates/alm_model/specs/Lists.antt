@@ -68,13 +68,13 @@ abbrev pub is_frequent : ℕ → List ℕ → Bool
 is_frequent now moments = nat_le 3 (length (filter (λ m. nat_lt now (m + 60)) moments))
 
 -- the alarms of a list whose last moments pass a test, by number
-abbrev pub measured : (List ℕ → Bool) → Choice → Condensed → List ℕ
-measured test list q = filter (λ i. test (moments_in (slice_get q.kept.moments i))) (alarms (stands_in list) q.panel.attrs q.panel.rows)
+abbrev pub measured_alarms : (List ℕ → Bool) → Choice → Condensed → List ℕ
+measured_alarms test list q = filter (λ i. test (moments_in (slice_get q.kept.moments i))) (alarms (stands_in list) q.panel.attrs q.panel.rows)
 
 -- a list: by stamp, and those of the measures by number
 abbrev pub list_of : Choice → Condensed → List ℕ
-list_of Stale q = measured (is_old q.panel.now) Stale q
-list_of Chatter q = measured (is_frequent q.panel.now) Chatter q
+list_of Stale q = measured_alarms (is_old q.panel.now) Stale q
+list_of Chatter q = measured_alarms (is_frequent q.panel.now) Chatter q
 list_of list q = alarms_by stamp (stands_in list) q.panel.attrs q.panel.rows
 
 -- which lists there are

@@ -2,8 +2,8 @@
 use Rattle.alm_model.specs.Plant.{Condensed}
 use Rattle.alm_model.specs.declared.plain_rows.PlainRows.TheInside.{Inside}
 
-abbrev pub shown : Inside → Condensed
-shown p = record {
+abbrev pub plain_plant : Inside → Condensed
+plain_plant p = record {
   panel = record { now = p.clock; count = p.count; next_stamp = p.next_stamp; attrs = p.attrs.items; rows = p.rows.items };
   kept = record { ages = p.ages.items; moments = p.moments.items };
   floods = p.floods.items;

@@ -37,11 +37,11 @@ impl Model for PlainRows {
     ghost Value = { Condensed };
 
     ghost use Rattle.alm_model.specs.Sound.{IsSound};
-    ghost use Rattle.alm_model.specs.Plain.{shown};
+    ghost use Rattle.alm_model.specs.Plain.{plain_plant};
 
-    ghost view = { shown };
+    ghost view = { plain_plant };
 
-    ghost invariant = { λ p. IsSound (shown p) };
+    ghost invariant = { λ p. IsSound (plain_plant p) };
 }
 
 impl PlainRows {

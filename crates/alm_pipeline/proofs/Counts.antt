@@ -11,7 +11,7 @@ use Rattle.alm_store.specs.declared.store.Store.{Ghosts}
 use Rattle.alm_rings.specs.Placed.{taken_by, released_by}
 use Rattle.alm_rings.specs.Batches.{fetched_of, sealed_of, coming_in}
 use Rattle.alm_flush.specs.Replies.{replies_in, replies_to}
-use Rattle.alm_flush.specs.HeldBatch.{batches_of, told_of, next_of, passed}
+use Rattle.alm_flush.specs.HeldBatch.{batches_of, released_entries, next_entry_of, after_release}
 use Rattle.alm_flush.specs.declared.held.Held.{Held}
 use Rattle.alm_flush.specs.declared.held.Held.TheVariants.{Nothing, Fetched, Failed, Committed, Published}
 use Rattle.alm_flush.proofs.HeldLaws.{told_pass, batches_pass}
@@ -24,7 +24,7 @@ cut (suc n) [] = refl
 cut zero (x ∷ xs) = refl
 cut (suc n) (x ∷ xs) = ap (λ l. x ∷ l) (cut n xs)
 
-told_split : (h : Held) → (rest : List Entry) × (entries_in (batches_of h) ≡ told_of h ++ rest)
+told_split : (h : Held) → (rest : List Entry) × (entries_in (batches_of h) ≡ released_entries h ++ rest)
 told_split Nothing = ([], refl)
 told_split (Fetched b) = (b.entries ++ [], refl)
 told_split (Failed b) = (b.entries ++ [], refl)
@@ -74,7 +74,7 @@ module _ {K D : Type 0} {g : Ghosts K D} {d : Disk.Ghosts D} where
   pub released_le : (p : Pipeline K D g d) → KnowsAll p → (s : ℕ) → length (released_by s p.flusher.outboxes.items) ≤ length (taken_by s p.sequencer.inboxes.items)
   released_le p n s =
       let before = entries_in (fetched_of p.flusher.before.value) in
-      let told = told_of p.flusher.held in
+      let told = released_entries p.flusher.held in
       let all = entries_in (sealed_of p.sequencer.ends) ++ p.sequencer.batch.entries in
       let split = told_split p.flusher.held in
       omega (
@@ -87,14 +87,14 @@ module _ {K D : Type 0} {g : Ghosts K D} {d : Disk.Ghosts D} where
         count_le s (before ++ told) _ all (history p n told split.0 split.1),
       )
 
-  pub released_lt : (p : Pipeline K D g d) → KnowsAll p → (s : ℕ) (e : Entry) → next_of p.flusher.held ≡ Some e → e.slot ≡ s → length (released_by s p.flusher.outboxes.items) + 1 ≤ length (taken_by s p.sequencer.inboxes.items)
+  pub released_lt : (p : Pipeline K D g d) → KnowsAll p → (s : ℕ) (e : Entry) → next_entry_of p.flusher.held ≡ Some e → e.slot ≡ s → length (released_by s p.flusher.outboxes.items) + 1 ≤ length (taken_by s p.sequencer.inboxes.items)
   released_lt p n s e next of =
       let before = entries_in (fetched_of p.flusher.before.value) in
       let h = p.flusher.held in
-      let told = told_of h in
+      let told = released_entries h in
       let more = told ++ e ∷ [] in
       let all = entries_in (sealed_of p.sequencer.ends) ++ p.sequencer.batch.entries in
-      let split = told_split (passed h) in
+      let split = told_split (after_release h) in
       let is : entries_in (batches_of h) ≡ more ++ split.0 = sym (ap entries_in (batches_pass h)) ∙ (split.1 ∙ ap (λ l. l ++ split.0) (told_pass h e next)) in
       let here : of_slot s (before ++ more) ≡ of_slot s (before ++ told) ++ e ∷ [] = ap (of_slot s) (sym (append_assoc before told (e ∷ []))) ∙ of_slot_here s (before ++ told) e of in
       omega (

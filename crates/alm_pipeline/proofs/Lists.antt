@@ -3,13 +3,13 @@ use Rattle.std.proofs.Common.{◌≡◌, ◌<◌, suc, List, [], ◌∷◌, ◌+
 use mathlib.Core.List.{IsPrefix}
 use Rattle.alm_types.specs.Batches.{Judged}
 use Rattle.alm_types.specs.declared.entry.Entry.{Entry}
-use Rattle.alm_pipeline.specs.Matches.{lists_of}
+use Rattle.alm_pipeline.specs.Matches.{entries_of}
 
 pub cancel : {A : Type 0} (xs ys zs : List A) → xs ++ ys ≡ xs ++ zs → ys ≡ zs
 cancel [] ys zs is = is
 cancel (x ∷ xs) ys zs is = cancel xs ys zs (cc is)
 
-pub lists_append : (xs ys : List Judged) → lists_of (xs ++ ys) ≡ lists_of xs ++ lists_of ys
+pub lists_append : (xs ys : List Judged) → entries_of (xs ++ ys) ≡ entries_of xs ++ entries_of ys
 lists_append [] ys = refl
 lists_append (b ∷ xs) ys = ap (λ l. b.entries ∷ l) (lists_append xs ys)
 
@@ -28,23 +28,23 @@ taken_is taken known sent later x all some p =
     subst (λ (l : List _). slice_get l (length taken) ≡ Some x) (ap (λ k. taken ++ k) (sym h.1) ∙ all) (get_seam taken h.0 x)
 
 -- the batch that came is the first of the world's sealed ones
-pub next_sealed : (fetched coming sealed later : List Judged) (b : Judged) (waiting : List (List Entry)) → fetched ++ coming ≡ sealed → lists_of sealed ≡ lists_of fetched ++ waiting → 0 < length coming → IsPrefix coming (b ∷ later) → (rest : List (List Entry)) × (waiting ≡ b.entries ∷ rest) × (lists_of sealed ≡ lists_of (fetched ++ b ∷ []) ++ rest)
+pub next_sealed : (fetched coming sealed later : List Judged) (b : Judged) (waiting : List (List Entry)) → fetched ++ coming ≡ sealed → entries_of sealed ≡ entries_of fetched ++ waiting → 0 < length coming → IsPrefix coming (b ∷ later) → (rest : List (List Entry)) × (waiting ≡ b.entries ∷ rest) × (entries_of sealed ≡ entries_of (fetched ++ b ∷ []) ++ rest)
 next_sealed fetched coming sealed later b waiting all is some p =
     let h = head_is coming later b some p in
-    let split : lists_of sealed ≡ lists_of fetched ++ (b.entries ∷ lists_of h.0) =
-    ap lists_of (sym all) ∙ (lists_append fetched coming ∙ ap (λ l. lists_of fetched ++ lists_of l) h.1) in (
-      lists_of h.0,
-      cancel (lists_of fetched) waiting (b.entries ∷ lists_of h.0) (sym is ∙ split),
-      split ∙ (sym (append_assoc (lists_of fetched) (b.entries ∷ []) (lists_of h.0)) ∙ ap (λ l. l ++ lists_of h.0) (sym (lists_append fetched (b ∷ [])))),
+    let split : entries_of sealed ≡ entries_of fetched ++ (b.entries ∷ entries_of h.0) =
+    ap entries_of (sym all) ∙ (lists_append fetched coming ∙ ap (λ l. entries_of fetched ++ entries_of l) h.1) in (
+      entries_of h.0,
+      cancel (entries_of fetched) waiting (b.entries ∷ entries_of h.0) (sym is ∙ split),
+      split ∙ (sym (append_assoc (entries_of fetched) (b.entries ∷ []) (entries_of h.0)) ∙ ap (λ l. l ++ entries_of h.0) (sym (lists_append fetched (b ∷ [])))),
     )
 
 -- none waits where none is known to
-pub none_sealed : (fetched coming sealed : List Judged) (waiting : List (List Entry)) → fetched ++ coming ≡ sealed → lists_of sealed ≡ lists_of fetched ++ waiting → ¬ (0 < length coming) → ¬ (0 < length waiting)
+pub none_sealed : (fetched coming sealed : List Judged) (waiting : List (List Entry)) → fetched ++ coming ≡ sealed → entries_of sealed ≡ entries_of fetched ++ waiting → ¬ (0 < length coming) → ¬ (0 < length waiting)
 none_sealed fetched [] sealed waiting all is none some =
-    let e : waiting ≡ [] = cancel (lists_of fetched) waiting [] (sym is ∙ (ap lists_of (sym all) ∙ lists_append fetched [])) in
+    let e : waiting ≡ [] = cancel (entries_of fetched) waiting [] (sym is ∙ (ap entries_of (sym all) ∙ lists_append fetched [])) in
     absurd (omega (arith, ap length e))
 none_sealed fetched (b ∷ coming) sealed waiting all is none some = none (omega arith)
 
-pub lists_length : (bs : List Judged) → length (lists_of bs) ≡ length bs
+pub lists_length : (bs : List Judged) → length (entries_of bs) ≡ length bs
 lists_length [] = refl
 lists_length (b ∷ bs) = ap suc (lists_length bs)

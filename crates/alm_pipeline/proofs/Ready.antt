@@ -8,19 +8,19 @@ use Rattle.alm_model.specs.Plant.{Condensed}
 use Rattle.alm_types.specs.Batches.{Judged}
 use Rattle.alm_model.specs.Rules.{AllAdmitted}
 use Rattle.alm_model.proofs.Legal.{admitted_front, accepted_append, legal_admitted, next_batch}
-use Rattle.alm_flush.specs.HeldBatch.{batches_of, stored_of, next_of}
+use Rattle.alm_flush.specs.HeldBatch.{batches_of, stored_of, next_entry_of}
 use Rattle.alm_flush.specs.Flushes.{IsNext}
 use Rattle.alm_flush.specs.declared.held.Held.{Held}
 use Rattle.alm_flush.specs.declared.held.Held.TheVariants.{Nothing, Fetched, Failed, Committed, Published}
 use Rattle.alm_flush.proofs.HeldLaws.{none_past}
-use Rattle.alm_pipeline.specs.World.{HasVerdicts, next_at}
+use Rattle.alm_pipeline.specs.World.{HasVerdicts, next_entry}
 use Rattle.alm_disk.specs.declared.disk.Disk
 use Rattle.alm_store.specs.declared.store.Store.{Ghosts}
 use Rattle.alm_rings.specs.Batches.{fetched_of, sealed_of, coming_in}
 use Rattle.alm_pipeline.specs.declared.pipeline.Pipeline.{Pipeline}
 use Rattle.alm_pipeline.specs.Matches.{stage_of, KnowsAll}
 
-pub nothing_left : (h : Held) → next_of h ≡ None → ¬ (HasVerdicts (stage_of h))
+pub nothing_left : (h : Held) → next_entry_of h ≡ None → ¬ (HasVerdicts (stage_of h))
 nothing_left Nothing none has = has
 nothing_left (Fetched b) none has = has
 nothing_left (Failed b) none has = has
@@ -32,14 +32,14 @@ within [] n e is = absurd (cc is)
 within (x ∷ xs) zero e is = omega arith
 within (x ∷ xs) (suc n) e is = let r = within xs n e is in omega (arith, r)
 
-pub something_left : (h : Held) (e : Entry) → next_of h ≡ Some e → HasVerdicts (stage_of h)
+pub something_left : (h : Held) (e : Entry) → next_entry_of h ≡ Some e → HasVerdicts (stage_of h)
 something_left Nothing e is = absurd (cc is)
 something_left (Fetched b) e is = absurd (cc is)
 something_left (Failed b) e is = absurd (cc is)
 something_left (Committed b) e is = absurd (cc is)
 something_left (Published b n) e is = within b.entries n e is
 
-pub published_at : (h : Held) (e : Entry) → next_of h ≡ Some e → (b : Judged) × (n : ℕ) × (h ≡ Published b n) × (slice_get b.entries n ≡ Some e)
+pub published_at : (h : Held) (e : Entry) → next_entry_of h ≡ Some e → (b : Judged) × (n : ℕ) × (h ≡ Published b n) × (slice_get b.entries n ≡ Some e)
 published_at Nothing e is = absurd (cc is)
 published_at (Fetched b) e is = absurd (cc is)
 published_at (Failed b) e is = absurd (cc is)
@@ -58,7 +58,7 @@ next_one h b stored base before fetched coming sealed open' is legal firsts all 
     (subst (λ (l : List Judged). AllAdmitted base (accepted_of (entries_in l))) lists admitted) stands in
     subst (λ (h : Held). IsNext h stored) (sym is) next
 
-pub next_at_is : (h : Held) (e : Entry) → next_of h ≡ Some e → next_at (stage_of h) ≡ Some e
+pub next_at_is : (h : Held) (e : Entry) → next_entry_of h ≡ Some e → next_entry (stage_of h) ≡ Some e
 next_at_is Nothing e is = absurd (cc is)
 next_at_is (Fetched b) e is = absurd (cc is)
 next_at_is (Failed b) e is = absurd (cc is)
@@ -67,9 +67,9 @@ next_at_is (Published b n) e is = is
 
 module _ {K D : Type 0} {g : Ghosts K D} {d : Disk.Ghosts D} where
   -- the same of a pipeline whose ends know of one another
-  pub fetched_next : (p : Pipeline K D g d) (b : Judged) → p.flusher.held ≡ Fetched b → KnowsAll p → IsNext p.flusher.held (g.stored p.flusher.store)
+  pub fetched_next : (p : Pipeline K D g d) (b : Judged) → p.flusher.held ≡ Fetched b → KnowsAll p → IsNext p.flusher.held (g.state p.flusher.store).stored
   fetched_next p b is knows =
-      next_one p.flusher.held b (g.stored p.flusher.store) p.flusher.board.base.value (fetched_of p.flusher.before.value) (fetched_of p.flusher.fetch) (coming_in p.flusher.fetch) (sealed_of p.sequencer.ends) p.sequencer.batch.entries is
+      next_one p.flusher.held b (g.state p.flusher.store).stored p.flusher.board.base.value (fetched_of p.flusher.before.value) (fetched_of p.flusher.fetch) (coming_in p.flusher.fetch) (sealed_of p.sequencer.ends) p.sequencer.batch.entries is
       (subst (λ b. IsLegal b (entries_in (sealed_of p.sequencer.ends) ++ p.sequencer.batch.entries)) p.bases p.sequencer.legal)
       (p.sequencer.firsts ∙ ap (λ b. firsts_from (b.panel.count + 1) (sealed_of p.sequencer.ends)) p.bases)
       knows.batches p.flusher.held_is p.flusher.stored

@@ -7,8 +7,8 @@ use Rattle.alm_model.specs.Step.{run}
 use Rattle.alm_model.specs.Judging.{accepted_of, entries_in}
 use Rattle.alm_model.proofs.Runs.{run_append}
 use Rattle.alm_rings.specs.Batches.{fetched_of}
-use Rattle.alm_board.specs.Logs.{list_of}
-use Rattle.alm_flush.specs.HeldBatch.{shown_of}
+use Rattle.alm_board.specs.Logs.{actions_of}
+use Rattle.alm_flush.specs.HeldBatch.{published_entries}
 use Rattle.alm_pipeline.specs.declared.pipeline.Pipeline.{Pipeline}
 use Rattle.alm_types.specs.declared.answer.Answer.{Answer}
 use Rattle.alm_types.specs.declared.query.Query.{Query}
@@ -26,11 +26,11 @@ pub was_ok : {A E : Type 0} (r : Result A E) (x : A) → r ≡ Ok x → IsOk r
 was_ok r x is = subst IsOk (sym is) refl
 
 module _ {K D : Type 0} {g : Ghosts K D} {d : Disk.Ghosts D} where
-  pub shown_plant : (w : World) (p : Pipeline K D g d) → Fits w p → run p.flusher.board.base.value (list_of p.flusher.board.log) ≡ shown_in w
+  pub shown_plant : (w : World) (p : Pipeline K D g d) → Fits w p → run p.flusher.board.base.value (actions_of p.flusher.board.log) ≡ shown_in w
   shown_plant w p f =
       let l = f.lists in
-      let log = list_of p.flusher.board.log in
-      let shown = accepted_of (entries_in (fetched_of p.flusher.before.value) ++ shown_of p.flusher.held) in
+      let log = actions_of p.flusher.board.log in
+      let shown = accepted_of (entries_in (fetched_of p.flusher.before.value) ++ published_entries p.flusher.held) in
       ap (λ b. run b log) l.stored_from ∙ (sym (run_append w.base l.opened log) ∙ (ap (λ x. run w.base (l.opened ++ x)) p.flusher.published ∙ ap (run w.base) (sym l.shown)))
 
   -- a look raises the floor alone
@@ -61,4 +61,4 @@ module _ {K D : Type 0} {g : Ghosts K D} {d : Disk.Ghosts D} where
       inl ((λ possible. not_ok (look q query) refusal is.0 (subst (λ x. IsOk (look x query)) (sym shows) possible.1)), ap (λ (a : Answer). sight_in a.refused p) is.1)
 
   pub same_sight : (n : ℕ) (p q : Pipeline K D g d) → q.flusher.store ≡ p.flusher.store → sight_in n q ≡ sight_in n p
-  same_sight n p q same = ap (λ k. record { state = g.device k; failures = g.failures k; phase = g.phase k; refused = n }) same
+  same_sight n p q same = ap (λ k. record { state = d.state (g.disk k); failures = d.failures (g.disk k); phase = (g.state k).phase; refused = n }) same

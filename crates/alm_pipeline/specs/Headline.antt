@@ -13,8 +13,8 @@ use Rattle.alm_store.specs.declared.phase.Phase.TheVariants.{Idle, Committing, S
 use Rattle.alm_store.specs.Advancing.{IsCalls, IsOpen}
 use Rattle.alm_store.specs.Opening.{HasCause}
 use Rattle.alm_store.specs.Recovery.{IsSafe}
-use Rattle.alm_pipeline.specs.Named.{names}
-use Rattle.alm_pipeline.specs.World.{World, Answers, Possible, after, entries_at, IsHeld}
+use Rattle.alm_pipeline.specs.Named.{names_byte}
+use Rattle.alm_pipeline.specs.World.{World, Answers, Possible, after_step, entries_at, IsHeld}
 use Rattle.alm_pipeline.specs.declared.step.Step.{Step}
 use Rattle.alm_pipeline.specs.declared.step.Step.TheVariants.{Call, Look, Crash, Reopen}
 use Rattle.alm_pipeline.specs.declared.event.Event.{Event}
@@ -58,7 +58,7 @@ module _ (recovers : List ℕ → Condensed → Type 0) (spent : DeviceState →
       MayCall w d × IsCalls d.state d'.state × (d.phase ≢ Idle → HasFailed d.failures d'.failures) × (¬ (spent d.state) → HasFailed d.failures d'.failures) × (d'.refused ≡ d.refused)
   Moves w Call Skipped d d' = ¬ (MayCall w d) × (d' ≡ d)
   Moves w (Look slot query) Skipped d d' = (¬ (Possible w (Look slot query)) × (d' ≡ d)) ⊎ (d' ≡ record d { refused = one_more d.refused })
-  Moves w (Crash bytes) Crashed d d' = Crashes (names bytes.items) d.state d'.state × (d'.failures ≡ d.failures) × (d'.refused ≡ d.refused)
+  Moves w (Crash bytes) Crashed d d' = Crashes (names_byte bytes.items) d.state d'.state × (d'.failures ≡ d.failures) × (d'.refused ≡ d.refused)
   Moves w Reopen (Opened n) d d' =
       IsImage d.state d'.state.bytes × ((place : ℕ) → d'.state.pending place ≡ false) × recovers d'.state.bytes (run w.base (take (n - w.base.panel.count) w.accepted))
       × (d'.phase ≡ Idle) × (d'.refused ≡ d.refused)
@@ -69,12 +69,12 @@ module _ (recovers : List ℕ → Condensed → Type 0) (spent : DeviceState →
   -- and the headline holds before the first step and after each
   abbrev pub IsRun : World → Sight → List Step → List Event → Sight → Type 0
   IsRun w d [] [] d' = Headline w d.state × (d' ≡ d)
-  IsRun w d (step ∷ steps) (event ∷ trace) d' = Headline w d.state × ((m : Sight) × Answers w step event × Moves w step event d m × IsRun (after w step event) m steps trace d')
+  IsRun w d (step ∷ steps) (event ∷ trace) d' = Headline w d.state × ((m : Sight) × Answers w step event × Moves w step event d m × IsRun (after_step w step event) m steps trace d')
   IsRun w d [] (event ∷ trace) d' = ⊥
   IsRun w d (step ∷ steps) [] d' = ⊥
 
 -- the world after these steps
-abbrev pub after_all : World → List Step → List Event → World
-after_all w [] trace = w
-after_all w (step ∷ steps) [] = w
-after_all w (step ∷ steps) (event ∷ trace) = after_all (after w step event) steps trace
+abbrev pub after_steps : World → List Step → List Event → World
+after_steps w [] trace = w
+after_steps w (step ∷ steps) [] = w
+after_steps w (step ∷ steps) (event ∷ trace) = after_steps (after_step w step event) steps trace

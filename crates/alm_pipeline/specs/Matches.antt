@@ -19,7 +19,7 @@ use Rattle.alm_rings.specs.Batches.{sealed_of, fetched_of, emptied_of, given_of,
 use Rattle.alm_flush.specs.declared.held.Held as H
 use Rattle.alm_flush.specs.declared.held.Held.TheVariants as V
 use Rattle.alm_flush.specs.Advances.{IsSure, Within}
-use Rattle.alm_flush.specs.HeldBatch.{stored_of, shown_of, to_commit}
+use Rattle.alm_flush.specs.HeldBatch.{stored_of, published_entries, to_commit}
 use Rattle.alm_seq.specs.Spares.{spares}
 use Rattle.alm_store.specs.declared.store.Store.{Ghosts}
 use Rattle.alm_disk.specs.declared.disk.Disk
@@ -30,7 +30,7 @@ use Rattle.alm_pipeline.specs.declared.step.Step.{Step}
 use Rattle.alm_pipeline.specs.declared.step.Step.TheVariants.{Call, Crash, Reopen}
 use Rattle.alm_pipeline.specs.declared.event.Event.{Event}
 use Rattle.alm_pipeline.specs.declared.event.Event.TheVariants.{More, Committed, Failed, Skipped}
-use Rattle.alm_pipeline.specs.World.{World, Stage, Nothing, Held, Stored, Shown, Note, after}
+use Rattle.alm_pipeline.specs.World.{World, Stage, Nothing, Held, Stored, Shown, Note, after_step}
 use Rattle.alm_pipeline.specs.Headline.{Sight}
 
 -- how far the flusher's batch is
@@ -47,22 +47,22 @@ IsGivenUp (V.Failed b) = Unit {0}
 IsGivenUp held = ⊥
 
 -- the entries of each batch
-abbrev pub lists_of : List Judged → List (List Entry)
-lists_of [] = []
-lists_of (b ∷ batches) = b.entries ∷ lists_of batches
+abbrev pub entries_of : List Judged → List (List Entry)
+entries_of [] = []
+entries_of (b ∷ batches) = b.entries ∷ entries_of batches
 
 -- how many batches are held
-abbrev pub held_at : Stage → ℕ
-held_at Nothing = 0
-held_at stage = 1
+abbrev pub batch_held_at : Stage → ℕ
+batch_held_at Nothing = 0
+batch_held_at stage = 1
 
 -- the parts have these batches
 pub record Batches (taking : List Entry) (sealed : List (List Entry)) (free : ℕ) (stage : Stage) (open' : Judged) (spare : ℕ) (s : SealEnds) (f : FetchEnds) (h : H.Held) : Type 0 where
   pub entries : open'.entries ≡ taking
-  pub waiting : lists_of (sealed_of s) ≡ lists_of (fetched_of f) ++ sealed
+  pub waiting : entries_of (sealed_of s) ≡ entries_of (fetched_of f) ++ sealed
   pub held : stage_of h ≡ stage
   pub spared : free + length (emptied_of s) ≡ length (given_of f) + spare
-  pub eight : free + length sealed + held_at stage + 1 ≡ 8
+  pub eight : free + length sealed + batch_held_at stage + 1 ≡ 8
 
 module _ {T : Type 0} {g : ToldGhosts T} where
   -- what a receipt says
@@ -100,21 +100,21 @@ pub record KnowsBatches (s : SealEnds) (f : FetchEnds) : Type 0 where
   pub back : 8 + length (emptied_of s) ≤ places_in f + length (given_of f)
 
 -- the parts keep these lists, relative to the plant with which they began
-pub record Lists (plant : Condensed) (accepted stored published : List Action) (floor : ℕ) (base base' : Condensed) (sealed : List Entry) (open' : List Entry) (before : List Entry) (h : H.Held) : Type 0 where
+pub record FitLists (plant : Condensed) (accepted stored published : List Action) (floor : ℕ) (base base' : Condensed) (sealed : List Entry) (open' : List Entry) (before : List Entry) (h : H.Held) : Type 0 where
   pub opened : List Action
   pub judged_from : base ≡ run plant opened
   pub stored_from : base' ≡ run plant opened
   pub all : accepted ≡ opened ++ accepted_of (sealed ++ open')
   pub kept : stored ≡ opened ++ accepted_of (before ++ stored_of h)
-  pub shown : published ≡ opened ++ accepted_of (before ++ shown_of h)
+  pub shown : published ≡ opened ++ accepted_of (before ++ published_entries h)
   pub enough : floor ≤ plant.panel.count + length published
 
 -- the event of a device call
-abbrev pub called : A.Advance → Event
-called A.TheVariants.More = More
-called A.TheVariants.Committed = Committed
-called A.TheVariants.Failed = Failed
-called A.TheVariants.Nothing = Skipped
+abbrev pub event_of_call : A.Advance → Event
+event_of_call A.TheVariants.More = More
+event_of_call A.TheVariants.Committed = Committed
+event_of_call A.TheVariants.Failed = Failed
+event_of_call A.TheVariants.Nothing = Skipped
 
 -- the step leaves the device alone
 abbrev pub IsInner : Step → Type 0
@@ -126,32 +126,32 @@ IsInner step = Unit {0}
 module _ {K D : Type 0} {g : Ghosts K D} {d : Disk.Ghosts D} where
   -- what contracts see of its device, where so many growths were refused
   abbrev pub sight_in : ℕ → Pipeline K D g d → Sight
-  sight_in n p = record { state = g.device p.flusher.store; failures = g.failures p.flusher.store; phase = g.phase p.flusher.store; refused = n }
+  sight_in n p = record { state = d.state (g.disk p.flusher.store); failures = d.failures (g.disk p.flusher.store); phase = (g.state p.flusher.store).phase; refused = n }
 
   -- no checkpoint is to be begun by its next call
   abbrev pub CallsSurely : Pipeline K D g d → Type 0
-  CallsSurely p = IsSure (g.phase p.flusher.store) (g.takes p.flusher.store (to_commit p.flusher.held))
+  CallsSurely p = IsSure (g.state p.flusher.store).phase (g.takes p.flusher.store (to_commit p.flusher.held))
 
   pub record Fits (w : World) (p : Pipeline K D g d) : Type 0 where
     pub slots : Slots w.sent w.taken w.released w.received p.consoles.items p.sequencer.inboxes.items p.flusher.outboxes.items
     pub batches : Batches w.taking w.sealed w.free w.stage p.sequencer.batch (spares p.sequencer.spare) p.sequencer.ends p.flusher.fetch p.flusher.held
-    pub lists : Lists w.base w.accepted w.stored w.published w.floor p.sequencer.base.value p.flusher.board.base.value (entries_in (sealed_of p.sequencer.ends)) p.sequencer.batch.entries (entries_in (fetched_of p.flusher.before.value)) p.flusher.held
+    pub lists : FitLists w.base w.accepted w.stored w.published w.floor p.sequencer.base.value p.flusher.board.base.value (entries_in (sealed_of p.sequencer.ends)) p.sequencer.batch.entries (entries_in (fetched_of p.flusher.before.value)) p.flusher.held
 
   -- the parts are those of an open world
   pub record IsOpen (w : World) (p : Pipeline K D g d) : Type 0 where
     pub opened : w.closed ≡ false
     pub fits : Fits w p
-    pub going : g.phase p.flusher.store ≢ Stopped
+    pub going : (g.state p.flusher.store).phase ≢ Stopped
     pub trying : ¬ (IsGivenUp p.flusher.held)
 
   -- after a call that failed the parts still fit the world that the failure shuts
   abbrev pub CallFits : World → Event → Pipeline K D g d → Type 0
   CallFits w Failed p = Fits w p
-  CallFits w event p = IsOpen (after w Call event) p
+  CallFits w event p = IsOpen (after_step w Call event) p
 
   -- the commit of the fetched batch is done in at most so many calls
   abbrev pub EndsIn : ℕ → Pipeline K D g d → Type 0
-  EndsIn m p = let actions = to_commit p.flusher.held in let s = p.flusher.store in Within m (g.phase s) (g.left s) (g.takes s actions) (g.will_take s actions) (length actions)
+  EndsIn m p = let actions = to_commit p.flusher.held in let s = p.flusher.store in Within m (g.state s).phase (g.state s).left (g.takes s actions) (g.will_take s actions) (length actions)
 
   -- the ends of a slot, and those of the batch rings, know what the others did
   abbrev pub Knows : ℕ → Pipeline K D g d → Type 0

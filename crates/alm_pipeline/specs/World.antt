@@ -65,8 +65,8 @@ abbrev pub with_at : {A : Type 0} → (ℕ → A) → ℕ → A → ℕ → A
 with_at f slot x s = if s == slot then x else f s
 
 -- an open world with nothing under way
-abbrev pub fresh : Condensed → List Action → ℕ → World
-fresh plant kept least = record {
+abbrev pub new_world : Condensed → List Action → ℕ → World
+new_world plant kept least = record {
   base = plant;
   accepted = kept;
   sent = λ _. [];
@@ -85,7 +85,7 @@ fresh plant kept least = record {
 
 -- the world that begins with this plant
 abbrev pub first : Condensed → World
-first plant = fresh plant [] plant.panel.count
+first plant = new_world plant [] plant.panel.count
 
 -- ---- what is possible, and what is answered
 
@@ -94,9 +94,9 @@ abbrev pub judges : World → ℕ → Option Action → Verdict → Type 0
 judges w slot None v = ⊥
 judges w slot (Some a) v = v ≡ verdict_of (live w) (record { slot = slot; want = a })
 
-abbrev pub entry_of : World → ℕ → Option Action → Verdict → List Entry
-entry_of w slot None v = []
-entry_of w slot (Some a) v = record { slot = slot; serial = w.taken slot + 1; want = a; verdict = v } ∷ []
+abbrev pub entry_for : World → ℕ → Option Action → Verdict → List Entry
+entry_for w slot None v = []
+entry_for w slot (Some a) v = record { slot = slot; serial = w.taken slot + 1; want = a; verdict = v } ∷ []
 
 abbrev pub IsHeld : Stage → Type 0
 IsHeld (Held entries) = Unit {0}
@@ -110,9 +110,9 @@ abbrev pub HasVerdicts : Stage → Type 0
 HasVerdicts (Shown entries n) = n < length entries
 HasVerdicts stage = ⊥
 
-abbrev pub IsSpent : Stage → Type 0
-IsSpent (Shown entries n) = length entries ≤ n
-IsSpent stage = ⊥
+abbrev pub IsReleased : Stage → Type 0
+IsReleased (Shown entries n) = length entries ≤ n
+IsReleased stage = ⊥
 
 abbrev pub entries_at : Stage → List Entry
 entries_at Nothing = []
@@ -130,17 +130,17 @@ next_notes w (Shown entries n) = note_of w entries n (slice_get entries n)
 next_notes w stage = []
 
 -- the entry whose verdict is the next
-abbrev pub next_at : Stage → Option Entry
-next_at (Shown entries n) = slice_get entries n
-next_at stage = None
+abbrev pub next_entry : Stage → Option Entry
+next_entry (Shown entries n) = slice_get entries n
+next_entry stage = None
 
 abbrev pub goes_to : Option Entry → ℕ → Type 0
 goes_to None slot = ⊥
 goes_to (Some e) slot = e.slot ≡ slot
 
-abbrev pub raised : ℕ → List Note → ℕ
-raised least [] = least
-raised least (note ∷ notes) = max least note.number
+abbrev pub raise : ℕ → List Note → ℕ
+raise least [] = least
+raise least (note ∷ notes) = max least note.number
 
 abbrev pub Possible : World → Step → Type 0
 Possible w (Send slot a) = w.closed ≡ false
@@ -150,7 +150,7 @@ Possible w Fetch = (w.closed ≡ false) × (w.stage ≡ Nothing) × (0 < length 
 Possible w Call = (w.closed ≡ false) × IsHeld w.stage
 Possible w Publish = (w.closed ≡ false) × IsStored w.stage
 Possible w Release = (w.closed ≡ false) × HasVerdicts w.stage
-Possible w GiveBack = (w.closed ≡ false) × IsSpent w.stage
+Possible w GiveBack = (w.closed ≡ false) × IsReleased w.stage
 Possible w (Receive slot) = (w.closed ≡ false) × (w.received slot < length (w.released slot))
 Possible w (Look slot query) = (w.closed ≡ false) × IsOk (look (shown_in w) query)
 Possible w (Crash bytes) = Unit {0}
@@ -179,7 +179,7 @@ Answers w Call More = (w.closed ≡ false) × (IsHeld w.stage → 0 < length (ac
 Answers w Call Committed = Possible w Call
 Answers w Call Failed = (w.closed ≡ false) × (IsHeld w.stage → 0 < length (accepted_of (entries_at w.stage)))
 Answers w Publish Published = Possible w Publish
-Answers w Release (Released slot) = Possible w Release × goes_to (next_at w.stage) slot
+Answers w Release (Released slot) = Possible w Release × goes_to (next_entry w.stage) slot
 Answers w GiveBack GaveBack = Possible w GiveBack
 Answers w (Receive slot) (Received serial verdict number) = Possible w (Receive slot) × says (slice_get (w.released slot) (w.received slot)) serial verdict number
 Answers w (Look slot query) (Looked count) = Possible w (Look slot query) × (count ≡ w.base.panel.count + length w.published)
@@ -194,8 +194,8 @@ Answers w step event = ⊥
 -- ---- the world after a step
 
 -- all but the base, the accepted list and the floor is gone
-abbrev pub shut : World → World
-shut w = record (fresh w.base w.accepted w.floor) { closed = true }
+abbrev pub closed_world : World → World
+closed_world w = record (new_world w.base w.accepted w.floor) { closed = true }
 
 abbrev pub with_entry : World → ℕ → List Entry → World
 with_entry w slot es = record w { taken = with_at w.taken slot (w.taken slot + 1); taking = w.taking ++ es; accepted = w.accepted ++ accepted_of es }
@@ -208,30 +208,30 @@ abbrev pub stores : World → Stage → World
 stores w (Held entries) = record w { stage = Stored entries; stored = w.stored ++ accepted_of entries }
 stores w stage = w
 
-abbrev pub shows : World → Stage → World
-shows w (Stored entries) = record w { stage = Shown entries 0; published = w.published ++ accepted_of entries }
-shows w stage = w
+abbrev pub after_publish : World → Stage → World
+after_publish w (Stored entries) = record w { stage = Shown entries 0; published = w.published ++ accepted_of entries }
+after_publish w stage = w
 
 abbrev pub told_more : Stage → Stage
 told_more (Shown entries n) = Shown entries (n + 1)
 told_more stage = stage
 
 abbrev pub tells : World → ℕ → List Note → World
-tells w slot notes = record w { stage = told_more w.stage; released = with_at w.released slot (w.released slot ++ notes); floor = raised w.floor notes }
+tells w slot notes = record w { stage = told_more w.stage; released = with_at w.released slot (w.released slot ++ notes); floor = raise w.floor notes }
 
 -- the world after a step that was answered so
-abbrev pub after : World → Step → Event → World
-after w (Send slot a) (Sent serial) = record w { sent = with_at w.sent slot (w.sent slot ++ a ∷ []) }
-after w (Take slot) (Took v) = with_entry w slot (entry_of w slot (slice_get (w.sent slot) (w.taken slot)) v)
-after w Seal Sealed = record w { sealed = w.sealed ++ w.taking ∷ []; taking = []; free = w.free - 1 }
-after w Fetch Fetched = fetches w w.sealed
-after w Call Committed = stores w w.stage
-after w Call Failed = shut w
-after w Publish Published = shows w w.stage
-after w Release (Released slot) = tells w slot (next_notes w w.stage)
-after w GiveBack GaveBack = record w { stage = Nothing; free = w.free + 1 }
-after w (Receive slot) (Received serial verdict number) = record w { received = with_at w.received slot (w.received slot + 1) }
-after w (Look slot query) (Looked count) = record w { floor = max w.floor count }
-after w (Crash bytes) Crashed = shut w
-after w Reopen (Opened n) = fresh w.base (take (n - w.base.panel.count) w.accepted) w.floor
-after w step event = w
+abbrev pub after_step : World → Step → Event → World
+after_step w (Send slot a) (Sent serial) = record w { sent = with_at w.sent slot (w.sent slot ++ a ∷ []) }
+after_step w (Take slot) (Took v) = with_entry w slot (entry_for w slot (slice_get (w.sent slot) (w.taken slot)) v)
+after_step w Seal Sealed = record w { sealed = w.sealed ++ w.taking ∷ []; taking = []; free = w.free - 1 }
+after_step w Fetch Fetched = fetches w w.sealed
+after_step w Call Committed = stores w w.stage
+after_step w Call Failed = closed_world w
+after_step w Publish Published = after_publish w w.stage
+after_step w Release (Released slot) = tells w slot (next_notes w w.stage)
+after_step w GiveBack GaveBack = record w { stage = Nothing; free = w.free + 1 }
+after_step w (Receive slot) (Received serial verdict number) = record w { received = with_at w.received slot (w.received slot + 1) }
+after_step w (Look slot query) (Looked count) = record w { floor = max w.floor count }
+after_step w (Crash bytes) Crashed = closed_world w
+after_step w Reopen (Opened n) = new_world w.base (take (n - w.base.panel.count) w.accepted) w.floor
+after_step w step event = w

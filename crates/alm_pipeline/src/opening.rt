@@ -17,17 +17,17 @@ impl<K: Store> Pipeline<K> {
     ghost use Rattle.alm_types.specs.declared.action.Action.{Action};
     ghost use Rattle.alm_model.specs.Plant.{Condensed};
     ghost use Rattle.alm_model.specs.Step.{run};
-    ghost use Rattle.alm_pipeline.specs.World.{fresh};
+    ghost use Rattle.alm_pipeline.specs.World.{new_world};
     ghost use Rattle.alm_pipeline.specs.Matches.{IsOpen};
 
     /// Rings, consoles, board, sequencer and flusher over an idle store; the store comes back where memory is short.
     pub fn new(alloc: Global, store: K) -> Result<Pipeline<K>, K>
-        requires idle { K.phase store ≡ Phase.Idle }
-        requires limit { (K.stored store).panel.count ≤ 2 ^ 48 }
+        requires idle { (K.state store).phase ≡ Phase.Idle }
+        requires limit { (K.state store).stored.panel.count ≤ 2 ^ 48 }
         ensures open { IfOk result
-            (λ pipeline.
-            (base : Condensed) (kept : List Action) (floor : ℕ) → K.stored store ≡ run base kept →
-            floor ≤ base.panel.count + length kept → IsOpen (fresh base kept floor) pipeline) }
+            (λ pipeline. (base : Condensed) (kept : List Action) (floor : ℕ) →
+            (K.state store).stored ≡ run base kept → floor ≤ base.panel.count + length kept →
+            IsOpen (new_world base kept floor) pipeline) }
         ensures store { IfOk result (λ pipeline. pipeline.flusher.store ≡ store) }
         ensures refused { IfErr result (λ back. back ≡ store) }
     {
@@ -67,20 +67,25 @@ impl<K: Store> Pipeline<K> {
     pub fn open(alloc: Global, disk: K::Device) -> Result<Pipeline<K>, (OpenFault, K::Device)>
         ensures open { IfOk result
             (λ pipeline. (base : Condensed) (kept : List Action) (floor : ℕ) →
-            K.stored pipeline.flusher.store ≡ run base kept →
-            floor ≤ base.panel.count + length kept → IsOpen (fresh base kept floor) pipeline) }
+            (K.state pipeline.flusher.store).stored ≡ run base kept →
+            floor ≤ base.panel.count + length kept → IsOpen (new_world base kept floor) pipeline) }
         ensures opened { K.Device.honest disk →
             IfOk result
-            (λ pipeline. IsImage (K.Device.state disk) (K.device pipeline.flusher.store).bytes ×
-            K.recovers (K.device pipeline.flusher.store).bytes (K.stored pipeline.flusher.store)) }
+            (λ pipeline.
+            IsImage (K.Device.state disk) (K.Device.state (K.disk pipeline.flusher.store)).bytes ×
+            K.recovers (K.Device.state (K.disk pipeline.flusher.store)).bytes
+            (K.state pipeline.flusher.store).stored) }
         ensures settled { K.Device.honest disk →
             IfOk result
-            (λ pipeline. (place : ℕ) → (K.device pipeline.flusher.store).pending place ≡ false) }
+            (λ pipeline.
+            (place : ℕ) → (K.Device.state (K.disk pipeline.flusher.store)).pending place ≡ false) }
         ensures counted { IfOk result
-            (λ pipeline. K.Device.failures disk ≤ K.failures pipeline.flusher.store) }
-        ensures idle { IfOk result (λ pipeline. K.phase pipeline.flusher.store ≡ Phase.Idle) }
+            (λ pipeline.
+            K.Device.failures disk ≤ K.Device.failures (K.disk pipeline.flusher.store)) }
+        ensures idle { IfOk result
+            (λ pipeline. (K.state pipeline.flusher.store).phase ≡ Phase.Idle) }
         ensures honest { IfOk result
-            (λ pipeline. K.Device.honest disk ↔ K.honest pipeline.flusher.store) }
+            (λ pipeline. K.Device.honest disk ↔ K.Device.honest (K.disk pipeline.flusher.store)) }
         ensures honest_back { IfErr result (λ e. K.Device.honest disk ↔ K.Device.honest e.1) }
         ensures no_new_image { K.Device.honest disk →
             IfErr result

@@ -7,7 +7,7 @@ ghost use Rattle.alm_rings.specs.declared.inbox.Inbox.{Inbox};
 ghost use Rattle.alm_rings.specs.declared.outbox.Outbox.{Outbox};
 ghost use Rattle.alm_rings.specs.Placed.{inbox_at, outbox_at};
 ghost use Rattle.alm_rings.specs.Batches.{AreBatchEnds};
-ghost use Rattle.alm_pipeline.specs.World.{World, Answers, after};
+ghost use Rattle.alm_pipeline.specs.World.{World, Answers, after_step};
 ghost use Rattle.alm_pipeline.specs.declared.step.Step.TheVariants as S;
 
 use crate::event::Event;
@@ -29,8 +29,12 @@ pub struct Pipeline<K: Store> {
     pub ghost count: { length consoles.items ≡ 18 },
     pub ghost inboxes: { (s : ℕ) → s < 18 → IsSome (inbox_at s sequencer.inboxes.items) },
     pub ghost outboxes: { (s : ℕ) → s < 18 → IsSome (outbox_at s flusher.outboxes.items) },
-    pub ghost requests: { (s : ℕ) (c : Console _ _) (i : Inbox) → slice_get consoles.items s ≡ Some c → inbox_at s sequencer.inboxes.items ≡ Some i → IsPair c.requests i.requests },
-    pub ghost replies: { (s : ℕ) (c : Console _ _) (o : Outbox _ _) → slice_get consoles.items s ≡ Some c → outbox_at s flusher.outboxes.items ≡ Some o → IsPair o.replies c.replies },
+    pub ghost requests: { (s : ℕ) (c : Console _ _) (i : Inbox) →
+        slice_get consoles.items s ≡ Some c → inbox_at s sequencer.inboxes.items ≡ Some i →
+        IsPair c.requests i.requests },
+    pub ghost replies: { (s : ℕ) (c : Console _ _) (o : Outbox _ _) →
+        slice_get consoles.items s ≡ Some c → outbox_at s flusher.outboxes.items ≡ Some o →
+        IsPair o.replies c.replies },
     pub ghost batches: { AreBatchEnds sequencer.ends flusher.fetch },
     pub ghost bases: { sequencer.base.value ≡ flusher.board.base.value },
 }
@@ -39,7 +43,7 @@ impl<K: Store> Pipeline<K> {
     ghost use Rattle.std.specs.Prelude.{◌≡◌, ◌↔◌, ◌≤◌, ◌<◌, ◌+◌, ℕ, length, slice_get, IsSome};
     ghost use Rattle.alm_disk.specs.Failures.{HasFailed};
     ghost use Rattle.alm_flush.specs.HeldBatch.{to_commit};
-    ghost use Rattle.alm_pipeline.specs.Matches.{Fits, IsOpen, Knows, KnowsAll, CallFits, CallsSurely, EndsIn, called, IsInner, sight_in};
+    ghost use Rattle.alm_pipeline.specs.Matches.{Fits, IsOpen, Knows, KnowsAll, CallFits, CallsSurely, EndsIn, event_of_call, IsInner, sight_in};
     ghost use Rattle.alm_pipeline.specs.declared.step.Step.TheVariants as S;
     ghost use Rattle.alm_pipeline.specs.Headline.{Moves, Headline};
     ghost use Rattle.alm_rings.specs.Batches.{emptied_of, given_of};
@@ -89,7 +93,7 @@ impl<K: Store> Pipeline<K> {
     pub fn send(&mut self, slot: Slot, action: Action) -> Event
         ensures answer { (w : World) → IsOpen w self.old → Answers w (S.Send slot action) result }
         ensures fits { (w : World) → IsOpen w self.old →
-            IsOpen (after w (S.Send slot action) result) self.new }
+            IsOpen (after_step w (S.Send slot action) result) self.new }
         ensures store { self.new.flusher.store ≡ self.old.flusher.store }
     {
         self.tell_all(slot);
@@ -104,7 +108,7 @@ impl<K: Store> Pipeline<K> {
     pub fn take(&mut self, slot: Slot) -> Event
         ensures answer { (w : World) → IsOpen w self.old → Answers w (S.Take slot) result }
         ensures fits { (w : World) → IsOpen w self.old →
-            IsOpen (after w (S.Take slot) result) self.new }
+            IsOpen (after_step w (S.Take slot) result) self.new }
         ensures store { self.new.flusher.store ≡ self.old.flusher.store }
     {
         self.tell_all(slot);
@@ -121,7 +125,8 @@ impl<K: Store> Pipeline<K> {
     /// The open batch is sealed. Its ends are told once more, so that the batch that was opened is known to have been free.
     pub fn seal(&mut self) -> Event
         ensures answer { (w : World) → IsOpen w self.old → Answers w S.Seal result }
-        ensures fits { (w : World) → IsOpen w self.old → IsOpen (after w S.Seal result) self.new }
+        ensures fits { (w : World) → IsOpen w self.old →
+            IsOpen (after_step w S.Seal result) self.new }
         ensures store { self.new.flusher.store ≡ self.old.flusher.store }
     {
         self.tell_batches();
@@ -138,11 +143,15 @@ impl<K: Store> Pipeline<K> {
     /// The next sealed batch is fetched.
     pub fn fetch(&mut self) -> Event
         ensures answer { (w : World) → IsOpen w self.old → Answers w S.Fetch result }
-        ensures fits { (w : World) → IsOpen w self.old → IsOpen (after w S.Fetch result) self.new }
-        ensures honest { K.honest self.old.flusher.store ↔ K.honest self.new.flusher.store }
-        ensures store { (K.device self.new.flusher.store ≡ K.device self.old.flusher.store) ×
-            (K.failures self.new.flusher.store ≡ K.failures self.old.flusher.store) ×
-            (K.phase self.new.flusher.store ≡ K.phase self.old.flusher.store) }
+        ensures fits { (w : World) → IsOpen w self.old →
+            IsOpen (after_step w S.Fetch result) self.new }
+        ensures honest { K.Device.honest (K.disk self.old.flusher.store) ↔
+            K.Device.honest (K.disk self.new.flusher.store) }
+        ensures store { (K.Device.state (K.disk self.new.flusher.store) ≡
+            K.Device.state (K.disk self.old.flusher.store)) ×
+            (K.Device.failures (K.disk self.new.flusher.store) ≡
+            K.Device.failures (K.disk self.old.flusher.store)) ×
+            ((K.state self.new.flusher.store).phase ≡ (K.state self.old.flusher.store).phase) }
     {
         self.tell_batches();
         if !self.flusher.waits() {
@@ -157,22 +166,27 @@ impl<K: Store> Pipeline<K> {
 
     /// The one device call that is next.
     pub fn call(&mut self) -> Advance
-        ensures answer { (w : World) → IsOpen w self.old → Answers w S.Call (called result) }
-        ensures fits { (w : World) → IsOpen w self.old → CallFits w (called result) self.new }
-        ensures honest { K.honest self.old.flusher.store ↔ K.honest self.new.flusher.store }
-        ensures moves { K.honest self.old.flusher.store → (w : World) → IsOpen w self.old →
-            (refused : ℕ) →
-            Moves K.recovers K.spent w S.Call (called result) (sight_in refused self.old)
+        ensures answer { (w : World) → IsOpen w self.old → Answers w S.Call (event_of_call result) }
+        ensures fits { (w : World) → IsOpen w self.old →
+            CallFits w (event_of_call result) self.new }
+        ensures honest { K.Device.honest (K.disk self.old.flusher.store) ↔
+            K.Device.honest (K.disk self.new.flusher.store) }
+        ensures moves { K.Device.honest (K.disk self.old.flusher.store) → (w : World) →
+            IsOpen w self.old → (refused : ℕ) →
+            Moves K.recovers K.spent w S.Call (event_of_call result) (sight_in refused self.old)
             (sight_in refused self.new) }
         // Where the held batch is taken, or work is under way, only the device fails.
         ensures sure { result ≡ Advance.Failed → CallsSurely self.old → (w : World) →
             IsOpen w self.old →
-            HasFailed (K.failures self.old.flusher.store) (K.failures self.new.flusher.store) }
+            HasFailed (K.Device.failures (K.disk self.old.flusher.store))
+            (K.Device.failures (K.disk self.new.flusher.store)) }
         // It fails only where the device failed in it, or where a checkpoint was due in the last epoch.
         ensures late { result ≡ Advance.Failed → ¬ (K.exhausted self.new.flusher.store) →
             (w : World) → IsOpen w self.old →
-            HasFailed (K.failures self.old.flusher.store) (K.failures self.new.flusher.store) }
-        ensures count { K.failures self.old.flusher.store ≤ K.failures self.new.flusher.store }
+            HasFailed (K.Device.failures (K.disk self.old.flusher.store))
+            (K.Device.failures (K.disk self.new.flusher.store)) }
+        ensures count { K.Device.failures (K.disk self.old.flusher.store) ≤
+            K.Device.failures (K.disk self.new.flusher.store) }
         // A batch is committed in a bounded number of calls.
         ensures ends { (m : ℕ) → result ≡ Advance.More →
             0 < length (to_commit self.old.flusher.held) → EndsIn (m + 1) self.old →
@@ -192,7 +206,7 @@ impl<K: Store> Pipeline<K> {
     pub fn publish(&mut self) -> Event
         ensures answer { (w : World) → IsOpen w self.old → Answers w S.Publish result }
         ensures fits { (w : World) → IsOpen w self.old →
-            IsOpen (after w S.Publish result) self.new }
+            IsOpen (after_step w S.Publish result) self.new }
         ensures store { self.new.flusher.store ≡ self.old.flusher.store }
     {
         self.tell_batches();
@@ -207,7 +221,7 @@ impl<K: Store> Pipeline<K> {
     pub fn release(&mut self) -> Event
         ensures answer { (w : World) → IsOpen w self.old → Answers w S.Release result }
         ensures fits { (w : World) → IsOpen w self.old →
-            IsOpen (after w S.Release result) self.new }
+            IsOpen (after_step w S.Release result) self.new }
         ensures store { self.new.flusher.store ≡ self.old.flusher.store }
     {
         let Some(entry) = self.flusher.next() else {
@@ -225,7 +239,7 @@ impl<K: Store> Pipeline<K> {
     pub fn give_back(&mut self) -> Event
         ensures answer { (w : World) → IsOpen w self.old → Answers w S.GiveBack result }
         ensures fits { (w : World) → IsOpen w self.old →
-            IsOpen (after w S.GiveBack result) self.new }
+            IsOpen (after_step w S.GiveBack result) self.new }
         ensures store { self.new.flusher.store ≡ self.old.flusher.store }
     {
         self.tell_batches();
@@ -240,7 +254,7 @@ impl<K: Store> Pipeline<K> {
     pub fn receive(&mut self, slot: Slot) -> Event
         ensures answer { (w : World) → IsOpen w self.old → Answers w (S.Receive slot) result }
         ensures fits { (w : World) → IsOpen w self.old →
-            IsOpen (after w (S.Receive slot) result) self.new }
+            IsOpen (after_step w (S.Receive slot) result) self.new }
         ensures store { self.new.flusher.store ≡ self.old.flusher.store }
     {
         self.tell_all(slot);
@@ -269,7 +283,7 @@ impl<K: Store> Pipeline<K> {
         ensures answer { (w : World) (slot : ℕ) → IsOpen w self.now →
             Answers w (S.Look slot query) result }
         ensures fits { (w : World) (slot : ℕ) → IsOpen w self.now →
-            IsOpen (after w (S.Look slot query) result) self.now }
+            IsOpen (after_step w (S.Look slot query) result) self.now }
         ensures moves { (w : World) (slot : ℕ) → IsOpen w self.now →
             Moves K.recovers K.spent w (S.Look slot query) result
             (sight_in answer.old.refused self.now) (sight_in answer.new.refused self.now) }
@@ -285,8 +299,10 @@ impl<K: Store> Pipeline<K> {
     pub fn go(&mut self, step: &Step, answer: &mut Answer) -> Event
         requires { IsInner step.now }
         ensures answer { (w : World) → IsOpen w self.old → Answers w step.now result }
-        ensures fits { (w : World) → IsOpen w self.old → IsOpen (after w step.now result) self.new }
-        ensures honest { K.honest self.old.flusher.store ↔ K.honest self.new.flusher.store }
+        ensures fits { (w : World) → IsOpen w self.old →
+            IsOpen (after_step w step.now result) self.new }
+        ensures honest { K.Device.honest (K.disk self.old.flusher.store) ↔
+            K.Device.honest (K.disk self.new.flusher.store) }
         ensures moves { (w : World) → IsOpen w self.old →
             Moves K.recovers K.spent w step.now result (sight_in answer.old.refused self.old)
             (sight_in answer.new.refused self.new) }
@@ -309,25 +325,27 @@ impl<K: Store> Pipeline<K> {
 
     /// The count of what is stored.
     pub fn count(&self) -> u64
-        ensures { result ≡ (K.stored self.now.flusher.store).panel.count }
+        ensures { result ≡ (K.state self.now.flusher.store).stored.panel.count }
     {
         self.flusher.keeper().count()
     }
 
     /// Does nothing: it says what a crash leaves.
     pub fn images(&self)
-        ensures headline { K.honest self.now.flusher.store → (w : World) → Fits w self.now →
-            Headline K.recovers K.spent w (K.device self.now.flusher.store) }
+        ensures headline { K.Device.honest (K.disk self.now.flusher.store) → (w : World) →
+            Fits w self.now →
+            Headline K.recovers K.spent w (K.Device.state (K.disk self.now.flusher.store)) }
     {
         self.flusher.keeper().images();
     }
 
     /// The device alone.
     pub fn into_device(self) -> K::Device
-        ensures honest { K.honest self.flusher.store ↔ K.Device.honest result }
-        ensures device { K.Device.state result ≡ K.device self.flusher.store }
-        ensures failures { K.Device.failures result ≡ K.failures self.flusher.store }
-        ensures headline { K.honest self.flusher.store → (w : World) → Fits w self →
+        ensures honest { K.Device.honest (K.disk self.flusher.store) ↔ K.Device.honest result }
+        ensures device { K.Device.state result ≡ K.Device.state (K.disk self.flusher.store) }
+        ensures failures { K.Device.failures result ≡
+            K.Device.failures (K.disk self.flusher.store) }
+        ensures headline { K.Device.honest (K.disk self.flusher.store) → (w : World) → Fits w self →
             Headline K.recovers K.spent w (K.Device.state result) }
     {
         self.images();

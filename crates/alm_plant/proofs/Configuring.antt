@@ -6,27 +6,27 @@ use Rattle.std.proofs.lemmas.Option.{same_Some}
 use Rattle.std.proofs.lemmas.List.{length-set, length-map, get_or-map, get_or-set_same, get_or-set_other}
 use Rattle.alm_types.specs.declared.attr.Attr.{Attr}
 use Rattle.alm_state.specs.Rows.{State, IsState, is_annunciated}
-use Rattle.alm_lists.specs.Lists.{without, put_by}
+use Rattle.alm_lists.specs.Lists.{list_without, put_by}
 use Rattle.alm_lists.specs.Orders.{IsSortedFilter}
 use Rattle.alm_lists.proofs.Each.{every}
 use Rattle.alm_lists.proofs.Places.{slice_get-set_same, slice_get-set_other}
 use Rattle.alm_lists.proofs.Times.{times-without_same, avoids-from_times}
 use Rattle.alm_lists.proofs.Sorted.{sorted_filter-kept, sorted_filter-without, sorted_filter-put_by}
-use Rattle.alm_links.specs.Lists.{Families, family_at, key_in}
+use Rattle.alm_links.specs.Lists.{Families, family_at, key_at_node}
 use Rattle.alm_wheel.specs.Deadlines.{Schedule}
 use Rattle.alm_model.specs.Lists.{key_of, is_one, passes, stamp}
-use Rattle.alm_plant.specs.Filing.{IsFiled, Label, is_filed, names, stamp_in, inserted, by_priority, by_area, by_slot, AreDistinct}
+use Rattle.alm_plant.specs.Filing.{IsFiled, Label, is_filed, names_list, stamp_in, with_insertion, by_priority, by_area, by_slot, AreDistinct}
 use Rattle.alm_plant.specs.Nodes.{AreChained, AreScheduled}
 use Rattle.alm_plant.proofs.Places.{family-set_same, family-set_other, some_below}
 
 -- the keys of the nodes are their stamps
-key_stamp : (rows : List State) (j : ℕ) → key_in (map stamp rows) j ≡ stamp_in rows j
+key_stamp : (rows : List State) (j : ℕ) → key_at_node (map stamp rows) j ≡ stamp_in rows j
 key_stamp [] j = refl
 key_stamp (s ∷ rows) zero = refl
 key_stamp (s ∷ rows) (suc j) = key_stamp rows j
 
-pub keys_are : (rows : List State) (keys : List ℕ) → keys ≡ map stamp rows → key_in keys ≡ stamp_in rows
-keys_are rows keys e = ap key_in e ∙ (λ j node. key_stamp rows node j)
+pub keys_are : (rows : List State) (keys : List ℕ) → keys ≡ map stamp rows → key_at_node keys ≡ stamp_in rows
+keys_are rows keys e = ap key_at_node e ∙ (λ j node. key_stamp rows node j)
 
 -- what is read of the changed attributes
 one-other : (test : Attr → State → Bool) (attrs : List Attr) (rows : List State) (i j : ℕ) (b : Attr) → j ≢ i → is_one test (set attrs i b) rows j ≡ is_one test attrs rows j
@@ -51,7 +51,7 @@ filed-attrs label attrs rows lists i a b s filed h e r same = record {
   ];
   sorted = λ l k. sorted_filter-kept _ _ _ _ (length rows) (get_or lists l []) (filed.sorted l k) (λ j n. refl)
       (λ j n. elim (cases_eq j i) [
-        | inl q ↦ rw q (one-same (is_filed label l) attrs rows i b s h r ∙ ap (λ o. names o l) (same s) ∙ sym (one-here (is_filed label l) attrs rows i a s e r))
+        | inl q ↦ rw q (one-same (is_filed label l) attrs rows i b s h r ∙ ap (λ o. names_list o l) (same s) ∙ sym (one-here (is_filed label l) attrs rows i a s e r))
         | inr q ↦ one-other (is_filed label l) attrs rows i j b q
       ]);
 }
@@ -70,13 +70,13 @@ beside-same i test = ap (λ b. not b && test i) (eq-eqb i i refl)
 list-inserted : (label : Label) (attrs : List Attr) (rows : List State) (lists : List (List ℕ)) (l i : ℕ) (b : Attr) (s : State) (o : Option ℕ)
     → IsFiled label attrs rows lists → l < length lists → i < length attrs → i < length rows → slice_get rows i ≡ Some s → label b s ≡ o
     → ((m : ℕ) → o ≡ Some m → m < length lists) → (is_some o ≡ true → (x : ℕ) → x ≢ i → stamp_in rows x ≢ stamp_in rows i)
-    → IsSortedFilter (stamp_in rows) (is_one (is_filed label l) (set attrs i b) rows) (length rows) (get_or (inserted (stamp_in rows) lists i o) l [])
+    → IsSortedFilter (stamp_in rows) (is_one (is_filed label l) (set attrs i b) rows) (length rows) (get_or (with_insertion (stamp_in rows) lists i o) l [])
 list-inserted label attrs rows lists l i b s None filed k h room r to bound fresh =
-    rw (get_or-map (without i) lists l [] [] k)
+    rw (get_or-map (list_without i) lists l [] [] k)
     (sorted_filter-without _ _ _ _ (length rows) i (get_or lists l []) (filed.sorted l k) (λ j n. refl) (λ j n. one-other (is_filed label l) attrs rows i j b n)
-    (one-same (is_filed label l) attrs rows i b s h r ∙ ap (λ o. names o l) to))
+    (one-same (is_filed label l) attrs rows i b s h r ∙ ap (λ o. names_list o l) to))
 list-inserted label attrs rows lists l i b s (Some m) filed k h room r to bound fresh =
-    let ls = map (without i) lists in
+    let ls = map (list_without i) lists in
     let key = stamp_in rows in
     let w : m < length lists = bound m refl in
     let wide : m < length ls = rw (length-map) w in
@@ -84,29 +84,29 @@ list-inserted label attrs rows lists l i b s (Some m) filed k h room r to bound 
       | inl same ↦
           let xs = get_or lists m [] in
           let test = is_one (is_filed label m) attrs rows in
-          let away = avoids-from_times i (without i xs) (times-without_same i xs) in
-          rw (same, get_or-set_same ls m (put_by key i (get_or ls m [])) [] wide, get_or-map (without i) lists m [] [] w)
-          (sorted_filter-put_by key (beside i test) (is_one (is_filed label m) (set attrs i b) rows) (length rows) i (without i xs)
+          let away = avoids-from_times i (list_without i xs) (times-without_same i xs) in
+          rw (same, get_or-set_same ls m (put_by key i (get_or ls m [])) [] wide, get_or-map (list_without i) lists m [] [] w)
+          (sorted_filter-put_by key (beside i test) (is_one (is_filed label m) (set attrs i b) rows) (length rows) i (list_without i xs)
           (sorted_filter-without key key test (beside i test) (length rows) i xs (filed.sorted m w) (λ j n. refl) (λ j n. beside-other i j test n) (beside-same i test))
           room
           (λ j n. one-other (is_filed label m) attrs rows i j b n ∙ sym (beside-other i j test n))
           (beside-same i test)
-          (one-same (is_filed label m) attrs rows i b s h r ∙ ap (λ o. names o m) to ∙ eq-eqb m m refl)
-          (every (λ x n. fresh refl x n) (without i xs) away))
+          (one-same (is_filed label m) attrs rows i b s h r ∙ ap (λ o. names_list o m) to ∙ eq-eqb m m refl)
+          (every (λ x n. fresh refl x n) (list_without i xs) away))
       | inr other ↦
-          rw (get_or-set_other ls m l (put_by key i (get_or ls m [])) [] other, get_or-map (without i) lists l [] [] k)
+          rw (get_or-set_other ls m l (put_by key i (get_or ls m [])) [] other, get_or-map (list_without i) lists l [] [] k)
           (sorted_filter-without _ _ _ _ (length rows) i (get_or lists l []) (filed.sorted l k) (λ j n. refl) (λ j n. one-other (is_filed label l) attrs rows i j b n)
-          (one-same (is_filed label l) attrs rows i b s h r ∙ ap (λ o. names o l) to ∙ ne_eqb m l (λ q. other (sym q))))
+          (one-same (is_filed label l) attrs rows i b s h r ∙ ap (λ o. names_list o l) to ∙ ne_eqb m l (λ q. other (sym q))))
     ]
 
-length-inserted : (key : ℕ → ℕ) (lists : List (List ℕ)) (i : ℕ) (o : Option ℕ) → length (inserted key lists i o) ≡ length lists
-length-inserted key lists i None = length-map lists (without i)
-length-inserted key lists i (Some l) = length-set _ l _ ∙ length-map lists (without i)
+length-inserted : (key : ℕ → ℕ) (lists : List (List ℕ)) (i : ℕ) (o : Option ℕ) → length (with_insertion key lists i o) ≡ length lists
+length-inserted key lists i None = length-map lists (list_without i)
+length-inserted key lists i (Some l) = length-set _ l _ ∙ length-map lists (list_without i)
 
 filed-inserted : (label : Label) (attrs : List Attr) (rows : List State) (lists : List (List ℕ)) (i : ℕ) (b : Attr) (s : State)
     → IsFiled label attrs rows lists → i < length attrs → i < length rows → slice_get rows i ≡ Some s
     → ((t : State) (m : ℕ) → label b t ≡ Some m → m < length lists) → (is_some (label b s) ≡ true → (x : ℕ) → x ≢ i → stamp_in rows x ≢ stamp_in rows i)
-    → IsFiled label (set attrs i b) rows (inserted (stamp_in rows) lists i (label b s))
+    → IsFiled label (set attrs i b) rows (with_insertion (stamp_in rows) lists i (label b s))
 filed-inserted label attrs rows lists i b s filed h room r bound fresh =
     let long = length-inserted (stamp_in rows) lists i (label b s) in
     record {
@@ -133,7 +133,7 @@ pub chained-configured : (attrs : List Attr) (rows : List State) (chains after :
     → AreChained attrs rows chains → i < length attrs → i < length rows → slice_get attrs i ≡ Some a → slice_get rows i ≡ Some s → a.area ≡ b.area → (stays ≡ true → a.priority ≡ b.priority)
     → (is_annunciated s.core ≡ true → (x : ℕ) → x ≢ i → stamp_in rows x ≢ stamp_in rows i) → keys ≡ map stamp rows
     → after.nodes ≡ chains.nodes
-    → after.families ≡ cond stays chains.families (set chains.families 0 (inserted (key_in keys) (family_at chains.families 0) i (by_priority b s)))
+    → after.families ≡ cond stays chains.families (set chains.families 0 (with_insertion (key_at_node keys) (family_at chains.families 0) i (by_priority b s)))
     → AreChained (set attrs i b) rows after
 chained-configured attrs rows chains after i a b s keys true h l room e r area same fresh ks n f = record {
   nodes = n ∙ h.nodes;
@@ -146,8 +146,8 @@ chained-configured attrs rows chains after i a b s keys true h l room e r area s
 }
 chained-configured attrs rows chains after i a b s keys false h l room e r area same fresh ks n f =
     let lists = family_at chains.families 0 in
-    let one = inserted (stamp_in rows) lists i (by_priority b s) in
-    let fs : after.families ≡ set chains.families 0 one = f ∙ ap (λ key. set chains.families 0 (inserted key lists i (by_priority b s))) (keys_are rows keys ks) in
+    let one = with_insertion (stamp_in rows) lists i (by_priority b s) in
+    let fs : after.families ≡ set chains.families 0 one = f ∙ ap (λ key. set chains.families 0 (with_insertion key lists i (by_priority b s))) (keys_are rows keys ks) in
     let first : family_at after.families 0 ≡ one = ap (λ fs. family_at fs 0) fs ∙ family-set_same chains.families 0 one (let w = h.two in omega arith) in
     let second : family_at after.families 1 ≡ family_at chains.families 1 = ap (λ fs. family_at fs 1) fs ∙ family-set_other chains.families 0 1 one (λ q. omega arith) in
     record {

@@ -2,8 +2,8 @@
 
 ghost use Rattle.std.specs.Prelude.{◌≡◌, ◌<◌, ◌≤◌, ◌+◌, ◌*◌, ◌^◌, ℕ, true, IsTrue, None, Some, IfOk, OnOk, length, slice_get, slice_index, map, sum, All, fold, vec_capacity};
 ghost use Rattle.alm_model.specs.Accept.{alarm_refusal, own_refusal, refusal, answer, accept};
-ghost use Rattle.alm_model.specs.Keeping.{condensed};
-ghost use Rattle.alm_model.specs.Step.{put, touch, settle, unshelve, later, counted, configured, acted, step};
+ghost use Rattle.alm_model.specs.Keeping.{in_brief};
+ghost use Rattle.alm_model.specs.Step.{with_outcome, touch, settle, unshelve, later, with_one_more, with_attributes, with_effect, step};
 ghost use Rattle.alm_state.specs.Outcome.{outcome, attr_after};
 ghost use Rattle.alm_model.specs.Lists.{due, exists, list_of, moments_in};
 ghost use Rattle.alm_model.specs.declared.list.List.TheVariants.{Priority, Area, Wheel, Stale, Chatter};
@@ -316,7 +316,7 @@ impl Linked {
         requires moved { IsMovedAt self.old.panel.next_stamp (slice_get self.old.panel.rows index)
             outcome }
         ensures rows { length self.new.panel.rows ≡ length self.old.panel.rows }
-        ensures plant { self.new ≡ put condensed self.old index outcome }
+        ensures plant { self.new ≡ with_outcome in_brief self.old index outcome }
         ensures called { result ≡ is_annunciation outcome }
     {
         match outcome {
@@ -347,8 +347,8 @@ impl Linked {
         requires settled { AreSettled self.old }
         ensures rows { length self.new.panel.rows ≡ length self.old.panel.rows }
         ensures plant { self.new ≡
-            settle condensed
-            (touch condensed self.old id.0
+            settle in_brief
+            (touch in_brief self.old id.0
             (outcome self.old.panel.now self.old.panel.next_stamp action.now)) }
     {
         let index = id.0 as usize;
@@ -374,7 +374,7 @@ impl Linked {
         requires settled { AreSettled self.old }
         ensures rows { length self.new.panel.rows ≡ length self.old.panel.rows }
         ensures plant { self.new ≡
-            settle condensed (configured self.old id.0 (attr_after action.now)) }
+            settle in_brief (with_attributes self.old id.0 (attr_after action.now)) }
     {
         let index = id.0 as usize;
         let attr = attr_after(action, self.nodes.attr(index), self.nodes.row(index));
@@ -383,7 +383,7 @@ impl Linked {
 
     /// The flood flags after an action.
     fn settle(&mut self)
-        ensures { self.new ≡ settle condensed self.old }
+        ensures { self.new ≡ settle in_brief self.old }
     {
         self.measure.settle();
     }
@@ -391,7 +391,7 @@ impl Linked {
     /// The clock moves.
     fn move_clock(&mut self, moment: Moment)
         requires { self.old.panel.now < moment }
-        ensures plant { self.new ≡ later condensed moment self.old }
+        ensures plant { self.new ≡ later in_brief moment self.old }
         ensures limit { moment < 2 ^ 40 }
     {
         self.measure.advance(moment);
@@ -401,7 +401,7 @@ impl Linked {
     fn unshelve(&mut self, number: u32)
         requires here { number < length self.old.panel.rows }
         requires stamps { self.old.panel.next_stamp < 1 + 16384 * self.old.panel.count }
-        ensures plant { self.new ≡ unshelve condensed self.old number }
+        ensures plant { self.new ≡ unshelve in_brief self.old number }
         ensures stamps { self.new.panel.next_stamp ≤ self.old.panel.next_stamp + 1 }
         ensures count { self.new.panel.count ≡ self.old.panel.count }
         ensures rows { length self.new.panel.rows ≡ length self.old.panel.rows }
@@ -416,7 +416,7 @@ impl Linked {
         requires stamps { self.old.panel.next_stamp + length numbers.now ≤
             1 + 16384 * self.old.panel.count }
         ensures rows { length self.new.panel.rows ≡ length self.old.panel.rows }
-        ensures plant { self.new ≡ fold (unshelve condensed) self.old numbers.now }
+        ensures plant { self.new ≡ fold (unshelve in_brief) self.old numbers.now }
     {
         for number in numbers {
             self.unshelve(*number);
@@ -426,7 +426,7 @@ impl Linked {
     /// Counts an action.
     fn count_action(&mut self)
         requires { self.old.panel.count < 2 ^ 48 }
-        ensures plant { self.new ≡ counted self.old }
+        ensures plant { self.new ≡ with_one_more self.old }
         ensures stamps { self.new.panel.next_stamp + 16384 ≤ 1 + 16384 * self.new.panel.count }
     {
         self.count += 1;
@@ -439,8 +439,8 @@ impl Linked {
         requires stamps { self.old.panel.next_stamp + 16384 ≤ 1 + 16384 * self.old.panel.count }
         requires room { length self.old.panel.rows ≤ vec_capacity working.old }
         ensures plant { self.new ≡
-            settle condensed
-            (fold (unshelve condensed) (later condensed moment self.old)
+            settle in_brief
+            (fold (unshelve in_brief) (later in_brief moment self.old)
             (due moment self.old.panel)) }
         ensures rows { length self.new.panel.rows ≡ length self.old.panel.rows }
         ensures room { vec_capacity working.new ≡ vec_capacity working.old }

@@ -5,12 +5,12 @@ ghost use Rattle.alm_model.specs.New.{at_rest};
 ghost use Rattle.alm_model.specs.Lists.{alarms_by, stands_in, stamp, deadline, is_due};
 ghost use Rattle.alm_model.specs.declared.list.List.TheVariants.{Priority, Area, Wheel as Slot};
 ghost use Rattle.alm_model.specs.Keeping.{area_in};
-ghost use Rattle.alm_lists.specs.Lists.{without};
+ghost use Rattle.alm_lists.specs.Lists.{list_without};
 ghost use Rattle.alm_lists.specs.Orders.{IsSortedFilter};
-ghost use Rattle.alm_links.specs.Lists.{list_of, nodes_of, family_at, key_in};
+ghost use Rattle.alm_links.specs.Lists.{list_holding, nodes_of, family_at, key_at_node};
 ghost use Rattle.alm_wheel.specs.Deadlines.{deadline_of, slot_of};
 ghost use Rattle.alm_state.specs.Rows.{is_annunciated, IsState};
-ghost use Rattle.alm_plant.specs.Filing.{stamp_in, refiled, rechained, inserted, IsPlaced, AreAhead, AreDistinct, by_priority, by_area, by_slot};
+ghost use Rattle.alm_plant.specs.Filing.{stamp_in, filed_again, chains_after, with_insertion, IsPlaced, AreAhead, AreDistinct, by_priority, by_area, by_slot};
 
 use alm_links::{Chains, ListNodes};
 use alm_state::Row;
@@ -95,7 +95,7 @@ fn take_out(chains: &mut Chains, family: u32, node: u32)
     ensures nodes { chains.new.nodes ≡ chains.old.nodes }
     ensures lists { chains.new.families ≡
         slice_set chains.old.families family
-        (map (without node) (family_at chains.old.families family)) }
+        (map (list_without node) (family_at chains.old.families family)) }
 {
     if chains.list_of(family, node).is_some() {
         chains.unlink(family, node);
@@ -110,7 +110,7 @@ fn refile(chains: &mut Chains, family: u32, node: u32, to: Option<u32>)
     ensures nodes { chains.new.nodes ≡ chains.old.nodes }
     ensures lists { chains.new.families ≡
         slice_set chains.old.families family
-        (refiled (family_at chains.old.families family) node to) }
+        (filed_again (family_at chains.old.families family) node to) }
 {
     take_out(chains, family, node);
     if let Some(list) = to {
@@ -128,7 +128,7 @@ fn insert(chains: &mut Chains, family: u32, node: u32, to: Option<u32>, keys: &[
     ensures nodes { chains.new.nodes ≡ chains.old.nodes }
     ensures lists { chains.new.families ≡
         slice_set chains.old.families family
-        (inserted (key_in keys.now) (family_at chains.old.families family) node to) }
+        (with_insertion (key_at_node keys.now) (family_at chains.old.families family) node to) }
 {
     take_out(chains, family, node);
     if let Some(list) = to {
@@ -152,7 +152,7 @@ fn reprioritize(
     ensures nodes { chains.new.nodes ≡ chains.old.nodes }
     ensures lists { chains.new.families ≡
         if stays then chains.old.families else slice_set chains.old.families 0
-        (inserted (key_in stamps.now) (family_at chains.old.families 0) index
+        (with_insertion (key_at_node stamps.now) (family_at chains.old.families 0) index
         (by_priority attr.now row.now)) }
 {
     if !stays {
@@ -163,10 +163,10 @@ fn reprioritize(
 /// A node has no deadline any more, if it had one.
 fn free(wheel: &mut Wheel, node: u32)
     requires node { node < length wheel.old.deadlines }
-    requires filed { list_of node wheel.old.slots ≡
+    requires filed { list_holding node wheel.old.slots ≡
         option_map slot_of (deadline_of wheel.old.deadlines node) }
     ensures deadlines { wheel.new.deadlines ≡ slice_set wheel.old.deadlines node None }
-    ensures slots { wheel.new.slots ≡ map (without node) wheel.old.slots }
+    ensures slots { wheel.new.slots ≡ map (list_without node) wheel.old.slots }
 {
     if wheel.deadline_of(node).is_some() {
         wheel.remove(node);
@@ -182,7 +182,7 @@ fn rechain(chains: &mut Chains, stays: bool, index: u32, attr: &Attr, row: &Row)
     requires areas { attr.now.area < length (family_at chains.old.families 1) }
     ensures nodes { chains.new.nodes ≡ chains.old.nodes }
     ensures lists { chains.new.families ≡
-        if stays then chains.old.families else rechained chains.old.families index attr.now
+        if stays then chains.old.families else chains_after chains.old.families index attr.now
         row.now }
 {
     if !stays {
@@ -194,10 +194,10 @@ fn rechain(chains: &mut Chains, stays: bool, index: u32, attr: &Attr, row: &Row)
 /// A node has a deadline from now on, or none any more.
 fn schedule(wheel: &mut Wheel, node: u32, to: Option<u64>)
     requires node { node < length wheel.old.deadlines }
-    requires filed { list_of node wheel.old.slots ≡
+    requires filed { list_holding node wheel.old.slots ≡
         option_map slot_of (deadline_of wheel.old.deadlines node) }
     ensures deadlines { wheel.new.deadlines ≡ slice_set wheel.old.deadlines node to }
-    ensures slots { wheel.new.slots ≡ refiled wheel.old.slots node (option_map slot_of to) }
+    ensures slots { wheel.new.slots ≡ filed_again wheel.old.slots node (option_map slot_of to) }
 {
     free(wheel, node);
     if let Some(deadline) = to {
@@ -208,13 +208,13 @@ fn schedule(wheel: &mut Wheel, node: u32, to: Option<u64>)
 /// An alarm's place in the wheel, unless that stays.
 fn reschedule(wheel: &mut Wheel, stays: bool, index: u32, row: &Row)
     requires node { index < length wheel.old.deadlines }
-    requires filed { list_of index wheel.old.slots ≡
+    requires filed { list_holding index wheel.old.slots ≡
         option_map slot_of (deadline_of wheel.old.deadlines index) }
     ensures deadlines { wheel.new.deadlines ≡
         if stays then wheel.old.deadlines else slice_set wheel.old.deadlines index
         row.now.shelved_until }
     ensures slots { wheel.new.slots ≡
-        if stays then wheel.old.slots else refiled wheel.old.slots index
+        if stays then wheel.old.slots else filed_again wheel.old.slots index
         (option_map slot_of row.now.shelved_until) }
 {
     if !stays {

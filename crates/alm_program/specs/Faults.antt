@@ -80,18 +80,18 @@ fault_of_format format.Disk = Disk
 fault_of_format format.OutOfMemory = OutOfMemory
 
 -- .. of a refused call of a file or a stream
-abbrev pub fault_of_kind : ErrorKind → Fault
-fault_of_kind kind.OutOfMemory = OutOfMemory
-fault_of_kind _ = Io
+abbrev pub fault_of_error : ErrorKind → Fault
+fault_of_error kind.OutOfMemory = OutOfMemory
+fault_of_error _ = Io
 
 -- .. of a device's file that isn't opened: one that is a standard stream's is named wrongly
 abbrev pub fault_of_file : FileFault → Fault
 fault_of_file file.Stream = Usage
-fault_of_file (file.Io error) = fault_of_kind (error_kind error)
+fault_of_file (file.Io error) = fault_of_error (error_kind error)
 
 -- the line on standard error
-abbrev pub line_of : Fault → List ℕ
-line_of fault = codes "fault " ++ fault_text fault ++ codes "\n"
+abbrev pub fault_line : Fault → List ℕ
+fault_line fault = codes "fault " ++ fault_text fault ++ codes "\n"
 
 -- the status that the program ends with
 abbrev pub status_of : Fault → ℕ
@@ -106,7 +106,7 @@ status_of _ = 3
 
 -- the line, or a front of it where it can't be written
 abbrev pub IsTold : Option (List ℕ) → Option (List ℕ) → Fault → Type 0
-IsTold old new fault = Appends old new (line_of fault) ⊎ IsCutShort old new (line_of fault)
+IsTold old new fault = Appends old new (fault_line fault) ⊎ IsCutShort old new (fault_line fault)
 
 -- how the program ends by what it came to: with status 0 and no line, or with the status and the line of the fault
 abbrev pub EndsBy : Result Unit Fault → Option (List ℕ) → Option (List ℕ) → ℕ → Type 0

@@ -3,7 +3,7 @@
 ghost use Rattle.std.specs.Prelude.{◌≡◌, ◌++◌, codes};
 ghost use Rattle.alm_lines.specs.Parts.{part_text};
 ghost use Rattle.alm_lines.specs.Written.{Prints};
-ghost use Rattle.alm_program.specs.Faults.{alarm_text, printed_byte, key_text, fault_text, line_of};
+ghost use Rattle.alm_program.specs.Faults.{alarm_text, printed_byte, key_text, fault_text, fault_line};
 
 use crate::fault::Fault;
 use alm_lines::{Part, put, put_parts};
@@ -85,7 +85,7 @@ fn print_name<W: io::Write>(fault: &Fault, writer: &mut W) -> io::Result<()>
 
 /// Prints the line that tells of a fault. Where the writer fails, a front of it is written.
 pub fn print_fault<W: io::Write>(fault: &Fault, writer: &mut W) -> io::Result<()>
-    ensures { Prints (W.contents writer.old) (W.contents writer.new) (line_of fault.now) result }
+    ensures { Prints (W.contents writer.old) (W.contents writer.new) (fault_line fault.now) result }
 {
     put(b"fault ", writer)?;
     print_name(fault, writer)?;

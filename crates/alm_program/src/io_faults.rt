@@ -2,7 +2,7 @@
 
 ghost use Rattle.std.specs.Prelude.{◌≡◌};
 ghost use Rattle.std.specs.IoError.{error_kind};
-ghost use Rattle.alm_program.specs.Faults.{fault_of_kind, fault_of_file};
+ghost use Rattle.alm_program.specs.Faults.{fault_of_error, fault_of_file};
 
 use crate::fault::Fault;
 use alm_file::FileFault;
@@ -10,7 +10,7 @@ use std::io::{self, ErrorKind};
 
 /// What a refused call of a file or a stream is to the program.
 pub fn io_fault(error: io::Error) -> Fault
-    ensures { result ≡ fault_of_kind (error_kind error) }
+    ensures { result ≡ fault_of_error (error_kind error) }
 {
     match error.kind() {
         ErrorKind::OutOfMemory => Fault::OutOfMemory,

@@ -7,7 +7,7 @@ use Rattle.alm_types.specs.Batches.{Judged}
 use Rattle.alm_model.specs.Judging.{entries_in}
 use Rattle.alm_model.specs.Plant.{Condensed}
 use Rattle.alm_model.proofs.Legal.{entries_append}
-use Rattle.alm_flush.specs.HeldBatch.{batches_of, stored_of, told_of, waiting_of}
+use Rattle.alm_flush.specs.HeldBatch.{batches_of, stored_of, released_entries, waiting_of}
 use Rattle.alm_flush.specs.declared.held.Held.{Held}
 use Rattle.alm_flush.specs.declared.held.Held.TheVariants.{Nothing, Fetched, Failed, Committed, Published}
 
@@ -18,7 +18,7 @@ stored_front (Failed b) = (b.entries ++ [], refl)
 stored_front (Committed b) = ([], refl)
 stored_front (Published b n) = ([], refl)
 
-told_front : (h : Held) → IsPrefix (told_of h) (stored_of h)
+told_front : (h : Held) → IsPrefix (released_entries h) (stored_of h)
 told_front Nothing = ([], refl)
 told_front (Fetched b) = ([], refl)
 told_front (Failed b) = ([], refl)
@@ -33,8 +33,8 @@ kept_front before h fetched is =
     let front = behind (entries_in before) (stored_of h) (entries_in (batches_of h)) (stored_front h) in
     (front.0, front.1 ∙ (sym (entries_append before (batches_of h)) ∙ ap entries_in (sym is)))
 
-pub told_kept : (before : List Judged) (h : Held) → IsPrefix (entries_in before ++ told_of h) (entries_in before ++ stored_of h)
-told_kept before h = behind (entries_in before) (told_of h) (stored_of h) (told_front h)
+pub told_kept : (before : List Judged) (h : Held) → IsPrefix (entries_in before ++ released_entries h) (entries_in before ++ stored_of h)
+told_kept before h = behind (entries_in before) (released_entries h) (stored_of h) (told_front h)
 
 waiting_front : (h : Held) → IsPrefix (stored_of h ++ waiting_of h) (entries_in (batches_of h))
 waiting_front Nothing = ([], refl)

@@ -7,7 +7,7 @@ use mathlib.Core.List.{IsPrefix}
 use Rattle.alm_types.specs.Batches.{Judged}
 use Rattle.alm_types.specs.declared.action.Action.{Action}
 use Rattle.alm_types.specs.declared.entry.Entry.{Entry}
-use Rattle.alm_disk.specs.Device.{DeviceState, IsBytes, IsImage}
+use Rattle.alm_disk.specs.Device.{DeviceState, AreBytes, IsImage}
 use Rattle.alm_model.specs.Plant.{Condensed}
 use Rattle.alm_model.specs.Rules.{KeepsRules}
 use Rattle.alm_model.specs.Judging.{accepted_of, entries_in}
@@ -15,7 +15,7 @@ use Rattle.alm_model.specs.Step.{run}
 use Rattle.alm_model.proofs.Legal.{accepted_append, entries_append}
 use Rattle.alm_rings.specs.Batches.{fetched_of}
 use Rattle.alm_model.proofs.Runs.{run_append}
-use Rattle.alm_flush.specs.HeldBatch.{batches_of, shown_of, stored_of, told_of, waiting_of}
+use Rattle.alm_flush.specs.HeldBatch.{batches_of, published_entries, stored_of, released_entries, waiting_of}
 use Rattle.alm_flush.specs.declared.held.Held.{Held}
 use Rattle.alm_flush.specs.declared.held.Held.TheVariants.{Nothing, Fetched, Failed, Committed, Published}
 use Rattle.alm_store.specs.Recovery.{IsFrontPlant, IsSafe}
@@ -30,7 +30,7 @@ use Rattle.alm_flush.specs.declared.publishes.Publishes as P
 use Rattle.alm_flush.specs.declared.release.Release as R
 use Rattle.alm_flush.specs.Flushes.{FetchAnswers, AdvanceAnswers, PublishAnswers, ReleaseAnswers, GivesBack}
 use Rattle.alm_flush.proofs.HeldLaws.{told_pass}
-use Rattle.alm_run.specs.Moments.{Moment, Follows, Leads, IsSafeAt, Course, Endures, at_first, at_moment}
+use Rattle.alm_run.specs.Moments.{Moment, Follows, Leads, IsSafeAt, SafeCourse, Endures, at_first, at_moment}
 use Rattle.alm_run.proofs.Histories.{ahead_front, kept_front, told_kept}
 
 leads_on : (safe : Moment → Type 0) (m : Moment) (moments : List Moment) (last next : Moment) → Leads safe m moments last → safe last → Follows last next → Leads safe m (moments ++ next ∷ []) next
@@ -58,7 +58,7 @@ module _ (recovers : List ℕ → Condensed → Type 0) (base : Condensed) where
       subst (λ (l : List Action). Passed recovers base l first last) front.1
       (p.0, leads_weaker (IsSafeAt recovers base accepted) (IsSafeAt recovers base (accepted ++ front.0)) (safe_of_more accepted front.0) first p.0 last p.1)
 
-  pub course_of_prefix : (accepted all : List Action) (first last : Moment) → IsPrefix accepted all → Course recovers base accepted first last → Course recovers base all first last
+  pub course_of_prefix : (accepted all : List Action) (first last : Moment) → IsPrefix accepted all → SafeCourse recovers base accepted first last → SafeCourse recovers base all first last
   course_of_prefix accepted all first last front c =
       let p = passed_of_prefix accepted all first last front (c.moments, c.leads) in
       record {
@@ -77,20 +77,20 @@ prefix_le : (xs ys : List Action) → IsPrefix xs ys → length xs ≤ length ys
 prefix_le xs ys p = omega (arith, length-append xs p.0, ap length p.1)
 
 -- what is published is stored
-held_le : (h : Held) → length (accepted_of (shown_of h)) ≤ length (accepted_of (stored_of h))
+held_le : (h : Held) → length (accepted_of (published_entries h)) ≤ length (accepted_of (stored_of h))
 held_le Nothing = omega arith
 held_le (Fetched b) = omega arith
 held_le (Failed b) = omega arith
 held_le (Committed b) = omega arith
 held_le (Published b n) = omega arith
 
-shown_stored : (before : List Entry) (h : Held) (published : List Action) → published ≡ accepted_of (before ++ shown_of h) → length published ≤ length (accepted_of (before ++ stored_of h))
+shown_stored : (before : List Entry) (h : Held) (published : List Action) → published ≡ accepted_of (before ++ published_entries h) → length published ≤ length (accepted_of (before ++ stored_of h))
 shown_stored before h published shown =
     omega (
       arith,
       ap length shown,
-      ap length (accepted_append before (shown_of h)),
-      length-append (accepted_of before) (accepted_of (shown_of h)),
+      ap length (accepted_append before (published_entries h)),
+      length-append (accepted_of before) (accepted_of (published_entries h)),
       ap length (accepted_append before (stored_of h)),
       length-append (accepted_of before) (accepted_of (stored_of h)),
       held_le h,
@@ -101,11 +101,11 @@ max_le a b c p q = omega (arith, p, q)
 
 -- what was released and what is published is stored
 pub all_stored : (count number : ℕ) (before : List Judged) (h : Held) (published : List Action)
-    → number ≡ count + length (accepted_of (entries_in before ++ told_of h)) → published ≡ accepted_of (entries_in before ++ shown_of h)
+    → number ≡ count + length (accepted_of (entries_in before ++ released_entries h)) → published ≡ accepted_of (entries_in before ++ published_entries h)
     → max number (count + length published) ≤ count + length (accepted_of (entries_in before ++ stored_of h))
 all_stored count number before h published is shown =
     max_le number (count + length published) (count + length (accepted_of (entries_in before ++ stored_of h)))
-    (omega (arith, is, prefix_le _ _ (accepted_prefix (entries_in before ++ told_of h) (entries_in before ++ stored_of h) (told_kept before h))))
+    (omega (arith, is, prefix_le _ _ (accepted_prefix (entries_in before ++ released_entries h) (entries_in before ++ stored_of h) (told_kept before h))))
     (omega (arith, shown_stored (entries_in before) h published shown))
 
 -- the stored plant, and the one of the commit, are fronts of all that was fetched
@@ -128,12 +128,12 @@ fronts base before fetched h floor stored held is enough =
 -- whatever a crash leaves of a flusher's device is safe
 pub flusher_safe : (recovers : List ℕ → Condensed → Type 0)
     → ((b : List ℕ) (p q : Condensed) → recovers b p → recovers b q → p ≡ q)
-    → ((b : List ℕ) (p : Condensed) → IsBytes b → recovers b p → KeepsRules p)
+    → ((b : List ℕ) (p : Condensed) → AreBytes b → recovers b p → KeepsRules p)
     → (base : Condensed) (before fetched : List Judged) (h : Held) (floor : ℕ) (stored next : Condensed)
     → fetched ≡ before ++ batches_of h → stored ≡ run base (accepted_of (entries_in before ++ stored_of h))
     → ∥ (next ≡ stored) ⊎ (next ≡ run stored (accepted_of (waiting_of h))) ∥₁
     → floor ≤ base.panel.count + length (accepted_of (entries_in before ++ stored_of h))
-    → (image : List ℕ) → IsBytes image → ∥ recovers image stored ⊎ recovers image next ∥₁
+    → (image : List ℕ) → AreBytes image → ∥ recovers image stored ⊎ recovers image next ∥₁
     → IsSafe recovers base (accepted_of (entries_in fetched)) floor image
 flusher_safe recovers one rules base before fetched h floor stored next held is either enough image bytes stands =
     let all = accepted_of (entries_in fetched) in
@@ -146,11 +146,11 @@ flusher_safe recovers one rules base before fetched h floor stored next held is 
 -- a moment of a flusher is safe
 pub at_safe : (recovers : List ℕ → Condensed → Type 0)
     → ((b : List ℕ) (p q : Condensed) → recovers b p → recovers b q → p ≡ q)
-    → ((b : List ℕ) (p : Condensed) → IsBytes b → recovers b p → KeepsRules p)
+    → ((b : List ℕ) (p : Condensed) → AreBytes b → recovers b p → KeepsRules p)
     → (base : Condensed) (device : DeviceState) (number : ℕ) (published : List Action) (before fetched : List Judged) (h : Held) (stored next : Condensed)
     → fetched ≡ before ++ batches_of h → stored ≡ run base (accepted_of (entries_in before ++ stored_of h))
     → ∥ (next ≡ stored) ⊎ (next ≡ run stored (accepted_of (waiting_of h))) ∥₁
-    → number ≡ base.panel.count + length (accepted_of (entries_in before ++ told_of h)) → published ≡ accepted_of (entries_in before ++ shown_of h)
+    → number ≡ base.panel.count + length (accepted_of (entries_in before ++ released_entries h)) → published ≡ accepted_of (entries_in before ++ published_entries h)
     → ((image : List ℕ) → IsImage device image → ∥ recovers image stored ⊎ recovers image next ∥₁)
     → IsSafeAt recovers base (accepted_of (entries_in fetched)) (at_moment base device number published)
 at_safe recovers one rules base device number published before fetched h stored next held is either numbered shown stands image of =
@@ -158,10 +158,10 @@ at_safe recovers one rules base device number published before fetched h stored 
 
 -- ---- what each step makes of what was released and of what is published
 
-pub told_by_fetch : (r : F.Fetch) (old new : Held) (from to : FetchEnds) → FetchAnswers r old new from to → told_of new ≡ told_of old
-told_by_fetch F.TheVariants.Got old new from to a = ap told_of a.1.held ∙ sym (ap told_of a.0)
-told_by_fetch F.TheVariants.Empty old new from to a = ap told_of a.1 ∙ sym (ap told_of a.0)
-told_by_fetch F.TheVariants.Held old new from to a = ap told_of a.1
+pub told_by_fetch : (r : F.Fetch) (old new : Held) (from to : FetchEnds) → FetchAnswers r old new from to → released_entries new ≡ released_entries old
+told_by_fetch F.TheVariants.Got old new from to a = ap released_entries a.1.held ∙ sym (ap released_entries a.0)
+told_by_fetch F.TheVariants.Empty old new from to a = ap released_entries a.1 ∙ sym (ap released_entries a.0)
+told_by_fetch F.TheVariants.Held old new from to a = ap released_entries a.1
 
 -- what was fetched only grows
 pub fetched_more : (r : F.Fetch) (old new : Held) (from to : FetchEnds) → FetchAnswers r old new from to → IsPrefix (fetched_of from) (fetched_of to)
@@ -169,47 +169,47 @@ fetched_more F.TheVariants.Got old new from to a = (a.1.batch ∷ [], sym a.1.fe
 fetched_more F.TheVariants.Empty old new from to a = ([], append-nil (fetched_of from) ∙ sym a.2)
 fetched_more F.TheVariants.Held old new from to a = ([], append-nil (fetched_of from) ∙ sym (ap fetched_of a.2))
 
-pub told_by_advance : (r : A.Advance) (p : Phase) (old new : Held) → AdvanceAnswers r p old new → told_of new ≡ told_of old
+pub told_by_advance : (r : A.Advance) (p : Phase) (old new : Held) → AdvanceAnswers r p old new → released_entries new ≡ released_entries old
 told_by_advance A.TheVariants.Committed p Nothing new a = absurd a
-told_by_advance A.TheVariants.Committed p (Fetched b) new a = ap told_of a.0
+told_by_advance A.TheVariants.Committed p (Fetched b) new a = ap released_entries a.0
 told_by_advance A.TheVariants.Committed p (Failed b) new a = absurd a
 told_by_advance A.TheVariants.Committed p (Committed b) new a = absurd a
 told_by_advance A.TheVariants.Committed p (Published b n) new a = absurd a
-told_by_advance A.TheVariants.More p Nothing new a = ap told_of a.0
-told_by_advance A.TheVariants.More p (Fetched b) new a = ap told_of a.0
+told_by_advance A.TheVariants.More p Nothing new a = ap released_entries a.0
+told_by_advance A.TheVariants.More p (Fetched b) new a = ap released_entries a.0
 told_by_advance A.TheVariants.More p (Failed b) new a = absurd a
-told_by_advance A.TheVariants.More p (Committed b) new a = ap told_of a.0
-told_by_advance A.TheVariants.More p (Published b n) new a = ap told_of a.0
-told_by_advance A.TheVariants.Failed p Nothing new a = ap told_of a.0
-told_by_advance A.TheVariants.Failed p (Fetched b) new a = ap told_of a.0
-told_by_advance A.TheVariants.Failed p (Failed b) new a = ap told_of a
-told_by_advance A.TheVariants.Failed p (Committed b) new a = ap told_of a.0
-told_by_advance A.TheVariants.Failed p (Published b n) new a = ap told_of a.0
-told_by_advance A.TheVariants.Nothing p Nothing new a = ap told_of a.0
+told_by_advance A.TheVariants.More p (Committed b) new a = ap released_entries a.0
+told_by_advance A.TheVariants.More p (Published b n) new a = ap released_entries a.0
+told_by_advance A.TheVariants.Failed p Nothing new a = ap released_entries a.0
+told_by_advance A.TheVariants.Failed p (Fetched b) new a = ap released_entries a.0
+told_by_advance A.TheVariants.Failed p (Failed b) new a = ap released_entries a
+told_by_advance A.TheVariants.Failed p (Committed b) new a = ap released_entries a.0
+told_by_advance A.TheVariants.Failed p (Published b n) new a = ap released_entries a.0
+told_by_advance A.TheVariants.Nothing p Nothing new a = ap released_entries a.0
 told_by_advance A.TheVariants.Nothing p (Fetched b) new a = absurd a
 told_by_advance A.TheVariants.Nothing p (Failed b) new a = absurd a
-told_by_advance A.TheVariants.Nothing p (Committed b) new a = ap told_of a.0
-told_by_advance A.TheVariants.Nothing p (Published b n) new a = ap told_of a.0
+told_by_advance A.TheVariants.Nothing p (Committed b) new a = ap released_entries a.0
+told_by_advance A.TheVariants.Nothing p (Published b n) new a = ap released_entries a.0
 
-pub told_by_publish : (r : P.Publishes) (old new : Held) → PublishAnswers r old new → told_of new ≡ told_of old
+pub told_by_publish : (r : P.Publishes) (old new : Held) → PublishAnswers r old new → released_entries new ≡ released_entries old
 told_by_publish P.TheVariants.Published Nothing new a = absurd a
 told_by_publish P.TheVariants.Published (Fetched b) new a = absurd a
 told_by_publish P.TheVariants.Published (Failed b) new a = absurd a
-told_by_publish P.TheVariants.Published (Committed b) new a = ap told_of a
+told_by_publish P.TheVariants.Published (Committed b) new a = ap released_entries a
 told_by_publish P.TheVariants.Published (Published b n) new a = absurd a
 told_by_publish P.TheVariants.OutOfMemory Nothing new a = absurd a
 told_by_publish P.TheVariants.OutOfMemory (Fetched b) new a = absurd a
 told_by_publish P.TheVariants.OutOfMemory (Failed b) new a = absurd a
-told_by_publish P.TheVariants.OutOfMemory (Committed b) new a = ap told_of a
+told_by_publish P.TheVariants.OutOfMemory (Committed b) new a = ap released_entries a
 told_by_publish P.TheVariants.OutOfMemory (Published b n) new a = absurd a
-told_by_publish P.TheVariants.NotYet Nothing new a = ap told_of a
-told_by_publish P.TheVariants.NotYet (Fetched b) new a = ap told_of a
-told_by_publish P.TheVariants.NotYet (Failed b) new a = ap told_of a
+told_by_publish P.TheVariants.NotYet Nothing new a = ap released_entries a
+told_by_publish P.TheVariants.NotYet (Fetched b) new a = ap released_entries a
+told_by_publish P.TheVariants.NotYet (Failed b) new a = ap released_entries a
 told_by_publish P.TheVariants.NotYet (Committed b) new a = absurd a
-told_by_publish P.TheVariants.NotYet (Published b n) new a = ap told_of a
+told_by_publish P.TheVariants.NotYet (Published b n) new a = ap released_entries a
 
 -- what is published only grows
-pub shown_by_publish : (r : P.Publishes) (old new : Held) → PublishAnswers r old new → length (accepted_of (shown_of old)) ≤ length (accepted_of (shown_of new))
+pub shown_by_publish : (r : P.Publishes) (old new : Held) → PublishAnswers r old new → length (accepted_of (published_entries old)) ≤ length (accepted_of (published_entries new))
 shown_by_publish P.TheVariants.Published Nothing new a = absurd a
 shown_by_publish P.TheVariants.Published (Fetched b) new a = absurd a
 shown_by_publish P.TheVariants.Published (Failed b) new a = absurd a
@@ -220,26 +220,26 @@ shown_by_publish P.TheVariants.OutOfMemory (Fetched b) new a = absurd a
 shown_by_publish P.TheVariants.OutOfMemory (Failed b) new a = absurd a
 shown_by_publish P.TheVariants.OutOfMemory (Committed b) new a = omega arith
 shown_by_publish P.TheVariants.OutOfMemory (Published b n) new a = absurd a
-shown_by_publish P.TheVariants.NotYet Nothing new a = omega (arith, ap (λ x. length (accepted_of (shown_of x))) a)
-shown_by_publish P.TheVariants.NotYet (Fetched b) new a = omega (arith, ap (λ x. length (accepted_of (shown_of x))) a)
-shown_by_publish P.TheVariants.NotYet (Failed b) new a = omega (arith, ap (λ x. length (accepted_of (shown_of x))) a)
+shown_by_publish P.TheVariants.NotYet Nothing new a = omega (arith, ap (λ x. length (accepted_of (published_entries x))) a)
+shown_by_publish P.TheVariants.NotYet (Fetched b) new a = omega (arith, ap (λ x. length (accepted_of (published_entries x))) a)
+shown_by_publish P.TheVariants.NotYet (Failed b) new a = omega (arith, ap (λ x. length (accepted_of (published_entries x))) a)
 shown_by_publish P.TheVariants.NotYet (Committed b) new a = absurd a
-shown_by_publish P.TheVariants.NotYet (Published b n) new a = omega (arith, ap (λ x. length (accepted_of (shown_of x))) a)
+shown_by_publish P.TheVariants.NotYet (Published b n) new a = omega (arith, ap (λ x. length (accepted_of (published_entries x))) a)
 
 module _ {T : Type 0} {g : Ghosts T} where
   -- what was released only grows
   pub told_by_release : (r : R.Release) (old new : Held) (from to : List (Outbox T g)) (base stored : Condensed) (published : List Action) → ReleaseAnswers r old new from to base stored published
-      → length (accepted_of (told_of old)) ≤ length (accepted_of (told_of new))
+      → length (accepted_of (released_entries old)) ≤ length (accepted_of (released_entries new))
   told_by_release (R.TheVariants.Released slot) old new from to base stored published a =
-      omega (arith, ap (λ l. length (accepted_of l)) (ap told_of a.held ∙ told_pass old a.entry a.next), ap length (accepted_append (told_of old) (a.entry ∷ [])), length-append (accepted_of (told_of old)) (accepted_of (a.entry ∷ [])))
-  told_by_release (R.TheVariants.Full slot) old new from to base stored published a = omega (arith, ap (λ h. length (accepted_of (told_of h))) a.held)
-  told_by_release R.TheVariants.Nothing old new from to base stored published a = omega (arith, ap (λ h. length (accepted_of (told_of h))) a.1)
+      omega (arith, ap (λ l. length (accepted_of l)) (ap released_entries a.held ∙ told_pass old a.entry a.next), ap length (accepted_append (released_entries old) (a.entry ∷ [])), length-append (accepted_of (released_entries old)) (accepted_of (a.entry ∷ [])))
+  told_by_release (R.TheVariants.Full slot) old new from to base stored published a = omega (arith, ap (λ h. length (accepted_of (released_entries h))) a.held)
+  told_by_release R.TheVariants.Nothing old new from to base stored published a = omega (arith, ap (λ h. length (accepted_of (released_entries h))) a.1)
 
-batches_told : (before : List Judged) (h : Held) (fetched : List Judged) → fetched ≡ before ++ batches_of h → length (accepted_of (entries_in before ++ told_of h)) ≤ length (accepted_of (entries_in fetched))
+batches_told : (before : List Judged) (h : Held) (fetched : List Judged) → fetched ≡ before ++ batches_of h → length (accepted_of (entries_in before ++ released_entries h)) ≤ length (accepted_of (entries_in fetched))
 batches_told before h fetched is =
     omega (
       arith,
-      prefix_le _ _ (accepted_prefix (entries_in before ++ told_of h) (entries_in before ++ stored_of h) (told_kept before h)),
+      prefix_le _ _ (accepted_prefix (entries_in before ++ released_entries h) (entries_in before ++ stored_of h) (told_kept before h)),
       prefix_le _ _ (accepted_prefix (entries_in before ++ stored_of h) (entries_in fetched) (kept_front before h fetched is)),
     )
 
@@ -247,27 +247,27 @@ batches_told before h fetched is =
 pub told_by_giving : (result : Bool) (before before' : FetchEnds) (fetched fetched' : List Judged) (old new : Held) (given given' : List Judged) (rest : Type 0)
     → fetched ≡ fetched_of before ++ batches_of old → fetched' ≡ fetched_of before' ++ batches_of new → fetched' ≡ fetched
     → MatchBool result (GivesBack old new given given') ((new ≡ old) × rest × (before' ≡ before))
-    → length (accepted_of (entries_in (fetched_of before) ++ told_of old)) ≤ length (accepted_of (entries_in (fetched_of before') ++ told_of new))
+    → length (accepted_of (entries_in (fetched_of before) ++ released_entries old)) ≤ length (accepted_of (entries_in (fetched_of before') ++ released_entries new))
 told_by_giving true before before' fetched fetched' old new given given' rest held held' same a =
     let nothing = a.held in
-    let all : entries_in (fetched_of before') ++ told_of new ≡ entries_in fetched =
-    ap (λ h. entries_in (fetched_of before') ++ told_of h) nothing
+    let all : entries_in (fetched_of before') ++ released_entries new ≡ entries_in fetched =
+    ap (λ h. entries_in (fetched_of before') ++ released_entries h) nothing
     ∙ (append-nil (entries_in (fetched_of before')) ∙ ap entries_in (sym (append-nil (fetched_of before')) ∙ (ap (λ h. fetched_of before' ++ batches_of h) (sym nothing) ∙ (sym held' ∙ same)))) in
     omega (arith, batches_told (fetched_of before) old fetched held, ap (λ l. length (accepted_of l)) all)
 told_by_giving false before before' fetched fetched' old new given given' rest held held' same a =
-    omega (arith, ap (λ h. length (accepted_of (entries_in (fetched_of before') ++ told_of h))) a.0, ap (λ b. length (accepted_of (entries_in (fetched_of b) ++ told_of old))) a.2)
+    omega (arith, ap (λ h. length (accepted_of (entries_in (fetched_of before') ++ released_entries h))) a.0, ap (λ b. length (accepted_of (entries_in (fetched_of b) ++ released_entries old))) a.2)
 
 -- a course to the last moment, by another name of its base, its first device and what was released
 pub course_by : (recovers : List ℕ → Condensed → Type 0) (base base' : Condensed) (accepted : List Action) (from from' to : DeviceState) (number released : ℕ) (published : List Action)
     → base ≡ base' → from ≡ from' → number ≡ released
     → Passed recovers base accepted (at_first base from) (at_moment base to number published) → IsSafeAt recovers base accepted (at_moment base to number published)
-    → (shown : ℕ) × Course recovers base' accepted (at_first base' from') (record { device = to; released = released; shown = shown })
+    → (shown : ℕ) × SafeCourse recovers base' accepted (at_first base' from') (record { device = to; released = released; shown = shown })
 course_by recovers base base' accepted from from' to number released published p q r passed safe =
-    let here : (shown : ℕ) × Course recovers base accepted (at_first base from) (record { device = to; released = number; shown = shown }) =
+    let here : (shown : ℕ) × SafeCourse recovers base accepted (at_first base from) (record { device = to; released = number; shown = shown }) =
     (base.panel.count + length published, record { moments = passed.0; leads = passed.1; safe = safe }) in
-    subst (λ (b : Condensed). (shown : ℕ) × Course recovers b accepted (at_first b from') (record { device = to; released = released; shown = shown })) p
-    (subst (λ (d : DeviceState). (shown : ℕ) × Course recovers base accepted (at_first base d) (record { device = to; released = released; shown = shown })) q
-    (subst (λ (n : ℕ). (shown : ℕ) × Course recovers base accepted (at_first base from) (record { device = to; released = n; shown = shown })) r here))
+    subst (λ (b : Condensed). (shown : ℕ) × SafeCourse recovers b accepted (at_first b from') (record { device = to; released = released; shown = shown })) p
+    (subst (λ (d : DeviceState). (shown : ℕ) × SafeCourse recovers base accepted (at_first base d) (record { device = to; released = released; shown = shown })) q
+    (subst (λ (n : ℕ). (shown : ℕ) × SafeCourse recovers base accepted (at_first base from) (record { device = to; released = n; shown = shown })) r here))
 
 -- .. of more that is accepted, to the last device by another name
 pub endures_on : (recovers : List ℕ → Condensed → Type 0) (base : Condensed) (honest : Type 0) (from to to' : DeviceState) (accepted all : List Action) (released : ℕ) → to ≡ to' → IsPrefix accepted all
@@ -276,5 +276,5 @@ endures_on recovers base honest from to to' accepted all released same front end
     ∥∥₁_map (endures h) (λ c. (
       c.0,
       course_of_prefix recovers base accepted all (at_first base from) (record { device = to'; released = released; shown = c.0 }) front
-          (subst (λ (d : DeviceState). Course recovers base accepted (at_first base from) (record { device = d; released = released; shown = c.0 })) same c.1),
+          (subst (λ (d : DeviceState). SafeCourse recovers base accepted (at_first base from) (record { device = d; released = released; shown = c.0 })) same c.1),
     ))

@@ -6,7 +6,7 @@ use Rattle.alm_rings.specs.declared.outbox.Outbox.{Outbox}
 use Rattle.alm_rings.specs.declared.told.Told.{Ghosts}
 use Rattle.alm_rings.specs.Placed.{SameInboxAt, inbox_at, SameOutboxAt}
 use Rattle.alm_seq.specs.Sequences.{SameInboxes}
-use Rattle.alm_run.specs.Serving.{Serves}
+use Rattle.alm_run.specs.Serving.{ServesSlots}
 
 pub same_at_trans : (a b c : Option Inbox) → SameInboxAt a b → SameInboxAt b c → SameInboxAt a c
 same_at_trans None None None p q = tt
@@ -22,7 +22,7 @@ some_still None (Some y) p q = absurd p
 some_still (Some x) None p q = absurd p
 some_still (Some x) (Some y) p q = refl
 
-pub serves_still : (slots : List ℕ) (a b : List Inbox) → SameInboxes a b → Serves slots a → Serves slots b
+pub serves_still : (slots : List ℕ) (a b : List Inbox) → SameInboxes a b → ServesSlots slots a → ServesSlots slots b
 serves_still slots a b same serves = λ k s at. some_still (inbox_at s a) (inbox_at s b) (same s) (serves k s at)
 
 module _ {T : Type 0} {g : Ghosts T} where

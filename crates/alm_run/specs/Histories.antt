@@ -19,7 +19,7 @@ use Rattle.alm_rings.specs.Placed.{taken_by, released_by}
 use Rattle.alm_flush.specs.Replies.{replies_in, replies_to}
 
 -- from this base: the entries of the sealed batches, and those that were not sealed, are one legal history of one thread, and of each slot they answer the requests that were taken, each once, in order
-pub record Judged (base : Condensed) (inboxes : List Inbox) (ends : SealEnds) : Type 0 where
+pub record JudgesAll (base : Condensed) (inboxes : List Inbox) (ends : SealEnds) : Type 0 where
   pub entries : List Entry
   pub sealed : IsPrefix (entries_in (sealed_of ends)) entries
   pub legal : IsLegal base entries

@@ -26,7 +26,7 @@ abbrev pub IsSafeAt : (List ℕ → Condensed → Type 0) → Condensed → List
 IsSafeAt recovers base accepted m = (image : List ℕ) → IsImage m.device image → IsSafe recovers base accepted (max m.released m.shown) image
 
 -- from one moment to another, each of them safe
-pub record Course (recovers : List ℕ → Condensed → Type 0) (base : Condensed) (accepted : List Action) (first last : Moment) : Type 0 where
+pub record SafeCourse (recovers : List ℕ → Condensed → Type 0) (base : Condensed) (accepted : List Action) (first last : Moment) : Type 0 where
   pub moments : List Moment
   pub leads : Leads (IsSafeAt recovers base accepted) first moments last
   pub safe : IsSafeAt recovers base accepted last
@@ -40,4 +40,4 @@ at_moment base device released published = record { device = device; released = 
 
 -- a device that does what its trait says goes from one state to another by such moments; by the last so much was released
 abbrev pub Endures : Type 0 → (List ℕ → Condensed → Type 0) → Condensed → (from to : DeviceState) → (accepted : List Action) → (released : ℕ) → Type 0
-Endures honest recovers base from to accepted released = honest → ∥ ((shown : ℕ) × Course recovers base accepted (at_first base from) (record { device = to; released = released; shown = shown })) ∥₁
+Endures honest recovers base from to accepted released = honest → ∥ ((shown : ℕ) × SafeCourse recovers base accepted (at_first base from) (record { device = to; released = released; shown = shown })) ∥₁

@@ -29,19 +29,20 @@ pub fn run_flusher<
     requires apart { AreApart (λ o. o.slot) parts.outboxes.items }
     requires released { (s : ℕ) → released_by s parts.outboxes.items ≡ [] }
     requires fetched { fetched_of parts.fetch ≡ [] }
-    requires idle { K.phase parts.store ≡ Phase.Idle }
-    requires stored { K.stored parts.store ≡ B.Board.base board }
+    requires idle { (K.state parts.store).phase ≡ Phase.Idle }
+    requires stored { (K.state parts.store).stored ≡ B.Board.base board }
     requires published { B.Board.published board ≡ [] }
     requires pending { B.Board.pending board ≡ [] }
     ensures outboxes { (s : ℕ) →
         SameOutboxAt (outbox_at s parts.outboxes.items) (outbox_at s result.outboxes.items) }
     ensures fetch { SameFetchEnds parts.fetch result.fetch }
     ensures flushed { Flushed
-        (LeavesOneOf (K.honest parts.store) (K.honest result.store) K.recovers
-        (K.device result.store))
-        (Endures (K.honest parts.store) K.recovers (K.stored parts.store) (K.device parts.store)
-        (K.device result.store)) (K.stored parts.store) (K.stored result.store)
-        result.outboxes.items result.fetch }
+        (LeavesOneOf (K.Device.honest (K.disk parts.store)) (K.Device.honest (K.disk result.store))
+        K.recovers (K.Device.state (K.disk result.store)))
+        (Endures (K.Device.honest (K.disk parts.store)) K.recovers (K.state parts.store).stored
+        (K.Device.state (K.disk parts.store)) (K.Device.state (K.disk result.store)))
+        (K.state parts.store).stored (K.state result.store).stored result.outboxes.items
+        result.fetch }
 {
     let FlusherParts {
         store,

@@ -41,7 +41,8 @@ fn commit<K: Store, T: Told + Drop, B: Board<Told = T> + Publish<R>, R: Wait>(
     ensures fetch { SameFetchEnds flusher.old.flusher.fetch flusher.new.flusher.fetch }
     ensures outboxes { flusher.new.flusher.outboxes ≡ flusher.old.flusher.outboxes }
     ensures base { B.Board.base flusher.new.flusher.board ≡ B.Board.base flusher.old.flusher.board }
-    ensures honest { K.honest flusher.old.flusher.store ↔ K.honest flusher.new.flusher.store }
+    ensures honest { K.Device.honest (K.disk flusher.old.flusher.store) ↔
+        K.Device.honest (K.disk flusher.new.flusher.store) }
     ensures first { flusher.new.first ≡ flusher.old.first }
 {
     if flusher.advance() == Advance::Failed {
@@ -100,7 +101,8 @@ fn step<K: Store, T: Told + Drop, B: Board<Told = T> + Publish<R>, E: Bell + Dro
         SameOutboxAt (outbox_at s flusher.old.flusher.outboxes.items)
         (outbox_at s flusher.new.flusher.outboxes.items) }
     ensures base { B.Board.base flusher.new.flusher.board ≡ B.Board.base flusher.old.flusher.board }
-    ensures honest { K.honest flusher.old.flusher.store ↔ K.honest flusher.new.flusher.store }
+    ensures honest { K.Device.honest (K.disk flusher.old.flusher.store) ↔
+        K.Device.honest (K.disk flusher.new.flusher.store) }
     ensures first { flusher.new.first ≡ flusher.old.first }
 {
     if flusher.fetch() == Fetch::Empty {
@@ -128,7 +130,8 @@ pub fn flush<K: Store, T: Told + Drop, B: Board<Told = T> + Publish<R>, E: Bell 
         SameOutboxAt (outbox_at s flusher.old.flusher.outboxes.items)
         (outbox_at s flusher.new.flusher.outboxes.items) }
     ensures base { B.Board.base flusher.new.flusher.board ≡ B.Board.base flusher.old.flusher.board }
-    ensures honest { K.honest flusher.old.flusher.store ↔ K.honest flusher.new.flusher.store }
+    ensures honest { K.Device.honest (K.disk flusher.old.flusher.store) ↔
+        K.Device.honest (K.disk flusher.new.flusher.store) }
     ensures first { flusher.new.first ≡ flusher.old.first }
 {
     let mut refused: u64 = 0;

@@ -18,17 +18,17 @@ pub struct RecordedFlusher<K: Store, T: Told + Drop, B: Board<Told = T>> {
     flusher: Flusher<K, T, B>,
     // The store with which the run began.
     first: Snapshot<K>,
-    pub ghost course: { K.honest first.value → ∥ K.honest flusher.store × ((moments : List Moment)
+    pub ghost course: { K.Device.honest (K.disk first.value) → ∥ K.Device.honest (K.disk flusher.store) × ((moments : List Moment)
         × Leads (IsSafeAt K.recovers (B.base flusher.board) (accepted_of (entries_in (fetched_of flusher.fetch))))
-        (at_first (B.base flusher.board) (K.device first.value)) moments
-        (at_moment (B.base flusher.board) (K.device flusher.store) flusher.number (B.published flusher.board))) ∥₁ },
+        (at_first (B.base flusher.board) (K.Device.state (K.disk first.value))) moments
+        (at_moment (B.base flusher.board) (K.Device.state (K.disk flusher.store)) flusher.number (B.published flusher.board))) ∥₁ },
 }
 
 impl<K: Store, T: Told + Drop, B: Board<Told = T>> RecordedFlusher<K, T, B> {
     ghost use Rattle.std.specs.Prelude.{◌≡◌, ◌≢◌, ◌↔◌, ◌+◌, ◌≤◌, [], ℕ, slice_get, Some};
     ghost use Rattle.alm_rings.specs.Batches.{SameFetchEnds};
     ghost use Rattle.alm_rings.specs.Placed.{AreApart, SameOutboxAt, outbox_at, released_by};
-    ghost use Rattle.alm_flush.specs.HeldBatch.{next_of};
+    ghost use Rattle.alm_flush.specs.HeldBatch.{next_entry_of};
     ghost use Rattle.alm_rings.specs.declared.receipt.Receipt.{Receipt};
 
     /// Nothing is held at first. The store has no work begun, and the board shows the plant that is stored.
@@ -36,8 +36,8 @@ impl<K: Store, T: Told + Drop, B: Board<Told = T>> RecordedFlusher<K, T, B> {
         requires apart { AreApart (λ o. o.slot) outboxes.items }
         requires released { (s : ℕ) → released_by s outboxes.items ≡ [] }
         requires fetched { fetched_of fetch ≡ [] }
-        requires idle { K.phase store ≡ Phase.Idle }
-        requires stored { K.stored store ≡ B.base board }
+        requires idle { (K.state store).phase ≡ Phase.Idle }
+        requires stored { (K.state store).stored ≡ B.base board }
         requires published { B.published board ≡ [] }
         requires pending { B.pending board ≡ [] }
         ensures parts { (result.flusher.store ≡ store) × (result.flusher.board ≡ board) ×
@@ -55,7 +55,8 @@ impl<K: Store, T: Told + Drop, B: Board<Told = T>> RecordedFlusher<K, T, B> {
         ensures same { (self.new.flusher.board ≡ self.old.flusher.board) ×
             (self.new.flusher.outboxes ≡ self.old.flusher.outboxes) ×
             (self.new.first ≡ self.old.first) }
-        ensures honest { K.honest self.old.flusher.store ↔ K.honest self.new.flusher.store }
+        ensures honest { K.Device.honest (K.disk self.old.flusher.store) ↔
+            K.Device.honest (K.disk self.new.flusher.store) }
     {
         self.flusher.keeper().images();
         self.flusher.fetch()
@@ -66,7 +67,8 @@ impl<K: Store, T: Told + Drop, B: Board<Told = T>> RecordedFlusher<K, T, B> {
         ensures same { (self.new.flusher.board ≡ self.old.flusher.board) ×
             (self.new.flusher.outboxes ≡ self.old.flusher.outboxes) ×
             (self.new.flusher.fetch ≡ self.old.flusher.fetch) × (self.new.first ≡ self.old.first) }
-        ensures honest { K.honest self.old.flusher.store ↔ K.honest self.new.flusher.store }
+        ensures honest { K.Device.honest (K.disk self.old.flusher.store) ↔
+            K.Device.honest (K.disk self.new.flusher.store) }
     {
         self.flusher.keeper().images();
         self.flusher.advance()
@@ -87,7 +89,7 @@ impl<K: Store, T: Told + Drop, B: Board<Told = T>> RecordedFlusher<K, T, B> {
 
     /// The entry whose verdict is the next to be released.
     pub fn next(&self) -> Option<Entry>
-        ensures { result ≡ next_of self.now.flusher.held }
+        ensures { result ≡ next_entry_of self.now.flusher.held }
     {
         self.flusher.next()
     }
@@ -122,7 +124,7 @@ impl<K: Store, T: Told + Drop, B: Board<Told = T>> RecordedFlusher<K, T, B> {
         ensures keeper { result.now ≡ self.now.flusher.store }
         ensures numbers { (s k : ℕ) (r : Receipt _ _) →
             slice_get (released_by s self.now.flusher.outboxes.items) k ≡ Some r →
-            r.number ≤ (K.stored self.now.flusher.store).panel.count }
+            r.number ≤ (K.state self.now.flusher.store).stored.panel.count }
     {
         self.flusher.keeper()
     }

@@ -16,9 +16,9 @@ pub struct SequencerEnds<P: Alarms + Drop> {
 impl<P: Alarms + Drop> Promise<Rings> for SequencerEnds<P> {
     ghost use Rattle.alm_rings.specs.Batches.{SameSealEnds};
     ghost use Rattle.alm_seq.specs.Sequences.{SameInboxes};
-    ghost use Rattle.alm_run.specs.Histories.{Judged};
+    ghost use Rattle.alm_run.specs.Histories.{JudgesAll};
 
     ghost kept_by = { λ p r. SameInboxes p.rings.value.inboxes.items r.inboxes.items ×
         SameSealEnds p.rings.value.ends r.ends ×
-        Judged (P.plant p.plant.value) r.inboxes.items r.ends };
+        JudgesAll (P.plant p.plant.value) r.inboxes.items r.ends };
 }

@@ -2,7 +2,7 @@
 ghost use Rattle.std.specs.Prelude.{◌≡◌};
 ghost use Rattle.alm_rings.specs.Batches.{SameSealEnds};
 ghost use Rattle.alm_seq.specs.Sequences.{SameInboxes, base_of};
-ghost use Rattle.alm_run.specs.Serving.{Serves};
+ghost use Rattle.alm_run.specs.Serving.{ServesSlots};
 
 use crate::bell::Bell;
 use crate::commit_time::CommitTime;
@@ -45,8 +45,8 @@ fn go_round<P: Alarms + Drop, H: Hold>(
     hold: &H,
     gathering: &mut Gathering,
 ) -> Found
-    requires { Serves slots.now sequencer.old.inboxes.items }
-    ensures serves { Serves slots.now sequencer.new.inboxes.items }
+    requires { ServesSlots slots.now sequencer.old.inboxes.items }
+    ensures serves { ServesSlots slots.now sequencer.new.inboxes.items }
     ensures inboxes { SameInboxes sequencer.old.inboxes.items sequencer.new.inboxes.items }
     ensures ends { SameSealEnds sequencer.old.ends sequencer.new.ends }
     ensures base { base_of sequencer.new ≡ base_of sequencer.old }
@@ -76,8 +76,8 @@ fn gather<P: Alarms + Drop, B: Bell + Drop, H: Hold, R: Wait>(
     gathering: &mut Gathering,
     pause: Pause,
 )
-    requires { Serves slots.now sequencer.old.inboxes.items }
-    ensures serves { Serves slots.now sequencer.new.inboxes.items }
+    requires { ServesSlots slots.now sequencer.old.inboxes.items }
+    ensures serves { ServesSlots slots.now sequencer.new.inboxes.items }
     ensures inboxes { SameInboxes sequencer.old.inboxes.items sequencer.new.inboxes.items }
     ensures ends { SameSealEnds sequencer.old.ends sequencer.new.ends }
     ensures base { base_of sequencer.new ≡ base_of sequencer.old }
@@ -141,7 +141,7 @@ pub fn sequence<P: Alarms + Drop, B: Bell + Drop, H: Hold, R: Wait + Clock>(
     hold: &H,
     sequencer: Sequencer<P>,
 ) -> Sequencer<P>
-    requires { Serves slots.now sequencer.inboxes.items }
+    requires { ServesSlots slots.now sequencer.inboxes.items }
     ensures inboxes { SameInboxes sequencer.inboxes.items result.inboxes.items }
     ensures ends { SameSealEnds sequencer.ends result.ends }
     ensures base { base_of result ≡ base_of sequencer }

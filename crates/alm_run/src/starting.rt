@@ -3,8 +3,8 @@ ghost use Rattle.std.specs.Prelude.{◌≡◌, ℕ, ◌<◌, ◌≤◌, ◌^◌,
 ghost use Rattle.alm_rings.specs.Batches.{SameSealEnds, sealed_of, empties_in};
 ghost use Rattle.alm_rings.specs.Placed.{AreApart, taken_by};
 ghost use Rattle.alm_seq.specs.Sequences.{SameInboxes};
-ghost use Rattle.alm_run.specs.Histories.{Judged};
-ghost use Rattle.alm_run.specs.Serving.{Serves};
+ghost use Rattle.alm_run.specs.Histories.{JudgesAll};
+ghost use Rattle.alm_run.specs.Serving.{ServesSlots};
 
 use crate::bell::Bell;
 use crate::flags::Flags;
@@ -35,10 +35,10 @@ pub fn run_sequencer<P: Alarms + Drop, B: Bell + Drop, H: Hold, R: Wait + Clock>
     requires sealed { sealed_of rings.ends ≡ [] }
     requires empties { 0 < length (empties_in rings.ends) }
     requires count { (P.plant plant).panel.count ≤ 2 ^ 48 }
-    requires serves { Serves slots.now rings.inboxes.items }
+    requires serves { ServesSlots slots.now rings.inboxes.items }
     ensures inboxes { SameInboxes rings.inboxes.items result.inboxes.items }
     ensures ends { SameSealEnds rings.ends result.ends }
-    ensures judged { Judged (P.plant plant) result.inboxes.items result.ends }
+    ensures judged { JudgesAll (P.plant plant) result.inboxes.items result.ends }
 {
     let Rings { inboxes, ends } = rings;
     let sequencer = Sequencer::new(plant, inboxes, ends);
@@ -74,7 +74,7 @@ where
     requires sealed { sealed_of rings.ends ≡ [] }
     requires empties { 0 < length (empties_in rings.ends) }
     requires count { (P.plant plant).panel.count ≤ 2 ^ 48 }
-    requires serves { Serves slots.now.items rings.inboxes.items }
+    requires serves { ServesSlots slots.now.items rings.inboxes.items }
     ensures { IfOk result
         (λ handle. (handle.promise.rings.value ≡ rings) × (handle.promise.plant.value ≡ plant)) }
 {
@@ -88,10 +88,10 @@ where
             requires { AreApart (λ i. i.slot) rings.inboxes.items ×
                 ((s : ℕ) → taken_by s rings.inboxes.items ≡ []) × (sealed_of rings.ends ≡ []) ×
                 (0 < length (empties_in rings.ends)) × ((P.plant plant).panel.count ≤ 2 ^ 48) ×
-                Serves slots.now.items rings.inboxes.items }
+                ServesSlots slots.now.items rings.inboxes.items }
             ensures { SameInboxes rings.inboxes.items result.inboxes.items ×
                 SameSealEnds rings.ends result.ends ×
-                Judged (P.plant plant) result.inboxes.items result.ends }
+                JudgesAll (P.plant plant) result.inboxes.items result.ends }
         { run_sequencer(rt, flags, slots.as_slice(), hold, plant, rings) },
     ) {
         Ok(handle) => Ok(handle),

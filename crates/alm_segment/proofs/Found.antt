@@ -21,8 +21,8 @@ use Rattle.alm_codec.proofs.Bytes.{IsBytes-drop, IsBytes-take}
 use Rattle.alm_codec.proofs.Actions.{borne_action_takes}
 use Rattle.alm_codec.proofs.Numbers.{ok_is, Takes, Takes-then}
 use Rattle.alm_codec.proofs.Frames.{Heads, head_takes}
-use Rattle.alm_segment.specs.Course.{Course, Fails, course, is_open}
-use Rattle.alm_segment.specs.Folding.{folded, unless_refused, stored_in}
+use Rattle.alm_segment.specs.Course.{Course, Fails, course, is_gate_open}
+use Rattle.alm_segment.specs.Folding.{after_replay, unless_refused, stored_in}
 use Rattle.alm_segment.specs.Journal.{IsJournal}
 use Rattle.alm_segment.specs.Texts.{frames_text, AreFrames, actions_in}
 use Rattle.alm_segment.proofs.Courses.{gives, no_action, no_gate, closed, opens, no_head}
@@ -41,27 +41,27 @@ record Several (version : Version) (q : Condensed) (epoch count n : ℕ) (bytes 
   limits : AllByRecursion IsAction list
   borne : AllByRecursion (IsBorne version) list
   admitted : AreAdmitted q list
-  more : folded (run q list) (course version epoch count 0 0 after) ≡ Ok end
+  more : after_replay (run q list) (course version epoch count 0 0 after) ≡ Ok end
 
 not_refused : (o : Option Refusal) (left : ℕ) (more : Result End ℕ) (end : End) → unless_refused o left more ≡ Ok end → (o ≡ None) × (more ≡ Ok end)
 not_refused None left more end e = (refl, e)
 not_refused (Some why) left more end e = absurd cc
 
-fails_not : (left : ℕ) (end : End) (q : Condensed) (co : Course) → co ≡ Fails left → folded q co ≡ Ok end → ⊥
-fails_not left end q co e f = let g = sym (ap (folded q) e) ∙ f in cc
+fails_not : (left : ℕ) (end : End) (q : Condensed) (co : Course) → co ≡ Fails left → after_replay q co ≡ Ok end → ⊥
+fails_not left end q co e f = let g = sym (ap (after_replay q) e) ∙ f in cc
 
 abbrev Severals : Version → ℕ → Type 0
-Severals version n = (q : Condensed) (epoch count : ℕ) (bytes : List ℕ) (end : End) → IsBytes bytes → 16 * n ≤ length bytes → folded q (course version epoch count n 0 bytes) ≡ Ok end → Several version q epoch count n bytes end
+Severals version n = (q : Condensed) (epoch count : ℕ) (bytes : List ℕ) (end : End) → IsBytes bytes → 16 * n ≤ length bytes → after_replay q (course version epoch count n 0 bytes) ≡ Ok end → Several version q epoch count n bytes end
 
-one : (version : Version) (n : ℕ) → Severals version n → (q : Condensed) (epoch count : ℕ) (bytes : List ℕ) (end : End) (o : Option Action) → action_in version (take 16 bytes) ≡ o → IsBytes bytes → 16 * suc n ≤ length bytes → folded q (course version epoch count (suc n) 0 bytes) ≡ Ok end
+one : (version : Version) (n : ℕ) → Severals version n → (q : Condensed) (epoch count : ℕ) (bytes : List ℕ) (end : End) (o : Option Action) → action_in version (take 16 bytes) ≡ o → IsBytes bytes → 16 * suc n ≤ length bytes → after_replay q (course version epoch count (suc n) 0 bytes) ≡ Ok end
     → Several version q epoch count (suc n) bytes end
 one version n again q epoch count bytes end None read fits long e = absurd (fails_not (length bytes) end q _ (no_action version epoch count (suc n) bytes (omega arith) read) e)
 one version n again q epoch count bytes end (Some a) read fits long e =
     let before : suc n - 1 ≡ n = omega arith in
-    let g = not_refused (refusal q.panel a) (length bytes) (folded (step q a) (course version epoch count (suc n - 1) 0 (drop 16 bytes))) end (sym (ap (folded q) (gives version epoch count (suc n) bytes a (omega arith) read)) ∙ e) in
+    let g = not_refused (refusal q.panel a) (length bytes) (after_replay (step q a) (course version epoch count (suc n - 1) 0 (drop 16 bytes))) end (sym (ap (after_replay q) (gives version epoch count (suc n) bytes a (omega arith) read)) ∙ e) in
     let t = borne_action_takes version (take 16 bytes) a (IsBytes-take 16 bytes fits) read in
     let here : Takes bytes (action_text a) (drop 16 bytes) = record { parts = sym (take-append-drop 16 bytes) ∙ ap (λ (w : List ℕ). w ++ drop 16 bytes) t.1; rest_fits = IsBytes-drop 16 bytes fits } in
-    let s = again (step q a) epoch count (drop 16 bytes) end (IsBytes-drop 16 bytes fits) (omega (arith, long, length-drop 16 bytes)) (ap (λ (m : ℕ). folded (step q a) (course version epoch count m 0 (drop 16 bytes))) (sym before) ∙ g.1) in
+    let s = again (step q a) epoch count (drop 16 bytes) end (IsBytes-drop 16 bytes fits) (omega (arith, long, length-drop 16 bytes)) (ap (λ (m : ℕ). after_replay (step q a) (course version epoch count m 0 (drop 16 bytes))) (sym before) ∙ g.1) in
     record {
       list = a ∷ s.list;
       after = s.after;
@@ -84,7 +84,7 @@ pub record Found (version : Version) (q : Condensed) (epoch count : ℕ) (bytes 
   pub gate : ℕ
   pub tail : List ℕ
   pub parts : bytes ≡ frames_text epoch count frames ++ gate ∷ tail
-  pub shut : is_open gate ≡ false
+  pub shut : is_gate_open gate ≡ false
   pub left : end.1 ≡ 1 + length tail
   pub are_frames : AreFrames epoch count frames
   pub borne : AreBorne version (actions_in frames)
@@ -94,9 +94,9 @@ pub record Found (version : Version) (q : Condensed) (epoch count : ℕ) (bytes 
 abbrev ended : Condensed → ℕ → Result End ℕ
 ended q left = Ok (q, left)
 
-on_closed : (version : Version) (q : Condensed) (epoch count gate : ℕ) (bytes : List ℕ) (end : End) → is_open gate ≡ false → folded q (course version epoch count 0 0 (gate ∷ bytes)) ≡ Ok end → Found version q epoch count (gate ∷ bytes) end
+on_closed : (version : Version) (q : Condensed) (epoch count gate : ℕ) (bytes : List ℕ) (end : End) → is_gate_open gate ≡ false → after_replay q (course version epoch count 0 0 (gate ∷ bytes)) ≡ Ok end → Found version q epoch count (gate ∷ bytes) end
 on_closed version q epoch count gate bytes end shut e =
-    let same = ok_is {A = End} (q, suc (length bytes)) end (sym (ap (folded q) (closed version epoch count (gate ∷ bytes) (omega arith) shut)) ∙ e) in
+    let same = ok_is {A = End} (q, suc (length bytes)) end (sym (ap (after_replay q) (closed version epoch count (gate ∷ bytes) (omega arith) shut)) ∙ e) in
     record {
       frames = [];
       gate = gate;
@@ -138,14 +138,14 @@ with_frame version q epoch count n bytes rest end h s f =
     }
 
 abbrev Founds : Version → ℕ → Type 0
-Founds version most = (q : Condensed) (epoch count : ℕ) (bytes : List ℕ) (end : End) → length bytes < most → IsBytes bytes → folded q (course version epoch count 0 0 bytes) ≡ Ok end → Found version q epoch count bytes end
+Founds version most = (q : Condensed) (epoch count : ℕ) (bytes : List ℕ) (end : End) → length bytes < most → IsBytes bytes → after_replay q (course version epoch count 0 0 bytes) ≡ Ok end → Found version q epoch count bytes end
 
-on_head : (version : Version) (most : ℕ) → Founds version most → (q : Condensed) (epoch count gate : ℕ) (bytes : List ℕ) (end : End) (r : Result (ℕ × List ℕ) ℕ) → head_at epoch count bytes ≡ r → is_open gate ≡ true → length bytes < most → IsBytes bytes
-    → folded q (course version epoch count 0 0 (gate ∷ bytes)) ≡ Ok end → Found version q epoch count (gate ∷ bytes) end
+on_head : (version : Version) (most : ℕ) → Founds version most → (q : Condensed) (epoch count gate : ℕ) (bytes : List ℕ) (end : End) (r : Result (ℕ × List ℕ) ℕ) → head_at epoch count bytes ≡ r → is_gate_open gate ≡ true → length bytes < most → IsBytes bytes
+    → after_replay q (course version epoch count 0 0 (gate ∷ bytes)) ≡ Ok end → Found version q epoch count (gate ∷ bytes) end
 on_head version most again q epoch count gate bytes end (Err left) read open_gate few fits e = absurd (fails_not left end q _ (no_head version epoch count left (gate ∷ bytes) (omega arith) open_gate read) e)
 on_head version most again q epoch count gate bytes end (Ok x) read open_gate few fits e =
     let h = head_takes epoch count bytes x fits read in
-    let s = several version x.0 q epoch (count + x.0) x.1 end h.taken.rest_fits (omega (arith, h.inside)) (sym (ap (folded q) (opens version epoch count x.0 (gate ∷ bytes) x.1 (omega arith) open_gate read)) ∙ e) in
+    let s = several version x.0 q epoch (count + x.0) x.1 end h.taken.rest_fits (omega (arith, h.inside)) (sym (ap (after_replay q) (opens version epoch count x.0 (gate ∷ bytes) x.1 (omega arith) open_gate read)) ∙ e) in
     let shorter : length s.after < most = omega (
       arith,
       few,
@@ -155,16 +155,16 @@ on_head version most again q epoch count gate bytes end (Ok x) read open_gate fe
     let f = again (run q s.list) epoch (count + x.0) s.after end shorter s.taken.rest_fits s.more in
     subst (λ (g : ℕ). Found version q epoch count (g ∷ bytes) end) (sym (eqb-true gate 165 open_gate)) (with_frame version q epoch count x.0 bytes x.1 end h s f)
 
-on_gate : (version : Version) (most : ℕ) → Founds version most → (q : Condensed) (epoch count gate : ℕ) (bytes : List ℕ) (end : End) (b : Bool) → is_open gate ≡ b → length bytes < most → IsBytes bytes → folded q (course version epoch count 0 0 (gate ∷ bytes)) ≡ Ok end → Found version q epoch count (gate ∷ bytes) end
+on_gate : (version : Version) (most : ℕ) → Founds version most → (q : Condensed) (epoch count gate : ℕ) (bytes : List ℕ) (end : End) (b : Bool) → is_gate_open gate ≡ b → length bytes < most → IsBytes bytes → after_replay q (course version epoch count 0 0 (gate ∷ bytes)) ≡ Ok end → Found version q epoch count (gate ∷ bytes) end
 on_gate version most again q epoch count gate bytes end false shut few fits e = on_closed version q epoch count gate bytes end shut e
 on_gate version most again q epoch count gate bytes end true open_gate few fits e = on_head version most again q epoch count gate bytes end (head_at epoch count bytes) refl open_gate few fits e
 
 found_in : (version : Version) (most : ℕ) → Founds version most
 found_in version zero q epoch count bytes end few fits e = absurd (omega (arith, few))
 found_in version (suc most) q epoch count [] end few fits e = absurd (fails_not 0 end q _ (no_gate version epoch count 0 [] (omega arith)) e)
-found_in version (suc most) q epoch count (gate ∷ bytes) end few fits e = on_gate version most (found_in version most) q epoch count gate bytes end (is_open gate) refl (omega (arith, few)) (IsBytes-drop 1 (gate ∷ bytes) fits) e
+found_in version (suc most) q epoch count (gate ∷ bytes) end few fits e = on_gate version most (found_in version most) q epoch count gate bytes end (is_gate_open gate) refl (omega (arith, few)) (IsBytes-drop 1 (gate ∷ bytes) fits) e
 
-pub found : (version : Version) (q : Condensed) (epoch count : ℕ) (bytes : List ℕ) (end : Condensed × ℕ) → IsBytes bytes → folded q (course version epoch count 0 0 bytes) ≡ Ok end → Found version q epoch count bytes end
+pub found : (version : Version) (q : Condensed) (epoch count : ℕ) (bytes : List ℕ) (end : Condensed × ℕ) → IsBytes bytes → after_replay q (course version epoch count 0 0 bytes) ≡ Ok end → Found version q epoch count bytes end
 found version q epoch count bytes end fits e = found_in version (suc (length bytes)) q epoch count bytes end (omega arith) fits e
 
 pub comes_written : (version : Version) (epoch : ℕ) (base plant : Condensed) (bytes : List ℕ) (left : ℕ) → IsBytes bytes → stored_in version epoch base bytes ≡ Ok (plant, left) → IsJournal version epoch base bytes plant left

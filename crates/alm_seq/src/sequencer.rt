@@ -31,18 +31,27 @@ pub struct Sequencer<P: Alarms + Drop> {
     spare: Option<Batch>,
     plant: P,
     base: Snapshot<P>,
-    pub ghost placed: { (k : ℕ) (i : Inbox) → slice_get inboxes.items k ≡ Some i → slice_get places i.slot ≡ Some k },
+    pub ghost placed: { (k : ℕ) (i : Inbox) → slice_get inboxes.items k ≡ Some i →
+        slice_get places i.slot ≡ Some k },
     /// The sealed batches and then the open one are one legal history.
-    pub ghost legal: { IsLegal (P.plant base.value) (entries_in (sealed_of ends) ++ batch.entries) },
+    pub ghost legal: { IsLegal (P.plant base.value)
+        (entries_in (sealed_of ends) ++ batch.entries) },
     /// Of each slot they answer the requests that were taken, in order,
-    pub ghost wants: { (s : ℕ) → wants_of (of_slot s (entries_in (sealed_of ends) ++ batch.entries)) ≡ taken_by s inboxes.items },
+    pub ghost wants: { (s : ℕ) →
+        wants_of (of_slot s (entries_in (sealed_of ends) ++ batch.entries)) ≡
+        taken_by s inboxes.items },
     /// each once.
-    pub ghost serials: { (s : ℕ) → serials_of (of_slot s (entries_in (sealed_of ends) ++ batch.entries)) ≡ range_with_len 1 (length (taken_by s inboxes.items)) },
-    pub ghost live: { P.plant plant ≡ run (P.plant base.value) (accepted_of (entries_in (sealed_of ends) ++ batch.entries)) },
+    pub ghost serials: { (s : ℕ) →
+        serials_of (of_slot s (entries_in (sealed_of ends) ++ batch.entries)) ≡
+        range_with_len 1 (length (taken_by s inboxes.items)) },
+    pub ghost live: { P.plant plant ≡
+        run (P.plant base.value) (accepted_of (entries_in (sealed_of ends) ++ batch.entries)) },
     pub ghost most: { (P.plant plant).panel.count ≤ 2 ^ 48 },
     /// Each sealed batch begins behind the accepted actions of those before it.
-    pub ghost firsts: { firsts_of (sealed_of ends) ≡ firsts_from ((P.plant base.value).panel.count + 1) (sealed_of ends) },
-    pub ghost first: { batch.first ≡ (P.plant base.value).panel.count + length (accepted_of (entries_in (sealed_of ends))) + 1 },
+    pub ghost firsts: { firsts_of (sealed_of ends) ≡
+        firsts_from ((P.plant base.value).panel.count + 1) (sealed_of ends) },
+    pub ghost first: { batch.first ≡
+        (P.plant base.value).panel.count + length (accepted_of (entries_in (sealed_of ends))) + 1 },
 }
 
 // Whether it has no entries.

@@ -11,7 +11,7 @@ use Rattle.alm_run.specs.Histories.{LeavesOneOf}
 use Rattle.alm_threads.specs.Runs.{IsRun}
 use Rattle.alm_serve.specs.declared.serve_fault.ServeFault.{ServeFault}
 use Rattle.alm_serve.specs.declared.serve_fault.ServeFault.TheVariants.{Open, Net, Write, Memory, Storage}
-use Rattle.alm_serve.specs.Runs.{Serves, Tells, ServeEnds}
+use Rattle.alm_serve.specs.Runs.{ServesRun, Tells, ServeEnds}
 
 run_map : (leaves leaves' : Condensed → Condensed → Type 0) (endures endures' : List Action → ℕ → Type 0) (base : Condensed) (slots : List ℕ) (stored : Condensed) (reports : List (Option SlotReport))
     → ((p q : Condensed) → leaves p q → leaves' p q) → ((actions : List Action) (n : ℕ) → endures actions n → endures' actions n)
@@ -40,7 +40,7 @@ run_by before after recovers to endures base slots stored reports r =
     (λ p q left h. left.1 (left.0.0 h)) (λ actions n course. course) r
 
 module _ (honest honest' : Type 0) (recovers : List ℕ → Condensed → Type 0) (is : honest → honest') where
-  serves_by : (base : Condensed) (from : DeviceState) (ended : Phase → List (Option SlotReport) → Type 0) (count : ℕ) → Serves honest' recovers base from ended count → Serves honest recovers base from ended count
+  serves_by : (base : Condensed) (from : DeviceState) (ended : Phase → List (Option SlotReport) → Type 0) (count : ℕ) → ServesRun honest' recovers base from ended count → ServesRun honest recovers base from ended count
   serves_by base from ended count s = record {
     slots = s.slots;
     all = s.all;

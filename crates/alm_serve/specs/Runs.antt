@@ -23,7 +23,7 @@ IsWhole phase reports = (phase ≢ Stopped) × ∥ AllAnswered reports ∥₁
 
 module _ (honest : Type 0) (recovers : List ℕ → Condensed → Type 0) where
   -- from this plant and this device on all slots were served in one run, at whose end so many actions are stored, and which ended so
-  pub record Serves (base : Condensed) (from : DeviceState) (ended : Phase → List (Option SlotReport) → Type 0) (count : ℕ) : Type 0 where
+  pub record ServesRun (base : Condensed) (from : DeviceState) (ended : Phase → List (Option SlotReport) → Type 0) (count : ℕ) : Type 0 where
     pub slots : List ℕ
     pub all : AreAllSlots slots
     pub stored : Condensed
@@ -36,8 +36,8 @@ module _ (honest : Type 0) (recovers : List ℕ → Condensed → Type 0) where
 
   -- .. by what is told: how many actions are stored where the run was whole
   abbrev pub Tells : Condensed → DeviceState → Option ℕ → Type 0
-  Tells base from (Some count) = Serves base from IsWhole count
-  Tells base from None = (count : ℕ) × Serves base from (λ phase reports. ¬ (IsWhole phase reports)) count
+  Tells base from (Some count) = ServesRun base from IsWhole count
+  Tells base from None = (count : ℕ) × ServesRun base from (λ phase reports. ¬ (IsWhole phase reports)) count
 
   -- the device was opened: what was read is an image of it that stands for the plant from which the run goes on
   pub record Opens (device : DeviceState) (told : Option ℕ) : Type 0 where

@@ -87,9 +87,9 @@ fn run_parts<
     requires ports { map (λ port. port.slot) ports.ports.items ≡ parts.slots.items }
     requires slots { AreAllSlots parts.slots.items }
     ensures { IfOk result
-        (λ told. Tells (K.honest parts.entry.middle.flusher.store) K.recovers
-        (K.stored parts.entry.middle.flusher.store) (K.device parts.entry.middle.flusher.store)
-        told) }
+        (λ told. Tells (K.Device.honest (K.disk parts.entry.middle.flusher.store)) K.recovers
+        (K.state parts.entry.middle.flusher.store).stored
+        (K.Device.state (K.disk parts.entry.middle.flusher.store)) told) }
 {
     let SlotPorts { ports, bells } = ports;
     let report = run_with_bells(rt, alloc, parts, &Free, bells, ports)?;
@@ -109,14 +109,15 @@ fn run_behind<J: Naming + Send + Sync, K: Store, R: Threads + Wait + Clock + Syn
     ports: SlotPorts,
 ) -> Result<Option<u64>, StartFault>
     requires book { history.seen.book ≡ J.book }
-    requires base { K.stored store ≡ J.base }
-    requires idle { K.phase store ≡ Phase.Idle }
-    requires limit { (K.stored store).panel.count ≤ 2 ^ 48 }
+    requires base { (K.state store).stored ≡ J.base }
+    requires idle { (K.state store).phase ≡ Phase.Idle }
+    requires limit { (K.state store).stored.panel.count ≤ 2 ^ 48 }
     requires slots { AreAllSlots slots.items }
     requires apart { AreApart (λ s. s) slots.items }
     requires ports { map (λ port. port.slot) ports.ports.items ≡ slots.items }
     ensures { IfOk result
-        (λ told. Tells (K.honest store) K.recovers (K.stored store) (K.device store) told) }
+        (λ told. Tells (K.Device.honest (K.disk store)) K.recovers (K.state store).stored
+        (K.Device.state (K.disk store)) told) }
 {
     match parts_of::<J, K, Free, R>(rt, alloc, history, store, slots, &Free) {
         Ok(parts) => run_parts::<J, Plant, K, R>(rt, alloc, parts, ports),
@@ -140,17 +141,18 @@ fn serve_over<
     writer: &mut W,
 ) -> Result<u64, ServeFault>
     requires book { history.seen.book ≡ J.book }
-    requires base { K.stored store ≡ J.base }
-    requires idle { K.phase store ≡ Phase.Idle }
-    requires limit { (K.stored store).panel.count ≤ 2 ^ 48 }
+    requires base { (K.state store).stored ≡ J.base }
+    requires idle { (K.state store).phase ≡ Phase.Idle }
+    requires limit { (K.state store).stored.panel.count ≤ 2 ^ 48 }
     requires port { port ≤ 65518 }
     ensures writes { ServeWrites port (W.contents writer.old) (W.contents writer.new) result }
     ensures ran { IfOk result
-        (λ count.
-        Tells (K.honest store) K.recovers (K.stored store) (K.device store) (Some count)) }
+        (λ count. Tells (K.Device.honest (K.disk store)) K.recovers (K.state store).stored
+        (K.Device.state (K.disk store)) (Some count)) }
     ensures stopped { IfErr result
         (λ fault. fault ≡ ServeFault.Storage →
-        Tells (K.honest store) K.recovers (K.stored store) (K.device store) None) }
+        Tells (K.Device.honest (K.disk store)) K.recovers (K.state store).stored
+        (K.Device.state (K.disk store)) None) }
     ensures opened { IfErr result (λ fault. (why : OpenFault) → fault ≢ ServeFault.Open why) }
 {
     let slots = match all_slots(alloc) {

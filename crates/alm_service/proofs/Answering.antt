@@ -7,18 +7,18 @@ use Rattle.std.specs.Io.KnownBytes.{Appends, Keeps}
 use Rattle.std.proofs.Common.{inl, inr}
 use Rattle.std.proofs.lemmas.Bool.{cases_Bool}
 use Rattle.alm_lines.specs.Stream.{is_end}
-use Rattle.alm_desk.specs.Answers.{Standing}
-use Rattle.alm_service.specs.Desk.{AnsweredBytes, IsPrinted, IsDesk, IsCutDeskLine, BreaksOff, held_at_desk, fed_to_desk, lines_of, line, printed, stands_after, desk_reply, desk_after, desk_line_of}
+use Rattle.alm_desk.specs.Answers.{DeskState}
+use Rattle.alm_service.specs.Desk.{AnsweredBytes, IsPrinted, IsDesk, IsCutDeskLine, BreaksOffLines, held_at_desk, fed_to_desk, lines_of, line, text_printed_for, stands_after, desk_reply, desk_after, desk_line_of}
 use Rattle.alm_service.specs.declared.run_fault.RunFault.{RunFault}
-use Rattle.alm_service.specs.Turns.{IsTurn, IsBroken}
+use Rattle.alm_service.specs.Turns.{IsReaderTurn, IsBroken}
 
-printed-append : (s : Standing) (xs ys : List AnsweredBytes) → printed s (xs ++ ys) ≡ printed s xs ++ printed (stands_after s xs) ys
+printed-append : (s : DeskState) (xs ys : List AnsweredBytes) → text_printed_for s (xs ++ ys) ≡ text_printed_for s xs ++ text_printed_for (stands_after s xs) ys
 printed-append s [] ys = refl
 printed-append s (x ∷ xs) ys =
     let s' = desk_after s (desk_line_of x.line) x.hindrance in
-    ap (λ t. desk_reply s (desk_line_of x.line) x.hindrance ++ t) (printed-append s' xs ys) ∙ sym (append_assoc (desk_reply s (desk_line_of x.line) x.hindrance) (printed s' xs) (printed (stands_after s' xs) ys))
+    ap (λ t. desk_reply s (desk_line_of x.line) x.hindrance ++ t) (printed-append s' xs ys) ∙ sym (append_assoc (desk_reply s (desk_line_of x.line) x.hindrance) (text_printed_for s' xs) (text_printed_for (stands_after s' xs) ys))
 
-stands_after-append : (s : Standing) (xs ys : List AnsweredBytes) → stands_after s (xs ++ ys) ≡ stands_after (stands_after s xs) ys
+stands_after-append : (s : DeskState) (xs ys : List AnsweredBytes) → stands_after s (xs ++ ys) ≡ stands_after (stands_after s xs) ys
 stands_after-append s [] ys = refl
 stands_after-append s (x ∷ xs) ys = stands_after-append (desk_after s (desk_line_of x.line) x.hindrance) xs ys
 
@@ -47,21 +47,21 @@ lines_of-append held (b ∷ xs) ys =
     ∙ sym (ap (λ (l : List (List ℕ)). l ++ lines_of (fed_to_desk (held_at_desk held b) xs) ys) (lines_of-step held b xs))
 
 -- nothing was answered
-pub answered_none : (s : Standing) (held : List ℕ) (o : Option (List ℕ)) → IsPrinted s held [] o s held o
+pub answered_none : (s : DeskState) (held : List ℕ) (o : Option (List ℕ)) → IsPrinted s held [] o s held o
 answered_none s held o = record { answered = []; lines = refl; written = Appends-nil o; standing = refl; left = refl }
 
 -- bytes are answered, and then others
-pub joined : {a b c : Standing} {h i j xs ys : List ℕ} {o m n : Option (List ℕ)} → IsPrinted a h xs o b i m → IsPrinted b i ys m c j n → IsPrinted a h (xs ++ ys) o c j n
+pub joined : {a b c : DeskState} {h i j xs ys : List ℕ} {o m n : Option (List ℕ)} → IsPrinted a h xs o b i m → IsPrinted b i ys m c j n → IsPrinted a h (xs ++ ys) o c j n
 joined {a} {b} {c} {h} {i} {j} {xs} {ys} {o} {m} {n} p q = record {
   answered = p.answered ++ q.answered;
   lines = rw (map-append line p.answered q.answered, p.lines, q.lines, p.left) (sym (lines_of-append h xs ys));
-  written = rw (printed-append a p.answered q.answered, ← p.standing) (Appends-trans o m n (printed a p.answered) (printed b q.answered) p.written q.written);
+  written = rw (printed-append a p.answered q.answered, ← p.standing) (Appends-trans o m n (text_printed_for a p.answered) (text_printed_for b q.answered) p.written q.written);
   standing = rw (stands_after-append a p.answered q.answered, ← p.standing) q.standing;
   left = rw (fed_to_desk-append h xs ys, ← p.left) q.left;
 }
 
 -- a byte that ends a line
-pub answered_end : (a b : Standing) (h i : List ℕ) (byte : ℕ) (x : AnsweredBytes) (o n : Option (List ℕ)) → is_end byte ≡ true → x.line ≡ h → i ≡ []
+pub answered_end : (a b : DeskState) (h i : List ℕ) (byte : ℕ) (x : AnsweredBytes) (o n : Option (List ℕ)) → is_end byte ≡ true → x.line ≡ h → i ≡ []
     → Appends o n (desk_reply a (desk_line_of x.line) x.hindrance) → b ≡ desk_after a (desk_line_of x.line) x.hindrance → IsPrinted a h (byte ∷ []) o b i n
 answered_end a b h i byte x o n e l k w s = record {
   answered = x ∷ [];
@@ -72,7 +72,7 @@ answered_end a b h i byte x o n e l k w s = record {
 }
 
 -- and one that doesn't
-pub answered_byte : (a : Standing) (h i : List ℕ) (byte : ℕ) (o : Option (List ℕ)) → is_end byte ≡ false → i ≡ take 131 (h ++ byte ∷ []) → IsPrinted a h (byte ∷ []) o a i o
+pub answered_byte : (a : DeskState) (h i : List ℕ) (byte : ℕ) (o : Option (List ℕ)) → is_end byte ≡ false → i ≡ take 131 (h ++ byte ∷ []) → IsPrinted a h (byte ∷ []) o a i o
 unfolding more_of
 answered_byte a h i byte o e k = record {
   answered = [];
@@ -83,8 +83,8 @@ answered_byte a h i byte o e k = record {
 }
 
 -- what is handed on stays as it was
-pub answered_kept : {a b : Standing} {h i xs : List ℕ} {o m : Option (List ℕ)} (n : Option (List ℕ)) → IsPrinted a h xs o b i m → Keeps m n → IsPrinted a h xs o b i n
-answered_kept {a} {b} {h} {i} {xs} {o} {m} n p k = record { answered = p.answered; lines = p.lines; written = Appends-kept o m n (printed a p.answered) p.written k; standing = p.standing; left = p.left }
+pub answered_kept : {a b : DeskState} {h i xs : List ℕ} {o m : Option (List ℕ)} (n : Option (List ℕ)) → IsPrinted a h xs o b i m → Keeps m n → IsPrinted a h xs o b i n
+answered_kept {a} {b} {h} {i} {xs} {o} {m} n p k = record { answered = p.answered; lines = p.lines; written = Appends-kept o m n (text_printed_for a p.answered) p.written k; standing = p.standing; left = p.left }
 
 pub taken : (xs : List ℕ) (i : ℕ) → i < length xs → take (i + 1) xs ≡ take i xs ++ get_or xs i 0 ∷ []
 taken xs i h = take_more xs i 0 h
@@ -93,11 +93,11 @@ pub split : (xs : List ℕ) (i : ℕ) → i < length xs → xs ≡ (take i xs ++
 split xs i h = sym (take-append-drop (i + 1) xs) ∙ ap (λ (t : List ℕ). t ++ drop (i + 1) xs) (taken xs i h)
 
 -- nothing was read yet
-pub turn_none : (a : Standing) (h : List ℕ) (r o : Option (List ℕ)) → IsTurn true a h r o a h r o
+pub turn_none : (a : DeskState) (h : List ℕ) (r o : Option (List ℕ)) → IsReaderTurn true a h r o a h r o
 turn_none a h r o = record { bytes = []; read = Consumes-nil r; answered = answered_none a h o; ended = λ e. cc }
 
 -- reads, and one more
-pub turns : {more : Bool} {a b c : Standing} {h i j : List ℕ} {r s t o m n : Option (List ℕ)} → IsTurn true a h r o b i s m → IsTurn more b i s m c j t n → IsTurn more a h r o c j t n
+pub turns : {more : Bool} {a b c : DeskState} {h i j : List ℕ} {r s t o m n : Option (List ℕ)} → IsReaderTurn true a h r o b i s m → IsReaderTurn more b i s m c j t n → IsReaderTurn more a h r o c j t n
 turns {more} {a} {b} {c} {h} {i} {j} {r} {s} {t} {o} {m} {n} p q = record {
   bytes = p.bytes ++ q.bytes;
   read = Consumes-trans r s t p.bytes q.bytes p.read q.read;
@@ -106,7 +106,7 @@ turns {more} {a} {b} {c} {h} {i} {j} {r} {s} {t} {o} {m} {n} p q = record {
 }
 
 -- the input is at its end
-pub turns_end : {a c : Standing} {h j : List ℕ} {r t o n : Option (List ℕ)} → h ≡ [] → IsTurn false a h r o c j t n → IfSome r (λ input. IsDesk a input o c n)
+pub turns_end : {a c : DeskState} {h j : List ℕ} {r t o n : Option (List ℕ)} → h ≡ [] → IsReaderTurn false a h r o c j t n → IfSome r (λ input. IsDesk a input o c n)
 turns_end {a} {c} {h} {j} {r} {t} {o} {n} e p =
     Consumes-whole r t p.bytes (λ input. IsDesk a input o c n) p.read (p.ended refl)
     (record { answered = p.answered.answered; lines = p.answered.lines ∙ ap (λ x. lines_of x p.bytes) e; written = p.answered.written; standing = p.answered.standing })
@@ -114,8 +114,8 @@ turns_end {a} {c} {h} {j} {r} {t} {o} {n} e p =
 -- ---- where a writer fails
 
 -- in the line that a byte ends
-pub broken_end : {a b later : Standing} {h i xs : List ℕ} {o m n : Option (List ℕ)} (byte : ℕ) (zs : List ℕ) → IsPrinted a h xs o b i m → is_end byte ≡ true
-    → IsCutDeskLine b (desk_line_of i) m later n → BreaksOff a (lines_of h ((xs ++ byte ∷ []) ++ zs)) o later n
+pub broken_end : {a b later : DeskState} {h i xs : List ℕ} {o m n : Option (List ℕ)} (byte : ℕ) (zs : List ℕ) → IsPrinted a h xs o b i m → is_end byte ≡ true
+    → IsCutDeskLine b (desk_line_of i) m later n → BreaksOffLines a (lines_of h ((xs ++ byte ∷ []) ++ zs)) o later n
 broken_end {a} {b} {later} {h} {i} {xs} {o} {m} {n} byte zs p e q =
     let next : lines_of i (byte ∷ zs) ≡ i ∷ lines_of [] zs = rw e refl in
     record {
@@ -128,7 +128,7 @@ broken_end {a} {b} {later} {h} {i} {xs} {o} {m} {n} byte zs p e q =
     }
 
 -- as it hands on what was written
-pub broken_handing : {a b : Standing} {h i xs : List ℕ} {o m : Option (List ℕ)} (n : Option (List ℕ)) → IsPrinted a h xs o b i m → Keeps m n → BreaksOff a (lines_of h xs) o b n
+pub broken_handing : {a b : DeskState} {h i xs : List ℕ} {o m : Option (List ℕ)} (n : Option (List ℕ)) → IsPrinted a h xs o b i m → Keeps m n → BreaksOffLines a (lines_of h xs) o b n
 broken_handing {a} {b} {h} {i} {xs} {o} {m} n p k = record {
   answered = p.answered;
   others = [];
@@ -139,19 +139,19 @@ broken_handing {a} {b} {h} {i} {xs} {o} {m} n p k = record {
 }
 
 -- after bytes that are answered
-broken_after : {a b later : Standing} {h i xs : List ℕ} {o m n : Option (List ℕ)} (ys : List ℕ) → IsPrinted a h xs o b i m → BreaksOff b (lines_of i ys) m later n → BreaksOff a (lines_of h (xs ++ ys)) o later n
+broken_after : {a b later : DeskState} {h i xs : List ℕ} {o m n : Option (List ℕ)} (ys : List ℕ) → IsPrinted a h xs o b i m → BreaksOffLines b (lines_of i ys) m later n → BreaksOffLines a (lines_of h (xs ++ ys)) o later n
 broken_after {a} {b} {later} {h} {i} {xs} {o} {m} {n} ys p q =
     record {
       answered = p.answered ++ q.answered;
       others = q.others;
       all = lines_of-append h xs ys ∙ rw (← p.left, ← p.lines, q.all) refl ∙ sym (append_assoc (map line p.answered) (map line q.answered) q.others) ∙ ap (λ (t : List (List ℕ)). t ++ q.others) (sym (map-append line p.answered q.answered));
       between = q.between;
-      written = rw (printed-append a p.answered q.answered, ← p.standing) (Appends-trans o m q.between (printed a p.answered) (printed b q.answered) p.written q.written);
+      written = rw (printed-append a p.answered q.answered, ← p.standing) (Appends-trans o m q.between (text_printed_for a p.answered) (text_printed_for b q.answered) p.written q.written);
       cut = rw (stands_after-append a p.answered q.answered, ← p.standing) q.cut;
     }
 
 -- after reads
-pub turns_broken : {a b later : Standing} {h i : List ℕ} {r s t o m n : Option (List ℕ)} → IsTurn true a h r o b i s m → IsBroken b i s m later t n → IsBroken a h r o later t n
+pub turns_broken : {a b later : DeskState} {h i : List ℕ} {r s t o m n : Option (List ℕ)} → IsReaderTurn true a h r o b i s m → IsBroken b i s m later t n → IsBroken a h r o later t n
 turns_broken {a} {b} {later} {h} {i} {r} {s} {t} {o} {m} {n} p q = record {
   bytes = p.bytes ++ q.bytes;
   read = Consumes-trans r s t p.bytes q.bytes p.read q.read;

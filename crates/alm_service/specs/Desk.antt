@@ -4,10 +4,10 @@ use Rattle.std.specs.Io.KnownBytes.{Appends, Keeps}
 use Rattle.alm_types.specs.declared.refusal.Refusal.{Refusal}
 use Rattle.alm_types.specs.declared.refusal.Refusal.TheVariants.{BadLine, LineTooLong}
 use Rattle.alm_types.specs.Refusals.{number_of}
-use Rattle.alm_lines.specs.Line.{number, cut, line_of}
+use Rattle.alm_lines.specs.Line.{number, cut_at_space, line_of}
 use Rattle.alm_lines.specs.Stream.{is_end, held_within, fed_within}
 use Rattle.alm_lines.specs.Written.{IsCutShort}
-use Rattle.alm_desk.specs.Answers.{Standing, SlotLine, reply, after}
+use Rattle.alm_desk.specs.Answers.{DeskState, SlotLine, reply, after_line}
 use Rattle.alm_desk.specs.Failing.{IsCutLine}
 use Rattle.alm_desk.specs.declared.hindrance.Hindrance.{Hindrance}
 
@@ -28,11 +28,11 @@ pub data DeskLine : Type 0 where
   unreadable : Refusal → DeskLine
   at_slot : SlotLine → DeskLine
 
-abbrev pub request_of : ℕ → List ℕ → DeskLine
-request_of slot rest = at_slot (record { slot = slot; line = line_of rest })
+abbrev pub desk_request : ℕ → List ℕ → DeskLine
+desk_request slot rest = at_slot (record { slot = slot; line = line_of rest })
 
 abbrev pub desk_line_at : Option ℕ → Option (List ℕ) → DeskLine
-desk_line_at (Some slot) (Some rest) = request_of slot rest
+desk_line_at (Some slot) (Some rest) = desk_request slot rest
 desk_line_at _ _ = unreadable BadLine
 
 -- the most bytes of a line of the desk, its line end not counted
@@ -41,7 +41,7 @@ desk_line_limit = 130
 
 -- a slot, one space and a request line
 abbrev pub desk_line_of : List ℕ → DeskLine
-desk_line_of line = if nat_lt desk_line_limit (length line) then unreadable LineTooLong else desk_line_at (number 18 (cut line).0) (cut line).1
+desk_line_of line = if nat_lt desk_line_limit (length line) then unreadable LineTooLong else desk_line_at (number 18 (cut_at_space line).0) (cut_at_space line).1
 
 -- a line that was answered, with what came in its way
 pub record AnsweredBytes : Type 0 where
@@ -55,20 +55,20 @@ unreadable_text refusal = codes "? NO " ++ decimal (number_of refusal) ++ codes 
 abbrev pub head : ℕ → List ℕ
 head slot = decimal slot ++ codes " "
 
-abbrev pub desk_reply : Standing → DeskLine → Hindrance → List ℕ
+abbrev pub desk_reply : DeskState → DeskLine → Hindrance → List ℕ
 desk_reply s (unreadable refusal) c = unreadable_text refusal
 desk_reply s (at_slot m) c = head m.slot ++ reply s (record { asked = m; hindrance = c })
 
-abbrev pub desk_after : Standing → DeskLine → Hindrance → Standing
+abbrev pub desk_after : DeskState → DeskLine → Hindrance → DeskState
 desk_after s (unreadable refusal) c = s
-desk_after s (at_slot m) c = after s (record { asked = m; hindrance = c })
+desk_after s (at_slot m) c = after_line s (record { asked = m; hindrance = c })
 
 -- what is printed for lines, and what stands after them
-abbrev pub printed : Standing → List AnsweredBytes → List ℕ
-printed s [] = []
-printed s (h ∷ hs) = desk_reply s (desk_line_of h.line) h.hindrance ++ printed (desk_after s (desk_line_of h.line) h.hindrance) hs
+abbrev pub text_printed_for : DeskState → List AnsweredBytes → List ℕ
+text_printed_for s [] = []
+text_printed_for s (h ∷ hs) = desk_reply s (desk_line_of h.line) h.hindrance ++ text_printed_for (desk_after s (desk_line_of h.line) h.hindrance) hs
 
-abbrev pub stands_after : Standing → List AnsweredBytes → Standing
+abbrev pub stands_after : DeskState → List AnsweredBytes → DeskState
 stands_after s [] = s
 stands_after s (h ∷ hs) = stands_after (desk_after s (desk_line_of h.line) h.hindrance) hs
 
@@ -76,43 +76,43 @@ abbrev pub line : AnsweredBytes → List ℕ
 line h = h.line
 
 -- bytes are answered: what the desk prints for the lines that they end is written
-pub record IsPrinted (before : Standing) (held bytes : List ℕ) (old : Option (List ℕ)) (later : Standing) (holds : List ℕ)
+pub record IsPrinted (before : DeskState) (held bytes : List ℕ) (old : Option (List ℕ)) (later : DeskState) (holds : List ℕ)
     (new : Option (List ℕ)) : Type 0 where
   pub answered : List AnsweredBytes
   pub lines : map line answered ≡ lines_of held bytes
-  pub written : Appends old new (printed before answered)
+  pub written : Appends old new (text_printed_for before answered)
   pub standing : later ≡ stands_after before answered
   pub left : holds ≡ fed_to_desk held bytes
 
 -- the whole of an input is answered; bytes after its last line end are dropped
-pub record IsDesk (before : Standing) (input : List ℕ) (old : Option (List ℕ)) (later : Standing) (new : Option (List ℕ)) : Type 0 where
+pub record IsDesk (before : DeskState) (input : List ℕ) (old : Option (List ℕ)) (later : DeskState) (new : Option (List ℕ)) : Type 0 where
   pub answered : List AnsweredBytes
   pub lines : map line answered ≡ lines_of [] input
-  pub written : Appends old new (printed before answered)
+  pub written : Appends old new (text_printed_for before answered)
   pub standing : later ≡ stands_after before answered
 
 -- the reply under a slot is cut short; what the line asks is done
-pub record IsCutReply (before : Standing) (m : SlotLine) (old : Option (List ℕ)) (later : Standing) (new : Option (List ℕ)) : Type 0 where
+pub record IsCutReply (before : DeskState) (m : SlotLine) (old : Option (List ℕ)) (later : DeskState) (new : Option (List ℕ)) : Type 0 where
   pub between : Option (List ℕ)
   pub slot : Appends old between (head m.slot)
   pub reply : IsCutLine before m between later new
 
 -- what is printed for an entry is cut short: within a refusal or the slot, and nothing is done, or within the reply
-abbrev pub IsCutDeskLine : Standing → DeskLine → Option (List ℕ) → Standing → Option (List ℕ) → Type 0
+abbrev pub IsCutDeskLine : DeskState → DeskLine → Option (List ℕ) → DeskState → Option (List ℕ) → Type 0
 IsCutDeskLine before (unreadable refusal) old later new = IsCutShort old new (unreadable_text refusal) × (later ≡ before)
 IsCutDeskLine before (at_slot m) old later new = (IsCutShort old new (head m.slot) × (later ≡ before)) ⊎ IsCutReply before m old later new
 
 -- the writer fails in the next line, or where none is left as it hands on what was written
-abbrev pub IsCutIn : List (List ℕ) → Standing → Option (List ℕ) → Standing → Option (List ℕ) → Type 0
+abbrev pub IsCutIn : List (List ℕ) → DeskState → Option (List ℕ) → DeskState → Option (List ℕ) → Type 0
 IsCutIn [] s old later new = (later ≡ s) × Keeps old new
 IsCutIn (next ∷ others) s old later new = IsCutDeskLine s (desk_line_of next) old later new
 
 -- the first lines are answered, and then the writer fails
-pub record BreaksOff (before : Standing) (lines : List (List ℕ)) (old : Option (List ℕ)) (later : Standing) (new : Option (List ℕ))
+pub record BreaksOffLines (before : DeskState) (lines : List (List ℕ)) (old : Option (List ℕ)) (later : DeskState) (new : Option (List ℕ))
     : Type 0 where
   pub answered : List AnsweredBytes
   pub others : List (List ℕ)
   pub all : lines ≡ map line answered ++ others
   pub between : Option (List ℕ)
-  pub written : Appends old between (printed before answered)
+  pub written : Appends old between (text_printed_for before answered)
   pub cut : IsCutIn others (stands_after before answered) between later new

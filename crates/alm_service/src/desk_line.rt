@@ -5,7 +5,7 @@ ghost use Rattle.std.specs.Io.KnownBytes.{Appends};
 ghost use Rattle.alm_types.specs.Counts.{one_more};
 ghost use Rattle.alm_lines.specs.Line.{number};
 ghost use Rattle.alm_lines.specs.Written.{Prints};
-ghost use Rattle.alm_service.specs.Desk.{desk_line_of, desk_reply, desk_after, unreadable_text, request_of, IsCutDeskLine};
+ghost use Rattle.alm_service.specs.Desk.{desk_line_of, desk_reply, desk_after, unreadable_text, desk_request, IsCutDeskLine};
 
 use alm_desk::{Backend, CountedWriter, Hindrance, LocalDesk, WriteFailed};
 use alm_lines::{Part, cut, number};
@@ -52,15 +52,15 @@ fn answer_at<B: Backend + Drop, W: Write + Drop>(
     requires { desk.old.closed ≡ false }
     ensures text { IfOk result
         (λ hindrance. Appends (W.contents writer.old.inner) (W.contents writer.new.inner)
-        (desk_reply desk.old.standing (request_of slot line.now) hindrance)) }
+        (desk_reply desk.old.standing (desk_request slot line.now) hindrance)) }
     ensures standing { IfOk result
         (λ hindrance.
-        desk.new.standing ≡ desk_after desk.old.standing (request_of slot line.now) hindrance) }
+        desk.new.standing ≡ desk_after desk.old.standing (desk_request slot line.now) hindrance) }
     ensures open { OnOk result (desk.new.closed ≡ false) }
     ensures helds { desk.new.helds ≡ desk.old.helds }
     ensures whole { OnOk result (writer.new.failed ≡ writer.old.failed) }
     ensures cut { OnErr result
-        (IsCutDeskLine desk.old.standing (request_of slot line.now) (W.contents writer.old.inner)
+        (IsCutDeskLine desk.old.standing (desk_request slot line.now) (W.contents writer.old.inner)
         desk.new.standing (W.contents writer.new.inner)) }
     ensures failed { OnErr result (writer.new.failed ≡ one_more writer.old.failed) }
 {

@@ -4,8 +4,8 @@ ghost use Rattle.std.specs.Prelude.{◌≡◌, ◌<◌, ◌+◌, ◌-◌, ◌^�
 ghost use Rattle.std.specs.Io.KnownBytes.{Consumes, IsAtEnd};
 ghost use Rattle.alm_lines.specs.Stream.{is_end};
 ghost use Rattle.alm_types.specs.Counts.{one_more};
-ghost use Rattle.alm_service.specs.Desk.{IsPrinted, IsDesk, IsCutDeskLine, BreaksOff, desk_line_of, lines_of};
-ghost use Rattle.alm_service.specs.Turns.{IsTurn, IsPrintedSoFar, IsBroken};
+ghost use Rattle.alm_service.specs.Desk.{IsPrinted, IsDesk, IsCutDeskLine, BreaksOffLines, desk_line_of, lines_of};
+ghost use Rattle.alm_service.specs.Turns.{IsReaderTurn, IsPrintedSoFar, IsBroken};
 
 use crate::counted_reader::CountedReader;
 use crate::desk_line::answer_desk_line;
@@ -62,8 +62,8 @@ fn answer_bytes<B: Backend + Drop, W: Write + Drop>(
     ensures helds { desk.new.helds ≡ desk.old.helds }
     ensures whole { OnOk result (writer.new.failed ≡ writer.old.failed) }
     ensures broken { OnErr result
-        (BreaksOff desk.old.standing (lines_of held.old bytes.now) (W.contents writer.old.inner)
-        desk.new.standing (W.contents writer.new.inner)) }
+        (BreaksOffLines desk.old.standing (lines_of held.old bytes.now)
+        (W.contents writer.old.inner) desk.new.standing (W.contents writer.new.inner)) }
     ensures failed { OnErr result (writer.new.failed ≡ one_more writer.old.failed) }
 {
     for byte in bytes {
@@ -87,8 +87,8 @@ fn answer_and_flush<B: Backend + Drop, W: Write + Drop>(
     ensures helds { desk.new.helds ≡ desk.old.helds }
     ensures whole { OnOk result (writer.new.failed ≡ writer.old.failed) }
     ensures broken { OnErr result
-        (BreaksOff desk.old.standing (lines_of held.old bytes.now) (W.contents writer.old.inner)
-        desk.new.standing (W.contents writer.new.inner)) }
+        (BreaksOffLines desk.old.standing (lines_of held.old bytes.now)
+        (W.contents writer.old.inner) desk.new.standing (W.contents writer.new.inner)) }
     ensures failed { OnErr result (writer.new.failed ≡ one_more writer.old.failed) }
 {
     answer_bytes(desk, held, bytes, writer)?;
@@ -106,14 +106,14 @@ fn turn<R: Read + Drop, B: Backend + Drop, W: Write + Drop>(
     requires open { desk.old.closed ≡ false }
     requires room { 0 < length piece.old }
     ensures answered { IfOk result
-        (λ more. IsTurn more desk.old.standing held.old (R.remaining reader.old.inner)
+        (λ more. IsReaderTurn more desk.old.standing held.old (R.remaining reader.old.inner)
         (W.contents writer.old.inner) desk.new.standing held.new (R.remaining reader.new.inner)
         (W.contents writer.new.inner)) }
     ensures open { OnOk result (desk.new.closed ≡ false) }
     ensures helds { desk.new.helds ≡ desk.old.helds }
     ensures reads { reader.new.reads ≡ one_more reader.old.reads }
-    ensures whole_reader { OnOk result (reader.new.failed ≡ reader.old.failed) }
-    ensures whole_writer { OnOk result (writer.new.failed ≡ writer.old.failed) }
+    ensures whole { OnOk result
+        ((reader.new.failed ≡ reader.old.failed) × (writer.new.failed ≡ writer.old.failed)) }
     ensures read { result ≡ Err RunFault.Read → reader.new.failed ≡ one_more reader.old.failed }
     ensures still { result ≡ Err RunFault.Read →
         (desk.new ≡ desk.old) × (writer.new ≡ writer.old) ×
@@ -163,16 +163,16 @@ pub fn desk_run<R: Read + Drop, B: Backend + Drop, W: Write + Drop>(
         IsPrintedSoFar desk.old.standing (R.remaining reader.old.inner)
         (W.contents writer.old.inner) desk.new.standing (R.remaining reader.new.inner)
         (W.contents writer.new.inner) }
-    ensures read_open { result ≡ Err RunFault.Read →
-        (desk.old.closed ≡ false) × (desk.new.closed ≡ false) }
-    ensures read_alone { result ≡ Err RunFault.Read → writer.new.failed ≡ writer.old.failed }
+    ensures read_alone { result ≡ Err RunFault.Read →
+        (desk.old.closed ≡ false) × (desk.new.closed ≡ false) ×
+        (writer.new.failed ≡ writer.old.failed) }
     ensures write { result ≡ Err RunFault.Write →
         (desk.old.closed ≡ true) ⊎ (writer.new.failed ≡ one_more writer.old.failed) }
-    ensures write_alone { result ≡ Err RunFault.Write → reader.new.failed ≡ reader.old.failed }
     ensures broken { result ≡ Err RunFault.Write → desk.old.closed ≡ false →
         IsBroken desk.old.standing [] (R.remaining reader.old.inner) (W.contents writer.old.inner)
         desk.new.standing (R.remaining reader.new.inner) (W.contents writer.new.inner) }
-    ensures shut { result ≡ Err RunFault.Write → desk.new.closed ≡ true }
+    ensures write_alone { result ≡ Err RunFault.Write →
+        (desk.new.closed ≡ true) × (reader.new.failed ≡ reader.old.failed) }
     ensures still { desk.old.closed ≡ true →
         (result ≡ Err RunFault.Write) × (desk.new ≡ desk.old) × (reader.new ≡ reader.old) ×
         (writer.new ≡ writer.old) }

@@ -8,7 +8,7 @@ use Rattle.alm_model.specs.Plant.{Condensed}
 use Rattle.alm_lines.specs.declared.line.Line.{Line}
 use Rattle.alm_session.specs.Intakes.{Held, lines_from, lines_in, open_in}
 use Rattle.alm_session.specs.Turns.{action, heards, met_text, slip_of, slips, strays, Heard, Side, IsTurn, Looks}
-use Rattle.alm_session.specs.Ended.{HaveSerials, IsFresh, IsFinished, IsAnswered}
+use Rattle.alm_session.specs.Ended.{HaveSerials, IsNew, IsFinished, IsAnswered}
 use Rattle.alm_session.proofs.Joins.{joined}
 
 no_more : {X : Type 0} (xs : List X) → length xs ≡ 0 → xs ≡ []
@@ -20,7 +20,7 @@ behind_serials n [] more have = subst (λ (k : ℕ). HaveSerials k more) (let sa
 behind_serials n (h ∷ heards) more have =
     subst (λ (k : ℕ). HaveSerials k more) (let same : n + 1 + length heards ≡ n + length (h ∷ heards) = omega arith in same) (behind_serials (n + 1) heards more have.1)
 
-pub answered_all : {looks : Looks} (base : Condensed) (n : ℕ) (a b : Side) → IsTurn looks base n a b → IsFresh a → IsFinished b → IsAnswered looks base a b
+pub answered_all : {looks : Looks} (base : Condensed) (n : ℕ) (a b : Side) → IsTurn looks base n a b → IsNew a → IsFinished b → IsAnswered looks base a b
 answered_all {looks} base n a b p fresh finished =
     let taken : lines_from [] p.got ≡ p.taken =
     subst (λ (h : Held). lines_in h ++ lines_from (open_in h) p.got ≡ p.taken ++ lines_in b.held) fresh.0 p.lines

@@ -12,19 +12,19 @@ use Rattle.alm_types.specs.declared.refusal.Refusal.{Refusal}
 use Rattle.alm_model.specs.Plant.{Condensed}
 use Rattle.alm_lines.specs.declared.line.Line.{Line}
 use Rattle.alm_lines.specs.Line.{line_of}
-use Rattle.alm_lines.specs.Stream.{is_end, fed}
+use Rattle.alm_lines.specs.Stream.{is_end, held_behind}
 use Rattle.alm_session.specs.Intakes.{lines_from, lines_in, open_in}
 use Rattle.alm_session.specs.Turns.{Heard, Met, acted, told, denied, cramped, gone, bad, stray, met_text, Slip, action, slip_of, slips, heards, strays, wants, Knows, refused_next, refused_over, Side, IsTurn, Looks, between, looks_of}
 use Rattle.alm_session.proofs.Steps.{with_looks}
 use Rattle.alm_session.proofs.Streams.{fed-append}
 
-with_end : (ends : Bool) (held next xs ys : List ℕ) → ((k : List ℕ) → lines_from k (xs ++ ys) ≡ lines_from k xs ++ lines_from (fed k xs) ys)
+with_end : (ends : Bool) (held next xs ys : List ℕ) → ((k : List ℕ) → lines_from k (xs ++ ys) ≡ lines_from k xs ++ lines_from (held_behind k xs) ys)
     → (if ends then line_of held ∷ lines_from [] (xs ++ ys) else lines_from (if ends then [] else next) (xs ++ ys))
-    ≡ (if ends then line_of held ∷ lines_from [] xs else lines_from (if ends then [] else next) xs) ++ lines_from (fed (if ends then [] else next) xs) ys
+    ≡ (if ends then line_of held ∷ lines_from [] xs else lines_from (if ends then [] else next) xs) ++ lines_from (held_behind (if ends then [] else next) xs) ys
 with_end true held next xs ys h = ap (λ (l : List Line). line_of held ∷ l) (h [])
 with_end false held next xs ys h = h next
 
-lines_from-append : (held xs ys : List ℕ) → lines_from held (xs ++ ys) ≡ lines_from held xs ++ lines_from (fed held xs) ys
+lines_from-append : (held xs ys : List ℕ) → lines_from held (xs ++ ys) ≡ lines_from held xs ++ lines_from (held_behind held xs) ys
 lines_from-append held [] ys = refl
 lines_from-append held (x ∷ xs) ys = with_end (is_end x) held (take 128 (held ++ x ∷ [])) xs ys (λ k. lines_from-append k xs ys)
 
@@ -49,7 +49,7 @@ joined {looks} {base} {m} {n} {a} {b} {c} p q = record {
   read = Consumes-trans a.coming b.coming c.coming p.got q.got p.read q.read;
   lines = ap (λ (l : List Line). lines_in a.held ++ l) (lines_from-append (open_in a.held) p.got q.got ∙ ap (λ (h : List ℕ). lines_from (open_in a.held) p.got ++ lines_from h q.got) (sym p.open_line))
       ∙ across (lines_in a.held) (lines_in b.held) (lines_in c.held) (lines_from (open_in a.held) p.got) (lines_from (open_in b.held) q.got) p.taken q.taken p.lines q.lines;
-  open_line = q.open_line ∙ ap (λ (h : List ℕ). fed h q.got) p.open_line ∙ sym (fed-append (open_in a.held) p.got q.got);
+  open_line = q.open_line ∙ ap (λ (h : List ℕ). held_behind h q.got) p.open_line ∙ sym (fed-append (open_in a.held) p.got q.got);
   order = ap (λ (l : List Slip). map action a.waiting ++ l) (map-append slip_of p.taken q.taken)
       ∙ across (map action a.waiting) (map action b.waiting) (map action c.waiting) (map slip_of p.taken) (map slip_of q.taken) (flat_map slips p.met) (flat_map slips q.met) p.order q.order
       ∙ ap (λ (l : List Slip). l ++ map action c.waiting) (sym (flat_map-append slips p.met q.met));

@@ -29,13 +29,13 @@ use Rattle.alm_desk.specs.declared.hindrance.Hindrance.TheVariants.{Nothing}
 use Rattle.alm_model.specs.Lists as lists
 use Rattle.alm_model.specs.declared.list.List.{List as Choice}
 use Rattle.alm_model.specs.declared.list.List.TheVariants as choice
-use Rattle.alm_lines.specs.Reply.{spaced, report_text, no_text, told_text, query_word, shown_word, letters, deadline, digit}
+use Rattle.alm_lines.specs.Reply.{with_spaces, report_text, no_text, told_text, query_word, shown_word, letters, deadline_text, digit}
 
 -- each number after a space: six bytes at most
-pub spaced-short : (xs : List ℕ) → AllByRecursion (λ x. x < 16384) xs → length (spaced xs) ≤ 6 * length xs
+pub spaced-short : (xs : List ℕ) → AllByRecursion (λ x. x < 16384) xs → length (with_spaces xs) ≤ 6 * length xs
 spaced-short [] a = omega arith
 spaced-short (x ∷ xs) a =
-    omega (arith, length-append (32 ∷ decimal x) (spaced xs), length-decimal-le 5 x (omega arith) (omega (arith, a.0)) (omega (arith, a.0)), spaced-short xs a.1)
+    omega (arith, length-append (32 ∷ decimal x) (with_spaces xs), length-decimal-le 5 x (omega arith) (omega (arith, a.0)) (omega (arith, a.0)), spaced-short xs a.1)
 
 -- the numbers of a list are those of alarms
 inside : (q : Condensed) (test : ℕ → Bool) → AllByRecursion (λ x. x < length q.panel.rows) (filter test (range_with_len 0 (length q.panel.rows)))
@@ -116,7 +116,7 @@ module _ (q : Condensed) (id : ℕ) (rules : KeepsRules q) (actions : q.panel.co
       omega (arith, size, length-decimal-le 10 id (omega arith) (omega (arith, small)) (omega (arith, small)), short)
 
   -- a list of the measures
-  few-measured : (test : List ℕ → Bool) (c : Choice) → length (lists.measured test c q) ≤ length q.panel.rows
+  few-measured : (test : List ℕ → Bool) (c : Choice) → length (lists.measured_alarms test c q) ≤ length q.panel.rows
   few-measured test c =
       omega (
         arith,
@@ -151,8 +151,8 @@ module _ (q : Condensed) (id : ℕ) (rules : KeepsRules q) (actions : q.panel.co
   list-short c =
       omega (
         arith,
-        length-append (codes " ") (decimal (length (lists.list_of c q)) ++ spaced (lists.list_of c q)),
-        length-append (decimal (length (lists.list_of c q))) (spaced (lists.list_of c q)),
+        length-append (codes " ") (decimal (length (lists.list_of c q)) ++ with_spaces (lists.list_of c q)),
+        length-append (decimal (length (lists.list_of c q))) (with_spaces (lists.list_of c q)),
         length-decimal-le 5 (length (lists.list_of c q)) (omega arith) (omega (arith, few c, rules.few)) (omega (arith, few c, rules.few)),
         spaced-short (lists.list_of c q) (all-below c),
         few c,
@@ -174,13 +174,13 @@ module _ (q : Condensed) (id : ℕ) (rules : KeepsRules q) (actions : q.panel.co
       told-short asked (flood (sum ages) on) (omega (arith, size, length-decimal-le 19 (sum ages) (omega arith) (omega (arith, window)) (omega (arith, window)), digit-short on))
 
   -- an alarm
-  deadline-short : (longest : ℕ) → longest ≤ 604800 → (until : Option ℕ) → IsAhead q.panel.now longest until → length (deadline until) ≤ 13
+  deadline-short : (longest : ℕ) → longest ≤ 604800 → (until : Option ℕ) → IsAhead q.panel.now longest until → length (deadline_text until) ≤ 13
   deadline-short longest limit None h = omega arith
   deadline-short longest limit (Some t) h = length-decimal-le 13 t (omega arith) (omega (arith, h.1, limit, rules.now)) (omega (arith, h.1, limit, rules.now))
 
-  report-short : (s : State) → length (deadline s.shelved_until) ≤ 13 → length (report_text (report_of s)) ≤ 131000
+  report-short : (s : State) → length (deadline_text s.shelved_until) ≤ 13 → length (report_text (report_of s)) ≤ 131000
   report-short s until =
-      let size : length (report_text (report_of s)) ≡ 1 + length (shown_word (shown_of s)) + 1 + length (decimal (digit s.active)) + 1 + length (letters (flags_of s)) + 1 + length (deadline s.shelved_until) = eight (codes " ") (shown_word (shown_of s)) (codes " ") (decimal (digit s.active)) (codes " ") (letters (flags_of s)) (codes " ") (deadline s.shelved_until) in
+      let size : length (report_text (report_of s)) ≡ 1 + length (shown_word (shown_of s)) + 1 + length (decimal (digit s.active)) + 1 + length (letters (flags_of s)) + 1 + length (deadline_text s.shelved_until) = eight (codes " ") (shown_word (shown_of s)) (codes " ") (decimal (digit s.active)) (codes " ") (letters (flags_of s)) (codes " ") (deadline_text s.shelved_until) in
       omega (arith, size, shown-short (shown_of s), digit-short s.active, letters-short (flags_of s), until)
 
   alarm-short : (asked : Query) (i : ℕ) (o : Option State) (a : Option Attr) (ms : Option (List ℕ)) → slice_get q.panel.rows i ≡ o → slice_get q.panel.attrs i ≡ a → slice_get q.kept.moments i ≡ ms → length (report_reply id q.panel.count asked (state_report o)) ≤ 131072

@@ -8,7 +8,7 @@ use Rattle.std.proofs.lemmas.List.{take-append-drop, append-nil, length-take-le}
 use Rattle.alm_types.specs.declared.action.Action.{Action}
 use Rattle.alm_model.specs.Plant.{Condensed}
 use Rattle.alm_lines.specs.declared.line.Line.{Line}
-use Rattle.alm_lines.specs.Stream.{fed}
+use Rattle.alm_lines.specs.Stream.{held_behind}
 use Rattle.alm_desk.specs.Answers.{verdict_reply}
 use Rattle.alm_board.specs.Fronts.{IsFront}
 use Rattle.alm_session.specs.Intakes.{Held, lines_from, lines_in, open_in}
@@ -145,7 +145,7 @@ read_some {looks} base a b none empty held some waiting left known coming writte
     lined : (h : Held) (rest : List ℕ) → h.line ≡ None → lines_in (record h { rest = rest }) ≡ lines_from h.held rest
     lined h rest none = rw none refl
 
-    opened : (h : Held) (rest : List ℕ) → h.rest ≡ [] → open_in (record h { rest = rest }) ≡ fed (open_in h) rest
+    opened : (h : Held) (rest : List ℕ) → h.rest ≡ [] → open_in (record h { rest = rest }) ≡ held_behind (open_in h) rest
     opened h rest empty = rw empty refl
 
 -- a line is taken and answered at once, or sent

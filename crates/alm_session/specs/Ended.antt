@@ -7,8 +7,8 @@ use Rattle.alm_session.specs.Intakes.{lines_from, lines_in}
 use Rattle.alm_session.specs.Turns.{Heard, Met, met_text, slip_of, slips, heards, strays, Knows, Looks, Side}
 
 -- nothing has come, nothing stands to be written, and no request of the slot is unanswered
-abbrev pub IsFresh : Side → Type 0
-IsFresh s = (s.held ≡ record { line = None; held = []; rest = [] }) × (s.waiting ≡ []) × (s.left ≡ []) × (length s.sent ≡ length s.heard)
+abbrev pub IsNew : Side → Type 0
+IsNew s = (s.held ≡ record { line = None; held = []; rest = [] }) × (s.waiting ≡ []) × (s.left ≡ []) × (length s.sent ≡ length s.heard)
 
 -- all lines that came are taken, all actions answered, all replies written
 abbrev pub IsFinished : Side → Type 0

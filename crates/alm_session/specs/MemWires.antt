@@ -9,5 +9,5 @@ input_of w = drop w.at w.input.items
 abbrev pub output_of : MemWire → List ℕ
 output_of w = w.output.items
 
-abbrev pub room_of : MemWire → ℕ
-room_of w = w.room
+abbrev pub wire_room : MemWire → ℕ
+wire_room w = w.room

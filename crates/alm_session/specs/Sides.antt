@@ -38,14 +38,14 @@ abbrev pub HoldsAction : Session → Type 0
 HoldsAction s = (id : ℕ) × (want : Action) × (s.intake.line ≡ Some (record { id = id; ask = Act want }))
 
 -- the input has ended, and all its lines are answered and written
-abbrev pub IsDone : Session → Option (List ℕ) → Type 0
-IsDone s coming = HoldsNothing s × (s.waiting.items ≡ []) × (s.output.left ≡ []) × IsAtEnd coming
+abbrev pub IsAllWritten : Session → Option (List ℕ) → Type 0
+IsAllWritten s coming = HoldsNothing s × (s.waiting.items ≡ []) × (s.output.left ≡ []) × IsAtEnd coming
 
 -- what a read comes to
 abbrev pub ReadTurns : Turn → Session → Session → Counts → Counts → Option (List ℕ) → Type 0
 ReadTurns Went before later old new coming = new ≡ old
 ReadTurns Idle before later old new coming = HoldsNothing later × (later.output.left ≡ []) × (((new ≡ blocked_read old) × HoldsNothing later) ⊎ ((new ≡ old) × (0 < length later.waiting.items)))
-ReadTurns Ended before later old new coming = (new ≡ old) × IsDone later coming
+ReadTurns Ended before later old new coming = (new ≡ old) × IsAllWritten later coming
 ReadTurns Fault before later old new coming = new ≡ failed_call old
 
 module _ {T : Type 0} {g : Ghosts T} where
@@ -65,11 +65,11 @@ module _ {T : Type 0} {g : Ghosts T} where
   abbrev pub GoneOn : Turn → Session → Console T g → Counts → Counts → Option (List ℕ) → Type 0
   GoneOn Went s console old new coming = new ≡ old
   GoneOn Idle s console old new coming = IsIdle s console old new
-  GoneOn Ended s console old new coming = (new ≡ old) × IsDone s coming
+  GoneOn Ended s console old new coming = (new ≡ old) × IsAllWritten s coming
   GoneOn Fault s console old new coming = new ≡ failed_call old
 
   abbrev pub Turns : Turn → Session → Console T g → Console T g → Counts → Counts → Option (List ℕ) → Type 0
   Turns Went s before console old new coming = new ≡ old
   Turns Idle s before console old new coming = (new ≡ blocked_write old) ⊎ (IsQuiet before × IsIdle s console old new)
-  Turns Ended s before console old new coming = (new ≡ old) × IsDone s coming × IsQuiet before
+  Turns Ended s before console old new coming = (new ≡ old) × IsAllWritten s coming × IsQuiet before
   Turns Fault s before console old new coming = new ≡ failed_call old

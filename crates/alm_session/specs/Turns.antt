@@ -12,7 +12,7 @@ use Rattle.alm_model.specs.Step.{run}
 use Rattle.alm_lines.specs.declared.line.Line.{Line}
 use Rattle.alm_lines.specs.declared.ask.Ask.{Ask}
 use Rattle.alm_lines.specs.declared.ask.Ask.TheVariants as ask
-use Rattle.alm_lines.specs.Stream.{fed}
+use Rattle.alm_lines.specs.Stream.{held_behind}
 use Rattle.alm_lines.specs.Reply.{no_text}
 use Rattle.alm_desk.specs.Answers.{verdict_reply, look_reply, refused_by}
 use Rattle.alm_desk.specs.declared.hindrance.Hindrance.{Hindrance}
@@ -156,7 +156,7 @@ pub record IsTurn (looks : Looks) (base : Condensed) (least : ℕ) (a b : Side) 
   pub met : List Met
   pub read : Consumes a.coming b.coming got
   pub lines : lines_in a.held ++ lines_from (open_in a.held) got ≡ taken ++ lines_in b.held
-  pub open_line : open_in b.held ≡ fed (open_in a.held) got
+  pub open_line : open_in b.held ≡ held_behind (open_in a.held) got
   pub order : map action a.waiting ++ map slip_of taken ≡ flat_map slips met ++ map action b.waiting
   pub text : a.left ++ flat_map (met_text base) met ≡ wrote ++ b.left
   pub written : Appends a.written b.written wrote

@@ -58,11 +58,11 @@ Reads read.Blocked before later old new = (later ≡ before) × (new ≡ old)
 Reads read.Failed before later old new = (later ≡ before) × (new ≡ old)
 
 -- what was written stood first of what is left
-abbrev pub Sends : Sent → Left → Left → Option (List ℕ) → Option (List ℕ) → Type 0
-Sends sent.Nothing before later old new = (before.left ≡ []) × (later.left ≡ []) × (later.used ≡ 0) × (new ≡ old)
-Sends sent.Some before later old new = (later.used ≡ before.used) × ((n : ℕ) × (1 ≤ n) × (n ≤ length before.left) × (later.left ≡ drop n before.left) × Appends old new (take n before.left))
-Sends sent.Blocked before later old new = (later ≡ before) × (new ≡ old)
-Sends sent.Failed before later old new = (later ≡ before) × (new ≡ old)
+abbrev pub WritesFront : Sent → Left → Left → Option (List ℕ) → Option (List ℕ) → Type 0
+WritesFront sent.Nothing before later old new = (before.left ≡ []) × (later.left ≡ []) × (later.used ≡ 0) × (new ≡ old)
+WritesFront sent.Some before later old new = (later.used ≡ before.used) × ((n : ℕ) × (1 ≤ n) × (n ≤ length before.left) × (later.left ≡ drop n before.left) × Appends old new (take n before.left))
+WritesFront sent.Blocked before later old new = (later ≡ before) × (new ≡ old)
+WritesFront sent.Failed before later old new = (later ≡ before) × (new ≡ old)
 
 abbrev pub SentCounts : Sent → Counts → Counts → Type 0
 SentCounts sent.Nothing old new = new ≡ old

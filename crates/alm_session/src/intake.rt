@@ -1,7 +1,7 @@
 //! What comes in.
 
 ghost use Rattle.std.specs.Prelude.{◌≡◌, ◌+◌, ◌≤◌, length, take, drop, option_map};
-ghost use Rattle.alm_lines.specs.Stream.{fed, used, found};
+ghost use Rattle.alm_lines.specs.Stream.{held_behind, bytes_used, line_ended};
 ghost use Rattle.alm_lines.specs.Line.{line_of};
 
 use crate::wire::{ReadGave, Wire};
@@ -38,10 +38,11 @@ fn feed_from(decoder: &mut Decoder, bytes: &[u8], at: usize, end: usize) -> (usi
     requires order { at ≤ end }
     requires within { end ≤ length bytes.now }
     ensures within { at + result.0 ≤ end }
-    ensures used { result.0 ≡ used (drop at (take end bytes.now)) }
+    ensures used { result.0 ≡ bytes_used (drop at (take end bytes.now)) }
     ensures line { result.1 ≡
-        option_map line_of (found decoder.old (drop at (take end bytes.now))) }
-    ensures held { decoder.new ≡ fed decoder.old (take result.0 (drop at (take end bytes.now))) }
+        option_map line_of (line_ended decoder.old (drop at (take end bytes.now))) }
+    ensures held { decoder.new ≡
+        held_behind decoder.old (take result.0 (drop at (take end bytes.now))) }
 {
     let (piece, _) = bytes.split_at(end);
     decoder.feed(&piece[at..])

@@ -6,7 +6,7 @@ ghost use Rattle.alm_model.specs.Plant.{Condensed};
 ghost use Rattle.alm_model.specs.Rules.{KeepsRules};
 ghost use Rattle.alm_desk.specs.Answers.{look_reply};
 ghost use Rattle.alm_desk.specs.declared.hindrance.Hindrance.TheVariants.{Nothing};
-ghost use Rattle.alm_session.specs.Ended.{IsFresh, IsFinished, IsAnswered};
+ghost use Rattle.alm_session.specs.Ended.{IsNew, IsFinished, IsAnswered};
 ghost use Rattle.alm_session.specs.Turns.{IsTurn, Side, between, looks_of};
 
 use alm_board::Look;
@@ -20,7 +20,7 @@ pub fn turns_answer_all_lines<L: Look>()
         IsTurn (looks_of L.looked) base m a b → IsTurn (looks_of L.looked) base n b c →
         IsTurn (looks_of L.looked) base (m + n) a c }
     ensures ended { (base : Condensed) (n : ℕ) (a b : Side) →
-        IsTurn (looks_of L.looked) base n a b → IsFresh a → IsFinished b →
+        IsTurn (looks_of L.looked) base n a b → IsNew a → IsFinished b →
         IsAnswered (looks_of L.looked) base a b }
 {}
 

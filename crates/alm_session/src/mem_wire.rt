@@ -20,13 +20,13 @@ pub struct MemWire {
 
 impl MemWire {
     ghost use Rattle.std.specs.Prelude.{◌≡◌, ◌≤◌, IfOk, Some, []};
-    ghost use Rattle.alm_session.specs.MemWires.{input_of, output_of, room_of};
+    ghost use Rattle.alm_session.specs.MemWires.{input_of, output_of, wire_room};
 
     /// A wire that gives this input, and has room for so many bytes of output.
     pub fn new(alloc: Global, input: Vec<u8>, room: usize) -> Result<Self, AllocError>
         ensures input { IfOk result (λ w. input_of w ≡ input.items) }
         ensures output { IfOk result (λ w. output_of w ≡ []) }
-        ensures room { IfOk result (λ w. room_of w ≡ room) }
+        ensures room { IfOk result (λ w. wire_room w ≡ room) }
     {
         Ok(MemWire {
             input,

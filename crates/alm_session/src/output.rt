@@ -73,7 +73,7 @@ impl Output {
     ghost use Rattle.alm_types.specs.Reports.{report};
     ghost use Rattle.std.specs.Prelude.{true, false};
     ghost use Rattle.alm_session.specs.Outputs.{Left};
-    ghost use Rattle.alm_session.specs.Wires.{Sends, SentCounts};
+    ghost use Rattle.alm_session.specs.Wires.{WritesFront, SentCounts};
 
     /// Nothing is to be written.
     pub fn new(alloc: Global) -> Result<Self, AllocError>
@@ -132,7 +132,8 @@ impl Output {
 
     /// Writes once, where something is to be written.
     pub fn write<W: Wire>(&mut self, wire: &mut W) -> Sent
-        ensures sends { Sends result self.old self.new (W.written wire.old) (W.written wire.new) }
+        ensures sends { WritesFront result self.old self.new (W.written wire.old)
+            (W.written wire.new) }
         ensures counts { SentCounts result (W.counts wire.old) (W.counts wire.new) }
         ensures coming { W.coming wire.new ≡ W.coming wire.old }
     {

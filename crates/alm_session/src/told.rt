@@ -3,7 +3,7 @@
 ghost use Rattle.std.specs.Prelude.{◌≡◌, ◌≤◌, ◌<◌, ◌+◌, ◌++◌, OnOk, OnErr, length, take, vec_capacity, vec_len, decimal, codes};
 ghost use mathlib.Core.List.{IsPrefix};
 ghost use Rattle.alm_types.specs.Reports.{report, alarms};
-ghost use Rattle.alm_lines.specs.Reply.{query_word, told_text, report_text, spaced};
+ghost use Rattle.alm_lines.specs.Reply.{query_word, told_text, report_text, with_spaces};
 
 use alm_lines::{letters, shown_word};
 use alm_types::{Answer, Query};
@@ -34,9 +34,9 @@ fn put_number(text: &mut Vec<u8>, number: u64) -> Result<(), AllocError>
 
 /// Puts each number after a space.
 fn put_spaced(text: &mut Vec<u8>, numbers: &[u32]) -> Result<(), AllocError>
-    ensures items { OnOk result (text.new.items ≡ text.old.items ++ spaced numbers.now) }
+    ensures items { OnOk result (text.new.items ≡ text.old.items ++ with_spaces numbers.now) }
     ensures full { OnErr result
-        (vec_capacity text.old < vec_len text.old + length (spaced numbers.now)) }
+        (vec_capacity text.old < vec_len text.old + length (with_spaces numbers.now)) }
     ensures room { vec_capacity text.old ≤ vec_capacity text.new }
 {
     for number in numbers {

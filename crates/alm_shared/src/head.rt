@@ -1,6 +1,6 @@
 //! The length of a run's history.
 ghost use Rattle.std.specs.Prelude.{◌≡◌};
-ghost use Rattle.alm_shared.specs.History.{head_of};
+ghost use Rattle.alm_shared.specs.History.{newest_of};
 
 use crate::law::Law;
 use crate::naming::Naming;
@@ -13,12 +13,12 @@ use std::marker::PhantomData;
 pub struct Head<J: Naming> {
     pub(crate) head: Word<Action, u64, Law>,
     of: PhantomData<J>,
-    pub ghost head_is: { head ≡ head_of J.book },
+    pub ghost head_is: { head ≡ newest_of J.book },
 }
 
 impl<J: Naming> Head<J> {
     pub(crate) fn new(head: Word<Action, u64, Law>) -> Head<J>
-        requires { head ≡ head_of J.book }
+        requires { head ≡ newest_of J.book }
     {
         Head {
             head,

@@ -1,6 +1,6 @@
 //! An empty history, before it has a name.
 ghost use Rattle.std.specs.Prelude.{◌≡◌, []};
-ghost use Rattle.alm_shared.specs.History.{head_of};
+ghost use Rattle.alm_shared.specs.History.{newest_of};
 
 use crate::front::Front;
 use crate::head::Head;
@@ -15,7 +15,7 @@ pub struct NewHistory {
     head: Word<Action, u64, Law>,
     seen: Seen<Action, u64, Law>,
     pub ghost empty: { seen.log ≡ [] },
-    pub ghost head_is: { head ≡ head_of seen.book },
+    pub ghost head_is: { head ≡ newest_of seen.book },
 }
 
 impl NewHistory {

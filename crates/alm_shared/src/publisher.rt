@@ -19,7 +19,8 @@ pub struct Publisher<T: Absorb<O, State = [Action; 0]> + Drop, O: Drop, X: Aim, 
     pub beside: X,
     /// What else the owner keeps: no call changes it.
     pub more: Y,
-    pub ghost leads: { fold T.applied (T.state writer.desk.shown.value) (drop writer.behind writer.log.items) ≡ X.aim beside },
+    pub ghost leads: { fold T.applied (T.state writer.desk.shown.value)
+        (drop writer.behind writer.log.items) ≡ X.aim beside },
 }
 
 impl<T: Absorb<O, State = [Action; 0]> + Drop, O: Drop, X: Aim, Y> Publisher<T, O, X, Y> {

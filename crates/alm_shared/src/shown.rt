@@ -35,13 +35,13 @@ impl<J: Naming, P: Alarms + Drop> Shown<J, P> {
 }
 
 impl<J: Naming, P: Alarms + Drop> Absorb<Step<J>> for Shown<J, P> {
-    ghost use Rattle.alm_shared.specs.Growing.{grown};
+    ghost use Rattle.alm_shared.specs.Growing.{next_if_longer};
 
     type State = [Action; 0];
 
     ghost state = { λ s. s.front };
 
-    ghost applied = { λ xs step. grown xs step.front };
+    ghost applied = { λ xs step. next_if_longer xs step.front };
 
     ghost never_fails = { Unit {0} };
 

@@ -6,8 +6,8 @@ use Rattle.alm_pipeline.specs.declared.step.Step.{Step}
 use Rattle.alm_pipeline.specs.declared.step.Step.TheVariants.{Call}
 use Rattle.alm_pipeline.specs.declared.event.Event.{Event}
 use Rattle.alm_pipeline.specs.declared.event.Event.TheVariants.{More}
-use Rattle.alm_pipeline.specs.World.{World, after}
-use Rattle.alm_pipeline.specs.Headline.{Sight, Headline, IsRun, after_all}
+use Rattle.alm_pipeline.specs.World.{World, after_step}
+use Rattle.alm_pipeline.specs.Headline.{Sight, Headline, IsRun, after_steps}
 use Rattle.alm_stack.specs.Exchanges.{IsTrace, Leads, calls, went_on}
 
 module _ (recovers : List ℕ → Condensed → Type 0) (spent : DeviceState → Type 0) (honest : Type 0) where
@@ -17,19 +17,19 @@ module _ (recovers : List ℕ → Condensed → Type 0) (spent : DeviceState →
   leads_then w d [] [] w' d' steps' trace' w'' d'' l m =
       subst (λ (x : World). Leads recovers spent honest x d steps' trace' w'' d'') l.0 (subst (λ (y : Sight). Leads recovers spent honest w' y steps' trace' w'' d'') l.1 m)
   leads_then w d (s ∷ steps) (e ∷ trace) w' d' steps' trace' w'' d'' l m =
-      (l.0, l.1, l.2, leads_then (after w s e) l.0 steps trace w' d' steps' trace' w'' d'' l.3 m)
+      (l.0, l.1, l.2, leads_then (after_step w s e) l.0 steps trace w' d' steps' trace' w'' d'' l.3 m)
   leads_then w d [] (e ∷ trace) w' d' steps' trace' w'' d'' l m = absurd l
   leads_then w d (s ∷ steps) [] w' d' steps' trace' w'' d'' l m = absurd l
 
   pub leads_trace : (w : World) (d : Sight) (steps : List Step) (trace : List Event) (w' : World) (d' : Sight) → Leads recovers spent honest w d steps trace w' d' → IsTrace w steps trace
   leads_trace w d [] [] w' d' l = tt
-  leads_trace w d (s ∷ steps) (e ∷ trace) w' d' l = (l.1, leads_trace (after w s e) l.0 steps trace w' d' l.3)
+  leads_trace w d (s ∷ steps) (e ∷ trace) w' d' l = (l.1, leads_trace (after_step w s e) l.0 steps trace w' d' l.3)
   leads_trace w d [] (e ∷ trace) w' d' l = absurd l
   leads_trace w d (s ∷ steps) [] w' d' l = absurd l
 
-  pub leads_after : (w : World) (d : Sight) (steps : List Step) (trace : List Event) (w' : World) (d' : Sight) → Leads recovers spent honest w d steps trace w' d' → w' ≡ after_all w steps trace
+  pub leads_after : (w : World) (d : Sight) (steps : List Step) (trace : List Event) (w' : World) (d' : Sight) → Leads recovers spent honest w d steps trace w' d' → w' ≡ after_steps w steps trace
   leads_after w d [] [] w' d' l = l.0
-  leads_after w d (s ∷ steps) (e ∷ trace) w' d' l = leads_after (after w s e) l.0 steps trace w' d' l.3
+  leads_after w d (s ∷ steps) (e ∷ trace) w' d' l = leads_after (after_step w s e) l.0 steps trace w' d' l.3
   leads_after w d [] (e ∷ trace) w' d' l = absurd l
   leads_after w d (s ∷ steps) [] w' d' l = absurd l
 
@@ -40,7 +40,7 @@ module _ (recovers : List ℕ → Condensed → Type 0) (spent : DeviceState →
       (subst (λ (x : World). Headline recovers spent x d.state) l.0 (subst (λ (y : Sight). Headline recovers spent w' y.state) l.1 headline), l.1)
   leads_run w d (s ∷ steps) (e ∷ trace) w' d' is headline l =
       let both = l.2 is in
-      (both.0, (l.0, l.1, both.1, leads_run (after w s e) l.0 steps trace w' d' is headline l.3))
+      (both.0, (l.0, l.1, both.1, leads_run (after_step w s e) l.0 steps trace w' d' is headline l.3))
   leads_run w d [] (e ∷ trace) w' d' is headline l = absurd l
   leads_run w d (s ∷ steps) [] w' d' is headline l = absurd l
 
@@ -48,7 +48,7 @@ module _ (recovers : List ℕ → Condensed → Type 0) (spent : DeviceState →
 pub leads_if : (recovers : List ℕ → Condensed → Type 0) (spent : DeviceState → Type 0) (honest honest' : Type 0) → (honest → honest') → (w : World) (d : Sight) (steps : List Step) (trace : List Event) (w' : World) (d' : Sight)
     → Leads recovers spent honest' w d steps trace w' d' → Leads recovers spent honest w d steps trace w' d'
 leads_if recovers spent honest honest' f w d [] [] w' d' l = l
-leads_if recovers spent honest honest' f w d (s ∷ steps) (e ∷ trace) w' d' l = (l.0, l.1, (λ h. l.2 (f h)), leads_if recovers spent honest honest' f (after w s e) l.0 steps trace w' d' l.3)
+leads_if recovers spent honest honest' f w d (s ∷ steps) (e ∷ trace) w' d' l = (l.0, l.1, (λ h. l.2 (f h)), leads_if recovers spent honest honest' f (after_step w s e) l.0 steps trace w' d' l.3)
 leads_if recovers spent honest honest' f w d [] (e ∷ trace) w' d' l = absurd l
 leads_if recovers spent honest honest' f w d (s ∷ steps) [] w' d' l = absurd l
 

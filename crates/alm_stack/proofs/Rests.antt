@@ -35,7 +35,7 @@ module _ {K D : Type 0} {g : Ghosts K D} {d : Disk.Ghosts D} where
       let history = accepted_of (history_of p.sequencer) in
       ap (λ (b : Condensed). run b history) f.lists.judged_from ∙ (sym (run_append w.base f.lists.opened history) ∙ ap (run w.base) (sym f.lists.all))
 
-  pub stored_as : (w : World) (p : Pipeline K D g d) → Fits w p → g.stored p.flusher.store ≡ run w.base w.stored
+  pub stored_as : (w : World) (p : Pipeline K D g d) → Fits w p → (g.state p.flusher.store).stored ≡ run w.base w.stored
   stored_as w p f =
       let l = f.lists in
       let stored = accepted_of (entries_in (fetched_of p.flusher.before.value) ++ stored_of p.flusher.held) in

@@ -11,7 +11,7 @@ use Rattle.alm_model.specs.Plant.{Condensed}
 use Rattle.alm_model.specs.Judging.{verdict_from, verdict_of, after_verdict, when_accepted}
 use Rattle.alm_model.specs.Step.{run}
 use Rattle.alm_model.proofs.Runs.{run_append, step_count}
-use Rattle.alm_desk.specs.Backends.{judged, judged_by, if_accepted}
+use Rattle.alm_desk.specs.Backends.{judged_on, judged_by, if_accepted}
 use Rattle.alm_desk.specs.declared.judged.Judged.{Judged}
 use Rattle.alm_pipeline.specs.World.{World, live}
 use Rattle.alm_stack.specs.Exchanges.{handed_in}
@@ -30,7 +30,7 @@ judged_from q (Ok a) = ap (λ (n : ℕ). let j : Judged = record { verdict = Acc
 judged_from q (Err why) = refl
 
 pub judged_is : (q : Condensed) (r : Request)
-    → let j : Judged = record { verdict = verdict_of q r; number = (after_verdict q (verdict_of q r)).panel.count } in j ≡ judged q r
+    → let j : Judged = record { verdict = verdict_of q r; number = (after_verdict q (verdict_of q r)).panel.count } in j ≡ judged_on q r
 unfolding verdict_of
 judged_is q r = judged_from q (accept q.panel r)
 

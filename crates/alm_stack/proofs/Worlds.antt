@@ -8,10 +8,10 @@ use Rattle.alm_model.proofs.Runs.{run_count}
 use Rattle.alm_pipeline.specs.declared.step.Step.TheVariants.{Send, Take, Seal, Fetch, Publish, Release, GiveBack, Receive}
 use Rattle.alm_pipeline.specs.declared.event.Event.{Event}
 use Rattle.alm_pipeline.specs.declared.event.Event.TheVariants.{Sent, Busy, Took, Sealed, Fetched, Published, Released, GaveBack, Received, Skipped}
-use Rattle.alm_pipeline.specs.World.{World, Note, Nothing, Answers, Possible, after, entry_of, first, judges, live, says, with_at, with_entry}
+use Rattle.alm_pipeline.specs.World.{World, Note, Nothing, Answers, Possible, after_step, entry_for, first, judges, live, says, with_at, with_entry}
 use Rattle.alm_pipeline.proofs.Lists.{get_seam}
 use Rattle.alm_pipeline.proofs.Placing.{same_or_not, with_here, with_there}
-use Rattle.alm_stack.specs.Exchanges.{IsIdle, entry_at, handed_in, stored_in}
+use Rattle.alm_stack.specs.Exchanges.{IsIdle, entry_at, handed_in, stored_world}
 
 -- ---- what a step answers where it is possible
 
@@ -70,13 +70,13 @@ abbrev pub sent_at : World → ℕ → Action → World
 sent_at w slot want = record w { sent = with_at w.sent slot (w.sent slot ++ want ∷ []) }
 
 abbrev pub taken_at : World → ℕ → Action → Verdict → World
-taken_at w slot want v = after (sent_at w slot want) (Take slot) (Took v)
+taken_at w slot want v = after_step (sent_at w slot want) (Take slot) (Took v)
 
 abbrev pub sealed_at : World → ℕ → Action → Verdict → World
-sealed_at w slot want v = after (taken_at w slot want v) Seal Sealed
+sealed_at w slot want v = after_step (taken_at w slot want v) Seal Sealed
 
 abbrev pub fetched_at : World → ℕ → Action → Verdict → World
-fetched_at w slot want v = after (sealed_at w slot want v) Fetch Fetched
+fetched_at w slot want v = after_step (sealed_at w slot want v) Fetch Fetched
 
 get_want : (w : World) → IsIdle w → (slot : ℕ) (want : Action) → slice_get (with_at w.sent slot (w.sent slot ++ want ∷ []) slot) (w.taken slot) ≡ Some want
 get_want w i slot want =
@@ -87,13 +87,13 @@ taken_out w x slot want v = with_entry (sent_at x slot want) slot (entry_at w sl
 
 is_taken : (w : World) → IsIdle w → (slot : ℕ) (want : Action) (v : Verdict) → taken_at w slot want v ≡ taken_out w (normal w) slot want v
 is_taken w i slot want v =
-    ap (λ (o : Option Action). with_entry (sent_at w slot want) slot (entry_of (sent_at w slot want) slot o v)) (get_want w i slot want) ∙ ap (λ (x : World). taken_out w x slot want v) (is_normal w i)
+    ap (λ (o : Option Action). with_entry (sent_at w slot want) slot (entry_for (sent_at w slot want) slot o v)) (get_want w i slot want) ∙ ap (λ (x : World). taken_out w x slot want v) (is_normal w i)
 
-is_sealed : (w : World) → IsIdle w → (slot : ℕ) (want : Action) (v : Verdict) → sealed_at w slot want v ≡ after (taken_out w (normal w) slot want v) Seal Sealed
-is_sealed w i slot want v = ap (λ (x : World). after x Seal Sealed) (is_taken w i slot want v)
+is_sealed : (w : World) → IsIdle w → (slot : ℕ) (want : Action) (v : Verdict) → sealed_at w slot want v ≡ after_step (taken_out w (normal w) slot want v) Seal Sealed
+is_sealed w i slot want v = ap (λ (x : World). after_step x Seal Sealed) (is_taken w i slot want v)
 
 pub is_fetched : (w : World) → IsIdle w → (slot : ℕ) (want : Action) (v : Verdict) → fetched_at w slot want v ≡ handed_in w slot want v
-is_fetched w i slot want v = ap (λ (x : World). after x Fetch Fetched) (is_sealed w i slot want v)
+is_fetched w i slot want v = ap (λ (x : World). after_step x Fetch Fetched) (is_sealed w i slot want v)
 
 pub may_take : (w : World) → IsIdle w → (slot : ℕ) (want : Action) → Possible (sent_at w slot want) (Take slot)
 may_take w i slot want = (
@@ -115,13 +115,13 @@ judged_on w i slot want v is = subst (λ (o : Option Action). judges (sent_at w 
 -- ---- its reply is handed out
 
 abbrev pub shown_at : World → ℕ → Action → Verdict → World
-shown_at w slot want v = after (stored_in w slot want v) Publish Published
+shown_at w slot want v = after_step (stored_world w slot want v) Publish Published
 
 abbrev pub released_at : World → ℕ → Action → Verdict → World
-released_at w slot want v = after (shown_at w slot want v) Release (Released slot)
+released_at w slot want v = after_step (shown_at w slot want v) Release (Released slot)
 
 abbrev pub given_at : World → ℕ → Action → Verdict → World
-given_at w slot want v = after (released_at w slot want v) GiveBack GaveBack
+given_at w slot want v = after_step (released_at w slot want v) GiveBack GaveBack
 
 abbrev pub received_at : World → ℕ → Action → Verdict → World
 received_at w slot want v = let y = given_at w slot want v in record y { received = with_at y.received slot (y.received slot + 1) }

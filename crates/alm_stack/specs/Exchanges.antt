@@ -17,8 +17,8 @@ use Rattle.alm_pipeline.specs.declared.step.Step.TheVariants.{Send, Take, Seal, 
 use Rattle.alm_pipeline.specs.declared.event.Event.{Event}
 use Rattle.alm_pipeline.specs.declared.event.Event.TheVariants.{Sent, Busy, Took, Sealed, Fetched, More, Committed, Failed, Published, Released, GaveBack, Received}
 use Rattle.alm_pipeline.specs.declared.pipeline.Pipeline.{Pipeline}
-use Rattle.alm_pipeline.specs.World.{World, Nothing, Held, Answers, after, with_at}
-use Rattle.alm_pipeline.specs.Headline.{Sight, Headline, Moves, IsRun, after_all}
+use Rattle.alm_pipeline.specs.World.{World, Nothing, Held, Answers, after_step, with_at}
+use Rattle.alm_pipeline.specs.Headline.{Sight, Headline, Moves, IsRun, after_steps}
 use Rattle.alm_pipeline.specs.Matches.{IsOpen, sight_in}
 
 -- no request is under way: all that was sent is taken and answered, and all that was accepted is stored and shown
@@ -46,30 +46,30 @@ went_on zero = []
 went_on (suc n) = More ∷ went_on n
 
 -- a request is sent, judged, sealed and fetched
-abbrev pub handing : ℕ → Action → List Step
-handing slot want = Send slot want ∷ Take slot ∷ Seal ∷ Fetch ∷ []
+abbrev pub hand_in_steps : ℕ → Action → List Step
+hand_in_steps slot want = Send slot want ∷ Take slot ∷ Seal ∷ Fetch ∷ []
 
-abbrev pub handed : (serial : ℕ) → Verdict → List Event
-handed serial v = Sent serial ∷ Took v ∷ Sealed ∷ Fetched ∷ []
+abbrev pub hand_in_events : (serial : ℕ) → Verdict → List Event
+hand_in_events serial v = Sent serial ∷ Took v ∷ Sealed ∷ Fetched ∷ []
 
 -- it is shown, and its reply released and received
-abbrev pub answering : ℕ → List Step
-answering slot = Publish ∷ Release ∷ GiveBack ∷ Receive slot ∷ []
+abbrev pub answer_steps : ℕ → List Step
+answer_steps slot = Publish ∷ Release ∷ GiveBack ∷ Receive slot ∷ []
 
-abbrev pub answered : (slot serial : ℕ) → Verdict → (number : ℕ) → List Event
-answered slot serial v number = Published ∷ Released slot ∷ GaveBack ∷ Received serial v number ∷ []
+abbrev pub answer_events : (slot serial : ℕ) → Verdict → (number : ℕ) → List Event
+answer_events slot serial v number = Published ∷ Released slot ∷ GaveBack ∷ Received serial v number ∷ []
 
 -- what a slot's request came to, by which steps: the reply that was received; or it wasn't sent, or a call failed
 abbrev pub ComesTo : ℕ → Action → Result Judged Stopped → List Step → List Event → Type 0
 ComesTo slot want (Ok j) steps trace =
-    (n serial : ℕ) × (steps ≡ handing slot want ++ (calls n ++ (Call ∷ answering slot))) × (trace ≡ handed serial j.verdict ++ (went_on n ++ (Committed ∷ answered slot serial j.verdict j.number)))
+    (n serial : ℕ) × (steps ≡ hand_in_steps slot want ++ (calls n ++ (Call ∷ answer_steps slot))) × (trace ≡ hand_in_events serial j.verdict ++ (went_on n ++ (Committed ∷ answer_events slot serial j.verdict j.number)))
 ComesTo slot want (Err e) steps trace =
-    ((steps ≡ Send slot want ∷ []) × (trace ≡ Busy ∷ [])) ⊎ ((n serial : ℕ) × (v : Verdict) × (steps ≡ handing slot want ++ (calls n ++ (Call ∷ []))) × (trace ≡ handed serial v ++ (went_on n ++ (Failed ∷ []))))
+    ((steps ≡ Send slot want ∷ []) × (trace ≡ Busy ∷ [])) ⊎ ((n serial : ℕ) × (v : Verdict) × (steps ≡ hand_in_steps slot want ++ (calls n ++ (Call ∷ []))) × (trace ≡ hand_in_events serial v ++ (went_on n ++ (Failed ∷ []))))
 
 -- each entry answers its step
 abbrev pub IsTrace : World → List Step → List Event → Type 0
 IsTrace w [] [] = Unit {0}
-IsTrace w (step ∷ steps) (event ∷ trace) = Answers w step event × IsTrace (after w step event) steps trace
+IsTrace w (step ∷ steps) (event ∷ trace) = Answers w step event × IsTrace (after_step w step event) steps trace
 IsTrace w [] (event ∷ trace) = ⊥
 IsTrace w (step ∷ steps) [] = ⊥
 
@@ -99,15 +99,15 @@ handed_in w slot want v = let entries = entry_at w slot want v ∷ [] in record 
 }
 
 -- .. and stored
-abbrev pub stored_in : World → ℕ → Action → Verdict → World
-stored_in w slot want v = after (handed_in w slot want v) Call Committed
+abbrev pub stored_world : World → ℕ → Action → Verdict → World
+stored_world w slot want v = after_step (handed_in w slot want v) Call Committed
 
 module _ (recovers : List ℕ → Condensed → Type 0) (spent : DeviceState → Type 0) (honest : Type 0) where
   -- these steps, answered so, lead from a world and its device to another; with an honest device the headline holds before each
   abbrev pub Leads : World → Sight → List Step → List Event → World → Sight → Type 0
   Leads w d [] [] w' d' = (w' ≡ w) × (d' ≡ d)
   Leads w d (step ∷ steps) (event ∷ trace) w' d' =
-      (m : Sight) × Answers w step event × (honest → Headline recovers spent w d.state × Moves recovers spent w step event d m) × Leads (after w step event) m steps trace w' d'
+      (m : Sight) × Answers w step event × (honest → Headline recovers spent w d.state × Moves recovers spent w step event d m) × Leads (after_step w step event) m steps trace w' d'
   Leads w d [] (event ∷ trace) w' d' = ⊥
   Leads w d (step ∷ steps) [] w' d' = ⊥
 
@@ -122,7 +122,7 @@ module _ {K D : Type 0} {g : Ghosts K D} {d : Disk.Ghosts D} where
 
   -- for the proofs: these steps, answered so, lead through a pipeline from one world to another
   abbrev pub IsWay : World → List Step → List Event → World → (old new : Pipeline K D g d) → Type 0
-  IsWay w steps trace w' old new = Leads g.recovers g.spent (g.honest old.flusher.store) w (sight_of old) steps trace w' (sight_of new)
+  IsWay w steps trace w' old new = Leads g.recovers g.spent (d.honest (g.disk old.flusher.store)) w (sight_of old) steps trace w' (sight_of new)
 
   -- a slot's request went through it as a run of the world's steps, and with an honest device as one of the headline's
   pub record IsExchange (w : World) (slot : ℕ) (want : Action) (old new : Pipeline K D g d) (result : Result Judged Stopped) : Type 0 where
@@ -130,5 +130,5 @@ module _ {K D : Type 0} {g : Ghosts K D} {d : Disk.Ghosts D} where
     pub trace : List Event
     pub comes : ComesTo slot want result steps trace
     pub answers : IsTrace w steps trace
-    pub run : g.honest old.flusher.store → IsRun g.recovers g.spent w (sight_of old) steps trace (sight_of new)
-    pub rests : OnOk result (Rests (after_all w steps trace) new)
+    pub run : (d.honest (g.disk old.flusher.store)) → IsRun g.recovers g.spent w (sight_of old) steps trace (sight_of new)
+    pub rests : OnOk result (Rests (after_steps w steps trace) new)

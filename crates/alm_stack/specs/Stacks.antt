@@ -16,14 +16,14 @@ use Rattle.alm_types.specs.declared.query.Query.{Query}
 use Rattle.alm_types.specs.declared.refusal.Refusal.{Refusal}
 use Rattle.alm_pipeline.specs.declared.step.Step.TheVariants.{Look}
 use Rattle.alm_pipeline.specs.declared.event.Event.TheVariants.{Looked}
-use Rattle.alm_pipeline.specs.World.{World, Answers, after}
+use Rattle.alm_pipeline.specs.World.{World, Answers, after_step}
 use Rattle.alm_stack.specs.Exchanges.{IsExchange, Rests}
 use Rattle.alm_stack.specs.declared.stack.StackOver.{StackOver}
 
 -- none from the request on at which the storage stopped
-abbrev pub running : Option Request → Condensed → Option Condensed
-running None live = Some live
-running (Some r) live = None
+abbrev pub if_running : Option Request → Condensed → Option Condensed
+if_running None live = Some live
+if_running (Some r) live = None
 
 -- the plant alone; once the storage has stopped, what was stored before, without the request's own action or with it
 abbrev pub kept_at : Option Request → (live stored : Condensed) → List Condensed
@@ -37,10 +37,10 @@ module _ {T : Type 0} {t : ToldGhosts T} where
 
 module _ {K D : Type 0} {g : Ghosts K D} {d : Disk.Ghosts D} where
   abbrev pub stands_of : StackOver K D g d → Option Condensed
-  stands_of s = running s.halted (live_of s.pipeline.sequencer)
+  stands_of s = if_running s.halted (live_of s.pipeline.sequencer)
 
   abbrev pub kept_of : StackOver K D g d → List Condensed
-  kept_of s = kept_at s.halted (live_of s.pipeline.sequencer) (g.stored s.pipeline.flusher.store)
+  kept_of s = kept_at s.halted (live_of s.pipeline.sequencer) (g.state s.pipeline.flusher.store).stored
 
   -- its store
   abbrev pub store_of : StackOver K D g d → K
@@ -60,5 +60,5 @@ module _ {K D : Type 0} {g : Ghosts K D} {d : Disk.Ghosts D} where
 
   -- a query is a look of that world, under the count that it shows; a refused one changes nothing
   abbrev pub LooksThrough : World → Query → StackOver K D g d → Result ℕ Refusal → Type 0
-  LooksThrough w query s (Ok count) = (slot : ℕ) → Answers w (Look slot query) (Looked count) × RunsIn (after w (Look slot query) (Looked count)) s
+  LooksThrough w query s (Ok count) = (slot : ℕ) → Answers w (Look slot query) (Looked count) × RunsIn (after_step w (Look slot query) (Looked count)) s
   LooksThrough w query s (Err why) = RunsIn w s

@@ -8,14 +8,14 @@ ghost use Rattle.alm_model.specs.Accept.{accept};
 ghost use Rattle.alm_model.specs.Judging.{accepted_of, verdict_of};
 ghost use Rattle.alm_disk.specs.Failures.{HasFailed};
 ghost use Rattle.alm_desk.specs.Answers.{request};
-ghost use Rattle.alm_desk.specs.Backends.{judged, if_accepted};
+ghost use Rattle.alm_desk.specs.Backends.{judged_on, if_accepted};
 ghost use Rattle.alm_store.specs.Pace.{most_actions};
 ghost use Rattle.alm_pipeline.specs.declared.step.Step.TheVariants as S;
 ghost use Rattle.alm_pipeline.specs.declared.event.Event.TheVariants as E;
-ghost use Rattle.alm_pipeline.specs.World.{World, Held, after, live, shut};
+ghost use Rattle.alm_pipeline.specs.World.{World, Held, after_step, live, closed_world};
 ghost use Rattle.alm_pipeline.specs.Matches.{Fits, IsOpen};
 ghost use Rattle.alm_stack.specs.Exchanges.{IsIdle, IsExchange, IsWay, Rests, MayWait};
-ghost use Rattle.alm_stack.specs.Exchanges.{calls, went_on, handing, handed, answering, answered, handed_in, stored_in};
+ghost use Rattle.alm_stack.specs.Exchanges.{calls, went_on, hand_in_steps, hand_in_events, answer_steps, answer_events, handed_in, stored_world};
 
 use alm_desk::{Judged, Stopped};
 use alm_flush::Advance;
@@ -30,14 +30,15 @@ const MOST_CALLS: u32 = 647;
 ///
 /// Before each step it is said what a crash leaves.
 fn hand_in<K: Store>(pipeline: &mut Pipeline<K>, slot: Slot, want: Action) -> bool
-    ensures honest { K.honest pipeline.old.flusher.store ↔ K.honest pipeline.new.flusher.store }
-    ensures failures { K.failures pipeline.new.flusher.store ≡
-        K.failures pipeline.old.flusher.store }
+    ensures honest { K.Device.honest (K.disk pipeline.old.flusher.store) ↔
+        K.Device.honest (K.disk pipeline.new.flusher.store) }
+    ensures failures { K.Device.failures (K.disk pipeline.new.flusher.store) ≡
+        K.Device.failures (K.disk pipeline.old.flusher.store) }
     ensures handed { IsTrue result → (w : World) → Rests w pipeline.old →
         (serial : ℕ) × (v : Verdict) × (v ≡ verdict_of (live w) (request slot want)) ×
         (serial ≡ length (w.sent slot) + 1) × IsOpen (handed_in w slot want v) pipeline.new ×
-        IsWay w (handing slot want) (handed serial v) (handed_in w slot want v) pipeline.old
-        pipeline.new }
+        IsWay w (hand_in_steps slot want) (hand_in_events serial v) (handed_in w slot want v)
+        pipeline.old pipeline.new }
     ensures spent { result ≡ false → (w : World) → Rests w pipeline.old →
         (2 ^ 64 ≤ length (w.sent slot) + 1) × IsOpen w pipeline.new ×
         IsWay w (S.Send slot want ∷ []) (E.Busy ∷ []) w pipeline.old pipeline.new }
@@ -63,24 +64,27 @@ fn hand_in<K: Store>(pipeline: &mut Pipeline<K>, slot: Slot, want: Action) -> bo
 
 /// Makes device calls until the fetched batch is committed: whether that was done.
 fn commit<K: Store>(pipeline: &mut Pipeline<K>) -> bool
-    ensures honest { K.honest pipeline.old.flusher.store ↔ K.honest pipeline.new.flusher.store }
-    ensures count { K.failures pipeline.old.flusher.store ≤ K.failures pipeline.new.flusher.store }
+    ensures honest { K.Device.honest (K.disk pipeline.old.flusher.store) ↔
+        K.Device.honest (K.disk pipeline.new.flusher.store) }
+    ensures count { K.Device.failures (K.disk pipeline.old.flusher.store) ≤
+        K.Device.failures (K.disk pipeline.new.flusher.store) }
     ensures done { IsTrue result → (w : World) (entries : List Entry) → IsOpen w pipeline.old →
         w.stage ≡ Held entries → length (accepted_of entries) ≤ most_actions →
-        IsOpen (after w S.Call E.Committed) pipeline.new ×
+        IsOpen (after_step w S.Call E.Committed) pipeline.new ×
         ((n : ℕ) ×
         IsWay w (calls n ++ (S.Call ∷ [])) (went_on n ++ (E.Committed ∷ []))
-        (after w S.Call E.Committed) pipeline.old pipeline.new) }
+        (after_step w S.Call E.Committed) pipeline.old pipeline.new) }
     ensures failed { result ≡ false → (w : World) (entries : List Entry) → IsOpen w pipeline.old →
         w.stage ≡ Held entries → length (accepted_of entries) ≤ most_actions →
         Fits w pipeline.new ×
         ((n : ℕ) ×
-        IsWay w (calls n ++ (S.Call ∷ [])) (went_on n ++ (E.Failed ∷ [])) (shut w) pipeline.old
-        pipeline.new) }
+        IsWay w (calls n ++ (S.Call ∷ [])) (went_on n ++ (E.Failed ∷ [])) (closed_world w)
+        pipeline.old pipeline.new) }
     ensures cause { result ≡ false → (w : World) (entries : List Entry) → IsOpen w pipeline.old →
         w.stage ≡ Held entries → length (accepted_of entries) ≤ most_actions →
         ¬ (K.exhausted pipeline.new.flusher.store) →
-        HasFailed (K.failures pipeline.old.flusher.store) (K.failures pipeline.new.flusher.store) }
+        HasFailed (K.Device.failures (K.disk pipeline.old.flusher.store))
+        (K.Device.failures (K.disk pipeline.new.flusher.store)) }
 {
     pipeline.flusher.keeper().images();
     for _step in 0..MOST_CALLS {
@@ -100,13 +104,13 @@ fn hand_out<K: Store>(pipeline: &mut Pipeline<K>, slot: Slot) -> Option<Judged>
     ensures store { pipeline.new.flusher.store ≡ pipeline.old.flusher.store }
     ensures answered { IfSome result
         (λ j. (w : World) (want : Action) (v : Verdict) → IsIdle w →
-        IsOpen (stored_in w slot want v) pipeline.old →
+        IsOpen (stored_world w slot want v) pipeline.old →
         (j.verdict ≡ v) × (w' : World) × Rests w' pipeline.new ×
         (live w' ≡ live (handed_in w slot want v)) × (j.number ≡ (live w').panel.count) ×
-        IsWay (stored_in w slot want v) (answering slot)
-        (answered slot (length (w.sent slot) + 1) v j.number) w' pipeline.old pipeline.new) }
+        IsWay (stored_world w slot want v) (answer_steps slot)
+        (answer_events slot (length (w.sent slot) + 1) v j.number) w' pipeline.old pipeline.new) }
     ensures sure { IsNone result → (w : World) (want : Action) (v : Verdict) → IsIdle w →
-        IsOpen (stored_in w slot want v) pipeline.old → ⊥ }
+        IsOpen (stored_world w slot want v) pipeline.old → ⊥ }
 {
     pipeline.images();
     let Event::Published = pipeline.publish() else {
@@ -135,18 +139,21 @@ pub fn exchange<K: Store>(
     slot: Slot,
     want: Action,
 ) -> Result<Judged, Stopped>
-    ensures honest { K.honest pipeline.old.flusher.store ↔ K.honest pipeline.new.flusher.store }
-    ensures count { K.failures pipeline.old.flusher.store ≤ K.failures pipeline.new.flusher.store }
+    ensures honest { K.Device.honest (K.disk pipeline.old.flusher.store) ↔
+        K.Device.honest (K.disk pipeline.new.flusher.store) }
+    ensures count { K.Device.failures (K.disk pipeline.old.flusher.store) ≤
+        K.Device.failures (K.disk pipeline.new.flusher.store) }
     ensures judged { IfOk result (λ j. (w : World) → Rests w pipeline.old →
-        (j ≡ judged (live w) (request slot want)) × (w' : World) × Rests w' pipeline.new ×
+        (j ≡ judged_on (live w) (request slot want)) × (w' : World) × Rests w' pipeline.new ×
         (live w' ≡ if_accepted (live w) (accept (live w).panel (request slot want)))) }
     ensures left { IfErr result (λ _. (w : World) → Rests w pipeline.old →
-        (K.stored pipeline.new.flusher.store ≡ live w) ×
+        ((K.state pipeline.new.flusher.store).stored ≡ live w) ×
         MayWait pipeline.new.flusher.held (verdict_of (live w) (request slot want))) }
-    ensures cause { IfErr result (λ _. (w : World) → Rests w pipeline.old →
-        ¬ (K.exhausted pipeline.new.flusher.store) →
+    ensures cause { IfErr result
+        (λ _. (w : World) → Rests w pipeline.old → ¬ (K.exhausted pipeline.new.flusher.store) →
         length (w.sent slot) + 1 < 2 ^ 64 →
-        HasFailed (K.failures pipeline.old.flusher.store) (K.failures pipeline.new.flusher.store)) }
+        HasFailed (K.Device.failures (K.disk pipeline.old.flusher.store))
+        (K.Device.failures (K.disk pipeline.new.flusher.store))) }
     // A run of the world's steps, of which the answer is the reply.
     ensures run { (w : World) → Rests w pipeline.old →
         IsExchange w slot want pipeline.old pipeline.new result }

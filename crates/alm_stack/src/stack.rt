@@ -28,7 +28,8 @@ pub struct StackOver<K: Store> {
     /// While it runs, it has a world's pipeline, and nothing is under way between two requests,
     pub ghost rests: { halted ≡ None → ∥ ((w : World) × Rests w pipeline) ∥₁ },
     /// and once it has stopped, at most the action that met it.
-    pub ghost halts: { (r : Request) → halted ≡ Some r → ∥ MayWait pipeline.flusher.held (verdict_of (K.stored pipeline.flusher.store) r) ∥₁ },
+    pub ghost halts: { (r : Request) → halted ≡ Some r →
+        ∥ MayWait pipeline.flusher.held (verdict_of (K.state pipeline.flusher.store).stored r) ∥₁ },
 }
 
 impl<K: Store> StackOver<K> {
@@ -47,18 +48,21 @@ impl<K: Store> StackOver<K> {
         // What it reads is one of the images before, and stands for the plant.
         ensures opened { K.Device.honest disk →
             IfOk result
-            (λ s. IsImage (K.Device.state disk) (K.device (store_of s)).bytes ×
-            K.recovers (K.device (store_of s)).bytes (K.stored (store_of s))) }
+            (λ s. IsImage (K.Device.state disk) (K.Device.state (K.disk (store_of s))).bytes ×
+            K.recovers (K.Device.state (K.disk (store_of s))).bytes (K.state (store_of s)).stored) }
         ensures settled { K.Device.honest disk →
-            IfOk result (λ s. (place : ℕ) → (K.device (store_of s)).pending place ≡ false) }
+            IfOk result
+            (λ s. (place : ℕ) → (K.Device.state (K.disk (store_of s))).pending place ≡ false) }
         ensures stands { IfOk result
-            (λ s. (stands_of s ≡ Some (K.stored (store_of s))) ×
-            (kept_of s ≡ K.stored (store_of s) ∷ [])) }
+            (λ s. (stands_of s ≡ Some (K.state (store_of s)).stored) ×
+            (kept_of s ≡ (K.state (store_of s)).stored ∷ [])) }
         // It begins in the first world of that plant.
-        ensures world { IfOk result (λ s. RunsIn (first (K.stored (store_of s))) s) }
+        ensures world { IfOk result (λ s. RunsIn (first (K.state (store_of s)).stored) s) }
         ensures failures { IfOk result (λ s. s.failures ≡ 0) }
-        ensures counted { IfOk result (λ s. K.Device.failures disk ≤ K.failures (store_of s)) }
-        ensures honest { IfOk result (λ s. K.Device.honest disk ↔ K.honest (store_of s)) }
+        ensures counted { IfOk result
+            (λ s. K.Device.failures disk ≤ K.Device.failures (K.disk (store_of s))) }
+        ensures honest { IfOk result
+            (λ s. K.Device.honest disk ↔ K.Device.honest (K.disk (store_of s))) }
         ensures honest_back { IfErr result (λ x. K.Device.honest disk ↔ K.Device.honest x.1) }
         ensures unwritten_back { K.Device.honest disk →
             IfErr result
@@ -84,8 +88,8 @@ impl<K: Store> StackOver<K> {
     /// Does nothing: it says what a crash leaves of the device. Each image stands for one of the plants that are kept: for the plant
     /// itself while it runs, and once it has stopped for the one before, without the action that met it or with it.
     pub fn images(&self)
-        ensures { K.honest (store_of self.now) → (b : List ℕ) →
-            IsImage (K.device (store_of self.now)) b →
+        ensures { K.Device.honest (K.disk (store_of self.now)) → (b : List ℕ) →
+            IsImage (K.Device.state (K.disk (store_of self.now))) b →
             ∥ ((plant : Condensed) × Contains (kept_of self.now) plant × K.recovers b plant) ∥₁ }
     {
         self.pipeline.flusher.keeper().images();
@@ -93,9 +97,9 @@ impl<K: Store> StackOver<K> {
 
     /// The device.
     pub fn into_disk(self) -> K::Device
-        ensures honest { K.honest (store_of self) ↔ K.Device.honest result }
-        ensures device { K.Device.state result ≡ K.device (store_of self) }
-        ensures failures { K.Device.failures result ≡ K.failures (store_of self) }
+        ensures honest { K.Device.honest (K.disk (store_of self)) ↔ K.Device.honest result }
+        ensures device { K.Device.state result ≡ K.Device.state (K.disk (store_of self)) }
+        ensures failures { K.Device.failures result ≡ K.Device.failures (K.disk (store_of self)) }
     {
         let StackOver {
             pipeline,
@@ -128,8 +132,10 @@ impl<K: Store> Backend for StackOver<K> {
         ensures cause { IsSome (stands_of self.old) → ¬ (K.exhausted (store_of self.new)) →
             serial_of request.now.slot self.old + 1 < 2 ^ 64 →
             OnErr result
-            (HasFailed (K.failures (store_of self.old)) (K.failures (store_of self.new))) }
-        ensures honest { K.honest (store_of self.old) ↔ K.honest (store_of self.new) }
+            (HasFailed (K.Device.failures (K.disk (store_of self.old)))
+            (K.Device.failures (K.disk (store_of self.new)))) }
+        ensures honest { K.Device.honest (K.disk (store_of self.old)) ↔
+            K.Device.honest (K.disk (store_of self.new)) }
         // It is a run of the world's steps, of which the answer is the reply; with an honest device it is one of the headline's.
         ensures run { (w : World) → RunsIn w self.old →
             RunsThrough w request.now self.old self.new result }
@@ -155,7 +161,8 @@ impl<K: Store> Backend for StackOver<K> {
         ensures same { (stands_of self.new ≡ stands_of self.old) ×
             (kept_of self.new ≡ kept_of self.old) }
         ensures count { self.new.failures ≡ self.old.failures }
-        ensures honest { K.honest (store_of self.old) ↔ K.honest (store_of self.new) }
+        ensures honest { K.Device.honest (K.disk (store_of self.old)) ↔
+            K.Device.honest (K.disk (store_of self.new)) }
         // It is a look of the world.
         ensures run { (w : World) → RunsIn w self.old → LooksThrough w query self.new result }
     {

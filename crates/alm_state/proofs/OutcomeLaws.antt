@@ -12,8 +12,8 @@ use Rattle.alm_types.specs.declared.refusal.Refusal.TheVariants.{NotUnacknowledg
 use Rattle.alm_state.specs.Rows.{State, IsState, is_suppressed, is_annunciated, is_active_core}
 use Rattle.alm_state.specs.Suits.{suits, IsAhead}
 use Rattle.alm_state.specs.Table.{next_core}
-use Rattle.alm_state.specs.Detection.{detected, comes, goes}
-use Rattle.alm_state.specs.Outcome.{outcome, row_refusal, reflagged, followed, led, moved, annunciated_anew, unshelved, unless, or_else, active_after}
+use Rattle.alm_state.specs.Detection.{detection_of, comes, goes}
+use Rattle.alm_state.specs.Outcome.{outcome, row_refusal, after_flags, after_condition, after_transition, in_core, annunciated_anew, without_shelving, unless, or_else, active_after}
 use Rattle.alm_state.specs.declared.core_state.Core.{Core}
 use Rattle.alm_state.specs.declared.core_state.Core.TheVariants.{Normal, Unack, Acked, RtnUnack, LatchUnack, LatchAcked}
 use Rattle.alm_state.specs.declared.happening.Happening.{Happening}
@@ -77,7 +77,7 @@ moved-stamp s false = inr refl
 
 -- an annunciated row in another core state
 moved-good : (a : Attr) (s : State) (c : Core) (active : Bool) → IsState s → is_suppressed s ≡ false → active ≡ is_active_core c → IsTrue (suits a.latching c) → is_annunciated s.core ≡ true
-    → IsChanged a s (moved c (record s { active = active }))
+    → IsChanged a s (in_core c (record s { active = active }))
 moved-good a s c active state free same fits loud = record {
   state = record {
     suppressed = λ h. absurd (true≢false (sym h ∙ free));
@@ -93,7 +93,7 @@ moved-good a s c active state free same fits loud = record {
 -- where the table leads a free row
 led-cases : (a : Attr) (now stamp : ℕ) (s : State) (active : Bool) (l : Bool) (h : Happening) (c : Core)
     → 0 < stamp → IsState s → is_suppressed s ≡ false → a.latching ≡ l → s.core ≡ c → active ≡ active_after h (is_active_core c) → is_some (next_core l h c) ≡ true
-    → IsOutcome a now stamp s (led stamp (next_core l h c) (record s { active = active }))
+    → IsOutcome a now stamp s (after_transition stamp (next_core l h c) (record s { active = active }))
 led-cases a now stamp s active l happening.Comes Normal new state free e f same some = annunciated_anew-good a stamp (record s { active = active }) new free same
 led-cases a now stamp s active l happening.Comes RtnUnack new state free e f same some = annunciated_anew-good a stamp (record s { active = active }) new free same
 led-cases a now stamp s active l happening.Comes LatchUnack new state free e f same some = annunciated_anew-good a stamp (record s { active = active }) new free same
@@ -109,7 +109,7 @@ led-cases a now stamp s active true happening.Reset LatchAcked new state free e 
 led-cases a now stamp s active l h c new state free e f same some = absurd (true≢false (sym some))
 
 led-good : (a : Attr) (now stamp : ℕ) (s : State) (active : Bool) (h : Happening) → 0 < stamp → IsState s → is_suppressed s ≡ false → active ≡ active_after h s.active → is_some (next_core a.latching h s.core) ≡ true
-    → IsOutcome a now stamp s (led stamp (next_core a.latching h s.core) (record s { active = active }))
+    → IsOutcome a now stamp s (after_transition stamp (next_core a.latching h s.core) (record s { active = active }))
 led-good a now stamp s active h new state free same some =
     led-cases a now stamp s active a.latching h s.core new state free refl refl (same ∙ ap (active_after h) (state.active free)) some
 
@@ -156,10 +156,10 @@ reflagged-cases a now stamp s t false false new state e same p q =
     }
 
 reflagged-good : (a : Attr) (now stamp : ℕ) (s t : State) → 0 < stamp → IsState s → t.stamp ≡ s.stamp → (t.shelved_until ≡ s.shelved_until) ⊎ (t.shelved_until ≡ None)
-    → IsOutcome a now stamp s (reflagged stamp t)
+    → IsOutcome a now stamp s (after_flags stamp t)
 reflagged-good a now stamp s t new state e same = reflagged-cases a now stamp s t (is_suppressed t) t.active new state e same refl refl
 
-pub unshelved-good : (a : Attr) (now stamp : ℕ) (s : State) → 0 < stamp → IsState s → IsOutcome a now stamp s (unshelved stamp s)
+pub unshelved-good : (a : Attr) (now stamp : ℕ) (s : State) → 0 < stamp → IsState s → IsOutcome a now stamp s (without_shelving stamp s)
 unshelved-good a now stamp s new state = reflagged-good a now stamp s (record s { shelved_until = None }) new state refl (inr refl)
 
 -- a condition that comes or goes is one of the table
@@ -182,12 +182,12 @@ goes-some l LatchUnack e = absurd (true≢false (sym e))
 goes-some l LatchAcked e = absurd (true≢false (sym e))
 
 followed-free : (a : Attr) (now stamp : ℕ) (s : State) (active : Bool) → 0 < stamp → IsState s → is_suppressed s ≡ false → s.active ≡ not active
-    → IsOutcome a now stamp s (led stamp (next_core a.latching (cond active happening.Comes happening.Goes) s.core) (record s { active = active }))
+    → IsOutcome a now stamp s (after_transition stamp (next_core a.latching (cond active happening.Comes happening.Goes) s.core) (record s { active = active }))
 followed-free a now stamp s true new state free e = led-good a now stamp s true happening.Comes new state free refl (comes-some a.latching s.core (sym (state.active free) ∙ e))
 followed-free a now stamp s false new state free e = led-good a now stamp s false happening.Goes new state free refl (goes-some a.latching s.core (sym (state.active free) ∙ e))
 
 followed-cases : (a : Attr) (now stamp : ℕ) (s : State) (active suppressed : Bool) → 0 < stamp → IsState s → IsTrue (suits a.latching s.core) → s.active ≡ not active → is_suppressed s ≡ suppressed
-    → IsOutcome a now stamp s (cond suppressed (Changed (record s { active = active })) (led stamp (next_core a.latching (cond active happening.Comes happening.Goes) s.core) (record s { active = active })))
+    → IsOutcome a now stamp s (cond suppressed (Changed (record s { active = active })) (after_transition stamp (next_core a.latching (cond active happening.Comes happening.Goes) s.core) (record s { active = active })))
 followed-cases a now stamp s active true new state fits e p = record {
   state = record { suppressed = λ h. state.suppressed p; active = λ h. absurd (true≢false (sym p ∙ h)); stamped = state.stamped };
   suits = fits;
@@ -198,7 +198,7 @@ followed-cases a now stamp s active true new state fits e p = record {
 followed-cases a now stamp s active false new state fits e p = followed-free a now stamp s active new state p e
 
 -- a detected condition is a new one
-detected-new : (a : Attr) (before : Bool) (v : ℤ) (after : Bool) → detected a before v ≡ Some after → before ≡ not after
+detected-new : (a : Attr) (before : Bool) (v : ℤ) (after : Bool) → detection_of a before v ≡ Some after → before ≡ not after
 detected-new a false v after = elim (comes a.kind a.setpoint v) as (λ b. cond b (Some true) None ≡ Some after → false ≡ not after) [
   | true ↦ λ h. ap not (same_Some _ _ h)
   | false ↦ λ h. absurd (none-some _ h)
@@ -208,7 +208,7 @@ detected-new a true v after = elim (goes a.kind a.setpoint a.deadband v) as (λ 
   | false ↦ λ h. absurd (none-some _ h)
 ]
 
-followed-good : (a : Attr) (now stamp : ℕ) (s : State) (v : ℤ) (o : Option Bool) → 0 < stamp → IsState s → IsTrue (suits a.latching s.core) → detected a s.active v ≡ o → IsOutcome a now stamp s (followed stamp a s o)
+followed-good : (a : Attr) (now stamp : ℕ) (s : State) (v : ℤ) (o : Option Bool) → 0 < stamp → IsState s → IsTrue (suits a.latching s.core) → detection_of a s.active v ≡ o → IsOutcome a now stamp s (after_condition stamp a s o)
 followed-good a now stamp s v (Some active) new state fits e = followed-cases a now stamp s active (is_suppressed s) new state fits (detected-new a s.active v active e) refl
 followed-good a now stamp s v None new state fits e = record { state = state; suits = fits; stamp = inl refl; annunciated = λ h. h; shelved = inl refl }
 
@@ -245,7 +245,7 @@ in_length seconds limit h = grind (arith, common_steps)
 pub outcome-good : (a : Attr) (now stamp : ℕ) (action : Action) (s : State) → 0 < stamp → IsState s → IsTrue (suits a.latching s.core) → row_refusal action a s ≡ None
     → IsOutcome a now stamp s (outcome now stamp action a s)
 outcome-good a now stamp (Clock t) s new state fits h = record { state = state; suits = fits; stamp = inl refl; annunciated = λ e. e; shelved = inl refl }
-outcome-good a now stamp (Value i v) s new state fits h = followed-good a now stamp s v (detected a s.active v) new state fits refl
+outcome-good a now stamp (Value i v) s new state fits h = followed-good a now stamp s v (detection_of a s.active v) new state fits refl
 outcome-good a now stamp (Ack i) s new state fits h =
     let some = unless-none (is_some (next_core a.latching happening.Ack s.core)) NotUnacknowledged h in
     led-good a now stamp s s.active happening.Ack new state (free-from s a.latching happening.Ack state (ack-normal a.latching) some) refl some
@@ -280,5 +280,5 @@ ended-cases stamp s true active = refl
 ended-cases stamp s false true = refl
 ended-cases stamp s false false = refl
 
-pub unshelved-ended : (stamp : ℕ) (s : State) → (row_of (unshelved stamp s)).shelved_until ≡ None
+pub unshelved-ended : (stamp : ℕ) (s : State) → (row_of (without_shelving stamp s)).shelved_until ≡ None
 unshelved-ended stamp s = ended-cases stamp s (is_suppressed (record s { shelved_until = None })) s.active

@@ -18,6 +18,6 @@ goes Low setpoint deadband value = int_lt (setpoint +ℤ pos deadband) value
 goes Discrete setpoint deadband value = not (int_eq value setpoint)
 
 -- the new condition, where the value changes it
-abbrev pub detected : Attr → Bool → ℤ → Option Bool
-detected attr false value = if comes attr.kind attr.setpoint value then Some true else None
-detected attr true value = if goes attr.kind attr.setpoint attr.deadband value then Some false else None
+abbrev pub detection_of : Attr → Bool → ℤ → Option Bool
+detection_of attr false value = if comes attr.kind attr.setpoint value then Some true else None
+detection_of attr true value = if goes attr.kind attr.setpoint attr.deadband value then Some false else None

@@ -9,7 +9,7 @@ use Rattle.alm_types.specs.declared.refusal.Refusal.{Refusal}
 use Rattle.alm_types.specs.declared.refusal.Refusal.TheVariants.{NotUnacknowledged, NotResettable, AlreadyShelved, NotShelved, ShelveLength, AlreadySet, NotSet, NoChange, PriorityRange, SameValue}
 use Rattle.alm_state.specs.Rows.{State, is_suppressed, is_annunciated}
 use Rattle.alm_state.specs.Table.{next_core}
-use Rattle.alm_state.specs.Detection.{detected}
+use Rattle.alm_state.specs.Detection.{detection_of}
 use Rattle.alm_state.specs.declared.core_state.Core.{Core}
 use Rattle.alm_state.specs.declared.core_state.Core.TheVariants.{Normal, Unack}
 use Rattle.alm_state.specs.declared.happening.Happening.{Happening}
@@ -44,7 +44,7 @@ setpoint_refusal a setpoint = unless (not (int_eq setpoint a.setpoint)) SameValu
 -- why the alarm that an action names refuses it
 abbrev pub row_refusal : Action → Attr → State → Option Refusal
 row_refusal (Clock t) a s = None
-row_refusal (Value i v) a s = unless (is_some (detected a s.active v)) NoChange
+row_refusal (Value i v) a s = unless (is_some (detection_of a s.active v)) NoChange
 row_refusal (Ack i) a s = unless (is_some (next_core a.latching happening.Ack s.core)) NotUnacknowledged
 row_refusal (Reset i) a s = unless (is_some (next_core a.latching happening.Reset s.core)) NotResettable
 row_refusal (Shelve i seconds) a s =
@@ -60,42 +60,42 @@ abbrev pub annunciated_anew : ℕ → State → Outcome
 annunciated_anew stamp s = Annunciated (record s { core = Unack; stamp = stamp })
 
 -- the row in another core state; what is annunciated no more has no stamp
-abbrev pub moved : Core → State → State
-moved c s = record s { core = c; stamp = if is_annunciated c then s.stamp else 0 }
+abbrev pub in_core : Core → State → State
+in_core c s = record s { core = c; stamp = if is_annunciated c then s.stamp else 0 }
 
 -- the row where the table of the core states leads it; only a condition that comes leads to Unack
-abbrev pub led : ℕ → Option Core → State → Outcome
-led stamp None s = Changed s
-led stamp (Some Unack) s = annunciated_anew stamp s
-led stamp (Some c) s = Changed (moved c s)
+abbrev pub after_transition : ℕ → Option Core → State → Outcome
+after_transition stamp None s = Changed s
+after_transition stamp (Some Unack) s = annunciated_anew stamp s
+after_transition stamp (Some c) s = Changed (in_core c s)
 
 -- the row under flags that have changed: Normal while one is set; when the last one falls, an active alarm is annunciated anew
-abbrev pub reflagged : ℕ → State → Outcome
-reflagged stamp s =
+abbrev pub after_flags : ℕ → State → Outcome
+after_flags stamp s =
     if is_suppressed s then Changed (record s { core = Normal; stamp = if is_some s.shelved_until then s.stamp else 0 })
     else if s.active then annunciated_anew stamp s
     else Changed (record s { core = Normal; stamp = 0 })
 
-abbrev pub unshelved : ℕ → State → Outcome
-unshelved stamp s = reflagged stamp (record s { shelved_until = None })
+abbrev pub without_shelving : ℕ → State → Outcome
+without_shelving stamp s = after_flags stamp (record s { shelved_until = None })
 
 -- the row after its condition came or went; under a flag the condition is only followed
-abbrev pub followed : ℕ → Attr → State → Option Bool → Outcome
-followed stamp a s None = Changed s
-followed stamp a s (Some active) =
+abbrev pub after_condition : ℕ → Attr → State → Option Bool → Outcome
+after_condition stamp a s None = Changed s
+after_condition stamp a s (Some active) =
     if is_suppressed s then Changed (record s { active = active })
-    else led stamp (next_core a.latching (if active then happening.Comes else happening.Goes) s.core) (record s { active = active })
+    else after_transition stamp (next_core a.latching (if active then happening.Comes else happening.Goes) s.core) (record s { active = active })
 
 -- what an action at a moment makes of the alarm that it names, where this is the next stamp
 abbrev pub outcome : ℕ → ℕ → Action → Attr → State → Outcome
 outcome now stamp (Clock t) a s = Changed s
-outcome now stamp (Value i v) a s = followed stamp a s (detected a s.active v)
-outcome now stamp (Ack i) a s = led stamp (next_core a.latching happening.Ack s.core) s
-outcome now stamp (Reset i) a s = led stamp (next_core a.latching happening.Reset s.core) s
+outcome now stamp (Value i v) a s = after_condition stamp a s (detection_of a s.active v)
+outcome now stamp (Ack i) a s = after_transition stamp (next_core a.latching happening.Ack s.core) s
+outcome now stamp (Reset i) a s = after_transition stamp (next_core a.latching happening.Reset s.core) s
 outcome now stamp (Shelve i seconds) a s = Shelved (record s { core = Normal; shelved_until = Some (now + seconds); stamp = stamp })
-outcome now stamp (Unshelve i) a s = unshelved stamp s
-outcome now stamp (Oos i on) a s = reflagged stamp (record s { out_of_service = on })
-outcome now stamp (Design i on) a s = reflagged stamp (record s { by_design = on })
+outcome now stamp (Unshelve i) a s = without_shelving stamp s
+outcome now stamp (Oos i on) a s = after_flags stamp (record s { out_of_service = on })
+outcome now stamp (Design i on) a s = after_flags stamp (record s { by_design = on })
 outcome now stamp (SetPriority i priority) a s = Changed s
 outcome now stamp (SetSetpoint i setpoint) a s = Changed s
 

@@ -1,7 +1,7 @@
 //! Whether a value changes an alarm's condition.
 
 ghost use Rattle.std.specs.Prelude.{◌≡◌};
-ghost use Rattle.alm_state.specs.Detection.{detected, comes, goes};
+ghost use Rattle.alm_state.specs.Detection.{detection_of, comes, goes};
 
 use alm_types::{Attr, Kind, Reading};
 
@@ -34,7 +34,7 @@ fn goes(attr: &Attr, reading: Reading) -> bool
 
 /// The new condition of an alarm, where the value changes it.
 pub fn detect(attr: &Attr, active: bool, reading: Reading) -> Option<bool>
-    ensures { result ≡ detected attr.now active reading }
+    ensures { result ≡ detection_of attr.now active reading }
 {
     let changes = if active {
         goes(attr, reading)

@@ -3,7 +3,7 @@
 ghost use Rattle.std.specs.Prelude.{◌≡◌, ◌<◌, None, false, ◌⊎◌};
 ghost use Rattle.alm_state.specs.Rows.{is_suppressed};
 ghost use Rattle.alm_state.specs.Table.{next_core};
-ghost use Rattle.alm_state.specs.Outcome.{outcome, row_refusal, reflagged, followed, led, unshelved, active_after};
+ghost use Rattle.alm_state.specs.Outcome.{outcome, row_refusal, after_flags, after_condition, after_transition, without_shelving, active_after};
 
 use crate::core_state::Core;
 use crate::detection::detect;
@@ -23,7 +23,7 @@ fn reflagged(
     requires stamp { 0 < stamp }
     requires shelved { shelved_until ≡ None ⊎ (shelved_until ≡ row.shelved_until) }
     ensures { result ≡
-        reflagged stamp
+        after_flags stamp
         (record row
         { shelved_until = shelved_until; by_design = by_design; out_of_service = out_of_service }) }
 {
@@ -64,7 +64,8 @@ fn led(row: Row, active: bool, happening: Happening, latching: bool, stamp: u64)
     requires free { is_suppressed row ≡ false }
     requires active { active ≡ active_after happening row.active }
     ensures { result ≡
-        led stamp (next_core latching happening row.core) (record row { active = active }) }
+        after_transition stamp (next_core latching happening row.core)
+        (record row { active = active }) }
 {
     match row.core.next(happening, latching) {
         Ok(Core::Unack) => Outcome::Annunciated(Row {
@@ -86,7 +87,7 @@ fn led(row: Row, active: bool, happening: Happening, latching: bool, stamp: u64)
 /// The row after its condition came or went.
 fn followed(row: Row, attr: &Attr, active: bool, stamp: u64) -> Outcome
     requires stamp { 0 < stamp }
-    ensures { result ≡ followed stamp attr.now row (Some active) }
+    ensures { result ≡ after_condition stamp attr.now row (Some active) }
 {
     if row.is_suppressed() {
         Outcome::Changed(Row { active, ..row })
@@ -134,7 +135,7 @@ impl Row {
     /// What the end of its shelving makes of an alarm.
     pub fn unshelved(self, stamp: u64) -> Outcome
         requires { 0 < stamp }
-        ensures { result ≡ unshelved stamp self }
+        ensures { result ≡ without_shelving stamp self }
     {
         let by_design = self.by_design;
         let out_of_service = self.out_of_service;

@@ -3,7 +3,7 @@ use Rattle.std.proofs.Common.{◌≡◌, ◌⊎◌, ⊎_elim, ◌+◌, ◌-◌, 
 use Rattle.std.proofs.lemmas.List.{take_at, take-append-le}
 use Rattle.std.proofs.Props.{props}
 use Rattle.std.proofs.Math.Logic.{∥∥₁_elim}
-use Rattle.alm_disk.specs.Device.{IsBytes}
+use Rattle.alm_disk.specs.Device.{AreBytes}
 use Rattle.alm_types.specs.declared.action.Action.{Action}
 use Rattle.alm_model.specs.Plant.{Condensed}
 use Rattle.alm_model.specs.Rules.{KeepsRules}
@@ -42,11 +42,11 @@ front_on base accepted more floor q f = record {
 
 module _ (recovers : List ℕ → Condensed → Type 0) (base : Condensed) (accepted : List Action) where
   -- an image that stands for one of two plants, each of which is a front
-  pub safe_by : (floor : ℕ) (stored next : Condensed) (image : List ℕ) → IsBytes image
+  pub safe_by : (floor : ℕ) (stored next : Condensed) (image : List ℕ) → AreBytes image
       → IsFrontPlant base accepted floor stored → IsFrontPlant base accepted floor next
       → ∥ recovers image stored ⊎ recovers image next ∥₁
       → ((b : List ℕ) (p q : Condensed) → recovers b p → recovers b q → p ≡ q)
-      → ((b : List ℕ) (p : Condensed) → IsBytes b → recovers b p → KeepsRules p)
+      → ((b : List ℕ) (p : Condensed) → AreBytes b → recovers b p → KeepsRules p)
       → IsSafe recovers base accepted floor image
   safe_by floor stored next image bytes old new stands one rules = record {
     some = ∥∥₁_elim stands (hlevel props) (⊎_elim (λ (r : recovers image stored). ∣ (stored, r) ∣₁) (λ (r : recovers image next). ∣ (next, r) ∣₁));

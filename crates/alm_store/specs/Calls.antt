@@ -1,9 +1,12 @@
 -- Calls of a device: what they do to its bytes, and which the device itself says that they were.
-use Rattle.std.specs.Prelude.{◌≡◌, ◌⊎◌, ℕ, List, [], ◌∷◌, Result, Ok, Err}
+use Rattle.std.specs.Prelude.{◌≡◌, ◌⊎◌, ◌≤◌, ℕ, List, [], ◌∷◌, Result, Ok, Err}
 use Rattle.alm_disk.specs.Device.{DeviceState, Writes, Syncs}
 use Rattle.alm_disk.specs.declared.call.Call.{Call}
-use Rattle.alm_disk.specs.declared.call.Call.TheVariants.{Read, Write, Sync}
+use Rattle.alm_disk.specs.declared.call.Call.TheVariants.{Read, Sync}
 use Rattle.alm_disk.specs.declared.disk_fault.DiskFault.{DiskFault}
+use Rattle.alm_disk.specs.Failures.{HasFailed}
+use Rattle.alm_store.specs.declared.progress.Progress.{Progress}
+use Rattle.alm_store.specs.declared.progress.Progress.TheVariants.{Failed}
 
 -- one write
 pub record IsWrite (old new : DeviceState) : Type 0 where
@@ -41,6 +44,16 @@ CallDone serves old new = ∥ OneCall serves (Ok tt) old new ∥₁
 -- it failed
 abbrev pub CallFailed : {D : Type 0} → (D → Call → Result Unit DiskFault → D → Type 0) → D → D → Type 0
 CallFailed serves old new = ∥ ((fault : DiskFault) × OneCall serves (Err fault) old new) ∥₁
+
+-- one was made, which failed where that is told
+abbrev pub MakesOne : {D : Type 0} → (D → Call → Result Unit DiskFault → D → Type 0) → Progress → D → D → Type 0
+MakesOne serves Failed old new = CallFailed serves old new
+MakesOne serves result old new = CallDone serves old new
+
+-- and what it makes of the count of failures
+abbrev pub CountsFailures : Progress → (before now : ℕ) → Type 0
+CountsFailures Failed before now = (before ≤ now) × HasFailed before now
+CountsFailures result before now = now ≡ before
 
 -- these calls were made of a device, one after the other, and no others
 abbrev pub AreMade : {D : Type 0} → (D → Call → Result Unit DiskFault → D → Type 0) → List Call → D → D → Type 0

@@ -4,3 +4,4 @@ pub mod Opening
 pub mod Pace
 pub mod Pacing
 pub mod Recovery
+pub mod State

@@ -35,8 +35,8 @@ abbrev pub open_len : Going → ℕ
 open_len g = 24 + largest + g.since
 
 -- a piece went out since the last commit's end, or before the commit that is under way
-abbrev pub IsAhead : Phase → (written : ℕ) → Type 0
-IsAhead phase written = (phase ≡ Committing) ⊎ (1 ≤ written)
+abbrev pub IsPieceAhead : Phase → (written : ℕ) → Type 0
+IsPieceAhead phase written = (phase ≡ Committing) ⊎ (1 ≤ written)
 
 -- the commits since its copy don't overtake its pieces: when it was copied at most half of the segment was used but for one frame, and
 -- before each commit a piece went out
@@ -49,11 +49,7 @@ pub record Paced (segment used : ℕ) (ahead : Type 0) (g : Going) : Type 0 wher
   -- each of these pieces is a whole one, since the last one comes behind the commits
   pub whole : most * commits ≤ open_len g
 
--- a store keeps its pace: where no checkpoint is open at most half of the segment is used
-abbrev pub KeepsPace : (segment : ℕ) → Phase → (used written : ℕ) → Option Going → Type 0
-KeepsPace segment phase used written None = 2 * used ≤ segment
-KeepsPace segment phase used written (Some g) = Paced segment used (IsAhead phase written) g
-
--- the half that stands takes any batch
-abbrev pub TakesAny : (segment used : ℕ) → Type 0
-TakesAny segment used = used + longest + 1 ≤ segment
+-- where no checkpoint is open at most half of the segment is used
+abbrev pub IsInPace : (segment : ℕ) → Phase → (used written : ℕ) → Option Going → Type 0
+IsInPace segment phase used written None = 2 * used ≤ segment
+IsInPace segment phase used written (Some g) = Paced segment used (IsPieceAhead phase written) g

@@ -7,11 +7,11 @@ use Rattle.alm_table.specs.TableFile.{read_file, DeviceTable, Misfit, key, rows,
 use Rattle.alm_table.specs.declared.load_fault.LoadFault.{LoadFault}
 use Rattle.alm_table.specs.declared.load_fault.LoadFault.TheVariants.{NotToml, Key, Rows, OutOfMemory}
 
-abbrev pub entry_of : Attr → AlarmEntry
-entry_of a = record { settings = record { kind = a.kind; setpoint = a.setpoint; deadband = a.deadband; priority = a.priority; area = a.area; latching = a.latching; max_shelve = a.max_shelve }; tag = a.tag; text = a.text }
+abbrev pub element_of : Attr → AlarmEntry
+element_of a = record { settings = record { kind = a.kind; setpoint = a.setpoint; deadband = a.deadband; priority = a.priority; area = a.area; latching = a.latching; max_shelve = a.max_shelve }; tag = a.tag; text = a.text }
 
 abbrev pub device_table : ℕ → Listing → DeviceTable
-device_table size t = record { size = size; areas = t.areas; alarms = map entry_of t.alarms }
+device_table size t = record { size = size; areas = t.areas; alarms = map element_of t.alarms }
 
 -- the text has a tree, and the tree says this
 abbrev pub ReadsAs : List ℕ → Result DeviceTable Misfit → Type 0

@@ -20,8 +20,8 @@ is_key (Some i) k = bytes_eq k (codes "kind") || bytes_eq k (codes "setpoint") |
 
 -- the first key that there is not, since members stand in the order of their bytes
 abbrev pub first_unknown : (List ℕ → Bool) → Members → Option (List ℕ)
-first_unknown known no_members = None
-first_unknown known (member k d ms) = if known k then first_unknown known ms else Some k
+first_unknown if_known no_members = None
+first_unknown if_known (member k d ms) = if if_known k then first_unknown if_known ms else Some k
 
 -- a value that there is where a test holds
 abbrev pub only_if : {A : Type 0} → (A → Bool) → A → Option A
@@ -32,17 +32,17 @@ abbrev pub natural : ℕ → ℕ → Data → Option ℕ
 natural least most (integer (pos n)) = only_if (λ m. nat_le least m && nat_le m most) n
 natural least most _ = None
 
-abbrev pub reading : Data → Option ℤ
-reading d = option_and_then (only_if is_reading) (as_integer d)
+abbrev pub reading_of_data : Data → Option ℤ
+reading_of_data d = option_and_then (only_if is_reading) (as_integer d)
 
 abbrev pub kind_named : List ℕ → Option Kind
 kind_named t = if bytes_eq t (codes "high") then Some High else if bytes_eq t (codes "low") then Some Low else if bytes_eq t (codes "discrete") then Some Discrete else None
 
-abbrev pub kind : Data → Option Kind
-kind d = option_and_then kind_named (as_str d)
+abbrev pub kind_of_data : Data → Option Kind
+kind_of_data d = option_and_then kind_named (as_str d)
 
-abbrev pub tag : Data → Option (List ℕ)
-tag d = option_and_then (only_if is_tag) (as_str d)
+abbrev pub tag_of_data : Data → Option (List ℕ)
+tag_of_data d = option_and_then (only_if is_tag) (as_str d)
 
 abbrev pub text : Data → Option (List ℕ)
 text d = option_and_then (only_if is_text) (as_str d)
@@ -64,20 +64,20 @@ abbrev pub known_but : Option ℕ → Option (List ℕ) → Result (List ℕ) Mi
 known_but alarm None = Ok []
 known_but alarm (Some k) = Err (key alarm k)
 
-abbrev pub known : Option ℕ → Members → Result (List ℕ) Misfit
-known alarm ms = known_but alarm (first_unknown (is_key alarm) ms)
+abbrev pub if_known : Option ℕ → Members → Result (List ℕ) Misfit
+if_known alarm ms = known_but alarm (first_unknown (is_key alarm) ms)
 
 -- the value of a key, or what stands for one that is missing
-abbrev pub found : {A : Type 0} → Option A → (Data → Option A) → Option Data → Option A
-found absent reads None = absent
-found absent reads (Some d) = reads d
+abbrev pub value_or : {A : Type 0} → Option A → (Data → Option A) → Option Data → Option A
+value_or absent reads None = absent
+value_or absent reads (Some d) = reads d
 
-abbrev pub need : {A : Type 0} → Option ℕ → List ℕ → Option A → Result A Misfit
-need alarm k None = Err (key alarm k)
-need alarm k (Some a) = Ok a
+abbrev pub needed_value : {A : Type 0} → Option ℕ → List ℕ → Option A → Result A Misfit
+needed_value alarm k None = Err (key alarm k)
+needed_value alarm k (Some a) = Ok a
 
 abbrev pub field : {A : Type 0} → Option ℕ → Members → List ℕ → Option A → (Data → Option A) → Result A Misfit
-field alarm ms k absent reads = need alarm k (found absent reads (get_member k ms))
+field alarm ms k absent reads = needed_value alarm k (value_or absent reads (get_member k ms))
 
 -- an alarm
 pub record AlarmEntry : Type 0 where
@@ -87,15 +87,15 @@ pub record AlarmEntry : Type 0 where
 
 abbrev pub read_alarm : ℕ → ℕ → Members → Result AlarmEntry Misfit
 read_alarm i areas ms =
-    and_then (known (Some i) ms) (λ _.
-    and_then (field (Some i) ms (codes "kind") None kind) (λ kind.
-    and_then (field (Some i) ms (codes "setpoint") None reading) (λ setpoint.
+    and_then (if_known (Some i) ms) (λ _.
+    and_then (field (Some i) ms (codes "kind") None kind_of_data) (λ kind.
+    and_then (field (Some i) ms (codes "setpoint") None reading_of_data) (λ setpoint.
     and_then (field (Some i) ms (codes "priority") None (natural 1 4)) (λ priority.
     and_then (field (Some i) ms (codes "area") None (natural 0 (areas - 1))) (λ area.
     and_then (field (Some i) ms (codes "deadband") (Some 0) (natural 0 (deadband_limit kind))) (λ deadband.
     and_then (field (Some i) ms (codes "max_shelve") (Some 0) (natural 0 604800)) (λ max_shelve.
     and_then (field (Some i) ms (codes "latching") (Some false) as_bool) (λ latching.
-    and_then (field (Some i) ms (codes "tag") None tag) (λ tag.
+    and_then (field (Some i) ms (codes "tag") None tag_of_data) (λ tag.
     and_then (field (Some i) ms (codes "text") (Some []) text) (λ text.
     Ok (record { settings = record { kind = kind; setpoint = setpoint; deadband = deadband; priority = priority; area = area; latching = latching; max_shelve = max_shelve }; tag = tag; text = text })))))))))))
 
@@ -123,7 +123,7 @@ pub record DeviceTable : Type 0 where
 
 abbrev pub read_file : Members → Result DeviceTable Misfit
 read_file ms =
-    and_then (known None ms) (λ _.
+    and_then (if_known None ms) (λ _.
     and_then (field None ms (codes "size") None (natural 1 1099511627776)) (λ size.
     and_then (field None ms (codes "areas") None (natural 1 64)) (λ areas.
     and_then (field None ms (codes "alarm") None tables) (λ ds.

@@ -3,7 +3,7 @@
 ghost use Rattle.std.specs.Prelude.{◌≡◌, ◌≤◌, ◌<◌, Ok, IfOk, IfErr};
 ghost use Rattle.toml.specs.View.{table_view};
 ghost use Rattle.alm_table.specs.TableFile.{read_alarm};
-ghost use Rattle.alm_table.specs.Faults.{IsFaultIn, entry_of};
+ghost use Rattle.alm_table.specs.Faults.{IsFaultIn, element_of};
 
 use crate::load_fault::LoadFault;
 use crate::section::Section;
@@ -15,7 +15,7 @@ use toml::Table;
 pub fn alarm_of(alloc: Global, table: &Table, number: u32, areas: u8) -> Result<Attr, LoadFault>
     requires { (1 ≤ areas) × (areas ≤ 64) }
     ensures ok { IfOk result
-        (λ a. read_alarm number areas (table_view table.now) ≡ Ok (entry_of a)) }
+        (λ a. read_alarm number areas (table_view table.now) ≡ Ok (element_of a)) }
     ensures area { IfOk result (λ a. a.area < areas) }
     ensures err { IfErr result (λ e. IsFaultIn e (read_alarm number areas (table_view table.now))) }
 {

@@ -4,7 +4,7 @@ ghost use Rattle.std.specs.Prelude.{◌≡◌, ◌≤◌, ◌<◌, ◌&&◌, nat
 ghost use Rattle.toml.specs.Data.{as_table};
 ghost use Rattle.toml.specs.View.{view, table_view, array_view};
 ghost use Rattle.alm_table.specs.TableFile.{read_alarm, read_alarms, read_file, are_tables, count, members_in};
-ghost use Rattle.alm_table.specs.Faults.{IsFaultIn, IsFaultOf, ReadsAs, entry_of, device_table};
+ghost use Rattle.alm_table.specs.Faults.{IsFaultIn, IsFaultOf, ReadsAs, element_of, device_table};
 
 use crate::alarm::alarm_of;
 use crate::load_fault::LoadFault;
@@ -19,7 +19,7 @@ fn alarm_in(alloc: Global, value: &Value, number: u32, areas: u8) -> Result<Attr
     requires table { IsSome (as_table (view value.now)) }
     requires areas { (1 ≤ areas) × (areas ≤ 64) }
     ensures ok { IfOk result
-        (λ a. read_alarm number areas (members_in (view value.now)) ≡ Ok (entry_of a)) }
+        (λ a. read_alarm number areas (members_in (view value.now)) ≡ Ok (element_of a)) }
     ensures area { IfOk result (λ a. a.area < areas) }
     ensures err { IfErr result
         (λ e. IsFaultIn e (read_alarm number areas (members_in (view value.now)))) }
@@ -45,7 +45,7 @@ fn alarms_of(alloc: Global, array: &Array, areas: u8) -> Result<Vec<Attr>, LoadF
     requires few { count (array_view array.now) ≤ 16384 }
     requires areas { (1 ≤ areas) × (areas ≤ 64) }
     ensures ok { IfOk result
-        (λ v. read_alarms 0 areas (array_view array.now) ≡ Ok (map entry_of v.items)) }
+        (λ v. read_alarms 0 areas (array_view array.now) ≡ Ok (map element_of v.items)) }
     ensures all { IfOk result (λ v. length v.items ≡ count (array_view array.now)) }
     ensures areas { IfOk result (λ v. All (λ a. a.area < areas) v.items) }
     ensures err { IfErr result (λ e. IsFaultIn e (read_alarms 0 areas (array_view array.now))) }

@@ -4,7 +4,7 @@ ghost use Rattle.std.specs.Prelude.{◌≡◌, ◌≤◌, Some, None, Ok, [], fa
 ghost use Rattle.toml.specs.Data.{get_member, as_bool};
 ghost use Rattle.toml.specs.View.{view, table_view, array_view};
 ghost use Rattle.alm_types.specs.Attributes.{deadband_limit};
-ghost use Rattle.alm_table.specs.TableFile.{first_unknown, known, field, natural, reading, kind_named, kind, tag, text, tables, are_tables};
+ghost use Rattle.alm_table.specs.TableFile.{first_unknown, if_known, field, natural, reading_of_data, kind_named, kind_of_data, tag_of_data, text, tables, are_tables};
 ghost use Rattle.alm_table.specs.Faults.{IsFaultIn, NamesKey};
 
 use crate::keys::first_unknown;
@@ -44,9 +44,9 @@ impl<'a> Section<'a> {
     /// Sees that there is each of its keys.
     pub fn known(&self) -> Result<(), LoadFault>
         ensures ok { IfOk result
-            (λ _. known self.now.alarm (table_view self.now.table.now) ≡ Ok []) }
+            (λ _. if_known self.now.alarm (table_view self.now.table.now) ≡ Ok []) }
         ensures err { IfErr result
-            (λ e. IsFaultIn e (known self.now.alarm (table_view self.now.table.now))) }
+            (λ e. IsFaultIn e (if_known self.now.alarm (table_view self.now.table.now))) }
     {
         match first_unknown(self.alarm, self.table) {
             None => Ok(()),
@@ -100,10 +100,11 @@ impl<'a> Section<'a> {
     pub fn reading(&self, key: &str) -> Result<Reading, LoadFault>
         ensures ok { IfOk result
             (λ r.
-            field self.now.alarm (table_view self.now.table.now) key.now None reading ≡ Ok r) }
+            field self.now.alarm (table_view self.now.table.now) key.now None reading_of_data ≡
+            Ok r) }
         ensures err { IfErr result
             (λ e. IsFaultIn e
-            (field self.now.alarm (table_view self.now.table.now) key.now None reading)) }
+            (field self.now.alarm (table_view self.now.table.now) key.now None reading_of_data)) }
     {
         match value_at(self.table, key).and_then(reading_of) {
             Some(reading) => Ok(reading),
@@ -113,10 +114,11 @@ impl<'a> Section<'a> {
 
     pub fn kind(&self, key: &str) -> Result<Kind, LoadFault>
         ensures ok { IfOk result
-            (λ k. field self.now.alarm (table_view self.now.table.now) key.now None kind ≡ Ok k) }
+            (λ k.
+            field self.now.alarm (table_view self.now.table.now) key.now None kind_of_data ≡ Ok k) }
         ensures err { IfErr result
-            (λ e.
-            IsFaultIn e (field self.now.alarm (table_view self.now.table.now) key.now None kind)) }
+            (λ e. IsFaultIn e
+            (field self.now.alarm (table_view self.now.table.now) key.now None kind_of_data)) }
     {
         match value_at(self.table, key).and_then(kind_of) {
             Some(kind) => Ok(kind),
@@ -145,10 +147,11 @@ impl<'a> Section<'a> {
 
     pub fn tag(&self, key: &str) -> Result<Tag, LoadFault>
         ensures ok { IfOk result
-            (λ t. field self.now.alarm (table_view self.now.table.now) key.now None tag ≡ Ok t) }
+            (λ t.
+            field self.now.alarm (table_view self.now.table.now) key.now None tag_of_data ≡ Ok t) }
         ensures err { IfErr result
-            (λ e.
-            IsFaultIn e (field self.now.alarm (table_view self.now.table.now) key.now None tag)) }
+            (λ e. IsFaultIn e
+            (field self.now.alarm (table_view self.now.table.now) key.now None tag_of_data)) }
     {
         match value_at(self.table, key).and_then(tag_of) {
             Some(tag) => Ok(tag),

@@ -2,7 +2,7 @@
 
 ghost use Rattle.std.specs.Prelude.{◌≡◌, option_map};
 ghost use Rattle.toml.specs.View.{view, array_view};
-ghost use Rattle.alm_table.specs.TableFile.{natural, reading, kind_named, kind, tag, text, tables, are_tables};
+ghost use Rattle.alm_table.specs.TableFile.{natural, reading_of_data, kind_named, kind_of_data, tag_of_data, text, tables, are_tables};
 
 use alm_types::{Kind, Reading, Tag, Text};
 use toml::Value;
@@ -49,19 +49,19 @@ fn are_tables(array: &Array) -> bool
 }
 
 pub fn reading_of(value: &Value) -> Option<Reading>
-    ensures { result ≡ reading (view value.now) }
+    ensures { result ≡ reading_of_data (view value.now) }
 {
     Reading::new(value.as_integer()?)
 }
 
 pub fn kind_of(value: &Value) -> Option<Kind>
-    ensures { result ≡ kind (view value.now) }
+    ensures { result ≡ kind_of_data (view value.now) }
 {
     kind_named(value.as_str()?)
 }
 
 pub fn tag_of(value: &Value) -> Option<Tag>
-    ensures { result ≡ tag (view value.now) }
+    ensures { result ≡ tag_of_data (view value.now) }
 {
     Tag::new(value.as_str()?.as_bytes())
 }

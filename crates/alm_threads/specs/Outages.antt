@@ -3,7 +3,7 @@ use Rattle.std.specs.Prelude.{◌≡◌, ◌⊎◌, ℕ, max, List, [], ◌∷�
 use Rattle.alm_types.specs.declared.action.Action.{Action}
 use Rattle.alm_disk.specs.Device.{DeviceState, IsImage}
 use Rattle.alm_model.specs.Plant.{Condensed}
-use Rattle.alm_run.specs.Moments.{Moment, Course, at_first}
+use Rattle.alm_run.specs.Moments.{Moment, SafeCourse, at_first}
 
 -- this is one of the moments
 abbrev pub IsAmong : Moment → List Moment → Type 0
@@ -15,7 +15,7 @@ pub record Outage (recovers : List ℕ → Condensed → Type 0) (base : Condens
   pub accepted : List Action
   pub from : DeviceState
   pub last : Moment
-  pub course : Course recovers base accepted (at_first base from) last
+  pub course : SafeCourse recovers base accepted (at_first base from) last
   pub moment : Moment
   pub among : IsAmong moment (at_first base from ∷ course.moments)
   pub told_by_then : told ≡ max moment.released moment.shown

@@ -54,9 +54,9 @@ pub fn parts_of<'h, J: Naming, K: Store, H: Hold, R: Wait>(
     hold: &'h H,
 ) -> Result<Parts<Front<J>, WatchedLook<'h, SharedLook<J, Plant>, H>, SharedBoard<J, Plant>, K>, K>
     requires book { history.seen.book ≡ J.book }
-    requires base { K.stored store ≡ J.base }
-    requires idle { K.phase store ≡ Phase.Idle }
-    requires limit { (K.stored store).panel.count ≤ 2 ^ 48 }
+    requires base { (K.state store).stored ≡ J.base }
+    requires idle { (K.state store).phase ≡ Phase.Idle }
+    requires limit { (K.state store).stored.panel.count ≤ 2 ^ 48 }
     requires some { (0 < length slots.items) × (length slots.items < 2 ^ 32) }
     requires apart { AreApart (λ s. s) slots.items }
     ensures store { IfOk result (λ parts. parts.middle.flusher.store ≡ store) }

@@ -25,13 +25,19 @@ pub struct Parts<T: Told + Drop, L: Look<Told = T> + Drop, B: Board<Told = T>, K
     pub ghost apart: { AreApart (λ s. s) slots.items },
     pub ghost order: { map (λ c. c.slot) consoles.items ≡ slots.items },
     pub ghost each_looks: { length looks.items ≡ length slots.items },
-    pub ghost base: { K.stored middle.flusher.store ≡ B.base board },
+    pub ghost base: { (K.state middle.flusher.store).stored ≡ B.base board },
     pub ghost published: { B.published board ≡ [] },
     pub ghost pending: { B.pending board ≡ [] },
-    pub ghost inboxes: { (k : ℕ) (c : Console _ _) → slice_get consoles.items k ≡ Some c → IsSome (inbox_at c.slot middle.rings.inboxes.items) },
-    pub ghost outboxes: { (k : ℕ) (c : Console _ _) → slice_get consoles.items k ≡ Some c → IsSome (outbox_at c.slot middle.flusher.outboxes.items) },
-    pub ghost requests: { (k : ℕ) (c : Console _ _) (i : Inbox) → slice_get consoles.items k ≡ Some c → inbox_at c.slot middle.rings.inboxes.items ≡ Some i → IsPair c.requests i.requests },
-    pub ghost replies: { (k : ℕ) (c : Console _ _) (o : Outbox _ _) → slice_get consoles.items k ≡ Some c → outbox_at c.slot middle.flusher.outboxes.items ≡ Some o → IsPair o.replies c.replies },
+    pub ghost inboxes: { (k : ℕ) (c : Console _ _) → slice_get consoles.items k ≡ Some c →
+        IsSome (inbox_at c.slot middle.rings.inboxes.items) },
+    pub ghost outboxes: { (k : ℕ) (c : Console _ _) → slice_get consoles.items k ≡ Some c →
+        IsSome (outbox_at c.slot middle.flusher.outboxes.items) },
+    pub ghost requests: { (k : ℕ) (c : Console _ _) (i : Inbox) →
+        slice_get consoles.items k ≡ Some c → inbox_at c.slot middle.rings.inboxes.items ≡ Some i →
+        IsPair c.requests i.requests },
+    pub ghost replies: { (k : ℕ) (c : Console _ _) (o : Outbox _ _) →
+        slice_get consoles.items k ≡ Some c →
+        outbox_at c.slot middle.flusher.outboxes.items ≡ Some o → IsPair o.replies c.replies },
 }
 
 impl<T: Told + Drop, L: Look<Told = T> + Drop, B: Board<Told = T>, K: Store> Parts<T, L, B, K> {

@@ -16,7 +16,8 @@ pub struct RunReport<K: Store> {
     pub storage: Storage,
     /// What went through each slot, in the order of the slots.
     pub slots: Vec<Option<SlotReport>>,
-    pub ghost goes_on: { storage ≡ Whole → K.phase keeper ≢ Stopped },
+    pub ghost goes_on: { storage ≡ Whole → (K.state keeper).phase ≢ Stopped },
     pub ghost answered: { storage ≡ Whole → ∥ AllAnswered slots.items ∥₁ },
-    pub ghost whole: { K.phase keeper ≢ Stopped → AllAnswered slots.items → storage ≡ Whole },
+    pub ghost whole: { (K.state keeper).phase ≢ Stopped → AllAnswered slots.items →
+        storage ≡ Whole },
 }

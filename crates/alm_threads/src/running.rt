@@ -4,11 +4,11 @@ ghost use mathlib.Core.List.{IsPrefix};
 ghost use Rattle.alm_rings.specs.Batches.{AreBatchEnds, SameSealEnds, SameFetchEnds, fetched_of, sealed_of};
 ghost use Rattle.alm_rings.specs.Placed.{AreApart, SameOutboxAt, outbox_at};
 ghost use Rattle.alm_seq.specs.Sequences.{SameInboxes};
-ghost use Rattle.alm_run.specs.Histories.{Judged, Flushed, LeavesOneOf};
+ghost use Rattle.alm_run.specs.Histories.{JudgesAll, Flushed, LeavesOneOf};
 ghost use Rattle.alm_run.specs.Moments.{Endures};
 ghost use Rattle.alm_run.specs.Same.{AllSame};
-ghost use Rattle.alm_run.specs.Serving.{Serves};
-ghost use Rattle.alm_threads.specs.Answered.{AllAnswered, IsAnswered};
+ghost use Rattle.alm_run.specs.Serving.{ServesSlots};
+ghost use Rattle.alm_threads.specs.Answered.{AllAnswered, IsSlotAnswered};
 ghost use Rattle.alm_threads.specs.Runs.{AreClosed, IsRun};
 ghost use Rattle.alm_threads.specs.Slots.{AreTied};
 
@@ -64,30 +64,31 @@ where
     S: 's,
     E: 's,
     H: 's,
-    requires serves { Serves slots.now.items middle.rings.inboxes.items }
-    requires base { K.stored middle.flusher.store ≡ B.Board.base board }
-    requires published { B.Board.published board ≡ [] }
-    requires pending { B.Board.pending board ≡ [] }
+    requires serves { ServesSlots slots.now.items middle.rings.inboxes.items }
+    requires base { (K.state middle.flusher.store).stored ≡ B.Board.base board }
+    requires fresh { (B.Board.published board ≡ []) × (B.Board.pending board ≡ []) }
     requires room { (room.items ≡ []) × (vec_len slot_parts ≤ vec_capacity room) }
     ensures consoles { IfOk result
         (λ e. AllSame (map (λ p. p.console) slot_parts.items) e.consoles.items) }
-    ensures inboxes { IfOk result
-        (λ e. SameInboxes middle.rings.inboxes.items e.rings.inboxes.items) }
-    ensures seals { IfOk result (λ e. SameSealEnds middle.rings.ends e.rings.ends) }
+    ensures rings { IfOk result
+        (λ e. SameInboxes middle.rings.inboxes.items e.rings.inboxes.items ×
+        SameSealEnds middle.rings.ends e.rings.ends) }
     ensures outboxes { IfOk result
         (λ e. (s : ℕ) →
         SameOutboxAt (outbox_at s middle.flusher.outboxes.items)
         (outbox_at s e.flusher.outboxes.items)) }
     ensures fetches { IfOk result (λ e. SameFetchEnds middle.flusher.fetch e.flusher.fetch) }
     ensures judged { IfOk result
-        (λ e. Judged (K.stored middle.flusher.store) e.rings.inboxes.items e.rings.ends) }
+        (λ e. JudgesAll (K.state middle.flusher.store).stored e.rings.inboxes.items e.rings.ends) }
     ensures flushed { IfOk result
         (λ e. Flushed
-        (LeavesOneOf (K.honest middle.flusher.store) (K.honest e.flusher.store) K.recovers
-        (K.device e.flusher.store))
-        (Endures (K.honest middle.flusher.store) K.recovers (K.stored middle.flusher.store)
-        (K.device middle.flusher.store) (K.device e.flusher.store)) (K.stored middle.flusher.store)
-        (K.stored e.flusher.store) e.flusher.outboxes.items e.flusher.fetch) }
+        (LeavesOneOf (K.Device.honest (K.disk middle.flusher.store))
+        (K.Device.honest (K.disk e.flusher.store)) K.recovers
+        (K.Device.state (K.disk e.flusher.store)))
+        (Endures (K.Device.honest (K.disk middle.flusher.store)) K.recovers
+        (K.state middle.flusher.store).stored (K.Device.state (K.disk middle.flusher.store))
+        (K.Device.state (K.disk e.flusher.store))) (K.state middle.flusher.store).stored
+        (K.state e.flusher.store).stored e.flusher.outboxes.items e.flusher.fetch) }
 {
     let Middle {
         plant,
@@ -120,7 +121,7 @@ where
 
 // Whether all that was sent was taken, and all that was taken was answered.
 fn is_answered(slot: &Option<SlotReport>) -> bool
-    ensures { IsTrue result ↔ IsAnswered slot.now }
+    ensures { IsTrue result ↔ IsSlotAnswered slot.now }
 {
     match slot {
         Some(report) => report.sent == report.taken && report.taken == report.released,
@@ -210,38 +211,39 @@ fn in_scope<
     board: B,
     middle: Middle<K, T>,
 ) -> Result<Ends<K, T>, StartFault>
-    requires serves { Serves slots.now.items middle.rings.inboxes.items }
-    requires base { K.stored middle.flusher.store ≡ B.Board.base board }
-    requires published { B.Board.published board ≡ [] }
-    requires pending { B.Board.pending board ≡ [] }
+    requires serves { ServesSlots slots.now.items middle.rings.inboxes.items }
+    requires base { (K.state middle.flusher.store).stored ≡ B.Board.base board }
+    requires fresh { (B.Board.published board ≡ []) × (B.Board.pending board ≡ []) }
     requires room { (room.items ≡ []) × (vec_len slot_parts ≤ vec_capacity room) }
     ensures consoles { IfOk result
         (λ e. AllSame (map (λ p. p.console) slot_parts.items) e.consoles.items) }
-    ensures inboxes { IfOk result
-        (λ e. SameInboxes middle.rings.inboxes.items e.rings.inboxes.items) }
-    ensures seals { IfOk result (λ e. SameSealEnds middle.rings.ends e.rings.ends) }
+    ensures rings { IfOk result
+        (λ e. SameInboxes middle.rings.inboxes.items e.rings.inboxes.items ×
+        SameSealEnds middle.rings.ends e.rings.ends) }
     ensures outboxes { IfOk result
         (λ e. (s : ℕ) →
         SameOutboxAt (outbox_at s middle.flusher.outboxes.items)
         (outbox_at s e.flusher.outboxes.items)) }
     ensures fetches { IfOk result (λ e. SameFetchEnds middle.flusher.fetch e.flusher.fetch) }
     ensures judged { IfOk result
-        (λ e. Judged (K.stored middle.flusher.store) e.rings.inboxes.items e.rings.ends) }
+        (λ e. JudgesAll (K.state middle.flusher.store).stored e.rings.inboxes.items e.rings.ends) }
     ensures flushed { IfOk result
         (λ e. Flushed
-        (LeavesOneOf (K.honest middle.flusher.store) (K.honest e.flusher.store) K.recovers
-        (K.device e.flusher.store))
-        (Endures (K.honest middle.flusher.store) K.recovers (K.stored middle.flusher.store)
-        (K.device middle.flusher.store) (K.device e.flusher.store)) (K.stored middle.flusher.store)
-        (K.stored e.flusher.store) e.flusher.outboxes.items e.flusher.fetch) }
+        (LeavesOneOf (K.Device.honest (K.disk middle.flusher.store))
+        (K.Device.honest (K.disk e.flusher.store)) K.recovers
+        (K.Device.state (K.disk e.flusher.store)))
+        (Endures (K.Device.honest (K.disk middle.flusher.store)) K.recovers
+        (K.state middle.flusher.store).stored (K.Device.state (K.disk middle.flusher.store))
+        (K.Device.state (K.disk e.flusher.store))) (K.state middle.flusher.store).stored
+        (K.state e.flusher.store).stored e.flusher.outboxes.items e.flusher.fetch) }
 {
     let closing = ClosingBoard::new(board, rt);
     thread::scope(
         thread::scope_env(),
         rt,
         |scope| -> Result<Ends<K, T>, StartFault>
-            requires { Serves slots.now.items middle.rings.inboxes.items ×
-                (K.stored middle.flusher.store ≡ B.Board.base closing.board) ×
+            requires { ServesSlots slots.now.items middle.rings.inboxes.items ×
+                ((K.state middle.flusher.store).stored ≡ B.Board.base closing.board) ×
                 (B.Board.published closing.board ≡ []) × (B.Board.pending closing.board ≡ []) ×
                 (room.items ≡ []) × (vec_len slot_parts ≤ vec_capacity room) }
             ensures { IfOk result
@@ -252,14 +254,15 @@ fn in_scope<
                 SameOutboxAt (outbox_at s middle.flusher.outboxes.items)
                 (outbox_at s e.flusher.outboxes.items)) ×
                 SameFetchEnds middle.flusher.fetch e.flusher.fetch ×
-                Judged (K.stored middle.flusher.store) e.rings.inboxes.items e.rings.ends ×
+                JudgesAll (K.state middle.flusher.store).stored e.rings.inboxes.items e.rings.ends ×
                 Flushed
-                (LeavesOneOf (K.honest middle.flusher.store) (K.honest e.flusher.store) K.recovers
-                (K.device e.flusher.store))
-                (Endures (K.honest middle.flusher.store) K.recovers (K.stored middle.flusher.store)
-                (K.device middle.flusher.store) (K.device e.flusher.store))
-                (K.stored middle.flusher.store) (K.stored e.flusher.store) e.flusher.outboxes.items
-                e.flusher.fetch) }
+                (LeavesOneOf (K.Device.honest (K.disk middle.flusher.store))
+                (K.Device.honest (K.disk e.flusher.store)) K.recovers
+                (K.Device.state (K.disk e.flusher.store)))
+                (Endures (K.Device.honest (K.disk middle.flusher.store)) K.recovers
+                (K.state middle.flusher.store).stored (K.Device.state (K.disk middle.flusher.store))
+                (K.Device.state (K.disk e.flusher.store))) (K.state middle.flusher.store).stored
+                (K.state e.flusher.store).stored e.flusher.outboxes.items e.flusher.fetch) }
         {
             run_all(
                 scope,
@@ -333,12 +336,13 @@ pub fn run_with_bells<
         slice_get parts.slots.items k ≡ Some n }
     ensures run { IfOk result
         (λ report. IsRun
-        (LeavesOneOf (K.honest parts.middle.flusher.store) (K.honest report.keeper) K.recovers
-        (K.device report.keeper))
-        (Endures (K.honest parts.middle.flusher.store) K.recovers
-        (K.stored parts.middle.flusher.store) (K.device parts.middle.flusher.store)
-        (K.device report.keeper)) (K.stored parts.middle.flusher.store) parts.slots.items
-        (K.stored report.keeper) report.slots.items) }
+        (LeavesOneOf (K.Device.honest (K.disk parts.middle.flusher.store))
+        (K.Device.honest (K.disk report.keeper)) K.recovers (K.Device.state (K.disk report.keeper)))
+        (Endures (K.Device.honest (K.disk parts.middle.flusher.store)) K.recovers
+        (K.state parts.middle.flusher.store).stored
+        (K.Device.state (K.disk parts.middle.flusher.store))
+        (K.Device.state (K.disk report.keeper))) (K.state parts.middle.flusher.store).stored
+        parts.slots.items (K.state report.keeper).stored report.slots.items) }
 {
     let Ok(
         Room {
@@ -387,12 +391,13 @@ pub fn run_threads<
         slice_get parts.slots.items k ≡ Some n }
     ensures run { IfOk result
         (λ report. IsRun
-        (LeavesOneOf (K.honest parts.middle.flusher.store) (K.honest report.keeper) K.recovers
-        (K.device report.keeper))
-        (Endures (K.honest parts.middle.flusher.store) K.recovers
-        (K.stored parts.middle.flusher.store) (K.device parts.middle.flusher.store)
-        (K.device report.keeper)) (K.stored parts.middle.flusher.store) parts.slots.items
-        (K.stored report.keeper) report.slots.items) }
+        (LeavesOneOf (K.Device.honest (K.disk parts.middle.flusher.store))
+        (K.Device.honest (K.disk report.keeper)) K.recovers (K.Device.state (K.disk report.keeper)))
+        (Endures (K.Device.honest (K.disk parts.middle.flusher.store)) K.recovers
+        (K.state parts.middle.flusher.store).stored
+        (K.Device.state (K.disk parts.middle.flusher.store))
+        (K.Device.state (K.disk report.keeper))) (K.state parts.middle.flusher.store).stored
+        parts.slots.items (K.state report.keeper).stored report.slots.items) }
 {
     let Ok(mut bells) = Vec::with_capacity(alloc, sources.len()) else {
         drop(parts.close(rt));

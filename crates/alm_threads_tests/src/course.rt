@@ -74,9 +74,9 @@ fn run_over<J: Naming + Send + Sync, K: Store, H: Hold + Sync, R: Threads + Wait
     sources: Vec<Player>,
 ) -> Option<RunReport<K>>
     requires book { history.seen.book ≡ J.book }
-    requires base { K.stored store ≡ J.base }
-    requires idle { K.phase store ≡ Phase.Idle }
-    requires limit { (K.stored store).panel.count ≤ 2 ^ 48 }
+    requires base { (K.state store).stored ≡ J.base }
+    requires idle { (K.state store).phase ≡ Phase.Idle }
+    requires limit { (K.state store).stored.panel.count ≤ 2 ^ 48 }
     requires some { (0 < length slots.items) × (length slots.items < 2 ^ 32) }
     requires apart { AreApart (λ s. s) slots.items }
     requires sources { length sources.items ≡ length slots.items }

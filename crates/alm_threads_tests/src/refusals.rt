@@ -77,7 +77,7 @@ fn told_behind<K: Store, R: Wait>(
     store: K,
     refusals: u64,
 ) -> Option<(Option<u64>, bool)>
-    requires idle { K.phase store ≡ Phase.Idle }
+    requires idle { (K.state store).phase ≡ Phase.Idle }
 {
     let clock = Slot::new(17)?;
     let Ok(shown) = store.stored().copy(alloc) else {

@@ -12,7 +12,7 @@ use Rattle.alm_lists.proofs.Each.{all-filter}
 use Rattle.alm_lists.proofs.Times.{times-filter}
 use Rattle.alm_lists.proofs.Sorted.{IsNotAfter, rises-from_neighbours, times-IsPermutation, all-IsPermutation}
 use Rattle.alm_links.specs.Lists.{Lists}
-use Rattle.alm_wheel.specs.Deadlines.{slot_of, deadline_of, deadline_key, is_between, is_due}
+use Rattle.alm_wheel.specs.Deadlines.{slot_of, deadline_of, deadline_key, is_between, is_deadline_due}
 use Rattle.alm_wheel.specs.Wheels.{IsWheel, nodes_behind}
 use Rattle.alm_wheel.proofs.Gathering.{met, met_between, times-nodes_behind, small-nodes_behind, few-nodes_behind}
 
@@ -64,14 +64,14 @@ cond_few true n h = h
 cond_few false n h = omega arith
 
 pub due_sorted : (deadlines : List (Option ℕ)) (f : Lists) (from to : ℕ) (behind passed sorted : List ℕ) → IsWheel deadlines f → behind ≡ nodes_behind f.lists from (min (to - from) 256)
-    → passed ≡ filter (is_due from to deadlines) behind → IsPermutation passed sorted
+    → passed ≡ filter (is_deadline_due from to deadlines) behind → IsPermutation passed sorted
     → ((k d : ℕ) → k + 1 < length sorted
     → is_lt (ordering_then (nat_cmp (deadline_key deadlines (get_or sorted (k + 1) d)) (deadline_key deadlines (get_or sorted k d))) (nat_cmp (get_or sorted (k + 1) d) (get_or sorted k d))) ≡ false)
-    → IsSortedFilter (deadline_key deadlines) (is_due from to deadlines) (length deadlines) sorted
+    → IsSortedFilter (deadline_key deadlines) (is_deadline_due from to deadlines) (length deadlines) sorted
 due_sorted deadlines f from to behind passed sorted w b p moved up =
     let turns = min (to - from) 256 in
     let few : turns ≤ 256 = omega arith in
-    let test = is_due from to deadlines in
+    let test = is_deadline_due from to deadlines in
     let times_in : (i : ℕ) → times i sorted ≡ cond (test i) (times i (nodes_behind f.lists from turns)) 0 =
     λ i. times-IsPermutation i passed sorted moved ∙ ap (times i) p ∙ times-filter test i behind ∙ ap (λ l. cond (test i) (times i l) 0) b in
     record {

@@ -20,8 +20,8 @@ is_between from to None = false
 is_between from to (Some deadline) = nat_lt from deadline && nat_le deadline to
 
 -- whether a node has such a deadline
-abbrev pub is_due : ℕ → ℕ → List (Option ℕ) → ℕ → Bool
-is_due from to deadlines node = is_between from to (deadline_of deadlines node)
+abbrev pub is_deadline_due : ℕ → ℕ → List (Option ℕ) → ℕ → Bool
+is_deadline_due from to deadlines node = is_between from to (deadline_of deadlines node)
 
 -- the deadline of a node as a number to sort by, 0 where it has none
 abbrev pub deadline_key : List (Option ℕ) → ℕ → ℕ

@@ -16,8 +16,8 @@ pub record IsWheel (deadlines : List (Option ℕ)) (slots : Lists) : Type 0 wher
 abbrev pub schedule_of : Inside → Schedule
 schedule_of w = record { deadlines = w.deadlines.items; slots = w.slots.lists }
 
-abbrev pub IsSound : Inside → Type 0
-IsSound w = IsWheel w.deadlines.items w.slots
+abbrev pub IsSoundWheel : Inside → Type 0
+IsSoundWheel w = IsWheel w.deadlines.items w.slots
 
 -- the nodes of the slots of so many moments behind one
 abbrev pub nodes_behind : List (List ℕ) → ℕ → ℕ → List ℕ

@@ -1,12 +1,12 @@
 //! What an action does to plain rows.
 
 ghost use Rattle.std.specs.Prelude.{◌≡◌, ◌<◌, ◌+◌, ◌*◌, ◌^◌, ◌≤◌, slice_get, length, None, All, fold, vec_capacity, vec_len};
-ghost use Rattle.alm_model.specs.Step.{step, settle, later, acted, put, touch, counted, unshelve, configured};
+ghost use Rattle.alm_model.specs.Step.{step, settle, later, with_effect, with_outcome, touch, with_one_more, unshelve, with_attributes};
 ghost use Rattle.alm_model.specs.Accept.{own_refusal, refusal, alarm_refusal};
 ghost use Rattle.alm_state.specs.Outcome.{outcome, attr_after};
 ghost use Rattle.alm_model.specs.Lists.{due};
 ghost use Rattle.alm_model.specs.Rules.{IsTimely};
-ghost use Rattle.alm_model.specs.Keeping.{condensed};
+ghost use Rattle.alm_model.specs.Keeping.{in_brief};
 
 use crate::ages::advance_all;
 use crate::floods::settle_all;
@@ -23,7 +23,7 @@ impl PlainRows {
         requires here { index < length self.old.panel.rows }
         requires stamps { self.old.panel.next_stamp < 1 + 16384 * self.old.panel.count }
         ensures rows { length self.new.panel.rows ≡ length self.old.panel.rows }
-        ensures plant { self.new ≡ put condensed self.old index outcome }
+        ensures plant { self.new ≡ with_outcome in_brief self.old index outcome }
     {
         match outcome {
             Outcome::Changed(row) => {
@@ -50,7 +50,7 @@ impl PlainRows {
         requires stamps { self.old.panel.next_stamp < 1 + 16384 * self.old.panel.count }
         ensures rows { length self.new.panel.rows ≡ length self.old.panel.rows }
         ensures plant { self.new ≡
-            touch condensed self.old id.0
+            touch in_brief self.old id.0
             (outcome self.old.panel.now self.old.panel.next_stamp action.now) }
     {
         let index = id.0 as usize;
@@ -64,7 +64,7 @@ impl PlainRows {
     fn configure(&mut self, id: AlarmId, action: &Action)
         requires here { alarm_refusal action.now (slice_get self.old.panel.attrs id.0)
             (slice_get self.old.panel.rows id.0) ≡ None }
-        ensures plant { self.new ≡ configured self.old id.0 (attr_after action.now) }
+        ensures plant { self.new ≡ with_attributes self.old id.0 (attr_after action.now) }
     {
         let index = id.0 as usize;
         let attr = attr_after(action, &self.attrs[index], &self.rows[index]);
@@ -73,7 +73,7 @@ impl PlainRows {
 
     /// The flood flags after an action.
     fn settle(&mut self)
-        ensures { self.new ≡ settle condensed self.old }
+        ensures { self.new ≡ settle in_brief self.old }
     {
         settle_all(&mut self.floods, &self.ages);
     }
@@ -98,7 +98,7 @@ impl PlainRows {
     /// The clock moves.
     fn move_clock(&mut self, moment: Moment)
         requires { self.old.panel.now < moment }
-        ensures plant { self.new ≡ later condensed moment self.old }
+        ensures plant { self.new ≡ later in_brief moment self.old }
         ensures limit { moment < 2 ^ 40 }
     {
         let seconds = moment.seconds() - self.clock.seconds();
@@ -110,7 +110,7 @@ impl PlainRows {
     fn unshelve(&mut self, number: u32)
         requires here { number < length self.old.panel.rows }
         requires stamps { self.old.panel.next_stamp < 1 + 16384 * self.old.panel.count }
-        ensures plant { self.new ≡ unshelve condensed self.old number }
+        ensures plant { self.new ≡ unshelve in_brief self.old number }
         ensures stamps { self.new.panel.next_stamp ≤ self.old.panel.next_stamp + 1 }
         ensures count { self.new.panel.count ≡ self.old.panel.count }
         ensures rows { length self.new.panel.rows ≡ length self.old.panel.rows }
@@ -127,7 +127,7 @@ impl PlainRows {
         requires stamps { self.old.panel.next_stamp + length numbers.now ≤
             1 + 16384 * self.old.panel.count }
         ensures rows { length self.new.panel.rows ≡ length self.old.panel.rows }
-        ensures plant { self.new ≡ fold (unshelve condensed) self.old numbers.now }
+        ensures plant { self.new ≡ fold (unshelve in_brief) self.old numbers.now }
     {
         for number in numbers {
             self.unshelve(*number);
@@ -137,7 +137,7 @@ impl PlainRows {
     /// Counts an action.
     fn count_action(&mut self)
         requires { self.old.panel.count < 2 ^ 48 }
-        ensures plant { self.new ≡ counted self.old }
+        ensures plant { self.new ≡ with_one_more self.old }
         ensures stamps { self.new.panel.next_stamp + 16384 ≤ 1 + 16384 * self.new.panel.count }
     {
         self.count += 1;
@@ -148,7 +148,7 @@ impl PlainRows {
         requires admitted { own_refusal self.old.panel action.now ≡ None }
         requires stamps { self.old.panel.next_stamp + 16384 ≤ 1 + 16384 * self.old.panel.count }
         requires room { length self.old.panel.rows ≤ vec_capacity working.old }
-        ensures plant { self.new ≡ acted condensed self.old action.now }
+        ensures plant { self.new ≡ with_effect in_brief self.old action.now }
         ensures rows { length self.new.panel.rows ≡ length self.old.panel.rows }
         ensures room { vec_capacity working.new ≡ vec_capacity working.old }
         ensures timely { IsTimely action.now }

@@ -1,8 +1,8 @@
 use Rattle.std.proofs.Common.{◌≡◌, refl, subst, sym}
 use Rattle.alm_disk.specs.Device.{DeviceState}
-use Rattle.alm_keeper.specs.AsStore.{StandsFor, IsSpent}
-use Rattle.alm_pipeline.specs.World.{shut, first}
-use Rattle.alm_pipeline.specs.Headline.{Sight, IsRun, after_all, device_alone}
+use Rattle.alm_keeper.specs.AsStore.{StandsFor, IsLastEpoch}
+use Rattle.alm_pipeline.specs.World.{closed_world, first}
+use Rattle.alm_pipeline.specs.Headline.{Sight, IsRun, after_steps, device_alone}
 use Rattle.alm_bench.specs.Stands.{sight_of}
 use Rattle.alm_bench.proofs.Carried.{stands_honest}
 use Rattle.alm_bench.proofs.Traces.{safe_by_trace}
@@ -10,22 +10,22 @@ use Rattle.alm_bench.proofs.whole.life.Goals as goal
 
 pub returns-in-Ok-clause-run : goal.returns-in-Ok-clause-run
 returns-in-Ok-clause-run g c = λ honest plant all.
-    let w = shut (first plant) in
+    let w = closed_world (first plant) in
     let at = c.closed-bench.ensures.stands honest plant all in
     let trace = c.in-Ok.trace in
     let back = c.into_disk.ensures in
     let end = sight_of c.run.new.self in
     let left : end ≡ record { state = g.D.Disk.state c.into_disk.result; failures = g.D.Disk.failures c.into_disk.result; phase = end.phase; refused = end.refused } = (λ i. record { state = sym back.state i; failures = sym back.failures i; phase = end.phase; refused = end.refused }) in
     let from = c.closed-bench.ensures.device in (
-      back.honest.0 (stands_honest (after_all w c.args.steps.now trace.items) c.run.new.self.setup (c.in-Ok.ensures.stands w at)),
+      back.honest.0 (stands_honest (after_steps w c.args.steps.now trace.items) c.run.new.self.setup (c.in-Ok.ensures.stands w at)),
       end.phase,
       end.refused,
-      subst (λ (last : Sight). IsRun StandsFor IsSpent w (device_alone (g.D.Disk.state c.args.disk) (g.D.Disk.failures c.args.disk) 0) c.args.steps.now trace.items last) left
-          (subst (λ (d : Sight). IsRun StandsFor IsSpent w d c.args.steps.now trace.items end) from (c.in-Ok.ensures.run w at)),
+      subst (λ (last : Sight). IsRun StandsFor IsLastEpoch w (device_alone (g.D.Disk.state c.args.disk) (g.D.Disk.failures c.args.disk) 0) c.args.steps.now trace.items last) left
+          (subst (λ (d : Sight). IsRun StandsFor IsLastEpoch w d c.args.steps.now trace.items end) from (c.in-Ok.ensures.run w at)),
     )
 
 pub returns-in-Ok-clause-told : goal.returns-in-Ok-clause-told
 returns-in-Ok-clause-told g c = λ honest plant all.
     let run = returns-in-Ok-clause-run g c honest plant all in
     let at : DeviceState = g.D.Disk.state c.into_disk.result in
-    safe_by_trace StandsFor IsSpent (shut (first plant)) _ (record { state = at; failures = g.D.Disk.failures c.into_disk.result; phase = run.1; refused = run.2 }) c.args.steps.now c.in-Ok.trace.items run.3 (λ slot. refl)
+    safe_by_trace StandsFor IsLastEpoch (closed_world (first plant)) _ (record { state = at; failures = g.D.Disk.failures c.into_disk.result; phase = run.1; refused = run.2 }) c.args.steps.now c.in-Ok.trace.items run.3 (λ slot. refl)

@@ -12,7 +12,7 @@ returns-in-Ok-life-clause-run g c = λ honest.
     let settled = c.in-Ok.ensures.settled honest in
     let new = c.in-Ok.ensures.stands honest in
     let only : StandOnly state plant = λ image is. subst (λ (bytes : List ℕ). StandsFor bytes plant) (sym (settled_image state state.bytes image settled is)) (1, new.stands) in
-    let run = c.in-Ok-life.ensures.run (c.in-Ok.ensures.honest.0 honest) plant only in
+    let run = c.in-Ok-life.ensures.run (c.in-Ok.ensures.same.0.0 honest) plant only in
     (run.0, c.in-Ok.disk, c.in-Ok.ensures.moments, only, run.1, run.2, run.3)
 
 pub returns-in-Ok-life-clause-told : goal.returns-in-Ok-life-clause-told
@@ -21,4 +21,4 @@ returns-in-Ok-life-clause-told g c = λ honest.
     let plant = new_plant c.args.table.now in
     let settled = c.in-Ok.ensures.settled honest in
     let only : StandOnly state plant = λ image is. subst (λ (bytes : List ℕ). StandsFor bytes plant) (sym (settled_image state state.bytes image settled is)) (1, (c.in-Ok.ensures.stands honest).stands) in
-    c.in-Ok-life.ensures.told (c.in-Ok.ensures.honest.0 honest) plant only
+    c.in-Ok-life.ensures.told (c.in-Ok.ensures.same.0.0 honest) plant only

@@ -3,7 +3,7 @@ use Rattle.alm_codec.specs.Writing.{Wrote}
 use Rattle.alm_codec.proofs.Writing.{Wrote-then}
 use Rattle.alm_state.specs.Rows.{State}
 use Rattle.alm_model.specs.Lists.{deadline}
-use Rattle.alm_codec.specs.Actions.{switch}
+use Rattle.alm_codec.specs.Actions.{switch_number}
 use Rattle.alm_codec.specs.Image.{core_code}
 use Rattle.alm_codec.proofs.WrittenAlarm.{row_is}
 use Rattle.alm_codec.proofs.alarm_writer.put_row.Goals as goal
@@ -17,7 +17,7 @@ returns-clause-text c =
     let view : State = c.args.row.now in
     subst (Wrote c.args.out.now c.put_moments.new.out c.args.at c.put_moments.result)
     (row_is view c.args.moments.now c.flag_code.result c.core_code.result c.flags.result c.unwrap_or.result c.row.inside.stamp
-    (c.flag_code.ensures ∙ ap (λ (s : State). switch s.active) shown)
+    (c.flag_code.ensures ∙ ap (λ (s : State). switch_number s.active) shown)
     (c.core_code.ensures ∙ ap (λ (s : State). core_code s.core) shown)
     c.flags.ensures.value
     (c.unwrap_or.ensures ∙ ap (λ (s : State). deadline s) shown)

@@ -1,5 +1,5 @@
 use Rattle.std.proofs.Common.{◌<◌, ◌+◌, ◌∙◌, Err, length, drop, rules, refl, sym, ap}
-use Rattle.alm_desk.specs.Desks.{tag}
+use Rattle.alm_desk.specs.Desks.{bytes_of_slot}
 use Rattle.alm_desk.specs.Pieces.{tag_all}
 use Rattle.alm_desk.proofs.Slots.{joined, fed_none, broken_later, only_writer, never_closed}
 use Rattle.alm_desk.proofs.Cuts.{tag_all_more, tag_all_split}
@@ -21,7 +21,7 @@ returns-in_err-feed-clause-broken g c =
     let in_range : c.loop-piece.piece-index < length c.args.pieces.now = search rules in
     let failed = only_writer c.in_err-feed.field-0.0 _ _ _ _ c.loop-piece.invariant.fed.open_later c.in_err-feed.ensures.fault in
     λ e. rw (tag_all_split c.args.pieces.now c.loop-piece.piece-index c.piece-item.result in_range c.piece-item.is)
-    (broken_later (tag c.piece-item.result.slot c.piece-item.result.bytes.now) (tag_all (drop (c.loop-piece.piece-index + 1) c.args.pieces.now)) c.loop-piece.invariant.fed (c.in_err-feed.ensures.broken (ap Err failed)))
+    (broken_later (bytes_of_slot c.piece-item.result.slot c.piece-item.result.bytes.now) (tag_all (drop (c.loop-piece.piece-index + 1) c.args.pieces.now)) c.loop-piece.invariant.fed (c.in_err-feed.ensures.broken (ap Err failed)))
 
 pub returns-in_err-feed-clause-fault : goal.returns-in_err-feed-clause-fault
 returns-in_err-feed-clause-fault g c = search rules

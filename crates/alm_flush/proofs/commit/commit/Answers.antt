@@ -1,6 +1,8 @@
-use Rattle.std.proofs.Common.{inr, subst}
-use Rattle.alm_store.specs.Calls.{CallFailed}
+use Rattle.alm_model.specs.Judging.{accepted_of}
+use Rattle.alm_flush.proofs.Begun.{calls_behind}
 use Rattle.alm_flush.proofs.commit.commit.Goals as goal
 
-pub returns-clause-failed : goal.returns-clause-failed
-returns-clause-failed g c = λ is. inr (subst (λ d. CallFailed g.K.Device.Disk.serves d (g.K.Store.disk c.call.new.store)) c.prepare.ensures.disk (c.call.ensures.failed is))
+pub returns-clause-device : goal.returns-clause-device
+returns-clause-device g c =
+    let kept = c.prepare.ensures.kept in
+    calls_behind g.K.Store g.K.Device.Disk c.call.result (accepted_of c.args.batch.now.entries) c.args.store.now c.prepare.new.store c.call.new.store kept.disk kept.exhausted.0 c.call.ensures.device

@@ -3,10 +3,10 @@ use Rattle.std.proofs.lemmas.List.{append-nil}
 use Rattle.alm_model.specs.New.{new_plant}
 use Rattle.alm_codec.specs.declared.version.Version.{Version}
 use Rattle.alm_checkpoint.specs.Headers.{header_text}
-use Rattle.alm_keeper.specs.Formatting.{IsLongest, IsWritten, IsNew, IsOfVersion, first_half, Leaves}
+use Rattle.alm_keeper.specs.Formatting.{IsLongest, IsWritten, IsNewDevice, IsOfVersion, first_half, Leaves}
 use Rattle.alm_keeper.proofs.Fresh.{layout_in, half_long, new_here, version_here, new_leaves}
 use Rattle.std.proofs.Common.{◌≡◌, false}
-use Rattle.alm_keeper.specs.Moments.{Moment, format_calls}
+use Rattle.alm_keeper.specs.Moments.{FormatMoment, format_calls}
 use Rattle.alm_keeper.proofs.Moments.{goes_by, some_by, moment_by}
 use Rattle.alm_keeper.proofs.store_format.format_as.Goals as goal
 
@@ -51,10 +51,10 @@ returns-in-Ok-write_all-clause-moments g c =
     let k = subst (λ (k : ℕ). IsLongest k t l) c.size.ensures c.in-Some.ensures.longest in
     let P = g.D.Disk.honest d0 × ((g.D.Disk.state d0).faulted ≡ false) in
     let W = IsWritten n l c.write_header.new.out c.deref.result.now in
-    let is_new : P → (b : List ℕ) → W b → IsNew n t b = λ p b w. new_here n t l c.layout_for.ensures.table k b (subst (λ (h : List ℕ). IsWritten n l h (first_half l (new_plant t)) b) header (subst (λ (x : List ℕ). IsWritten n l c.write_header.new.out x b) half w)) in
-    let step = moment_by g.D.Disk.serves g.D.Disk.state P P W (IsNew n t) (λ p. p) is_new in
-    let S = Moment g.D.Disk.serves g.D.Disk.state P W in
-    let N = Moment g.D.Disk.serves g.D.Disk.state P (IsNew n t) in
+    let is_new : P → (b : List ℕ) → W b → IsNewDevice n t b = λ p b w. new_here n t l c.layout_for.ensures.table k b (subst (λ (h : List ℕ). IsWritten n l h (first_half l (new_plant t)) b) header (subst (λ (x : List ℕ). IsWritten n l c.write_header.new.out x b) half w)) in
+    let step = moment_by g.D.Disk.serves g.D.Disk.state P P W (IsNewDevice n t) (λ p. p) is_new in
+    let S = FormatMoment g.D.Disk.serves g.D.Disk.state P W in
+    let N = FormatMoment g.D.Disk.serves g.D.Disk.state P (IsNewDevice n t) in
     record { layout = l; longest = k; calls = goes_by S N step d0 d1 (format_calls l) c.in-Ok-write_all.ensures.goes }
 
 pub returns-clause-moments_back : goal.returns-clause-moments_back
@@ -69,10 +69,10 @@ returns-clause-moments_back g c =
     let k = subst (λ (k : ℕ). IsLongest k t l) c.size.ensures c.in-Some.ensures.longest in
     let P = g.D.Disk.honest d0 × ((g.D.Disk.state d0).faulted ≡ false) in
     let W = IsWritten n l c.write_header.new.out c.deref.result.now in
-    let is_new : P → (b : List ℕ) → W b → IsNew n t b = λ p b w. new_here n t l c.layout_for.ensures.table k b (subst (λ (h : List ℕ). IsWritten n l h (first_half l (new_plant t)) b) header (subst (λ (x : List ℕ). IsWritten n l c.write_header.new.out x b) half w)) in
-    let step = moment_by g.D.Disk.serves g.D.Disk.state P P W (IsNew n t) (λ p. p) is_new in
-    let S = Moment g.D.Disk.serves g.D.Disk.state P W in
-    let N = Moment g.D.Disk.serves g.D.Disk.state P (IsNew n t) in
+    let is_new : P → (b : List ℕ) → W b → IsNewDevice n t b = λ p b w. new_here n t l c.layout_for.ensures.table k b (subst (λ (h : List ℕ). IsWritten n l h (first_half l (new_plant t)) b) header (subst (λ (x : List ℕ). IsWritten n l c.write_header.new.out x b) half w)) in
+    let step = moment_by g.D.Disk.serves g.D.Disk.state P P W (IsNewDevice n t) (λ p. p) is_new in
+    let S = FormatMoment g.D.Disk.serves g.D.Disk.state P W in
+    let N = FormatMoment g.D.Disk.serves g.D.Disk.state P (IsNewDevice n t) in
     λ is. record { layout = l; longest = k; calls = some_by S N step d0 d1 (format_calls l) c.in-Err.ensures.fails }
 
 pub returns-in-Ok-write_all-clause-version : goal.returns-in-Ok-write_all-clause-version

@@ -1,12 +1,12 @@
 use Rattle.std.specs.Prelude.{◌≡◌}
 use Rattle.alm_rings.specs.Batches.{SameSealEnds}
 use Rattle.alm_seq.specs.Sequences.{SameInboxes, base_of}
-use Rattle.alm_run.specs.Serving.{Serves}
+use Rattle.alm_run.specs.Serving.{ServesSlots}
 use Rattle.alm_run.proofs.sequencing.sequence.Given as goal
 
 abbrev pub invariant-loop : goal.invariant-loop
 invariant-loop g l = record {
-  serves : Serves l.slots l.sequencer.inboxes.items;
+  serves : ServesSlots l.slots l.sequencer.inboxes.items;
   inboxes : SameInboxes l.fn.sequencer.inboxes.items l.sequencer.inboxes.items;
   ends : SameSealEnds l.fn.sequencer.ends l.sequencer.ends;
   base : base_of l.sequencer ≡ base_of l.fn.sequencer;

@@ -16,29 +16,29 @@ returns-in-Whole g c =
     record {
       slots = c.args.parts.slots.items;
       all = c.requires.slots;
-      stored = s.stored r.keeper;
+      stored = (s.state r.keeper).stored;
       counted = c.count.ensures;
-      phase = s.phase r.keeper;
+      phase = (s.state r.keeper).phase;
       reports = r.slots.items;
       end = (r.goes_on c.in-Whole.is, r.answered c.in-Whole.is);
-      to = s.device r.keeper;
-      run = run_by _ _ s.recovers (s.device r.keeper) _ _ _ _ _ c.in_ok-report.ensures.run;
+      to = g.K.Device.Disk.state (s.disk r.keeper);
+      run = run_by _ _ s.recovers (g.K.Device.Disk.state (s.disk r.keeper)) _ _ _ _ _ c.in_ok-report.ensures.run;
     }
 
 pub returns : goal.returns
 returns g c =
     let s = g.K.Store in
     let r = c.in_ok-report.report in (
-      (s.stored r.keeper).panel.count,
+      (s.state r.keeper).stored.panel.count,
       record {
         slots = c.args.parts.slots.items;
         all = c.requires.slots;
-        stored = s.stored r.keeper;
+        stored = (s.state r.keeper).stored;
         counted = refl;
-        phase = s.phase r.keeper;
+        phase = (s.state r.keeper).phase;
         reports = r.slots.items;
         end = λ whole. ∥∥₁_elim whole.1 (hlevel props) (λ answered. absurd (cc (sym (r.whole whole.0 answered) ∙ c.in-Stopped.is)));
-        to = s.device r.keeper;
-        run = run_by _ _ s.recovers (s.device r.keeper) _ _ _ _ _ c.in_ok-report.ensures.run;
+        to = g.K.Device.Disk.state (s.disk r.keeper);
+        run = run_by _ _ s.recovers (g.K.Device.Disk.state (s.disk r.keeper)) _ _ _ _ _ c.in_ok-report.ensures.run;
       },
     )

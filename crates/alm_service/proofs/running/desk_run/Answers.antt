@@ -10,8 +10,8 @@ loop-preserved g c =
       still_open = c.in-Ok-true.ensures.open;
       helds = c.in-Ok-true.ensures.helds ∙ c.loop.invariant.helds;
       reads = omega arith;
-      whole_reader = c.in-Ok-true.ensures.whole_reader ∙ c.loop.invariant.whole_reader;
-      whole_writer = c.in-Ok-true.ensures.whole_writer ∙ c.loop.invariant.whole_writer;
+      whole_reader = c.in-Ok-true.ensures.whole.0 ∙ c.loop.invariant.whole_reader;
+      whole_writer = c.in-Ok-true.ensures.whole.1 ∙ c.loop.invariant.whole_writer;
     }
 
 pub returns-in-Ok-false-clause-desk : goal.returns-in-Ok-false-clause-desk

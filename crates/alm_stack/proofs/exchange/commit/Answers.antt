@@ -5,7 +5,7 @@ use Rattle.alm_pipeline.specs.declared.step.Step.{Step}
 use Rattle.alm_pipeline.specs.declared.step.Step.TheVariants as S
 use Rattle.alm_pipeline.specs.declared.event.Event.{Event}
 use Rattle.alm_pipeline.specs.declared.event.Event.TheVariants as E
-use Rattle.alm_pipeline.specs.World.{Stage, IsHeld, entries_at, after, shut}
+use Rattle.alm_pipeline.specs.World.{Stage, IsHeld, entries_at, after_step, closed_world}
 use Rattle.alm_pipeline.specs.Matches.{EndsIn}
 use Rattle.alm_stack.specs.Exchanges.{Leads, calls, went_on, sight_of}
 use Rattle.alm_stack.proofs.Leading.{leads_then, calls_more, went_more}
@@ -19,10 +19,10 @@ loop-step-init g c = record {
   going = λ w entries o at few.
       let p = c.args.pipeline.now in
       let st = p.flusher.store in
-      let left = subst (λ k. g.K.Store.left k ≤ 320) c.keeper.ensures.keeper c.images.ensures.few in
+      let left = subst (λ k. (g.K.Store.state k).left ≤ 320) c.keeper.ensures.keeper c.images.ensures.few in
       let many = held_commits p.flusher.held entries o.trying (o.fits.batches.held ∙ at) in (
         o,
-        ends_in_time (g.K.Store.phase st) (g.K.Store.left st) (length (to_commit p.flusher.held)) (g.K.Store.takes st (to_commit p.flusher.held)) (g.K.Store.will_take st (to_commit p.flusher.held)) o.going left (omega (arith, ap length many, few)),
+        ends_in_time (g.K.Store.state st).phase (g.K.Store.state st).left (length (to_commit p.flusher.held)) (g.K.Store.takes st (to_commit p.flusher.held)) (g.K.Store.will_take st (to_commit p.flusher.held)) o.going left (omega (arith, ap length many, few)),
         (refl, refl),
       );
 }
@@ -46,12 +46,12 @@ loop-step-preserved g c =
           let many = held_commits p.flusher.held entries now.trying (now.fits.batches.held ∙ at) in
           let some : 0 < length (accepted_of entries) = subst (λ (x : Stage). 0 < length (accepted_of (entries_at x))) at (a.1 (subst IsHeld (sym at) tt)) in
           let left : 647 - k ≡ (647 - (k + 1)) + 1 = omega (arith, c.loop-step-test.true) in
-          let way = leads_then s.recovers s.spent (s.honest old.flusher.store) w (sight_of old) (calls k) (went_on k) w (sight_of p) (S.Call ∷ []) (E.More ∷ []) w (sight_of q) was.2
+          let way = leads_then s.recovers s.spent (g.K.Device.Disk.honest (s.disk old.flusher.store)) w (sight_of old) (calls k) (went_on k) w (sight_of p) (S.Call ∷ []) (E.More ∷ []) w (sight_of q) was.2
           (sight_of q, a, (λ h. (c.images-in-loop-step.ensures.headline (inv.honest.0 h) w now.fits, made.moves (inv.honest.0 h) w now 0)), (refl, refl)) in (
             made.fits w now,
             made.ends (647 - (k + 1)) refl (subst (λ l. 0 < length l) (sym many) some) (subst (λ (n : ℕ). EndsIn n p) left was.1),
-            subst (λ (l : List Step). Leads s.recovers s.spent (s.honest old.flusher.store) w (sight_of old) l (went_on (k + 1)) w (sight_of q)) (calls_more k)
-                (subst (λ (t : List Event). Leads s.recovers s.spent (s.honest old.flusher.store) w (sight_of old) (calls k ++ S.Call ∷ []) t w (sight_of q)) (went_more k) way),
+            subst (λ (l : List Step). Leads s.recovers s.spent (g.K.Device.Disk.honest (s.disk old.flusher.store)) w (sight_of old) l (went_on (k + 1)) w (sight_of q)) (calls_more k)
+                (subst (λ (t : List Event). Leads s.recovers s.spent (g.K.Device.Disk.honest (s.disk old.flusher.store)) w (sight_of old) (calls k ++ S.Call ∷ []) t w (sight_of q)) (went_more k) way),
           );
     }
 
@@ -69,7 +69,7 @@ returns-in-Committed-clause-done g c = λ _ w entries o at few.
       made.fits w now,
       (
         k,
-        leads_then s.recovers s.spent (s.honest old.flusher.store) w (sight_of old) (calls k) (went_on k) w (sight_of p) (S.Call ∷ []) (E.Committed ∷ []) (after w S.Call E.Committed) (sight_of q) was.2
+        leads_then s.recovers s.spent (g.K.Device.Disk.honest (s.disk old.flusher.store)) w (sight_of old) (calls k) (went_on k) w (sight_of p) (S.Call ∷ []) (E.Committed ∷ []) (after_step w S.Call E.Committed) (sight_of q) was.2
             (sight_of q, made.answer w now, (λ h. (c.images-in-loop-step.ensures.headline (inv.honest.0 h) w now.fits, made.moves (inv.honest.0 h) w now 0)), (refl, refl)),
       ),
     )
@@ -88,7 +88,7 @@ returns-in-Failed-clause-failed g c = λ _ w entries o at few.
       made.fits w now,
       (
         k,
-        leads_then s.recovers s.spent (s.honest old.flusher.store) w (sight_of old) (calls k) (went_on k) w (sight_of p) (S.Call ∷ []) (E.Failed ∷ []) (shut w) (sight_of q) was.2
+        leads_then s.recovers s.spent (g.K.Device.Disk.honest (s.disk old.flusher.store)) w (sight_of old) (calls k) (went_on k) w (sight_of p) (S.Call ∷ []) (E.Failed ∷ []) (closed_world w) (sight_of q) was.2
             (sight_of q, made.answer w now, (λ h. (c.images-in-loop-step.ensures.headline (inv.honest.0 h) w now.fits, made.moves (inv.honest.0 h) w now 0)), (refl, refl)),
       ),
     )
@@ -98,7 +98,7 @@ returns-in-Failed-clause-cause g c = λ _ w entries o at few unspent.
     let inv = c.loop-step.invariant in
     let made = c.in-Failed.ensures in
     let was = inv.going w entries o at few in
-    fails_since (g.K.Store.failures c.args.pipeline.now.flusher.store) (g.K.Store.failures c.loop-step.pipeline.flusher.store) (g.K.Store.failures c.call.new.self.flusher.store) inv.count made.count
+    fails_since (g.K.Device.Disk.failures (g.K.Store.disk c.args.pipeline.now.flusher.store)) (g.K.Device.Disk.failures (g.K.Store.disk c.loop-step.pipeline.flusher.store)) (g.K.Device.Disk.failures (g.K.Store.disk c.call.new.self.flusher.store)) inv.count made.count
     (made.late refl unspent w was.0)
 
 pub returns-in-Nothing-clause-failed : goal.returns-in-Nothing-clause-failed

@@ -9,9 +9,9 @@ use Rattle.alm_stack.proofs.exchange.commit.Given as goal
 -- the batch is held, its commit ends in the calls that are left, and those that were made went on
 abbrev pub invariant-loop-step : goal.invariant-loop-step
 invariant-loop-step g l = record {
-  honest : g.K.Store.honest l.fn.pipeline.flusher.store ↔ g.K.Store.honest l.pipeline.flusher.store;
-  count : g.K.Store.failures l.fn.pipeline.flusher.store ≤ g.K.Store.failures l.pipeline.flusher.store;
+  honest : (g.K.Device.Disk.honest (g.K.Store.disk l.fn.pipeline.flusher.store)) ↔ g.K.Device.Disk.honest (g.K.Store.disk l.pipeline.flusher.store);
+  count : (g.K.Device.Disk.failures (g.K.Store.disk l.fn.pipeline.flusher.store)) ≤ g.K.Device.Disk.failures (g.K.Store.disk l.pipeline.flusher.store);
   going : (w : World) (entries : List Entry) → IsOpen w l.fn.pipeline → w.stage ≡ Held entries → length (accepted_of entries) ≤ 256
       → IsOpen w l.pipeline × EndsIn (647 - l._step) l.pipeline
-      × Leads g.K.Store.recovers g.K.Store.spent (g.K.Store.honest l.fn.pipeline.flusher.store) w (sight_of l.fn.pipeline) (calls l._step) (went_on l._step) w (sight_of l.pipeline);
+      × Leads g.K.Store.recovers g.K.Store.spent (g.K.Device.Disk.honest (g.K.Store.disk l.fn.pipeline.flusher.store)) w (sight_of l.fn.pipeline) (calls l._step) (went_on l._step) w (sight_of l.pipeline);
 }

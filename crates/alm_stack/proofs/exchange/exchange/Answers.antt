@@ -10,8 +10,8 @@ use Rattle.alm_pipeline.specs.declared.step.Step.{Step}
 use Rattle.alm_pipeline.specs.declared.step.Step.TheVariants as S
 use Rattle.alm_pipeline.specs.declared.event.Event.{Event}
 use Rattle.alm_pipeline.specs.declared.event.Event.TheVariants as E
-use Rattle.alm_pipeline.specs.World.{World, live, shut}
-use Rattle.alm_stack.specs.Exchanges.{Rests, answered, answering, calls, entry_at, handed, handed_in, handing, sight_of, stored_in, went_on}
+use Rattle.alm_pipeline.specs.World.{World, live, closed_world}
+use Rattle.alm_stack.specs.Exchanges.{Rests, answer_events, answer_steps, calls, entry_at, hand_in_events, handed_in, hand_in_steps, sight_of, stored_world, went_on}
 use Rattle.alm_stack.proofs.Leading.{leads_after, leads_if, leads_run, leads_then, leads_trace}
 use Rattle.alm_stack.proofs.Rests.{held_waits, none_waits, stored_as}
 use Rattle.alm_stack.proofs.Verdicts.{after_is, few_entry, judged_is, live_after}
@@ -36,7 +36,7 @@ returns-then-not-hand_in-clause-run g c = λ w m.
     let spent = c.if-not-hand_in.ensures.spent refl w m in
     let steps = S.Send c.args.slot c.args.want ∷ [] in
     let trace = E.Busy ∷ [] in
-    let honest = s.honest p.flusher.store in
+    let honest = g.K.Device.Disk.honest (s.disk p.flusher.store) in
     record {
       steps = steps;
       trace = trace;
@@ -65,7 +65,7 @@ returns-then-not-commit-clause-cause g c = λ w m unspent _.
     let hi = c.if-not-hand_in.ensures.handed refl w m in
     let v = hi.1 in
     let failed = c.if-not-commit.ensures.cause refl (handed_in w slot want v) (entry_at w slot want v ∷ []) hi.4 refl (few_entry v) unspent in
-    subst (λ (n : ℕ). HasFailed n (g.K.Store.failures c.commit.new.pipeline.flusher.store)) c.hand_in.ensures.failures failed
+    subst (λ (n : ℕ). HasFailed n (g.K.Device.Disk.failures (g.K.Store.disk c.commit.new.pipeline.flusher.store))) c.hand_in.ensures.failures failed
 
 pub returns-then-not-commit-clause-run : goal.returns-then-not-commit-clause-run
 returns-then-not-commit-clause-run g c = λ w m.
@@ -80,20 +80,20 @@ returns-then-not-commit-clause-run g c = λ w m.
     let y = handed_in w slot want v in
     let f = c.if-not-commit.ensures.failed refl y (entry_at w slot want v ∷ []) hi.4 refl (few_entry v) in
     let n = f.1.0 in
-    let honest = s.honest p.flusher.store in
+    let honest = g.K.Device.Disk.honest (s.disk p.flusher.store) in
     let still = c.hand_in.ensures.honest.0 in
     let steps' = calls n ++ S.Call ∷ [] in
     let trace' = went_on n ++ E.Failed ∷ [] in
-    let steps = handing slot want ++ steps' in
-    let trace = handed hi.0 v ++ trace' in
-    let way = leads_then s.recovers s.spent honest w (sight_of p) (handing slot want) (handed hi.0 v) y (sight_of mid) steps' trace' (shut y) (sight_of q) hi.5
-    (leads_if s.recovers s.spent honest (s.honest mid.flusher.store) still y (sight_of mid) steps' trace' (shut y) (sight_of q) f.1.1) in
+    let steps = hand_in_steps slot want ++ steps' in
+    let trace = hand_in_events hi.0 v ++ trace' in
+    let way = leads_then s.recovers s.spent honest w (sight_of p) (hand_in_steps slot want) (hand_in_events hi.0 v) y (sight_of mid) steps' trace' (closed_world y) (sight_of q) hi.5
+    (leads_if s.recovers s.spent honest (g.K.Device.Disk.honest (s.disk mid.flusher.store)) still y (sight_of mid) steps' trace' (closed_world y) (sight_of q) f.1.1) in
     record {
       steps = steps;
       trace = trace;
       comes = inr (n, hi.0, v, refl, refl);
-      answers = leads_trace s.recovers s.spent honest w (sight_of p) steps trace (shut y) (sight_of q) way;
-      run = λ h. leads_run s.recovers s.spent honest w (sight_of p) steps trace (shut y) (sight_of q) h (c.images-then-not-commit.ensures.headline (c.commit.ensures.honest.0 (still h)) y f.0) way;
+      answers = leads_trace s.recovers s.spent honest w (sight_of p) steps trace (closed_world y) (sight_of q) way;
+      run = λ h. leads_run s.recovers s.spent honest w (sight_of p) steps trace (closed_world y) (sight_of q) h (c.images-then-not-commit.ensures.headline (c.commit.ensures.honest.0 (still h)) y f.0) way;
       rests = tt;
     }
 
@@ -126,35 +126,35 @@ returns-in-Some-clause-run g c = λ w m.
     let hi = c.if-not-hand_in.ensures.handed refl w m in
     let v = hi.1 in
     let y = handed_in w slot want v in
-    let z = stored_in w slot want v in
+    let z = stored_world w slot want v in
     let done = c.if-not-commit.ensures.done refl y (entry_at w slot want v ∷ []) hi.4 refl (few_entry v) in
     let n = done.1.0 in
     let j = c.in-Some.judged in
     let out = c.in-Some.ensures.answered w want v m.1 done.0 in
-    let honest = s.honest p.flusher.store in
+    let honest = g.K.Device.Disk.honest (s.disk p.flusher.store) in
     let one = c.hand_in.ensures.honest.0 in
     let two = λ (h : honest). c.commit.ensures.honest.0 (one h) in
     let serial = length (w.sent slot) + 1 in
     let steps2 = calls n ++ S.Call ∷ [] in
     let trace2 = went_on n ++ E.Committed ∷ [] in
-    let trace3 = answered slot serial v j.number in
-    let behind = leads_then s.recovers s.spent honest y (sight_of mid) steps2 trace2 z (sight_of held) (answering slot) trace3 out.1 (sight_of q)
-    (leads_if s.recovers s.spent honest (s.honest mid.flusher.store) one y (sight_of mid) steps2 trace2 z (sight_of held) done.1.1)
-    (leads_if s.recovers s.spent honest (s.honest held.flusher.store) two z (sight_of held) (answering slot) trace3 out.1 (sight_of q) out.5) in
-    let steps = handing slot want ++ (steps2 ++ answering slot) in
-    let trace = handed hi.0 v ++ (trace2 ++ trace3) in
-    let way = leads_then s.recovers s.spent honest w (sight_of p) (handing slot want) (handed hi.0 v) y (sight_of mid) (steps2 ++ answering slot) (trace2 ++ trace3) out.1 (sight_of q) hi.5 behind in
+    let trace3 = answer_events slot serial v j.number in
+    let behind = leads_then s.recovers s.spent honest y (sight_of mid) steps2 trace2 z (sight_of held) (answer_steps slot) trace3 out.1 (sight_of q)
+    (leads_if s.recovers s.spent honest (g.K.Device.Disk.honest (s.disk mid.flusher.store)) one y (sight_of mid) steps2 trace2 z (sight_of held) done.1.1)
+    (leads_if s.recovers s.spent honest (g.K.Device.Disk.honest (s.disk held.flusher.store)) two z (sight_of held) (answer_steps slot) trace3 out.1 (sight_of q) out.5) in
+    let steps = hand_in_steps slot want ++ (steps2 ++ answer_steps slot) in
+    let trace = hand_in_events hi.0 v ++ (trace2 ++ trace3) in
+    let way = leads_then s.recovers s.spent honest w (sight_of p) (hand_in_steps slot want) (hand_in_events hi.0 v) y (sight_of mid) (steps2 ++ answer_steps slot) (trace2 ++ trace3) out.1 (sight_of q) hi.5 behind in
     record {
       steps = steps;
       trace = trace;
       comes = (
         n,
         serial,
-        ap (λ (l : List Step). handing slot want ++ l) (append_assoc (calls n) (S.Call ∷ []) (answering slot)),
-        (λ i. handed (hi.3 i) (sym out.0 i) ++ (trace2 ++ answered slot serial (sym out.0 i) j.number)) ∙ ap (λ (l : List Event). handed serial j.verdict ++ l) (append_assoc (went_on n) (E.Committed ∷ []) (answered slot serial j.verdict j.number)),
+        ap (λ (l : List Step). hand_in_steps slot want ++ l) (append_assoc (calls n) (S.Call ∷ []) (answer_steps slot)),
+        (λ i. hand_in_events (hi.3 i) (sym out.0 i) ++ (trace2 ++ answer_events slot serial (sym out.0 i) j.number)) ∙ ap (λ (l : List Event). hand_in_events serial j.verdict ++ l) (append_assoc (went_on n) (E.Committed ∷ []) (answer_events slot serial j.verdict j.number)),
       );
       answers = leads_trace s.recovers s.spent honest w (sight_of p) steps trace out.1 (sight_of q) way;
-      run = λ h. leads_run s.recovers s.spent honest w (sight_of p) steps trace out.1 (sight_of q) h (c.images-in-Some.ensures.headline (subst s.honest (sym c.hand_out.ensures.store) (two h)) out.1 out.2.0.fits) way;
+      run = λ h. leads_run s.recovers s.spent honest w (sight_of p) steps trace out.1 (sight_of q) h (c.images-in-Some.ensures.headline (subst (λ k. g.K.Device.Disk.honest (s.disk k)) (sym c.hand_out.ensures.store) (two h)) out.1 out.2.0.fits) way;
       rests = subst (λ (x : World). Rests x q) (leads_after s.recovers s.spent honest w (sight_of p) steps trace out.1 (sight_of q) way) out.2;
     }
 

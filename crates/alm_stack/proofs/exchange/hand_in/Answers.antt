@@ -2,7 +2,7 @@ use Rattle.std.proofs.Common.{◌≡◌, ◌≤◌, ◌+◌, ◌^◌, ⊎_elim, 
 use Rattle.alm_pipeline.specs.declared.step.Step.TheVariants as S
 use Rattle.alm_pipeline.specs.declared.event.Event.{Event}
 use Rattle.alm_pipeline.specs.declared.event.Event.TheVariants as E
-use Rattle.alm_pipeline.specs.World.{Answers, after}
+use Rattle.alm_pipeline.specs.World.{Answers, after_step}
 use Rattle.alm_pipeline.specs.Matches.{IsOpen}
 use Rattle.alm_pipeline.specs.Headline.{Sight}
 use Rattle.alm_pipeline.proofs.Moved.{opened_as}
@@ -27,10 +27,10 @@ returns-clause-handed g c = λ _ w m.
     let a1 = c.in-Sent.ensures.answer w m.0 in
     let a2 = c.in-Took.ensures.answer w1 o1 in
     let end = is_fetched w i slot want v in
-    let h1 = λ (h : s.honest c.args.pipeline.now.flusher.store). subst s.honest (sym c.in-Sent.ensures.store) h in
-    let h2 = λ (h : s.honest c.args.pipeline.now.flusher.store). subst s.honest (sym c.in-Took.ensures.store) (h1 h) in
-    let h3 = λ (h : s.honest c.args.pipeline.now.flusher.store). subst s.honest (sym c.in-Sealed.ensures.store) (h2 h) in
-    let sees = λ (k : _). let at : Sight = record { state = s.device k; failures = s.failures k; phase = s.phase k; refused = 0 } in at in (
+    let h1 = λ (h : (g.K.Device.Disk.honest (s.disk c.args.pipeline.now.flusher.store))). subst (λ k. g.K.Device.Disk.honest (s.disk k)) (sym c.in-Sent.ensures.store) h in
+    let h2 = λ (h : (g.K.Device.Disk.honest (s.disk c.args.pipeline.now.flusher.store))). subst (λ k. g.K.Device.Disk.honest (s.disk k)) (sym c.in-Took.ensures.store) (h1 h) in
+    let h3 = λ (h : (g.K.Device.Disk.honest (s.disk c.args.pipeline.now.flusher.store))). subst (λ k. g.K.Device.Disk.honest (s.disk k)) (sym c.in-Sealed.ensures.store) (h2 h) in
+    let sees = λ (k : _). let at : Sight = record { state = g.K.Device.Disk.state (s.disk k); failures = g.K.Device.Disk.failures (s.disk k); phase = (s.state k).phase; refused = 0 } in at in (
       c.in-Sent.field-0,
       v,
       judged_on w i slot want v a2,
@@ -69,9 +69,9 @@ returns-in_default-clause-spent g c = λ _ w m.
     let busy : c.send.result ≡ E.Busy = elim (sent_or_busy w slot want c.send.result m.1.opened a) [ inl x ↦ absurd (c.in_default.not-Sent x.0 x.1) | inr is ↦ is ] in
     let answer = subst (λ (e : Event). Answers w (S.Send slot want) e) busy a in
     let full : 2 ^ 64 ≤ length (w.sent slot) + 1 = ⊎_elim (λ x. absurd (omega (arith, x, m.1.received slot))) (λ x. x) answer.1 in
-    let sees = λ (k : _). let at : Sight = record { state = s.device k; failures = s.failures k; phase = s.phase k; refused = 0 } in at in (
+    let sees = λ (k : _). let at : Sight = record { state = g.K.Device.Disk.state (s.disk k); failures = g.K.Device.Disk.failures (s.disk k); phase = (s.state k).phase; refused = 0 } in at in (
       full,
-      subst (λ (e : Event). IsOpen (after w (S.Send slot want) e) q) busy (c.send.ensures.fits w m.0),
+      subst (λ (e : Event). IsOpen (after_step w (S.Send slot want) e) q) busy (c.send.ensures.fits w m.0),
       (sight_of q, answer, (λ h. (c.images.ensures.headline h w m.0.fits, ap sees c.send.ensures.store)), (refl, refl)),
     )
 

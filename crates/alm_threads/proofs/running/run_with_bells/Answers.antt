@@ -32,7 +32,7 @@ report_of-requires-clause-tied g c =
     let p = c.args.parts in
     let e = c.in_ok-ends.ends in
     let all = subst (λ cs. AllSame cs e.consoles.items) c.slot_parts_of-slot_parts.ensures.consoles c.in_ok-ends.ensures.consoles in
-    tied_still p.consoles.items e.consoles.items p.middle.rings.inboxes.items e.rings.inboxes.items p.middle.flusher.outboxes.items e.flusher.outboxes.items all c.in_ok-ends.ensures.inboxes c.in_ok-ends.ensures.outboxes (record {
+    tied_still p.consoles.items e.consoles.items p.middle.rings.inboxes.items e.rings.inboxes.items p.middle.flusher.outboxes.items e.flusher.outboxes.items all c.in_ok-ends.ensures.rings.0 c.in_ok-ends.ensures.outboxes (record {
       has_inbox = p.inboxes;
       has_outbox = p.outboxes;
       requests = p.requests;
@@ -64,15 +64,15 @@ returns g c =
         legal = f.judged.legal;
         kept = f.flushed.kept;
         front = front_on f.flushed.kept (entries_in fetched) entries f.flushed.fetched (front_on (entries_in fetched) (entries_in sealed) entries (entries_front fetched sealed c.report_of.ensures.fetched) f.judged.sealed);
-        stored_is = ap (λ k. g.K.Store.stored k) c.report_of.ensures.keeper ∙ f.flushed.stored_is;
+        stored_is = ap (λ k. (g.K.Store.state k).stored) c.report_of.ensures.keeper ∙ f.flushed.stored_is;
         waiting = f.flushed.waiting;
         ahead = front_on (f.flushed.kept ++ f.flushed.waiting) (entries_in fetched) entries f.flushed.ahead (front_on (entries_in fetched) (entries_in sealed) entries (entries_front fetched sealed c.report_of.ensures.fetched) f.judged.sealed);
-        device = subst (λ (k : _). LeavesOneOf (g.K.Store.honest p.middle.flusher.store) (g.K.Store.honest k) g.K.Store.recovers (g.K.Store.device k) (g.K.Store.stored k) (run (g.K.Store.stored k) (accepted_of f.flushed.waiting)))
+        device = subst (λ (k : _). LeavesOneOf (g.K.Device.Disk.honest (g.K.Store.disk p.middle.flusher.store)) (g.K.Device.Disk.honest (g.K.Store.disk k)) g.K.Store.recovers (g.K.Device.Disk.state (g.K.Store.disk k)) (g.K.Store.state k).stored (run (g.K.Store.state k).stored (accepted_of f.flushed.waiting)))
             (sym c.report_of.ensures.keeper) f.flushed.device;
         told = f.flushed.told;
         within = f.flushed.within;
-        course = endures_on g.K.Store.recovers (g.K.Store.stored p.middle.flusher.store) (g.K.Store.honest p.middle.flusher.store) (g.K.Store.device p.middle.flusher.store) (g.K.Store.device e.flusher.store) (g.K.Store.device c.report_of.result.keeper) (accepted_of (entries_in fetched)) (accepted_of entries) _
-            (ap g.K.Store.device (sym c.report_of.ensures.keeper)) (accepted_prefix (entries_in fetched) entries (front_on (entries_in fetched) (entries_in sealed) entries (entries_front fetched sealed c.report_of.ensures.fetched) f.judged.sealed)) f.flushed.course;
+        course = endures_on g.K.Store.recovers (g.K.Store.state p.middle.flusher.store).stored (g.K.Device.Disk.honest (g.K.Store.disk p.middle.flusher.store)) (g.K.Device.Disk.state (g.K.Store.disk p.middle.flusher.store)) (g.K.Device.Disk.state (g.K.Store.disk e.flusher.store)) (g.K.Device.Disk.state (g.K.Store.disk c.report_of.result.keeper)) (accepted_of (entries_in fetched)) (accepted_of entries) _
+            (ap (λ k. g.K.Device.Disk.state (g.K.Store.disk k)) (sym c.report_of.ensures.keeper)) (accepted_prefix (entries_in fetched) entries (front_on (entries_in fetched) (entries_in sealed) entries (entries_front fetched sealed c.report_of.ensures.fetched) f.judged.sealed)) f.flushed.course;
         count = c.report_of.ensures.closed.0 ∙ (sym (map_count (λ (x : Console _ _). x.slot) e.consoles.items) ∙ ap length order);
         each = λ k s at. (
             let d = stands_at (λ (x : Console _ _). x.slot) e.consoles.items p.slots.items k s order at in

@@ -1,5 +1,5 @@
 use Rattle.std.proofs.Common.{sym, refl, subst}
-use Rattle.alm_pipeline.specs.World.{after, shut}
+use Rattle.alm_pipeline.specs.World.{after_step, closed_world}
 use Rattle.alm_disk.specs.Failures.{HasFailed}
 use Rattle.alm_pipeline.specs.Headline.{device_alone}
 use Rattle.alm_pipeline.specs.Matches.{sight_in}
@@ -15,7 +15,7 @@ pub returns-in-More-clause-answer : goal.returns-in-More-clause-answer
 returns-in-More-clause-answer g c = λ w m. c.in-More.ensures.answer w (still w _ _ (sym c.in-Open.ensures.setup) m).0
 
 pub returns-in-More-clause-stands : goal.returns-in-More-clause-stands
-returns-in-More-clause-stands g c = λ w m. let is = still w _ _ (sym c.in-Open.ensures.setup) m in still (after w S.Call E.More) _ _ (sym c.put.ensures.setup) (c.in-More.ensures.fits w is.0, c.in-More.ensures.honest.0 is.1)
+returns-in-More-clause-stands g c = λ w m. let is = still w _ _ (sym c.in-Open.ensures.setup) m in still (after_step w S.Call E.More) _ _ (sym c.put.ensures.setup) (c.in-More.ensures.fits w is.0, c.in-More.ensures.honest.0 is.1)
 
 pub returns-in-More-clause-moves : goal.returns-in-More-clause-moves
 returns-in-More-clause-moves g c = λ w m.
@@ -27,7 +27,7 @@ pub returns-in-Committed-clause-answer : goal.returns-in-Committed-clause-answer
 returns-in-Committed-clause-answer g c = λ w m. c.in-Committed.ensures.answer w (still w _ _ (sym c.in-Open.ensures.setup) m).0
 
 pub returns-in-Committed-clause-stands : goal.returns-in-Committed-clause-stands
-returns-in-Committed-clause-stands g c = λ w m. let is = still w _ _ (sym c.in-Open.ensures.setup) m in still (after w S.Call E.Committed) _ _ (sym c.put-in-Committed.ensures.setup) (c.in-Committed.ensures.fits w is.0, c.in-Committed.ensures.honest.0 is.1)
+returns-in-Committed-clause-stands g c = λ w m. let is = still w _ _ (sym c.in-Open.ensures.setup) m in still (after_step w S.Call E.Committed) _ _ (sym c.put-in-Committed.ensures.setup) (c.in-Committed.ensures.fits w is.0, c.in-Committed.ensures.honest.0 is.1)
 
 pub returns-in-Committed-clause-moves : goal.returns-in-Committed-clause-moves
 returns-in-Committed-clause-moves g c = λ w m.
@@ -39,7 +39,7 @@ pub returns-in-Nothing-clause-answer : goal.returns-in-Nothing-clause-answer
 returns-in-Nothing-clause-answer g c = λ w m. c.in-Nothing.ensures.answer w (still w _ _ (sym c.in-Open.ensures.setup) m).0
 
 pub returns-in-Nothing-clause-stands : goal.returns-in-Nothing-clause-stands
-returns-in-Nothing-clause-stands g c = λ w m. let is = still w _ _ (sym c.in-Open.ensures.setup) m in still (after w S.Call E.Skipped) _ _ (sym c.put-in-Nothing.ensures.setup) (c.in-Nothing.ensures.fits w is.0, c.in-Nothing.ensures.honest.0 is.1)
+returns-in-Nothing-clause-stands g c = λ w m. let is = still w _ _ (sym c.in-Open.ensures.setup) m in still (after_step w S.Call E.Skipped) _ _ (sym c.put-in-Nothing.ensures.setup) (c.in-Nothing.ensures.fits w is.0, c.in-Nothing.ensures.honest.0 is.1)
 
 pub returns-in-Nothing-clause-moves : goal.returns-in-Nothing-clause-moves
 returns-in-Nothing-clause-moves g c = λ w m.
@@ -56,7 +56,7 @@ returns-in-Failed-clause-stands g c = λ w m.
     let fits = c.in-Failed.ensures.fits w is.0 in
     let honest = c.in-Failed.ensures.honest.0 is.1 in
     let disk = c.into_device-disk.ensures in
-    still (shut w) _ _ (sym c.put-in-Failed.ensures.setup) (refl, disk.honest.0 honest, disk.headline honest w fits)
+    still (closed_world w) _ _ (sym c.put-in-Failed.ensures.setup) (refl, disk.honest.0 honest, disk.headline honest w fits)
 
 pub returns-in-Failed-clause-moves : goal.returns-in-Failed-clause-moves
 returns-in-Failed-clause-moves g c = λ w m.

@@ -1,5 +1,5 @@
 use Rattle.std.proofs.Common.{sym, subst, refl}
-use Rattle.alm_pipeline.specs.World.{shut}
+use Rattle.alm_pipeline.specs.World.{closed_world}
 use Rattle.alm_bench.specs.Stands.{IsSetup}
 use Rattle.alm_bench.specs.declared.setup.Setup as T
 use Rattle.alm_bench.proofs.Carried.{there}
@@ -9,7 +9,7 @@ pub returns-in-Open-clause-stands : goal.returns-in-Open-clause-stands
 returns-in-Open-clause-stands g c = λ w m.
     let is = subst (λ (s : T.Setup _ _ _ _). IsSetup w s) (sym c.in-Open.ensures.setup) m in
     let honest = c.into_device.ensures.honest.0 is.1 in
-    subst (λ (s : T.Setup _ _ _ _). IsSetup (shut w) s) (sym c.put.ensures.setup)
+    subst (λ (s : T.Setup _ _ _ _). IsSetup (closed_world w) s) (sym c.put.ensures.setup)
     (refl, c.crashed-disk.ensures.honest.0 honest, λ image left. c.into_device.ensures.headline is.1 w is.0.fits image (c.crashed-disk.ensures.no_new_image honest image left))
 
 pub returns-in-Open-clause-there : goal.returns-in-Open-clause-there

@@ -1,7 +1,7 @@
 use Rattle.std.proofs.Common.{refl, ap, sym, subst}
 use Rattle.alm_types.specs.declared.answer.Answer.{Answer}
-use Rattle.alm_keeper.specs.AsStore.{StandsFor, IsSpent}
-use Rattle.alm_pipeline.specs.World.{World, after}
+use Rattle.alm_keeper.specs.AsStore.{StandsFor, IsLastEpoch}
+use Rattle.alm_pipeline.specs.World.{World, after_step}
 use Rattle.alm_bench.specs.Stands.{IsSetup}
 use Rattle.alm_pipeline.specs.declared.event.Event.TheVariants.{Skipped}
 use Rattle.alm_bench.proofs.Carried.{carried, same_count, still, there, inner_skips, inner_stays, after_skipped}
@@ -16,7 +16,7 @@ returns-in-Open-clause-answer g c = λ w m. c.go-event.ensures.answer w (still w
 pub returns-in-Open-clause-stands : goal.returns-in-Open-clause-stands
 returns-in-Open-clause-stands g c = λ w m.
     let is = still w _ _ (sym c.in-Open.ensures.setup) m in
-    still (after w c.args.step.now c.go-event.result) _ _ (sym c.put.ensures.setup) (c.go-event.ensures.fits w is.0, c.go-event.ensures.honest.0 is.1)
+    still (after_step w c.args.step.now c.go-event.result) _ _ (sym c.put.ensures.setup) (c.go-event.ensures.fits w is.0, c.go-event.ensures.honest.0 is.1)
 
 pub returns-in-Open-clause-moves : goal.returns-in-Open-clause-moves
 returns-in-Open-clause-moves g c = λ w m.
@@ -36,7 +36,7 @@ returns-in-Shut-clause-moves g c = λ w m.
     let n = c.args.self.now.answer.refused in
     let shut = still w _ _ (sym c.in-Shut.ensures.setup) m in
     carried w c.args.step.now Skipped n n n _ _ _ _ _ refl (same_count c.args.self.now.answer _ _ c.put-in-Shut.ensures.answer c.in-Shut.ensures.answer) c.in-Shut.ensures.setup (sym c.put-in-Shut.ensures.setup)
-    (inner_stays StandsFor IsSpent w c.args.step.now _ c.requires shut.0)
+    (inner_stays StandsFor IsLastEpoch w c.args.step.now _ c.requires shut.0)
 
 pub returns-in-Gone : goal.returns-in-Gone
 returns-in-Gone g c = record {

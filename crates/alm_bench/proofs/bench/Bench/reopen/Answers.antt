@@ -1,7 +1,7 @@
 use Rattle.std.proofs.Common.{◌-◌, take, sym, refl, subst, arith}
 use Rattle.alm_model.specs.Plant.{Condensed}
 use Rattle.alm_keeper.specs.AsStore.{StandsFor}
-use Rattle.alm_pipeline.specs.World.{after}
+use Rattle.alm_pipeline.specs.World.{after_step}
 use Rattle.alm_store.specs.Recovery.{IsFrontPlant}
 use Rattle.alm_pipeline.specs.declared.step.Step.TheVariants as S
 use Rattle.alm_pipeline.specs.declared.event.Event.TheVariants as E
@@ -24,7 +24,7 @@ returns-in-Ok-clause-stands g c = λ w m.
     let n = c.count-count.result in
     let opened = c.in-Ok.ensures.opened shut.1 in
     let front : IsFrontPlant w.base w.accepted w.floor store.stored.plant = (shut.2 (g.D.Disk.state store.disk).bytes opened.0).each store.stored.plant opened.1 in
-    still (after w S.Reopen (E.Opened n)) _ _ (sym c.put.ensures.setup) (
+    still (after_step w S.Reopen (E.Opened n)) _ _ (sym c.put.ensures.setup) (
       c.in-Ok.ensures.«open» w.base (take (n - w.base.panel.count) w.accepted) w.floor
           (found w.base w.accepted w.floor store.stored.plant n c.count-count.ensures front) (reaches w.base w.accepted w.floor store.stored.plant n c.count-count.ensures front),
       c.in-Ok.ensures.honest.0 shut.1,

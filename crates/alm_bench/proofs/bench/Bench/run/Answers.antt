@@ -1,10 +1,10 @@
-use Rattle.alm_keeper.specs.AsStore.{StandsFor, IsSpent}
+use Rattle.alm_keeper.specs.AsStore.{StandsFor, IsLastEpoch}
 use Rattle.std.proofs.Common.{rules, refl, ◌≡◌, ◌+◌, ◌∙◌, ◌++◌, ◌∷◌, [], List, take, length, ap, sym, subst, arith, length-append}
 use Rattle.std.proofs.lemmas.List.{take_more, take_all}
 use Rattle.alm_pipeline.specs.declared.step.Step.{Step}
 use Rattle.alm_pipeline.specs.declared.event.Event.{Event}
 use Rattle.alm_pipeline.specs.World.{World}
-use Rattle.alm_pipeline.specs.Headline.{IsRun, after_all}
+use Rattle.alm_pipeline.specs.Headline.{IsRun, after_steps}
 use Rattle.alm_bench.specs.Stands.{Stands, sight_of}
 use Rattle.alm_pipeline.proofs.Runs.{run_more, after_more}
 use Rattle.alm_bench.proofs.bench.Bench.run.Goals as goal
@@ -25,16 +25,16 @@ loop-step-preserved g c =
       count = omega (arith, ap length items, length-append tr (e ∷ []), inv.count);
       room = c.push_reserved.ensures.capacity ∙ inv.room;
       run = λ w m.
-          let at = after_all w (take i ss) tr in
+          let at = after_steps w (take i ss) tr in
           let stood' = inv.stands w m in
-          subst (λ (l : List Step). IsRun StandsFor IsSpent w first l c.push_reserved.new.self.items (sight_of c.step-event.new.self)) (sym more)
-          (subst (λ (t : List Event). IsRun StandsFor IsSpent w first (take i ss ++ s ∷ []) t (sight_of c.step-event.new.self)) (sym items)
-          (run_more StandsFor IsSpent w first last (sight_of c.step-event.new.self) (take i ss) tr s e (inv.run w m)
+          subst (λ (l : List Step). IsRun StandsFor IsLastEpoch w first l c.push_reserved.new.self.items (sight_of c.step-event.new.self)) (sym more)
+          (subst (λ (t : List Event). IsRun StandsFor IsLastEpoch w first (take i ss ++ s ∷ []) t (sight_of c.step-event.new.self)) (sym items)
+          (run_more StandsFor IsLastEpoch w first last (sight_of c.step-event.new.self) (take i ss) tr s e (inv.run w m)
           (c.step-event.ensures.answer at stood') (c.step-event.ensures.moves at stood') (c.step-event.ensures.headline at stood')));
       stands = λ w m.
           subst (λ (v : World). Stands v c.step-event.new.self)
-          (sym (after_more StandsFor IsSpent w first last (take i ss) tr s e (inv.run w m)) ∙ (ap (after_all w (take i ss ++ s ∷ [])) (sym items) ∙ ap (λ (l : List Step). after_all w l c.push_reserved.new.self.items) (sym more)))
-          (c.step-event.ensures.stands (after_all w (take i ss) tr) (inv.stands w m));
+          (sym (after_more StandsFor IsLastEpoch w first last (take i ss) tr s e (inv.run w m)) ∙ (ap (after_steps w (take i ss ++ s ∷ [])) (sym items) ∙ ap (λ (l : List Step). after_steps w l c.push_reserved.new.self.items) (sym more)))
+          (c.step-event.ensures.stands (after_steps w (take i ss) tr) (inv.stands w m));
       there = λ h. c.step-event.ensures.there (inv.there h);
     }
 
@@ -44,7 +44,7 @@ loop-step-init g c =
     record {
       count = search rules;
       room = search rules;
-      run = λ w m. subst (λ (t : List Event). IsRun StandsFor IsSpent w here [] t here) (sym c.in_ok-trace.ensures.items) (c.images.ensures.headline w m, refl);
+      run = λ w m. subst (λ (t : List Event). IsRun StandsFor IsLastEpoch w here [] t here) (sym c.in_ok-trace.ensures.items) (c.images.ensures.headline w m, refl);
       stands = λ w m. m;
       there = λ h. h;
     }
@@ -52,9 +52,9 @@ loop-step-init g c =
 pub returns-clause-run : goal.returns-clause-run
 returns-clause-run g c = λ w m.
     let all : take c.loop-step.step-index c.args.steps.now ≡ c.args.steps.now = take_all c.loop-step.step-index c.args.steps.now (omega (arith, c.loop-step-test.false)) in
-    subst (λ (l : List Step). IsRun StandsFor IsSpent w (sight_of c.args.self.now) l c.loop-step.trace.items (sight_of c.loop-step.self)) all (c.loop-step.invariant.run w m)
+    subst (λ (l : List Step). IsRun StandsFor IsLastEpoch w (sight_of c.args.self.now) l c.loop-step.trace.items (sight_of c.loop-step.self)) all (c.loop-step.invariant.run w m)
 
 pub returns-clause-stands : goal.returns-clause-stands
 returns-clause-stands g c = λ w m.
     let all : take c.loop-step.step-index c.args.steps.now ≡ c.args.steps.now = take_all c.loop-step.step-index c.args.steps.now (omega (arith, c.loop-step-test.false)) in
-    subst (λ (l : List Step). Stands (after_all w l c.loop-step.trace.items) c.loop-step.self) all (c.loop-step.invariant.stands w m)
+    subst (λ (l : List Step). Stands (after_steps w l c.loop-step.trace.items) c.loop-step.self) all (c.loop-step.invariant.stands w m)

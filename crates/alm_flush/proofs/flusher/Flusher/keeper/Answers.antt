@@ -16,4 +16,4 @@ returns-clause-numbers g c = λ s k r is.
     let f = c.args.self.now in
     let base = g.B.Board.base f.board in
     let before = entries_in (fetched_of f.before.value) in
-    told_stored base (g.K.Store.stored f.store) before f.held r.number f.number (f.numbers s k r is) f.number_is f.stored
+    told_stored base (g.K.Store.state f.store).stored before f.held r.number f.number (f.numbers s k r is) f.number_is f.stored

@@ -13,7 +13,7 @@ use Rattle.alm_rings.specs.Batches.{fetched_of}
 use Rattle.alm_rings.specs.Placed.{end_at, released_in, room_at}
 use Rattle.alm_rings.proofs.Slots.{placed_apart, placed_set, back_set, set_by, set_same, set_other, found, same_outboxes}
 use Rattle.alm_flush.specs.Replies.{replies_in, replies_to}
-use Rattle.alm_flush.specs.HeldBatch.{batches_of, ready_of, shown_of, stored_of, told_of, waiting_of, passed, left_of}
+use Rattle.alm_flush.specs.HeldBatch.{batches_of, ready_of, published_entries, stored_of, released_entries, waiting_of, after_release, left_of}
 use Rattle.alm_flush.proofs.HeldLaws.{shown_stored, published_split, told_snoc, get_middle, stored_pass, shown_pass, waiting_pass, batches_pass, ready_pass, released_more, numbers_more, gave_at, nothing_free}
 use Rattle.alm_model.specs.Rules.{admits_all}
 use Rattle.alm_flush.proofs.flusher.Flusher.release.Goals as goal
@@ -26,7 +26,7 @@ number_of-number-requires g c =
     let before = entries_in (fetched_of old.before.value) in
     let next = sym c.in-Some.ensures in
     let split = ap length (published_split before old.held e next) in
-    let size = length-append (accepted_of (before ++ told_of old.held)) (when_accepted e.verdict ++ left_of old.held) in
+    let size = length-append (accepted_of (before ++ released_entries old.held)) (when_accepted e.verdict ++ left_of old.held) in
     let size2 = length-append (when_accepted e.verdict) (left_of old.held) in
     let stored = ap (λ q. q.panel.count) old.stored in
     let shown = ap (λ l. length (accepted_of (before ++ l))) (shown_stored old.held e next) in
@@ -40,19 +40,19 @@ invariant_of-receipt g c =
     let before = entries_in (fetched_of old.before.value) in
     let next = sym c.in-Some.ensures in
     let split = published_split before old.held e next in
-    let list : g.T.Told.list c.tell-told.result ≡ accepted_of (before ++ told_of old.held) ++ (when_accepted e.verdict ++ left_of old.held) = c.tell-told.ensures.list ∙ (old.published ∙ split) in
+    let list : g.T.Told.list c.tell-told.result ≡ accepted_of (before ++ released_entries old.held) ++ (when_accepted e.verdict ++ left_of old.held) = c.tell-told.ensures.list ∙ (old.published ∙ split) in
     let count : g.T.Told.base_count c.tell-told.result ≡ base.panel.count = c.tell-told.ensures.base in
-    let size = ap length list ∙ length-append (accepted_of (before ++ told_of old.held)) (when_accepted e.verdict ++ left_of old.held) in
+    let size = ap length list ∙ length-append (accepted_of (before ++ released_entries old.held)) (when_accepted e.verdict ++ left_of old.held) in
     let size2 = length-append (when_accepted e.verdict) (left_of old.held) in
     record {
       reaches = omega (arith, count, size, size2, c.number_of-number.ensures, old.number_is);
       stands = λ a is.
           let one : c.number_of-number.result ≡ old.number + 1 = c.number_of-number.ensures ∙ ap (λ v. old.number + length (when_accepted v)) is in
-          let at : c.number_of-number.result - g.T.Told.base_count c.tell-told.result - 1 ≡ length (accepted_of (before ++ told_of old.held)) = omega (arith, one, count, old.number_is) in (
+          let at : c.number_of-number.result - g.T.Told.base_count c.tell-told.result - 1 ≡ length (accepted_of (before ++ released_entries old.held)) = omega (arith, one, count, old.number_is) in (
             omega (arith, one, count, old.number_is),
             subst (λ (l : List Action). slice_get l (c.number_of-number.result - g.T.Told.base_count c.tell-told.result - 1) ≡ Some a)
-                (sym (list ∙ ap (λ v. accepted_of (before ++ told_of old.held) ++ (when_accepted v ++ left_of old.held)) is))
-                (get_middle (accepted_of (before ++ told_of old.held)) (left_of old.held) a (c.number_of-number.result - g.T.Told.base_count c.tell-told.result - 1) at),
+                (sym (list ∙ ap (λ v. accepted_of (before ++ released_entries old.held) ++ (when_accepted v ++ left_of old.held)) is))
+                (get_middle (accepted_of (before ++ released_entries old.held)) (left_of old.held) a (c.number_of-number.result - g.T.Told.base_count c.tell-told.result - 1) at),
           );
     }
 
@@ -71,21 +71,21 @@ invariant_of-self g c =
     let same = c.release.ensures.end.1 in
     let apart = placed_apart (λ o. o.slot) outboxes old.places old.placed in
     let slot = c.place-place.ensures.slot o at in
-    let is : c.pass.new.self ≡ passed old.held = c.pass.ensures in
-    let told : before ++ told_of c.pass.new.self ≡ (before ++ told_of old.held) ++ e ∷ [] = ap (λ h. before ++ told_of h) is ∙ told_snoc before old.held e next in
+    let is : c.pass.new.self ≡ after_release old.held = c.pass.ensures in
+    let told : before ++ released_entries c.pass.new.self ≡ (before ++ released_entries old.held) ++ e ∷ [] = ap (λ h. before ++ released_entries h) is ∙ told_snoc before old.held e next in
     record {
       placed = placed_set (λ o. o.slot) outboxes old.places k o new old.placed at same;
       back = back_set (λ o. o.slot) outboxes old.places k o new old.back at same;
       held_is = old.held_is ∙ ap (λ l. fetched_of old.before.value ++ l) (sym (ap batches_of is ∙ batches_pass old.held));
       stored = old.stored ∙ ap (λ l. run base (accepted_of (before ++ l))) (sym (ap stored_of is ∙ stored_pass old.held));
-      published = old.published ∙ ap (λ l. accepted_of (before ++ l)) (sym (ap shown_of is ∙ shown_pass old.held));
+      published = old.published ∙ ap (λ l. accepted_of (before ++ l)) (sym (ap published_entries is ∙ shown_pass old.held));
       pending = rw (ap ready_of is ∙ ready_pass old.held) old.pending;
-      released = λ s. released_more outboxes k o new (before ++ told_of old.held) e _ apart at same slot c.in-Ok.ensures.ok.0 refl refl old.released s ∙ ap (λ l. replies_to (of_slot s l)) (sym told);
-      number_is = c.number_of-number.ensures ∙ omega (arith, old.number_is, ap (λ l. length (accepted_of l)) told, ap length (accepted_snoc (before ++ told_of old.held) e), length-append (accepted_of (before ++ told_of old.held)) (when_accepted e.verdict));
+      released = λ s. released_more outboxes k o new (before ++ released_entries old.held) e _ apart at same slot c.in-Ok.ensures.ok.0 refl refl old.released s ∙ ap (λ l. replies_to (of_slot s l)) (sym told);
+      number_is = c.number_of-number.ensures ∙ omega (arith, old.number_is, ap (λ l. length (accepted_of l)) told, ap length (accepted_snoc (before ++ released_entries old.held) e), length-append (accepted_of (before ++ released_entries old.held)) (when_accepted e.verdict));
       numbers = numbers_more outboxes k o new _ old.number c.number_of-number.result apart at same c.in-Ok.ensures.ok.0 refl (omega (arith, c.number_of-number.ensures)) old.numbers;
       idle = λ h. old.idle (ap accepted_of (sym (ap waiting_of is ∙ waiting_pass old.held)) ∙ h);
-      next = λ p. old.next p ∙ ap (λ l. run (g.K.Store.stored old.store) (accepted_of l)) (sym (ap waiting_of is ∙ waiting_pass old.held));
-      admitted = λ p. ap (λ l. admits_all (g.K.Store.stored old.store) (accepted_of l)) (ap waiting_of is ∙ waiting_pass old.held) ∙ old.admitted p;
+      next = λ p. old.next p ∙ ap (λ l. run (g.K.Store.state old.store).stored (accepted_of l)) (sym (ap waiting_of is ∙ waiting_pass old.held));
+      admitted = λ p. ap (λ l. admits_all (g.K.Store.state old.store).stored (accepted_of l)) (ap waiting_of is ∙ waiting_pass old.held) ∙ old.admitted p;
       ready = ap (λ l. admits_all (run (g.B.Board.base old.board) (g.B.Board.published old.board)) (accepted_of l)) (ap ready_of is ∙ ready_pass old.held) ∙ old.ready;
       either = rw (ap waiting_of is ∙ waiting_pass old.held) old.either;
     }
@@ -175,11 +175,11 @@ returns-in-Ok-clause-answer g c =
     let here = ap (λ s. end_at (λ (o : Outbox _ _). o.slot) s outboxes) (sym slot) ∙ found (λ o. o.slot) outboxes k o apart at in
     let now = ap (λ s. end_at (λ (o : Outbox _ _). o.slot) s (slice_set outboxes k new)) (sym slot) ∙ set_same (λ o. o.slot) outboxes k o new apart at same in
     let split = ap length (published_split before old.held e next) in
-    let size = length-append (accepted_of (before ++ told_of old.held)) (when_accepted e.verdict ++ left_of old.held) in
+    let size = length-append (accepted_of (before ++ released_entries old.held)) (when_accepted e.verdict ++ left_of old.held) in
     let size2 = length-append (when_accepted e.verdict) (left_of old.held) in
     let stored = ap (λ q. q.panel.count) old.stored in
     let shown = ap (λ l. length (accepted_of (before ++ l))) (shown_stored old.held e next) in
-    let is_stored : c.number_of-number.result ≤ (g.K.Store.stored old.store).panel.count = omega (arith, stored, shown, run_count base (accepted_of (before ++ stored_of old.held)), split, size, size2, old.number_is, c.number_of-number.ensures) in
+    let is_stored : c.number_of-number.result ≤ (g.K.Store.state old.store).stored.panel.count = omega (arith, stored, shown, run_count base (accepted_of (before ++ stored_of old.held)), split, size, size2, old.number_is, c.number_of-number.ensures) in
     let numbered : c.number_of-number.result + length (left_of old.held) ≡ base.panel.count + length (g.B.Board.published old.board) = omega (arith, ap length old.published, split, size, size2, old.number_is, c.number_of-number.ensures) in
     let is_published : c.number_of-number.result ≤ base.panel.count + length (g.B.Board.published old.board) = omega (arith, ap length old.published, split, size, size2, old.number_is, c.number_of-number.ensures) in
     record {

@@ -2,21 +2,22 @@ use Rattle.alm_model.specs.Judging.{accepted_of}
 use Rattle.alm_keeper.specs.Stages.{phase_of}
 use Rattle.alm_keeper.proofs.StoreBegun.{begun_admitted, begun_cause}
 use Rattle.alm_keeper.proofs.CallsLeft.{commit_calls}
-use Rattle.alm_keeper.proofs.StorePassing.{begun_phase, refused_phase}
+use Rattle.alm_keeper.proofs.StorePassing.{begun_commit, refused_phase}
 use Rattle.alm_keeper.proofs.StorePacing.{begun_pace, newest_begun}
 use Rattle.alm_keeper.proofs.as_store.KeeperStore.begin.Goals as goal
-
-pub returns-clause-admitted : goal.returns-clause-admitted
-returns-clause-admitted g c = begun_admitted c.begin.result (phase_of c.args.self.now.stage c.args.self.now.work) c.args.self.now.stored.plant c.args.batch.now c.begin.ensures.answer
 
 pub returns-clause-cause : goal.returns-clause-cause
 returns-clause-cause g c = λ rest first all. begun_cause c.begin.result c.args.self.now c.args.batch.now c.begin.ensures.answer rest first all
 
-pub returns-clause-calls : goal.returns-clause-calls
-returns-clause-calls g c = commit_calls c.begin.result (accepted_of c.args.batch.now.entries) c.args.self.now c.begin.new.self c.begin.ensures.begins
-
 pub returns-clause-begun : goal.returns-clause-begun
-returns-clause-begun g c = begun_phase c.args.self.now c.begin.new.self c.begin.result (accepted_of c.args.batch.now.entries) c.args.batch.now c.begin.ensures.answer c.begin.ensures.begins
+returns-clause-begun g c =
+    let old = c.args.self.now in
+    let new = c.begin.new.self in
+    let result = c.begin.result in
+    let e = c.begin.ensures in
+    let actions = accepted_of c.args.batch.now.entries in
+    begun_commit old new result actions c.args.batch.now e.answer e.begins
+    (begun_admitted result (phase_of old.stage old.work) old.stored.plant c.args.batch.now e.answer) (commit_calls result actions old new e.begins)
 
 pub returns-clause-refused : goal.returns-clause-refused
 returns-clause-refused g c = λ rest. refused_phase c.args.self.now c.begin.new.self c.begin.result (accepted_of c.args.batch.now.entries) c.begin.ensures.begins rest

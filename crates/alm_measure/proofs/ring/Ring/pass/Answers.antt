@@ -1,5 +1,5 @@
 use Rattle.std.proofs.Common.{◌≡◌, ◌∙◌, ap, sym, arith, length, sum}
-use Rattle.alm_model.specs.Keeping.{aged}
+use Rattle.alm_model.specs.Keeping.{ages_after}
 use Rattle.alm_measure.proofs.Passing.{aged-none, aged-more, aged-all, aged-quiet}
 use Rattle.alm_measure.proofs.Turning.{length-turned}
 use Rattle.alm_measure.proofs.ring.Ring.pass.Goals as goal
@@ -16,9 +16,9 @@ loop-second-init c =
     aged-none c.args.self.now seconds
 
 pub loop-second-preserved : goal.loop-second-preserved
-loop-second-preserved c = c.tick.ensures ∙ ap (aged 1) c.loop-second.invariant ∙ sym (aged-more c.loop-second._second c.args.self.now)
+loop-second-preserved c = c.tick.ensures ∙ ap (ages_after 1) c.loop-second.invariant ∙ sym (aged-more c.loop-second._second c.args.self.now)
 
 pub returns : goal.returns
 returns c =
     let end : c.loop-second._second ≡ c.min-second-end.result = omega arith in
-    c.loop-second.invariant ∙ ap (λ n. aged n c.args.self.now) (end ∙ c.min-second-end.ensures) ∙ aged-all c.args.seconds c.args.self.now
+    c.loop-second.invariant ∙ ap (λ n. ages_after n c.args.self.now) (end ∙ c.min-second-end.ensures) ∙ aged-all c.args.seconds c.args.self.now

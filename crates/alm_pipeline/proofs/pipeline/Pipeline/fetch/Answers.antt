@@ -2,9 +2,10 @@ use Rattle.std.proofs.Common.{◌≡◌, ◌∙◌, ◌++◌, length, ap, sym, s
 use Rattle.alm_model.specs.Judging.{accepted_of, entries_in}
 use Rattle.alm_rings.specs.Placed.{released_by}
 use Rattle.alm_rings.specs.Batches.{fetched_of, sealed_of, coming_in}
-use Rattle.alm_flush.specs.HeldBatch.{stored_of, shown_of}
+use Rattle.alm_store.specs.State.{StoreState}
+use Rattle.alm_flush.specs.HeldBatch.{stored_of, published_entries}
 use Rattle.alm_pipeline.specs.World.{Nothing, fetches}
-use Rattle.alm_pipeline.specs.Matches.{IsGivenUp, stage_of, lists_of, notes_of, held_at}
+use Rattle.alm_pipeline.specs.Matches.{IsGivenUp, stage_of, entries_of, notes_of, batch_held_at}
 use Rattle.alm_pipeline.proofs.Lists.{next_sealed, none_sealed}
 use Rattle.alm_pipeline.proofs.Moved.{opened_as}
 use Rattle.alm_pipeline.proofs.pipeline.Pipeline.fetch.Goals as goal
@@ -38,16 +39,16 @@ returns-in-Got-clause-fits g c = λ w m.
     let idle : w.stage ≡ Nothing = sym f.batches.held ∙ ap stage_of gets.0 in
     opened_as _ _ _ (ap (fetches w) (sym n.1)) (record {
       opened = o.opened;
-      going = λ e. o.going (sym c.in-Got.ensures.words.0 ∙ e);
+      going = λ e. o.going (sym (ap (λ (s : StoreState). s.phase) c.in-Got.ensures.store.state) ∙ e);
       trying = λ x. subst IsGivenUp gets.1.held x;
       fits = record {
         slots = record { requests = f.slots.requests; judged = f.slots.judged; notes = λ s. ap (λ x. notes_of (released_by s x)) (ap (λ v. v.items) same.1) ∙ f.slots.notes s; receipts = f.slots.receipts; few = f.slots.few };
         batches = record {
           entries = f.batches.entries;
-          waiting = n.2 ∙ ap (λ l. lists_of l ++ n.0) (sym gets.1.fetched);
+          waiting = n.2 ∙ ap (λ l. entries_of l ++ n.0) (sym gets.1.fetched);
           held = ap stage_of gets.1.held;
           spared = f.batches.spared ∙ omega (arith, ap length ends.1);
-          eight = omega (arith, f.batches.eight, ap length n.1, ap held_at idle);
+          eight = omega (arith, f.batches.eight, ap length n.1, ap batch_held_at idle);
         };
         lists = record {
           opened = f.lists.opened;
@@ -57,9 +58,9 @@ returns-in-Got-clause-fits g c = λ w m.
           kept = f.lists.kept ∙ (ap (λ h. f.lists.opened ++ accepted_of (entries_in (fetched_of mid.flusher.before.value) ++ stored_of h)) gets.0
               ∙ (ap (λ h. f.lists.opened ++ accepted_of (entries_in (fetched_of mid.flusher.before.value) ++ stored_of h)) (sym gets.1.held)
               ∙ ap (λ e. f.lists.opened ++ accepted_of (entries_in (fetched_of e) ++ stored_of new.held)) (sym same.2)));
-          shown = f.lists.shown ∙ (ap (λ h. f.lists.opened ++ accepted_of (entries_in (fetched_of mid.flusher.before.value) ++ shown_of h)) gets.0
-              ∙ (ap (λ h. f.lists.opened ++ accepted_of (entries_in (fetched_of mid.flusher.before.value) ++ shown_of h)) (sym gets.1.held)
-              ∙ ap (λ e. f.lists.opened ++ accepted_of (entries_in (fetched_of e) ++ shown_of new.held)) (sym same.2)));
+          shown = f.lists.shown ∙ (ap (λ h. f.lists.opened ++ accepted_of (entries_in (fetched_of mid.flusher.before.value) ++ published_entries h)) gets.0
+              ∙ (ap (λ h. f.lists.opened ++ accepted_of (entries_in (fetched_of mid.flusher.before.value) ++ published_entries h)) (sym gets.1.held)
+              ∙ ap (λ e. f.lists.opened ++ accepted_of (entries_in (fetched_of e) ++ published_entries new.held)) (sym same.2)));
           enough = f.lists.enough;
         };
       };

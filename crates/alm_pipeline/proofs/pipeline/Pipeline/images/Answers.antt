@@ -8,6 +8,6 @@ returns g c = record {
   headline = λ honest w f.
       let s = g.K.Store in
       headline w c.args.self.now f
-      (subst (λ (k : _). s.honest k → (image : List ℕ) → IsImage (s.device k) image → ∥ s.recovers image (s.stored k) ⊎ s.recovers image (s.next k) ∥₁) c.keeper.ensures.keeper c.images.ensures.stands honest)
+      (subst (λ (k : _). (g.K.Device.Disk.honest (s.disk k)) → (image : List ℕ) → IsImage (g.K.Device.Disk.state (s.disk k)) image → ∥ s.recovers image (s.state k).stored ⊎ s.recovers image (s.state k).next ∥₁) c.keeper.ensures.keeper c.images.ensures.stands honest)
       g.met.K.Store.one g.met.K.Store.rules;
 }

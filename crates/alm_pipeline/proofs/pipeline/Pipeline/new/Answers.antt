@@ -4,8 +4,8 @@ use Rattle.alm_model.specs.Judging.{accepted_of, entries_in}
 use Rattle.alm_rings.specs.Placed.{inbox_at, outbox_at, taken_by, released_by}
 use Rattle.alm_rings.specs.Batches.{AreBatchEnds, fetched_of, given_of}
 use Rattle.alm_seq.specs.Spares.{spares}
-use Rattle.alm_flush.specs.HeldBatch.{stored_of, shown_of}
-use Rattle.alm_pipeline.specs.Matches.{IsGivenUp, lists_of, notes_of, stage_of}
+use Rattle.alm_flush.specs.HeldBatch.{stored_of, published_entries}
+use Rattle.alm_pipeline.specs.Matches.{IsGivenUp, entries_of, notes_of, stage_of}
 use Rattle.alm_pipeline.proofs.Placing.{ring_trans, ring_sym}
 use Rattle.alm_pipeline.proofs.pipeline.Pipeline.new.Goals as goal
 
@@ -46,7 +46,7 @@ returns-clause-open g c = λ base kept floor is enough.
     let eight : length (given_of c.in-Ok-open_batches.fetch) ≡ 8 = ap length ob.3 in
     record {
       opened = refl;
-      going = λ p. absurd (cc (c.requires.idle, ap g.K.Store.phase parts.0, p));
+      going = λ p. absurd (cc (c.requires.idle, ap (λ k. (g.K.Store.state k).phase) parts.0, p));
       trying = λ x. subst IsGivenUp held.0 x;
       fits = record {
         slots = record {
@@ -58,7 +58,7 @@ returns-clause-open g c = λ base kept floor is enough.
         };
         batches = record {
           entries = sym (ap (λ l. entries_in l ++ seq.result.batch.entries) seq.ensures.ends.1) ∙ seq.ensures.new.0;
-          waiting = ap lists_of seq.ensures.ends.1 ∙ sym (ap (λ l. lists_of l ++ []) fetched);
+          waiting = ap entries_of seq.ensures.ends.1 ∙ sym (ap (λ l. entries_of l ++ []) fetched);
           held = ap stage_of held.0;
           spared = omega (arith, seq.ensures.ends.2, ap length bb.empties.0, ap length ob.2, ap (λ f. length (given_of f)) parts.3, ap length bb.empties.1, eight, ap spares seq.ensures.new.2);
           eight = omega arith;
@@ -69,7 +69,7 @@ returns-clause-open g c = λ base kept floor is enough.
           stored_from = ap (λ b. b.base.value) parts.1 ∙ (c.new.ensures.base ∙ (c.in-Ok-copy-2.ensures ∙ (c.stored-2.ensures ∙ is)));
           all = sym (ap (λ l. kept ++ accepted_of l) seq.ensures.new.0 ∙ append-nil kept);
           kept = sym ((λ i. kept ++ accepted_of (entries_in (before i) ++ stored_of (held.0 i))) ∙ append-nil kept);
-          shown = sym ((λ i. kept ++ accepted_of (entries_in (before i) ++ shown_of (held.0 i))) ∙ append-nil kept);
+          shown = sym ((λ i. kept ++ accepted_of (entries_in (before i) ++ published_entries (held.0 i))) ∙ append-nil kept);
           enough = enough;
         };
       };

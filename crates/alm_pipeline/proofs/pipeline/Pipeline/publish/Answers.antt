@@ -3,10 +3,10 @@ use Rattle.alm_model.specs.Judging.{accepted_of, entries_in}
 use Rattle.alm_rings.specs.Placed.{released_by}
 use Rattle.alm_rings.specs.Placed.{outbox_at}
 use Rattle.alm_rings.specs.Batches.{AreBatchEnds, fetched_of, given_of}
-use Rattle.alm_flush.specs.HeldBatch.{stored_of, shown_of}
+use Rattle.alm_flush.specs.HeldBatch.{stored_of, published_entries}
 use Rattle.alm_flush.proofs.HeldLaws.{accepted_more}
-use Rattle.alm_pipeline.specs.World.{Stored, shows}
-use Rattle.alm_pipeline.specs.Matches.{IsGivenUp, stage_of, lists_of, notes_of, held_at}
+use Rattle.alm_pipeline.specs.World.{Stored, after_publish}
+use Rattle.alm_pipeline.specs.Matches.{IsGivenUp, stage_of, entries_of, notes_of, batch_held_at}
 use Rattle.alm_pipeline.proofs.Calls.{published_batch}
 use Rattle.alm_pipeline.proofs.Moved.{opened_as}
 use Rattle.alm_pipeline.proofs.pipeline.Pipeline.publish.Goals as goal
@@ -36,18 +36,18 @@ returns-in-Published-clause-fits g c = λ w m.
     let items = held.0.entries in
     let before = entries_in (fetched_of p.flusher.before.value) in
     let stage : w.stage ≡ Stored items = sym f.batches.held ∙ ap stage_of held.1 in
-    opened_as _ _ _ (ap (shows w) (sym stage)) (record {
+    opened_as _ _ _ (ap (after_publish w) (sym stage)) (record {
       opened = o.opened;
-      going = λ e. o.going (ap g.K.Store.phase (sym same.0) ∙ e);
+      going = λ e. o.going (ap (λ k. (g.K.Store.state k).phase) (sym same.0) ∙ e);
       trying = λ x. subst IsGivenUp held.2 x;
       fits = record {
         slots = record { requests = f.slots.requests; judged = f.slots.judged; notes = λ s. ap (λ x. notes_of (released_by s x)) (ap (λ v. v.items) same.1) ∙ f.slots.notes s; receipts = f.slots.receipts; few = f.slots.few };
         batches = record {
           entries = f.batches.entries;
-          waiting = f.batches.waiting ∙ ap (λ e. lists_of (fetched_of e) ++ w.sealed) (sym same.3);
+          waiting = f.batches.waiting ∙ ap (λ e. entries_of (fetched_of e) ++ w.sealed) (sym same.3);
           held = ap stage_of held.2;
           spared = f.batches.spared ∙ omega (arith, ap (λ e. length (given_of e)) same.3);
-          eight = omega (arith, f.batches.eight, ap held_at stage);
+          eight = omega (arith, f.batches.eight, ap batch_held_at stage);
         };
         lists = record {
           opened = f.lists.opened;
@@ -56,9 +56,9 @@ returns-in-Published-clause-fits g c = λ w m.
           all = f.lists.all;
           kept = f.lists.kept ∙ (ap (λ h. f.lists.opened ++ accepted_of (before ++ stored_of h)) held.1 ∙ (ap (λ h. f.lists.opened ++ accepted_of (before ++ stored_of h)) (sym held.2)
               ∙ ap (λ e. f.lists.opened ++ accepted_of (entries_in (fetched_of e) ++ stored_of new.held)) (sym same.2)));
-          shown = ap (λ l. l ++ accepted_of items) (f.lists.shown ∙ ap (λ h. f.lists.opened ++ accepted_of (before ++ shown_of h)) held.1)
+          shown = ap (λ l. l ++ accepted_of items) (f.lists.shown ∙ ap (λ h. f.lists.opened ++ accepted_of (before ++ published_entries h)) held.1)
               ∙ (append_assoc f.lists.opened _ (accepted_of items) ∙ (ap (λ l. f.lists.opened ++ l) (accepted_more before items)
-              ∙ (ap (λ h. f.lists.opened ++ accepted_of (before ++ shown_of h)) (sym held.2) ∙ ap (λ e. f.lists.opened ++ accepted_of (entries_in (fetched_of e) ++ shown_of new.held)) (sym same.2))));
+              ∙ (ap (λ h. f.lists.opened ++ accepted_of (before ++ published_entries h)) (sym held.2) ∙ ap (λ e. f.lists.opened ++ accepted_of (entries_in (fetched_of e) ++ published_entries new.held)) (sym same.2))));
           enough = omega (arith, f.lists.enough, length-append w.published (accepted_of items));
         };
       };

@@ -4,13 +4,13 @@ use Rattle.std.proofs.lemmas.Option.{same_Some}
 use Rattle.alm_types.specs.declared.entry.Entry.{Entry}
 use Rattle.alm_model.specs.Judging.{accepted_of, entries_in}
 use Rattle.alm_model.proofs.Runs.{run_count}
-use Rattle.alm_board.specs.Logs.{list_of}
+use Rattle.alm_board.specs.Logs.{actions_of}
 use Rattle.alm_rings.specs.Placed.{outbox_at, released_in, released_by, room_by, taken_by, waiting_by}
 use Rattle.alm_rings.specs.Batches.{AreBatchEnds, fetched_of, given_of}
-use Rattle.alm_flush.specs.HeldBatch.{stored_of, shown_of, left_of, passed, next_of}
+use Rattle.alm_flush.specs.HeldBatch.{stored_of, published_entries, left_of, after_release, next_entry_of}
 use Rattle.alm_flush.proofs.HeldLaws.{stored_pass, shown_pass}
-use Rattle.alm_pipeline.specs.World.{Stage, Shown, Note, HasVerdicts, goes_to, next_at, next_notes, note_of, raised, told_more, tells, with_at}
-use Rattle.alm_pipeline.specs.Matches.{IsGivenUp, stage_of, lists_of, note, notes_of, held_at}
+use Rattle.alm_pipeline.specs.World.{Stage, Shown, Note, HasVerdicts, goes_to, next_entry, next_notes, note_of, raise, told_more, tells, with_at}
+use Rattle.alm_pipeline.specs.Matches.{IsGivenUp, stage_of, entries_of, note, notes_of, batch_held_at}
 use Rattle.alm_pipeline.proofs.Moved.{opened_as}
 use Rattle.alm_pipeline.proofs.Counts.{notes_append, released_lt}
 use Rattle.alm_pipeline.proofs.Ready.{something_left, published_at, next_at_is}
@@ -39,7 +39,7 @@ returns-in-Full-clause-answer g c = λ w m possible.
     let f = (c.tell_all.ensures.«open» w m).fits in
     let a = c.in-Full.ensures.answer in
     let s = c.in-Some.entry.slot in
-    let next : next_of p.flusher.held ≡ Some c.in-Some.entry = ap next_of c.tell_all.ensures.held ∙ sym c.in-Some.ensures in
+    let next : next_entry_of p.flusher.held ≡ Some c.in-Some.entry = ap next_entry_of c.tell_all.ensures.held ∙ sym c.in-Some.ensures in
     let of : c.in-Full.field-0 ≡ s = sym a.of ∙ ap (λ (e : Entry). e.slot) (same_Some a.entry c.in-Some.entry (sym a.next ∙ next)) in
     let outs = p.flusher.outboxes.items in
     let none : room_by s outs ≡ 0 = subst (λ (n : ℕ). room_by n outs ≡ 0) of a.cause in
@@ -55,7 +55,7 @@ returns-in-Released-clause-answer g c = λ w m.
     let o = c.tell_all.ensures.«open» w m in
     let a = c.in-Released.ensures.answer in (
       (o.opened, subst HasVerdicts o.fits.batches.held (something_left mid.flusher.held a.entry a.next)),
-      subst (λ (e : Option Entry). goes_to e c.in-Released.slot) (sym (next_at_is mid.flusher.held a.entry a.next) ∙ ap (λ (s : Stage). next_at s) o.fits.batches.held) a.of,
+      subst (λ (e : Option Entry). goes_to e c.in-Released.slot) (sym (next_at_is mid.flusher.held a.entry a.next) ∙ ap (λ (s : Stage). next_entry s) o.fits.batches.held) a.of,
     )
 
 pub returns-in-Released-clause-fits : goal.returns-in-Released-clause-fits
@@ -72,25 +72,25 @@ returns-in-Released-clause-fits g c = λ w m.
     let items = at.0.entries in
     let n = at.1 in
     let before = entries_in (fetched_of p.flusher.before.value) in
-    let shown = accepted_of (before ++ shown_of p.flusher.held) in
+    let shown = accepted_of (before ++ published_entries p.flusher.held) in
     let stage : w.stage ≡ Shown items n = sym f.batches.held ∙ ap stage_of at.2 in
     let total = w.base.panel.count + length w.published in
     let next : Note = record { serial = a.entry.serial; verdict = a.entry.verdict; number = total - length (accepted_of (drop (suc n) items)) } in
     let notes : next_notes w w.stage ≡ next ∷ [] = ap (next_notes w) stage ∙ ap (note_of w items n) at.3 in
     let left : length (left_of p.flusher.held) ≡ length (accepted_of (drop (suc n) items)) = ap (λ h. length (left_of h)) at.2 in
-    let num : a.receipt.number + length (left_of p.flusher.held) ≡ p.flusher.board.base.value.panel.count + length (list_of p.flusher.board.log) = a.number in
-    let log : length (list_of p.flusher.board.log) ≡ length shown = ap length p.flusher.published in
+    let num : a.receipt.number + length (left_of p.flusher.held) ≡ p.flusher.board.base.value.panel.count + length (actions_of p.flusher.board.log) = a.number in
+    let log : length (actions_of p.flusher.board.log) ≡ length shown = ap length p.flusher.published in
     let number : a.receipt.number ≡ total - length (accepted_of (drop (suc n) items)) =
     omega (arith, num, left, ap (λ q. q.panel.count) l.stored_from, run_count w.base l.opened, log, ap length l.shown, length-append l.opened shown) in
     let one : note a.receipt ≡ next = λ i. record { serial = a.serial i; verdict = a.verdict i; number = number i } in
-    let held : new.held ≡ passed p.flusher.held = a.held in
+    let held : new.held ≡ after_release p.flusher.held = a.held in
     let list = w.released slot ++ next ∷ [] in
-    let world : record w { stage = told_more (Shown items n); released = with_at w.released slot list; floor = raised w.floor (next ∷ []) } ≡ tells w slot (next_notes w w.stage) =
-    λ i. record w { stage = told_more (sym stage i); released = with_at w.released slot (w.released slot ++ sym notes i); floor = raised w.floor (sym notes i) } in
+    let world : record w { stage = told_more (Shown items n); released = with_at w.released slot list; floor = raise w.floor (next ∷ []) } ≡ tells w slot (next_notes w w.stage) =
+    λ i. record w { stage = told_more (sym stage i); released = with_at w.released slot (w.released slot ++ sym notes i); floor = raise w.floor (sym notes i) } in
     opened_as _ _ _ world (record {
       opened = o.opened;
-      going = λ e. o.going (ap g.K.Store.phase (sym same.0) ∙ e);
-      trying = λ x. subst IsGivenUp (held ∙ ap passed at.2) x;
+      going = λ e. o.going (ap (λ k. (g.K.Store.state k).phase) (sym same.0) ∙ e);
+      trying = λ x. subst IsGivenUp (held ∙ ap after_release at.2) x;
       fits = record {
         slots = record {
           requests = f.slots.requests;
@@ -104,10 +104,10 @@ returns-in-Released-clause-fits g c = λ w m.
         };
         batches = record {
           entries = f.batches.entries;
-          waiting = f.batches.waiting ∙ ap (λ e. lists_of (fetched_of e) ++ w.sealed) (sym same.3);
-          held = ap stage_of (held ∙ ap passed at.2);
+          waiting = f.batches.waiting ∙ ap (λ e. entries_of (fetched_of e) ++ w.sealed) (sym same.3);
+          held = ap stage_of (held ∙ ap after_release at.2);
           spared = f.batches.spared ∙ omega (arith, ap (λ e. length (given_of e)) same.3);
-          eight = omega (arith, f.batches.eight, ap held_at stage);
+          eight = omega (arith, f.batches.eight, ap batch_held_at stage);
         };
         lists = record {
           opened = l.opened;
@@ -115,7 +115,7 @@ returns-in-Released-clause-fits g c = λ w m.
           stored_from = ap (λ b. b.base.value) same.1 ∙ l.stored_from;
           all = l.all;
           kept = l.kept ∙ (ap (λ x. l.opened ++ accepted_of (before ++ x)) (sym (ap stored_of held ∙ stored_pass p.flusher.held)) ∙ ap (λ e. l.opened ++ accepted_of (entries_in (fetched_of e) ++ stored_of new.held)) (sym same.2));
-          shown = l.shown ∙ (ap (λ x. l.opened ++ accepted_of (before ++ x)) (sym (ap shown_of held ∙ shown_pass p.flusher.held)) ∙ ap (λ e. l.opened ++ accepted_of (entries_in (fetched_of e) ++ shown_of new.held)) (sym same.2));
+          shown = l.shown ∙ (ap (λ x. l.opened ++ accepted_of (before ++ x)) (sym (ap published_entries held ∙ shown_pass p.flusher.held)) ∙ ap (λ e. l.opened ++ accepted_of (entries_in (fetched_of e) ++ published_entries new.held)) (sym same.2));
           enough = max-le l.enough (omega arith);
         };
       };
@@ -131,13 +131,13 @@ returns-in-Full-clause-fits g c = λ w m.
     let a = c.in-Full.ensures.answer in
     record {
       opened = o.opened;
-      going = λ e. o.going (ap g.K.Store.phase (sym same.0) ∙ e);
+      going = λ e. o.going (ap (λ k. (g.K.Store.state k).phase) (sym same.0) ∙ e);
       trying = λ x. o.trying (subst IsGivenUp a.held x);
       fits = record {
         slots = record { requests = f.slots.requests; judged = f.slots.judged; notes = λ s. ap notes_of (a.released s) ∙ f.slots.notes s; receipts = f.slots.receipts; few = f.slots.few };
         batches = record {
           entries = f.batches.entries;
-          waiting = f.batches.waiting ∙ ap (λ e. lists_of (fetched_of e) ++ w.sealed) (sym same.3);
+          waiting = f.batches.waiting ∙ ap (λ e. entries_of (fetched_of e) ++ w.sealed) (sym same.3);
           held = ap stage_of a.held ∙ f.batches.held;
           spared = f.batches.spared ∙ omega (arith, ap (λ e. length (given_of e)) same.3);
           eight = f.batches.eight;
@@ -148,7 +148,7 @@ returns-in-Full-clause-fits g c = λ w m.
           stored_from = ap (λ b. b.base.value) same.1 ∙ l.stored_from;
           all = l.all;
           kept = l.kept ∙ (λ i. l.opened ++ accepted_of (entries_in (fetched_of (sym same.2 i)) ++ stored_of (sym a.held i)));
-          shown = l.shown ∙ (λ i. l.opened ++ accepted_of (entries_in (fetched_of (sym same.2 i)) ++ shown_of (sym a.held i)));
+          shown = l.shown ∙ (λ i. l.opened ++ accepted_of (entries_in (fetched_of (sym same.2 i)) ++ published_entries (sym a.held i)));
           enough = l.enough;
         };
       };

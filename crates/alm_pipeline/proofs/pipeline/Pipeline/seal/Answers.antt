@@ -5,8 +5,8 @@ use Rattle.alm_rings.specs.Placed.{taken_by}
 use Rattle.alm_rings.specs.Batches.{fetched_of, sealed_of, emptied_of, empties_in}
 use Rattle.alm_model.proofs.Legal.{entries_snoc}
 use Rattle.alm_seq.specs.Spares.{spares}
-use Rattle.alm_pipeline.specs.World.{after}
-use Rattle.alm_pipeline.specs.Matches.{lists_of}
+use Rattle.alm_pipeline.specs.World.{after_step}
+use Rattle.alm_pipeline.specs.Matches.{entries_of}
 use Rattle.alm_pipeline.specs.declared.step.Step.TheVariants as S
 use Rattle.alm_pipeline.specs.declared.event.Event.TheVariants as E
 use Rattle.alm_pipeline.proofs.Lists.{lists_append, lists_length}
@@ -35,10 +35,10 @@ returns-in-Sealed-clause-fits g c = λ w m.
     let old = mid.sequencer in
     let free = (returns-in-Sealed-clause-answer g c w m).2 in
     let items = old.batch.entries in
-    let fetched = lists_of (fetched_of mid.flusher.fetch) in
+    let fetched = entries_of (fetched_of mid.flusher.fetch) in
     let entries : entries_in (sealed_of new.ends) ++ new.batch.entries ≡ entries_in (sealed_of old.ends) ++ items =
     ap (λ l. entries_in (sealed_of new.ends) ++ l) s.entries ∙ (append-nil (entries_in (sealed_of new.ends)) ∙ (ap entries_in s.sealed ∙ entries_snoc (sealed_of old.ends) old.batch)) in
-    c.tell_batches-in-Sealed.ensures.«open» (after w S.Seal E.Sealed) (record {
+    c.tell_batches-in-Sealed.ensures.«open» (after_step w S.Seal E.Sealed) (record {
       opened = o.opened;
       going = o.going;
       trying = o.trying;
@@ -46,7 +46,7 @@ returns-in-Sealed-clause-fits g c = λ w m.
         slots = record { requests = f.slots.requests; judged = λ s. ap (λ v. length (taken_by s v.items)) c.in-Sealed.ensures.inboxes ∙ f.slots.judged s; notes = f.slots.notes; receipts = f.slots.receipts; few = f.slots.few };
         batches = record {
           entries = s.entries;
-          waiting = ap lists_of s.sealed ∙ (lists_append (sealed_of old.ends) (old.batch ∷ []) ∙ (ap (λ l. l ++ items ∷ []) f.batches.waiting ∙ (append_assoc fetched w.sealed (items ∷ []) ∙ ap (λ e. fetched ++ (w.sealed ++ e ∷ [])) f.batches.entries)));
+          waiting = ap entries_of s.sealed ∙ (lists_append (sealed_of old.ends) (old.batch ∷ []) ∙ (ap (λ l. l ++ items ∷ []) f.batches.waiting ∙ (append_assoc fetched w.sealed (items ∷ []) ∙ ap (λ e. fetched ++ (w.sealed ++ e ∷ [])) f.batches.entries)));
           held = f.batches.held;
           spared = omega (arith, free, s.free, f.batches.spared, ap spares s.spare);
           eight = omega (arith, free, f.batches.eight, length-append w.sealed (w.taking ∷ []));
@@ -70,4 +70,4 @@ returns-in-NoRoom-clause-answer g c = λ w m possible.
     let k = c.tell_batches.ensures.knows in
     let a = c.in-NoRoom.ensures.answer in
     let none = a.3 (omega (arith, possible.2, f.batches.spared, ap length k.empties, length-append (emptied_of mid.sequencer.ends) (empties_in mid.sequencer.ends))) in
-    absurd (omega (arith, none, possible.2, f.batches.eight, k.places, ap length f.batches.waiting, length-append (lists_of (fetched_of mid.flusher.fetch)) w.sealed, lists_length (sealed_of mid.sequencer.ends), lists_length (fetched_of mid.flusher.fetch)))
+    absurd (omega (arith, none, possible.2, f.batches.eight, k.places, ap length f.batches.waiting, length-append (entries_of (fetched_of mid.flusher.fetch)) w.sealed, lists_length (sealed_of mid.sequencer.ends), lists_length (fetched_of mid.flusher.fetch)))

@@ -10,8 +10,8 @@ use Rattle.alm_rings.specs.Placed.{inbox_at, taken_in, taken_by, waiting_by}
 use Rattle.alm_rings.specs.Batches.{AreBatchEnds, sealed_of, emptied_of}
 use Rattle.alm_seq.specs.Sequences.{live_of, history_of}
 use Rattle.alm_seq.specs.Spares.{spares}
-use Rattle.alm_pipeline.specs.World.{live, judges, entry_of, with_entry, with_at}
-use Rattle.alm_pipeline.specs.Matches.{lists_of}
+use Rattle.alm_pipeline.specs.World.{live, judges, entry_for, with_entry, with_at}
+use Rattle.alm_pipeline.specs.Matches.{entries_of}
 use Rattle.alm_pipeline.proofs.Lists.{taken_is}
 use Rattle.alm_pipeline.proofs.Moved.{opened_as}
 use Rattle.alm_pipeline.proofs.Placing.{some_there, still_inbox, back_inbox, ring_trans, same_or_not, with_here, with_there}
@@ -63,7 +63,7 @@ returns-in-Taken-clause-fits g c = λ w m.
     let open' : new.batch.entries ≡ mid.sequencer.batch.entries ++ e ∷ [] = t.entries ∙ ap (λ x. mid.sequencer.batch.entries ++ x ∷ []) same in
     let sealed = entries_in (sealed_of mid.sequencer.ends) in
     let up = with_at w.taken slot (w.taken slot + 1) in
-    opened_as _ _ _ (ap (λ (o : Option Action). with_entry w slot (entry_of w slot o c.in-Taken.verdict)) (sym get)) (record {
+    opened_as _ _ _ (ap (λ (o : Option Action). with_entry w slot (entry_for w slot o c.in-Taken.verdict)) (sym get)) (record {
       opened = o.opened;
       going = o.going;
       trying = o.trying;
@@ -80,7 +80,7 @@ returns-in-Taken-clause-fits g c = λ w m.
         };
         batches = record {
           entries = open' ∙ ap (λ l. l ++ e ∷ []) f.batches.entries;
-          waiting = ap (λ s. lists_of (sealed_of s)) seals.1 ∙ f.batches.waiting;
+          waiting = ap (λ s. entries_of (sealed_of s)) seals.1 ∙ f.batches.waiting;
           held = f.batches.held;
           spared = omega (arith, ap (λ s. length (emptied_of s)) seals.1, ap spares seals.2, f.batches.spared);
           eight = f.batches.eight;

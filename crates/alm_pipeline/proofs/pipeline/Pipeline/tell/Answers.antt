@@ -8,8 +8,8 @@ use Rattle.alm_rings.specs.Ends.{sent_of, received_of}
 use Rattle.alm_rings.specs.Placed.{inbox_at, outbox_at}
 use Rattle.alm_rings.specs.Batches.{AreBatchEnds, sealed_of, fetched_of, emptied_of, given_of}
 use Rattle.alm_seq.specs.Spares.{spares}
-use Rattle.alm_flush.specs.HeldBatch.{stored_of, shown_of}
-use Rattle.alm_pipeline.specs.Matches.{IsGivenUp, KnowsEnds, lists_of, notes_of, stage_of}
+use Rattle.alm_flush.specs.HeldBatch.{stored_of, published_entries}
+use Rattle.alm_pipeline.specs.Matches.{IsGivenUp, KnowsEnds, entries_of, notes_of, stage_of}
 use Rattle.alm_pipeline.proofs.Placing.{set_here, set_cases, still_inbox, still_outbox, ring_trans, ring_sym}
 use Rattle.alm_pipeline.proofs.pipeline.Pipeline.tell.Goals as goal
 
@@ -58,7 +58,7 @@ returns-clause-open g c = λ w m.
     let was = slice_get_read cs _ at c.index_mut-console.result.now refl (omega (arith, c.number.ensures.limit, old.count)) c.index_mut-console.ensures.value in
     record {
       opened = m.opened;
-      going = λ e. m.going (ap g.K.Store.phase (sym same.0) ∙ e);
+      going = λ e. m.going (ap (λ k. (g.K.Store.state k).phase) (sym same.0) ∙ e);
       trying = λ x. m.trying (subst IsGivenUp same.4 x);
       fits = record {
         slots = record {
@@ -76,7 +76,7 @@ returns-clause-open g c = λ w m.
         };
         batches = record {
           entries = ap (λ b. b.entries) seals.1 ∙ f.batches.entries;
-          waiting = ap (λ e. lists_of (sealed_of e)) seals.0.1 ∙ (f.batches.waiting ∙ ap (λ e. lists_of (fetched_of e) ++ w.sealed) (sym same.3));
+          waiting = ap (λ e. entries_of (sealed_of e)) seals.0.1 ∙ (f.batches.waiting ∙ ap (λ e. entries_of (fetched_of e) ++ w.sealed) (sym same.3));
           held = ap stage_of same.4 ∙ f.batches.held;
           spared = omega (arith, f.batches.spared, ap (λ e. length (emptied_of e)) seals.0.1, ap (λ e. length (given_of e)) same.3, ap spares seals.0.2);
           eight = f.batches.eight;
@@ -87,7 +87,7 @@ returns-clause-open g c = λ w m.
           stored_from = ap (λ b. b.base.value) same.1 ∙ l.stored_from;
           all = l.all ∙ (λ i. l.opened ++ accepted_of (entries_in (sealed_of (sym seals.0.1 i)) ++ (sym seals.1 i).entries));
           kept = l.kept ∙ (λ i. l.opened ++ accepted_of (entries_in (fetched_of (sym same.2 i)) ++ stored_of (sym same.4 i)));
-          shown = l.shown ∙ (λ i. l.opened ++ accepted_of (entries_in (fetched_of (sym same.2 i)) ++ shown_of (sym same.4 i)));
+          shown = l.shown ∙ (λ i. l.opened ++ accepted_of (entries_in (fetched_of (sym same.2 i)) ++ published_entries (sym same.4 i)));
           enough = l.enough;
         };
       };

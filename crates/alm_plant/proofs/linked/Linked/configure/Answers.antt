@@ -3,7 +3,7 @@ use Rattle.alm_types.specs.declared.attr.Attr.{Attr}
 use Rattle.alm_state.specs.Outcome.{attr_after}
 use Rattle.alm_model.specs.Keeping.{area_in}
 use Rattle.alm_model.specs.Plant.{Condensed}
-use Rattle.alm_model.specs.Step.{configured}
+use Rattle.alm_model.specs.Step.{with_attributes}
 use Rattle.alm_model.proofs.Configured.{after_keeps, set-changed}
 use Rattle.alm_plant.specs.Filing.{Files}
 use Rattle.alm_plant.proofs.Linking.{linked-configured, plant_at, with_floods}
@@ -23,8 +23,8 @@ pub returns-clause-plant : goal.returns-clause-plant
 returns-clause-plant c =
     let i = c.self.inside in
     let f = attr_after c.args.action.now in
-    let later = configured c.args.self.now c.args.id.0 f in
+    let later = with_attributes c.args.self.now c.args.id.0 f in
     ap (λ (n : Files). plant_at i.count i.next_stamp n i.measure) c.set_attr.ensures
     ∙ ap (λ attrs. plant_at i.count i.next_stamp (record i.nodes { attrs = attrs }) i.measure) (set-changed i.nodes.attrs c.args.id.0 f c.attr.result.now c.attr_after-attr.result c.attr.ensures c.attr_after-attr.ensures)
-    ∙ ap (λ (q : Condensed). configured q c.args.id.0 f) c.self.view_is
+    ∙ ap (λ (q : Condensed). with_attributes q c.args.id.0 f) c.self.view_is
     ∙ sym (ap (with_floods later) c.requires.settled)

@@ -1,9 +1,9 @@
-use Rattle.std.proofs.Common.{◌≡◌, ◌⊎◌, inr, ◌++◌, ℕ, List, length, ap, subst, arith}
+use Rattle.std.proofs.Common.{◌≡◌, ◌⊎◌, inr, ◌++◌, ℕ, List, length, ap, sym, subst, arith}
 use Rattle.std.proofs.Math.Logic.{∥∥₁_map}
 use Rattle.alm_disk.specs.Device.{IsImage}
 use Rattle.alm_model.specs.Judging.{accepted_of, entries_in}
 use Rattle.alm_rings.specs.Batches.{fetched_of}
-use Rattle.alm_flush.specs.HeldBatch.{told_of}
+use Rattle.alm_flush.specs.HeldBatch.{released_entries}
 use Rattle.alm_run.specs.Moments.{at_first, at_moment}
 use Rattle.alm_run.proofs.Moments.{at_safe, passed_on, passed_of_prefix, accepted_prefix, entries_prefix, told_by_fetch, fetched_more}
 use Rattle.alm_run.proofs.recorded_flusher.RecordedFlusher.fetch.Goals as goal
@@ -18,27 +18,27 @@ invariant_of-self g c =
     let base = b.base o.board in
     let before = fetched_of o.before.value in
     let all = accepted_of (entries_in (fetched_of o.fetch)) in
-    let first = at_first base (s.device c.args.self.now.first.value) in
-    let last = at_moment base (s.device o.store) o.number (b.published o.board) in
-    let told : told_of n.held ≡ told_of o.held = told_by_fetch c.fetch.result o.held n.held o.fetch n.fetch e.answer in
+    let first = at_first base (g.K.Device.Disk.state (s.disk c.args.self.now.first.value)) in
+    let last = at_moment base (g.K.Device.Disk.state (s.disk o.store)) o.number (b.published o.board) in
+    let told : released_entries n.held ≡ released_entries o.held = told_by_fetch c.fetch.result o.held n.held o.fetch n.fetch e.answer in
     let number : n.number ≡ o.number =
     omega (
       arith,
       n.number_is,
       o.number_is,
       ap (λ x. (b.base x).panel.count) e.same.0,
-      ap (λ x. length (accepted_of (entries_in (fetched_of x) ++ told_of n.held))) e.same.2,
+      ap (λ x. length (accepted_of (entries_in (fetched_of x) ++ released_entries n.held))) e.same.2,
       ap (λ t. length (accepted_of (entries_in before ++ t))) told,
     ) in
     let more = accepted_prefix (entries_in (fetched_of o.fetch)) (entries_in (fetched_of n.fetch)) (entries_prefix (fetched_of o.fetch) (fetched_of n.fetch) (fetched_more c.fetch.result o.held n.held o.fetch n.fetch e.answer)) in
-    let next = at_moment base (s.device n.store) n.number (b.published o.board) in
+    let next = at_moment base (g.K.Device.Disk.state (s.disk n.store)) n.number (b.published o.board) in
     record {
       course = rw e.same.0 (λ h. ∥∥₁_map (c.args.self.now.course h) (λ p.
-          let stands = subst (λ (k : _). s.honest k → (i : List ℕ) → IsImage (s.device k) i → ∥ s.recovers i (s.stored k) ⊎ s.recovers i (s.next k) ∥₁) c.keeper.ensures.keeper c.images.ensures.stands p.0 in
-          let safe = at_safe s.recovers g.met.K.Store.one g.met.K.Store.rules base (s.device o.store) o.number (b.published o.board) before (fetched_of o.fetch) o.held (s.stored o.store) (s.next o.store)
+          let stands = subst (λ (k : _). (g.K.Device.Disk.honest (s.disk k)) → (i : List ℕ) → IsImage (g.K.Device.Disk.state (s.disk k)) i → ∥ s.recovers i (s.state k).stored ⊎ s.recovers i (s.state k).next ∥₁) c.keeper.ensures.keeper c.images.ensures.stands p.0 in
+          let safe = at_safe s.recovers g.met.K.Store.one g.met.K.Store.rules base (g.K.Device.Disk.state (s.disk o.store)) o.number (b.published o.board) before (fetched_of o.fetch) o.held (s.state o.store).stored (s.state o.store).next
           o.held_is o.stored o.either o.number_is o.published stands in (
-            e.honest.0 p.0,
+            subst g.K.Device.Disk.honest (sym e.store.disk) p.0,
             passed_of_prefix s.recovers base all (accepted_of (entries_in (fetched_of n.fetch))) first next more
-                (passed_on s.recovers base all first last next p.1 safe (inr (e.store.0, omega (arith, number), omega arith))),
+                (passed_on s.recovers base all first last next p.1 safe (inr (ap g.K.Device.Disk.state e.store.disk, omega (arith, number), omega arith))),
           )));
     }

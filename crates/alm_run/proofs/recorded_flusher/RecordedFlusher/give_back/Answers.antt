@@ -18,8 +18,8 @@ invariant_of-self g c =
     let base = b.base o.board in
     let before = fetched_of o.before.value in
     let all = accepted_of (entries_in (fetched_of o.fetch)) in
-    let first = at_first base (s.device c.args.self.now.first.value) in
-    let last = at_moment base (s.device o.store) o.number (b.published o.board) in
+    let first = at_first base (g.K.Device.Disk.state (s.disk c.args.self.now.first.value)) in
+    let last = at_moment base (g.K.Device.Disk.state (s.disk o.store)) o.number (b.published o.board) in
     let number : o.number ≤ n.number =
     omega (
       arith,
@@ -30,10 +30,10 @@ invariant_of-self g c =
     ) in
     record {
       course = rw (e.same.0, e.same.1, e.ends.1) (λ h. ∥∥₁_map (c.args.self.now.course h) (λ p.
-          let stands = subst (λ (k : _). s.honest k → (i : List ℕ) → IsImage (s.device k) i → ∥ s.recovers i (s.stored k) ⊎ s.recovers i (s.next k) ∥₁) c.keeper.ensures.keeper c.images.ensures.stands p.0 in
-          let safe = at_safe s.recovers g.met.K.Store.one g.met.K.Store.rules base (s.device o.store) o.number (b.published o.board) before (fetched_of o.fetch) o.held (s.stored o.store) (s.next o.store)
+          let stands = subst (λ (k : _). (g.K.Device.Disk.honest (s.disk k)) → (i : List ℕ) → IsImage (g.K.Device.Disk.state (s.disk k)) i → ∥ s.recovers i (s.state k).stored ⊎ s.recovers i (s.state k).next ∥₁) c.keeper.ensures.keeper c.images.ensures.stands p.0 in
+          let safe = at_safe s.recovers g.met.K.Store.one g.met.K.Store.rules base (g.K.Device.Disk.state (s.disk o.store)) o.number (b.published o.board) before (fetched_of o.fetch) o.held (s.state o.store).stored (s.state o.store).next
           o.held_is o.stored o.either o.number_is o.published stands in (
             p.0,
-            passed_on s.recovers base all first last (at_moment base (s.device o.store) n.number (b.published o.board)) p.1 safe (inr (refl, omega (arith, number), omega arith)),
+            passed_on s.recovers base all first last (at_moment base (g.K.Device.Disk.state (s.disk o.store)) n.number (b.published o.board)) p.1 safe (inr (refl, omega (arith, number), omega arith)),
           )));
     }

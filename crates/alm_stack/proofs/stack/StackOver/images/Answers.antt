@@ -14,9 +14,9 @@ returns g c = λ honest b is.
     let f = s.pipeline.flusher in
     let k = f.store in
     let same : c.keeper.result.now ≡ k = c.keeper.ensures.keeper in
-    let stands = c.images.ensures.stands (subst g.K.Store.honest (sym same) honest) b (subst (λ x. IsImage (g.K.Store.device x) b) (sym same) is) in
-    let here = subst (λ x. ∥ g.K.Store.recovers b (g.K.Store.stored x) ⊎ g.K.Store.recovers b (g.K.Store.next x) ∥₁) same stands in
-    kept_image g.K.Store.recovers s.halted (live_of s.pipeline.sequencer) (g.K.Store.stored k) (g.K.Store.next k) f.held b
+    let stands = c.images.ensures.stands (subst (λ k. g.K.Device.Disk.honest (g.K.Store.disk k)) (sym same) honest) b (subst (λ x. IsImage (g.K.Device.Disk.state (g.K.Store.disk x)) b) (sym same) is) in
+    let here = subst (λ x. ∥ g.K.Store.recovers b (g.K.Store.state x).stored ⊎ g.K.Store.recovers b (g.K.Store.state x).next ∥₁) same stands in
+    kept_image g.K.Store.recovers s.halted (live_of s.pipeline.sequencer) (g.K.Store.state k).stored (g.K.Store.state k).next f.held b
     (λ none. ∥∥₁_elim (s.rests none) (hlevel props) (λ r.
     let fits = r.1.0.fits in
     (lives r.0 s.pipeline fits ∙ sym (stored_as r.0 s.pipeline fits ∙ ap (run r.0.base) r.1.1.stored), none_waits f.held (fits.batches.held ∙ r.1.1.stage))))

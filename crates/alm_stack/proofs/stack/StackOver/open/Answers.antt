@@ -8,7 +8,7 @@ use Rattle.alm_stack.proofs.stack.StackOver.open.Goals as goal
 
 pub invariant_of-result : goal.invariant_of-result
 invariant_of-result g c =
-    let q = g.K.Store.stored c.in-Ok.pipeline.flusher.store in
+    let q = (g.K.Store.state c.in-Ok.pipeline.flusher.store).stored in
     record {
       rests = λ _. ∣ (first q, (c.in-Ok.ensures.«open» q [] q.panel.count refl (omega arith), idle_first q)) ∣₁;
       halts = λ r is. absurd (cc is);
@@ -16,11 +16,11 @@ invariant_of-result g c =
 
 pub returns-in-Ok-clause-stands : goal.returns-in-Ok-clause-stands
 returns-in-Ok-clause-stands g c =
-    let q = g.K.Store.stored c.in-Ok.pipeline.flusher.store in
+    let q = (g.K.Store.state c.in-Ok.pipeline.flusher.store).stored in
     let same = lives (first q) c.in-Ok.pipeline (c.in-Ok.ensures.«open» q [] q.panel.count refl (omega arith)).fits in
     (ap Some same, ap (λ (x : Condensed). x ∷ []) same)
 
 pub returns-in-Ok-clause-world : goal.returns-in-Ok-clause-world
 returns-in-Ok-clause-world g c =
-    let q = g.K.Store.stored c.in-Ok.pipeline.flusher.store in
+    let q = (g.K.Store.state c.in-Ok.pipeline.flusher.store).stored in
     (refl, (c.in-Ok.ensures.«open» q [] q.panel.count refl (omega arith), idle_first q))

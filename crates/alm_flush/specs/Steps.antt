@@ -1,0 +1,129 @@
+-- What a step of a flusher makes of its store: of the device, of the batch under way, in which order, at which pace, and why it fails.
+use Rattle.std.specs.Prelude.{◌≡◌, ◌≢◌, ◌↔◌, ◌⊎◌, ◌*◌, ◌<◌, ◌≤◌, ℕ, List, [], length, None, true}
+use Rattle.alm_types.specs.declared.action.Action.{Action}
+use Rattle.alm_disk.specs.Failures.{HasFailed}
+use Rattle.alm_disk.specs.declared.disk.Disk
+use Rattle.alm_model.specs.Rules.{admits_all}
+use Rattle.alm_model.specs.Step.{run}
+use Rattle.alm_store.specs.Advancing.{IsCalls, IsOpen}
+use Rattle.alm_store.specs.Calls.{CallDone, CallFailed, IsCall}
+use Rattle.alm_store.specs.Pace.{least_segment, most}
+use Rattle.alm_store.specs.Pacing.{KeepsPace, SamePace}
+use Rattle.alm_store.specs.State.{StoreState}
+use Rattle.alm_store.specs.declared.phase.Phase.TheVariants.{Idle, Committing, Paused, Stopped}
+use Rattle.alm_store.specs.declared.store.Store.{Ghosts}
+use Rattle.alm_flush.specs.Advances.{Advances, IsSure, Within}
+use Rattle.alm_flush.specs.Pacing.{NearPace}
+use Rattle.alm_flush.specs.declared.advance.Advance.{Advance}
+use Rattle.alm_flush.specs.declared.advance.Advance.TheVariants.{More, Committed, Failed}
+
+-- a commit that is under way is that of these actions, which are admitted
+pub record CommitsOnly (actions : List Action) (s : StoreState) : Type 0 where
+  pub next : s.phase ≡ Committing → s.next ≡ run s.stored actions
+  pub admitted : s.phase ≡ Committing → admits_all s.stored actions ≡ true
+
+-- what is stored when it is done is what is stored, or these actions more
+abbrev pub IsEither : List Action → StoreState → Type 0
+IsEither actions s = ∥ (s.next ≡ s.stored) ⊎ (s.next ≡ run s.stored actions) ∥₁
+
+-- the batch is stored just where its commit is done
+pub record StoresBatch (result : Advance) (actions : List Action) (old new : StoreState) : Type 0 where
+  pub answer : Advances result old.phase new.phase old.stored new.stored actions
+  pub going : result ≢ Failed → new.phase ≢ Stopped
+  pub passed : result ≡ Committed → admits_all old.stored actions ≡ true
+  pub either : result ≢ Committed → IsEither actions new
+
+-- a call leaves a commit a commit until it is done
+pub record KeepsPhase (result : Advance) (old new : StoreState) : Type 0 where
+  pub more : old.phase ≡ Committing → result ≡ More → new.phase ≡ Committing
+  pub copies : IsOpen old.phase → new.phase ≢ Committing
+  pub commits : result ≡ Committed → old.phase ≡ Committing
+
+-- what was begun where nothing was under way: a commit, which leaves use and open checkpoint, or a checkpoint
+pub record StartsInPace (takes : Type 0) (old new : StoreState) : Type 0 where
+  pub pace : takes → SamePace old new
+  pub alone : new.phase ≡ Committing → new.going ≡ old.going
+
+module _ {S D : Type 0} (g : Ghosts S D) where
+  -- no device call was made, and what is stored is as it was
+  pub record IsUntouched (old new : S) : Type 0 where
+    pub disk : g.disk new ≡ g.disk old
+    pub exhausted : g.exhausted old ↔ g.exhausted new
+    pub newest : g.newest old → g.newest new
+    pub stored : (g.state new).stored ≡ (g.state old).stored
+    pub written : (g.state new).written ≡ (g.state old).written
+    pub segment : (g.state new).segment ≡ (g.state old).segment
+
+  -- but for the count of a checkpoint's bytes it is as before
+  pub record IsAsBefore (old new : S) : Type 0 where
+    pub disk : g.disk new ≡ g.disk old
+    pub state : g.state new ≡ record (g.state old) { written = (g.state new).written }
+    pub newest : g.newest old → g.newest new
+    pub takes : (actions : List Action) → (g.takes old actions ↔ g.takes new actions) × (g.will_take old actions ↔ g.will_take new actions)
+
+  -- what is begun for a batch before the next call
+  pub record BeginsInOrder (actions : List Action) (old new : S) : Type 0 where
+    pub taken : (g.state old).phase ≡ Idle → g.takes old actions → (g.state new).phase ≡ Committing
+    pub takes : g.takes old actions → IsOpen (g.state new).phase → g.takes new actions
+    pub between : (g.state old).phase ≡ Paused → (g.state new).phase ≡ Committing → 0 < (g.state old).written
+    pub waits : g.takes old actions → (g.state new).phase ≡ Paused → (g.state old).written ≡ 0
+
+  pub record BeginsInPace (old new : S) : Type 0 where
+    pub pace : g.newest old → least_segment ≤ (g.state old).segment → KeepsPace (g.state old) → KeepsPace (g.state new)
+    pub alone : (g.state new).phase ≡ Committing → (g.state new).going ≡ (g.state old).going
+
+  -- pieces of a checkpoint and commits, one after the other
+  pub record IsInOrder (result : Advance) (actions : List Action) (old new : S) : Type 0 where
+    -- a checkpoint only where the store doesn't take the batch
+    pub taken : (g.state old).phase ≡ Idle → g.takes old actions → result ≡ More → (g.state new).phase ≡ Committing
+    -- a piece goes out before each commit within a checkpoint,
+    pub between : (g.state old).phase ≡ Paused → (g.state new).phase ≡ Committing → 0 < (g.state old).written
+    -- and no more than one while a batch waits that was taken as it was fetched
+    pub waits : result ≡ More → g.takes old actions → 0 < length actions → (g.state old).written ≤ most → (g.state new).written ≤ most
+    pub still : result ≡ More → g.takes old actions → 0 < length actions → (g.state new).phase ≢ Committing → g.takes new actions
+
+  -- the same between a commit's end and the checkpoint that is opened behind it
+  pub record NearsPace (result : Advance) (old new : S) : Type 0 where
+    pub segment : (g.state new).segment ≡ (g.state old).segment
+    pub newest : g.newest old → g.newest new
+    pub pace : result ≡ More → g.newest old → least_segment ≤ (g.state old).segment → KeepsPace (g.state old) → KeepsPace (g.state new)
+    pub near : result ≡ Committed → g.newest old → least_segment ≤ (g.state old).segment → KeepsPace (g.state old) → NearPace (g.state new)
+    pub alone : result ≡ Committed → (g.state old).going ≡ None → (g.state new).going ≡ None
+
+  -- behind a commit a checkpoint is open where more than half of the segment is used, but for the last epoch, and none is opened where that isn't so
+  pub record OpensBehind (result : Advance) (old new : S) : Type 0 where
+    pub opens : result ≡ Committed → ¬ (g.exhausted new) → (g.state new).segment < 2 * (g.state new).used → IsOpen (g.state new).phase
+    pub only : result ≡ Committed → (g.state old).going ≡ None → 2 * (g.state new).used ≤ (g.state new).segment → (g.state new).going ≡ None
+
+  -- the store keeps its pace, and so takes every batch, as long as epochs are left
+  pub record StaysInPace (result : Advance) (old new : S) : Type 0 where
+    pub segment : (g.state new).segment ≡ (g.state old).segment
+    pub newest : g.newest old → g.newest new
+    pub pace : result ≢ Failed → ¬ (g.exhausted new) → g.newest old → least_segment ≤ (g.state old).segment → KeepsPace (g.state old) → KeepsPace (g.state new)
+
+  -- the commit of these actions is done in at most m steps
+  abbrev pub EndsWithin : (m : ℕ) → List Action → S → Type 0
+  EndsWithin m actions s = Within m (g.state s).phase (g.state s).left (g.takes s actions) (g.will_take s actions) (length actions)
+
+  module _ (d : Disk.Ghosts D) where
+    -- at most one call of the device, whatever it does
+    pub record CallsDevice (result : Advance) (actions : List Action) (old new : S) : Type 0 where
+      pub honest : d.honest (g.disk old) ↔ d.honest (g.disk new)
+      -- one that was done where it goes on with a batch that has actions, or with a checkpoint; none for a batch without actions; and where
+      -- it fails one that failed, or none
+      pub done : 0 < length actions → result ≢ Failed → CallDone d.serves (g.disk old) (g.disk new)
+      pub goes : result ≡ More → CallDone d.serves (g.disk old) (g.disk new)
+      pub none : actions ≡ [] → result ≡ Committed → g.disk new ≡ g.disk old
+      pub failed : result ≡ Failed → (g.disk new ≡ g.disk old) ⊎ CallFailed d.serves (g.disk old) (g.disk new)
+      pub sound : result ≢ Failed → d.failures (g.disk new) ≡ d.failures (g.disk old)
+      pub count : d.failures (g.disk old) ≤ d.failures (g.disk new)
+      pub exhausted : g.exhausted old → g.exhausted new
+      -- of an honest one it is a write or a sync by its bytes
+      pub call : d.honest (g.disk old) → IsCalls (d.state (g.disk old)) (d.state (g.disk new))
+      pub one : d.honest (g.disk old) → 0 < length actions → result ≢ Failed → IsCall (d.state (g.disk old)) (d.state (g.disk new))
+      pub more : d.honest (g.disk old) → result ≡ More → IsCall (d.state (g.disk old)) (d.state (g.disk new))
+
+    -- the batch is the next one, and its step failed: the device did where no checkpoint is to be begun, and else but for the last epoch
+    pub record HasCauses (result : Advance) (actions : List Action) (is_next : Type 0) (old new : S) : Type 0 where
+      pub sure : result ≡ Failed → IsSure (g.state old).phase (g.takes old actions) → is_next → HasFailed (d.failures (g.disk old)) (d.failures (g.disk new))
+      pub cause : result ≡ Failed → (g.state old).phase ≢ Stopped → ¬ (g.exhausted old) → is_next → HasFailed (d.failures (g.disk old)) (d.failures (g.disk new))
