@@ -1,8 +1,10 @@
 //! A check of a row.
 
-use crate::desk::{new_desk, printed};
+use crate::desk::{new_desk, new_desk_over, printed};
 use crate::device_desk::prints_over_a_device;
 use alm_desk::{Backend, LocalDesk};
+use alm_model::{Alarms, PlainPlant};
+use alm_plant::Plant;
 use std::alloc::Global;
 use std::io::Read;
 use std::process::Abort;
@@ -51,9 +53,9 @@ fn first_wrong<B: Backend + Drop>(
     Ok(None)
 }
 
-/// Feeds the lines of a row one by one: the number of the first that is answered otherwise.
-fn first_wrong_of_new(alloc: Global, row: Row) -> Result<Option<usize>, Fail> {
-    let mut desk = new_desk(alloc)?;
+/// Feeds the lines of a row one by one to a desk over a new plant: the number of the first that is answered otherwise.
+fn first_wrong_of_new<P: Alarms + Drop>(alloc: Global, row: Row) -> Result<Option<usize>, Fail> {
+    let mut desk = new_desk_over::<P>(alloc)?;
     let found = first_wrong(alloc, &mut desk, row);
     drop(desk);
     found
@@ -71,12 +73,14 @@ pub fn prints_anew<I: Read + Drop>(alloc: Global, reader: I, wanted: &[u8]) -> b
     }
 }
 
-/// Checks the replies of a new desk to the lines of a row, each a slot, a line and its reply, however they are cut; and the
-/// same over a device.
+/// Checks the replies of a new desk to the lines of a row, each a slot, a line and its reply, over either plant, however they are cut;
+/// and the same over a device.
 pub fn check<R: Abort + AllocGlobal>(rt: &R, name: &str, row: Row) -> Result<(), Fail> {
     let alloc = rt.alloc();
-    let wrong = first_wrong_of_new(alloc, row)?;
+    let wrong = first_wrong_of_new::<Plant>(alloc, row)?;
     assert_eq!(rt; wrong, None, "{name}, line by line");
+    let wrong = first_wrong_of_new::<PlainPlant>(alloc, row)?;
+    assert_eq!(rt; wrong, None, "{name}, over the plain plant");
     let (input, wanted) = texts(alloc, row)?;
     let input = input.as_str().as_bytes();
     let wanted = wanted.as_str().as_bytes();

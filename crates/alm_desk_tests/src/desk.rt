@@ -1,15 +1,21 @@
 //! A desk over the worked table, and what it prints.
 
 use alm_desk::{Backend, CountedWriter, LocalDesk, desk_of};
+use alm_model::Alarms;
 use alm_plant::Plant;
 use alm_service::{CountedReader, RunFault, desk_run, worked_table};
 use std::alloc::{AllocError, Global};
 use std::io::Read;
 
-/// A desk over the new plant of the worked table.
-pub fn new_desk(alloc: Global) -> Result<LocalDesk<Plant>, AllocError> {
+/// A desk over a new plant of the worked table, however that keeps its alarms.
+pub fn new_desk_over<P: Alarms + Drop>(alloc: Global) -> Result<LocalDesk<P>, AllocError> {
     let table = worked_table(alloc)?;
     desk_of(alloc, &table)
+}
+
+/// A desk over the new plant of the worked table.
+pub fn new_desk(alloc: Global) -> Result<LocalDesk<Plant>, AllocError> {
+    new_desk_over::<Plant>(alloc)
 }
 
 /// What a desk prints for what a reader gives.

@@ -2,20 +2,27 @@
 //!
 //! | module | what it runs |
 //! |---|---|
+//! | `changes`, `exhausted`, `stamps` | worked rows of what no line of the desk shows, as calls on both plants and on copies of them |
 //! | `built` | a plant of an image's parts is the plain one of that image, in stamp order where stamps run against numbers, and goes on like it |
 //! | `drawn` | 10,000 drawn actions through both plants: all lists, windows, ages, moments and rows are compared after each hundred |
 //! | `iterated` | lists alarm by alarm are those that fill a vector |
 //! | `largest` | 16,384 alarms in 64 areas: made, built and copied |
 //! | `refused` | want of memory: a plant is made whole or not at all |
 //!
-//! They stand in a crate of their own, since a crate with tests is proved twice. The worked rows run over both plants in
-//! `alm_plant_rows`.
+//! They stand in a crate of their own, since a crate with tests is proved twice. The worked rows of lines and replies run over both
+//! plants in `alm_desk_tests`.
 #![tactic(auto)]
 
 #[cfg(test)]
 mod built;
 #[cfg(test)]
+mod changes;
+#[cfg(test)]
+mod check;
+#[cfg(test)]
 mod drawn;
+#[cfg(test)]
+mod exhausted;
 #[cfg(test)]
 mod iterated;
 #[cfg(test)]
@@ -25,4 +32,10 @@ mod refused;
 #[cfg(test)]
 mod same;
 #[cfg(test)]
+mod stamps;
+#[cfg(test)]
+mod step;
+#[cfg(test)]
 mod tables;
+#[cfg(test)]
+mod want;

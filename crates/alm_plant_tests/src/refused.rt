@@ -2,7 +2,7 @@
 //! most, so what was refused is made the second time: a maker that always gives up doesn't pass.
 
 use crate::tables::table;
-use alm_model::{Alarms, PlantParts};
+use alm_model::{Alarms, PlainPlant, PlantParts};
 use alm_plant::Plant;
 use alm_types::Table;
 use std::alloc::{AllocError, Global};
@@ -37,6 +37,7 @@ fn a_plant_is_made_whole_or_not_at_all(rt: HostRuntime) -> Result<(), Fail> {
         Some(rows) => rows,
         None => table(alloc, 6, 2).ok_or("table")?,
     };
+    assert!(rt; are_made::<PlainPlant>(alloc, &rows)?);
     assert!(rt; are_made::<Plant>(alloc, &rows)?);
     Ok(())
 }
