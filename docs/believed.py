@@ -9,7 +9,7 @@ from pathlib import Path
 
 CRATES = Path(__file__).resolve().parent.parent / "crates"
 HEADLINE = ["alm_bench.StandOnly:StandOnly", "alm_bench.Traced:KeepsTold", "alm_pipeline.Headline:IsRun", "alm_pipeline.Headline:device_alone",
-            "alm_pipeline.World:first", "alm_pipeline.World:shut", "alm_keeper.AsStore:StandsFor", "alm_keeper.AsStore:IsSpent"]
+            "alm_pipeline.World:first", "alm_pipeline.World:closed_world", "alm_keeper.AsStore:StandsFor", "alm_keeper.AsStore:IsLastEpoch"]
 BEGINS = re.compile(r"\s*(?:(?:pub|abbrev|unfoldable|opaque) )*(?:(?:pub|abbrev|unfoldable|opaque|record|data) )(\S+)")
 IMPORT = re.compile(r"\s*use Rattle\.(\w+)\.specs\.(\w+)\.\{(.*)\}")
 WORD = re.compile(r"[^\s(){}\[\];,.]+")

@@ -71,8 +71,7 @@ fn deadline_part(until: Option<u64>) -> Part<'static>
 
 /// Prints each number after a space.
 fn print_spaced<W: io::Write>(numbers: &[u32], writer: &mut W) -> io::Result<()>
-    ensures { Prints (W.contents writer.old) (W.contents writer.new) (with_spaces numbers.now)
-        result }
+    ensures { Prints (W.contents writer.old) (W.contents writer.new) (with_spaces numbers.now) result }
 {
     for number in numbers {
         put_parts(&[Part::Word(" "), Part::Number(u64::from(*number))], writer)?;

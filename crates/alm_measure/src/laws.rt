@@ -20,8 +20,7 @@ ghost use Rattle.alm_measure.specs.Metrics.{after_clock, after_annunciation, cha
 /// annunciations: with one more of an alarm, at a later moment, and with its floods settled.
 pub fn calls_count_anew()
     ensures annunciated { (p : Plant) (i : ℕ) →
-        after_annunciation i (metrics_of (condense p)) ≡
-        metrics_of (condense (with_annunciation i p)) }
+        after_annunciation i (metrics_of (condense p)) ≡ metrics_of (condense (with_annunciation i p)) }
     ensures advanced { (p : Plant) (t : ℕ) → IsRecorded p.panel.now p.kept → p.panel.now ≤ t →
         after_clock t (metrics_of (condense p)) ≡ metrics_of (condense (later in_full t p)) }
     ensures settled { (p : Plant) → IsRecorded p.panel.now p.kept →
@@ -32,12 +31,10 @@ pub fn calls_count_anew()
 /// counted from the list of all annunciations.
 pub fn calls_are_counted()
     ensures new { (t : Listing) (calls : List Call) → IsTable t → GoForward 0 calls →
-        AreCounted (fold called_in_full (new_whole t) calls)
-        (fold after_metrics_call (new_metrics t) calls) }
+        AreCounted (fold called_in_full (new_whole t) calls) (fold after_metrics_call (new_metrics t) calls) }
     ensures any { (p : Plant) (calls : List Call) → IsRecorded p.panel.now p.kept →
         length p.panel.attrs ≡ length p.panel.rows → GoForward p.panel.now calls →
-        AreCounted (fold called_in_full p calls)
-        (fold after_metrics_call (metrics_of (condense p)) calls) }
+        AreCounted (fold called_in_full p calls) (fold after_metrics_call (metrics_of (condense p)) calls) }
 {}
 
 /// What becomes of the metrics of a plant is what its step does: at an annunciation, as its clock moves, and where its floods

@@ -41,8 +41,7 @@ fn feed_from(decoder: &mut Decoder, bytes: &[u8], at: usize, end: usize) -> (usi
     ensures used { result.0 ≡ bytes_used (drop at (take end bytes.now)) }
     ensures line { result.1 ≡
         option_map line_of (line_ended decoder.old (drop at (take end bytes.now))) }
-    ensures held { decoder.new ≡
-        held_behind decoder.old (take result.0 (drop at (take end bytes.now))) }
+    ensures held { decoder.new ≡ held_behind decoder.old (take result.0 (drop at (take end bytes.now))) }
 {
     let (piece, _) = bytes.split_at(end);
     decoder.feed(&piece[at..])

@@ -64,8 +64,7 @@ fn led(row: Row, active: bool, happening: Happening, latching: bool, stamp: u64)
     requires free { is_suppressed row ≡ false }
     requires active { active ≡ active_after happening row.active }
     ensures { result ≡
-        after_transition stamp (next_core latching happening row.core)
-        (record row { active = active }) }
+        after_transition stamp (next_core latching happening row.core) (record row { active = active }) }
 {
     match row.core.next(happening, latching) {
         Ok(Core::Unack) => Outcome::Annunciated(Row {

@@ -100,8 +100,7 @@ impl<'a> Section<'a> {
     pub fn reading(&self, key: &str) -> Result<Reading, LoadFault>
         ensures ok { IfOk result
             (λ r.
-            field self.now.alarm (table_view self.now.table.now) key.now None reading_of_data ≡
-            Ok r) }
+            field self.now.alarm (table_view self.now.table.now) key.now None reading_of_data ≡ Ok r) }
         ensures err { IfErr result
             (λ e. IsFaultIn e
             (field self.now.alarm (table_view self.now.table.now) key.now None reading_of_data)) }
@@ -114,11 +113,10 @@ impl<'a> Section<'a> {
 
     pub fn kind(&self, key: &str) -> Result<Kind, LoadFault>
         ensures ok { IfOk result
-            (λ k.
-            field self.now.alarm (table_view self.now.table.now) key.now None kind_of_data ≡ Ok k) }
+            (λ k. field self.now.alarm (table_view self.now.table.now) key.now None kind_of_data ≡ Ok k) }
         ensures err { IfErr result
-            (λ e. IsFaultIn e
-            (field self.now.alarm (table_view self.now.table.now) key.now None kind_of_data)) }
+            (λ e.
+            IsFaultIn e (field self.now.alarm (table_view self.now.table.now) key.now None kind_of_data)) }
     {
         match value_at(self.table, key).and_then(kind_of) {
             Some(kind) => Ok(kind),
@@ -147,11 +145,10 @@ impl<'a> Section<'a> {
 
     pub fn tag(&self, key: &str) -> Result<Tag, LoadFault>
         ensures ok { IfOk result
-            (λ t.
-            field self.now.alarm (table_view self.now.table.now) key.now None tag_of_data ≡ Ok t) }
+            (λ t. field self.now.alarm (table_view self.now.table.now) key.now None tag_of_data ≡ Ok t) }
         ensures err { IfErr result
-            (λ e. IsFaultIn e
-            (field self.now.alarm (table_view self.now.table.now) key.now None tag_of_data)) }
+            (λ e.
+            IsFaultIn e (field self.now.alarm (table_view self.now.table.now) key.now None tag_of_data)) }
     {
         match value_at(self.table, key).and_then(tag_of) {
             Some(tag) => Ok(tag),
