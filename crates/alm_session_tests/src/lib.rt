@@ -8,6 +8,8 @@ mod piece_wire;
 #[cfg(test)]
 mod playing;
 #[cfg(test)]
+mod refused;
+#[cfg(test)]
 mod rows;
 #[cfg(test)]
 mod still;

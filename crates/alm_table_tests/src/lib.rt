@@ -6,6 +6,7 @@
 //! | `faulty` | files with a fault, and with several: the first is told |
 //! | `limits` | each number at both ends of its limits and beyond them; tags and texts at their longest |
 //! | `largest` | 16,384 alarms |
+//! | `refused` | want of memory: a table is read whole or not at all |
 //!
 //! They stand in a crate of their own, since a crate with tests is proved twice.
 #![tactic(auto)]
@@ -18,5 +19,7 @@ mod largest;
 mod limits;
 #[cfg(test)]
 mod outcome;
+#[cfg(test)]
+mod refused;
 #[cfg(test)]
 mod worked;
