@@ -74,6 +74,32 @@ fn each_slot_gets_its_own(rt: HostRuntime) -> Result<(), Fail> {
 
 const ACK: Action = Action::Ack(AlarmId(0));
 
+#[test]
+fn a_batch_takes_256_entries(rt: HostRuntime) -> Result<(), Fail> {
+    let judged = Outcome::Took(Take::Taken(Verdict::Refused(Refusal::NotUnacknowledged, 0)));
+    let mut sends = Vec::new(rt.alloc());
+    let mut takes = Vec::new(rt.alloc());
+    for number in 0..5 {
+        let slot = Slot::new(number).ok_or("slot")?;
+        for serial in 1..=64 {
+            sends.push((Call::Send(slot, ACK), Outcome::Sent(Some(serial))))?;
+        }
+        if number < 4 {
+            for _ in 0..64 {
+                takes.push((Call::Take(slot), judged))?;
+            }
+        }
+    }
+    let last = Slot::new(4).ok_or("slot")?;
+    let mut course = sends;
+    course.extend_from_slice(&takes)?;
+    course.push((Call::Take(last), Outcome::Took(Take::BatchFull)))?;
+    course.push((Call::Seal, Outcome::Sealed(Seal::Sealed)))?;
+    course.push((Call::Take(last), judged))?;
+    assert_eq!(rt; differs_at(rt.alloc(), DEVICE, 64, &course)?, None);
+    Ok(())
+}
+
 const SECOND_REFUSED: Verdict = Verdict::Refused(Refusal::NotUnacknowledged, 2);
 
 #[test]
