@@ -19,6 +19,102 @@ const LONGEST_TAG: &str = "tag = \"0123456789abcdef0123456789abcdef\"\n";
 
 const TAG_TOO_LONG: &str = "tag = \"0123456789abcdef0123456789abcdefg\"\n";
 
+/// The parts of an alarm, and the key that is at fault.
+const NUMBERS: [(&[&str], Option<&str>); 19] = [
+    (
+        &[KIND, "setpoint = 1000000000000\n", PRIORITY, AREA, TAG],
+        None,
+    ),
+    (
+        &[KIND, "setpoint = 1000000000001\n", PRIORITY, AREA, TAG],
+        Some("setpoint"),
+    ),
+    (
+        &[KIND, "setpoint = -1000000000000\n", PRIORITY, AREA, TAG],
+        None,
+    ),
+    (
+        &[KIND, "setpoint = -1000000000001\n", PRIORITY, AREA, TAG],
+        Some("setpoint"),
+    ),
+    (
+        &[KIND, "setpoint = 1.0\n", PRIORITY, AREA, TAG],
+        Some("setpoint"),
+    ),
+    (
+        &[KIND, SETPOINT, "priority = 0\n", AREA, TAG],
+        Some("priority"),
+    ),
+    (&[KIND, SETPOINT, "priority = 4\n", AREA, TAG], None),
+    (
+        &[KIND, SETPOINT, "priority = 5\n", AREA, TAG],
+        Some("priority"),
+    ),
+    (&[KIND, SETPOINT, PRIORITY, "area = 1\n", TAG], None),
+    (&[KIND, SETPOINT, PRIORITY, "area = 2\n", TAG], Some("area")),
+    (
+        &[KIND, SETPOINT, PRIORITY, "area = -1\n", TAG],
+        Some("area"),
+    ),
+    (
+        &[
+            KIND,
+            SETPOINT,
+            PRIORITY,
+            AREA,
+            TAG,
+            "deadband = 1000000000000\n",
+        ],
+        None,
+    ),
+    (
+        &[
+            KIND,
+            SETPOINT,
+            PRIORITY,
+            AREA,
+            TAG,
+            "deadband = 1000000000001\n",
+        ],
+        Some("deadband"),
+    ),
+    (
+        &[KIND, SETPOINT, PRIORITY, AREA, TAG, "deadband = -1\n"],
+        Some("deadband"),
+    ),
+    (
+        &[KIND, SETPOINT, PRIORITY, AREA, TAG, "max_shelve = 604800\n"],
+        None,
+    ),
+    (
+        &[KIND, SETPOINT, PRIORITY, AREA, TAG, "max_shelve = 604801\n"],
+        Some("max_shelve"),
+    ),
+    (
+        &[
+            "[[alarm]]\nkind = \"discrete\"\n",
+            SETPOINT,
+            PRIORITY,
+            AREA,
+            TAG,
+            "deadband = 0\n",
+        ],
+        None,
+    ),
+    (
+        &[
+            "[[alarm]]\nkind = \"discrete\"\n",
+            SETPOINT,
+            PRIORITY,
+            AREA,
+            TAG,
+            "deadband = 1\n",
+        ],
+        Some("deadband"),
+    ),
+    (&[KIND, SETPOINT, PRIORITY, AREA], Some("tag")),
+];
+
 #[test]
 fn numbers_of_the_file(rt: HostRuntime) -> Result<(), Fail> {
     let alloc = rt.alloc();
@@ -45,101 +141,7 @@ fn numbers_of_the_file(rt: HostRuntime) -> Result<(), Fail> {
 #[test]
 fn numbers_of_an_alarm(rt: HostRuntime) -> Result<(), Fail> {
     let alloc = rt.alloc();
-    let alarms: [(&[&str], Option<&str>); 19] = [
-        (
-            &[KIND, "setpoint = 1000000000000\n", PRIORITY, AREA, TAG],
-            None,
-        ),
-        (
-            &[KIND, "setpoint = 1000000000001\n", PRIORITY, AREA, TAG],
-            Some("setpoint"),
-        ),
-        (
-            &[KIND, "setpoint = -1000000000000\n", PRIORITY, AREA, TAG],
-            None,
-        ),
-        (
-            &[KIND, "setpoint = -1000000000001\n", PRIORITY, AREA, TAG],
-            Some("setpoint"),
-        ),
-        (
-            &[KIND, "setpoint = 1.0\n", PRIORITY, AREA, TAG],
-            Some("setpoint"),
-        ),
-        (
-            &[KIND, SETPOINT, "priority = 0\n", AREA, TAG],
-            Some("priority"),
-        ),
-        (&[KIND, SETPOINT, "priority = 4\n", AREA, TAG], None),
-        (
-            &[KIND, SETPOINT, "priority = 5\n", AREA, TAG],
-            Some("priority"),
-        ),
-        (&[KIND, SETPOINT, PRIORITY, "area = 1\n", TAG], None),
-        (&[KIND, SETPOINT, PRIORITY, "area = 2\n", TAG], Some("area")),
-        (
-            &[KIND, SETPOINT, PRIORITY, "area = -1\n", TAG],
-            Some("area"),
-        ),
-        (
-            &[
-                KIND,
-                SETPOINT,
-                PRIORITY,
-                AREA,
-                TAG,
-                "deadband = 1000000000000\n",
-            ],
-            None,
-        ),
-        (
-            &[
-                KIND,
-                SETPOINT,
-                PRIORITY,
-                AREA,
-                TAG,
-                "deadband = 1000000000001\n",
-            ],
-            Some("deadband"),
-        ),
-        (
-            &[KIND, SETPOINT, PRIORITY, AREA, TAG, "deadband = -1\n"],
-            Some("deadband"),
-        ),
-        (
-            &[KIND, SETPOINT, PRIORITY, AREA, TAG, "max_shelve = 604800\n"],
-            None,
-        ),
-        (
-            &[KIND, SETPOINT, PRIORITY, AREA, TAG, "max_shelve = 604801\n"],
-            Some("max_shelve"),
-        ),
-        (
-            &[
-                "[[alarm]]\nkind = \"discrete\"\n",
-                SETPOINT,
-                PRIORITY,
-                AREA,
-                TAG,
-                "deadband = 0\n",
-            ],
-            None,
-        ),
-        (
-            &[
-                "[[alarm]]\nkind = \"discrete\"\n",
-                SETPOINT,
-                PRIORITY,
-                AREA,
-                TAG,
-                "deadband = 1\n",
-            ],
-            Some("deadband"),
-        ),
-        (&[KIND, SETPOINT, PRIORITY, AREA], Some("tag")),
-    ];
-    for (parts, fault) in alarms {
+    for (parts, fault) in NUMBERS {
         let wanted = match fault {
             Some(key) => Outcome::Key(Some(0), key),
             None => Outcome::Taken,
