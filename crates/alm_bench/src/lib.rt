@@ -1,6 +1,12 @@
 //! The parts of a server over one device, driven step by step in one thread: every interleaving of consoles, sequencer,
 //! flusher and device, with crashes and reopenings.
 //!
+//! ```text
+//! let mut bench = Bench::new(alloc, disk)?;
+//! let event = bench.step(alloc, &Step::Send(slot, action));
+//! let (trace, disk) = life(alloc, disk, &steps)?;
+//! ```
+//!
 //! | name | is |
 //! |---|---|
 //! | [`Bench`] | all parts over a device, or a closed device alone |

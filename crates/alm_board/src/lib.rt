@@ -1,5 +1,11 @@
 //! The published plant: what lookers see.
 //!
+//! ```text
+//! let mut board = PlainBoard::new(plant); let mut look = board.looker(seen);
+//! board.publish(rt, &batch)?; look.learn(receipt);
+//! let count = look.look(query, &mut answer)?;
+//! ```
+//!
 //! | name | is |
 //! |---|---|
 //! | [`Board`] | what is published: it tells its list to receipts |

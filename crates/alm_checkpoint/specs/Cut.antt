@@ -16,6 +16,7 @@ use Rattle.alm_checkpoint.specs.declared.half.Half.TheVariants.{First, Second}
 use Rattle.alm_checkpoint.specs.Layouts.{other, half_len, is_rows, is_areas, is_segment}
 use Rattle.alm_checkpoint.specs.Headers.{header_text, half_head_text, allows}
 use Rattle.alm_checkpoint.specs.Opening.{gate_in, epoch_in}
+use Rattle.alm_types.specs.Sizes.{most_actions}
 
 -- the limits of a layout
 pub record IsLayout (l : Layout) : Type 0 where
@@ -75,7 +76,7 @@ pub record Stores (c : Cut) (plant : Condensed) : Type 0 where
   pub epoch : c.epoch < 2 ^ 64
   pub image : IsImageText c.base (image_text c.base)
   pub sizes : IsOf c.layout.rows c.layout.areas c.base.panel.count c.base
-  pub count : c.base.panel.count ≤ 2 ^ 48
+  pub count : c.base.panel.count ≤ most_actions
   pub frames : AreFrames c.epoch c.base.panel.count c.frames
   pub borne : AreBorne c.version (actions_in c.frames)
   pub admitted : AreAdmitted c.base (actions_in c.frames)

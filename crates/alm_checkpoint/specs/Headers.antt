@@ -7,6 +7,7 @@ use Rattle.alm_codec.specs.Format.{Format, number_field, raw, coded_field, teste
 use Rattle.alm_checkpoint.specs.declared.layout.Layout.{Layout}
 use Rattle.alm_checkpoint.specs.declared.half_head.HalfHead.{HalfHead}
 use Rattle.alm_checkpoint.specs.Layouts.{image_size, device_len, is_rows, is_areas, is_segment}
+use Rattle.alm_types.specs.Sizes.{most_actions}
 
 -- the last digit of a name: 1 or 2
 abbrev pub version_digit : Version → ℕ
@@ -61,7 +62,7 @@ allows header V01 = is_first header
 allows header V02 = true
 
 abbrev pub is_count : ℕ → Bool
-is_count n = nat_le n (2 ^ 48)
+is_count n = nat_le n most_actions
 
 -- the version and the count that the field stands for
 abbrev pub mark_read : (header : Version) → ℕ → Option (Version × ℕ)
@@ -81,7 +82,7 @@ half_head_text l version epoch count = to_be_bytes w64 epoch ++ (to_be_bytes w64
 pub record IsHeadOf (l : Layout) (t : HalfHead) : Type 0 where
   pub epoch : t.epoch < 2 ^ 64
   pub allowed : allows l.version t.version ≡ true
-  pub count : t.count ≤ 2 ^ 48
+  pub count : t.count ≤ most_actions
 
 -- the head of a half under a header, whose image has so many bytes
 abbrev pub half_head : (header : Version) (image : ℕ) → Format HalfHead

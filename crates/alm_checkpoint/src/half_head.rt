@@ -6,12 +6,14 @@ ghost use Rattle.alm_codec.specs.Reading.{Gives};
 ghost use Rattle.alm_codec.specs.Format.{tested_field, number_field};
 ghost use Rattle.alm_checkpoint.specs.Headers.{half_head, mark, mark_weight, allows, is_first};
 ghost use Rattle.alm_checkpoint.specs.Opening.{half_head_from};
+ghost use Rattle.alm_types.specs.Sizes.{most_actions};
 
 use crate::fault::Fault;
 use crate::half::Half;
 use crate::layout::Layout;
 use alm_codec::fields::u64_at;
 use alm_codec::{Left, Version};
+use alm_types::MOST_ACTIONS;
 
 /// What the head of a half says.
 #[derive(Clone, Copy, Debug, PartialEq, Eq)]
@@ -23,9 +25,6 @@ pub struct HalfHead {
     /// How many actions made the plant of its image, at most 2^48.
     pub count: u64,
 }
-
-/// The greatest count of actions.
-const MOST_ACTIONS: u64 = 1 << 48;
 
 /// What the mark of version 02 adds to the count: 2 in the first of the eight bytes that they share.
 const SECOND_MARK: u64 = 2 << 56;
@@ -42,7 +41,7 @@ pub(crate) fn mark_weight(version: Version) -> u64
 
 /// The version of a half under a header of a version, and its count of actions.
 fn mark_of(bytes: &[u8], header: Version) -> Result<((Version, u64), &[u8]), Left>
-    ensures limit { IfOk result (λ x. x.0.1 ≤ 2 ^ 48) }
+    ensures limit { IfOk result (λ x. x.0.1 ≤ most_actions) }
     ensures allowed { IfOk result (λ x. allows header x.0.0 ≡ true) }
     ensures mark { Gives (λ x. (x.0, x.1.now)) result ((mark header).read bytes.now) }
 {
@@ -71,7 +70,7 @@ fn image_of(bytes: &[u8], image: usize) -> Result<(u64, &[u8]), Left>
 
 /// All fields behind the gate.
 fn fields_of(bytes: &[u8], header: Version, image: usize) -> Result<(HalfHead, &[u8]), Left>
-    ensures count { IfOk result (λ x. x.0.count ≤ 2 ^ 48) }
+    ensures count { IfOk result (λ x. x.0.count ≤ most_actions) }
     ensures allowed { IfOk result (λ x. allows header x.0.version ≡ true) }
     ensures fields { Gives (λ x. (x.0, x.1.now)) result ((half_head header image).read bytes.now) }
 {
@@ -96,7 +95,7 @@ impl Layout {
     pub fn read_half_head(&self, half: Half, bytes: &[u8]) -> Result<HalfHead, Fault>
         requires { length bytes.now ≡ 25 }
         ensures head { result ≡ half_head_from self.now half bytes.now }
-        ensures count { IfOk result (λ h. h.count ≤ 2 ^ 48) }
+        ensures count { IfOk result (λ h. h.count ≤ most_actions) }
         ensures allowed { IfOk result (λ h. allows self.now.version h.version ≡ true) }
     {
         match fields_of(&bytes[1..], self.version, self.image_len()) {

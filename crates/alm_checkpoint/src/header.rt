@@ -14,6 +14,7 @@ use crate::layout::{HEADER_LEN, LONGEST_SEGMENT, Layout, SHORTEST_SEGMENT, devic
 use alm_codec::fields::{u16_at, u32_at, u64_at};
 use alm_codec::{Left, Version};
 use alm_segment::OPEN_GATE;
+use alm_types::{MOST_ALARMS, MOST_AREAS};
 
 /// The version that the name tells.
 fn name_of(bytes: &[u8]) -> Result<(Version, &[u8]), Left>
@@ -39,7 +40,7 @@ fn rows_of(bytes: &[u8]) -> Result<(u32, &[u8]), Left>
         ((tested_field (number_field w32 (2 ^ 32)) is_rows).read bytes.now) }
 {
     let (rows, rest) = u32_at(bytes)?;
-    if rows >= 1 && rows <= 16_384 {
+    if rows >= 1 && rows as usize <= MOST_ALARMS {
         Ok((rows, rest))
     } else {
         Err(Left(bytes.len()))
@@ -53,7 +54,7 @@ fn areas_of(bytes: &[u8]) -> Result<(u8, &[u8]), Left>
         ((tested_field (number_field w16 (2 ^ 16)) is_areas).read bytes.now) }
 {
     let (areas, rest) = u16_at(bytes)?;
-    if areas >= 1 && areas <= 64 {
+    if areas >= 1 && areas <= MOST_AREAS as u16 {
         Ok((areas as u8, rest))
     } else {
         Err(Left(bytes.len()))

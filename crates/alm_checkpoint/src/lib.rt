@@ -1,5 +1,11 @@
 //! The device as a whole: a header and two halves, each a head, an image and a segment of the journal.
 //!
+//! ```text
+//! let layout = read_header(start, size)?;
+//! let half = choose(&first, &second)?;
+//! let Recovered { plant, .. } = recover::<Plant>(alloc, device)?;
+//! ```
+//!
 //! | offset | bytes | field of the header |
 //! |---|---|---|
 //! | 0 | 1 | gate |

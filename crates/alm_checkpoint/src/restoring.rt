@@ -1,10 +1,11 @@
 //! The plant that a half holds.
 
-ghost use Rattle.std.specs.Prelude.{◌≡◌, ◌≤◌, ◌^◌, length, IfOk, IfErr};
+ghost use Rattle.std.specs.Prelude.{◌≡◌, ◌≤◌, length, IfOk, IfErr};
 ghost use Rattle.alm_checkpoint.specs.Layouts.{image_size};
 ghost use Rattle.alm_checkpoint.specs.Cut.{IsLayout};
 ghost use Rattle.alm_checkpoint.specs.Opening.{opened_with};
 ghost use Rattle.alm_checkpoint.specs.Restoring.{Holds, IsUnrestored};
+ghost use Rattle.alm_types.specs.Sizes.{most_actions};
 
 use crate::fault::Fault;
 use crate::half::Half;
@@ -30,7 +31,7 @@ impl Layout {
         segment: &[u8],
     ) -> Result<(P, u64), RestoreFault>
         requires layout { IsLayout self.now }
-        requires count { head.now.count ≤ 2 ^ 48 }
+        requires count { head.now.count ≤ most_actions }
         requires image { length image.now ≡ image_size self.now }
         requires segment { length segment.now ≡ self.now.segment }
         ensures holds { IfOk result

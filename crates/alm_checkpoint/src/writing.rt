@@ -1,7 +1,8 @@
 //! Writing the header and the heads of the halves, from behind their gates.
 
-ghost use Rattle.std.specs.Prelude.{◌≡◌, ◌≤◌, ◌^◌, ◌++◌, length, drop};
+ghost use Rattle.std.specs.Prelude.{◌≡◌, ◌≤◌, ◌++◌, length, drop};
 ghost use Rattle.alm_checkpoint.specs.Headers.{header_text, half_head_text};
+ghost use Rattle.alm_types.specs.Sizes.{most_actions};
 
 use crate::half_head::{HalfHead, mark_weight};
 use crate::layout::{Layout, device_name};
@@ -22,7 +23,7 @@ impl Layout {
     /// Writes the head of a half from behind its gate, 24 bytes; what follows stays.
     pub fn write_half_head(&self, head: &HalfHead, out: &mut [u8])
         requires room { 24 ≤ length out.old }
-        requires count { head.now.count ≤ 2 ^ 48 }
+        requires count { head.now.count ≤ most_actions }
         ensures { out.new ≡
             half_head_text self.now head.now.version head.now.epoch head.now.count ++
             drop 24 out.old }

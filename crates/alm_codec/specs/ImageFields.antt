@@ -20,6 +20,7 @@ use Rattle.alm_model.specs.Plant.{Condensed}
 use Rattle.alm_codec.specs.Actions.{switch_number, reading_at}
 use Rattle.alm_codec.specs.Image.{kind_code, core_code}
 use Rattle.alm_codec.specs.Format.{Format, byte, number_field, raw, coded_field, tested_field, ruled_field, both, each}
+use Rattle.alm_types.specs.Sizes.{most_alarms}
 
 -- ---- what an image spells
 
@@ -210,7 +211,7 @@ moment_field = tested_field u64 (λ n. nat_lt n (2 ^ 40))
 
 -- the next stamp after so many actions
 abbrev pub next_stamp : ℕ → Format ℕ
-next_stamp count = tested_field u64 (λ n. nat_le 1 n && nat_le n (1 + 16384 * count))
+next_stamp count = tested_field u64 (λ n. nat_le 1 n && nat_le n (1 + most_alarms * count))
 
 -- the image of a plant of so many rows and areas after `count` actions
 abbrev pub image : ℕ → ℕ → ℕ → Format Image

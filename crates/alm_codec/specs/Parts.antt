@@ -5,6 +5,7 @@ use Rattle.alm_state.specs.Rows.{IsState}
 use Rattle.alm_codec.specs.declared.alarm_parts.AlarmParts.{AlarmParts}
 use Rattle.alm_codec.specs.declared.area_parts.AreaParts.{AreaParts}
 use Rattle.alm_codec.specs.ImageFields.{Alarm, Area}
+use Rattle.alm_types.specs.Sizes.{most_areas}
 
 abbrev pub area_from : AreaParts → Area
 area_from p = record { flood = p.flood; ages = p.ages }
@@ -20,6 +21,6 @@ alarm_in p = record {
 pub record InLimits (x : Alarm) : Type 0 where
   pub deadband : x.fixed.deadband ≤ deadband_limit x.fixed.kind
   pub priority : (1 ≤ x.fixed.priority) × (x.fixed.priority ≤ 4)
-  pub area : x.fixed.area < 64
+  pub area : x.fixed.area < most_areas
   pub max_shelve : x.fixed.max_shelve ≤ 604800
   pub state : IsState x.state

@@ -4,6 +4,7 @@ ghost use Rattle.std.specs.Prelude.{◌≡◌, ◌≤◌, ◌+◌, ◌++◌, ◌
 ghost use Rattle.alm_codec.specs.Reading.{GivesOr};
 ghost use Rattle.alm_codec.specs.ImageFields.{alarms_in, alarms_of, seen_then};
 ghost use Rattle.alm_codec.specs.Parts.{alarm_in, InLimits};
+ghost use Rattle.alm_types.specs.Sizes.{most_areas};
 
 use crate::alarm_parts::{AlarmParts, alarm_of};
 use crate::stop::Stop;
@@ -82,7 +83,7 @@ pub fn alarms_of(
     areas: u8,
     rows: u32,
 ) -> Result<(AlarmLists, &[u8]), Stop>
-    requires { areas ≤ 64 }
+    requires { areas ≤ most_areas }
     ensures alarms { GivesOr
         (λ x. (alarms_in x.0.attrs.items x.0.rows.items x.0.moments.items, x.1.now)) result
         ((alarms_of clock next_stamp areas rows).read bytes.now) }

@@ -5,6 +5,7 @@ ghost use Rattle.alm_state.specs.Rows.{is_annunciated};
 ghost use Rattle.alm_codec.specs.Reading.{Gives};
 ghost use Rattle.alm_codec.specs.ImageFields.{alarm_field, fixed_in};
 ghost use Rattle.alm_codec.specs.Parts.{alarm_in, InLimits};
+ghost use Rattle.alm_types.specs.Sizes.{most_areas};
 
 use crate::fixed::{Fixed, fixed_of, flag_of};
 use crate::flags::{Flags, flags_of};
@@ -129,7 +130,7 @@ pub fn alarm_of<'a>(
     areas: u8,
     seen: &BTreeSet<u64>,
 ) -> Result<(AlarmParts, &'a [u8]), Left>
-    requires { areas ≤ 64 }
+    requires { areas ≤ most_areas }
     ensures alarm { Gives (λ x. (alarm_in x.0, x.1.now)) result
         ((alarm_field clock next_stamp areas seen.now.keys).read bytes.now) }
     ensures few { IfOk result (λ x. x.0.kept ≤ 3) }

@@ -7,25 +7,23 @@ ghost use Rattle.alm_codec.specs.Actions.{action_text};
 ghost use Rattle.alm_codec.specs.Reading.{Gives, FindsOrDamage};
 ghost use Rattle.alm_codec.specs.Frames.{IsFrame, frame_text, frame_body, head_at, with_front, actions_at, frame_at, IsBefore};
 ghost use Rattle.alm_codec.specs.Versions.{AreBorne};
+ghost use Rattle.alm_types.specs.Sizes.{most_entries};
 
 use crate::action::{ACTION_LEN, action_of, put_action};
 use crate::damage::Damage;
 use crate::fields::{put, u16_at, u64_at};
 use crate::left::Left;
 use crate::version::Version;
-use alm_types::Action;
+use alm_types::{Action, MOST_ENTRIES};
 
 /// How many bytes of a frame stand between its gate and its first action.
 const HEAD_LEN: usize = 18;
-
-/// The most actions of a frame.
-pub const MOST_ACTIONS: usize = 256;
 
 /// How many actions the frame has, and the bytes from its first action on.
 #[tactic(auto, unfolding(crate::specs::Frames::head_at))]
 fn head_of(bytes: &[u8], epoch: u64, count: u64) -> Result<(u16, &[u8]), Left>
     ensures head { Gives (λ x. (x.0, x.1.now)) result (head_at epoch count bytes.now) }
-    ensures few { IfOk result (λ x. x.0 ≤ 256) }
+    ensures few { IfOk result (λ x. x.0 ≤ most_entries) }
     ensures inside { IfOk result (λ x. 16 * x.0 < length x.1.now) }
     ensures left { IfOk result (λ x. length x.1.now ≤ length bytes.now) }
 {
@@ -40,7 +38,7 @@ fn head_of(bytes: &[u8], epoch: u64, count: u64) -> Result<(u16, &[u8]), Left>
     }
     let left = rest.len();
     let (actions, rest) = u16_at(rest)?;
-    if actions < 1 || actions > 256 || rest.len() <= 16 * actions as usize {
+    if actions < 1 || actions as usize > MOST_ENTRIES || rest.len() <= 16 * actions as usize {
         return Err(Left(left));
     }
     Ok((actions, rest))
@@ -81,7 +79,7 @@ fn frame_of<'a>(
     actions: &mut Vec<Action>,
     version: Version,
 ) -> Result<&'a [u8], Left>
-    requires { 256 ≤ vec_capacity actions.old }
+    requires { most_entries ≤ vec_capacity actions.old }
     ensures actions { Gives (λ rest. (actions.new.items, rest.now)) result
         (frame_at version epoch count bytes.now) }
     ensures left { IfOk result (λ rest. length rest.now ≤ length bytes.now) }
@@ -101,7 +99,7 @@ pub fn read_frame(
     actions: &mut Vec<Action>,
     version: Version,
 ) -> Result<usize, Damage>
-    requires { 256 ≤ vec_capacity actions.old }
+    requires { most_entries ≤ vec_capacity actions.old }
     // What is read is spelled so, and the next gate lies behind it.
     ensures found { IfOk result
         (λ end. IsFrame epoch (count + 1) actions.new.items × AreBorne version actions.new.items ×
@@ -130,7 +128,7 @@ pub fn read_frame(
 /// Writes a frame's body from behind its gate: the next gate is closed.
 pub fn write_frame_body(epoch: u64, first: u64, actions: &[Action], out: &mut [u8])
     requires some { 1 ≤ length actions.now }
-    requires few { length actions.now ≤ 256 }
+    requires few { length actions.now ≤ most_entries }
     requires room { 19 + 16 * length actions.now ≤ length out.old }
     ensures text { out.new ≡
         frame_body epoch first actions.now ++ drop (19 + 16 * length actions.now) out.old }

@@ -8,6 +8,7 @@ ghost use Rattle.alm_codec.specs.Format.{tested_field};
 ghost use Rattle.alm_codec.specs.Image.{IsImageText, IsOf};
 ghost use Rattle.alm_codec.specs.ImageFields.{u64, moment_field, next_stamp, image, image_in, damage_in};
 ghost use Rattle.alm_codec.specs.Faults.{IsDamagedAt, IsReadAs};
+ghost use Rattle.alm_types.specs.Sizes.{most_alarms, most_areas};
 
 use crate::alarm_lists::alarms_of;
 use crate::area_lists::areas_of;
@@ -16,7 +17,7 @@ use crate::image_fault::ImageFault;
 use crate::left::Left;
 use crate::stop::Stop;
 use alm_model::PlantParts;
-use alm_types::Moment;
+use alm_types::{MOST_ALARMS, Moment};
 use std::alloc::Global;
 
 fn clock_of(bytes: &[u8]) -> Result<(Moment, &[u8]), Left>
@@ -31,9 +32,9 @@ fn clock_of(bytes: &[u8]) -> Result<(Moment, &[u8]), Left>
 
 /// Whether a plant can have a next stamp after so many actions: each takes at most one a row, and the first is 1.
 fn is_next(next_stamp: u64, count: u64) -> bool
-    ensures { result ≡ (nat_le 1 next_stamp && nat_le next_stamp (1 + 16384 * count)) }
+    ensures { result ≡ (nat_le 1 next_stamp && nat_le next_stamp (1 + most_alarms * count)) }
 {
-    next_stamp >= 1 && next_stamp - 1 <= count.saturating_mul(16_384)
+    next_stamp >= 1 && next_stamp - 1 <= count.saturating_mul(MOST_ALARMS as u64)
 }
 
 /// The next stamp of a plant after so many actions.
@@ -56,7 +57,7 @@ fn image_of(
     areas: u8,
     count: u64,
 ) -> Result<(PlantParts, &[u8]), Stop>
-    requires { areas ≤ 64 }
+    requires { areas ≤ most_areas }
     ensures image { GivesOr (λ x. (image_in (plant_of x.0), x.1.now)) result
         ((image rows areas count).read bytes.now) }
     ensures attrs { IfOk result (λ x. length x.0.attrs.items ≡ rows) }
@@ -94,8 +95,8 @@ pub fn read_image(
     areas: u8,
     count: u64,
 ) -> Result<PlantParts, ImageFault>
-    requires rows { (1 ≤ rows) × (rows ≤ 16384) }
-    requires areas { (1 ≤ areas) × (areas ≤ 64) }
+    requires rows { (1 ≤ rows) × (rows ≤ most_alarms) }
+    requires areas { (1 ≤ areas) × (areas ≤ most_areas) }
     // What is read is the plant of that image; it can be built.
     ensures found { IfOk result (λ p. IsImageText (plant_of p) bytes.now) }
     ensures sizes { IfOk result (λ p. IsOf rows areas count (plant_of p)) }

@@ -12,11 +12,13 @@ ghost use Rattle.alm_codec.specs.declared.version.Version.{Version};
 ghost use Rattle.alm_codec.specs.Versions.{AreBorne};
 ghost use Rattle.alm_codec.specs.ImageFields.{damage_in};
 ghost use Rattle.alm_codec.specs.Image.{IsImageText, IsOf, image_text, image_len};
+ghost use Rattle.alm_types.specs.Sizes.{most_alarms, most_areas};
 
 /// Bytes are undamaged exactly where they are the image of a plant of so many rows, areas and actions.
 pub fn undamaged_is_an_image()
-    ensures some { (rows areas count : ℕ) (bytes : List ℕ) → (1 ≤ rows) × (rows ≤ 16384) →
-        (1 ≤ areas) × (areas ≤ 64) → IsBytes bytes → damage_in rows areas count bytes ≡ None →
+    ensures some { (rows areas count : ℕ) (bytes : List ℕ) → (1 ≤ rows) × (rows ≤ most_alarms) →
+        (1 ≤ areas) × (areas ≤ most_areas) → IsBytes bytes →
+        damage_in rows areas count bytes ≡ None →
         (q : Condensed) × IsOf rows areas count q × IsImageText q bytes }
     ensures none { (rows areas count : ℕ) (bytes : List ℕ) (q : Condensed) →
         IsOf rows areas count q → IsImageText q bytes → damage_in rows areas count bytes ≡ None }

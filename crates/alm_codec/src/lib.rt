@@ -1,5 +1,11 @@
 //! The texts that lie on the device: actions, frames and images. Numbers are big-endian; the layouts are this project's own.
 //!
+//! ```text
+//! write_action(&action, &mut text);
+//! let len = read_frame(bytes, epoch, count, &mut actions, version)?;
+//! let parts = read_image(alloc, bytes, rows, areas, count)?;
+//! ```
+//!
 //! | text | bytes |
 //! |---|---|
 //! | action | kind 1, zeros 3, alarm 4, argument 8: CLOCK 1, VALUE 2, ACK 3, RESET 4, SHELVE 5, UNSHELVE 6, OOS 7, DESIGN 8, PRIO 9, SETP 10 |
@@ -39,7 +45,7 @@ mod version;
 
 pub use action::{ACTION_LEN, action_of, read_action, write_action};
 pub use damage::Damage;
-pub use frame::{MOST_ACTIONS, read_frame, write_frame_body};
+pub use frame::{read_frame, write_frame_body};
 pub use image_fault::ImageFault;
 pub use image_reader::read_image;
 pub use image_writer::{image_len, write_image};

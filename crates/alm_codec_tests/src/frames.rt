@@ -1,7 +1,7 @@
 //! The texts of frames.
 
-use alm_codec::{Damage, MOST_ACTIONS, Version, read_frame, write_frame_body};
-use alm_types::{Action, AlarmId, Moment, Reading};
+use alm_codec::{Damage, Version, read_frame, write_frame_body};
+use alm_types::{Action, AlarmId, MOST_ENTRIES, Moment, Reading};
 use std::test::Fail;
 
 /// A frame of one action from behind its gate, with the next gate closed.
@@ -17,7 +17,7 @@ const VALUE_FRAME: [u8; 35] = [
 
 #[test]
 fn frames_are_written_and_read(rt: HostRuntime) -> Result<(), Fail> {
-    let mut actions = Vec::with_capacity(rt.alloc(), MOST_ACTIONS)?;
+    let mut actions = Vec::with_capacity(rt.alloc(), MOST_ENTRIES)?;
     let mut out = [9; 36];
     let clock = Action::Clock(Moment::new(1000).ok_or("moment")?);
     write_frame_body(1, 1, &[clock], &mut out);
@@ -57,7 +57,7 @@ const DAMAGED: [(u64, u64, usize, Change, usize); 9] = [
 
 #[test]
 fn damaged_frames(rt: HostRuntime) -> Result<(), Fail> {
-    let mut actions = Vec::with_capacity(rt.alloc(), MOST_ACTIONS)?;
+    let mut actions = Vec::with_capacity(rt.alloc(), MOST_ENTRIES)?;
     for (epoch, count, length, change, at) in DAMAGED {
         let mut frame = CLOCK_FRAME;
         if let Some((place, byte)) = change {
@@ -81,7 +81,7 @@ const PRIORITY_FRAME: [u8; 35] = [
 
 #[test]
 fn a_frame_of_version_02(rt: HostRuntime) -> Result<(), Fail> {
-    let mut actions = Vec::with_capacity(rt.alloc(), MOST_ACTIONS)?;
+    let mut actions = Vec::with_capacity(rt.alloc(), MOST_ENTRIES)?;
     let mut out = [9; 35];
     let priorities = [Action::SetPriority(AlarmId(0), 3)];
     write_frame_body(2, 3, &priorities, &mut out);
@@ -101,7 +101,7 @@ fn a_frame_of_version_02(rt: HostRuntime) -> Result<(), Fail> {
 
 #[test]
 fn the_longest_frame(rt: HostRuntime) -> Result<(), Fail> {
-    let mut actions = Vec::with_capacity(rt.alloc(), MOST_ACTIONS)?;
+    let mut actions = Vec::with_capacity(rt.alloc(), MOST_ENTRIES)?;
     let all = [Action::Ack(AlarmId(7)); 256];
     let mut out = [0; 4115];
     write_frame_body(u64::MAX, 5, &all, &mut out);

@@ -1,5 +1,11 @@
 //! Connections: what is answered to the lines of a slot.
 //!
+//! ```text
+//! let mut desk = desk_of::<Plant>(alloc, &table)?;
+//! let mut writer = CountedWriter::new(stdout);
+//! desk.feed(slot, b"1 ACK 7\n", &mut writer)?;
+//! ```
+//!
 //! A [`LocalDesk`] answers the lines of all 18 slots in one thread, each before the next, over a [`Backend`]: a plant that
 //! judges requests and answers queries. Once the backend's storage has stopped, the line that met it and every later line
 //! that asks something are answered `NO 15`, which says nothing of what became of an action.

@@ -1,6 +1,7 @@
 //! A desk that answers each line of 18 slots before the next.
 
 ghost use Rattle.std.specs.Prelude.{◌≡◌, IfOk, IfErr, OnOk, [], replicate, false};
+ghost use Rattle.alm_types.specs.Sizes.{slot_count};
 
 use crate::answering::answer_line;
 use crate::backend::Backend;
@@ -9,7 +10,7 @@ use crate::desk_fault::DeskFault;
 use crate::hindrance::Hindrance;
 use crate::slot_feeding::feed_slot;
 use alm_lines::{Decoder, line_of};
-use alm_types::{Answer, Slot};
+use alm_types::{Answer, SLOTS, Slot};
 use std::alloc::{AllocError, Global};
 use std::io::Write;
 use std::marker::Model;
@@ -27,6 +28,7 @@ impl<B: Backend + Drop> Model for LocalDesk<B> {
     ghost use Rattle.std.specs.Prelude.{◌≡◌, length};
     ghost use Rattle.alm_desk.specs.Answers.{standing_of};
     ghost use Rattle.alm_desk.specs.Desks.{Desk};
+    ghost use Rattle.alm_types.specs.Sizes.{slot_count};
 
     ghost Value = { Desk };
 
@@ -36,14 +38,14 @@ impl<B: Backend + Drop> Model for LocalDesk<B> {
       closed = d.closed;
     } };
 
-    ghost invariant = { λ d. length d.decoders.items ≡ 18 };
+    ghost invariant = { λ d. length d.decoders.items ≡ slot_count };
 }
 
 /// Decoders that hold nothing.
 fn no_lines(alloc: Global) -> Result<Vec<Decoder>, AllocError>
-    ensures { IfOk result (λ decoders. decoders.items ≡ replicate 18 []) }
+    ensures { IfOk result (λ decoders. decoders.items ≡ replicate slot_count []) }
 {
-    let mut decoders = Vec::with_capacity(alloc, 18)?;
+    let mut decoders = Vec::with_capacity(alloc, SLOTS)?;
     for _slot in 0..18_usize {
         decoders.push(Decoder::new())?;
     }
@@ -63,7 +65,7 @@ impl<B: Backend + Drop> LocalDesk<B> {
             (λ desk. desk ≡
             record {
               standing = standing_of (B.stands backend) (B.kept backend) (B.failures backend) 0;
-              helds = replicate 18 [];
+              helds = replicate slot_count [];
               closed = false;
             }) }
     {

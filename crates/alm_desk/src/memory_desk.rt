@@ -3,6 +3,7 @@
 ghost use Rattle.std.specs.Prelude.{◌≡◌, IfOk, Some, [], ◌∷◌, replicate, false};
 ghost use Rattle.alm_model.specs.New.{new_plant};
 ghost use Rattle.alm_desk.specs.Answers.{standing_of};
+ghost use Rattle.alm_types.specs.Sizes.{slot_count};
 
 use crate::local_desk::LocalDesk;
 use alm_model::Alarms;
@@ -16,7 +17,7 @@ pub fn desk_of<P: Alarms + Drop>(alloc: Global, table: &Table) -> Result<LocalDe
         record {
           standing = standing_of (Some (new_plant table.now)) (new_plant table.now ∷ []) 0 0;
           helds =
-              replicate 18 [];
+              replicate slot_count [];
           closed = false;
         }) }
 {

@@ -1,5 +1,11 @@
 //! The device under the store: what a write, a sync and a crash do to it, and devices in memory that do so.
 //!
+//! ```text
+//! let mut disk = MemDisk::new(alloc, bytes, calls)?;
+//! disk.write_at(0, b"text")?; disk.sync()?;
+//! let disk = disk.crash(&mut chooser);
+//! ```
+//!
 //! A device has a fixed size in bytes. Each place holds the byte that reads there, and is stable or *pending*: pending
 //! from the write that touched it until the next sync that is done. What a crash may leave is an *image*: the bytes as
 //! they read at every stable place, and any bytes at the pending ones.

@@ -1,5 +1,11 @@
 //! A plant's table as a table file: its size, its areas, and each alarm with the priority and the setpoint that are in force.
 //!
+//! ```text
+//! let keeper = open_store(alloc, disk)?;
+//! export_plant(alloc, keeper.stored(), size, &mut writer)?;
+//! // and table_of(alloc, &text) is that size and that table again
+//! ```
+//!
 //! Each key stands there, also where the file that the device was formatted by left it out; the keys of an alarm are in the
 //! order of the alphabet. The whole text is made in memory before any of it is written: some 5 KB an alarm.
 //!

@@ -1,5 +1,11 @@
 //! A file as a device.
 //!
+//! ```text
+//! fill_streams(rt)?;
+//! let mut disk = FileDisk::open(rt, "plant.device")?;
+//! disk.write_at(0, b"text")?; disk.sync()?;
+//! ```
+//!
 //! | call | does |
 //! |---|---|
 //! | [`fill_streams`] | opens the null device at each standard stream that is closed |

@@ -12,6 +12,7 @@ use Rattle.alm_store.specs.declared.phase.Phase.TheVariants.{Idle, Committing, C
 use Rattle.alm_store.specs.Advancing.{IsOpen}
 use Rattle.alm_flush.specs.declared.advance.Advance.{Advance}
 use Rattle.alm_flush.specs.declared.advance.Advance.TheVariants.{More, Committed, Failed, Nothing}
+use Rattle.alm_types.specs.Sizes.{most_entries}
 
 -- the phase before and then, the stored plants before and then, the batch's actions
 abbrev pub Advances : Advance → (p p' : Phase) → (s s' : Condensed) → List Action → Type 0
@@ -24,17 +25,17 @@ Advances Nothing p p' s s' actions = ⊥
 -- next frame takes them, now or when that work is done. A commit is 4 calls, a checkpoint 320 at most; where one is open, a second one may
 -- have to make the room
 abbrev pub Within : (m : ℕ) → Phase → (left : ℕ) → (takes will_take : Type 0) → (actions : ℕ) → Type 0
-Within m Idle left takes will_take actions = (takes × (5 ≤ m)) ⊎ ((actions ≤ 256) × (326 ≤ m))
+Within m Idle left takes will_take actions = (takes × (5 ≤ m)) ⊎ ((actions ≤ most_entries) × (326 ≤ m))
 Within m Committing left takes will_take actions = left < m
-Within m Copying left takes will_take actions = (will_take × (left + 6 ≤ m)) ⊎ ((actions ≤ 256) × (left + 327 ≤ m))
-Within m Paused left takes will_take actions = (will_take × (left + 6 ≤ m)) ⊎ ((actions ≤ 256) × (left + 327 ≤ m))
+Within m Copying left takes will_take actions = (will_take × (left + 6 ≤ m)) ⊎ ((actions ≤ most_entries) × (left + 327 ≤ m))
+Within m Paused left takes will_take actions = (will_take × (left + 6 ≤ m)) ⊎ ((actions ≤ most_entries) × (left + 327 ≤ m))
 Within m Stopped left takes will_take actions = ⊥
 
 -- .. in at most m steps behind the device call that is next
 abbrev pub Behind : (m : ℕ) → Phase → (left : ℕ) → (will_take : Type 0) → (actions : ℕ) → Type 0
 Behind m Committing left will_take actions = left ≤ m
-Behind m Copying left will_take actions = (will_take × (left + 5 ≤ m)) ⊎ ((actions ≤ 256) × (left + 326 ≤ m))
-Behind m Paused left will_take actions = (will_take × (left + 5 ≤ m)) ⊎ ((actions ≤ 256) × (left + 326 ≤ m))
+Behind m Copying left will_take actions = (will_take × (left + 5 ≤ m)) ⊎ ((actions ≤ most_entries) × (left + 326 ≤ m))
+Behind m Paused left will_take actions = (will_take × (left + 5 ≤ m)) ⊎ ((actions ≤ most_entries) × (left + 326 ≤ m))
 Behind m phase left will_take actions = ⊥
 
 -- the batch is the next one, and its actions are admitted

@@ -3,7 +3,8 @@
 ghost use Rattle.std.specs.Prelude.{◌≡◌, ◌≢◌, ℕ, ◌⊎◌, ◌+◌, ◌*◌, ◌<◌, ◌≤◌, [], length, IsTrue, false};
 ghost use Rattle.alm_disk.specs.Failures.{HasFailed};
 ghost use Rattle.alm_model.specs.Judging.{accepted_of};
-ghost use Rattle.alm_store.specs.Pace.{most, most_actions, most_calls};
+ghost use Rattle.alm_store.specs.Pace.{most, most_calls};
+ghost use Rattle.alm_types.specs.Sizes.{most_entries};
 ghost use Rattle.alm_store.specs.Advancing.{CommitIsNotBegun, IsOpen};
 ghost use Rattle.alm_store.specs.Pacing.{KeepsPace, SamePace};
 ghost use Rattle.alm_flush.specs.Advances.{Behind, GoesOn, IsNextOne, IsSure};
@@ -17,7 +18,7 @@ use alm_types::Batch;
 
 // A batch has at most 256 accepted actions.
 pub fn few(batch: &Batch)
-    ensures { length (accepted_of batch.now.entries) ≤ most_actions }
+    ensures { length (accepted_of batch.now.entries) ≤ most_entries }
 {
     let _entries = batch.entries();
 }
@@ -39,7 +40,7 @@ fn start<K: Store>(store: &mut K, batch: &Batch) -> bool
         (K.state store.new).left ≤ 4 }
     ensures copy { IsTrue result → IsOpen (K.state store.new).phase →
         ((K.state store.new).left ≤ most_calls) ×
-        (length (accepted_of batch.now.entries) ≤ most_actions →
+        (length (accepted_of batch.now.entries) ≤ most_entries →
         K.will_take store.new (accepted_of batch.now.entries)) }
     ensures sure { K.takes store.old (accepted_of batch.now.entries) →
         IsNextOne batch.now (K.state store.old) → IsTrue result }

@@ -12,6 +12,7 @@ ghost use Rattle.alm_board.specs.Fronts.{IsFront};
 ghost use Rattle.alm_store.specs.declared.phase.Phase.TheVariants.{Committing};
 ghost use Rattle.alm_flush.specs.HeldBatch.{batches_of, waiting_of, ready_of, stored_of, published_entries, released_entries};
 ghost use Rattle.alm_flush.specs.Replies.{replies_in, replies_to};
+ghost use Rattle.alm_types.specs.Sizes.{most_out};
 
 use crate::advance::Advance;
 use crate::commit::{advance_by, few, go_on};
@@ -24,12 +25,9 @@ use alm_rings::{
     Console, FetchEnds, Outbox, Receipt, SealEnds, Told, batches_beside, replies_beside,
 };
 use alm_store::{Phase, Store};
-use alm_types::{Entry, Slot, Verdict};
+use alm_types::{Entry, SLOTS, Slot, Verdict};
 use std::mem::replace;
 use std::snapshot::Snapshot;
-
-/// How many slots there are.
-const SLOTS: usize = 18;
 
 /// Released means stored and published.
 #[derive(Drop)]
@@ -406,7 +404,7 @@ impl<K: Store, T: Told + Drop, B: Board<Told = T>> Flusher<K, T, B> {
             (room_of console.new ≡ room_of console.old) }
         ensures replies { received_of console.new ++ coming_to console.new ≡
             released_by slot self.new.outboxes.items }
-        ensures room { 64 + length (received_of console.new) ≤
+        ensures room { most_out + length (received_of console.new) ≤
             room_by slot self.new.outboxes.items +
             length (released_by slot self.new.outboxes.items) }
     {

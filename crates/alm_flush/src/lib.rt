@@ -1,5 +1,11 @@
 //! Commits, publishes and releases.
 //!
+//! ```text
+//! let mut flusher = Flusher::new(store, board, outboxes, ends);
+//! flusher.fetch(); while let Advance::More = flusher.advance() {}
+//! flusher.publish(rt); while let Release::Released(_) = flusher.release() {}
+//! ```
+//!
 //! The flusher holds one sealed batch at a time: it stores it, shows it on the board, and releases the verdicts of its entries
 //! to their slots, in order.
 //!

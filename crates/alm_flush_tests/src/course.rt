@@ -1,6 +1,7 @@
 //! Courses of calls, each with what it answers.
 
-ghost use Rattle.std.specs.Prelude.{◌≡◌, ◌≤◌, ◌^◌, IfOk};
+ghost use Rattle.std.specs.Prelude.{◌≡◌, ◌≤◌, IfOk};
+ghost use Rattle.alm_types.specs.Sizes.{most_actions};
 
 use crate::opened::open_formatted;
 use crate::parts::Parts;
@@ -107,7 +108,7 @@ pub struct Played {
 /// A keeper of a device in memory of a size that is formatted for the worked table, and that may be called so often.
 pub fn open_worked(alloc: Global, size: usize, calls: usize) -> Result<Keeper<MemDisk>, AllocError>
     ensures idle { IfOk result (λ keeper. keeper.stage ≡ Stage.Idle) }
-    ensures limit { IfOk result (λ keeper. keeper.stored.plant.panel.count ≤ 2 ^ 48) }
+    ensures limit { IfOk result (λ keeper. keeper.stored.plant.panel.count ≤ most_actions) }
 {
     let disk = MemDisk::new(alloc, vec![in alloc; 0u8; size]?, calls)?;
     open_formatted(alloc, &worked_table(alloc)?, disk)
@@ -131,7 +132,7 @@ pub fn play_over(
     course: &[(Call, Outcome)],
 ) -> Result<Played, AllocError>
     requires idle { store.stage ≡ Stage.Idle }
-    requires limit { store.stored.plant.panel.count ≤ 2 ^ 48 }
+    requires limit { store.stored.plant.panel.count ≤ most_actions }
 {
     let mut answer = Answer::new(alloc);
     let mut parts = Parts::new(alloc, open_slots(alloc)?, store)?;

@@ -1,6 +1,7 @@
 //! A keeper of a formatted device.
 
-ghost use Rattle.std.specs.Prelude.{◌≡◌, ◌≤◌, ◌^◌, IfOk};
+ghost use Rattle.std.specs.Prelude.{◌≡◌, ◌≤◌, IfOk};
+ghost use Rattle.alm_types.specs.Sizes.{most_actions};
 
 use alm_codec::Version;
 use alm_disk::Disk;
@@ -15,7 +16,7 @@ pub fn open_formatted<D: Disk + Drop>(
     disk: D,
 ) -> Result<Keeper<D>, AllocError>
     ensures idle { IfOk result (λ keeper. keeper.stage ≡ Stage.Idle) }
-    ensures limit { IfOk result (λ keeper. keeper.stored.plant.panel.count ≤ 2 ^ 48) }
+    ensures limit { IfOk result (λ keeper. keeper.stored.plant.panel.count ≤ most_actions) }
 {
     open_formatted_as(alloc, table, disk, Version::V02)
 }
@@ -28,7 +29,7 @@ pub fn open_formatted_as<D: Disk + Drop>(
     version: Version,
 ) -> Result<Keeper<D>, AllocError>
     ensures idle { IfOk result (λ keeper. keeper.stage ≡ Stage.Idle) }
-    ensures limit { IfOk result (λ keeper. keeper.stored.plant.panel.count ≤ 2 ^ 48) }
+    ensures limit { IfOk result (λ keeper. keeper.stored.plant.panel.count ≤ most_actions) }
 {
     match format_as(alloc, disk, table, version) {
         Ok(disk) => reopen(alloc, disk),
@@ -39,7 +40,7 @@ pub fn open_formatted_as<D: Disk + Drop>(
 /// A keeper of a device. An error for want of memory, or where it isn't opened.
 pub fn reopen<D: Disk + Drop>(alloc: Global, disk: D) -> Result<Keeper<D>, AllocError>
     ensures idle { IfOk result (λ keeper. keeper.stage ≡ Stage.Idle) }
-    ensures limit { IfOk result (λ keeper. keeper.stored.plant.panel.count ≤ 2 ^ 48) }
+    ensures limit { IfOk result (λ keeper. keeper.stored.plant.panel.count ≤ most_actions) }
 {
     match open_store(alloc, disk) {
         Ok(keeper) => Ok(keeper),

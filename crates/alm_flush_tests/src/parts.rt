@@ -2,6 +2,7 @@
 
 ghost use Rattle.std.specs.Prelude.{◌≡◌, ◌<◌, ℕ, IsSome};
 ghost use Rattle.alm_rings.specs.Placed.{inbox_at};
+ghost use Rattle.alm_types.specs.Sizes.{most_actions};
 
 use alm_board::{PlainBoard, PlainTold};
 use alm_flush::{Advance, Fetch, Flusher, Publishes, Release};
@@ -24,7 +25,7 @@ pub struct Parts<K: Store> {
 }
 
 impl<K: Store> Parts<K> {
-    ghost use Rattle.std.specs.Prelude.{◌≡◌, ◌<◌, ◌≤◌, ◌^◌, ℕ, [], IsSome};
+    ghost use Rattle.std.specs.Prelude.{◌≡◌, ◌<◌, ◌≤◌, ℕ, [], IsSome};
     ghost use Rattle.alm_rings.specs.Placed.{AreApart, inbox_at, taken_by, released_by};
 
     /// The parts of these new ends over a store at rest.
@@ -35,7 +36,7 @@ impl<K: Store> Parts<K> {
         requires taken { (s : ℕ) → taken_by s ends.inboxes.items ≡ [] }
         requires released { (s : ℕ) → released_by s ends.outboxes.items ≡ [] }
         requires idle { (K.state store).phase ≡ Phase.Idle }
-        requires limit { (K.state store).stored.panel.count ≤ 2 ^ 48 }
+        requires limit { (K.state store).stored.panel.count ≤ most_actions }
     {
         let live = store.stored().copy(alloc)?;
         let shown = store.stored().copy(alloc)?;

@@ -28,6 +28,7 @@ use Rattle.alm_keeper.specs.Piecewise.{Copy, run_text}
 use Rattle.alm_keeper.specs.Phases.{UnderWay, Rest, Shut, ShutSync, Pause, Frame, End, KeptIn}
 use Rattle.alm_keeper.specs.Phases.{WorkAdvances as AdvancesOn}
 use Rattle.alm_keeper.specs.Stand.{HoldsPlant, Ready, Account, end_of_half, TakesFrame, with_commit, turned_half}
+use Rattle.alm_types.specs.Sizes.{most_actions, most_entries}
 
 -- what the book tells of the device
 abbrev pub account : Book → Account
@@ -100,10 +101,10 @@ pub record InOrder (b : Book) : Type 0 where
   pub small : device_len b.layout < 2 ^ 64
   pub rules : KeepsRules b.stored
   pub sizes : IsOf b.layout.rows b.layout.areas b.stored.panel.count b.stored
-  pub count : b.stored.panel.count ≤ 2 ^ 48
+  pub count : b.stored.panel.count ≤ most_actions
   pub first : segment_at b.layout b.half ≤ b.gate
   pub gate : b.gate + 1 ≤ end_of_half (account b)
-  pub room : vec_capacity b.actions ≡ 256
+  pub room : vec_capacity b.actions ≡ most_entries
   pub frame : length b.frame.items ≡ 4115
   pub frame_room : vec_capacity b.frame ≡ 4115
   pub buffer : vec_capacity b.buffer ≡ head_len + image_size b.layout + b.layout.segment

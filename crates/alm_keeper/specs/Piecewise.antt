@@ -13,6 +13,7 @@ use Rattle.alm_checkpoint.specs.Layouts.{part, segment_at, other}
 use Rattle.alm_checkpoint.specs.Headers.{half_head_text}
 use Rattle.alm_keeper.specs.Stand.{Ready, Account, other_at}
 use Rattle.alm_keeper.specs.Resting.{Rests}
+use Rattle.alm_types.specs.Sizes.{most_actions}
 
 -- an open checkpoint: the plant that was copied, the frames committed since, and how many bytes of the run went out
 pub record Copy : Type 0 where
@@ -41,7 +42,7 @@ pub record IsCopy (a : Account) (k : Copy) : Type 0 where
   pub more : a.epoch + 1 < 2 ^ 64
   pub image : IsImageText k.base (image_text k.base)
   pub sizes : IsOf a.layout.rows a.layout.areas k.base.panel.count k.base
-  pub count : k.base.panel.count ≤ 2 ^ 48
+  pub count : k.base.panel.count ≤ most_actions
   pub frames : AreFrames (a.epoch + 1) k.base.panel.count k.since
   pub admitted : AreAdmitted k.base (actions_in k.since)
   pub runs : run k.base (actions_in k.since) ≡ a.plant

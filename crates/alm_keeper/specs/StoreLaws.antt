@@ -23,6 +23,7 @@ use Rattle.alm_types.specs.declared.action.Action.{Action}
 use Rattle.alm_store.specs.Advancing.{IsOpen}
 use Rattle.alm_keeper.specs.AsStore.{StandsFor, store_state_of, run_of, is_checkpoint_open, going_if, going_of}
 use Rattle.alm_store.proofs.Pace.{room_for}
+use Rattle.alm_types.specs.Sizes.{most_entries}
 
 -- a keeper whose phase is idle is at no stage of a work
 pub is_idle : (s : Stage) (w : Work) → phase_of s w ≡ at.Idle → s ≡ Idle
@@ -109,5 +110,5 @@ pub goes_open : {D : Type 0} (k : KeeperView D) → IsOpen (phase_of k.stage k.w
 goes_open k is = open_by k k.stage k.work is
 
 -- where there is room for the longest frame any batch is taken by a half of version 02
-pub fits_any : {D : Type 0} (k : KeeperView D) (actions : List Action) → k.stored.version ≡ V02 → length actions ≤ 256 → TakesAny (store_state_of k) → Takes k.stored actions
+pub fits_any : {D : Type 0} (k : KeeperView D) (actions : List Action) → k.stored.version ≡ V02 → length actions ≤ most_entries → TakesAny (store_state_of k) → Takes k.stored actions
 fits_any k actions newest few any = (room_for k.stored.room k.segment (length actions) few any, subst (λ (v : Version). AreBorne v actions) (sym newest) (all_borne actions))

@@ -1,6 +1,6 @@
 //! What a keeper knows of its device, and what it has begun.
 
-ghost use Rattle.std.specs.Prelude.{◌≡◌, ◌≤◌, ◌<◌, ◌+◌, ◌*◌, ◌^◌, ◌-◌, ◌∷◌, ◌++◌, ℕ, ◌↔◌, IsTrue, length, OnOk, OnErr, IfErr, take, drop, true, false};
+ghost use Rattle.std.specs.Prelude.{◌≡◌, ◌≤◌, ◌<◌, ◌+◌, ◌*◌, ◌-◌, ◌∷◌, ◌++◌, ℕ, ◌↔◌, IsTrue, length, OnOk, OnErr, IfErr, take, drop, true, false};
 ghost use Rattle.alm_keeper.specs.Stages.{IsWorking, next_stage, first_stage, rest_stage, rest_work};
 ghost use Rattle.alm_checkpoint.specs.Layouts.{half_at, half_len};
 ghost use Rattle.alm_codec.specs.Frames.{frame_body};
@@ -12,6 +12,7 @@ ghost use Rattle.alm_keeper.specs.declared.stage.Work.{Work};
 ghost use Rattle.alm_keeper.specs.Stages.{phase_of};
 ghost use Rattle.alm_keeper.specs.Keeper.{begin_answer, checkpoint_answer};
 ghost use Rattle.alm_keeper.specs.Keeping.{account, run_in, piece_of, InOrder, Begins, Copies, ClosesBook, TurnsBook, Finishes, sent_by, IsBookAfter};
+ghost use Rattle.alm_types.specs.Sizes.{most_entries};
 
 use crate::bearing::bears_all;
 use crate::frame::{append_frame, write_frame};
@@ -116,7 +117,7 @@ impl Book {
 
     /// How long the body of the frame is.
     pub fn frame_len(&self) -> usize
-        requires { length self.now.actions.items ≤ 256 }
+        requires { length self.now.actions.items ≤ most_entries }
         ensures { result ≡ 19 + 16 * length self.now.actions.items }
     {
         19 + 16 * self.actions.len()

@@ -1,10 +1,11 @@
 //! The body of a half in its buffer.
 
-ghost use Rattle.std.specs.Prelude.{◌≡◌, ◌≤◌, ◌+◌, ◌^◌, ◌++◌, ◌∷◌, [], length, take, drop, vec_capacity};
+ghost use Rattle.std.specs.Prelude.{◌≡◌, ◌≤◌, ◌+◌, ◌++◌, ◌∷◌, [], length, take, drop, vec_capacity};
 ghost use Rattle.alm_model.specs.Rules.{KeepsRules};
 ghost use Rattle.alm_codec.specs.Image.{image_text, IsOf};
 ghost use Rattle.alm_checkpoint.specs.Layouts.{image_size};
 ghost use Rattle.alm_checkpoint.specs.Headers.{half_head_text};
+ghost use Rattle.alm_types.specs.Sizes.{most_actions};
 
 use crate::filling::fill_to;
 use alm_checkpoint::{HEAD_LEN, HalfHead, Layout};
@@ -26,7 +27,7 @@ fn put_image(layout: &Layout, plant: &Plant, out: &mut [u8])
 pub fn put_half(layout: &Layout, head: &HalfHead, plant: &Plant, out: &mut [u8])
     requires rules { KeepsRules plant.now }
     requires sizes { IsOf layout.now.rows layout.now.areas plant.now.panel.count plant.now }
-    requires count { head.now.count ≤ 2 ^ 48 }
+    requires count { head.now.count ≤ most_actions }
     requires room { length out.old ≡ 25 + image_size layout.now }
     ensures text { out.new ≡
         half_head_text layout.now head.now.version head.now.epoch head.now.count ++
@@ -40,7 +41,7 @@ pub fn put_half(layout: &Layout, head: &HalfHead, plant: &Plant, out: &mut [u8])
 fn put_front(layout: &Layout, head: &HalfHead, plant: &Plant, out: &mut [u8])
     requires rules { KeepsRules plant.now }
     requires sizes { IsOf layout.now.rows layout.now.areas plant.now.panel.count plant.now }
-    requires count { head.now.count ≤ 2 ^ 48 }
+    requires count { head.now.count ≤ most_actions }
     requires room { 25 + image_size layout.now ≤ length out.old }
     ensures text { out.new ≡
         (half_head_text layout.now head.now.version head.now.epoch head.now.count ++
@@ -54,7 +55,7 @@ fn put_front(layout: &Layout, head: &HalfHead, plant: &Plant, out: &mut [u8])
 fn put_in_run(layout: &Layout, head: &HalfHead, plant: &Plant, buffer: &mut Vec<u8>)
     requires rules { KeepsRules plant.now }
     requires sizes { IsOf layout.now.rows layout.now.areas plant.now.panel.count plant.now }
-    requires count { head.now.count ≤ 2 ^ 48 }
+    requires count { head.now.count ≤ most_actions }
     requires room { 25 + image_size layout.now ≤ length buffer.old.items }
     ensures text { take (25 + image_size layout.now) buffer.new.items ≡
         half_head_text layout.now head.now.version head.now.epoch head.now.count ++
@@ -69,7 +70,7 @@ fn put_in_run(layout: &Layout, head: &HalfHead, plant: &Plant, buffer: &mut Vec<
 pub fn write_half(layout: &Layout, head: &HalfHead, plant: &Plant, buffer: &mut Vec<u8>)
     requires rules { KeepsRules plant.now }
     requires sizes { IsOf layout.now.rows layout.now.areas plant.now.panel.count plant.now }
-    requires count { head.now.count ≤ 2 ^ 48 }
+    requires count { head.now.count ≤ most_actions }
     requires room { 25 + image_size layout.now ≤ vec_capacity buffer.old }
     ensures text { take (25 + image_size layout.now) buffer.new.items ≡
         half_head_text layout.now head.now.version head.now.epoch head.now.count ++

@@ -1,6 +1,6 @@
 //! Keepers.
 
-ghost use Rattle.std.specs.Prelude.{◌≡◌, ◌≢◌, ◌≤◌, ◌⊎◌, ◌↔◌, ◌+◌, ◌*◌, ◌^◌, ◌∷◌, List, ℕ, length, IsTrue, IfOk, IfErr, Err, true, false};
+ghost use Rattle.std.specs.Prelude.{◌≡◌, ◌≢◌, ◌≤◌, ◌⊎◌, ◌↔◌, ◌+◌, ◌*◌, ◌∷◌, List, ℕ, length, IsTrue, IfOk, IfErr, Err, true, false};
 ghost use Rattle.alm_disk.specs.declared.call.Call.{Call};
 ghost use Rattle.alm_checkpoint.specs.declared.layout.Layout.{Layout};
 ghost use Rattle.alm_checkpoint.specs.Layouts.{head_len, image_size};
@@ -15,6 +15,9 @@ ghost use Rattle.alm_keeper.specs.Stages.{IsWorking, phase_of};
 ghost use Rattle.alm_store.specs.Advancing.{IsResting};
 ghost use Rattle.alm_keeper.specs.Opening.{Opens, CountsAs};
 ghost use Rattle.alm_keeper.specs.Keeper.{KeeperView, next, HasRoom, Takes, IsPaused, IsStoredIn, StandsWithRoom, LiesIn, MayStand, begin_answer, checkpoint_answer, BeginsCommit, BeginsCheckpoint, Progresses, call_of, SendsPiece, CallsOnce};
+ghost use Rattle.alm_types.specs.Sizes.{most_actions, most_entries};
+ghost use Rattle.alm_store.specs.Pace.{largest};
+ghost use Rattle.alm_checkpoint.specs.Layouts.{longest_segment};
 
 use crate::advancing::advance;
 use crate::book::Book;
@@ -115,14 +118,14 @@ impl<D: Disk + Drop> Keeper<D> {
             ∥ LiesIn self.now.half self.now.image self.now.segment (D.state self.now.disk).bytes
             ∥₁ }
         // The largest image, and the longest segment.
-        ensures lengths { (self.now.image ≤ 3289168) × (self.now.segment ≤ 16777216) }
+        ensures lengths { (self.now.image ≤ largest) × (self.now.segment ≤ longest_segment) }
         // The frames in the run of a checkpoint stand among those of the segment.
         ensures runs { IsWorking self.now.stage → self.now.work ≡ Work.Checkpoint →
             (self.now.out ≤ self.now.run) ×
             (self.now.run + self.now.stored.room ≤ head_len + self.now.image + self.now.segment) }
         // A frame has at most 256 actions, and its commit comes before a piece of an open checkpoint,
         ensures frames { IsWorking self.now.stage → self.now.work ≡ Work.Commit →
-            (length self.now.actions ≤ 256) ×
+            (length self.now.actions ≤ most_entries) ×
             (self.now.copying ≡ true → self.now.out + 1 ≤ self.now.run) }
         // which has a byte or more.
         ensures pieces { self.now.stage ≡ Stage.Body → self.now.work ≡ Work.Checkpoint →
@@ -245,7 +248,7 @@ pub fn open_store<D: Disk + Drop>(alloc: Global, disk: D) -> Result<Keeper<D>, (
     // The plant and the epoch for which the read stands, and the room that is left.
     ensures stands { D.honest disk →
         IfOk result (λ k. StandsWithRoom k.stored (D.state k.disk).bytes) }
-    ensures limit { IfOk result (λ k. k.stored.plant.panel.count ≤ 2 ^ 48) }
+    ensures limit { IfOk result (λ k. k.stored.plant.panel.count ≤ most_actions) }
     ensures settled { D.honest disk →
         IfOk result (λ k. IsSettled (D.state k.disk) (D.state k.disk).bytes) }
     ensures counted { IfOk result (λ k. D.failures k.disk ≡ D.failures disk) }

@@ -1,6 +1,12 @@
 //! The store of a device: it keeps a plant, one device call at a time, so that a loss of power at any moment leaves what was stored
 //! or what was being stored, whole.
 //!
+//! ```text
+//! let disk = format(alloc, disk, &table)?;
+//! let mut keeper = open_store(alloc, disk)?; keeper.begin(&batch)?;
+//! while let Progress::More = keeper.advance() {}
+//! ```
+//!
 //! A device is formatted once ([`format`]) and opened as a [`Keeper`] ([`open_store`]). A keeper stores the accepted actions of a
 //! batch ([`Keeper::begin`]: a *commit*), or copies its plant to the other half of the device ([`Keeper::begin_checkpoint`]). Both
 //! only begin a work; each [`Keeper::advance`] then makes the one device call of it that is next.

@@ -13,6 +13,7 @@ ghost use Rattle.alm_store.specs.Calls.{AreMade};
 ghost use Rattle.alm_keeper.specs.Calls.{reads_of};
 ghost use Rattle.alm_keeper.specs.Opening.{CountsOpening, IsReadOf, AreMarks, MarksFrom, Opens, Restores};
 ghost use Rattle.alm_keeper.specs.Keeping.{InOrder, FitsDevice};
+ghost use Rattle.alm_types.specs.Sizes.{most_actions};
 
 use crate::book::Book;
 use crate::filling::fill_to;
@@ -22,11 +23,11 @@ use crate::stage::{Stage, Work};
 use alm_checkpoint::{
     HEAD_LEN, Half, HalfHead, Layout, RestoreFault, choose, read_half_gate, read_header,
 };
-use alm_codec::MOST_ACTIONS;
 use alm_disk::{Disk, DiskFault};
 use alm_model::Alarms;
 use alm_plant::Plant;
 use alm_store::OpenFault;
+use alm_types::MOST_ENTRIES;
 use std::alloc::Global;
 
 /// Reads so many bytes from a place on.
@@ -97,7 +98,7 @@ fn read_marks<D: Disk>(disk: &mut D, layout: Layout) -> Result<Marks, OpenFault>
         IsSettled (D.state disk.new) b }
     ensures marks { (b : List ℕ) → D.honest disk.old → IsSettled (D.state disk.old) b →
         AreMarks layout b result }
-    ensures count { IfOk result (λ m. m.head.count ≤ 2 ^ 48) }
+    ensures count { IfOk result (λ m. m.head.count ≤ most_actions) }
     ensures made { OnOk result
         (AreMade D.serves
         (Call.Read (half_at layout First) 25 ∷ Call.Read (half_at layout Second) 25 ∷ []) disk.old
@@ -121,7 +122,7 @@ fn marks_of(layout: Layout, first: &[u8], second: &[u8]) -> Result<Marks, OpenFa
     requires first { length first.now ≡ 25 }
     requires second { length second.now ≡ 25 }
     ensures marks { MarksFrom layout first.now second.now result }
-    ensures count { IfOk result (λ m. m.head.count ≤ 2 ^ 48) }
+    ensures count { IfOk result (λ m. m.head.count ≤ most_actions) }
     ensures fault { IfErr result (λ f. f ≢ OpenFault.Disk) }
 {
     let zero = read_half_gate(first);
@@ -261,7 +262,7 @@ fn book_of(
 ) -> Result<Book, OpenFault>
     requires limits { IsLayout layout }
     requires small { device_len layout < 2 ^ 64 }
-    requires count { marks.head.count ≤ 2 ^ 48 }
+    requires count { marks.head.count ≤ most_actions }
     requires image { length text.now ≡ image_size layout }
     requires segment { length segment.now ≡ layout.segment }
     ensures in_order { IfOk result InOrder }
@@ -269,7 +270,7 @@ fn book_of(
         (λ book. (book.stage ≡ Stage.Idle) × (book.copying ≡ false) × (book.written ≡ 0)) }
     ensures restores { Restores layout marks text.now segment.now result }
 {
-    let Ok(actions) = Vec::with_capacity(alloc, MOST_ACTIONS) else {
+    let Ok(actions) = Vec::with_capacity(alloc, MOST_ENTRIES) else {
         return Err(OpenFault::OutOfMemory);
     };
     let Ok(buffer) = Vec::with_capacity(alloc, HEAD_LEN + layout.image_len() + layout.segment())

@@ -1,6 +1,6 @@
 //! Formatting a device.
 
-ghost use Rattle.std.specs.Prelude.{◌≡◌, ◌≢◌, ◌≤◌, ◌<◌, ◌+◌, ◌^◌, ◌↔◌, ◌∷◌, ◌++◌, [], ℕ, List, false, length, OnOk, OnErr, IfOk, IfErr, IfSome, None};
+ghost use Rattle.std.specs.Prelude.{◌≡◌, ◌≢◌, ◌≤◌, ◌<◌, ◌+◌, ◌↔◌, ◌∷◌, ◌++◌, [], ℕ, List, false, length, OnOk, OnErr, IfOk, IfErr, IfSome, None};
 ghost use Rattle.alm_types.specs.Tables.{IsTable};
 ghost use Rattle.alm_model.specs.New.{new_plant};
 ghost use Rattle.alm_model.specs.Rules.{KeepsRules};
@@ -15,6 +15,7 @@ ghost use Rattle.alm_checkpoint.specs.Layouts.{device_len, image_size};
 ghost use Rattle.alm_codec.specs.declared.version.Version.TheVariants.{V02};
 ghost use Rattle.alm_keeper.specs.Moments.{Formats, IsLedBy, FailsIn};
 ghost use Rattle.alm_keeper.specs.Formatting.{IsLongest, IsNewDevice, IsOfVersion, LeavesOf, first_half};
+ghost use Rattle.alm_types.specs.Sizes.{most_actions};
 
 use crate::format_fault::FormatFault;
 use crate::formatting::write_all;
@@ -42,7 +43,7 @@ fn layout_for(table: &Table, size: u64, version: Version) -> Option<Layout>
 fn put_first_half(layout: &Layout, plant: &Plant, out: &mut [u8])
     requires rules { KeepsRules plant.now }
     requires sizes { IsOf layout.now.rows layout.now.areas plant.now.panel.count plant.now }
-    requires count { plant.now.panel.count ≤ 2 ^ 48 }
+    requires count { plant.now.panel.count ≤ most_actions }
     requires room { length out.old ≡ 26 + image_size layout.now }
     ensures text { out.new ≡ first_half layout.now plant.now }
 {

@@ -43,6 +43,6 @@ pub use held_line::HeldLine;
 pub use line::Line;
 pub use numbers::number;
 pub use part::{Part, put_parts};
-pub use printing::{letters, print_reply, print_told, shown_word};
+pub use printing::{letters, print_reply, print_told, query_word, shown_word};
 pub use reply::Reply;
 pub use writing::put;

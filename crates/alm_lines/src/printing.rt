@@ -47,7 +47,7 @@ pub fn letters(flags: u8) -> &'static str
 }
 
 /// The word of a reply, between spaces.
-fn query_word(query: Query) -> &'static str
+pub fn query_word(query: Query) -> &'static str
     ensures { result.now ≡ query_word query }
 {
     match query {

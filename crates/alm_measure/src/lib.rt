@@ -1,5 +1,11 @@
 //! Windows, floods and last moments of alarms, counted as they come.
 //!
+//! ```text
+//! let mut measure = Measure::new(alloc, &table)?;
+//! measure.annunciated(alarm); measure.settle();
+//! let flood = measure.flood(area);
+//! ```
+//!
 //! After ANSI/ISA-18.2 and IEC 62682 an operating position that is annunciated more alarms than its operator can answer is in
 //! a *flood*, and an alarm that is annunciated again and again within a short time *chatters*. [`Measure`] counts both as the
 //! alarms of a plant are annunciated: for each area a ring of counters, one for each of the last 600 seconds, with their

@@ -6,6 +6,7 @@ ghost use Rattle.alm_model.specs.Step.{is_flood};
 ghost use Rattle.alm_model.specs.Lists.{moments_in};
 ghost use Rattle.alm_model.specs.Parts.{age_in};
 ghost use Rattle.alm_measure.specs.Metrics.{after_clock, after_annunciation, chattering_by_moments, new_metrics, settled_by_windows, window_around, windows};
+ghost use Rattle.alm_types.specs.Sizes.{most_alarms};
 
 use crate::chatter::fill_chattering;
 use crate::exact::exact;
@@ -102,7 +103,7 @@ impl Measure {
         floods: Vec<bool>,
         moments: Vec<Recent>,
     ) -> Result<Self, AllocError>
-        requires few { length alarms.now ≤ 16384 }
+        requires few { length alarms.now ≤ most_alarms }
         requires areas { All (λ a. a.area < length ages.now) alarms.now }
         requires floods { length floods.items ≡ length ages.now }
         requires moments { length moments.items ≡ length alarms.now }

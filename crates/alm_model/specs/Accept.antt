@@ -1,5 +1,5 @@
 -- Which requests are accepted.
-use Rattle.std.specs.Prelude.{◌^◌, Bool, true, false, Option, Some, None, Result, Ok, Err, slice_get, nat_lt}
+use Rattle.std.specs.Prelude.{Bool, true, false, Option, Some, None, Result, Ok, Err, slice_get, nat_lt}
 use Rattle.alm_types.specs.declared.attr.Attr.{Attr}
 use Rattle.alm_types.specs.declared.role.Role.{Role}
 use Rattle.alm_types.specs.declared.role.Role.TheVariants as role
@@ -13,6 +13,7 @@ use Rattle.alm_types.specs.Slots.{role_of}
 use Rattle.alm_state.specs.Rows.{State}
 use Rattle.alm_state.specs.Outcome.{row_refusal, or_else, unless}
 use Rattle.alm_model.specs.Plant.{Panel}
+use Rattle.alm_types.specs.Sizes.{most_actions}
 
 -- the feed sends values and suppresses by design, the clock moves the time, a console does the rest
 abbrev pub may_ask : Role → Action → Bool
@@ -40,7 +41,7 @@ own_refusal p action = alarm_refusal action (slice_get p.attrs (alarm_of action)
 
 -- why an action is refused, whoever asks; the last reason is that the actions are spent
 abbrev pub refusal : Panel → Action → Option Refusal
-refusal p action = or_else (own_refusal p action) (unless (nat_lt p.count (2 ^ 48)) Exhausted)
+refusal p action = or_else (own_refusal p action) (unless (nat_lt p.count most_actions) Exhausted)
 
 -- a value, or the reason against it
 abbrev pub answer : {A : Type 0} → A → Option Refusal → Result A Refusal

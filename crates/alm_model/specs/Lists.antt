@@ -38,11 +38,15 @@ stamp s = s.stamp
 abbrev pub deadline : State → ℕ
 deadline s = unwrap_or s.shelved_until 0
 
+-- the slots of the wheel, where the shelved alarms stand
+abbrev pub wheel_slots : ℕ
+wheel_slots = 256
+
 -- the alarms of a list, the measures aside
 abbrev pub stands_in : Choice → Attr → State → Bool
 stands_in (Priority n) a s = is_annunciated s.core && (a.priority == n)
 stands_in (Area n) a s = is_annunciated s.core && (a.area == n)
-stands_in (Wheel n) a s = is_some s.shelved_until && (deadline s % 256 == n)
+stands_in (Wheel n) a s = is_some s.shelved_until && (deadline s % wheel_slots == n)
 stands_in Stale a s = is_annunciated s.core
 stands_in Chatter a s = true
 
@@ -81,6 +85,6 @@ list_of list q = alarms_by stamp (stands_in list) q.panel.attrs q.panel.rows
 abbrev pub exists : Choice → Condensed → Bool
 exists (Priority n) q = nat_le 1 n && nat_le n 4
 exists (Area n) q = nat_lt n (length q.floods)
-exists (Wheel n) q = nat_lt n 256
+exists (Wheel n) q = nat_lt n wheel_slots
 exists Stale q = true
 exists Chatter q = true

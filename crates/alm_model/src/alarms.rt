@@ -1,6 +1,6 @@
 //! What every plant does.
 
-ghost use Rattle.std.specs.Prelude.{◌≡◌, ℕ, ◌≤◌, ◌<◌, length, vec_capacity, IsTrue, OnErr, OnOk, IfOk, ◌^◌, Option, Some, None, IfSome, MatchOption, slice_get, map, sum};
+ghost use Rattle.std.specs.Prelude.{◌≡◌, ℕ, ◌≤◌, ◌<◌, length, vec_capacity, IsTrue, OnErr, OnOk, IfOk, Option, Some, None, IfSome, MatchOption, slice_get, map, sum};
 ghost use Rattle.alm_model.specs.Plant.{Panel, Condensed, Plant};
 ghost use Rattle.alm_model.specs.Accept.{refusal, answer, accept, may_ask};
 ghost use Rattle.alm_types.specs.Slots.{role_of};
@@ -9,6 +9,7 @@ ghost use Rattle.alm_model.specs.Lists.{list_of, exists, moments_in};
 ghost use Rattle.alm_model.specs.New.{new_plant};
 ghost use Rattle.alm_model.specs.Parts.{plant_of, age_of};
 ghost use Rattle.alm_model.specs.Rules.{KeepsRules, IsTimely};
+ghost use Rattle.alm_types.specs.Sizes.{most_actions};
 
 use crate::list::List;
 use crate::plant_parts::PlantParts;
@@ -25,7 +26,7 @@ pub trait Alarms {
     fn check(&self, request: &Request) -> Result<Action, Refusal>
         ensures verdict { result ≡ accept (plant self.now).panel request.now }
         ensures admitted { IfOk result (λ action. refusal (plant self.now).panel action ≡ None) }
-        ensures counted { OnOk result ((plant self.now).panel.count < 2 ^ 48) };
+        ensures counted { OnOk result ((plant self.now).panel.count < most_actions) };
 
     /// The first reason against an action, whoever asks.
     fn admits(&self, action: &Action) -> Result<(), Refusal>
@@ -44,7 +45,7 @@ pub trait Alarms {
     /// The plant of its parts.
     fn build(alloc: Global, parts: PlantParts) -> Result<Self, AllocError>
         requires rules { KeepsRules (plant_of parts) }
-        requires count { parts.count ≤ 2 ^ 48 }
+        requires count { parts.count ≤ most_actions }
         ensures { IfOk result (λ p. plant p ≡ plant_of parts) };
 
     /// The same plant.

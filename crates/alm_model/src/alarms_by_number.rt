@@ -4,6 +4,7 @@ ghost use Rattle.std.specs.Prelude.{◌≡◌, ◌≤◌, ◌<◌, ◌-◌, true
 ghost use Rattle.std.specs.List.{range_with_len};
 ghost use Rattle.std.specs.Iterator.{YieldsFirst, item_count};
 ghost use Rattle.alm_model.specs.Measured.{is_measured, measured_by};
+ghost use Rattle.alm_types.specs.Sizes.{most_alarms};
 
 use crate::list::List;
 use crate::lists::is_measured;
@@ -47,7 +48,7 @@ impl<'a> AlarmsByNumber<'a> {
     ) -> Self
         requires attrs { length attrs.now ≡ length rows.now }
         requires moments { length moments.now ≡ length rows.now }
-        requires few { length rows.now ≤ 16384 }
+        requires few { length rows.now ≤ most_alarms }
         ensures { result ≡ measured_by list now attrs.now rows.now moments.now }
     {
         AlarmsByNumber {

@@ -1,7 +1,8 @@
 //! Requests that are judged, one after the other.
 
-ghost use Rattle.std.specs.Prelude.{◌≡◌, ◌≤◌, ◌^◌, length};
+ghost use Rattle.std.specs.Prelude.{◌≡◌, ◌≤◌, length};
 ghost use Rattle.alm_model.specs.Judging.{accepted_of, after_verdict, verdict_of};
+ghost use Rattle.alm_types.specs.Sizes.{most_actions};
 
 use crate::alarms::Alarms;
 use alm_types::{Batch, Request, Verdict};
@@ -11,8 +12,8 @@ use alm_types::{Batch, Request, Verdict};
 pub fn judge<P: Alarms>(plant: &mut P, request: Request) -> Verdict
     ensures verdict { result ≡ verdict_of (P.plant plant.old) request }
     ensures after { P.plant plant.new ≡ after_verdict (P.plant plant.old) result }
-    ensures most { (P.plant plant.old).panel.count ≤ 2 ^ 48 →
-        (P.plant plant.new).panel.count ≤ 2 ^ 48 }
+    ensures most { (P.plant plant.old).panel.count ≤ most_actions →
+        (P.plant plant.new).panel.count ≤ most_actions }
 {
     match plant.check(&request) {
         Ok(action) => {

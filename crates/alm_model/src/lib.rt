@@ -1,5 +1,11 @@
 //! The plant: its definitions, the trait that every plant has, and the plain plant that computes them.
 //!
+//! ```text
+//! let mut plant = PlainPlant::new(alloc, &table)?;
+//! let verdict = judge(&mut plant, request);
+//! let count = look(&plant, Query::State(alarm), &mut answer)?;
+//! ```
+//!
 //! The definitions stand in specs/, for contracts and for readers:
 //!
 //! | file | what it defines |
@@ -42,7 +48,7 @@ pub use alarms::Alarms;
 pub use alarms_by_number::AlarmsByNumber;
 pub use floods::is_flood;
 pub use judging::{accepted_in, judge};
-pub use list::List;
+pub use list::{List, WHEEL_SLOTS};
 pub use lists::fill_by_number;
 pub use plain_plant::PlainPlant;
 pub use plant_parts::PlantParts;

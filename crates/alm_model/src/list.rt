@@ -1,5 +1,8 @@
 //! Lists of alarms.
 
+/// The slots of the wheel, in which shelved alarms stand by the moment at which the shelving ends.
+pub const WHEEL_SLOTS: u32 = 256;
+
 /// A list of alarms.
 #[derive(Clone, Copy, Debug, PartialEq, Eq)]
 pub enum List {

@@ -9,7 +9,7 @@ mod making;
 mod refusing;
 
 use crate::ages::Ages;
-use crate::list::List;
+use crate::list::{List, WHEEL_SLOTS};
 use crate::lists::{fill_by_number, fill_in_order};
 use crate::order::Order;
 use crate::recent::Recent;
@@ -120,7 +120,7 @@ impl PlainRows {
         match list {
             List::Priority(priority) => 1 <= priority && priority <= 4,
             List::Area(area) => (area as usize) < self.floods.len(),
-            List::Wheel(slot) => slot < 256,
+            List::Wheel(slot) => slot < WHEEL_SLOTS,
             List::Stale | List::Chatter => true,
         }
     }

@@ -32,6 +32,7 @@ use Rattle.alm_pipeline.specs.declared.event.Event.{Event}
 use Rattle.alm_pipeline.specs.declared.event.Event.TheVariants.{More, Committed, Failed, Skipped}
 use Rattle.alm_pipeline.specs.World.{World, Stage, Nothing, Held, Stored, Shown, Note, after_step}
 use Rattle.alm_pipeline.specs.Headline.{Sight}
+use Rattle.alm_types.specs.Sizes.{most_out}
 
 -- how far the flusher's batch is
 abbrev pub stage_of : H.Held → Stage
@@ -79,15 +80,15 @@ module _ {T : Type 0} {g : ToldGhosts T} where
     pub judged : (s : ℕ) → length (taken_by s inboxes) ≡ taken s
     pub notes : (s : ℕ) → notes_of (released_by s outboxes) ≡ released s
     pub receipts : (s : ℕ) (c : Console T g) → slice_get consoles s ≡ Some c → length (received_of c) ≡ received s
-    pub few : (s : ℕ) → length (sent s) ≤ 64 + received s
+    pub few : (s : ℕ) → length (sent s) ≤ most_out + received s
 
   -- a slot's ends know what the others did
   pub record KnowsEnds (s : ℕ) (console : Console T g) (inboxes : List Inbox) (outboxes : List (Outbox T g)) : Type 0 where
     pub requests : taken_by s inboxes ++ waiting_by s inboxes ≡ sent_of console
     pub replies : received_of console ++ coming_to console ≡ released_by s outboxes
     pub serials : length (sent_of console) < 2 ^ 64
-    pub room : 64 + length (taken_by s inboxes) ≤ room_of console + length (sent_of console)
-    pub reply_room : 64 + length (received_of console) ≤ room_by s outboxes + length (released_by s outboxes)
+    pub room : most_out + length (taken_by s inboxes) ≤ room_of console + length (sent_of console)
+    pub reply_room : most_out + length (received_of console) ≤ room_by s outboxes + length (released_by s outboxes)
 
   abbrev pub KnowsSlot : ℕ → List (Console T g) → List Inbox → List (Outbox T g) → Type 0
   KnowsSlot s consoles inboxes outboxes = (c : Console T g) → slice_get consoles s ≡ Some c → KnowsEnds s c inboxes outboxes

@@ -14,6 +14,7 @@ use Rattle.alm_pipeline.specs.declared.step.Step.{Step}
 use Rattle.alm_pipeline.specs.declared.step.Step.TheVariants.{Send, Take, Seal, Fetch, Call, Publish, Release, GiveBack, Receive, Look, Crash, Reopen}
 use Rattle.alm_pipeline.specs.declared.event.Event.{Event}
 use Rattle.alm_pipeline.specs.declared.event.Event.TheVariants.{Sent, Busy, Took, Sealed, Fetched, More, Committed, Failed, Published, Released, GaveBack, Received, Looked, Crashed, Opened, Unopened, Skipped}
+use Rattle.alm_types.specs.Sizes.{most_entries, most_out}
 
 -- ---- the world
 
@@ -144,7 +145,7 @@ raise least (note ∷ notes) = max least note.number
 
 abbrev pub Possible : World → Step → Type 0
 Possible w (Send slot a) = w.closed ≡ false
-Possible w (Take slot) = (w.closed ≡ false) × (w.taken slot < length (w.sent slot)) × (length w.taking < 256)
+Possible w (Take slot) = (w.closed ≡ false) × (w.taken slot < length (w.sent slot)) × (length w.taking < most_entries)
 Possible w Seal = (w.closed ≡ false) × (0 < length w.taking) × (0 < w.free)
 Possible w Fetch = (w.closed ≡ false) × (w.stage ≡ Nothing) × (0 < length w.sealed)
 Possible w Call = (w.closed ≡ false) × IsHeld w.stage
@@ -170,8 +171,8 @@ IsStorageFault (F.Damaged half at) = ⊥
 -- the trace entry is an answer of this step. Which of More, Committed and Failed, the device decides; a Call is possible also where a
 -- checkpoint is open, as the device's own phase says: MayCall and Moves of Headline
 abbrev pub Answers : World → Step → Event → Type 0
-Answers w (Send slot a) (Sent serial) = Possible w (Send slot a) × (length (w.sent slot) < 64 + w.received slot) × (serial ≡ length (w.sent slot) + 1)
-Answers w (Send slot a) Busy = Possible w (Send slot a) × ((64 + w.received slot ≤ length (w.sent slot)) ⊎ (2 ^ 64 ≤ length (w.sent slot) + 1))
+Answers w (Send slot a) (Sent serial) = Possible w (Send slot a) × (length (w.sent slot) < most_out + w.received slot) × (serial ≡ length (w.sent slot) + 1)
+Answers w (Send slot a) Busy = Possible w (Send slot a) × ((most_out + w.received slot ≤ length (w.sent slot)) ⊎ (2 ^ 64 ≤ length (w.sent slot) + 1))
 Answers w (Take slot) (Took v) = Possible w (Take slot) × judges w slot (slice_get (w.sent slot) (w.taken slot)) v
 Answers w Seal Sealed = Possible w Seal
 Answers w Fetch Fetched = Possible w Fetch

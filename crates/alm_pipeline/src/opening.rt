@@ -1,5 +1,7 @@
 //! The one maker of a pipeline.
 
+ghost use Rattle.alm_types.specs.Sizes.{most_actions};
+
 use crate::pipeline::Pipeline;
 use alm_board::PlainBoard;
 use alm_flush::Flusher;
@@ -10,7 +12,7 @@ use alm_store::{OpenFault, Phase, Store};
 use std::alloc::Global;
 
 impl<K: Store> Pipeline<K> {
-    ghost use Rattle.std.specs.Prelude.{◌≡◌, ◌↔◌, ◌≤◌, ◌+◌, ◌^◌, ℕ, List, false, length, IfOk, IfErr};
+    ghost use Rattle.std.specs.Prelude.{◌≡◌, ◌↔◌, ◌≤◌, ◌+◌, ℕ, List, false, length, IfOk, IfErr};
     ghost use Rattle.alm_disk.specs.Device.{IsImage};
     ghost use Rattle.alm_disk.specs.Failures.{HasFailed};
     ghost use Rattle.alm_store.specs.Opening.{HasCause};
@@ -23,7 +25,7 @@ impl<K: Store> Pipeline<K> {
     /// Rings, consoles, board, sequencer and flusher over an idle store; the store comes back where memory is short.
     pub fn new(alloc: Global, store: K) -> Result<Pipeline<K>, K>
         requires idle { (K.state store).phase ≡ Phase.Idle }
-        requires limit { (K.state store).stored.panel.count ≤ 2 ^ 48 }
+        requires limit { (K.state store).stored.panel.count ≤ most_actions }
         ensures open { IfOk result
             (λ pipeline. (base : Condensed) (kept : List Action) (floor : ℕ) →
             (K.state store).stored ≡ run base kept → floor ≤ base.panel.count + length kept →

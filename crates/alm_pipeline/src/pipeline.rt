@@ -9,6 +9,7 @@ ghost use Rattle.alm_rings.specs.Placed.{inbox_at, outbox_at};
 ghost use Rattle.alm_rings.specs.Batches.{AreBatchEnds};
 ghost use Rattle.alm_pipeline.specs.World.{World, Answers, after_step};
 ghost use Rattle.alm_pipeline.specs.declared.step.Step.TheVariants as S;
+ghost use Rattle.alm_types.specs.Sizes.{slot_count};
 
 use crate::event::Event;
 use crate::step::Step;
@@ -26,9 +27,9 @@ pub struct Pipeline<K: Store> {
     pub consoles: Vec<Console<PlainTold>>,
     pub sequencer: Sequencer<Plant>,
     pub flusher: Flusher<K, PlainTold, PlainBoard<Plant>>,
-    pub ghost count: { length consoles.items ≡ 18 },
-    pub ghost inboxes: { (s : ℕ) → s < 18 → IsSome (inbox_at s sequencer.inboxes.items) },
-    pub ghost outboxes: { (s : ℕ) → s < 18 → IsSome (outbox_at s flusher.outboxes.items) },
+    pub ghost count: { length consoles.items ≡ slot_count },
+    pub ghost inboxes: { (s : ℕ) → s < slot_count → IsSome (inbox_at s sequencer.inboxes.items) },
+    pub ghost outboxes: { (s : ℕ) → s < slot_count → IsSome (outbox_at s flusher.outboxes.items) },
     pub ghost requests: { (s : ℕ) (c : Console _ _) (i : Inbox) →
         slice_get consoles.items s ≡ Some c → inbox_at s sequencer.inboxes.items ≡ Some i →
         IsPair c.requests i.requests },

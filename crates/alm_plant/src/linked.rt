@@ -14,13 +14,15 @@ ghost use Rattle.alm_model.specs.New.{new_plant};
 ghost use Rattle.alm_model.specs.Rules.{KeepsRules, IsTimely};
 ghost use Rattle.alm_plant.specs.Filing.{AreAhead, AreDistinct, stamp_in};
 ghost use Rattle.alm_plant.specs.Linking.{IsMovedAt, AreSuited, AreSettled, is_annunciation};
+ghost use Rattle.alm_model.specs.Lists.{wheel_slots};
+ghost use Rattle.alm_types.specs.Sizes.{most_actions, most_alarms};
 
 use crate::nodes::Nodes;
 use alm_links::ListNodes;
 use alm_measure::Measure;
-use alm_model::{AlarmsByNumber, List, PlantParts, fill_by_number, may_ask};
+use alm_model::{AlarmsByNumber, List, PlantParts, WHEEL_SLOTS, fill_by_number, may_ask};
 use alm_state::{Outcome, Row, attr_after, outcome_of, row_refusal};
-use alm_types::{Action, AlarmId, Attr, Moment, Refusal, Request, Table};
+use alm_types::{Action, AlarmId, Attr, MOST_ACTIONS, Moment, Refusal, Request, Table};
 use std::alloc::{AllocError, Global};
 use std::marker::Model;
 
@@ -63,7 +65,7 @@ impl Linked {
     /// The plant of its parts, whose alarms are put in an order.
     pub fn build(alloc: Global, parts: PlantParts, order: &[u32]) -> Result<Self, AllocError>
         requires rules { KeepsRules (plant_of parts) }
-        requires count { parts.count ≤ 2 ^ 48 }
+        requires count { parts.count ≤ most_actions }
         requires order { IsSortedFilter (stamp_in parts.rows.items) (λ i. true)
             (length parts.rows.items) order.now }
         ensures { IfOk result (λ p. p ≡ plant_of parts) }
@@ -159,7 +161,7 @@ impl Linked {
         match list {
             List::Priority(priority) => 1 <= priority && priority <= 4,
             List::Area(area) => (area as usize) < self.measure.areas(),
-            List::Wheel(slot) => slot < 256,
+            List::Wheel(slot) => slot < WHEEL_SLOTS,
             List::Stale | List::Chatter => true,
         }
     }
@@ -179,7 +181,7 @@ impl Linked {
     }
 
     pub fn wheel_list(&self, slot: u32) -> ListNodes<'_>
-        requires slot { slot < 256 }
+        requires slot { slot < wheel_slots }
         ensures { result ≡ list_of (Wheel slot) self.now }
     {
         self.nodes.slot_list(slot)
@@ -290,7 +292,7 @@ impl Linked {
     {
         match self.own_refusal(action) {
             Some(refusal) => Err(refusal),
-            None if self.count >= 1 << 48 => Err(Refusal::Exhausted),
+            None if self.count >= MOST_ACTIONS => Err(Refusal::Exhausted),
             None => Ok(()),
         }
     }
@@ -299,7 +301,7 @@ impl Linked {
     pub fn check(&self, request: &Request) -> Result<Action, Refusal>
         ensures verdict { result ≡ accept self.now.panel request.now }
         ensures admitted { IfOk result (λ action. refusal self.now.panel action ≡ None) }
-        ensures counted { OnOk result (self.now.panel.count < 2 ^ 48) }
+        ensures counted { OnOk result (self.now.panel.count < most_actions) }
     {
         if !may_ask(request.slot, &request.want) {
             return Err(Refusal::WrongRole);
@@ -312,7 +314,7 @@ impl Linked {
     #[inline(always)]
     fn put(&mut self, index: u32, outcome: Outcome) -> bool
         requires here { index < length self.old.panel.rows }
-        requires stamps { self.old.panel.next_stamp < 1 + 16384 * self.old.panel.count }
+        requires stamps { self.old.panel.next_stamp < 1 + most_alarms * self.old.panel.count }
         requires moved { IsMovedAt self.old.panel.next_stamp (slice_get self.old.panel.rows index)
             outcome }
         ensures rows { length self.new.panel.rows ≡ length self.old.panel.rows }
@@ -342,7 +344,7 @@ impl Linked {
     fn touch(&mut self, id: AlarmId, action: &Action)
         requires here { alarm_refusal action.now (slice_get self.old.panel.attrs id.0)
             (slice_get self.old.panel.rows id.0) ≡ None }
-        requires stamps { self.old.panel.next_stamp < 1 + 16384 * self.old.panel.count }
+        requires stamps { self.old.panel.next_stamp < 1 + most_alarms * self.old.panel.count }
         requires suits { AreSuited self.old.panel }
         requires settled { AreSettled self.old }
         ensures rows { length self.new.panel.rows ≡ length self.old.panel.rows }
@@ -400,7 +402,7 @@ impl Linked {
     /// The shelving of an alarm ends.
     fn unshelve(&mut self, number: u32)
         requires here { number < length self.old.panel.rows }
-        requires stamps { self.old.panel.next_stamp < 1 + 16384 * self.old.panel.count }
+        requires stamps { self.old.panel.next_stamp < 1 + most_alarms * self.old.panel.count }
         ensures plant { self.new ≡ unshelve in_brief self.old number }
         ensures stamps { self.new.panel.next_stamp ≤ self.old.panel.next_stamp + 1 }
         ensures count { self.new.panel.count ≡ self.old.panel.count }
@@ -414,7 +416,7 @@ impl Linked {
     fn unshelve_all(&mut self, numbers: &[u32])
         requires here { All (λ i. i < length self.old.panel.rows) numbers.now }
         requires stamps { self.old.panel.next_stamp + length numbers.now ≤
-            1 + 16384 * self.old.panel.count }
+            1 + most_alarms * self.old.panel.count }
         ensures rows { length self.new.panel.rows ≡ length self.old.panel.rows }
         ensures plant { self.new ≡ fold (unshelve in_brief) self.old numbers.now }
     {
@@ -425,9 +427,10 @@ impl Linked {
 
     /// Counts an action.
     fn count_action(&mut self)
-        requires { self.old.panel.count < 2 ^ 48 }
+        requires { self.old.panel.count < most_actions }
         ensures plant { self.new ≡ with_one_more self.old }
-        ensures stamps { self.new.panel.next_stamp + 16384 ≤ 1 + 16384 * self.new.panel.count }
+        ensures stamps { self.new.panel.next_stamp + most_alarms ≤
+            1 + most_alarms * self.new.panel.count }
     {
         self.count += 1;
     }
@@ -436,7 +439,8 @@ impl Linked {
     fn run_clock(&mut self, moment: Moment, working: &mut Vec<u32>)
         requires forward { self.old.panel.now < moment }
         requires ahead { AreAhead self.old.panel.now self.old.panel.rows }
-        requires stamps { self.old.panel.next_stamp + 16384 ≤ 1 + 16384 * self.old.panel.count }
+        requires stamps { self.old.panel.next_stamp + most_alarms ≤
+            1 + most_alarms * self.old.panel.count }
         requires room { length self.old.panel.rows ≤ vec_capacity working.old }
         ensures plant { self.new ≡
             settle in_brief

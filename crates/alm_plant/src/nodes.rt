@@ -11,6 +11,8 @@ ghost use Rattle.alm_links.specs.Lists.{list_holding, nodes_of, family_at, key_a
 ghost use Rattle.alm_wheel.specs.Deadlines.{deadline_of, slot_of};
 ghost use Rattle.alm_state.specs.Rows.{is_annunciated, IsState};
 ghost use Rattle.alm_plant.specs.Filing.{stamp_in, filed_again, chains_after, with_insertion, IsPlaced, AreAhead, AreDistinct, by_priority, by_area, by_slot};
+ghost use Rattle.alm_model.specs.Lists.{wheel_slots};
+ghost use Rattle.alm_types.specs.Sizes.{most_alarms};
 
 use alm_links::{Chains, ListNodes};
 use alm_state::Row;
@@ -236,7 +238,7 @@ fn row_at(rows: &[Row], index: usize) -> &Row
 impl Nodes {
     /// Alarms at rest.
     pub fn new(alloc: Global, attrs: Vec<Attr>, areas: u32) -> Result<Self, AllocError>
-        requires few { length attrs.items ≤ 16384 }
+        requires few { length attrs.items ≤ most_alarms }
         requires areas { All (λ a. a.area < areas) attrs.items }
         ensures { IfOk result
             (λ n. n ≡
@@ -301,7 +303,7 @@ impl Nodes {
         areas: u32,
         order: &[u32],
     ) -> Result<Self, AllocError>
-        requires few { length attrs.items ≤ 16384 }
+        requires few { length attrs.items ≤ most_alarms }
         requires same { length attrs.items ≡ length rows.now }
         requires areas { All (λ a. a.area < areas) attrs.items }
         requires order { IsSortedFilter (stamp_in rows.now) (λ i. true) (length rows.now)
@@ -385,7 +387,7 @@ impl Nodes {
 
     /// Those of a slot of the wheel.
     pub fn slot_list(&self, slot: u32) -> ListNodes<'_>
-        requires slot { slot < 256 }
+        requires slot { slot < wheel_slots }
         ensures { result ≡ alarms_by stamp (stands_in (Slot slot)) self.now.attrs self.now.rows }
     {
         self.wheel.iter(slot)
@@ -417,7 +419,7 @@ impl Nodes {
 
     /// Those of a slot of the wheel.
     pub fn list_slot(&self, slot: u32, out: &mut Vec<u32>)
-        requires slot { slot < 256 }
+        requires slot { slot < wheel_slots }
         requires room { length self.now.rows ≤ vec_capacity out.old }
         ensures list { out.new.items ≡
             alarms_by stamp (stands_in (Slot slot)) self.now.attrs self.now.rows }

@@ -3,6 +3,7 @@
 ghost use Rattle.std.specs.Prelude.{◌≡◌, ◌<◌, ◌≤◌, length};
 ghost use Rattle.alm_model.specs.Lists.{list_of};
 ghost use Rattle.alm_model.specs.declared.list.List.TheVariants.{Priority, Area, Wheel, Stale, Chatter};
+ghost use Rattle.alm_model.specs.Lists.{wheel_slots};
 
 use crate::linked::Linked;
 use crate::order::in_order;
@@ -53,7 +54,7 @@ impl Plant {
 
     /// The shelved alarms of a slot of the wheel.
     pub fn wheel_list(&self, slot: u32) -> ListNodes<'_>
-        requires slot { slot < 256 }
+        requires slot { slot < wheel_slots }
         ensures { result ≡ list_of (Wheel slot) self.now }
     {
         self.linked.wheel_list(slot)

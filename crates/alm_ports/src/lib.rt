@@ -1,5 +1,11 @@
 //! The slots' ports on loopback: connections as sources of requests.
 //!
+//! ```text
+//! let SlotPorts { ports, bells } = open_ports(rt, alloc, &slots, 5000, conns)?;
+//! let report = run_with_bells(rt, alloc, parts, &hold, bells, ports)?;
+//! let storage = report.storage;
+//! ```
+//!
 //! Slot k listens on the k-th port behind the first one. A [`SlotPort`] is the source of a slot: it accepts one connection
 //! after another and gives each its turns.
 //!

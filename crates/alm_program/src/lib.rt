@@ -1,5 +1,11 @@
 //! The program: its words, its commands, and how it ends.
 //!
+//! ```text
+//! if let Some(order) = run_words(rt)? {
+//!     serve(order)?;
+//! }
+//! ```
+//!
 //! | words | do |
 //! |---|---|
 //! | `desk` | the worked table in memory, over standard input and output |

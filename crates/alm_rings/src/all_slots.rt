@@ -7,17 +7,15 @@ ghost use Rattle.alm_rings.specs.declared.inbox.Inbox.{Inbox};
 ghost use Rattle.alm_rings.specs.declared.outbox.Outbox.{Outbox};
 ghost use Rattle.alm_rings.specs.Ends.{sent_of, received_of};
 ghost use Rattle.alm_rings.specs.Placed.{AreApart, inbox_at, outbox_at, taken_by, released_by};
+ghost use Rattle.alm_types.specs.Sizes.{slot_count};
 
 use crate::console::Console;
 use crate::inbox::Inbox;
 use crate::outbox::Outbox;
 use crate::slot::open_slot;
 use crate::told::Told;
-use alm_types::Slot;
+use alm_types::{SLOTS, Slot};
 use std::alloc::{AllocError, Global};
-
-/// How many slots there are.
-const SLOTS: u8 = 18;
 
 /// The ends of all slots, in the order of the slots.
 #[derive(Drop)]
@@ -29,11 +27,13 @@ pub struct SlotEnds<T: Told + Drop> {
 
 /// The ends of all slots, new; an error only for want of memory.
 pub fn open_slots<T: Told + Drop>(alloc: Global) -> Result<SlotEnds<T>, AllocError>
-    ensures count { IfOk result (λ e. length e.consoles.items ≡ 18) }
+    ensures count { IfOk result (λ e. length e.consoles.items ≡ slot_count) }
     ensures apart { IfOk result
         (λ e. AreApart (λ i. i.slot) e.inboxes.items × AreApart (λ o. o.slot) e.outboxes.items) }
-    ensures inboxes { IfOk result (λ e. (s : ℕ) → s < 18 → IsSome (inbox_at s e.inboxes.items)) }
-    ensures outboxes { IfOk result (λ e. (s : ℕ) → s < 18 → IsSome (outbox_at s e.outboxes.items)) }
+    ensures inboxes { IfOk result
+        (λ e. (s : ℕ) → s < slot_count → IsSome (inbox_at s e.inboxes.items)) }
+    ensures outboxes { IfOk result
+        (λ e. (s : ℕ) → s < slot_count → IsSome (outbox_at s e.outboxes.items)) }
     ensures requests { IfOk result
         (λ e. (s : ℕ) (c : Console _ _) (i : Inbox) → slice_get e.consoles.items s ≡ Some c →
         inbox_at s e.inboxes.items ≡ Some i → IsPair c.requests i.requests) }
@@ -46,10 +46,10 @@ pub fn open_slots<T: Told + Drop>(alloc: Global) -> Result<SlotEnds<T>, AllocErr
     ensures taken { IfOk result (λ e. (s : ℕ) → taken_by s e.inboxes.items ≡ []) }
     ensures released { IfOk result (λ e. (s : ℕ) → released_by s e.outboxes.items ≡ []) }
 {
-    let mut consoles = Vec::with_capacity(alloc, 18)?;
-    let mut inboxes = Vec::with_capacity(alloc, 18)?;
-    let mut outboxes = Vec::with_capacity(alloc, 18)?;
-    for number in 0..SLOTS {
+    let mut consoles = Vec::with_capacity(alloc, SLOTS)?;
+    let mut inboxes = Vec::with_capacity(alloc, SLOTS)?;
+    let mut outboxes = Vec::with_capacity(alloc, SLOTS)?;
+    for number in 0..SLOTS as u8 {
         match Slot::new(number) {
             Some(slot) => {
                 let (console, inbox, outbox) = open_slot(alloc, slot)?;

@@ -2,6 +2,7 @@
 
 ghost use Rattle.std.specs.Prelude.{◌≡◌, ◌≤◌, ◌+◌, ◌-◌, ◌^◌, length, min};
 ghost use Rattle.rtrb.specs.Ring.{sent, received, producer_capacity};
+ghost use Rattle.alm_types.specs.Sizes.{most_out};
 
 use crate::busy::Busy;
 use crate::receipt::Receipt;
@@ -12,7 +13,7 @@ use rtrb::{Consumer, Producer, PushError};
 use std::alloc::Global;
 
 /// How many requests may be unanswered, and how many each ring of a slot holds.
-pub(crate) const ROOM: usize = 64;
+pub const MOST_OUT: usize = 64;
 
 /// The console's end of a slot: it sends actions, and receives receipts.
 #[derive(Drop)]
@@ -25,8 +26,8 @@ pub struct Console<T: Told + Drop> {
     pub(crate) replies: Consumer<Receipt<T>>,
     ghost serials: { serial ≡ length (sent requests) },
     ghost count: { receipts ≡ min (length (received replies)) (2 ^ 64 - 1) },
-    ghost few: { length (sent requests) ≤ 64 + length (received replies) },
-    ghost room: { producer_capacity requests ≡ 64 },
+    ghost few: { length (sent requests) ≤ most_out + length (received replies) },
+    ghost room: { producer_capacity requests ≡ most_out },
 }
 
 impl<T: Told + Drop> Console<T> {
@@ -44,14 +45,14 @@ impl<T: Told + Drop> Console<T> {
     /// How many requests are unanswered: sent, and their receipts not received.
     pub fn unanswered(&self) -> u64
         ensures count { result ≡ length (sent_of self.now) - length (received_of self.now) }
-        ensures few { result ≤ 64 }
+        ensures few { result ≤ most_out }
     {
         self.serial.saturating_sub(self.receipts)
     }
 
     /// Sends an action, and gives its serial, from 1.
     ///
-    /// [`Busy`] gives the action back, with nothing changed: where 64 requests are unanswered, where no place of the
+    /// [`Busy`] gives the action back, with nothing changed: where [`MOST_OUT`] requests are unanswered, where no place of the
     /// ring is known to be free, or where the serials are spent.
     pub fn send(&mut self, action: Action) -> Result<u64, Busy>
         ensures end { SameConsole self.old self.new }
@@ -61,14 +62,14 @@ impl<T: Told + Drop> Console<T> {
             (λ serial. (sent_of self.new ≡ sent_of self.old ++ action ∷ []) ×
             (serial ≡ length (sent_of self.new)) × (room_of self.old ≤ room_of self.new + 1)) }
         ensures few { IfOk result
-            (λ _. length (sent_of self.old) < 64 + length (received_of self.old)) }
+            (λ _. length (sent_of self.old) < most_out + length (received_of self.old)) }
         ensures busy { IfErr result
             (λ busy. (busy.0 ≡ action) × (sent_of self.new ≡ sent_of self.old) ×
             (room_of self.new ≡ room_of self.old)) }
-        ensures cause { length (sent_of self.old) < 64 + length (received_of self.old) →
+        ensures cause { length (sent_of self.old) < most_out + length (received_of self.old) →
             0 < room_of self.old → length (sent_of self.old) < 2 ^ 64 - 1 → IsOk result }
     {
-        if self.unanswered() >= ROOM as u64 || self.serial == LAST_SERIAL {
+        if self.unanswered() >= MOST_OUT as u64 || self.serial == LAST_SERIAL {
             return Err(Busy(action));
         }
         match self.requests.push(action) {

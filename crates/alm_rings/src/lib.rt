@@ -1,5 +1,11 @@
 //! The ends by which the threads of the server hand each other requests, receipts and batches.
 //!
+//! ```text
+//! let (mut console, mut inbox, mut outbox) = open_slot(alloc, slot)?;
+//! let serial = console.send(action)?; let taken = inbox.take();
+//! outbox.release(receipt)?; let receipt = console.receive();
+//! ```
+//!
 //! Each slot has three ends over two rings of 64. The batches go over two rings of eight, and eight batches go round.
 //!
 //! | ring | what goes in | what comes out |
@@ -42,7 +48,7 @@ mod told;
 pub use all_slots::{SlotEnds, open_slots};
 pub use batches::{batches_beside, open_batches};
 pub use busy::Busy;
-pub use console::Console;
+pub use console::{Console, MOST_OUT};
 pub use fetch_ends::FetchEnds;
 pub use inbox::Inbox;
 pub use outbox::Outbox;

@@ -2,6 +2,7 @@
 
 ghost use Rattle.std.specs.Prelude.{◌≡◌, ◌-◌, ◌^◌, length, min};
 ghost use Rattle.rtrb.specs.Ring.{sent, producer_capacity};
+ghost use Rattle.alm_types.specs.Sizes.{most_out};
 
 use crate::receipt::Receipt;
 use crate::told::Told;
@@ -16,7 +17,7 @@ pub struct Outbox<T: Told + Drop> {
     pub(crate) released: u64,
     pub(crate) replies: Producer<Receipt<T>>,
     ghost count: { released ≡ min (length (sent replies)) (2 ^ 64 - 1) },
-    ghost room: { producer_capacity replies ≡ 64 },
+    ghost room: { producer_capacity replies ≡ most_out },
 }
 
 impl<T: Told + Drop> Outbox<T> {

@@ -4,8 +4,9 @@ ghost use Rattle.std.specs.Prelude.{◌≡◌, ◌+◌, ◌-◌, ◌<◌, ◌≤
 ghost use mathlib.Core.List.{IsPrefix};
 ghost use Rattle.rtrb.specs.Ring.{IsPair};
 ghost use Rattle.alm_rings.specs.Ends.{AreEnds, SameConsole, SameInbox, SameOutbox, sent_of, received_of, taken_of, released_of, waiting_in, coming_to, room_of, room_in};
+ghost use Rattle.alm_types.specs.Sizes.{most_out};
 
-use crate::console::{Console, ROOM};
+use crate::console::{Console, MOST_OUT};
 use crate::inbox::Inbox;
 use crate::outbox::Outbox;
 use crate::serials::Serials;
@@ -25,11 +26,11 @@ pub fn open_slot<T: Told + Drop>(
     ensures new { IfOk result
         (λ r. (sent_of r.0 ≡ []) × (received_of r.0 ≡ []) × (taken_of r.1 ≡ []) ×
         (released_of r.2 ≡ [])) }
-    ensures room { IfOk result (λ r. (room_of r.0 ≡ 64) × (room_in r.2 ≡ 64)) }
+    ensures room { IfOk result (λ r. (room_of r.0 ≡ most_out) × (room_in r.2 ≡ most_out)) }
     ensures nothing_waits { IfOk result (λ r. (waiting_in r.1 ≡ []) × (coming_to r.0 ≡ [])) }
 {
-    let (requests, inbox) = RingBuffer::with_protocol::<Global, Serials>(alloc, ROOM)?;
-    let (outbox, replies) = RingBuffer::new(alloc, ROOM)?;
+    let (requests, inbox) = RingBuffer::with_protocol::<Global, Serials>(alloc, MOST_OUT)?;
+    let (outbox, replies) = RingBuffer::new(alloc, MOST_OUT)?;
     let console = Console {
         slot,
         serial: 0,
@@ -61,8 +62,8 @@ pub fn requests_beside<T: Told + Drop>(console: &mut Console<T>, inbox: &mut Inb
         (coming_to console.new ≡ coming_to console.old) }
     ensures requests { taken_of inbox.new ++ waiting_in inbox.new ≡ sent_of console.new }
     ensures serials { length (sent_of console.new) < 2 ^ 64 }
-    ensures few { length (sent_of console.new) ≤ 64 + length (received_of console.new) }
-    ensures room { 64 + length (taken_of inbox.new) ≤
+    ensures few { length (sent_of console.new) ≤ most_out + length (received_of console.new) }
+    ensures room { most_out + length (taken_of inbox.new) ≤
         room_of console.new + length (sent_of console.new) }
 {
     let _serial = console.serial;
@@ -80,7 +81,7 @@ pub fn replies_beside<T: Told + Drop>(console: &mut Console<T>, outbox: &mut Out
     ensures requests { (sent_of console.new ≡ sent_of console.old) ×
         (room_of console.new ≡ room_of console.old) }
     ensures replies { received_of console.new ++ coming_to console.new ≡ released_of outbox.new }
-    ensures room { 64 + length (received_of console.new) ≤
+    ensures room { most_out + length (received_of console.new) ≤
         room_in outbox.new + length (released_of outbox.new) }
 {
     outbox.replies.slots_beside(&mut console.replies);
@@ -100,10 +101,10 @@ pub fn beside<T: Told + Drop>(console: &mut Console<T>, inbox: &mut Inbox, outbo
     ensures requests { taken_of inbox.new ++ waiting_in inbox.new ≡ sent_of console.new }
     ensures replies { received_of console.new ++ coming_to console.new ≡ released_of outbox.new }
     ensures serials { length (sent_of console.new) < 2 ^ 64 }
-    ensures few { length (sent_of console.new) ≤ 64 + length (received_of console.new) }
-    ensures room { 64 + length (taken_of inbox.new) ≤
+    ensures few { length (sent_of console.new) ≤ most_out + length (received_of console.new) }
+    ensures room { most_out + length (taken_of inbox.new) ≤
         room_of console.new + length (sent_of console.new) }
-    ensures reply_room { 64 + length (received_of console.new) ≤
+    ensures reply_room { most_out + length (received_of console.new) ≤
         room_in outbox.new + length (released_of outbox.new) }
 {
     requests_beside(console, inbox);

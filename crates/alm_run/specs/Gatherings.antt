@@ -1,10 +1,11 @@
 -- Whom an open batch awaits.
 use Rattle.std.specs.Prelude.{◌≡◌, Bool, ℕ, List, Some, replicate, slice_get, true, false}
 use Rattle.alm_run.specs.declared.gathering.Gathering.{Gathering}
+use Rattle.alm_types.specs.Sizes.{slot_count}
 
 -- none of the slots
 abbrev pub nobody : List Bool
-nobody = replicate 18 false
+nobody = replicate slot_count false
 
 -- the slot was answered by the batch before, and has none in the open one
 abbrev pub Awaits : Gathering → ℕ → Type 0

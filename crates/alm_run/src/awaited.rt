@@ -1,7 +1,7 @@
 //! Those whom the sequencer's thread waits for, as the slots see them.
 
-use crate::gathering::{Gathering, SLOTS};
-use alm_types::Slot;
+use crate::gathering::Gathering;
+use alm_types::{SLOTS, Slot};
 use std::sync::atomic::{AtomicU32, Ordering};
 
 /// Those whom the sequencer's thread waits for, as the slots see them: a bit each. The last of them to come wakes it.

@@ -1,10 +1,7 @@
 //! The bells of the slots.
 
 use crate::bell::Bell;
-use alm_types::Slot;
-
-/// How many slots there are.
-const SLOTS: usize = 18;
+use alm_types::{SLOTS, Slot};
 
 /// The bells of the slots.
 #[derive(Drop)]

@@ -1,12 +1,10 @@
 //! Whom the open batch waits for.
 ghost use Rattle.std.specs.Prelude.{◌≡◌, ◌↔◌, ◌<◌, ◌/◌, ℕ, None, min, IsTrue, IfSome, MatchBool, slice_set, true, false};
 ghost use Rattle.alm_run.specs.Gatherings.{Awaits, AwaitsSome, AwaitsNone, nobody};
+ghost use Rattle.alm_types.specs.Sizes.{slot_count};
 
 use crate::pause::Pause;
-use alm_types::Slot;
-
-/// How many slots there are.
-pub const SLOTS: usize = 18;
+use alm_types::{SLOTS, Slot};
 
 /// Whom the open batch waits for, once the batch before it is back: those who were answered by that one soon ask again, and a batch that
 /// goes without them commits for a part of the slots, while the others wait for a whole commit more. It waits for nobody else, and
@@ -53,7 +51,7 @@ impl Gathering {
 
     /// Whether this slot is awaited: it was answered by the batch before, and has none in the open one.
     pub fn awaits(&self, slot: usize) -> bool
-        requires { slot < 18 }
+        requires { slot < slot_count }
         ensures { IsTrue result ↔ Awaits self.now slot }
     {
         self.answered[slot] && !self.joined[slot]

@@ -1,5 +1,11 @@
 //! The parts of the server, each in a thread of its own.
 //!
+//! ```text
+//! start_all(scope, rt, alloc, &flags, slot_parts)?;
+//! start_rings(scope, rt, &flags, &slots, &hold, plant, rings)?;
+//! let parts = run_flusher(rt, &flags, board, parts);
+//! ```
+//!
 //! | thread | runs | ends |
 //! |---|---|---|
 //! | of each slot | [`run_source`]: one turn of its [`Source`] after another | after a turn that says [`Go::End`], or before one where `stop` is set |

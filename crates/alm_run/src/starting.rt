@@ -1,10 +1,11 @@
 //! Starts the sequencer's thread from its parts.
-ghost use Rattle.std.specs.Prelude.{◌≡◌, ℕ, ◌<◌, ◌≤◌, ◌^◌, [], length, IfOk};
+ghost use Rattle.std.specs.Prelude.{◌≡◌, ℕ, ◌<◌, ◌≤◌, [], length, IfOk};
 ghost use Rattle.alm_rings.specs.Batches.{SameSealEnds, sealed_of, empties_in};
 ghost use Rattle.alm_rings.specs.Placed.{AreApart, taken_by};
 ghost use Rattle.alm_seq.specs.Sequences.{SameInboxes};
 ghost use Rattle.alm_run.specs.Histories.{JudgesAll};
 ghost use Rattle.alm_run.specs.Serving.{ServesSlots};
+ghost use Rattle.alm_types.specs.Sizes.{most_actions};
 
 use crate::bell::Bell;
 use crate::flags::Flags;
@@ -34,7 +35,7 @@ pub fn run_sequencer<P: Alarms + Drop, B: Bell + Drop, H: Hold, R: Wait + Clock>
     requires taken { (s : ℕ) → taken_by s rings.inboxes.items ≡ [] }
     requires sealed { sealed_of rings.ends ≡ [] }
     requires empties { 0 < length (empties_in rings.ends) }
-    requires count { (P.plant plant).panel.count ≤ 2 ^ 48 }
+    requires count { (P.plant plant).panel.count ≤ most_actions }
     requires serves { ServesSlots slots.now rings.inboxes.items }
     ensures inboxes { SameInboxes rings.inboxes.items result.inboxes.items }
     ensures ends { SameSealEnds rings.ends result.ends }
@@ -73,7 +74,7 @@ where
     requires taken { (s : ℕ) → taken_by s rings.inboxes.items ≡ [] }
     requires sealed { sealed_of rings.ends ≡ [] }
     requires empties { 0 < length (empties_in rings.ends) }
-    requires count { (P.plant plant).panel.count ≤ 2 ^ 48 }
+    requires count { (P.plant plant).panel.count ≤ most_actions }
     requires serves { ServesSlots slots.now.items rings.inboxes.items }
     ensures { IfOk result
         (λ handle. (handle.promise.rings.value ≡ rings) × (handle.promise.plant.value ≡ plant)) }
@@ -87,7 +88,8 @@ where
         move || -> Rings
             requires { AreApart (λ i. i.slot) rings.inboxes.items ×
                 ((s : ℕ) → taken_by s rings.inboxes.items ≡ []) × (sealed_of rings.ends ≡ []) ×
-                (0 < length (empties_in rings.ends)) × ((P.plant plant).panel.count ≤ 2 ^ 48) ×
+                (0 < length (empties_in rings.ends)) ×
+                ((P.plant plant).panel.count ≤ most_actions) ×
                 ServesSlots slots.now.items rings.inboxes.items }
             ensures { SameInboxes rings.inboxes.items result.inboxes.items ×
                 SameSealEnds rings.ends result.ends ×

@@ -16,6 +16,7 @@ use Rattle.alm_seq.specs.declared.take.Take.{Take}
 use Rattle.alm_seq.specs.declared.take.Take.TheVariants.{Taken, Empty, BatchFull}
 use Rattle.alm_seq.specs.declared.seal.Seal.{Seal}
 use Rattle.alm_seq.specs.declared.seal.Seal.TheVariants.{Sealed, NothingToSeal, NoRoom}
+use Rattle.alm_types.specs.Sizes.{most_entries}
 
 -- the same inboxes, of the same slots
 abbrev pub SameInboxes : List Inbox → List Inbox → Type 0
@@ -61,9 +62,9 @@ module _ {P : Type 0} {g : Ghosts P} where
     pub next : IsPrefix (waiting_by slot old.inboxes.items) (entry.want ∷ waiting_by slot new.inboxes.items)
 
   abbrev pub TakeAnswers : Take → ℕ → Sequencer P g → Sequencer P g → Type 0
-  TakeAnswers (Taken verdict) slot old new = (length (open_of old) < 256) × Takes slot verdict old new
+  TakeAnswers (Taken verdict) slot old new = (length (open_of old) < most_entries) × Takes slot verdict old new
   TakeAnswers Empty slot old new = (open_of new ≡ open_of old) × ((s : ℕ) → taken_by s new.inboxes.items ≡ taken_by s old.inboxes.items) × ((s : ℕ) → waiting_by s new.inboxes.items ≡ waiting_by s old.inboxes.items) × (waiting_by slot old.inboxes.items ≡ [])
-  TakeAnswers BatchFull slot old new = Unchanged old new × (length (open_of old) ≡ 256)
+  TakeAnswers BatchFull slot old new = Unchanged old new × (length (open_of old) ≡ most_entries)
 
   -- the open batch was sealed, and an empty one is open
   pub record Seals (old new : Sequencer P g) : Type 0 where

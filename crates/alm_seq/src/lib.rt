@@ -1,5 +1,11 @@
 //! Accepts requests, and numbers them.
 //!
+//! ```text
+//! let mut sequencer = Sequencer::new(plant, inboxes, ends);
+//! let took = sequencer.take(slot);
+//! let sealed = sequencer.seal();
+//! ```
+//!
 //! The sequencer's thread takes requests from all slots, in whatever order it likes, and judges each on the live plant: that
 //! order is the one history of the server. Judged requests gather in the open batch; sealed batches go to the flusher.
 //!

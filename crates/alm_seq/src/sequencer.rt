@@ -8,17 +8,15 @@ ghost use Rattle.alm_rings.specs.declared.inbox.Inbox.{Inbox};
 ghost use Rattle.alm_rings.specs.Batches.{SameSealEnds, emptied_of, empties_in, places_of, sealed_of};
 ghost use Rattle.alm_seq.specs.Spares.{spares};
 ghost use Rattle.alm_rings.specs.Placed.{taken_by};
+ghost use Rattle.alm_types.specs.Sizes.{most_actions, most_entries, most_out};
 
 use crate::seal::Seal;
 use crate::take::Take;
 use alm_model::{Alarms, judge};
 use alm_rings::{Console, Inbox, SealEnds, Told, requests_beside};
-use alm_types::{Action, Batch, Entry, Request, Slot, Verdict};
+use alm_types::{Action, Batch, Entry, Request, SLOTS, Slot, Verdict};
 use std::mem::replace;
 use std::snapshot::Snapshot;
-
-/// How many slots there are.
-const SLOTS: usize = 18;
 
 /// Takes requests from the slots, judges each on the live plant, and seals them in batches.
 #[derive(Drop)]
@@ -46,7 +44,7 @@ pub struct Sequencer<P: Alarms + Drop> {
         range_with_len 1 (length (taken_by s inboxes.items)) },
     pub ghost live: { P.plant plant ≡
         run (P.plant base.value) (accepted_of (entries_in (sealed_of ends) ++ batch.entries)) },
-    pub ghost most: { (P.plant plant).panel.count ≤ 2 ^ 48 },
+    pub ghost most: { (P.plant plant).panel.count ≤ most_actions },
     /// Each sealed batch begins behind the accepted actions of those before it.
     pub ghost firsts: { firsts_of (sealed_of ends) ≡
         firsts_from ((P.plant base.value).panel.count + 1) (sealed_of ends) },
@@ -87,12 +85,12 @@ fn judge_into<P: Alarms>(
     serial: u64,
     want: Action,
 ) -> Verdict
-    requires { length batch.old.entries < 256 }
+    requires { length batch.old.entries < most_entries }
     ensures verdict { result ≡
         verdict_of (P.plant plant.old) (record { slot = slot; want = want }) }
     ensures after { P.plant plant.new ≡ after_verdict (P.plant plant.old) result }
-    ensures most { (P.plant plant.old).panel.count ≤ 2 ^ 48 →
-        (P.plant plant.new).panel.count ≤ 2 ^ 48 }
+    ensures most { (P.plant plant.old).panel.count ≤ most_actions →
+        (P.plant plant.new).panel.count ≤ most_actions }
     ensures first { batch.new.first ≡ batch.old.first }
     ensures entries { batch.new.entries ≡
         batch.old.entries ++
@@ -130,7 +128,7 @@ impl<P: Alarms + Drop> Sequencer<P> {
         requires taken { (s : ℕ) → taken_by s inboxes.items ≡ [] }
         requires sealed { sealed_of ends ≡ [] }
         requires empties { 0 < length (empties_in ends) }
-        requires count { (P.plant plant).panel.count ≤ 2 ^ 48 }
+        requires count { (P.plant plant).panel.count ≤ most_actions }
         ensures inboxes { result.inboxes ≡ inboxes }
         ensures ends { SameSealEnds ends result.ends × (sealed_of result.ends ≡ []) ×
             (length (emptied_of result.ends) ≡ length (emptied_of ends) + 1) }
@@ -235,8 +233,8 @@ impl<P: Alarms + Drop> Sequencer<P> {
         ensures requests { taken_by slot self.new.inboxes.items ++
             waiting_by slot self.new.inboxes.items ≡ sent_of console.new }
         ensures serials { length (sent_of console.new) < 2 ^ 64 }
-        ensures few { length (sent_of console.new) ≤ 64 + length (received_of console.new) }
-        ensures room { 64 + length (taken_by slot self.new.inboxes.items) ≤
+        ensures few { length (sent_of console.new) ≤ most_out + length (received_of console.new) }
+        ensures room { most_out + length (taken_by slot self.new.inboxes.items) ≤
             room_of console.new + length (sent_of console.new) }
     {
         let place = self.place(slot);

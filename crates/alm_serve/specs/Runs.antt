@@ -11,10 +11,11 @@ use Rattle.alm_threads.specs.Answered.{AllAnswered}
 use Rattle.alm_threads.specs.Runs.{IsRun}
 use Rattle.alm_serve.specs.declared.serve_fault.ServeFault.{ServeFault}
 use Rattle.alm_serve.specs.declared.serve_fault.ServeFault.TheVariants.{Open, Storage}
+use Rattle.alm_types.specs.Sizes.{slot_count}
 
 -- the 18 slots, in their order
 pub record AreAllSlots (slots : List ℕ) : Type 0 where
-  pub count : length slots ≡ 18
+  pub count : length slots ≡ slot_count
   pub order : (k s : ℕ) → slice_get slots k ≡ Some s → s ≡ k
 
 -- the store goes on, and all that was sent was taken and answered

@@ -1,5 +1,11 @@
 //! The server: the running parts behind the slots' ports.
 //!
+//! ```text
+//! let disk = FileDisk::open(rt, "plant.device")?;
+//! let all_connections = 0;
+//! let count = serve_run(rt, alloc, disk, 5000, all_connections, &mut stdout)?;
+//! ```
+//!
 //! | step of [`serve_run`] | where it fails | what is written by then |
 //! |---|---|---|
 //! | opens the device | `Open` with the fault | nothing |

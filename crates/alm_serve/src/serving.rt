@@ -1,11 +1,12 @@
 //! Serves the slots of a device.
 
-ghost use Rattle.std.specs.Prelude.{◌≡◌, ◌≢◌, ◌≤◌, ◌<◌, ◌^◌, length, map, IfOk, IfErr, Some, None};
+ghost use Rattle.std.specs.Prelude.{◌≡◌, ◌≢◌, ◌≤◌, ◌<◌, length, map, IfOk, IfErr, Some, None};
 ghost use Rattle.alm_lines.specs.Written.{Prints};
 ghost use Rattle.alm_rings.specs.Placed.{AreApart};
 ghost use Rattle.alm_keeper.specs.AsStore.{StandsFor};
 ghost use Rattle.alm_serve.specs.Runs.{AreAllSlots, ServeEnds, Tells};
 ghost use Rattle.alm_serve.specs.Serving.{serving_line, stopped_line, ServeWrites};
+ghost use Rattle.alm_types.specs.Sizes.{most_actions, slot_count};
 
 use crate::serve_fault::ServeFault;
 use alm_disk::{Disk, Free};
@@ -18,7 +19,7 @@ use alm_run::StartFault;
 use alm_shared::{Front, Naming, NewHistory, SharedBoard, SharedLook};
 use alm_store::Store;
 use alm_threads::{Parts, Storage, WatchedLook, parts_of, run_with_bells};
-use alm_types::Slot;
+use alm_types::{SLOTS, Slot};
 use std::alloc::{AllocError, Global};
 use std::io;
 use std::marker::Brand;
@@ -57,11 +58,11 @@ fn print_stopped<W: io::Write>(count: u64, writer: &mut W) -> io::Result<()>
 
 /// All slots, in their order.
 fn all_slots(alloc: Global) -> Result<Vec<Slot>, AllocError>
-    ensures count { IfOk result (λ slots. length slots.items ≡ 18) }
+    ensures count { IfOk result (λ slots. length slots.items ≡ slot_count) }
     ensures apart { IfOk result (λ slots. AreApart (λ s. s) slots.items) }
     ensures order { IfOk result (λ slots. AreAllSlots slots.items) }
 {
-    let mut slots = Vec::with_capacity(alloc, 18)?;
+    let mut slots = Vec::with_capacity(alloc, SLOTS)?;
     for number in 0..18_u8 {
         match Slot::new(number) {
             Some(slot) => slots.push_reserved(slot),
@@ -111,7 +112,7 @@ fn run_behind<J: Naming + Send + Sync, K: Store, R: Threads + Wait + Clock + Syn
     requires book { history.seen.book ≡ J.book }
     requires base { (K.state store).stored ≡ J.base }
     requires idle { (K.state store).phase ≡ Phase.Idle }
-    requires limit { (K.state store).stored.panel.count ≤ 2 ^ 48 }
+    requires limit { (K.state store).stored.panel.count ≤ most_actions }
     requires slots { AreAllSlots slots.items }
     requires apart { AreApart (λ s. s) slots.items }
     requires ports { map (λ port. port.slot) ports.ports.items ≡ slots.items }
@@ -143,7 +144,7 @@ fn serve_over<
     requires book { history.seen.book ≡ J.book }
     requires base { (K.state store).stored ≡ J.base }
     requires idle { (K.state store).phase ≡ Phase.Idle }
-    requires limit { (K.state store).stored.panel.count ≤ 2 ^ 48 }
+    requires limit { (K.state store).stored.panel.count ≤ most_actions }
     requires port { port ≤ 65518 }
     ensures writes { ServeWrites port (W.contents writer.old) (W.contents writer.new) result }
     ensures ran { IfOk result

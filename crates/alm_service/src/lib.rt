@@ -1,5 +1,11 @@
 //! What the program runs: the worked table, the desk over a reader and a writer, and what is shown of a plant.
 //!
+//! ```text
+//! let mut desk = desk_of::<Plant>(alloc, &worked_table(alloc)?)?;
+//! desk_run(&mut CountedReader::new(stdin), &mut writer, &mut desk)?;
+//! show_plant(&plant, epoch, &mut answer, &mut writer)?;
+//! ```
+//!
 //! A line of the desk is a slot (0 to 17), one space and a request line; its reply stands after the slot and a space. A line
 //! of more than 131 bytes with its LF prints `? NO 14`, another that doesn't begin so `? NO 13`. Bytes after the last LF
 //! are dropped.

@@ -19,6 +19,7 @@ use Rattle.alm_desk.specs.declared.hindrance.Hindrance.{Hindrance}
 use Rattle.alm_desk.specs.declared.hindrance.Hindrance.TheVariants.{Nothing}
 use Rattle.alm_board.specs.Fronts.{IsFront}
 use Rattle.alm_session.specs.Intakes.{Held, lines_from, lines_in, open_in}
+use Rattle.alm_session.specs.Outputs.{output_limit}
 
 -- what looks were made: by the query, and what it gave
 abbrev pub Looks : Type 1
@@ -111,7 +112,7 @@ KnowsNext looks base known (acted id heard) next = IsFront known next × IsFront
 KnowsNext looks base known (told id asked list) next = looks asked (Ok (run base list).panel.count) × IsFront known list × (next ≡ list)
 KnowsNext looks base known (denied id asked list hindrance) next = ((why : Refusal) × looks asked (Err why)) × IsFront known list × (next ≡ known)
 KnowsNext looks base known (cramped id asked list) next =
-    looks asked (Ok (run base list).panel.count) × IsFront known list × (next ≡ list) × (131072 < length (look_reply (run base list) id asked Nothing))
+    looks asked (Ok (run base list).panel.count) × IsFront known list × (next ≡ list) × (output_limit < length (look_reply (run base list) id asked Nothing))
 KnowsNext looks base known (gone id asked) next = looks asked (Err refusal.Stopped) × (next ≡ known)
 KnowsNext looks base known (bad id refusal) next = next ≡ known
 KnowsNext looks base known (stray heard) next = IsFront known next × IsFront heard.list next

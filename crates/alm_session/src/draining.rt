@@ -4,6 +4,7 @@ ghost use Rattle.std.specs.Prelude.{◌≡◌, ◌↔◌, ◌≤◌, ◌+◌, �
 ghost use Rattle.alm_rings.specs.Ends.{SameConsole, sent_of, received_of, coming_to};
 ghost use Rattle.alm_session.specs.Draining.{IsDrained};
 ghost use Rattle.alm_session.specs.Sides.{heard_by, IsQuiet};
+ghost use Rattle.alm_types.specs.Sizes.{most_out};
 
 use alm_board::FreeLook;
 use alm_rings::{Console, Told};
@@ -37,7 +38,7 @@ pub fn drain<T: Told + Drop, L: FreeLook<Told = T>>(console: &mut Console<T>, lo
     ensures drained { IsDrained (L.Look.base look.old) (L.Look.knows look.old)
         (heard_by console.old) (L.Look.knows look.new) (heard_by console.new) }
     ensures all { IsQuiet console.new ⊎
-        (length (received_of console.old) + 64 ≤ length (received_of console.new)) }
+        (length (received_of console.old) + most_out ≤ length (received_of console.new)) }
     ensures settled { IsTrue result ↔
         (length (sent_of console.new) ≤ length (received_of console.new)) }
 {

@@ -3,6 +3,7 @@
 ghost use Rattle.std.specs.Prelude.{◌≡◌, ◌+◌, ◌≤◌, length, take, drop, option_map};
 ghost use Rattle.alm_lines.specs.Stream.{held_behind, bytes_used, line_ended};
 ghost use Rattle.alm_lines.specs.Line.{line_of};
+ghost use Rattle.alm_session.specs.Intakes.{piece_len};
 
 use crate::wire::{ReadGave, Wire};
 use alm_lines::{Decoder, Line};
@@ -15,7 +16,7 @@ const PIECE: usize = 4096;
 #[derive(Drop)]
 pub struct Intake {
     decoder: Decoder,
-    bytes: [u8; 4096],
+    bytes: [u8; PIECE],
     at: usize,
     end: usize,
     line: Option<Line>,
@@ -23,14 +24,14 @@ pub struct Intake {
 
 impl Model for Intake {
     ghost use Rattle.std.specs.Prelude.{◌≤◌, take, drop};
-    ghost use Rattle.alm_session.specs.Intakes.{Held};
+    ghost use Rattle.alm_session.specs.Intakes.{Held, piece_len};
 
     ghost Value = { Held };
 
     ghost view = { λ i.
         record { line = i.line; held = i.decoder; rest = drop i.at (take i.end i.bytes) } };
 
-    ghost invariant = { λ i. (i.at ≤ i.end) × (i.end ≤ 4096) };
+    ghost invariant = { λ i. (i.at ≤ i.end) × (i.end ≤ piece_len) };
 }
 
 /// Feeds a part of the bytes, up to the first line end.
@@ -92,7 +93,7 @@ impl Intake {
     /// Reads once, where nothing is left to take up.
     pub fn read<W: Wire>(&mut self, wire: &mut W) -> ReadGave
         requires { self.old.rest ≡ [] }
-        ensures counts { ReadCounts result 4096 (W.counts wire.old) (W.counts wire.new) }
+        ensures counts { ReadCounts result piece_len (W.counts wire.old) (W.counts wire.new) }
         ensures bytes { Reads result self.old self.new (W.coming wire.old) (W.coming wire.new) }
         ensures written { W.written wire.new ≡ W.written wire.old }
     {

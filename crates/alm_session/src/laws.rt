@@ -8,6 +8,8 @@ ghost use Rattle.alm_desk.specs.Answers.{look_reply};
 ghost use Rattle.alm_desk.specs.declared.hindrance.Hindrance.TheVariants.{Nothing};
 ghost use Rattle.alm_session.specs.Ended.{IsNew, IsFinished, IsAnswered};
 ghost use Rattle.alm_session.specs.Turns.{IsTurn, Side, between, looks_of};
+ghost use Rattle.alm_types.specs.Sizes.{most_actions};
+ghost use Rattle.alm_session.specs.Outputs.{output_limit};
 
 use alm_board::Look;
 
@@ -27,6 +29,7 @@ pub fn turns_answer_all_lines<L: Look>()
 /// Of a plant that keeps its rules, and so has 16,384 alarms at most, no reply to a query is longer than the room for replies: such a
 /// query is never refused for its length.
 pub fn replies_have_room()
-    ensures { (q : Condensed) (id : ℕ) (query : Query) → KeepsRules q → q.panel.count ≤ 2 ^ 48 →
-        id < 2 ^ 32 → length (look_reply q id query Nothing) ≤ 131072 }
+    ensures { (q : Condensed) (id : ℕ) (query : Query) → KeepsRules q →
+        q.panel.count ≤ most_actions →
+        id < 2 ^ 32 → length (look_reply q id query Nothing) ≤ output_limit }
 {}

@@ -1,5 +1,11 @@
 //! One slot's connection over a wire that never waits.
 //!
+//! ```text
+//! let mut session = Session::new(alloc)?;
+//! let turn = session.turn(&mut wire, &mut console, &mut look);
+//! let all = drain(&mut console, &mut look);
+//! ```
+//!
 //! A [`Session`] does in one turn the first of these that can be done without waiting:
 //!
 //! | step | where | the turn |

@@ -2,6 +2,7 @@
 
 ghost use Rattle.std.specs.Prelude.{◌≡◌, ◌+◌, ◌≤◌, ◌++◌, [], length, vec_len, vec_capacity, OnErr, OnOk, is_ok, decimal, codes, IfOk};
 ghost use Rattle.alm_lines.specs.Reply.{ok_text, no_text};
+ghost use Rattle.alm_session.specs.Outputs.{output_limit, reply_limit};
 
 use crate::told::put_told;
 use crate::wire::{Wire, WriteTook};
@@ -10,7 +11,7 @@ use std::alloc::{AllocError, Global};
 use std::marker::Model;
 
 /// The places of the buffer: the longest list of alarms goes in.
-const ROOM: usize = 131_072;
+const OUTPUT_ROOM: usize = 131_072;
 
 /// Replies that aren't written yet.
 #[derive(Drop)]
@@ -21,13 +22,13 @@ pub struct Output {
 
 impl Model for Output {
     ghost use Rattle.std.specs.Prelude.{◌≤◌, drop, vec_len, vec_capacity};
-    ghost use Rattle.alm_session.specs.Outputs.{Left};
+    ghost use Rattle.alm_session.specs.Outputs.{Left, output_limit};
 
     ghost Value = { Left };
 
     ghost view = { λ o. record { left = drop o.written o.text.items; used = vec_len o.text } };
 
-    ghost invariant = { λ o. (o.written ≤ vec_len o.text) × (131072 ≤ vec_capacity o.text) };
+    ghost invariant = { λ o. (o.written ≤ vec_len o.text) × (output_limit ≤ vec_capacity o.text) };
 }
 
 /// What became of a write.
@@ -55,10 +56,10 @@ fn put(text: &mut Vec<u8>, bytes: &[u8])
 /// Puts an id, a word and a number, where there is room for 64 bytes.
 fn put_line(text: &mut Vec<u8>, id: u32, word: &str, number: u64)
     requires word { length word.now ≡ 4 }
-    requires room { vec_len text.old + 64 ≤ vec_capacity text.old }
+    requires room { vec_len text.old + reply_limit ≤ vec_capacity text.old }
     ensures items { text.new.items ≡
         text.old.items ++ decimal id ++ word.now ++ decimal number ++ codes "\n" }
-    ensures len { vec_len text.new ≤ vec_len text.old + 64 }
+    ensures len { vec_len text.new ≤ vec_len text.old + reply_limit }
     ensures kept { vec_capacity text.old ≤ vec_capacity text.new }
 {
     put(text, itoa::Buffer::new().format(id).as_bytes());
@@ -80,7 +81,7 @@ impl Output {
         ensures { IfOk result (λ o. o ≡ record { left = []; used = 0 }) }
     {
         Ok(Output {
-            text: Vec::with_capacity(alloc, ROOM)?,
+            text: Vec::with_capacity(alloc, OUTPUT_ROOM)?,
             written: 0,
         })
     }
@@ -95,18 +96,18 @@ impl Output {
 
     /// Prints that an action was accepted.
     pub fn ok(&mut self, id: u32, number: u64)
-        requires { self.old.used + 64 ≤ 131072 }
+        requires { self.old.used + reply_limit ≤ output_limit }
         ensures text { self.new.left ≡ self.old.left ++ ok_text id number }
-        ensures used { self.new.used ≤ self.old.used + 64 }
+        ensures used { self.new.used ≤ self.old.used + reply_limit }
     {
         put_line(&mut self.text, id, " OK ", number);
     }
 
     /// Prints a refusal.
     pub fn no(&mut self, id: u32, refusal: Refusal)
-        requires { self.old.used + 64 ≤ 131072 }
+        requires { self.old.used + reply_limit ≤ output_limit }
         ensures text { self.new.left ≡ self.old.left ++ no_text id refusal }
-        ensures used { self.new.used ≤ self.old.used + 64 }
+        ensures used { self.new.used ≤ self.old.used + reply_limit }
     {
         put_line(&mut self.text, id, " NO ", u64::from(refusal.number()));
     }
@@ -118,12 +119,12 @@ impl Output {
             self.new.left ≡ told_text id n query (report query answer.now) }
         ensures unprinted { result ≡ false →
             (self.new.left ≡ []) × (self.new.used ≡ 0) ×
-            (131072 < length (told_text id n query (report query answer.now))) }
-        ensures used { self.new.used ≤ 131072 }
+            (output_limit < length (told_text id n query (report query answer.now))) }
+        ensures used { self.new.used ≤ output_limit }
     {
         let printed = put_told(&mut self.text, id, n, query, answer).is_ok();
         self.written = 0;
-        if printed && self.text.len() <= ROOM {
+        if printed && self.text.len() <= OUTPUT_ROOM {
             return true;
         }
         self.text.clear();

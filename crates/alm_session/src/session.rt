@@ -2,6 +2,7 @@
 
 ghost use Rattle.std.specs.Prelude.{◌≡◌, ◌+◌, ◌*◌, ◌≤◌, length};
 ghost use Rattle.arrayvec.specs.ArrayVec.{array_vec_len};
+ghost use Rattle.alm_session.specs.Outputs.{output_limit, reply_limit};
 
 use crate::intake::Intake;
 use crate::output::{Output, Sent};
@@ -9,7 +10,7 @@ use crate::turn::Turn;
 use crate::wire::{ReadGave, Wire};
 use alm_board::{FreeLook, Look};
 use alm_lines::{Ask, Line};
-use alm_rings::{Busy, Console, Told};
+use alm_rings::{Busy, Console, MOST_OUT, Told};
 use alm_types::{Action, Answer, Query, Refusal, Verdict};
 use arrayvec::ArrayVec;
 use std::alloc::{AllocError, Global};
@@ -19,10 +20,10 @@ use std::alloc::{AllocError, Global};
 pub struct Session {
     intake: Intake,
     /// The ids of the actions that are unanswered, oldest first.
-    waiting: ArrayVec<u32, 64>,
+    waiting: ArrayVec<u32, MOST_OUT>,
     output: Output,
     answer: Answer,
-    ghost room: { output.used + 64 * array_vec_len waiting ≤ 131072 },
+    ghost room: { output.used + reply_limit * array_vec_len waiting ≤ output_limit },
 }
 
 impl Session {

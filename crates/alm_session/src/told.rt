@@ -3,24 +3,11 @@
 ghost use Rattle.std.specs.Prelude.{◌≡◌, ◌≤◌, ◌<◌, ◌+◌, ◌++◌, OnOk, OnErr, length, take, vec_capacity, vec_len, decimal, codes};
 ghost use mathlib.Core.List.{IsPrefix};
 ghost use Rattle.alm_types.specs.Reports.{report, alarms};
-ghost use Rattle.alm_lines.specs.Reply.{query_word, told_text, report_text, with_spaces};
+ghost use Rattle.alm_lines.specs.Reply.{told_text, report_text, with_spaces};
 
-use alm_lines::{letters, shown_word};
+use alm_lines::{letters, query_word, shown_word};
 use alm_types::{Answer, Query};
 use std::alloc::AllocError;
-
-/// The word of a reply, between spaces.
-fn query_word(query: Query) -> &'static str
-    ensures { result.now ≡ query_word query }
-{
-    match query {
-        Query::State(_) => " STATE ",
-        Query::Priority(_) | Query::Area(_) | Query::Wheel(_) => " LIST ",
-        Query::Flood(_) => " FLOOD ",
-        Query::Stale => " STALE ",
-        Query::Chatter => " CHATTER ",
-    }
-}
 
 /// Puts a number.
 fn put_number(text: &mut Vec<u8>, number: u64) -> Result<(), AllocError>

@@ -1,8 +1,9 @@
 //! A beginning of a run's history.
-ghost use Rattle.std.specs.Prelude.{◌≡◌, ◌+◌, ◌-◌, ◌≤◌, ◌^◌, ◌++◌, ◌∷◌, ◌⊎◌, ◌↔◌, [], length, MatchBool, IsTrue, Some, None, slice_get};
+ghost use Rattle.std.specs.Prelude.{◌≡◌, ◌+◌, ◌-◌, ◌≤◌, ◌++◌, ◌∷◌, ◌⊎◌, ◌↔◌, [], length, MatchBool, IsTrue, Some, None, slice_get};
 ghost use mathlib.Core.List.{IsPrefix};
 ghost use Rattle.alm_model.specs.Accept.{refusal};
 ghost use Rattle.alm_model.specs.Step.{run};
+ghost use Rattle.alm_types.specs.Sizes.{most_actions};
 
 use crate::add::Add;
 use crate::head::Head;
@@ -10,12 +11,9 @@ use crate::law::Law;
 use crate::naming::Naming;
 use crate::nothing::Nothing;
 use alm_rings::Told;
-use alm_types::Action;
+use alm_types::{Action, MOST_ACTIONS};
 use logbook::{Offer, Seen};
 use std::marker::{Model, PhantomData};
-
-// What no history's length is above.
-const LONGEST: u64 = 1 << 48;
 
 /// A beginning of a run's history, as long as it was seen: eight bytes, however long. Each action is admitted where it comes. Contracts see
 /// it as its actions.
@@ -27,16 +25,17 @@ pub struct Front<J: Naming> {
 }
 
 impl<J: Naming> Model for Front<J> {
-    ghost use Rattle.std.specs.Prelude.{◌≡◌, ◌≤◌, ◌^◌, List, length};
+    ghost use Rattle.std.specs.Prelude.{◌≡◌, ◌≤◌, List, length};
     ghost use Rattle.alm_types.specs.declared.action.Action.{Action};
     ghost use Rattle.alm_model.specs.Rules.{AllAdmitted};
+    ghost use Rattle.alm_types.specs.Sizes.{most_actions};
 
     ghost Value = { List Action };
 
     ghost view = { λ f. f.seen.log };
 
     ghost invariant = { λ f.
-        (f.len ≡ length f.seen.log) × (f.len ≤ 2 ^ 48) × (f.seen.book ≡ J.book) ×
+        (f.len ≡ length f.seen.log) × (f.len ≤ most_actions) × (f.seen.book ≡ J.book) ×
         AllAdmitted J.base f.seen.log };
 }
 
@@ -65,7 +64,7 @@ impl<J: Naming> Front<J> {
     /// How many actions it holds.
     pub fn len(&self) -> u64
         ensures length { result ≡ length self.now }
-        ensures most { result ≤ 2 ^ 48 }
+        ensures most { result ≤ most_actions }
         ensures admitted { AllAdmitted J.base self.now }
     {
         self.len
@@ -115,7 +114,7 @@ impl<J: Naming> Front<J> {
         ensures { MatchBool result (self.new ≡ self.old ++ action ∷ []) (self.new ≡ self.old) }
     {
         let len = self.len;
-        if len >= LONGEST {
+        if len >= MOST_ACTIONS {
             return false;
         }
         let mut seen = self.seen.again();

@@ -1,5 +1,11 @@
 //! The published plant, which threads share.
 //!
+//! ```text
+//! let (mut board, looks) = open_board(rt, alloc, history, plant, slots)?;
+//! board.publish(rt, &batch)?; look.learn(receipt);
+//! let count = look.look(query, &mut answer)?;
+//! ```
+//!
 //! One thread shows batches, and each slot looks at what is shown, without a lock. The plant is shown with the list of the actions
 //! that it comes from.
 //!

@@ -9,7 +9,7 @@ ghost use Rattle.alm_model.specs.Judging.{accepted_of, verdict_of};
 ghost use Rattle.alm_disk.specs.Failures.{HasFailed};
 ghost use Rattle.alm_desk.specs.Answers.{request};
 ghost use Rattle.alm_desk.specs.Backends.{judged_on, if_accepted};
-ghost use Rattle.alm_store.specs.Pace.{most_actions};
+ghost use Rattle.alm_types.specs.Sizes.{most_entries};
 ghost use Rattle.alm_pipeline.specs.declared.step.Step.TheVariants as S;
 ghost use Rattle.alm_pipeline.specs.declared.event.Event.TheVariants as E;
 ghost use Rattle.alm_pipeline.specs.World.{World, Held, after_step, live, closed_world};
@@ -69,19 +69,19 @@ fn commit<K: Store>(pipeline: &mut Pipeline<K>) -> bool
     ensures count { K.Device.failures (K.disk pipeline.old.flusher.store) ≤
         K.Device.failures (K.disk pipeline.new.flusher.store) }
     ensures done { IsTrue result → (w : World) (entries : List Entry) → IsOpen w pipeline.old →
-        w.stage ≡ Held entries → length (accepted_of entries) ≤ most_actions →
+        w.stage ≡ Held entries → length (accepted_of entries) ≤ most_entries →
         IsOpen (after_step w S.Call E.Committed) pipeline.new ×
         ((n : ℕ) ×
         IsWay w (calls n ++ (S.Call ∷ [])) (went_on n ++ (E.Committed ∷ []))
         (after_step w S.Call E.Committed) pipeline.old pipeline.new) }
     ensures failed { result ≡ false → (w : World) (entries : List Entry) → IsOpen w pipeline.old →
-        w.stage ≡ Held entries → length (accepted_of entries) ≤ most_actions →
+        w.stage ≡ Held entries → length (accepted_of entries) ≤ most_entries →
         Fits w pipeline.new ×
         ((n : ℕ) ×
         IsWay w (calls n ++ (S.Call ∷ [])) (went_on n ++ (E.Failed ∷ [])) (closed_world w)
         pipeline.old pipeline.new) }
     ensures cause { result ≡ false → (w : World) (entries : List Entry) → IsOpen w pipeline.old →
-        w.stage ≡ Held entries → length (accepted_of entries) ≤ most_actions →
+        w.stage ≡ Held entries → length (accepted_of entries) ≤ most_entries →
         ¬ (K.exhausted pipeline.new.flusher.store) →
         HasFailed (K.Device.failures (K.disk pipeline.old.flusher.store))
         (K.Device.failures (K.disk pipeline.new.flusher.store)) }

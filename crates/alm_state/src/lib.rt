@@ -1,5 +1,11 @@
 //! One alarm: when its condition comes and goes, the table of its core states, and what becomes of it under each action.
 //!
+//! ```text
+//! let happening = detect(&attr, row.active, reading);
+//! let refused = row_refusal(&action, &attr, &row);
+//! let outcome = outcome_of(now, stamp, &action, &attr, &row);
+//! ```
+//!
 //! The states and their names follow the alarm state model of ANSI/ISA-18.2 and IEC 62682: normal, unacknowledged,
 //! acknowledged, returned to normal unacknowledged, the latched variants, and shelved, suppressed by design and out of
 //! service. That a latching alarm, once acknowledged and gone, stays annunciated until it is reset, and all figures, are

@@ -18,10 +18,7 @@ largest = 3289168
 abbrev pub least_segment : ℕ
 least_segment = 452651
 
--- the most actions of a batch, and the most device calls of a work
-abbrev pub most_actions : ℕ
-most_actions = 256
-
+-- the most device calls of a work
 abbrev pub most_calls : ℕ
 most_calls = 320
 

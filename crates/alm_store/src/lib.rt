@@ -1,5 +1,11 @@
 //! A store of actions over a device, as the flusher and all above it see one.
 //!
+//! ```text
+//! let mut store = K::open(alloc, device)?;
+//! store.begin(&batch)?;
+//! while let Progress::More = store.advance() {}
+//! ```
+//!
 //! A [`Store`] commits batches and makes checkpoints, one device call at a time: which plant is stored, which one is when the work
 //! that is under way is done, and what its device may hold at any moment. The keeper is one; whatever stands on this crate alone is
 //! proved of every other as well.

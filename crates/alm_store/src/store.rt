@@ -1,5 +1,7 @@
 //! A store of actions over a device, one device call at a time.
 
+ghost use Rattle.alm_types.specs.Sizes.{most_actions};
+
 use crate::open_fault::OpenFault;
 use crate::phase::Phase;
 use crate::progress::Progress;
@@ -11,7 +13,7 @@ use std::alloc::Global;
 
 /// A store of actions over a device.
 pub trait Store: Drop {
-    ghost use Rattle.std.specs.Prelude.{◌≡◌, ◌≢◌, ◌⊎◌, ◌↔◌, ◌<◌, ◌≤◌, ◌+◌, ◌*◌, ◌^◌, ℕ, true, false, List, length, None, IsSome, IsOk, IfOk, IfErr, OnOk, OnErr, IsTrue};
+    ghost use Rattle.std.specs.Prelude.{◌≡◌, ◌≢◌, ◌⊎◌, ◌↔◌, ◌<◌, ◌≤◌, ◌+◌, ◌*◌, ℕ, true, false, List, length, None, IsSome, IsOk, IfOk, IfErr, OnOk, OnErr, IsTrue};
     ghost use Rattle.alm_types.specs.declared.action.Action.{Action};
     ghost use Rattle.alm_disk.specs.Device.{DeviceState, AreBytes, IsImage};
     ghost use Rattle.alm_disk.specs.Failures.{HasFailed};
@@ -22,7 +24,8 @@ pub trait Store: Drop {
     ghost use Rattle.alm_store.specs.Advancing.{Advanced, CommitIsBegun, KeepsStored, CommitIsNotBegun, CheckpointIsNotOpened, IsOpen, IsResting, CheckpointIsOpened, TakesOn};
     ghost use Rattle.alm_store.specs.Calls.{CountsFailures, IsCall, MakesOne, OpensBy};
     ghost use Rattle.alm_store.specs.Opening.{HasCause};
-    ghost use Rattle.alm_store.specs.Pace.{most_actions, most_calls};
+    ghost use Rattle.alm_store.specs.Pace.{most_calls};
+    ghost use Rattle.alm_types.specs.Sizes.{most_entries};
     ghost use Rattle.alm_store.specs.Pacing.{Goes, KeepsPace, SamePace, TakesAny};
     ghost use Rattle.alm_store.specs.State.{StoreState};
 
@@ -59,7 +62,7 @@ pub trait Store: Drop {
         ensures honest { IfOk result
             (λ store. Self.Device.honest from ↔ Self.Device.honest (disk store)) }
         ensures idle { IfOk result (λ store. (state store).phase ≡ Idle) }
-        ensures limit { IfOk result (λ store. (state store).stored.panel.count ≤ 2 ^ 48) }
+        ensures limit { IfOk result (λ store. (state store).stored.panel.count ≤ most_actions) }
         /// Where at most half of the segment is used the store keeps its pace.
         ensures pace { IfOk result
             (λ store. 2 * (state store).used ≤ (state store).segment → KeepsPace (state store)) }
@@ -165,7 +168,7 @@ pub trait Store: Drop {
         ensures begun { OnOk result (CheckpointIsOpened (state self.old) (state self.new)) }
         /// A checkpoint makes room for a whole batch.
         ensures room { OnOk result
-            ((actions : List Action) → length actions ≤ most_actions → will_take self.new actions) }
+            ((actions : List Action) → length actions ≤ most_entries → will_take self.new actions) }
         ensures cause { (state self.old).phase ≡ Idle → ¬ (exhausted self.old) → IsOk result };
 
     /// One device call of the work that was begun.
@@ -202,7 +205,7 @@ pub trait Store: Drop {
 
     /// Where there is room for the longest frame any batch is taken by a half of the newest version.
     ghost fits: { (store : Self) (actions : List Action) → newest store →
-        length actions ≤ most_actions → TakesAny (state store) → takes store actions };
+        length actions ≤ most_entries → TakesAny (state store) → takes store actions };
 
     /// No bytes stand for two plants.
     ghost one: { (b : List ℕ) (p q : Condensed) → recovers b p → recovers b q → p ≡ q };

@@ -7,6 +7,7 @@ use Rattle.alm_types.specs.Texts.{is_tag, is_text}
 use Rattle.alm_types.specs.declared.kind.Kind.{Kind}
 use Rattle.alm_types.specs.declared.kind.Kind.TheVariants.{High, Low, Discrete}
 use Rattle.alm_types.specs.declared.settings.Settings.{Settings}
+use Rattle.alm_types.specs.Sizes.{most_alarms, most_areas}
 
 -- what is wrong: a key of an alarm, or of the file itself, or the number of the alarms
 pub data Misfit : Type 0 where
@@ -113,7 +114,7 @@ count no_items = 0
 count (item d ds) = suc (count ds)
 
 abbrev pub in_number : Items → Result Items Misfit
-in_number ds = if nat_le 1 (count ds) && nat_le (count ds) 16384 then Ok ds else Err rows
+in_number ds = if nat_le 1 (count ds) && nat_le (count ds) most_alarms then Ok ds else Err rows
 
 -- what a file says
 pub record DeviceTable : Type 0 where
@@ -125,7 +126,7 @@ abbrev pub read_file : Members → Result DeviceTable Misfit
 read_file ms =
     and_then (if_known None ms) (λ _.
     and_then (field None ms (codes "size") None (natural 1 1099511627776)) (λ size.
-    and_then (field None ms (codes "areas") None (natural 1 64)) (λ areas.
+    and_then (field None ms (codes "areas") None (natural 1 most_areas)) (λ areas.
     and_then (field None ms (codes "alarm") None tables) (λ ds.
     and_then (in_number ds) (λ _.
     and_then (read_alarms 0 areas ds) (λ alarms.

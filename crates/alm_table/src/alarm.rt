@@ -4,6 +4,7 @@ ghost use Rattle.std.specs.Prelude.{◌≡◌, ◌≤◌, ◌<◌, Ok, IfOk, IfE
 ghost use Rattle.toml.specs.View.{table_view};
 ghost use Rattle.alm_table.specs.TableFile.{read_alarm};
 ghost use Rattle.alm_table.specs.Faults.{IsFaultIn, element_of};
+ghost use Rattle.alm_types.specs.Sizes.{most_areas};
 
 use crate::load_fault::LoadFault;
 use crate::section::Section;
@@ -13,7 +14,7 @@ use toml::Table;
 
 /// The alarm of a number in a plant with so many areas.
 pub fn alarm_of(alloc: Global, table: &Table, number: u32, areas: u8) -> Result<Attr, LoadFault>
-    requires { (1 ≤ areas) × (areas ≤ 64) }
+    requires { (1 ≤ areas) × (areas ≤ most_areas) }
     ensures ok { IfOk result
         (λ a. read_alarm number areas (table_view table.now) ≡ Ok (element_of a)) }
     ensures area { IfOk result (λ a. a.area < areas) }

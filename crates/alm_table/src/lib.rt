@@ -1,5 +1,11 @@
 //! Table files: TOML texts that list the alarms of a plant and the size of its device.
 //!
+//! ```text
+//! let text = fs::read("plant.toml")?;
+//! let (size, table) = table_of(alloc, &text)?;
+//! let alarms = table.alarms();
+//! ```
+//!
 //! The file has `size` (bytes of the device, 1 to 2^40), `areas` (1 to 64) and an array of tables `alarm`, 1 to 16,384 of
 //! them; an alarm's number is its place.
 //!

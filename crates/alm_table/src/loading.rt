@@ -5,11 +5,12 @@ ghost use Rattle.toml.specs.Data.{as_table};
 ghost use Rattle.toml.specs.View.{view, table_view, array_view};
 ghost use Rattle.alm_table.specs.TableFile.{read_alarm, read_alarms, read_file, are_tables, count, members_in};
 ghost use Rattle.alm_table.specs.Faults.{IsFaultIn, IsFaultOf, ReadsAs, element_of, device_table};
+ghost use Rattle.alm_types.specs.Sizes.{most_alarms, most_areas};
 
 use crate::alarm::alarm_of;
 use crate::load_fault::LoadFault;
 use crate::section::Section;
-use alm_types::{Attr, Table};
+use alm_types::{Attr, MOST_ALARMS, MOST_AREAS, Table};
 use std::alloc::Global;
 use toml::Value;
 use toml::value::Array;
@@ -17,7 +18,7 @@ use toml::value::Array;
 /// The alarm in an item.
 fn alarm_in(alloc: Global, value: &Value, number: u32, areas: u8) -> Result<Attr, LoadFault>
     requires table { IsSome (as_table (view value.now)) }
-    requires areas { (1 ≤ areas) × (areas ≤ 64) }
+    requires areas { (1 ≤ areas) × (areas ≤ most_areas) }
     ensures ok { IfOk result
         (λ a. read_alarm number areas (members_in (view value.now)) ≡ Ok (element_of a)) }
     ensures area { IfOk result (λ a. a.area < areas) }
@@ -34,16 +35,17 @@ fn alarm_in(alloc: Global, value: &Value, number: u32, areas: u8) -> Result<Attr
 #[tactic(auto, using(crate::proofs::Alarms::count_view))]
 fn in_number(array: &Array) -> bool
     ensures { result ≡
-        (nat_le 1 (count (array_view array.now)) && nat_le (count (array_view array.now)) 16384) }
+        (nat_le 1 (count (array_view array.now)) &&
+        nat_le (count (array_view array.now)) most_alarms) }
 {
-    (1 <= array.len()) & (array.len() <= 16384)
+    (1 <= array.len()) & (array.len() <= MOST_ALARMS)
 }
 
 /// The alarms by number.
 fn alarms_of(alloc: Global, array: &Array, areas: u8) -> Result<Vec<Attr>, LoadFault>
     requires tables { IsTrue (are_tables (array_view array.now)) }
-    requires few { count (array_view array.now) ≤ 16384 }
-    requires areas { (1 ≤ areas) × (areas ≤ 64) }
+    requires few { count (array_view array.now) ≤ most_alarms }
+    requires areas { (1 ≤ areas) × (areas ≤ most_areas) }
     ensures ok { IfOk result
         (λ v. read_alarms 0 areas (array_view array.now) ≡ Ok (map element_of v.items)) }
     ensures all { IfOk result (λ v. length v.items ≡ count (array_view array.now)) }
@@ -74,7 +76,7 @@ fn file_of(alloc: Global, table: &toml::Table) -> Result<(u64, Table), LoadFault
     };
     section.known()?;
     let size = section.natural("size", 1, 1_099_511_627_776)?;
-    let areas = section.natural("areas", 1, 64)? as u8;
+    let areas = section.natural("areas", 1, MOST_AREAS as u64)? as u8;
     let array = section.tables("alarm")?;
     if !in_number(array) {
         return Err(LoadFault::Rows);

@@ -1,5 +1,11 @@
 //! A run of the whole server in threads, from an opened store to its report.
 //!
+//! ```text
+//! let parts = parts_of(rt, alloc, history, store, slots, &hold)?;
+//! let report = run_threads(rt, alloc, parts, &hold, sources)?;
+//! let count = report.keeper.count();
+//! ```
+//!
 //! | call | does |
 //! |---|---|
 //! | [`parts_of`] | rings, board, looks and the sequencer's plant for some slots, over an idle store |

@@ -1,8 +1,9 @@
 //! What stands between the consoles and the device.
-ghost use Rattle.std.specs.Prelude.{◌≡◌, ℕ, ◌<◌, ◌≤◌, ◌^◌, [], length};
+ghost use Rattle.std.specs.Prelude.{◌≡◌, ℕ, ◌<◌, ◌≤◌, [], length};
 ghost use Rattle.alm_store.specs.declared.phase.Phase.TheVariants.{Idle};
 ghost use Rattle.alm_rings.specs.Batches.{AreBatchEnds, sealed_of, fetched_of, empties_in};
 ghost use Rattle.alm_rings.specs.Placed.{AreApart, taken_by, released_by};
+ghost use Rattle.alm_types.specs.Sizes.{most_actions};
 
 use alm_plant::Plant;
 use alm_rings::Told;
@@ -17,7 +18,7 @@ pub struct Middle<K: Store, T: Told + Drop> {
     pub rings: Rings,
     pub flusher: FlusherParts<K, T>,
     pub ghost idle: { (K.state flusher.store).phase ≡ Idle },
-    pub ghost limit: { plant.panel.count ≤ 2 ^ 48 },
+    pub ghost limit: { plant.panel.count ≤ most_actions },
     pub ghost live: { plant ≡ (K.state flusher.store).stored },
     pub ghost inboxes: { AreApart (λ i. i.slot) rings.inboxes.items },
     pub ghost outboxes: { AreApart (λ o. o.slot) flusher.outboxes.items },

@@ -2,6 +2,7 @@
 ghost use Rattle.std.specs.Prelude.{◌≡◌, ◌<◌, ◌≤◌, ◌^◌, [], length, IfOk, IfErr};
 ghost use Rattle.alm_rings.specs.Placed.{AreApart};
 ghost use Rattle.alm_shared.specs.Desks.{shown_of, pending_of};
+ghost use Rattle.alm_types.specs.Sizes.{most_actions};
 
 use crate::middle::Middle;
 use crate::parts::Parts;
@@ -56,7 +57,7 @@ pub fn parts_of<'h, J: Naming, K: Store, H: Hold, R: Wait>(
     requires book { history.seen.book ≡ J.book }
     requires base { (K.state store).stored ≡ J.base }
     requires idle { (K.state store).phase ≡ Phase.Idle }
-    requires limit { (K.state store).stored.panel.count ≤ 2 ^ 48 }
+    requires limit { (K.state store).stored.panel.count ≤ most_actions }
     requires some { (0 < length slots.items) × (length slots.items < 2 ^ 32) }
     requires apart { AreApart (λ s. s) slots.items }
     ensures store { IfOk result (λ parts. parts.middle.flusher.store ≡ store) }

@@ -2,6 +2,7 @@
 
 ghost use Rattle.std.specs.Prelude.{◌≡◌, ◌<◌, ◌≤◌, ◌^◌, IfOk, IfSome, length};
 ghost use Rattle.alm_rings.specs.Placed.{AreApart};
+ghost use Rattle.alm_types.specs.Sizes.{most_actions};
 
 use crate::player::Player;
 use alm_disk::Hold;
@@ -76,7 +77,7 @@ fn run_over<J: Naming + Send + Sync, K: Store, H: Hold + Sync, R: Threads + Wait
     requires book { history.seen.book ≡ J.book }
     requires base { (K.state store).stored ≡ J.base }
     requires idle { (K.state store).phase ≡ Phase.Idle }
-    requires limit { (K.state store).stored.panel.count ≤ 2 ^ 48 }
+    requires limit { (K.state store).stored.panel.count ≤ most_actions }
     requires some { (0 < length slots.items) × (length slots.items < 2 ^ 32) }
     requires apart { AreApart (λ s. s) slots.items }
     requires sources { length sources.items ≡ length slots.items }

@@ -7,6 +7,7 @@ use Rattle.alm_types.specs.declared.kind.Kind.TheVariants.{High, Low, Discrete}
 use Rattle.alm_types.specs.declared.settings.Settings.{Settings}
 use Rattle.alm_types.specs.declared.attr_fault.AttrFault.{AttrFault}
 use Rattle.alm_types.specs.declared.attr_fault.AttrFault.TheVariants.{Setpoint, Deadband, Priority, Area, MaxShelve, Tag, Text}
+use Rattle.alm_types.specs.Sizes.{most_areas}
 
 -- the greatest deadband of a kind
 abbrev pub deadband_limit : Kind → ℕ
@@ -20,7 +21,7 @@ attr_fault s tag text =
     if is_reading s.setpoint then
     if nat_le s.deadband (deadband_limit s.kind) then
     if nat_le 1 s.priority && nat_le s.priority 4 then
-    if nat_lt s.area 64 then
+    if nat_lt s.area most_areas then
     if nat_le s.max_shelve 604800 then
     if is_tag tag then
     if is_text text then None

@@ -8,6 +8,7 @@ pub mod Padded
 pub mod Readings
 pub mod Refusals
 pub mod Reports
+pub mod Sizes
 pub mod Slots
 pub mod Tables
 pub mod Tags

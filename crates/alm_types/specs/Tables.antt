@@ -3,6 +3,7 @@ use Rattle.std.specs.Prelude.{ℕ, ◌≤◌, ◌<◌, List, length, All, ◌||�
 use Rattle.alm_types.specs.declared.attr.Attr.{Attr}
 use Rattle.alm_types.specs.declared.table_fault.TableFault.{TableFault}
 use Rattle.alm_types.specs.declared.table_fault.TableFault.TheVariants.{NoRows, TooManyRows, Areas, AreaOf}
+use Rattle.alm_types.specs.Sizes.{most_alarms, most_areas}
 
 -- the attributes by number, and how many areas there are
 pub record Listing : Type 0 where
@@ -11,14 +12,14 @@ pub record Listing : Type 0 where
 
 pub record IsTable (t : Listing) : Type 0 where
   pub some : 1 ≤ length t.alarms
-  pub few : length t.alarms ≤ 16384
-  pub areas : (1 ≤ t.areas) × (t.areas ≤ 64)
+  pub few : length t.alarms ≤ most_alarms
+  pub areas : (1 ≤ t.areas) × (t.areas ≤ most_areas)
   pub in_areas : All (λ a. a.area < t.areas) t.alarms
 
 -- the first thing that is wrong; of the alarms, the first whose area there is not
 abbrev pub table_fault : List Attr → ℕ → Option TableFault
 table_fault alarms areas =
     if length alarms == 0 then Some NoRows
-    else if nat_lt 16384 (length alarms) then Some TooManyRows
-    else if (areas == 0) || nat_lt 64 areas then Some Areas
+    else if nat_lt most_alarms (length alarms) then Some TooManyRows
+    else if (areas == 0) || nat_lt most_areas areas then Some Areas
     else option_map AreaOf (position (λ a. nat_le areas a.area) alarms)

@@ -4,6 +4,9 @@ use crate::alarm_id::AlarmId;
 use crate::moment::Moment;
 use crate::reading::Reading;
 
+/// The most actions that a plant takes in its life.
+pub const MOST_ACTIONS: u64 = 1 << 48;
+
 /// A change of the plant, whoever asks for it.
 #[derive(Clone, Copy, Debug, PartialEq, Eq)]
 pub enum Action {

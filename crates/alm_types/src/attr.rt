@@ -4,11 +4,13 @@ ghost use Rattle.std.specs.Prelude.{◌<◌, ◌≤◌, IsTrue};
 ghost use Rattle.alm_types.specs.Texts.{is_tag, is_text};
 ghost use Rattle.alm_types.specs.Readings.{IsReading};
 ghost use Rattle.alm_types.specs.Attributes.{deadband_limit};
+ghost use Rattle.alm_types.specs.Sizes.{most_areas};
 
 use crate::attr_fault::AttrFault;
 use crate::kind::Kind;
 use crate::reading::Reading;
 use crate::settings::Settings;
+use crate::table::MOST_AREAS;
 use crate::tag::Tag;
 use crate::text::Text;
 
@@ -21,7 +23,7 @@ pub struct Attr {
     pub deadband: u64,
     /// 1, the highest, to 4.
     pub priority: u8,
-    /// The operating position, below 64.
+    /// The operating position, below [`MOST_AREAS`].
     pub area: u8,
     /// Whether the alarm, once acknowledged and gone, stays annunciated until it is reset.
     pub latching: bool,
@@ -32,7 +34,7 @@ pub struct Attr {
     ghost setpoint_range: { IsReading setpoint },
     ghost deadband_limit: { deadband ≤ deadband_limit kind },
     ghost priority_limits: { (1 ≤ priority) × (priority ≤ 4) },
-    ghost area_limit: { area < 64 },
+    ghost area_limit: { area < most_areas },
     ghost max_shelve_limit: { max_shelve ≤ 604800 },
     ghost tag_limits: { IsTrue (is_tag tag) },
     ghost text_limits: { IsTrue (is_text text) },
@@ -67,7 +69,7 @@ impl Attr {
         if settings.priority < 1 || settings.priority > 4 {
             return Err(AttrFault::Priority);
         }
-        if settings.area >= 64 {
+        if settings.area >= MOST_AREAS {
             return Err(AttrFault::Area);
         }
         if settings.max_shelve > 604_800 {

@@ -1,12 +1,17 @@
 //! Batches.
 
 ghost use Rattle.std.specs.Prelude.{◌≡◌, ◌<◌, ◌≤◌, ◌++◌, [], ◌∷◌, ◌↔◌, IfOk, IsTrue, length};
+ghost use Rattle.alm_types.specs.Sizes.{most_entries};
 
 use crate::entry::Entry;
 use std::alloc::{AllocError, Global};
 use std::marker::Model;
 
-/// Requests that are committed together, in the order in which they were judged: at most 256, with their room reserved.
+/// The most requests of a batch.
+pub const MOST_ENTRIES: usize = 256;
+
+/// Requests that are committed together, in the order in which they were judged: at most [`MOST_ENTRIES`], with their
+/// room reserved.
 #[derive(Drop)]
 pub struct Batch {
     first: u64,
@@ -16,23 +21,22 @@ pub struct Batch {
 impl Model for Batch {
     ghost use Rattle.std.specs.Prelude.{◌≡◌, ◌≤◌, length, vec_capacity};
     ghost use Rattle.alm_types.specs.Batches.{Judged};
+    ghost use Rattle.alm_types.specs.Sizes.{most_entries};
 
     ghost Value = { Judged };
 
     ghost view = { λ b. record { first = b.first; entries = b.entries.items } };
 
-    ghost invariant = { λ b. (vec_capacity b.entries ≡ 256) × (length b.entries.items ≤ 256) };
+    ghost invariant = { λ b. (vec_capacity b.entries ≡ most_entries) ×
+        (length b.entries.items ≤ most_entries) };
 }
 
 impl Batch {
-    /// How many entries a batch takes.
-    pub const LIMIT: usize = 256;
-
     /// An empty batch for a plant that had no action; an error only for want of memory.
     pub fn new(alloc: Global) -> Result<Self, AllocError>
         ensures { IfOk result (λ batch. batch ≡ record { first = 1; entries = [] }) }
     {
-        let entries = Vec::with_capacity(alloc, Self::LIMIT)?;
+        let entries = Vec::with_capacity(alloc, MOST_ENTRIES)?;
         Ok(Batch { first: 1, entries })
     }
 
@@ -46,22 +50,22 @@ impl Batch {
     /// What was judged.
     pub fn entries(&self) -> &[Entry]
         ensures entries { result.now ≡ self.now.entries }
-        ensures limit { length result.now ≤ 256 }
+        ensures limit { length result.now ≤ most_entries }
     {
         &self.entries
     }
 
     /// Whether it takes no further entry.
     pub fn is_full(&self) -> bool
-        ensures full { IsTrue result ↔ (length self.now.entries ≡ 256) }
-        ensures limit { length self.now.entries ≤ 256 }
+        ensures full { IsTrue result ↔ (length self.now.entries ≡ most_entries) }
+        ensures limit { length self.now.entries ≤ most_entries }
     {
-        self.entries.len() == Self::LIMIT
+        self.entries.len() == MOST_ENTRIES
     }
 
     /// Puts an entry behind the others, without memory.
     pub fn push(&mut self, entry: Entry)
-        requires { length self.old.entries < 256 }
+        requires { length self.old.entries < most_entries }
         ensures { self.new ≡
             record { first = self.old.first; entries = self.old.entries ++ entry ∷ [] } }
     {

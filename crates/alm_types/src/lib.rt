@@ -1,5 +1,11 @@
 //! The values of the alarm server, each in its range by construction.
 //!
+//! ```text
+//! let moment = Moment::new(1_700_000_000)?;
+//! let request = Request { slot: Slot::new(0)?, want: Action::Ack(AlarmId(7)) };
+//! let table = Table::new(alarms, 4)?;
+//! ```
+//!
 //! | value | range | made by |
 //! |---|---|---|
 //! | [`Moment`] | below 2^40 seconds | `Moment::new` |
@@ -44,12 +50,12 @@ mod tag;
 mod text;
 mod verdict;
 
-pub use action::Action;
+pub use action::{Action, MOST_ACTIONS};
 pub use alarm_id::AlarmId;
 pub use answer::Answer;
 pub use attr::Attr;
 pub use attr_fault::AttrFault;
-pub use batch::Batch;
+pub use batch::{Batch, MOST_ENTRIES};
 pub use entry::Entry;
 pub use kind::Kind;
 pub use moment::Moment;
@@ -61,8 +67,8 @@ pub use request::Request;
 pub use role::Role;
 pub use settings::Settings;
 pub use shown::Shown;
-pub use slot::Slot;
-pub use table::Table;
+pub use slot::{SLOTS, Slot};
+pub use table::{MOST_ALARMS, MOST_AREAS, Table};
 pub use table_fault::TableFault;
 pub use tag::Tag;
 pub use text::Text;

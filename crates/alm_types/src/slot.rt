@@ -1,11 +1,15 @@
 //! Slots.
 
 ghost use Rattle.std.specs.Prelude.{◌≡◌, ◌<◌, SomeIff};
+ghost use Rattle.alm_types.specs.Sizes.{slot_count};
 
 use crate::role::Role;
 use std::marker::Model;
 
-/// One of the 18 connections: 0 to 15 consoles, 16 the feed, 17 the clock.
+/// How many slots there are.
+pub const SLOTS: usize = 18;
+
+/// One of the [`SLOTS`] connections: 0 to 15 consoles, 16 the feed, 17 the clock.
 #[derive(Clone, Copy, Debug, PartialEq, Eq, PartialOrd, Ord)]
 pub struct Slot {
     number: u8,
@@ -13,12 +17,13 @@ pub struct Slot {
 
 impl Model for Slot {
     ghost use Rattle.std.specs.Prelude.{ℕ, ◌<◌};
+    ghost use Rattle.alm_types.specs.Sizes.{slot_count};
 
     ghost Value = { ℕ };
 
     ghost view = { λ s. s.number };
 
-    ghost invariant = { λ s. s.number < 18 };
+    ghost invariant = { λ s. s.number < slot_count };
 
     ghost inverse = { λ n. record { number = n } };
 }
@@ -28,9 +33,9 @@ impl Slot {
 
     /// The slot of a number; `None` from 18 on.
     pub fn new(number: u8) -> Option<Self>
-        ensures { SomeIff result (number < 18) number }
+        ensures { SomeIff result (number < slot_count) number }
     {
-        if number < 18 {
+        if (number as usize) < SLOTS {
             Some(Slot { number })
         } else {
             None
@@ -40,7 +45,7 @@ impl Slot {
     /// Its number.
     pub fn number(self) -> u8
         ensures number { result ≡ self }
-        ensures limit { result < 18 }
+        ensures limit { result < slot_count }
     {
         self.number
     }

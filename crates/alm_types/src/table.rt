@@ -1,10 +1,17 @@
 //! The table of the alarms.
 
 ghost use Rattle.std.specs.Prelude.{◌≡◌, ◌<◌, length, All, nat_le, position, IfSome, IfNone};
+ghost use Rattle.alm_types.specs.Sizes.{most_alarms, most_areas};
 
 use crate::attr::Attr;
 use crate::table_fault::TableFault;
 use std::marker::Model;
+
+/// The most alarms of a plant.
+pub const MOST_ALARMS: usize = 16_384;
+
+/// The most areas of a plant.
+pub const MOST_AREAS: u8 = 64;
 
 /// The alarms of a plant by number, and how many areas there are.
 #[derive(Drop)]
@@ -45,10 +52,10 @@ impl Table {
         if alarms.is_empty() {
             return Err(TableFault::NoRows);
         }
-        if alarms.len() > 16384 {
+        if alarms.len() > MOST_ALARMS {
             return Err(TableFault::TooManyRows);
         }
-        if areas == 0 || areas > 64 {
+        if areas == 0 || areas > MOST_AREAS {
             return Err(TableFault::Areas);
         }
         if let Some(number) = outside(&alarms, areas) {
@@ -59,7 +66,7 @@ impl Table {
 
     pub fn areas(&self) -> u8
         ensures areas { result ≡ self.now.areas }
-        ensures limits { (1 ≤ result) × (result ≤ 64) }
+        ensures limits { (1 ≤ result) × (result ≤ most_areas) }
     {
         self.areas
     }
@@ -67,7 +74,7 @@ impl Table {
     pub fn alarms(&self) -> &[Attr]
         ensures alarms { result.now ≡ self.now.alarms }
         ensures table { IsTable self.now }
-        ensures few { length result.now ≤ 16384 }
+        ensures few { length result.now ≤ most_alarms }
         ensures areas { All (λ a. a.area < self.now.areas) result.now }
     {
         &self.alarms

@@ -7,6 +7,7 @@ ghost use Rattle.alm_state.specs.Outcome.{outcome, attr_after};
 ghost use Rattle.alm_model.specs.Lists.{due};
 ghost use Rattle.alm_model.specs.Rules.{IsTimely};
 ghost use Rattle.alm_model.specs.Keeping.{in_brief};
+ghost use Rattle.alm_types.specs.Sizes.{most_actions, most_alarms};
 
 use crate::ages::advance_all;
 use crate::floods::settle_all;
@@ -21,7 +22,7 @@ impl PlainRows {
     /// The alarm's row becomes another.
     fn put(&mut self, index: usize, outcome: Outcome)
         requires here { index < length self.old.panel.rows }
-        requires stamps { self.old.panel.next_stamp < 1 + 16384 * self.old.panel.count }
+        requires stamps { self.old.panel.next_stamp < 1 + most_alarms * self.old.panel.count }
         ensures rows { length self.new.panel.rows ≡ length self.old.panel.rows }
         ensures plant { self.new ≡ with_outcome in_brief self.old index outcome }
     {
@@ -47,7 +48,7 @@ impl PlainRows {
     fn touch(&mut self, id: AlarmId, action: &Action)
         requires here { alarm_refusal action.now (slice_get self.old.panel.attrs id.0)
             (slice_get self.old.panel.rows id.0) ≡ None }
-        requires stamps { self.old.panel.next_stamp < 1 + 16384 * self.old.panel.count }
+        requires stamps { self.old.panel.next_stamp < 1 + most_alarms * self.old.panel.count }
         ensures rows { length self.new.panel.rows ≡ length self.old.panel.rows }
         ensures plant { self.new ≡
             touch in_brief self.old id.0
@@ -83,7 +84,7 @@ impl PlainRows {
         requires { length self.now.panel.rows ≤ vec_capacity out.old }
         ensures due { out.new.items ≡ due moment self.now.panel }
         ensures each { All (λ i. i < length self.now.panel.rows) out.new.items }
-        ensures len { vec_len out.new ≤ 16384 }
+        ensures len { vec_len out.new ≤ most_alarms }
         ensures room { vec_capacity out.new ≡ vec_capacity out.old }
     {
         fill_in_order(
@@ -109,7 +110,7 @@ impl PlainRows {
     /// The shelving of an alarm ends.
     fn unshelve(&mut self, number: u32)
         requires here { number < length self.old.panel.rows }
-        requires stamps { self.old.panel.next_stamp < 1 + 16384 * self.old.panel.count }
+        requires stamps { self.old.panel.next_stamp < 1 + most_alarms * self.old.panel.count }
         ensures plant { self.new ≡ unshelve in_brief self.old number }
         ensures stamps { self.new.panel.next_stamp ≤ self.old.panel.next_stamp + 1 }
         ensures count { self.new.panel.count ≡ self.old.panel.count }
@@ -125,7 +126,7 @@ impl PlainRows {
     fn unshelve_all(&mut self, numbers: &[u32])
         requires here { All (λ i. i < length self.old.panel.rows) numbers.now }
         requires stamps { self.old.panel.next_stamp + length numbers.now ≤
-            1 + 16384 * self.old.panel.count }
+            1 + most_alarms * self.old.panel.count }
         ensures rows { length self.new.panel.rows ≡ length self.old.panel.rows }
         ensures plant { self.new ≡ fold (unshelve in_brief) self.old numbers.now }
     {
@@ -136,9 +137,10 @@ impl PlainRows {
 
     /// Counts an action.
     fn count_action(&mut self)
-        requires { self.old.panel.count < 2 ^ 48 }
+        requires { self.old.panel.count < most_actions }
         ensures plant { self.new ≡ with_one_more self.old }
-        ensures stamps { self.new.panel.next_stamp + 16384 ≤ 1 + 16384 * self.new.panel.count }
+        ensures stamps { self.new.panel.next_stamp + most_alarms ≤
+            1 + most_alarms * self.new.panel.count }
     {
         self.count += 1;
     }
@@ -146,7 +148,8 @@ impl PlainRows {
     /// Does an action, before the floods are settled.
     fn act(&mut self, action: &Action, working: &mut Vec<u32>)
         requires admitted { own_refusal self.old.panel action.now ≡ None }
-        requires stamps { self.old.panel.next_stamp + 16384 ≤ 1 + 16384 * self.old.panel.count }
+        requires stamps { self.old.panel.next_stamp + most_alarms ≤
+            1 + most_alarms * self.old.panel.count }
         requires room { length self.old.panel.rows ≤ vec_capacity working.old }
         ensures plant { self.new ≡ with_effect in_brief self.old action.now }
         ensures rows { length self.new.panel.rows ≡ length self.old.panel.rows }

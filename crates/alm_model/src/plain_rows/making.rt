@@ -1,8 +1,9 @@
 //! Making plain rows: of parts, and a copy.
 
-ghost use Rattle.std.specs.Prelude.{◌≡◌, ◌^◌, ◌≤◌, IfOk};
+ghost use Rattle.std.specs.Prelude.{◌≡◌, ◌≤◌, IfOk};
 ghost use Rattle.alm_model.specs.Parts.{plant_of};
 ghost use Rattle.alm_model.specs.Rules.{KeepsRules};
+ghost use Rattle.alm_types.specs.Sizes.{most_actions};
 
 use crate::ages::copy_ages;
 use crate::plain_rows::PlainRows;
@@ -14,7 +15,7 @@ impl PlainRows {
     /// The plant of its parts.
     pub fn build(parts: PlantParts) -> Self
         requires rules { KeepsRules (plant_of parts) }
-        requires count { parts.count ≤ 2 ^ 48 }
+        requires count { parts.count ≤ most_actions }
         ensures { result ≡ plant_of parts }
     {
         PlainRows {

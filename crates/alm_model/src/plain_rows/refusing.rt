@@ -1,12 +1,13 @@
 //! Why plain rows refuse an action.
 
-ghost use Rattle.std.specs.Prelude.{◌≡◌, ◌<◌, ◌^◌, slice_get, None, IfOk, OnOk};
+ghost use Rattle.std.specs.Prelude.{◌≡◌, ◌<◌, slice_get, None, IfOk, OnOk};
 ghost use Rattle.alm_model.specs.Accept.{own_refusal, refusal, answer, accept, alarm_refusal};
+ghost use Rattle.alm_types.specs.Sizes.{most_actions};
 
 use crate::plain_rows::PlainRows;
 use crate::roles::may_ask;
 use alm_state::row_refusal;
-use alm_types::{Action, AlarmId, Refusal, Request};
+use alm_types::{Action, AlarmId, MOST_ACTIONS, Refusal, Request};
 
 impl PlainRows {
     fn alarm_refusal(&self, id: AlarmId, action: &Action) -> Option<Refusal>
@@ -50,7 +51,7 @@ impl PlainRows {
     {
         match self.own_refusal(action) {
             Some(refusal) => Err(refusal),
-            None if self.count >= 1 << 48 => Err(Refusal::Exhausted),
+            None if self.count >= MOST_ACTIONS => Err(Refusal::Exhausted),
             None => Ok(()),
         }
     }
@@ -59,7 +60,7 @@ impl PlainRows {
     pub fn check(&self, request: &Request) -> Result<Action, Refusal>
         ensures verdict { result ≡ accept self.now.panel request.now }
         ensures admitted { IfOk result (λ action. refusal self.now.panel action ≡ None) }
-        ensures counted { OnOk result (self.now.panel.count < 2 ^ 48) }
+        ensures counted { OnOk result (self.now.panel.count < most_actions) }
     {
         if !may_ask(request.slot, &request.want) {
             return Err(Refusal::WrongRole);

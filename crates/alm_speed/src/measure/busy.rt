@@ -2,6 +2,7 @@
 
 ghost use Rattle.std.specs.Prelude.{◌<◌};
 ghost use Rattle.alm_speed.specs.Sizes.{IsSized};
+ghost use Rattle.alm_types.specs.Sizes.{most_alarms};
 
 use alm_measure::Measure;
 use alm_types::{AlarmId, Attr, Kind, Moment, Settings, Table};
@@ -47,7 +48,7 @@ impl Busy {
     }
 
     pub fn annunciate(&mut self, number: u32)
-        requires { number < 16384 }
+        requires { number < most_alarms }
     {
         self.measure.annunciated(AlarmId(number));
     }

@@ -30,7 +30,7 @@ invariant_of-self g c =
     let len : length c.compare_exchange-found.new.seen.log ≡ length xs + 1 = ap length grown' ∙ length-append xs (c.args.action ∷ []) in
     let may : refusal (run g.J.Naming.base xs).panel c.args.action ≡ None = rw c.self.view_is c.requires in (
       omega (arith, len, c.self.invariant.0),
-      omega (arith, c.if-len-ge-LONGEST.false),
+      omega (arith, c.if-len-ge-MOST_ACTIONS.false),
       c.compare_exchange-found.ensures.0 ∙ (ap (λ s. s.book) c.again-seen.ensures ∙ c.self.invariant.2),
       rw grown' (admitted_both g.J.Naming.base xs (c.args.action ∷ []) c.self.invariant.3 (may, tt)),
     )
