@@ -71,6 +71,11 @@ IsFree (Fetched b) = ⊥
 IsFree (Failed b) = ⊥
 IsFree held = Unit {0}
 
+-- its commit was given up
+abbrev pub IsGivenUp : Held → Type 0
+IsGivenUp (Failed b) = Unit {0}
+IsGivenUp held = ⊥
+
 -- all verdicts of the published batch are released
 abbrev pub AreAllReleased : Held → Type 0
 AreAllReleased (Published b n) = length b.entries ≤ n

@@ -103,7 +103,7 @@ impl<K: Store, T: Told + Drop, B: Board<Told = T>> Flusher<K, T, B> {
     ghost use Rattle.alm_rings.specs.Ends.{sent_of, received_of, coming_to, room_of, SameConsole};
     ghost use Rattle.rtrb.specs.Ring.{IsPair};
     ghost use Rattle.alm_rings.specs.declared.outbox.Outbox.{Outbox};
-    ghost use Rattle.alm_flush.specs.Flushes.{FetchAnswers, AdvanceAnswers, PublishAnswers, ReleaseAnswers, GivesBack, AreAllReleased, IsFree, IsNext};
+    ghost use Rattle.alm_flush.specs.Flushes.{FetchAnswers, AdvanceAnswers, PublishAnswers, ReleaseAnswers, GivesBack, AreAllReleased, IsFree, IsGivenUp, IsNext};
     ghost use Rattle.alm_flush.specs.HeldBatch.{next_entry_of, to_commit};
     ghost use Rattle.alm_flush.specs.Steps.{CallsDevice, EndsWithin, HasCauses, IsAsBefore, IsInOrder, OpensBehind, StaysInPace};
     ghost use Rattle.alm_rings.specs.declared.receipt.Receipt.{Receipt};
@@ -197,6 +197,8 @@ impl<K: Store, T: Told + Drop, B: Board<Told = T>> Flusher<K, T, B> {
         ensures device { CallsDevice K.Store K.Device.Disk result (to_commit self.old.held)
             self.old.store self.new.store }
         ensures nothing { result ≡ Advance.Nothing → self.new.store ≡ self.old.store }
+        // Behind a commit that was given up no call is made any more.
+        ensures given_up { IsGivenUp self.old.held → self.new.store ≡ self.old.store }
         ensures held { AdvanceAnswers result (K.state self.old.store).phase self.old.held
             self.new.held }
         ensures going { (K.state self.old.store).phase ≢ Phase.Stopped → result ≢ Advance.Failed →
