@@ -41,21 +41,25 @@ denies looks base old new id asked before after Stopped (same, unchanged) made =
   known = (made, same);
   refused = ap (λ (a : Answer). a.refused) unchanged;
 }
-denies looks base old new id asked before after OutOfMemory (same, (list, (front, is))) made = record {
-  met = denied id asked list NoMemory;
-  text = ap (λ (b : Bool). if b then no_text id OutOfMemory else report_reply id (run base list).panel.count asked (look (run base list) asked)) is.0;
-  slip = refl;
-  heard = refl;
-  plain = refl;
-  known = ((_, made), front, same);
-  refused = is.1.2 ∙ sym (ap (λ (b : Bool). if b then one_more before.refused else before.refused) is.0);
-}
-denies looks base old new id asked before after refusal (same, (list, (front, is))) made = record {
-  met = denied id asked list Nothing;
-  text = ap (report_reply id (run base list).panel.count asked) is.0;
-  slip = refl;
-  heard = refl;
-  plain = refl;
-  known = ((_, made), front, same);
-  refused = ap (λ (a : Answer). a.refused) is.1;
-}
+denies looks base old new id asked before after OutOfMemory (same, (list, (front, is))) made =
+    let shown = ap (λ (b : Bool). if b then no_text id OutOfMemory else report_reply id (run base list).panel.count asked (look (run base list) asked)) is.0 in
+    record {
+      met = denied id asked list NoMemory;
+      text = shown;
+      slip = refl;
+      heard = refl;
+      plain = refl;
+      known = ((_, made, shown), front, same);
+      refused = is.1.2 ∙ sym (ap (λ (b : Bool). if b then one_more before.refused else before.refused) is.0);
+    }
+denies looks base old new id asked before after refusal (same, (list, (front, is))) made =
+    let shown = ap (report_reply id (run base list).panel.count asked) is.0 in
+    record {
+      met = denied id asked list Nothing;
+      text = shown;
+      slip = refl;
+      heard = refl;
+      plain = refl;
+      known = ((_, made, shown), front, same);
+      refused = ap (λ (a : Answer). a.refused) is.1;
+    }

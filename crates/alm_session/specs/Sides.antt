@@ -1,8 +1,11 @@
 -- One slot's side, by its parts.
-use Rattle.std.specs.Prelude.{◌≡◌, ℕ, ◌-◌, ◌^◌, ◌<◌, ◌≤◌, ◌⊎◌, List, [], Option, None, Some, length, map}
+use Rattle.std.specs.Prelude.{◌≡◌, ℕ, ◌+◌, ◌-◌, ◌^◌, ◌<◌, ◌≤◌, ◌⊎◌, List, [], Option, None, Some, length, map}
 use Rattle.std.specs.Io.KnownBytes.{IsAtEnd}
 use Rattle.alm_types.specs.declared.action.Action.{Action}
+use Rattle.alm_lines.specs.declared.ask.Ask.{Ask}
 use Rattle.alm_lines.specs.declared.ask.Ask.TheVariants.{Act}
+use Rattle.alm_lines.specs.declared.line.Line.{Line}
+use Rattle.alm_types.specs.Sizes.{most_out}
 use Rattle.alm_rings.specs.declared.told.Told.{Ghosts}
 use Rattle.alm_rings.specs.declared.console.Console.{Console}
 use Rattle.alm_rings.specs.declared.receipt.Receipt.{Receipt}
@@ -33,10 +36,6 @@ least_of _ = 0
 abbrev pub HoldsNothing : Session → Type 0
 HoldsNothing s = (s.intake.line ≡ None) × (s.intake.rest ≡ [])
 
--- an action line is held
-abbrev pub HoldsAction : Session → Type 0
-HoldsAction s = (id : ℕ) × (want : Action) × (s.intake.line ≡ Some (record { id = id; ask = Act want }))
-
 -- the input has ended, and all its lines are answered and written
 abbrev pub IsAllWritten : Session → Option (List ℕ) → Type 0
 IsAllWritten s coming = HoldsNothing s × (s.waiting.items ≡ []) × (s.output.left ≡ []) × IsAtEnd coming
@@ -53,12 +52,21 @@ module _ {T : Type 0} {g : Ghosts T} where
   abbrev pub IsQuiet : Console T g → Type 0
   IsQuiet console = coming_to console ≡ []
 
-  -- a request is unanswered, or an action line is held and the ring of requests knows no place, or the serials are spent
-  abbrev pub IsStuck : Session → Console T g → Type 0
-  IsStuck s console = (0 < length s.waiting.items) ⊎ (length (received_of console) < length (sent_of console)) ⊎ (HoldsAction s × ((room_of console ≡ 0) ⊎ (2 ^ 64 - 1 ≤ length (sent_of console))))
+  -- as many requests as may be are unanswered, the ring of requests knows no place, or the serials are spent
+  abbrev pub MayNotSend : Session → Console T g → Type 0
+  MayNotSend s console = (most_out ≤ length s.waiting.items) ⊎ (most_out + length (received_of console) ≤ length (sent_of console)) ⊎ (room_of console ≡ 0) ⊎ (2 ^ 64 - 1 ≤ length (sent_of console))
 
-  -- why nothing could be done: a write was blocked; or nothing is to be written, no receipt is known to wait, and a read was blocked while no line is held, or an action is unanswered, or a
-  -- line is held for which there is no place or no serial
+  -- why a line that is held waits: an action where it may not be sent, all else where an action before it is unanswered
+  abbrev pub WaitsFor : Ask → Session → Console T g → Type 0
+  WaitsFor (Act want) s console = MayNotSend s console
+  WaitsFor ask s console = 0 < length s.waiting.items
+
+  -- nothing is held and an action is unanswered, or the line that is held waits
+  abbrev pub IsStuck : Session → Console T g → Type 0
+  IsStuck s console = (HoldsNothing s × (0 < length s.waiting.items)) ⊎ ((line : Line) × (s.intake.line ≡ Some line) × WaitsFor line.ask s console)
+
+  -- why nothing could be done: a write was blocked; or nothing is to be written, no receipt is known to wait, and a read was blocked while
+  -- no line is held, or the line that is held waits, or at the end of the input an action is unanswered
   abbrev pub IsIdle : Session → Console T g → Counts → Counts → Type 0
   IsIdle s console old new = (s.output.left ≡ []) × (((new ≡ blocked_read old) × HoldsNothing s) ⊎ ((new ≡ old) × IsStuck s console))
 

@@ -42,7 +42,7 @@ pub record Heard : Type 0 where
   pub number : ℕ
   pub list : List Action
 
--- how a line was answered, by its id: an action by a receipt; a query by a look at a list, which the slot then knows, or which was refused; or by one that was told that the storage has stopped;
+-- how a line was answered, by its id: an action by a receipt; a query by a look at a list, which the slot then knows, or by the refusal that it gave; or by one that was told that the storage has stopped;
 -- a bad line by its refusal. A query whose reply is longer than the buffer is refused for want of memory. A receipt that came while no action waited answers no line
 pub data Met : Type 0 where
   acted : ℕ → Heard → Met
@@ -110,7 +110,8 @@ wants line = wants_at line.ask
 abbrev pub KnowsNext : Looks → Condensed → List Action → Met → List Action → Type 0
 KnowsNext looks base known (acted id heard) next = IsFront known next × IsFront heard.list next
 KnowsNext looks base known (told id asked list) next = looks asked (Ok (run base list).panel.count) × IsFront known list × (next ≡ list)
-KnowsNext looks base known (denied id asked list hindrance) next = ((why : Refusal) × looks asked (Err why)) × IsFront known list × (next ≡ known)
+KnowsNext looks base known (denied id asked list hindrance) next =
+    ((why : Refusal) × looks asked (Err why) × (look_reply (run base list) id asked hindrance ≡ no_text id why)) × IsFront known list × (next ≡ known)
 KnowsNext looks base known (cramped id asked list) next =
     looks asked (Ok (run base list).panel.count) × IsFront known list × (next ≡ list) × (output_limit < length (look_reply (run base list) id asked Nothing))
 KnowsNext looks base known (gone id asked) next = looks asked (Err refusal.Stopped) × (next ≡ known)
