@@ -12,7 +12,7 @@ use Rattle.alm_checkpoint.specs.declared.layout.Layout.{Layout}
 use Rattle.alm_checkpoint.specs.declared.half.Half.{Half}
 use Rattle.alm_checkpoint.specs.Standing.{Stands}
 use Rattle.alm_checkpoint.proofs.CutOf.{stands_cut}
-use Rattle.alm_store.specs.Calls.{IsChange, OneCall, CallDone, CallFailed, MakesOne, CountsFailures, AreMade, OpensBy}
+use Rattle.alm_store.specs.Calls.{IsChange, OneCall, CallDone, CallFailed, MakesOne, CountsFailures, AreDone, OpensBy, SyncsAndEndsIn, IsRefusedBy}
 use Rattle.alm_store.specs.declared.open_fault.OpenFault.{OpenFault}
 use Rattle.alm_store.specs.declared.open_fault.OpenFault.TheVariants as fault
 use Rattle.alm_store.specs.declared.progress.Progress.{Progress}
@@ -70,8 +70,11 @@ counts_failures Failed before now more same failed = (more, failed refl)
 
 -- ---- an opening
 
-pub opens_by : {D : Type 0} (serves : D → Call → Result Unit DiskFault → D → Type 0) (disk to : D) (layout : Layout) (half : Half) → AreMade serves (Sync ∷ reads_of layout half) disk to → OpensBy serves disk to
-opens_by serves disk to layout half made = record { reads = reads_of layout half; are_reads = (tt, (tt, (tt, (tt, (tt, tt))))); made = made }
+pub opens_by : {D : Type 0} (serves : D → Call → Result Unit DiskFault → D → Type 0) (disk to : D) (layout : Layout) (half : Half) → AreDone serves (Sync ∷ reads_of layout half) disk to → OpensBy serves disk to
+opens_by serves disk to layout half made = record { reads = reads_of layout half; are_reads = (tt, (tt, (tt, (tt, (tt, tt))))); done = made }
+
+pub refused_by : {D : Type 0} (fault : OpenFault) (serves : D → Call → Result Unit DiskFault → D → Type 0) (disk to : D) (layout : Layout) (half : Half) → SyncsAndEndsIn fault serves (reads_of layout half) disk to → IsRefusedBy fault serves disk to
+refused_by fault serves disk to layout half made = record { reads = reads_of layout half; are_reads = (tt, (tt, (tt, (tt, (tt, tt))))); made = made }
 
 pub disk_failed : (f : OpenFault) (before now : ℕ) → CountsAs f before now → f ≡ fault.Disk → HasFailed before now
 disk_failed fault.Disk before now counts is = counts

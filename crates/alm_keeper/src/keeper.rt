@@ -2,6 +2,7 @@
 
 ghost use Rattle.std.specs.Prelude.{◌≡◌, ◌≢◌, ◌≤◌, ◌⊎◌, ◌↔◌, ◌+◌, ◌*◌, ◌∷◌, List, ℕ, length, IsTrue, IfOk, IfErr, Err, true, false};
 ghost use Rattle.alm_disk.specs.declared.call.Call.{Call};
+ghost use Rattle.alm_checkpoint.specs.declared.half.Half.{Half};
 ghost use Rattle.alm_checkpoint.specs.declared.layout.Layout.{Layout};
 ghost use Rattle.alm_checkpoint.specs.Layouts.{head_len, image_size};
 ghost use Rattle.alm_keeper.specs.Calls.{reads_of};
@@ -10,7 +11,7 @@ ghost use Rattle.alm_disk.specs.Failures.{HasFailed};
 ghost use Rattle.alm_disk.specs.Settled.{IsSettled};
 ghost use Rattle.alm_model.specs.Plant.{Condensed};
 ghost use Rattle.alm_model.specs.Judging.{accepted_of};
-ghost use Rattle.alm_store.specs.Calls.{IsCall, AreMade};
+ghost use Rattle.alm_store.specs.Calls.{IsCall, AreDone, SyncsAndEndsIn};
 ghost use Rattle.alm_keeper.specs.Stages.{IsWorking, phase_of};
 ghost use Rattle.alm_store.specs.Advancing.{IsResting};
 ghost use Rattle.alm_keeper.specs.Opening.{Opens, CountsAs};
@@ -262,7 +263,11 @@ pub fn open_store<D: Disk + Drop>(alloc: Global, disk: D) -> Result<Keeper<D>, (
     // Which calls it makes: a sync, and five reads, of each range once.
     ensures made { IfOk result
         (λ k. (layout : Layout) × (image_size layout ≡ k.image) × (layout.segment ≡ k.segment) ×
-        AreMade D.serves (Call.Sync ∷ reads_of layout k.half) disk k.disk) }
+        AreDone D.serves (Call.Sync ∷ reads_of layout k.half) disk k.disk) }
+    // Where it is refused: the sync, and those reads up to its fault.
+    ensures made_back { IfErr result
+        (λ x. (layout : Layout) × (half : Half) ×
+        SyncsAndEndsIn x.0 D.serves (reads_of layout half) disk x.1) }
     ensures unwritten_back { D.honest disk →
         IfErr result (λ x. (b : List ℕ) → IsImage (D.state x.1) b → IsImage (D.state disk) b) }
 {

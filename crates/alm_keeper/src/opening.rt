@@ -5,11 +5,13 @@ ghost use Rattle.alm_disk.specs.Device.{IsImage, AreBytes};
 ghost use Rattle.alm_disk.specs.Failures.{HasFailed};
 ghost use Rattle.alm_disk.specs.Settled.{IsSettled};
 ghost use Rattle.alm_disk.specs.declared.call.Call.{Call};
+ghost use Rattle.alm_checkpoint.specs.declared.half.Half.{Half};
 ghost use Rattle.alm_checkpoint.specs.declared.half.Half.TheVariants.{First, Second};
+ghost use Rattle.alm_checkpoint.specs.declared.layout.Layout.{Layout};
 ghost use Rattle.alm_checkpoint.specs.Layouts.{part, device_len, half_at, image_size};
 ghost use Rattle.alm_checkpoint.specs.Cut.{IsLayout};
 ghost use Rattle.alm_checkpoint.specs.Opening.{layout_in};
-ghost use Rattle.alm_store.specs.Calls.{AreMade};
+ghost use Rattle.alm_store.specs.Calls.{AreDone, EndIn, SyncsAndEndsIn};
 ghost use Rattle.alm_keeper.specs.Calls.{reads_of};
 ghost use Rattle.alm_keeper.specs.Opening.{CountsOpening, IsReadOf, AreMarks, MarksFrom, Opens, Restores};
 ghost use Rattle.alm_keeper.specs.Keeping.{InOrder, FitsDevice};
@@ -60,7 +62,9 @@ fn read_layout<D: Disk>(disk: &mut D) -> Result<Layout, OpenFault>
     ensures fits { IfOk result (λ l. device_len l ≤ D.size disk.new) }
     ensures small { IfOk result (λ l. device_len l < 2 ^ 64) }
     ensures memory { OnOk result (D.size disk.new < 2 ^ 64) }
-    ensures made { OnOk result (AreMade D.serves (Call.Read 0 23 ∷ []) disk.old disk.new) }
+    ensures made { OnOk result (AreDone D.serves (Call.Read 0 23 ∷ []) disk.old disk.new) }
+    ensures made_back { IfErr result
+        (λ f. EndIn f D.serves (Call.Read 0 23 ∷ []) disk.old disk.new) }
 {
     let size = disk.size();
     if size < 23 {
@@ -100,7 +104,11 @@ fn read_marks<D: Disk>(disk: &mut D, layout: Layout) -> Result<Marks, OpenFault>
         AreMarks layout b result }
     ensures count { IfOk result (λ m. m.head.count ≤ most_actions) }
     ensures made { OnOk result
-        (AreMade D.serves
+        (AreDone D.serves
+        (Call.Read (half_at layout First) 25 ∷ Call.Read (half_at layout Second) 25 ∷ []) disk.old
+        disk.new) }
+    ensures made_back { IfErr result
+        (λ f. EndIn f D.serves
         (Call.Read (half_at layout First) 25 ∷ Call.Read (half_at layout Second) 25 ∷ []) disk.old
         disk.new) }
 {
@@ -164,7 +172,10 @@ pub fn open_book<D: Disk>(alloc: Global, disk: &mut D) -> Result<Book, OpenFault
         (λ book. (book.stage ≡ Stage.Idle) × (book.copying ≡ false) × (book.written ≡ 0)) }
     ensures fits { IfOk result (λ book. FitsDevice book (D.size disk.new)) }
     ensures made { IfOk result
-        (λ book. AreMade D.serves (Call.Sync ∷ reads_of book.layout book.half) disk.old disk.new) }
+        (λ book. AreDone D.serves (Call.Sync ∷ reads_of book.layout book.half) disk.old disk.new) }
+    ensures made_back { IfErr result
+        (λ f. (layout : Layout) × (half : Half) ×
+        SyncsAndEndsIn f D.serves (reads_of layout half) disk.old disk.new) }
 {
     match disk.sync() {
         Ok(()) => read_book(alloc, disk),
@@ -186,7 +197,10 @@ fn read_book<D: Disk>(alloc: Global, disk: &mut D) -> Result<Book, OpenFault>
         (λ book. (book.stage ≡ Stage.Idle) × (book.copying ≡ false) × (book.written ≡ 0)) }
     ensures fits { IfOk result (λ book. FitsDevice book (D.size disk.new)) }
     ensures made { IfOk result
-        (λ book. AreMade D.serves (reads_of book.layout book.half) disk.old disk.new) }
+        (λ book. AreDone D.serves (reads_of book.layout book.half) disk.old disk.new) }
+    ensures made_back { IfErr result
+        (λ f. (layout : Layout) × (half : Half) ×
+        EndIn f D.serves (reads_of layout half) disk.old disk.new) }
 {
     let layout = match read_layout(disk) {
         Ok(layout) => layout,
@@ -224,7 +238,9 @@ fn read_room<D: Disk>(
         IfOk result (λ v. v.items ≡ part at len b) }
     ensures long { IfOk result (λ v. length v.items ≡ len) }
     ensures fault { IfErr result (λ f. (f ≡ OpenFault.Disk) ⊎ (f ≡ OpenFault.OutOfMemory)) }
-    ensures made { OnOk result (AreMade D.serves (Call.Read at len ∷ []) disk.old disk.new) }
+    ensures made { OnOk result (AreDone D.serves (Call.Read at len ∷ []) disk.old disk.new) }
+    ensures made_back { IfErr result
+        (λ f. EndIn f D.serves (Call.Read at len ∷ []) disk.old disk.new) }
 {
     let Ok(mut room) = vec![in alloc; 0u8; len] else {
         return Err(OpenFault::OutOfMemory);

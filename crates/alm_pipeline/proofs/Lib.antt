@@ -7,3 +7,4 @@ pub mod Ready
 pub mod Shown
 pub mod Placing
 pub mod Counts
+pub mod Opened

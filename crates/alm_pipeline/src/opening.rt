@@ -15,6 +15,7 @@ impl<K: Store> Pipeline<K> {
     ghost use Rattle.std.specs.Prelude.{◌≡◌, ◌↔◌, ◌≤◌, ◌+◌, ℕ, List, false, length, IfOk, IfErr};
     ghost use Rattle.alm_disk.specs.Device.{IsImage};
     ghost use Rattle.alm_disk.specs.Failures.{HasFailed};
+    ghost use Rattle.alm_store.specs.Calls.{OpensBy, IsRefusedBy};
     ghost use Rattle.alm_store.specs.Opening.{HasCause};
     ghost use Rattle.alm_types.specs.declared.action.Action.{Action};
     ghost use Rattle.alm_model.specs.Plant.{Condensed};
@@ -71,6 +72,10 @@ impl<K: Store> Pipeline<K> {
             (λ pipeline. (base : Condensed) (kept : List Action) (floor : ℕ) →
             (K.state pipeline.flusher.store).stored ≡ run base kept →
             floor ≤ base.panel.count + length kept → IsOpen (new_world base kept floor) pipeline) }
+        // Of this device a sync and reads were made, and nothing else; where it is refused, up to its fault.
+        ensures made { IfOk result
+            (λ pipeline. OpensBy K.Device.serves disk (K.disk pipeline.flusher.store)) }
+        ensures made_back { IfErr result (λ e. IsRefusedBy e.0 K.Device.serves disk e.1) }
         ensures opened { K.Device.honest disk →
             IfOk result
             (λ pipeline.

@@ -5,6 +5,8 @@ use Rattle.alm_disk.specs.declared.call.Call.{Call}
 use Rattle.alm_disk.specs.declared.call.Call.TheVariants.{Read, Sync}
 use Rattle.alm_disk.specs.declared.disk_fault.DiskFault.{DiskFault}
 use Rattle.alm_disk.specs.Failures.{HasFailed}
+use Rattle.alm_store.specs.declared.open_fault.OpenFault.{OpenFault}
+use Rattle.alm_store.specs.declared.open_fault.OpenFault.TheVariants.{Disk}
 use Rattle.alm_store.specs.declared.progress.Progress.{Progress}
 use Rattle.alm_store.specs.declared.progress.Progress.TheVariants.{Failed}
 
@@ -55,10 +57,30 @@ abbrev pub CountsFailures : Progress → (before now : ℕ) → Type 0
 CountsFailures Failed before now = (before ≤ now) × HasFailed before now
 CountsFailures result before now = now ≡ before
 
--- these calls were made of a device, one after the other, and no others
-abbrev pub AreMade : {D : Type 0} → (D → Call → Result Unit DiskFault → D → Type 0) → List Call → D → D → Type 0
-AreMade serves [] old new = new ≡ old
-AreMade {D} serves (call ∷ calls) old new = (between : D) × (result : Result Unit DiskFault) × serves old call result between × AreMade serves calls between new
+-- these calls were made of a device, one after the other, and no others; each was done
+abbrev pub AreDone : {D : Type 0} → (D → Call → Result Unit DiskFault → D → Type 0) → List Call → D → D → Type 0
+AreDone serves [] old new = new ≡ old
+AreDone {D} serves (call ∷ calls) old new = (between : D) × serves old call (Ok tt) between × AreDone serves calls between new
+
+-- the first so many of these calls were done, and no others were made
+abbrev pub SomeAreDone : {D : Type 0} → (D → Call → Result Unit DiskFault → D → Type 0) → List Call → D → D → Type 0
+SomeAreDone serves [] old new = new ≡ old
+SomeAreDone {D} serves (call ∷ calls) old new = (new ≡ old) ⊎ ((between : D) × serves old call (Ok tt) between × SomeAreDone serves calls between new)
+
+-- the first so many were done, the next one failed, and no others were made
+abbrev pub OneFails : {D : Type 0} → (D → Call → Result Unit DiskFault → D → Type 0) → List Call → D → D → Type 0
+OneFails serves [] old new = ⊥
+OneFails {D} serves (call ∷ calls) old new = ((fault : DiskFault) × serves old call (Err fault) new) ⊎ ((between : D) × serves old call (Ok tt) between × OneFails serves calls between new)
+
+-- what was made of them where this fault came of it: up to the call that failed, where the fault is the device's
+abbrev pub EndIn : {D : Type 0} → OpenFault → (D → Call → Result Unit DiskFault → D → Type 0) → List Call → D → D → Type 0
+EndIn Disk serves calls old new = OneFails serves calls old new
+EndIn fault serves calls old new = SomeAreDone serves calls old new
+
+-- the sync failed, or it was done and these reads end in this fault
+abbrev pub SyncsAndEndsIn : {D : Type 0} → OpenFault → (D → Call → Result Unit DiskFault → D → Type 0) → List Call → D → D → Type 0
+SyncsAndEndsIn {D} fault serves reads old new =
+    ((fault ≡ Disk) × ((why : DiskFault) × serves old Sync (Err why) new)) ⊎ ((synced : D) × serves old Sync (Ok tt) synced × EndIn fault serves reads synced new)
 
 abbrev pub IsRead : Call → Type 0
 IsRead (Read at n) = Unit {0}
@@ -72,4 +94,10 @@ AreReads (call ∷ calls) = IsRead call × AreReads calls
 pub record OpensBy {D : Type 0} (serves : D → Call → Result Unit DiskFault → D → Type 0) (old new : D) : Type 0 where
   pub reads : List Call
   pub are_reads : AreReads reads
-  pub made : AreMade serves (Sync ∷ reads) old new
+  pub done : AreDone serves (Sync ∷ reads) old new
+
+-- an opening that was refused: a sync, and reads behind it up to its fault
+pub record IsRefusedBy {D : Type 0} (fault : OpenFault) (serves : D → Call → Result Unit DiskFault → D → Type 0) (old new : D) : Type 0 where
+  pub reads : List Call
+  pub are_reads : AreReads reads
+  pub made : SyncsAndEndsIn fault serves reads old new

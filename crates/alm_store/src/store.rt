@@ -22,7 +22,7 @@ pub trait Store: Drop {
     ghost use Rattle.alm_model.specs.Rules.{AllAdmitted, KeepsRules};
     ghost use Rattle.alm_store.specs.declared.phase.Phase.TheVariants.{Idle, Committing, Stopped};
     ghost use Rattle.alm_store.specs.Advancing.{Advanced, CommitIsBegun, KeepsStored, CommitIsNotBegun, CheckpointIsNotOpened, IsOpen, IsResting, CheckpointIsOpened, TakesOn};
-    ghost use Rattle.alm_store.specs.Calls.{CountsFailures, IsCall, MakesOne, OpensBy};
+    ghost use Rattle.alm_store.specs.Calls.{CountsFailures, IsCall, MakesOne, OpensBy, IsRefusedBy};
     ghost use Rattle.alm_store.specs.Opening.{HasCause};
     ghost use Rattle.alm_store.specs.Pace.{most_calls};
     ghost use Rattle.alm_types.specs.Sizes.{most_entries};
@@ -59,6 +59,8 @@ pub trait Store: Drop {
     fn open(alloc: Global, from: Self::Device) -> Result<Self, (OpenFault, Self::Device)>
         /// Of this device a sync and reads were made, and nothing else.
         ensures made { IfOk result (λ store. OpensBy Self.Device.serves from (disk store)) }
+        /// Where it is refused they were made up to its fault, and of this device, which is handed back.
+        ensures made_back { IfErr result (λ e. IsRefusedBy e.0 Self.Device.serves from e.1) }
         ensures honest { IfOk result
             (λ store. Self.Device.honest from ↔ Self.Device.honest (disk store)) }
         ensures idle { IfOk result (λ store. (state store).phase ≡ Idle) }

@@ -4,8 +4,7 @@ use Rattle.alm_disk.specs.Settled.{IsSettled}
 use Rattle.alm_disk.proofs.Images.{settled_image}
 use Rattle.alm_keeper.specs.Opening.{Opens}
 use Rattle.alm_keeper.proofs.Opened.{on_ok}
-use Rattle.alm_disk.specs.declared.call.Call.TheVariants.{Sync}
-use Rattle.alm_keeper.proofs.Made.{made_behind}
+use Rattle.alm_keeper.proofs.Made.{done_behind, ends_synced, ends_unsynced}
 use Rattle.alm_keeper.proofs.opening.open_book.Goals as goal
 
 pub returns-in-Ok-clause-unwritten : goal.returns-in-Ok-clause-unwritten
@@ -35,4 +34,10 @@ returns-in-Ok-clause-opens g c = λ honest.
     subst (λ (b : List ℕ). Opens b c.read_book.result) (sym kept.reads) (c.read_book.ensures.opens one.bytes now settled (g.met.D.Disk.own_image c.sync.new.self now).bytes (g.met.D.Disk.whole c.sync.new.self now))
 
 pub returns-in-Ok-clause-made : goal.returns-in-Ok-clause-made
-returns-in-Ok-clause-made g c = made_behind g.D.Disk.serves Sync c.args.disk.now c.sync.new.self c.read_book.new.disk c.sync.result c.read_book.result c.sync.ensures.serves c.read_book.ensures.made
+returns-in-Ok-clause-made g c = done_behind g.D.Disk.serves c.args.disk.now c.sync.new.self c.read_book.new.disk c.read_book.result c.in-Ok.ensures.serves c.read_book.ensures.made
+
+pub returns-in-Ok-clause-made_back : goal.returns-in-Ok-clause-made_back
+returns-in-Ok-clause-made_back g c = ends_synced g.D.Disk.serves c.args.disk.now c.sync.new.self c.read_book.new.disk c.read_book.result c.in-Ok.ensures.serves c.read_book.ensures.made_back
+
+pub returns-in-Err-clause-made_back : goal.returns-in-Err-clause-made_back
+returns-in-Err-clause-made_back g c = ends_unsynced g.D.Disk.serves c.args.disk.now c.sync.new.self _ c.in-Err.ensures.serves

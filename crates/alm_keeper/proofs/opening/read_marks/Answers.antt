@@ -1,9 +1,10 @@
-use Rattle.std.proofs.Common.{◌≡◌, ℕ, List, refl, ap, subst, ◌∙◌}
+use Rattle.std.proofs.Common.{◌≡◌, ℕ, List, [], ◌∷◌, Ok, refl, ap, subst, ◌∙◌}
 use Rattle.alm_disk.specs.declared.call.Call.TheVariants.{Read}
 use Rattle.alm_checkpoint.specs.declared.half.Half.TheVariants.{First, Second}
-use Rattle.alm_checkpoint.specs.Layouts.{part}
+use Rattle.alm_checkpoint.specs.Layouts.{part, half_at}
 use Rattle.alm_checkpoint.specs.Opening.{head_of}
 use Rattle.alm_keeper.specs.Opening.{MarksFrom}
+use Rattle.alm_keeper.proofs.Made.{ends_done}
 use Rattle.alm_keeper.proofs.Opened.{on_ok}
 use Rattle.alm_keeper.proofs.opening.read_marks.Goals as goal
 
@@ -19,8 +20,15 @@ returns-clause-marks g c = λ b honest settled.
 
 pub returns-clause-made : goal.returns-clause-made
 returns-clause-made g c =
+    let serves = g.D.Disk.serves in
+    let one = subst (λ (n : ℕ). serves c.args.disk.now (Read n 25) (Ok tt) c.read.new.disk) c.half_at.ensures c.in-Ok.ensures.serves in
+    let two = subst (λ (n : ℕ). serves c.read.new.disk (Read n 25) (Ok tt) c.read-2.new.disk) c.half_at-2.ensures c.in-Ok-read.ensures.serves in
+    on_ok c.marks_of.result _ (c.read.new.disk, one, (c.read-2.new.disk, two, refl))
+
+pub returns-clause-made_back : goal.returns-clause-made_back
+returns-clause-made_back g c =
     let l = c.args.layout in
     let serves = g.D.Disk.serves in
-    let one = subst (λ (n : ℕ). serves c.args.disk.now (Read n 25) c.read.result c.read.new.disk) c.half_at.ensures c.read.ensures.serves in
-    let two = subst (λ (n : ℕ). serves c.read.new.disk (Read n 25) c.read-2.result c.read-2.new.disk) c.half_at-2.ensures c.read-2.ensures.serves in
-    on_ok c.marks_of.result _ (c.read.new.disk, c.read.result, one, (c.read-2.new.disk, c.read-2.result, two, refl))
+    let one = subst (λ (n : ℕ). serves c.args.disk.now (Read n 25) (Ok tt) c.read.new.disk) c.half_at.ensures c.in-Ok.ensures.serves in
+    let two = subst (λ (n : ℕ). serves c.read.new.disk (Read n 25) (Ok tt) c.read-2.new.disk) c.half_at-2.ensures c.in-Ok-read.ensures.serves in
+    ends_done serves (Read (half_at l First) 25 ∷ Read (half_at l Second) 25 ∷ []) c.args.disk.now c.read-2.new.disk c.marks_of.result c.marks_of.ensures.fault (c.read.new.disk, one, (c.read-2.new.disk, two, refl))
