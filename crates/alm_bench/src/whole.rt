@@ -1,10 +1,9 @@
 //! The whole life of a device under any steps.
 
-ghost use Rattle.std.specs.Prelude.{◌≡◌, ◌⊎◌, ◌↔◌, ℕ, List, false, length, IfOk, IfErr};
+ghost use Rattle.std.specs.Prelude.{◌≡◌, ◌⊎◌, ◌↔◌, ℕ, List, IfOk, IfErr};
 ghost use Rattle.alm_disk.specs.Device.{IsImage};
-ghost use Rattle.alm_disk.specs.Failures.{HasFailed};
-ghost use Rattle.alm_checkpoint.specs.Headers.{segment_fits};
-ghost use Rattle.alm_keeper.specs.Moments.{Formats, IsLedBy, FailsIn};
+ghost use Rattle.alm_codec.specs.declared.version.Version.TheVariants.{V02};
+ghost use Rattle.alm_keeper.specs.Formatted.{IsFormatted, IsLeftBy};
 ghost use Rattle.alm_model.specs.New.{new_plant};
 ghost use Rattle.alm_model.specs.Plant.{Condensed};
 ghost use Rattle.alm_keeper.specs.AsStore.{StandsFor, IsLastEpoch};
@@ -68,8 +67,7 @@ pub fn whole_life<D: Crashable + Drop>(
     ensures run { D.honest disk →
         IfOk result
         (λ lived. D.honest lived.1 × (formatted : D) ×
-        Formats IsLedBy D.serves D.state (D.honest disk × ((D.state disk).faulted ≡ false))
-        (D.size disk) table.now disk formatted ×
+        IsFormatted D.serves D.state D.honest D.size V02 table.now disk formatted ×
         StandOnly (D.state formatted) (new_plant table.now) × (at : Phase) × (n : ℕ) ×
         IsRun StandsFor IsLastEpoch (closed_world (first (new_plant table.now)))
         (device_alone (D.state formatted) (D.failures formatted) 0) steps.now lived.0.items
@@ -79,26 +77,13 @@ pub fn whole_life<D: Crashable + Drop>(
         IfOk result
         (λ lived. (image : List ℕ) → IsImage (D.state lived.1) image →
         KeepsTold (new_plant table.now) lived.0.items image) }
-    ensures too_small { IfErr result
-        (λ e. e.0 ≡ FormatFault.TooSmall →
-        (e.1 ≡ disk) ×
-        ((n : ℕ) →
-        segment_fits (D.size disk) (length table.now.alarms) table.now.areas n ≡ false)) }
-    // The device calls that were made, of which the last failed.
-    ensures failed { IfErr result
-        (λ e. e.0 ≡ FormatFault.Disk →
-        HasFailed (D.failures disk) (D.failures e.1) ×
-        Formats FailsIn D.serves D.state (D.honest disk × ((D.state disk).faulted ≡ false))
-        (D.size disk) table.now disk e.1) }
-    // Memory was short before the device was touched, or as soon as it was formatted.
-    ensures memory { IfErr result
-        (λ e. e.0 ≡ FormatFault.OutOfMemory →
-        (e.1 ≡ disk) ⊎
-        ((formatted : D) ×
-        Formats IsLedBy D.serves D.state (D.honest disk × ((D.state disk).faulted ≡ false))
-        (D.size disk) table.now disk formatted × (D.state e.1 ≡ D.state formatted) ×
+    // The formatting was refused, or memory was short as soon as the device was formatted.
+    ensures refused { IfErr result
+        (λ e. IsLeftBy e.0 D.serves D.state D.honest D.size D.failures table.now disk e.1 ⊎
+        ((e.0 ≡ FormatFault.OutOfMemory) × (formatted : D) ×
+        IsFormatted D.serves D.state D.honest D.size V02 table.now disk formatted ×
+        (D.honest formatted ↔ D.honest e.1) × (D.state e.1 ≡ D.state formatted) ×
         (D.failures e.1 ≡ D.failures formatted))) }
-    ensures honest { IfErr result (λ e. D.honest disk ↔ D.honest e.1) }
 {
     match format(alloc, disk, table) {
         Ok(disk) => match life(alloc, disk, steps) {

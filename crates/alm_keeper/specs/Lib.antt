@@ -10,5 +10,6 @@ pub mod Stages
 pub mod Opening
 pub mod Formatting
 pub mod Moments
+pub mod Formatted
 pub mod AsStore
 pub mod StoreLaws

@@ -1,20 +1,16 @@
 //! Formatting a device.
 
-ghost use Rattle.std.specs.Prelude.{◌≡◌, ◌≢◌, ◌≤◌, ◌<◌, ◌+◌, ◌↔◌, ◌∷◌, ◌++◌, [], ℕ, List, false, length, OnOk, OnErr, IfOk, IfErr, IfSome, None};
+ghost use Rattle.std.specs.Prelude.{◌≡◌, ◌≤◌, ◌+◌, ℕ, false, length, IfOk, IfErr, IfSome, None};
 ghost use Rattle.alm_types.specs.Tables.{IsTable};
 ghost use Rattle.alm_model.specs.New.{new_plant};
 ghost use Rattle.alm_model.specs.Rules.{KeepsRules};
 ghost use Rattle.alm_codec.specs.Image.{IsOf};
 ghost use Rattle.alm_checkpoint.specs.Cut.{IsLayout};
-ghost use Rattle.alm_disk.specs.Device.{IsImage};
-ghost use Rattle.alm_disk.specs.Failures.{HasFailed};
-ghost use Rattle.alm_disk.specs.Settled.{IsSettled};
-ghost use Rattle.alm_checkpoint.specs.Headers.{header_text, segment_fits};
-ghost use Rattle.alm_checkpoint.specs.declared.layout.Layout.{Layout};
-ghost use Rattle.alm_checkpoint.specs.Layouts.{device_len, image_size};
+ghost use Rattle.alm_checkpoint.specs.Headers.{segment_fits};
+ghost use Rattle.alm_checkpoint.specs.Layouts.{image_size};
 ghost use Rattle.alm_codec.specs.declared.version.Version.TheVariants.{V02};
-ghost use Rattle.alm_keeper.specs.Moments.{Formats, IsLedBy, FailsIn};
-ghost use Rattle.alm_keeper.specs.Formatting.{IsLongest, IsNewDevice, IsOfVersion, LeavesOf, first_half};
+ghost use Rattle.alm_keeper.specs.Formatted.{IsFormatted, IsLeftBy};
+ghost use Rattle.alm_keeper.specs.Formatting.{IsLongest, first_half};
 ghost use Rattle.alm_types.specs.Sizes.{most_actions};
 
 use crate::format_fault::FormatFault;
@@ -76,34 +72,10 @@ pub fn format_as<D: Disk + Drop>(
     table: &Table,
     version: Version,
 ) -> Result<D, (FormatFault, D)>
-    ensures same { IfOk result (λ d. (D.honest disk ↔ D.honest d) × (D.size d ≡ D.size disk)) }
-    ensures same_back { IfErr result
-        (λ x. (D.honest disk ↔ D.honest x.1) × (D.size x.1 ≡ D.size disk)) }
-    // It reads as one that stands for the new plant in epoch 1, and a crash leaves just that.
-    ensures settled { D.honest disk → IfOk result (λ d. IsSettled (D.state d) (D.state d).bytes) }
-    ensures stands { D.honest disk →
-        IfOk result (λ d. IsNewDevice (D.size disk) table.now (D.state d).bytes) }
-    // Its header and the half that stands are of the version.
-    ensures version { D.honest disk → IfOk result (λ d. IsOfVersion version (D.state d).bytes) }
-    ensures too_small { IfErr result
-        (λ x. x.0 ≡ FormatFault.TooSmall → (n : ℕ) →
-        segment_fits (D.size disk) (length table.now.alarms) table.now.areas n ≡ false) }
-    ensures fits { IfErr result
-        (λ x. x.0 ≢ FormatFault.TooSmall → (l : Layout) × IsLongest (D.size disk) table.now l) }
-    ensures unchanged { IfErr result (λ x. x.0 ≢ FormatFault.Disk → x.1 ≡ disk) }
-    ensures failed { IfErr result
-        (λ x. x.0 ≡ FormatFault.Disk → HasFailed (D.failures disk) (D.failures x.1)) }
-    // The device calls that were made, and, where nothing had failed before, what a crash leaves at any moment of each.
-    ensures moments { IfOk result
-        (λ d. Formats IsLedBy D.serves D.state (D.honest disk × ((D.state disk).faulted ≡ false))
-        (D.size disk) table.now disk d) }
-    ensures moments_back { IfErr result
-        (λ x. x.0 ≡ FormatFault.Disk →
-        Formats FailsIn D.serves D.state (D.honest disk × ((D.state disk).faulted ≡ false))
-        (D.size disk) table.now disk x.1) }
-    // What a crash leaves where a call failed.
-    ensures leaves { D.honest disk → (D.state disk).faulted ≡ false →
-        IfErr result (λ x. LeavesOf (D.size disk) table.now (D.state disk) (D.state x.1)) }
+    ensures formatted { IfOk result
+        (IsFormatted D.serves D.state D.honest D.size version table.now disk) }
+    ensures refused { IfErr result
+        (λ x. IsLeftBy x.0 D.serves D.state D.honest D.size D.failures table.now disk x.1) }
 {
     let Some(layout) = layout_for(table, disk.size(), version) else {
         return Err((FormatFault::TooSmall, disk));
@@ -122,34 +94,10 @@ pub fn format_as<D: Disk + Drop>(
 
 /// Formats a device for a table in version 02, as [`format_as`] does.
 pub fn format<D: Disk + Drop>(alloc: Global, disk: D, table: &Table) -> Result<D, (FormatFault, D)>
-    ensures same { IfOk result (λ d. (D.honest disk ↔ D.honest d) × (D.size d ≡ D.size disk)) }
-    ensures same_back { IfErr result
-        (λ x. (D.honest disk ↔ D.honest x.1) × (D.size x.1 ≡ D.size disk)) }
-    // It reads as one that stands for the new plant in epoch 1, and a crash leaves just that.
-    ensures settled { D.honest disk → IfOk result (λ d. IsSettled (D.state d) (D.state d).bytes) }
-    ensures stands { D.honest disk →
-        IfOk result (λ d. IsNewDevice (D.size disk) table.now (D.state d).bytes) }
-    // Its header and the half that stands are of the version.
-    ensures version { D.honest disk → IfOk result (λ d. IsOfVersion V02 (D.state d).bytes) }
-    ensures too_small { IfErr result
-        (λ x. x.0 ≡ FormatFault.TooSmall → (n : ℕ) →
-        segment_fits (D.size disk) (length table.now.alarms) table.now.areas n ≡ false) }
-    ensures fits { IfErr result
-        (λ x. x.0 ≢ FormatFault.TooSmall → (l : Layout) × IsLongest (D.size disk) table.now l) }
-    ensures unchanged { IfErr result (λ x. x.0 ≢ FormatFault.Disk → x.1 ≡ disk) }
-    ensures failed { IfErr result
-        (λ x. x.0 ≡ FormatFault.Disk → HasFailed (D.failures disk) (D.failures x.1)) }
-    // The device calls that were made, and, where nothing had failed before, what a crash leaves at any moment of each.
-    ensures moments { IfOk result
-        (λ d. Formats IsLedBy D.serves D.state (D.honest disk × ((D.state disk).faulted ≡ false))
-        (D.size disk) table.now disk d) }
-    ensures moments_back { IfErr result
-        (λ x. x.0 ≡ FormatFault.Disk →
-        Formats FailsIn D.serves D.state (D.honest disk × ((D.state disk).faulted ≡ false))
-        (D.size disk) table.now disk x.1) }
-    // What a crash leaves where a call failed.
-    ensures leaves { D.honest disk → (D.state disk).faulted ≡ false →
-        IfErr result (λ x. LeavesOf (D.size disk) table.now (D.state disk) (D.state x.1)) }
+    ensures formatted { IfOk result
+        (IsFormatted D.serves D.state D.honest D.size V02 table.now disk) }
+    ensures refused { IfErr result
+        (λ x. IsLeftBy x.0 D.serves D.state D.honest D.size D.failures table.now disk x.1) }
 {
     format_as(alloc, disk, table, Version::V02)
 }

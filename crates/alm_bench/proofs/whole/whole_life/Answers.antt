@@ -1,4 +1,4 @@
-use Rattle.std.proofs.Common.{List, ℕ, sym, subst}
+use Rattle.std.proofs.Common.{List, ℕ, inl, inr, refl, sym, subst}
 use Rattle.alm_disk.proofs.Images.{settled_image}
 use Rattle.alm_model.specs.New.{new_plant}
 use Rattle.alm_keeper.specs.AsStore.{StandsFor}
@@ -9,16 +9,24 @@ pub returns-in-Ok-life-clause-run : goal.returns-in-Ok-life-clause-run
 returns-in-Ok-life-clause-run g c = λ honest.
     let state = g.D.Disk.state c.in-Ok.disk in
     let plant = new_plant c.args.table.now in
-    let settled = c.in-Ok.ensures.settled honest in
-    let new = c.in-Ok.ensures.stands honest in
+    let settled = c.in-Ok.ensures.formatted.settled honest in
+    let new = c.in-Ok.ensures.formatted.stands honest in
     let only : StandOnly state plant = λ image is. subst (λ (bytes : List ℕ). StandsFor bytes plant) (sym (settled_image state state.bytes image settled is)) (1, new.stands) in
-    let run = c.in-Ok-life.ensures.run (c.in-Ok.ensures.same.0.0 honest) plant only in
-    (run.0, c.in-Ok.disk, c.in-Ok.ensures.moments, only, run.1, run.2, run.3)
+    let run = c.in-Ok-life.ensures.run (c.in-Ok.ensures.formatted.same.honest.0 honest) plant only in
+    (run.0, c.in-Ok.disk, c.in-Ok.ensures.formatted, only, run.1, run.2, run.3)
 
 pub returns-in-Ok-life-clause-told : goal.returns-in-Ok-life-clause-told
 returns-in-Ok-life-clause-told g c = λ honest.
     let state = g.D.Disk.state c.in-Ok.disk in
     let plant = new_plant c.args.table.now in
-    let settled = c.in-Ok.ensures.settled honest in
-    let only : StandOnly state plant = λ image is. subst (λ (bytes : List ℕ). StandsFor bytes plant) (sym (settled_image state state.bytes image settled is)) (1, (c.in-Ok.ensures.stands honest).stands) in
-    c.in-Ok-life.ensures.told (c.in-Ok.ensures.same.0.0 honest) plant only
+    let settled = c.in-Ok.ensures.formatted.settled honest in
+    let only : StandOnly state plant = λ image is. subst (λ (bytes : List ℕ). StandsFor bytes plant) (sym (settled_image state state.bytes image settled is)) (1, (c.in-Ok.ensures.formatted.stands honest).stands) in
+    c.in-Ok-life.ensures.told (c.in-Ok.ensures.formatted.same.honest.0 honest) plant only
+
+pub returns-in-Err-life-clause-refused : goal.returns-in-Err-life-clause-refused
+returns-in-Err-life-clause-refused g c =
+    let back = c.in-Err-life.ensures.refused in
+    inr (refl, c.in-Ok.disk, c.in-Ok.ensures.formatted, back.0, back.1, back.2)
+
+pub returns-in-Err-clause-refused : goal.returns-in-Err-clause-refused
+returns-in-Err-clause-refused g c = inl c.in-Err.ensures.refused
