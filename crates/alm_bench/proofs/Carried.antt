@@ -19,7 +19,7 @@ use Rattle.alm_pipeline.specs.declared.event.Event.TheVariants.{Failed, Skipped}
 use Rattle.alm_pipeline.specs.World.{World, Answers, after_step}
 use Rattle.alm_pipeline.specs.Headline.{Sight, Moves}
 use Rattle.alm_pipeline.specs.Matches.{IsInner}
-use Rattle.alm_bench.specs.Stands.{IsSetup, sight, IsThere, serves_well}
+use Rattle.alm_bench.specs.Stands.{IsSetup, sight, IsThere, serves_well, Reopens}
 
 module _ {D : Type 0} {g : Ghosts (Keeper D) D} {d : Disk.Ghosts D} where
   pub carried : (w : World) (step : Step) (event : Event) (n n' k k' : ℕ) (s s' t t' : T.Setup D D g d) → n ≡ n' → k ≡ k' → s ≡ s' → t ≡ t'
@@ -40,6 +40,10 @@ module _ {D : Type 0} {g : Ghosts (Keeper D) D} {d : Disk.Ghosts D} where
 
   pub there : (s t : T.Setup D D g d) → s ≡ t → IsThere s → IsThere t
   there s t same is = subst (λ (x : T.Setup D D g d). IsThere x) same is
+
+  pub reopened_between : (event : Event) (s s' t t' : T.Setup D D g d) → s ≡ s' → t ≡ t' → Reopens s event t → Reopens s' event t'
+  reopened_between event s s' t t' from to reopens =
+      subst (λ (x : T.Setup D D g d). Reopens x event t') from (subst (λ (y : T.Setup D D g d). Reopens s event y) to reopens)
 
   -- a bench that stands for a world has an honest device
   pub stands_honest : (w : World) (s : T.Setup D D g d) → IsSetup w s → serves_well s

@@ -7,6 +7,9 @@ use Rattle.alm_keeper.specs.AsStore.{StandsFor, IsLastEpoch}
 use Rattle.alm_bench.specs.declared.setup.Setup as T
 use Rattle.alm_bench.specs.declared.setup.Setup.TheVariants.{Open, Shut, Gone}
 use Rattle.alm_bench.specs.declared.bench.Bench.{Bench}
+use Rattle.alm_store.specs.Calls.{OpensBy, IsRefusedBy}
+use Rattle.alm_pipeline.specs.declared.event.Event.{Event}
+use Rattle.alm_pipeline.specs.declared.event.Event.TheVariants.{Opened, Unopened}
 use Rattle.alm_pipeline.specs.World.{World}
 use Rattle.alm_pipeline.specs.Headline.{Headline, Sight, device_alone}
 use Rattle.alm_pipeline.specs.Matches.{CallsSurely, IsOpen, sight_in}
@@ -56,3 +59,23 @@ module _ {D : Type 0} {g : Ghosts (Keeper D) D} {d : Disk.Ghosts D} where
 
   abbrev pub NextIsSure : Bench D D g d → Type 0
   NextIsSure bench = is_sure bench.setup
+
+  -- it was opened over this device by a sync and reads, and nothing else was done to it
+  abbrev pub OpensFrom : D → T.Setup D D g d → Type 0
+  OpensFrom from (Open pipeline) = OpensBy d.serves from (g.disk pipeline.flusher.store)
+  OpensFrom from (Shut disk) = ⊥
+  OpensFrom from Gone = ⊥
+
+  abbrev pub IsOpenedFrom : D → Bench D D g d → Type 0
+  IsOpenedFrom from bench = OpensFrom from bench.setup
+
+  -- a reopening: so too, or its sync and reads end in the fault that is told; a bench that isn't closed stays as it is
+  abbrev pub Reopens : T.Setup D D g d → Event → T.Setup D D g d → Type 0
+  Reopens (Shut disk) (Opened count) new = OpensFrom disk new
+  Reopens (Shut disk) (Unopened fault) (Shut back) = IsRefusedBy fault d.serves disk back
+  Reopens (Shut disk) event new = ⊥
+  Reopens (Open pipeline) event new = new ≡ Open pipeline
+  Reopens Gone event new = Unit {0}
+
+  abbrev pub IsReopened : Bench D D g d → Event → Bench D D g d → Type 0
+  IsReopened old event new = Reopens old.setup event new.setup

@@ -33,7 +33,8 @@ where
 impl<D: Crashable + Drop> Bench<D> {
     ghost use Rattle.alm_pipeline.specs.Matches.{IsInner};
     ghost use Rattle.alm_disk.specs.Failures.{HasFailed};
-    ghost use Rattle.alm_bench.specs.Stands.{Stands, sight_of, HasDevice, IsHonest, NextIsSure};
+    ghost use Rattle.alm_store.specs.Calls.{IsRefusedBy};
+    ghost use Rattle.alm_bench.specs.Stands.{Stands, sight_of, HasDevice, IsHonest, NextIsSure, IsOpenedFrom, IsReopened};
     ghost use Rattle.alm_pipeline.specs.Headline.{Headline, Moves, IsRun, after_steps, device_alone};
     ghost use Rattle.alm_bench.specs.StandOnly.{StandOnly};
     ghost use Rattle.alm_pipeline.specs.declared.step.Step.TheVariants as S;
@@ -59,6 +60,9 @@ impl<D: Crashable + Drop> Bench<D> {
     pub fn new(alloc: Global, disk: D) -> Result<Bench<D>, (OpenFault, D)>
         ensures stands { D.honest disk → (plant : Condensed) → StandOnly (D.state disk) plant →
             IfOk result (λ bench. Stands (first plant) bench) }
+        /// Of this device a sync and reads were made, and nothing else; where it is refused, up to its fault.
+        ensures made { IfOk result (IsOpenedFrom disk) }
+        ensures made_back { IfErr result (λ e. IsRefusedBy e.0 D.serves disk e.1) }
         /// What it reads is one of the images before, and nothing is pending.
         ensures device { D.honest disk →
             IfOk result
@@ -157,6 +161,7 @@ impl<D: Crashable + Drop> Bench<D> {
             Stands (after_step w S.Reopen result) self.new }
         ensures moves { (w : World) → Stands w self.old →
             Moves StandsFor IsLastEpoch w S.Reopen result (sight_of self.old) (sight_of self.new) }
+        ensures reopened { IsReopened self.old result self.new }
         ensures there { HasDevice self.old → HasDevice self.new }
     {
         match self.take() {
@@ -252,6 +257,7 @@ impl<D: Crashable + Drop> Bench<D> {
         ensures sure { step.now ≡ S.Call → result ≡ E.Failed → NextIsSure self.old → (w : World) →
             Stands w self.old →
             HasFailed (sight_of self.old).failures (sight_of self.new).failures }
+        ensures reopened { step.now ≡ S.Reopen → IsReopened self.old result self.new }
         ensures there { HasDevice self.old → HasDevice self.new }
     {
         match step {
@@ -281,6 +287,8 @@ impl<D: Crashable + Drop> Bench<D> {
         ensures sure { step.now ≡ S.Call → result ≡ E.Failed → NextIsSure self.old → (w : World) →
             Stands w self.old →
             HasFailed (sight_of self.old).failures (sight_of self.new).failures }
+        // A reopening calls the device as opening its store does.
+        ensures reopened { step.now ≡ S.Reopen → IsReopened self.old result self.new }
         ensures there { HasDevice self.old → HasDevice self.new }
         ensures before { (w : World) → Stands w self.old →
             Headline StandsFor IsLastEpoch w (sight_of self.old).state }

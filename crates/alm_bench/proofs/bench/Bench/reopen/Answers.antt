@@ -5,7 +5,7 @@ use Rattle.alm_pipeline.specs.World.{after_step}
 use Rattle.alm_store.specs.Recovery.{IsFrontPlant}
 use Rattle.alm_pipeline.specs.declared.step.Step.TheVariants as S
 use Rattle.alm_pipeline.specs.declared.event.Event.TheVariants as E
-use Rattle.alm_bench.proofs.Carried.{carried, same_count, still, there, shut_not_open}
+use Rattle.alm_bench.proofs.Carried.{carried, same_count, still, there, reopened_between, shut_not_open}
 use Rattle.alm_bench.proofs.Reopened.{storage_fault, found, reaches}
 use Rattle.alm_bench.proofs.bench.Bench.reopen.Goals as goal
 
@@ -73,6 +73,7 @@ returns-in-Gone g c = record {
   answer = λ w m. absurd (still w _ _ (sym c.in-Gone.ensures.setup) m);
   stands = λ w m. absurd (still w _ _ (sym c.in-Gone.ensures.setup) m);
   moves = λ w m. absurd (still w _ _ (sym c.in-Gone.ensures.setup) m);
+  reopened = reopened_between E.Skipped _ _ _ _ c.in-Gone.ensures.setup refl tt;
   there = λ h. absurd (there _ _ (sym c.in-Gone.ensures.setup) h);
 }
 
@@ -84,3 +85,12 @@ returns-in-Err-clause-there g c = λ h. there _ _ (sym c.put-in-Err.ensures.setu
 
 pub returns-in-Open-clause-there : goal.returns-in-Open-clause-there
 returns-in-Open-clause-there g c = λ h. there _ _ (sym c.put-in-Open.ensures.setup) tt
+
+pub returns-in-Ok-clause-reopened : goal.returns-in-Ok-clause-reopened
+returns-in-Ok-clause-reopened g c = reopened_between (E.Opened c.count-count.result) _ _ _ _ c.in-Shut.ensures.setup (sym c.put.ensures.setup) c.in-Ok.ensures.made
+
+pub returns-in-Err-clause-reopened : goal.returns-in-Err-clause-reopened
+returns-in-Err-clause-reopened g c = reopened_between (E.Unopened c.in-Err.fault) _ _ _ _ c.in-Shut.ensures.setup (sym c.put-in-Err.ensures.setup) c.in-Err.ensures.made_back
+
+pub returns-in-Open-clause-reopened : goal.returns-in-Open-clause-reopened
+returns-in-Open-clause-reopened g c = reopened_between E.Skipped _ _ _ _ c.in-Open.ensures.setup (sym c.put-in-Open.ensures.setup) refl
