@@ -6,6 +6,7 @@
 //! | `pieces` | a crash after each call of three commits between which a checkpoint goes out in pieces |
 //! | `drawn` | drawn steps of four slots with crashes at drawn calls and drawn bytes: the trace is that of a world kept here |
 //! | `rounds` | drawn rounds of large batches, so that a checkpoint is often open, with a crash after each of their calls |
+//! | `refused` | a run that finds no memory makes no step |
 //! | `world` | that world: plain vectors beside the plain plant |
 //!
 //! They stand in a crate of their own, since a crate with tests is proved twice. Expected answers are those of the worked rows, or
@@ -16,6 +17,8 @@
 mod drawn;
 #[cfg(test)]
 mod pieces;
+#[cfg(test)]
+mod refused;
 #[cfg(test)]
 mod rounds;
 #[cfg(test)]

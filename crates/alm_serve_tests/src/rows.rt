@@ -2,7 +2,7 @@
 
 use crate::client::{asks, connect, gives};
 use crate::one_sync::OneSync;
-use alm_disk::{HeldDisk, MemDisk};
+use alm_disk::{HeldDisk, MemDisk, OnceDisk};
 use alm_keeper::{OpenFault, format};
 use alm_serve::{ServeFault, serve_run};
 use alm_service::worked_table;
@@ -11,6 +11,17 @@ use std::io::{self, Read, Write};
 use std::net::{Shutdown, TcpListener};
 use std::test::Fail;
 use std::thread;
+
+/// Opening a device makes a sync and five reads.
+const OPENING_CALLS: u64 = 6;
+
+/// Where the device of each of the four calls of a commit is served, and what is written of it.
+const COMMITS: [(u64, u16, &[u8]); 4] = [
+    (1, 20_700, b"serving 20700\n"),
+    (2, 20_720, b"serving 20720\n"),
+    (3, 20_740, b"serving 20740\n"),
+    (4, 20_760, b"serving 20760\n"),
+];
 
 /// A device in memory that is formatted for the worked table.
 fn worked_disk(alloc: Global) -> Result<Option<MemDisk>, AllocError> {
@@ -134,5 +145,40 @@ fn a_device_that_fails_while_it_is_served(rt: HostRuntime) -> Result<(), Fail> {
     assert!(rt; served == Err(ServeFault::Storage));
     assert_eq!(rt; output.as_slice(), b"serving 20500\n".as_slice());
     assert!(rt; clients.join(&rt)?);
+    Ok(())
+}
+
+/// A device that fails one call of its opening, whichever it is, is a fault before any port is bound.
+#[test]
+fn a_device_that_fails_as_it_is_opened(rt: HostRuntime) -> Result<(), Fail> {
+    let taken = TcpListener::bind(&rt, "127.0.0.1:20600")?;
+    for call in 1..=OPENING_CALLS {
+        let disk = OnceDisk::new(worked_disk(rt.alloc())?.ok_or("format")?, call);
+        let mut output = Vec::new(rt.alloc());
+        let served = serve_run(&rt, rt.alloc(), disk, 20_600, 1, &mut output);
+        assert!(rt;
+            served == Err(ServeFault::Open(OpenFault::Disk)),
+            "call {call}"
+        );
+        assert!(rt; output.is_empty(), "call {call}");
+    }
+    drop(taken);
+    Ok(())
+}
+
+/// A device that fails one call of an action's commit ends the server, and the action isn't answered, also where all later calls
+/// would be served.
+#[test]
+fn a_device_that_fails_one_call_of_an_action(rt: HostRuntime) -> Result<(), Fail> {
+    for (call, port, said) in COMMITS {
+        let disk = worked_disk(rt.alloc())?.ok_or("format")?;
+        let disk = OnceDisk::new(disk, OPENING_CALLS.saturating_add(call));
+        let clients = thread::spawn(&rt, move || unanswered_client(&rt, port))?;
+        let mut output = Vec::new(rt.alloc());
+        let served = serve_run(&rt, rt.alloc(), disk, port, 1, &mut output);
+        assert!(rt; served == Err(ServeFault::Storage), "call {call}");
+        assert_eq!(rt; output.as_slice(), said, "call {call}");
+        assert!(rt; clients.join(&rt)?, "call {call}");
+    }
     Ok(())
 }

@@ -1,0 +1,53 @@
+//! Want of memory: run with each allocation refused in turn (`rt try --test --fail-alloc N`), the test of this module passes.
+
+use alm_bench::{Bench, Event, Step};
+use alm_disk::MemDisk;
+use alm_keeper::{OpenFault, format};
+use alm_service::worked_table;
+use alm_types::{Action, Moment, Slot};
+use std::alloc::{AllocError, Global};
+use std::test::Fail;
+
+/// The smallest device that takes the worked table, and more calls than are made on it.
+const SIZE: usize = 28_997;
+
+const CALLS: usize = 100;
+
+/// A device that is formatted for the worked table, if there was memory for it.
+fn made(alloc: Global) -> Option<MemDisk> {
+    let table = worked_table(alloc).ok()?;
+    let bytes = vec![in alloc; 0u8; SIZE].ok()?;
+    let disk = MemDisk::new(alloc, bytes, CALLS).ok()?;
+    format(alloc, disk, &table).ok()
+}
+
+/// The first event of a run of these steps, which is tried once more where it is refused.
+fn first_event(alloc: Global, bench: &mut Bench<MemDisk>, steps: &[Step]) -> Option<Event> {
+    let trace = match bench.run(alloc, steps) {
+        Ok(trace) => trace,
+        Err(AllocError) => bench.run(alloc, steps).ok()?,
+    };
+    trace.first().copied()
+}
+
+/// The same on a device that is opened first; or why it wasn't.
+fn opened(alloc: Global, disk: MemDisk, steps: &[Step]) -> Result<Option<Event>, OpenFault> {
+    match Bench::new(alloc, disk) {
+        Ok(mut bench) => Ok(first_event(alloc, &mut bench, steps)),
+        Err((fault, _disk)) => Err(fault),
+    }
+}
+
+#[test]
+fn a_run_without_memory_makes_no_step(rt: HostRuntime) -> Result<(), Fail> {
+    let clock = Slot::new(17).ok_or("slot")?;
+    let steps = [Step::Send(clock, Action::Clock(Moment::new(1000).ok_or("moment")?))];
+    let Some(disk) = made(rt.alloc()) else {
+        return Ok(());
+    };
+    match opened(rt.alloc(), disk, &steps) {
+        Ok(event) => assert_eq!(rt; event, Some(Event::Sent(1))),
+        Err(fault) => assert_eq!(rt; fault, OpenFault::OutOfMemory),
+    }
+    Ok(())
+}
