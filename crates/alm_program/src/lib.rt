@@ -28,7 +28,7 @@
 //!
 //! What is used above: [`end_of`] ends with status 0 and no line, or with the status and the line of the fault.
 //!
-//! Not promised: what a file holds. That which words give which job, and which cause which fault, is tested.
+//! Not promised: what a file holds. That which cause gives which fault is tested.
 #![tactic(auto)]
 
 mod desk;
