@@ -1,6 +1,6 @@
 //! A bench: all parts over a device, driven step by step.
 
-ghost use Rattle.std.specs.Prelude.{◌≡◌, ◌↔◌, ℕ, List, false, IfOk, IfErr, OnErr};
+ghost use Rattle.std.specs.Prelude.{◌≡◌, ◌↔◌, ℕ, List, false, IfOk, IfErr, MatchResult, OnErr};
 ghost use Rattle.alm_disk.specs.Device.{IsImage};
 ghost use Rattle.alm_model.specs.Plant.{Condensed};
 ghost use Rattle.alm_keeper.specs.AsStore.{StandsFor, IsLastEpoch};
@@ -61,8 +61,8 @@ impl<D: Crashable + Drop> Bench<D> {
         ensures stands { D.honest disk → (plant : Condensed) → StandOnly (D.state disk) plant →
             IfOk result (λ bench. Stands (first plant) bench) }
         /// Of this device a sync and reads were made, and nothing else; where it is refused, up to its fault.
-        ensures made { IfOk result (IsOpenedFrom disk) }
-        ensures made_back { IfErr result (λ e. IsRefusedBy e.0 D.serves disk e.1) }
+        ensures made { MatchResult result (IsOpenedFrom disk)
+            (λ e. IsRefusedBy e.0 D.serves disk e.1) }
         /// What it reads is one of the images before, and nothing is pending.
         ensures device { D.honest disk →
             IfOk result

@@ -196,9 +196,9 @@ impl<K: Store, T: Told + Drop, B: Board<Told = T>> Flusher<K, T, B> {
             (self.new.before.value ≡ self.old.before.value) × (self.new.fetch ≡ self.old.fetch) }
         ensures device { CallsDevice K.Store K.Device.Disk result (to_commit self.old.held)
             self.old.store self.new.store }
-        ensures nothing { result ≡ Advance.Nothing → self.new.store ≡ self.old.store }
-        // Behind a commit that was given up no call is made any more.
-        ensures given_up { IsGivenUp self.old.held → self.new.store ≡ self.old.store }
+        // Nothing is called where nothing is to be done, nor behind a commit that was given up.
+        ensures nothing { (result ≡ Advance.Nothing → self.new.store ≡ self.old.store) ×
+            (IsGivenUp self.old.held → self.new.store ≡ self.old.store) }
         ensures held { AdvanceAnswers result (K.state self.old.store).phase self.old.held
             self.new.held }
         ensures going { (K.state self.old.store).phase ≢ Phase.Stopped → result ≢ Advance.Failed →

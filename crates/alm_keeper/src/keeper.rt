@@ -1,6 +1,6 @@
 //! Keepers.
 
-ghost use Rattle.std.specs.Prelude.{◌≡◌, ◌≢◌, ◌≤◌, ◌⊎◌, ◌↔◌, ◌+◌, ◌*◌, ◌∷◌, List, ℕ, length, IsTrue, IfOk, IfErr, Err, true, false};
+ghost use Rattle.std.specs.Prelude.{◌≡◌, ◌≢◌, ◌≤◌, ◌⊎◌, ◌↔◌, ◌+◌, ◌*◌, ◌∷◌, List, ℕ, length, IsTrue, IfOk, IfErr, MatchResult, Err, true, false};
 ghost use Rattle.alm_disk.specs.declared.call.Call.{Call};
 ghost use Rattle.alm_checkpoint.specs.declared.half.Half.{Half};
 ghost use Rattle.alm_checkpoint.specs.declared.layout.Layout.{Layout};
@@ -260,12 +260,10 @@ pub fn open_store<D: Disk + Drop>(alloc: Global, disk: D) -> Result<Keeper<D>, (
     ensures honest_back { IfErr result (λ x. D.honest disk ↔ D.honest x.1) }
     ensures unwritten { D.honest disk →
         IfOk result (λ k. (b : List ℕ) → IsImage (D.state k.disk) b → IsImage (D.state disk) b) }
-    // Which calls it makes: a sync, and five reads, of each range once.
-    ensures made { IfOk result
+    // Which calls it makes: a sync, and five reads, of each range once; where it is refused, these up to its fault.
+    ensures made { MatchResult result
         (λ k. (layout : Layout) × (image_size layout ≡ k.image) × (layout.segment ≡ k.segment) ×
-        AreDone D.serves (Call.Sync ∷ reads_of layout k.half) disk k.disk) }
-    // Where it is refused: the sync, and those reads up to its fault.
-    ensures made_back { IfErr result
+        AreDone D.serves (Call.Sync ∷ reads_of layout k.half) disk k.disk)
         (λ x. (layout : Layout) × (half : Half) ×
         SyncsAndEndsIn x.0 D.serves (reads_of layout half) disk x.1) }
     ensures unwritten_back { D.honest disk →

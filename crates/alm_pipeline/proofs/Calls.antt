@@ -14,7 +14,8 @@ use Rattle.alm_flush.specs.Flushes.{AdvanceAnswers, IsFree, PublishAnswers}
 use Rattle.alm_flush.specs.HeldBatch.{to_commit, waiting_of}
 use Rattle.alm_pipeline.specs.World.{World, IsHeld}
 use Rattle.alm_pipeline.specs.Headline.{Sight, MayCall}
-use Rattle.alm_pipeline.specs.Matches.{IsGivenUp, stage_of}
+use Rattle.alm_flush.specs.Flushes.{IsGivenUp}
+use Rattle.alm_pipeline.specs.Matches.{stage_of}
 
 pub committed_batch : (p : Phase) (h h' : Held) → AdvanceAnswers A.Committed p h h' → (b : Judged) × (h ≡ Fetched b) × (h' ≡ Committed b)
 committed_batch p Nothing h' is = absurd is

@@ -19,6 +19,7 @@ use Rattle.alm_rings.specs.Batches.{sealed_of, fetched_of, emptied_of, given_of,
 use Rattle.alm_flush.specs.declared.held.Held as H
 use Rattle.alm_flush.specs.declared.held.Held.TheVariants as V
 use Rattle.alm_flush.specs.Advances.{IsSure, Within}
+use Rattle.alm_flush.specs.Flushes.{IsGivenUp}
 use Rattle.alm_flush.specs.HeldBatch.{stored_of, published_entries, to_commit}
 use Rattle.alm_seq.specs.Spares.{spares}
 use Rattle.alm_store.specs.declared.store.Store.{Ghosts}
@@ -41,11 +42,6 @@ stage_of (V.Fetched b) = Held b.entries
 stage_of (V.Failed b) = Held b.entries
 stage_of (V.Committed b) = Stored b.entries
 stage_of (V.Published b n) = Shown b.entries n
-
--- its commit was given up
-abbrev pub IsGivenUp : H.Held → Type 0
-IsGivenUp (V.Failed b) = Unit {0}
-IsGivenUp held = ⊥
 
 -- the entries of each batch
 abbrev pub entries_of : List Judged → List (List Entry)

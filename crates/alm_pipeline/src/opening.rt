@@ -12,7 +12,7 @@ use alm_store::{OpenFault, Phase, Store};
 use std::alloc::Global;
 
 impl<K: Store> Pipeline<K> {
-    ghost use Rattle.std.specs.Prelude.{◌≡◌, ◌↔◌, ◌≤◌, ◌+◌, ℕ, List, false, length, IfOk, IfErr};
+    ghost use Rattle.std.specs.Prelude.{◌≡◌, ◌↔◌, ◌≤◌, ◌+◌, ℕ, List, false, length, IfOk, IfErr, MatchResult};
     ghost use Rattle.alm_disk.specs.Device.{IsImage};
     ghost use Rattle.alm_disk.specs.Failures.{HasFailed};
     ghost use Rattle.alm_store.specs.Calls.{OpensBy, IsRefusedBy};
@@ -73,9 +73,9 @@ impl<K: Store> Pipeline<K> {
             (K.state pipeline.flusher.store).stored ≡ run base kept →
             floor ≤ base.panel.count + length kept → IsOpen (new_world base kept floor) pipeline) }
         // Of this device a sync and reads were made, and nothing else; where it is refused, up to its fault.
-        ensures made { IfOk result
-            (λ pipeline. OpensBy K.Device.serves disk (K.disk pipeline.flusher.store)) }
-        ensures made_back { IfErr result (λ e. IsRefusedBy e.0 K.Device.serves disk e.1) }
+        ensures made { MatchResult result
+            (λ pipeline. OpensBy K.Device.serves disk (K.disk pipeline.flusher.store))
+            (λ e. IsRefusedBy e.0 K.Device.serves disk e.1) }
         ensures opened { K.Device.honest disk →
             IfOk result
             (λ pipeline.

@@ -21,7 +21,8 @@ use Rattle.alm_flush.specs.Advances.{Within}
 use Rattle.alm_flush.specs.HeldBatch.{stored_of, to_commit, waiting_of}
 use Rattle.alm_pipeline.specs.declared.pipeline.Pipeline.{Pipeline}
 use Rattle.alm_pipeline.specs.World.{World, Nothing, Held, live}
-use Rattle.alm_pipeline.specs.Matches.{Fits, IsGivenUp, stage_of}
+use Rattle.alm_flush.specs.Flushes.{IsGivenUp}
+use Rattle.alm_pipeline.specs.Matches.{Fits, stage_of}
 use Rattle.alm_stack.specs.Stacks.{sent_to}
 
 stands_at : {E : Type 0} (xs : List E) (n : ℕ) → n < length xs → (e : E) × (slice_get xs n ≡ Some e)

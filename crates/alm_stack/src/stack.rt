@@ -33,7 +33,7 @@ pub struct StackOver<K: Store> {
 }
 
 impl<K: Store> StackOver<K> {
-    ghost use Rattle.std.specs.Prelude.{◌≡◌, ◌≤◌, ◌↔◌, ℕ, List, [], ◌∷◌, IfOk, IfErr, Some, Contains, false};
+    ghost use Rattle.std.specs.Prelude.{◌≡◌, ◌≤◌, ◌↔◌, ℕ, List, [], ◌∷◌, IfOk, IfErr, MatchResult, Some, Contains, false};
     ghost use Rattle.alm_model.specs.Plant.{Condensed};
     ghost use Rattle.alm_disk.specs.Device.{IsImage};
     ghost use Rattle.alm_disk.specs.Failures.{HasFailed};
@@ -47,8 +47,8 @@ impl<K: Store> StackOver<K> {
     /// The device comes back where it stands for nothing, where it failed, or for want of memory.
     pub fn open(alloc: Global, disk: K::Device) -> Result<StackOver<K>, (OpenFault, K::Device)>
         // Of this device a sync and reads were made, and nothing else; where it is refused, up to its fault.
-        ensures made { IfOk result (λ s. OpensBy K.Device.serves disk (K.disk (store_of s))) }
-        ensures made_back { IfErr result (λ x. IsRefusedBy x.0 K.Device.serves disk x.1) }
+        ensures made { MatchResult result (λ s. OpensBy K.Device.serves disk (K.disk (store_of s)))
+            (λ x. IsRefusedBy x.0 K.Device.serves disk x.1) }
         // What it reads is one of the images before, and stands for the plant.
         ensures opened { K.Device.honest disk →
             IfOk result

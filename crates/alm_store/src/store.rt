@@ -13,7 +13,7 @@ use std::alloc::Global;
 
 /// A store of actions over a device.
 pub trait Store: Drop {
-    ghost use Rattle.std.specs.Prelude.{◌≡◌, ◌≢◌, ◌⊎◌, ◌↔◌, ◌<◌, ◌≤◌, ◌+◌, ◌*◌, ℕ, true, false, List, length, None, IsSome, IsOk, IfOk, IfErr, OnOk, OnErr, IsTrue};
+    ghost use Rattle.std.specs.Prelude.{◌≡◌, ◌≢◌, ◌⊎◌, ◌↔◌, ◌<◌, ◌≤◌, ◌+◌, ◌*◌, ℕ, true, false, List, length, None, IsSome, IsOk, IfOk, IfErr, OnOk, OnErr, IsTrue, MatchResult};
     ghost use Rattle.alm_types.specs.declared.action.Action.{Action};
     ghost use Rattle.alm_disk.specs.Device.{DeviceState, AreBytes, IsImage};
     ghost use Rattle.alm_disk.specs.Failures.{HasFailed};
@@ -57,10 +57,9 @@ pub trait Store: Drop {
 
     /// Opens what the device stands for: a sync comes first, and nothing is written.
     fn open(alloc: Global, from: Self::Device) -> Result<Self, (OpenFault, Self::Device)>
-        /// Of this device a sync and reads were made, and nothing else.
-        ensures made { IfOk result (λ store. OpensBy Self.Device.serves from (disk store)) }
-        /// Where it is refused they were made up to its fault, and of this device, which is handed back.
-        ensures made_back { IfErr result (λ e. IsRefusedBy e.0 Self.Device.serves from e.1) }
+        /// Of this device a sync and reads were made, and nothing else; where it is refused, up to its fault.
+        ensures made { MatchResult result (λ store. OpensBy Self.Device.serves from (disk store))
+            (λ e. IsRefusedBy e.0 Self.Device.serves from e.1) }
         ensures honest { IfOk result
             (λ store. Self.Device.honest from ↔ Self.Device.honest (disk store)) }
         ensures idle { IfOk result (λ store. (state store).phase ≡ Idle) }

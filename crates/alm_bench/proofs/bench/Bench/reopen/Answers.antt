@@ -90,7 +90,7 @@ pub returns-in-Ok-clause-reopened : goal.returns-in-Ok-clause-reopened
 returns-in-Ok-clause-reopened g c = reopened_between (E.Opened c.count-count.result) _ _ _ _ c.in-Shut.ensures.setup (sym c.put.ensures.setup) c.in-Ok.ensures.made
 
 pub returns-in-Err-clause-reopened : goal.returns-in-Err-clause-reopened
-returns-in-Err-clause-reopened g c = reopened_between (E.Unopened c.in-Err.fault) _ _ _ _ c.in-Shut.ensures.setup (sym c.put-in-Err.ensures.setup) c.in-Err.ensures.made_back
+returns-in-Err-clause-reopened g c = reopened_between (E.Unopened c.in-Err.fault) _ _ _ _ c.in-Shut.ensures.setup (sym c.put-in-Err.ensures.setup) c.in-Err.ensures.made
 
 pub returns-in-Open-clause-reopened : goal.returns-in-Open-clause-reopened
 returns-in-Open-clause-reopened g c = reopened_between E.Skipped _ _ _ _ c.in-Open.ensures.setup (sym c.put-in-Open.ensures.setup) refl

@@ -1,4 +1,4 @@
-use Rattle.alm_keeper.proofs.StoreOpened.{cause_of, if_err}
+use Rattle.alm_keeper.proofs.StoreOpened.{cause_of, if_err, match_result}
 use Rattle.alm_keeper.proofs.StoreCalls.{opens_by, refused_by, disk_failed}
 use Rattle.alm_keeper.proofs.StorePacing.{if_ok, opened_pace}
 use Rattle.alm_keeper.proofs.as_store.KeeperStore.open.Goals as goal
@@ -14,16 +14,12 @@ pub returns-clause-pace : goal.returns-clause-pace
 returns-clause-pace g c = if_ok c.open_store.result c.open_store.ensures.idle (λ k is half. opened_pace k is.0 half)
 
 pub returns-clause-made : goal.returns-clause-made
-returns-clause-made g c = if_ok c.open_store.result c.open_store.ensures.made (λ k m. opens_by g.D.Disk.serves c.args.from k.disk m.0 k.half m.3)
+returns-clause-made g c =
+    match_result c.open_store.result c.open_store.ensures.made (λ k m. opens_by g.D.Disk.serves c.args.from k.disk m.0 k.half m.3)
+    (λ e m. refused_by e.0 g.D.Disk.serves c.args.from e.1 m.0 m.1 m.2)
 
 pub returns-clause-failed : goal.returns-clause-failed
 returns-clause-failed g c =
     let o = c.open_store.ensures in
     if_err c.open_store.result o.counts o.counts o.honest_back o.honest_back
     (λ e counts _ _ _ is. disk_failed e.0 (g.D.Disk.failures c.args.from) (g.D.Disk.failures e.1) counts is)
-
-pub returns-clause-made_back : goal.returns-clause-made_back
-returns-clause-made_back g c =
-    let o = c.open_store.ensures in
-    if_err c.open_store.result o.made_back o.counts o.honest_back o.honest_back
-    (λ e made _ _ _. refused_by e.0 g.D.Disk.serves c.args.from e.1 made.0 made.1 made.2)

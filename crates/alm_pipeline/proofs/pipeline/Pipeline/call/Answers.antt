@@ -8,7 +8,8 @@ use Rattle.alm_flush.specs.HeldBatch.{stored_of, published_entries, to_commit}
 use Rattle.alm_flush.proofs.HeldLaws.{accepted_more}
 use Rattle.alm_pipeline.specs.World.{Held, entries_at, stores}
 use Rattle.alm_pipeline.specs.Headline.{Sight}
-use Rattle.alm_pipeline.specs.Matches.{IsGivenUp, stage_of, entries_of, notes_of, batch_held_at, sight_in}
+use Rattle.alm_flush.specs.Flushes.{IsGivenUp}
+use Rattle.alm_pipeline.specs.Matches.{stage_of, entries_of, notes_of, batch_held_at, sight_in}
 use Rattle.alm_pipeline.proofs.Calls.{committed_batch, failed_batch, fails_with, goes_with, may_call, may_not_call, sure_working}
 use Rattle.alm_pipeline.proofs.Moved.{opened_as}
 use Rattle.alm_disk.specs.Failures.{HasFailed}
@@ -96,7 +97,7 @@ returns-in-Nothing-clause-moves g c = λ honest w m refused.
     let o = c.tell_batches.ensures.«open» w m in
     let sees = λ (k : _). let at : Sight = record { state = g.K.Device.Disk.state (g.K.Store.disk k); failures = g.K.Device.Disk.failures (g.K.Store.disk k); phase = (g.K.Store.state k).phase; refused = refused } in at in (
       may_not_call w (sight_in refused c.args.self.now) p.flusher.held c.advance.new.self.held (g.K.Store.state p.flusher.store).phase o.fits.batches.held (ap (λ k. (g.K.Store.state k).phase) same) c.in-Nothing.ensures.held,
-      ap sees (c.in-Nothing.ensures.nothing refl ∙ same),
+      ap sees (c.in-Nothing.ensures.nothing.0 refl ∙ same),
     )
 
 pub returns-in-Failed-clause-moves : goal.returns-in-Failed-clause-moves

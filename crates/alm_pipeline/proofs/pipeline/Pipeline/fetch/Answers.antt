@@ -5,7 +5,8 @@ use Rattle.alm_rings.specs.Batches.{fetched_of, sealed_of, coming_in}
 use Rattle.alm_store.specs.State.{StoreState}
 use Rattle.alm_flush.specs.HeldBatch.{stored_of, published_entries}
 use Rattle.alm_pipeline.specs.World.{Nothing, fetches}
-use Rattle.alm_pipeline.specs.Matches.{IsGivenUp, stage_of, entries_of, notes_of, batch_held_at}
+use Rattle.alm_flush.specs.Flushes.{IsGivenUp}
+use Rattle.alm_pipeline.specs.Matches.{stage_of, entries_of, notes_of, batch_held_at}
 use Rattle.alm_pipeline.proofs.Lists.{next_sealed, none_sealed}
 use Rattle.alm_pipeline.proofs.Moved.{opened_as}
 use Rattle.alm_pipeline.proofs.pipeline.Pipeline.fetch.Goals as goal

@@ -5,7 +5,8 @@ use Rattle.alm_rings.specs.Placed.{inbox_at, outbox_at, taken_by, released_by}
 use Rattle.alm_rings.specs.Batches.{AreBatchEnds, fetched_of, given_of}
 use Rattle.alm_seq.specs.Spares.{spares}
 use Rattle.alm_flush.specs.HeldBatch.{stored_of, published_entries}
-use Rattle.alm_pipeline.specs.Matches.{IsGivenUp, entries_of, notes_of, stage_of}
+use Rattle.alm_flush.specs.Flushes.{IsGivenUp}
+use Rattle.alm_pipeline.specs.Matches.{entries_of, notes_of, stage_of}
 use Rattle.alm_pipeline.proofs.Placing.{ring_trans, ring_sym}
 use Rattle.alm_pipeline.proofs.pipeline.Pipeline.new.Goals as goal
 

@@ -6,7 +6,8 @@ use Rattle.alm_rings.specs.Batches.{AreBatchEnds, fetched_of, given_of}
 use Rattle.alm_flush.specs.HeldBatch.{stored_of, published_entries}
 use Rattle.alm_flush.proofs.HeldLaws.{accepted_more}
 use Rattle.alm_pipeline.specs.World.{Stored, after_publish}
-use Rattle.alm_pipeline.specs.Matches.{IsGivenUp, stage_of, entries_of, notes_of, batch_held_at}
+use Rattle.alm_flush.specs.Flushes.{IsGivenUp}
+use Rattle.alm_pipeline.specs.Matches.{stage_of, entries_of, notes_of, batch_held_at}
 use Rattle.alm_pipeline.proofs.Calls.{published_batch}
 use Rattle.alm_pipeline.proofs.Moved.{opened_as}
 use Rattle.alm_pipeline.proofs.pipeline.Pipeline.publish.Goals as goal

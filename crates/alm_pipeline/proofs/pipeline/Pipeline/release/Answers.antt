@@ -10,7 +10,8 @@ use Rattle.alm_rings.specs.Batches.{AreBatchEnds, fetched_of, given_of}
 use Rattle.alm_flush.specs.HeldBatch.{stored_of, published_entries, left_of, after_release, next_entry_of}
 use Rattle.alm_flush.proofs.HeldLaws.{stored_pass, shown_pass}
 use Rattle.alm_pipeline.specs.World.{Stage, Shown, Note, HasVerdicts, goes_to, next_entry, next_notes, note_of, raise, told_more, tells, with_at}
-use Rattle.alm_pipeline.specs.Matches.{IsGivenUp, stage_of, entries_of, note, notes_of, batch_held_at}
+use Rattle.alm_flush.specs.Flushes.{IsGivenUp}
+use Rattle.alm_pipeline.specs.Matches.{stage_of, entries_of, note, notes_of, batch_held_at}
 use Rattle.alm_pipeline.proofs.Moved.{opened_as}
 use Rattle.alm_pipeline.proofs.Counts.{notes_append, released_lt}
 use Rattle.alm_pipeline.proofs.Ready.{something_left, published_at, next_at_is}

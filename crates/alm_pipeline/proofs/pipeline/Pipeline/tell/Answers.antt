@@ -9,7 +9,8 @@ use Rattle.alm_rings.specs.Placed.{inbox_at, outbox_at}
 use Rattle.alm_rings.specs.Batches.{AreBatchEnds, sealed_of, fetched_of, emptied_of, given_of}
 use Rattle.alm_seq.specs.Spares.{spares}
 use Rattle.alm_flush.specs.HeldBatch.{stored_of, published_entries}
-use Rattle.alm_pipeline.specs.Matches.{IsGivenUp, KnowsEnds, entries_of, notes_of, stage_of}
+use Rattle.alm_flush.specs.Flushes.{IsGivenUp}
+use Rattle.alm_pipeline.specs.Matches.{KnowsEnds, entries_of, notes_of, stage_of}
 use Rattle.alm_pipeline.proofs.Placing.{set_here, set_cases, still_inbox, still_outbox, ring_trans, ring_sym}
 use Rattle.alm_pipeline.proofs.pipeline.Pipeline.tell.Goals as goal
 
