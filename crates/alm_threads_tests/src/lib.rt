@@ -37,3 +37,5 @@ mod rows;
 #[cfg(test)]
 mod runs;
 pub mod script;
+#[cfg(test)]
+mod stops;

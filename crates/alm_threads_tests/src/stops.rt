@@ -1,0 +1,62 @@
+//! A source gets no turn once all threads are to stop.
+
+use alm_board::{Look, PlainBoard, PlainTold, Seen};
+use alm_model::{Alarms, PlainPlant};
+use alm_rings::{Console, Told, open_slot};
+use alm_run::{Bells, Flags, Go, Source, ThreadBell, run_source};
+use alm_service::worked_table;
+use alm_types::Slot;
+use std::alloc::Global;
+use std::sync::atomic::{AtomicU64, Ordering};
+use std::sync::{Arc, Wait};
+use std::test::Fail;
+
+/// How many turns the source wants.
+const TURNS: u64 = 3;
+
+/// A source that counts its turns, and then ends.
+#[derive(Drop)]
+struct Counted {
+    turns: Arc<AtomicU64, Global>,
+}
+
+impl<T: Told + Drop, L: Look<Told = T>> Source<T, L> for Counted {
+    ghost use Rattle.std.specs.Prelude.{None};
+
+    ghost slot = { λ _. None };
+
+    fn turn(&mut self, _console: &mut Console<T>, _look: &mut L) -> Go {
+        let before = self.turns.fetch_add(1, Ordering::SeqCst);
+        if before.wrapping_add(1) < TURNS {
+            Go::Go
+        } else {
+            Go::End
+        }
+    }
+}
+
+/// How many turns it gets, where the threads are to stop before the first, or are not.
+fn turns<R: Wait>(rt: &R, alloc: Global, is_stopped: bool) -> Option<u64> {
+    let slot = Slot::new(0)?;
+    let (console, _inbox, _outbox) = open_slot::<PlainTold>(alloc, slot).ok()?;
+    let table = worked_table(alloc).ok()?;
+    let board = PlainBoard::new(PlainPlant::new(alloc, &table).ok()?);
+    let look = board.looker(Seen::new());
+    let flags = Flags::<ThreadBell>::new(Bells::new(&[], Vec::new(alloc)));
+    if is_stopped {
+        flags.stop_all();
+    }
+    let turns = Arc::new(alloc, AtomicU64::new(0)).ok()?;
+    let counted = Counted {
+        turns: Arc::try_clone(&turns).ok()?,
+    };
+    drop(run_source(rt, &flags, console, look, counted));
+    Some(turns.load(Ordering::SeqCst))
+}
+
+#[test]
+fn a_source_gets_no_turn_behind_a_stop(rt: HostRuntime) -> Result<(), Fail> {
+    assert_eq!(rt; turns(&rt, rt.alloc(), false), Some(TURNS));
+    assert_eq!(rt; turns(&rt, rt.alloc(), true), Some(0));
+    Ok(())
+}
