@@ -1,2 +1,4 @@
 pub mod Faults
 pub mod Formatted
+pub mod Orders
+pub mod Ends

@@ -1,26 +1,46 @@
 //! The table of a device's plant.
 
+ghost use Rattle.alm_program.specs.Ends.{PrintEnds, PrintsTable};
+
 use crate::fault::Fault;
 use crate::io_faults::{file_fault, io_fault};
+use crate::showing::open_to_print;
 use alm_desk::CountedWriter;
 use alm_disk::Disk;
 use alm_export::export_plant;
 use alm_file::FileDisk;
-use alm_keeper::{Keeper, open_store};
+use alm_keeper::Keeper;
+use std::alloc::Global;
 use std::fs::{File, Files};
-use std::io::{self, BufWriter};
+use std::io::{self, BufWriter, Write};
 
 /// Prints the table of the plant that is stored on a device of this size, in bytes.
-fn print_table<R: Print + AllocGlobal>(
+fn print_table<D: Disk + Drop, W: Write + Drop>(
+    alloc: Global,
+    keeper: &Keeper<D>,
+    size: u64,
+    writer: &mut CountedWriter<W>,
+) -> Result<(), Fault>
+    ensures text { PrintsTable size keeper.now.stored.plant (W.contents writer.old.inner)
+        (W.contents writer.new.inner) result }
+    ensures ends { PrintEnds writer.old.failed writer.new.failed result }
+{
+    export_plant(alloc, keeper.stored(), size, writer)?;
+    match writer.flush() {
+        Ok(()) => Ok(()),
+        Err(_) => Err(Fault::Io),
+    }
+}
+
+/// The same on standard output.
+fn print_store<R: Print + AllocGlobal>(
     rt: &R,
     keeper: &Keeper<FileDisk>,
     size: u64,
 ) -> Result<(), Fault> {
     let alloc = rt.alloc();
     let writer = BufWriter::with_capacity(alloc, 65536, io::writer(rt)).map_err(io_fault)?;
-    let mut writer = CountedWriter::new(writer);
-    export_plant(alloc, keeper.stored(), size, &mut writer)?;
-    writer.flush().map_err(|_| Fault::Io)
+    print_table(alloc, keeper, size, &mut CountedWriter::new(writer))
 }
 
 /// Prints the table of a device's plant as a table file. The device is opened to be read alone.
@@ -30,8 +50,6 @@ pub fn run_export<R: Print + Files<File = File> + AllocGlobal>(
 ) -> Result<(), Fault> {
     let disk = FileDisk::open_to_read(rt, device).map_err(file_fault)?;
     let size = disk.size();
-    match open_store(rt.alloc(), disk) {
-        Ok(keeper) => print_table(rt, &keeper, size),
-        Err((fault, _)) => Err(Fault::from(fault)),
-    }
+    let keeper = open_to_print(rt.alloc(), disk)?;
+    print_store(rt, &keeper, size)
 }

@@ -1,6 +1,9 @@
 //! Making a device of a table file.
 
+ghost use Rattle.std.specs.Prelude.{◌≡◌, ℕ, length, false, IfOk, IfErr};
 ghost use Rattle.alm_lines.specs.Written.{Prints};
+ghost use Rattle.alm_checkpoint.specs.Headers.{segment_fits};
+ghost use Rattle.alm_keeper.specs.Formatting.{IsLongest};
 ghost use Rattle.alm_program.specs.Formatted.{formatted_text};
 
 use crate::fault::Fault;
@@ -24,6 +27,17 @@ fn is_same_file<R: Files<File = File>>(rt: &R, one: &str, other: &str) -> bool {
     }
 }
 
+/// The layout of a device of this size for a table, with the longest segment that fits twice.
+fn layout_for(size: u64, table: &Table) -> Result<Layout, Fault>
+    ensures longest { IfOk result (IsLongest size table.now) }
+    ensures too_small { IfErr result
+        (λ fault. (fault ≡ Fault.TooSmall) × ((n : ℕ) →
+        segment_fits size (length table.now.alarms) table.now.areas n ≡ false)) }
+{
+    let rows = table.alarms().len() as u32;
+    Layout::longest(rows, table.areas(), size, Version::V02).ok_or(Fault::TooSmall)
+}
+
 /// Formats the file of a device for a table: with room on the disk for all that its layout uses, so that no later write can
 /// meet a full disk. An old file is set to the size, and is as it was where the table needs a larger one. The length of its segments.
 fn format_file<R: Files<File = File> + AllocGlobal>(
@@ -31,11 +45,12 @@ fn format_file<R: Files<File = File> + AllocGlobal>(
     device: &str,
     size: u64,
     table: &Table,
-) -> Result<u32, Fault> {
-    let rows = table.alarms().len() as u32;
-    let Some(layout) = Layout::longest(rows, table.areas(), size, Version::V02) else {
-        return Err(Fault::TooSmall);
-    };
+) -> Result<u32, Fault>
+    ensures { IfOk result
+        (λ segment. (layout : Layout) × IsLongest size table.now layout ×
+        (layout.segment ≡ segment)) }
+{
+    let layout = layout_for(size, table)?;
     let disk = FileDisk::make(rt, device, size, layout.device_len()).map_err(file_fault)?;
     match format(rt.alloc(), disk, table) {
         Ok(_) => Ok(layout.segment),
@@ -44,15 +59,13 @@ fn format_file<R: Files<File = File> + AllocGlobal>(
 }
 
 /// Writes that a device was formatted: its rows, its areas, and the bytes of a segment.
-fn print_formatted<W: io::Write>(
-    rows: u64,
-    areas: u64,
-    segment: u64,
-    writer: &mut W,
-) -> io::Result<()>
+fn print_formatted<W: io::Write>(table: &Table, segment: u32, writer: &mut W) -> io::Result<()>
     ensures { Prints (W.contents writer.old) (W.contents writer.new)
-        (formatted_text rows areas segment) result }
+        (formatted_text (length table.now.alarms) table.now.areas segment) result }
 {
+    let rows = table.alarms().len() as u64;
+    let areas = u64::from(table.areas());
+    let segment = u64::from(segment);
     put_parts(
         &[
             Part::Word("formatted "),
@@ -79,7 +92,5 @@ pub fn run_format<R: Files<File = File> + Print + AllocGlobal>(
     let text = fs::read(rt, table).map_err(io_fault)?;
     let (size, table) = table_of(rt.alloc(), text.as_slice())?;
     let segment = format_file(rt, device, size, &table)?;
-    let rows = table.alarms().len() as u64;
-    let areas = u64::from(table.areas());
-    print_formatted(rows, areas, u64::from(segment), &mut io::writer(rt)).map_err(io_fault)
+    print_formatted(&table, segment, &mut io::writer(rt)).map_err(io_fault)
 }

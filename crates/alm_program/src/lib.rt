@@ -26,9 +26,13 @@
 //! | of the device later | 3 | `fault stopped` |
 //! | of memory, files, streams, ports | 3 | `fault memory`, `fault io`, `fault net` |
 //!
-//! What is used above: [`end_of`] ends with status 0 and no line, or with the status and the line of the fault.
+//! What is used above: [`run_words`] answers an order to serve just where some words ask for one, with the device, the port and the
+//! number of connections that they name; [`end_of`] ends with status 0 and no line, or with the status and the line of the fault.
 //!
-//! Not promised: what a file holds. That which cause gives which fault is tested.
+//! Within: over any reader, writer and device, a desk, the print of a plant or of its table and a refused opening end by the fault of
+//! their cause.
+//!
+//! Not promised: what a file or a standard stream gives and takes.
 #![tactic(auto)]
 
 mod desk;

@@ -1,7 +1,11 @@
 //! The program, from its words to its status.
 
+ghost use Rattle.std.specs.Prelude.{◌≡◌, ◌≤◌, IfOk, string_bytes};
 ghost use Rattle.std.specs.Process.{exit_status};
+ghost use Rattle.alm_words.specs.Jobs.{IsJob};
+ghost use Rattle.alm_words.specs.Orders.{order_of};
 ghost use Rattle.alm_program.specs.Faults.{EndsBy, IsEnd};
+ghost use Rattle.alm_program.specs.Orders.{IsAskedInWords, IsOrderOf};
 
 use crate::desk::{run_desk, run_device_desk};
 use crate::exporting::run_export;
@@ -13,6 +17,7 @@ use crate::serve_order::ServeOrder;
 use crate::showing::run_show;
 use alm_file::fill_streams;
 use alm_words::{Job, job_of};
+use std::alloc::Global;
 use std::env::{self, Env};
 use std::fs::{File, Files};
 use std::io::{self, ErrorKind};
@@ -27,14 +32,30 @@ fn words_of<R: Env + AllocGlobal>(rt: &R) -> Result<Vec<String>, Fault> {
     }
 }
 
-/// Does what the words ask of files and standard streams, the descriptor of each closed stream taken before. Where they ask for a server,
-/// no more is done, and the answer is what they ask.
-pub fn run_words<R: Input + Print + Env + Files<File = File> + AllocGlobal>(
+/// What a server is asked.
+fn order_to<'a>(alloc: Global, device: &'a str, port: u16, conns: u32) -> Result<ServeOrder, Fault>
+    requires { port ≤ 65518 }
+    ensures { IfOk result
+        (λ order. (string_bytes order.device ≡ device.now) × (order.port ≡ port) ×
+        (order.conns ≡ conns)) }
+{
+    let device = String::from_str(alloc, device)?;
+    Ok(ServeOrder {
+        device,
+        port,
+        conns,
+    })
+}
+
+/// Does a job. Of one to serve no more is done, and the answer is what it asks.
+fn run_job<'a, R: Input + Print + Files<File = File> + AllocGlobal>(
     rt: &R,
-) -> Result<Option<ServeOrder>, Fault> {
-    fill_streams(rt).map_err(io_fault)?;
-    let words = words_of(rt)?;
-    match job_of(rt.alloc(), words.as_slice())? {
+    job: Job<'a>,
+) -> Result<Option<ServeOrder>, Fault>
+    requires { IsJob job }
+    ensures { IfOk result (IsOrderOf (order_of job.entry)) }
+{
+    match job {
         Job::Desk(None) => run_desk(rt)?,
         Job::Desk(Some(device)) => run_device_desk(rt, device)?,
         Job::Format { device, table } => run_format(rt, device, table)?,
@@ -45,15 +66,22 @@ pub fn run_words<R: Input + Print + Env + Files<File = File> + AllocGlobal>(
             port,
             conns,
         } => {
-            let device = String::from_str(rt.alloc(), device)?;
-            return Ok(Some(ServeOrder {
-                device,
-                port,
-                conns,
-            }));
+            return Ok(Some(order_to(rt.alloc(), device, port, conns)?));
         }
     }
     Ok(None)
+}
+
+/// Does what the words ask of files and standard streams, the descriptor of each closed stream taken before. Where they ask for a server,
+/// no more is done, and the answer is what they ask.
+pub fn run_words<R: Input + Print + Env + Files<File = File> + AllocGlobal>(
+    rt: &R,
+) -> Result<Option<ServeOrder>, Fault>
+    ensures { IfOk result IsAskedInWords }
+{
+    fill_streams(rt).map_err(io_fault)?;
+    let words = words_of(rt)?;
+    run_job(rt, job_of(rt.alloc(), words.as_slice())?)
 }
 
 /// The end of the program: status 0 and no line, or one line to `errors` and the status of the fault.

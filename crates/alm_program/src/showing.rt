@@ -1,23 +1,74 @@
 //! What is shown of a device.
 
+ghost use Rattle.std.specs.Prelude.{◌≡◌, ℕ, List, Err, IfOk, IfErr};
+ghost use Rattle.alm_checkpoint.specs.declared.half.Half.{Half};
+ghost use Rattle.alm_checkpoint.specs.declared.layout.Layout.{Layout};
+ghost use Rattle.alm_disk.specs.Device.{IsImage};
+ghost use Rattle.alm_keeper.specs.Calls.{reads_of};
+ghost use Rattle.alm_keeper.specs.Keeper.{StandsWithRoom};
+ghost use Rattle.alm_keeper.specs.Opening.{CountsAs, Opens};
+ghost use Rattle.alm_lines.specs.Written.{Prints};
+ghost use Rattle.alm_service.specs.Showing.{plant_text};
+ghost use Rattle.alm_store.specs.Calls.{SyncsAndEndsIn};
+ghost use Rattle.alm_program.specs.Ends.{PrintEnds};
+ghost use Rattle.alm_program.specs.Faults.{fault_of_open};
+
 use crate::fault::Fault;
 use crate::io_faults::{file_fault, io_fault};
 use alm_desk::CountedWriter;
+use alm_disk::Disk;
 use alm_file::FileDisk;
-use alm_keeper::{Keeper, open_store};
+use alm_keeper::{Keeper, OpenFault, open_store};
 use alm_service::show_plant;
 use alm_types::Answer;
+use std::alloc::Global;
 use std::fs::{File, Files};
-use std::io::{self, BufWriter};
+use std::io::{self, BufWriter, Write};
+
+/// Opens a device whose plant is to be printed.
+pub(crate) fn open_to_print<D: Disk + Drop>(alloc: Global, disk: D) -> Result<Keeper<D>, Fault>
+    ensures stands { D.honest disk →
+        IfOk result (λ keeper. StandsWithRoom keeper.stored (D.state keeper.disk).bytes) }
+    ensures unwritten { D.honest disk →
+        IfOk result
+        (λ keeper. (b : List ℕ) → IsImage (D.state keeper.disk) b → IsImage (D.state disk) b) }
+    // The fault is that of a device that this one is after an opening's calls.
+    ensures refused { IfErr result
+        (λ fault. (why : OpenFault) × (now : D) × (layout : Layout) × (half : Half) ×
+        (fault ≡ fault_of_open why) × CountsAs why (D.failures disk) (D.failures now) ×
+        SyncsAndEndsIn why D.serves (reads_of layout half) disk now ×
+        (D.honest disk → Opens (D.state now).bytes (Err why)) ×
+        (D.honest disk → (b : List ℕ) → IsImage (D.state now) b → IsImage (D.state disk) b)) }
+{
+    match open_store(alloc, disk) {
+        Ok(keeper) => Ok(keeper),
+        Err((fault, _)) => Err(Fault::from(fault)),
+    }
+}
 
 /// Prints the plant that is stored.
-fn print_plant<R: Print + AllocGlobal>(rt: &R, keeper: &Keeper<FileDisk>) -> Result<(), Fault> {
+fn print_plant<D: Disk + Drop, W: Write + Drop>(
+    alloc: Global,
+    keeper: &Keeper<D>,
+    writer: &mut CountedWriter<W>,
+) -> Result<(), Fault>
+    ensures text { Prints (W.contents writer.old.inner) (W.contents writer.new.inner)
+        (plant_text keeper.now.stored.plant keeper.now.stored.epoch) result }
+    ensures ends { PrintEnds writer.old.failed writer.new.failed result }
+{
+    let mut answer = Answer::new(alloc);
+    show_plant(keeper.stored(), keeper.epoch(), &mut answer, writer)?;
+    match writer.flush() {
+        Ok(()) => Ok(()),
+        Err(_) => Err(Fault::Io),
+    }
+}
+
+/// The same on standard output.
+fn print_store<R: Print + AllocGlobal>(rt: &R, keeper: &Keeper<FileDisk>) -> Result<(), Fault> {
     let alloc = rt.alloc();
     let writer = BufWriter::with_capacity(alloc, 65536, io::writer(rt)).map_err(io_fault)?;
-    let mut writer = CountedWriter::new(writer);
-    let mut answer = Answer::new(alloc);
-    show_plant(keeper.stored(), keeper.epoch(), &mut answer, &mut writer)?;
-    writer.flush().map_err(|_| Fault::Io)
+    print_plant(alloc, keeper, &mut CountedWriter::new(writer))
 }
 
 /// Prints the plant of a device, which is opened to be read alone.
@@ -26,8 +77,6 @@ pub fn run_show<R: Print + Files<File = File> + AllocGlobal>(
     device: &str,
 ) -> Result<(), Fault> {
     let disk = FileDisk::open_to_read(rt, device).map_err(file_fault)?;
-    match open_store(rt.alloc(), disk) {
-        Ok(keeper) => print_plant(rt, &keeper),
-        Err((fault, _)) => Err(Fault::from(fault)),
-    }
+    let keeper = open_to_print(rt.alloc(), disk)?;
+    print_store(rt, &keeper)
 }
