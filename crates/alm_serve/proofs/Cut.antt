@@ -11,10 +11,6 @@ pub as_cut : {E : Type 0} (o n : Option (List ℕ)) (text : List ℕ) (r : Resul
 as_cut {E} o n text (Ok x) p = record { front = text; rest = []; whole = sym (append-nil text); written = p }
 as_cut {E} o n text (Err x) p = p
 
--- a front of more
-pub cut_more : (o n : Option (List ℕ)) (text more : List ℕ) → IsCutShort o n text → IsCutShort o n (text ++ more)
-cut_more o n text more p = record { front = p.front; rest = p.rest ++ more; whole = ap (λ (t : List ℕ). t ++ more) p.whole ∙ append_assoc p.front p.rest more; written = p.written }
-
 -- a front behind a text that is written
 pub cut_behind : (o m n : Option (List ℕ)) (text more : List ℕ) → Appends o m text → IsCutShort m n more → IsCutShort o n (text ++ more)
 cut_behind o m n text more a p = record {

@@ -1,5 +1,5 @@
 -- What a run leaves, said with less, and by how a server ends.
-use Rattle.std.proofs.Common.{◌≡◌, ◌⊎◌, ℕ, List, Option, Some, None, false, refl}
+use Rattle.std.proofs.Common.{◌≡◌, ◌⊎◌, inl, inr, ℕ, List, Option, Some, None, false, refl}
 use Rattle.std.specs.Prelude.{Result, Ok, Err, IfOk, IfErr, ◌≢◌}
 use Rattle.alm_types.specs.declared.action.Action.{Action}
 use Rattle.alm_disk.specs.Device.{DeviceState, IsImage}
@@ -11,7 +11,8 @@ use Rattle.alm_run.specs.Histories.{LeavesOneOf}
 use Rattle.alm_threads.specs.Runs.{IsRun}
 use Rattle.alm_serve.specs.declared.serve_fault.ServeFault.{ServeFault}
 use Rattle.alm_serve.specs.declared.serve_fault.ServeFault.TheVariants.{Open, Net, Write, Memory, Storage}
-use Rattle.alm_serve.specs.Runs.{ServesRun, Tells, ServeEnds}
+use Rattle.alm_serve.specs.Runs.{IsOpened, Opens, ServeEnds, ServesRun, Tells}
+use Rattle.alm_serve.specs.Serving.{ServeWrites}
 
 run_map : (leaves leaves' : Condensed → Condensed → Type 0) (endures endures' : List Action → ℕ → Type 0) (base : Condensed) (slots : List ℕ) (stored : Condensed) (reports : List (Option SlotReport))
     → ((p q : Condensed) → leaves p q → leaves' p q) → ((actions : List Action) (n : ℕ) → endures actions n → endures' actions n)
@@ -57,29 +58,41 @@ module _ (honest honest' : Type 0) (recovers : List ℕ → Condensed → Type 0
   tells_by base from (Some count) s = serves_by base from _ count s
   tells_by base from None s = (s.0, serves_by base from _ s.0 s.1)
 
-  pub ends_of : (device opened : DeviceState) (failures : ℕ) (base : Condensed) (result : Result ℕ ServeFault)
+  opened_of : (device opened : DeviceState) (base : Condensed) → (honest → IsImage device opened.bytes × recovers opened.bytes base) → (honest → (place : ℕ) → opened.pending place ≡ false)
+      → IsOpened honest recovers device
+  opened_of device opened base stands settled = record {
+    opened = opened;
+    base = base;
+    image = λ h. (stands h).0;
+    stands = λ h. (stands h).1;
+    settled = settled;
+  }
+
+  pub opens_of : (device opened : DeviceState) (base : Condensed) (told : Option ℕ) → (honest → IsImage device opened.bytes × recovers opened.bytes base) → (honest → (place : ℕ) → opened.pending place ≡ false)
+      → Tells honest' recovers base opened told → Opens honest recovers device told
+  unfolding opened_of
+  opens_of device opened base told stands settled tells = (opened_of device opened base stands settled, tells_by base opened told tells)
+
+  pub ends_of : (device opened : DeviceState) (is_refused : OpenFault → Type 0) (base : Condensed) (result : Result ℕ ServeFault)
       → (honest → IsImage device opened.bytes × recovers opened.bytes base) → (honest → (place : ℕ) → opened.pending place ≡ false)
       → IfOk result (λ count. Tells honest' recovers base opened (Some count))
       → IfErr result (λ fault. fault ≡ Storage → Tells honest' recovers base opened None)
       → IfErr result (λ fault. (why : OpenFault) → fault ≢ Open why)
-      → ServeEnds honest recovers device failures result
-  ends_of device opened failures base (Ok count) stands settled ran stopped opens = record {
-    opened = opened;
-    base = base;
-    image = λ h. (stands h).0;
-    stands = λ h. (stands h).1;
-    settled = settled;
-    tells = tells_by base opened (Some count) ran;
-  }
-  ends_of device opened failures base (Err Storage) stands settled ran stopped opens = record {
-    opened = opened;
-    base = base;
-    image = λ h. (stands h).0;
-    stands = λ h. (stands h).1;
-    settled = settled;
-    tells = tells_by base opened None (stopped refl);
-  }
-  ends_of device opened failures base (Err (Open why)) stands settled ran stopped opens = absurd (opens why refl)
-  ends_of device opened failures base (Err Net) stands settled ran stopped opens = tt
-  ends_of device opened failures base (Err Write) stands settled ran stopped opens = tt
-  ends_of device opened failures base (Err Memory) stands settled ran stopped opens = tt
+      → ServeEnds honest recovers device is_refused result
+  ends_of device opened is_refused base (Ok count) stands settled ran stopped opens = opens_of device opened base (Some count) stands settled ran
+  ends_of device opened is_refused base (Err Storage) stands settled ran stopped opens = opens_of device opened base None stands settled (stopped refl)
+  ends_of device opened is_refused base (Err (Open why)) stands settled ran stopped opens = absurd (opens why refl)
+  ends_of device opened is_refused base (Err Net) stands settled ran stopped opens = opened_of device opened base stands settled
+  ends_of device opened is_refused base (Err Write) stands settled ran stopped opens = opened_of device opened base stands settled
+  ends_of device opened is_refused base (Err Memory) stands settled ran stopped opens = opened_of device opened base stands settled
+
+-- what is written, behind what else is known of a whole run
+pub writes_map : (whole whole' : ℕ → Type 0) (port : ℕ) (old new : Option (List ℕ)) (result : Result ℕ ServeFault)
+    → ((count : ℕ) → whole count → whole' count) → ServeWrites whole port old new result → ServeWrites whole' port old new result
+writes_map whole whole' port old new (Ok count) more w = w
+writes_map whole whole' port old new (Err (Open why)) more w = w
+writes_map whole whole' port old new (Err Net) more w = w
+writes_map whole whole' port old new (Err Memory) more w = w
+writes_map whole whole' port old new (Err Storage) more w = w
+writes_map whole whole' port old new (Err Write) more (inl cut) = inl cut
+writes_map whole whole' port old new (Err Write) more (inr w) = inr (w.0, more w.0 w.1, w.2)

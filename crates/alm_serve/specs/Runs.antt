@@ -5,7 +5,7 @@ use Rattle.alm_model.specs.Plant.{Condensed}
 use Rattle.alm_rings.specs.declared.slot_report.SlotReport.{SlotReport}
 use Rattle.alm_store.specs.declared.phase.Phase.{Phase}
 use Rattle.alm_store.specs.declared.phase.Phase.TheVariants.{Stopped}
-use Rattle.alm_store.specs.Opening.{HasCause}
+use Rattle.alm_store.specs.declared.open_fault.OpenFault.{OpenFault}
 use Rattle.alm_run.specs.Moments.{Endures}
 use Rattle.alm_threads.specs.Answered.{AllAnswered}
 use Rattle.alm_threads.specs.Runs.{IsRun}
@@ -40,18 +40,21 @@ module _ (honest : Type 0) (recovers : List ℕ → Condensed → Type 0) where
   Tells base from (Some count) = ServesRun base from IsWhole count
   Tells base from None = (count : ℕ) × ServesRun base from (λ phase reports. ¬ (IsWhole phase reports)) count
 
-  -- the device was opened: what was read is an image of it that stands for the plant from which the run goes on
-  pub record Opens (device : DeviceState) (told : Option ℕ) : Type 0 where
+  -- the device was opened: what was read is an image of it that stands for the plant from which a run goes on
+  pub record IsOpened (device : DeviceState) : Type 0 where
     pub opened : DeviceState
     pub base : Condensed
     pub image : honest → IsImage device opened.bytes
     pub stands : honest → recovers opened.bytes base
     pub settled : honest → (place : ℕ) → opened.pending place ≡ false
-    pub tells : Tells base opened told
 
-  -- by how the server ends, over a device that has failed so often
-  abbrev pub ServeEnds : DeviceState → (failures : ℕ) → Result ℕ ServeFault → Type 0
-  ServeEnds device failures (Ok count) = Opens device (Some count)
-  ServeEnds device failures (Err Storage) = Opens device None
-  ServeEnds device failures (Err (Open fault)) = honest → (now : ℕ) × HasCause recovers device fault failures now
-  ServeEnds device failures (Err other) = Unit {0}
+  -- .. and was run to this end
+  abbrev pub Opens : DeviceState → Option ℕ → Type 0
+  Opens device told = (o : IsOpened device) × Tells o.base o.opened told
+
+  -- by how the server ends; of a device that isn't opened, why
+  abbrev pub ServeEnds : DeviceState → (is_refused : OpenFault → Type 0) → Result ℕ ServeFault → Type 0
+  ServeEnds device is_refused (Ok count) = Opens device (Some count)
+  ServeEnds device is_refused (Err Storage) = Opens device None
+  ServeEnds device is_refused (Err (Open why)) = is_refused why
+  ServeEnds device is_refused (Err other) = IsOpened device

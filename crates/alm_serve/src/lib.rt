@@ -18,8 +18,10 @@
 //!
 //! What is used above: what stands written, by how it ends; N is how many actions are stored. And what was run: from the plant for which
 //! an image of the device stands, a run of all slots in threads, at each moment of which whatever a crash leaves of an honest device
-//! stands for a front of the run's history that holds all that had been told by then. It ends well just where that run was whole; that the
-//! storage stopped is said only where it wasn't.
+//! stands for a front of the run's history that holds all that had been told by then. It ends well just where that run was whole, and
+//! writes of `stopped N` only behind a whole run; that the storage stopped is said only where it wasn't. `Open` is told of what the
+//! device became by an opening's calls, as the device's fault only where a failure was counted, and `Net`, `Write` and `Memory` only
+//! of a device that was opened.
 //!
 //! Not promised: anything of what a socket gives or takes, that it ever ends, and any time. There are no accounts: whoever reaches a port
 //! of loopback has the role of its slot.

@@ -3,8 +3,11 @@
 ghost use Rattle.std.specs.Prelude.{◌≡◌, ◌≢◌, ◌≤◌, ◌<◌, length, map, IfOk, IfErr, Some, None};
 ghost use Rattle.alm_lines.specs.Written.{Prints};
 ghost use Rattle.alm_rings.specs.Placed.{AreApart};
+ghost use Rattle.alm_disk.specs.Failures.{HasFailed};
 ghost use Rattle.alm_keeper.specs.AsStore.{StandsFor};
-ghost use Rattle.alm_serve.specs.Runs.{AreAllSlots, ServeEnds, Tells};
+ghost use Rattle.alm_store.specs.Calls.{IsRefusedBy};
+ghost use Rattle.alm_store.specs.Opening.{HasCause};
+ghost use Rattle.alm_serve.specs.Runs.{AreAllSlots, Opens, ServeEnds, Tells};
 ghost use Rattle.alm_serve.specs.Serving.{serving_line, stopped_line, ServeWrites};
 ghost use Rattle.alm_types.specs.Sizes.{most_actions, slot_count};
 
@@ -146,7 +149,10 @@ fn serve_over<
     requires idle { (K.state store).phase ≡ Phase.Idle }
     requires limit { (K.state store).stored.panel.count ≤ most_actions }
     requires port { port ≤ 65518 }
-    ensures writes { ServeWrites port (W.contents writer.old) (W.contents writer.new) result }
+    ensures writes { ServeWrites
+        (λ count. Tells (K.Device.honest (K.disk store)) K.recovers (K.state store).stored
+        (K.Device.state (K.disk store)) (Some count)) port (W.contents writer.old)
+        (W.contents writer.new) result }
     ensures ran { IfOk result
         (λ count. Tells (K.Device.honest (K.disk store)) K.recovers (K.state store).stored
         (K.Device.state (K.disk store)) (Some count)) }
@@ -196,8 +202,14 @@ pub fn serve_run<D: Disk + Drop, W: io::Write, R: Net + Threads + Wait + Clock +
     writer: &mut W,
 ) -> Result<u64, ServeFault>
     requires { port ≤ 65518 }
-    ensures writes { ServeWrites port (W.contents writer.old) (W.contents writer.new) result }
-    ensures ends { ServeEnds (D.honest disk) StandsFor (D.state disk) (D.failures disk) result }
+    ensures writes { ServeWrites
+        (λ count. Opens (D.honest disk) StandsFor (D.state disk) (Some count)) port
+        (W.contents writer.old) (W.contents writer.new) result }
+    ensures ends { ServeEnds (D.honest disk) StandsFor (D.state disk)
+        (λ why. (now : D) × IsRefusedBy why D.serves disk now ×
+        (why ≡ OpenFault.Disk → HasFailed (D.failures disk) (D.failures now)) ×
+        (D.honest disk →
+        HasCause StandsFor (D.state disk) why (D.failures disk) (D.failures now))) result }
 {
     match <Keeper<D> as Store>::open(alloc, disk) {
         Ok(keeper) => {
