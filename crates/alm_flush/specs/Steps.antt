@@ -81,6 +81,8 @@ module _ {S D : Type 0} (g : Ghosts S D) where
     -- and no more than one while a batch waits that was taken as it was fetched
     pub waits : result ≡ More → g.takes old actions → 0 < length actions → (g.state old).written ≤ most → (g.state new).written ≤ most
     pub still : result ≡ More → g.takes old actions → 0 < length actions → (g.state new).phase ≢ Committing → g.takes new actions
+    -- of which the count isn't set back
+    pub counted : result ≡ More → 0 < length actions → (g.state old).written ≤ most → (g.state old).written ≤ (g.state new).written
 
   -- the same between a commit's end and the checkpoint that is opened behind it
   pub record NearsPace (result : Advance) (old new : S) : Type 0 where

@@ -133,7 +133,9 @@ fn call<K: Store>(store: &mut K, batch: &Batch) -> Advance
         K.takes store.new (accepted_of batch.now.entries) }
     ensures written { ((K.state store.new).written ≤ (K.state store.old).written + most) ×
         ((K.state store.old).phase ≢ Phase.Paused →
-        (K.state store.new).written ≤ (K.state store.old).written) }
+        (K.state store.new).written ≤ (K.state store.old).written) ×
+        (result ≡ Advance.More → (K.state store.old).written ≤ most →
+        (K.state store.old).written ≤ (K.state store.new).written) }
     ensures ends { (m : ℕ) → result ≡ Advance.More →
         Behind m (K.state store.old).phase (K.state store.old).left
         (K.will_take store.old (accepted_of batch.now.entries))

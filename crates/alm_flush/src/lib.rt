@@ -26,7 +26,8 @@
 //! list is at all times a front of the stored one; what was released to a slot are, in order, the verdicts of its entries up to
 //! where the flusher stands. No call but `publish` takes memory or waits.
 //!
-//! While a batch waits that was taken as it was fetched, no more than one piece goes out (`waits` of [`Flusher::advance`]). A store
+//! While a batch waits that was taken as it was fetched, no more than one piece goes out (`waits` of [`Flusher::advance`]; nor is
+//! the count of its bytes set back, `counted`). A store
 //! that keeps its pace takes each batch as it is fetched, where the half that stands is of version 02 (`taken` of
 //! [`Flusher::fetch`]): at its opening one does where at most half of the segment is used, and it goes on so with each call, as long
 //! as the segment has 452,651 bytes or more and epochs are left (`pace` and `newest` of both calls; alm_store's Pace says what that

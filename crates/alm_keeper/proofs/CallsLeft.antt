@@ -150,6 +150,19 @@ module _ {D : Type 0} (k : KeeperView D) where
   unwritten_by GateSync Commit not = omega arith
   unwritten_by GateSync Checkpoint not = omega arith
 
+  counted_by : (s : Stage) (w : Work) → (s ≢ GateSync) ⊎ (phase_of s w ≢ at.Committing) → k.written ≤ 65536 → k.written ≤ (after_by s w k).written
+  counted_by Idle w not few = omega (arith, few)
+  counted_by Stopped w not few = omega (arith, few)
+  counted_by Close w not few = omega (arith, few)
+  counted_by CloseSync w not few = omega (arith, few)
+  counted_by Body Commit not few = omega (arith, few)
+  counted_by Body Checkpoint not few = omega (arith, few)
+  counted_by BodySync w not few = omega (arith, few)
+  counted_by Gate w not few = omega (arith, few)
+  counted_by GateSync Commit (inl not) few = absurd (not refl)
+  counted_by GateSync Commit (inr not) few = absurd (not refl)
+  counted_by GateSync Checkpoint not few = omega (arith, few)
+
 -- another device changes nothing of it
 pub same_next : {D : Type 0} (k : KeeperView D) (disk : D) → next (record k { disk = disk }) ≡ next k
 same_next k disk = ap (next_by k.stage k.stored) (by_work k.work)
@@ -241,3 +254,11 @@ module _ {D : Type 0} where
   unwritten More old new goes not = let is = ap (λ (k : KeeperView D). k.written) goes.1 in omega (arith, is, unwritten_by old old.stage old.work not)
   unwritten Done old new goes not = let is = ap (λ (k : KeeperView D). k.written) goes.1 in omega (arith, is, unwritten_by old old.stage old.work not)
   unwritten Failed old new goes not = let is = ap (λ (k : KeeperView D). k.written) goes in omega (arith, is)
+
+  -- no call but a commit's last one sets the count back
+  pub counted : (result : Progress) (old new : KeeperView D) → Progresses result old new → (phase_of old.stage old.work ≢ at.Committing) ⊎ (result ≢ Done) → old.written ≤ 65536
+      → old.written ≤ new.written
+  counted More old new goes not few = let is = ap (λ (k : KeeperView D). k.written) goes.1 in omega (arith, is, counted_by old old.stage old.work (inl goes.0) few)
+  counted Done old new goes (inl not) few = let is = ap (λ (k : KeeperView D). k.written) goes.1 in omega (arith, is, counted_by old old.stage old.work (inr not) few)
+  counted Done old new goes (inr not) few = absurd (not refl)
+  counted Failed old new goes not few = let is = ap (λ (k : KeeperView D). k.written) goes in omega (arith, is)

@@ -17,7 +17,7 @@ use Rattle.alm_keeper.specs.Keeper.{KeeperView, used_room, first_run, piece, aft
 use Rattle.alm_store.specs.Pace.{most}
 use Rattle.alm_store.specs.Pace.{Going, IsInPace}
 use Rattle.alm_keeper.specs.AsStore.{pieces_out, run_of, is_checkpoint_open, going_if, going_of, store_state_of}
-use Rattle.alm_keeper.proofs.CallsLeft.{written_more, unwritten}
+use Rattle.alm_keeper.proofs.CallsLeft.{written_more, unwritten, counted}
 use Rattle.alm_store.specs.Pacing.{KeepsPace, SamePace, IsJustOpened, Grows, SendsOnePiece, PaceAfter, Goes}
 
 -- ---- pieces
@@ -153,6 +153,7 @@ module _ {D : Type 0} (old new : KeeperView D) where
     segment = segment_stays result goes;
     written = written_more result old new goes;
     unwritten = unwritten result old new goes;
+    counted = counted result old new goes;
     pace = pace_after result works small frame some goes;
   }
 

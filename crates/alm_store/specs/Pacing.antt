@@ -1,5 +1,5 @@
 -- What the calls of a store make of an open checkpoint and of the use of its segment.
-use Rattle.std.specs.Prelude.{◌≡◌, ◌≢◌, ℕ, ◌+◌, ◌*◌, ◌≤◌, Option, Some, None}
+use Rattle.std.specs.Prelude.{◌≡◌, ◌≢◌, ◌⊎◌, ℕ, ◌+◌, ◌*◌, ◌≤◌, Option, Some, None}
 use Rattle.alm_store.specs.Pace.{Going, IsInPace, longest, most, open_len}
 use Rattle.alm_store.specs.State.{StoreState}
 use Rattle.alm_store.specs.declared.phase.Phase.{Phase}
@@ -49,9 +49,10 @@ PaceAfter More phase u used written o going = (used ≡ u) × (going ≡ o)
 PaceAfter Done Committing u used written o going = (used ≤ u + longest) × (written ≡ 0) × Grows o going
 PaceAfter Done phase u used written o going = EndsCopy o going used
 
--- a device call: a piece has at most 65,536 bytes, and nothing else is counted
+-- a device call: a piece has at most 65,536 bytes, nothing else is counted, and only a commit that is done sets the count back
 pub record Goes (result : Progress) (old new : StoreState) : Type 0 where
   pub segment : new.segment ≡ old.segment
   pub written : new.written ≤ old.written + most
   pub unwritten : old.phase ≢ Paused → new.written ≤ old.written
+  pub counted : (old.phase ≢ Committing) ⊎ (result ≢ Done) → old.written ≤ most → old.written ≤ new.written
   pub pace : PaceAfter result old.phase old.used new.used new.written old.going new.going
