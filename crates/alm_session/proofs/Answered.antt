@@ -32,13 +32,13 @@ pub record IsDenied (looks : Looks) (base : Condensed) (old new : List Action) (
 
 pub denies : (looks : Looks) (base : Condensed) (old new : List Action) (id : ℕ) (asked : Query) (before after : Answer) (refusal : Refusal) → LookAnswers base old new asked before after (Err refusal) → looks asked (Err refusal)
     → IsDenied looks base old new id asked refusal before.refused after.refused
-denies looks base old new id asked before after Stopped (same, unchanged) made = record {
+denies looks base old new id asked before after Stopped (same, unchanged, there) made = record {
   met = gone id asked;
   text = refl;
   slip = refl;
   heard = refl;
   plain = refl;
-  known = (made, same);
+  known = (made, same, there);
   refused = ap (λ (a : Answer). a.refused) unchanged;
 }
 denies looks base old new id asked before after OutOfMemory (same, (list, (front, is))) made =
@@ -52,7 +52,9 @@ denies looks base old new id asked before after OutOfMemory (same, (list, (front
       known = ((_, made, shown), front, same);
       refused = is.1.2 ∙ sym (ap (λ (b : Bool). if b then one_more before.refused else before.refused) is.0);
     }
-denies looks base old new id asked before after refusal (same, (list, (front, is))) made =
+denies looks base old new id asked before after refusal refused made =
+    let list = refused.1.0 in
+    let is = refused.1.1.1 in
     let shown = ap (report_reply id (run base list).panel.count asked) is.0 in
     record {
       met = denied id asked list Nothing;
@@ -60,6 +62,6 @@ denies looks base old new id asked before after refusal (same, (list, (front, is
       slip = refl;
       heard = refl;
       plain = refl;
-      known = ((_, made, shown), front, same);
+      known = ((_, made, shown), refused.1.1.0, refused.0);
       refused = ap (λ (a : Answer). a.refused) is.1;
     }

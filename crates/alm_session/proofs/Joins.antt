@@ -79,7 +79,7 @@ module _ {L : Type 0} (looked : L → Query → Result ℕ Refusal → L → Typ
   knows_among base known (told id asked list ∷ ms) later (next, (k, ks)) = (next, (((x, (y, k.0)), k.1, k.2), knows_among base next ms later ks))
   knows_among base known (denied id asked list hindrance ∷ ms) later (next, (k, ks)) = (next, (((k.0.0, (x, (y, k.0.1)), k.0.2), k.1, k.2), knows_among base next ms later ks))
   knows_among base known (cramped id asked list ∷ ms) later (next, (k, ks)) = (next, (((x, (y, k.0)), k.1, k.2, k.3), knows_among base next ms later ks))
-  knows_among base known (gone id asked ∷ ms) later (next, (k, ks)) = (next, (((x, (y, k.0)), k.1), knows_among base next ms later ks))
+  knows_among base known (gone id asked ∷ ms) later (next, (k, ks)) = (next, (((x, (y, k.0)), k.1, k.2), knows_among base next ms later ks))
   knows_among base known (bad id refusal ∷ ms) later (next, (k, ks)) = (next, (k, knows_among base next ms later ks))
   knows_among base known (stray h ∷ ms) later (next, (k, ks)) = (next, (k, knows_among base next ms later ks))
 

@@ -1,5 +1,5 @@
 -- What a session does in its turns.
-use Rattle.std.specs.Prelude.{◌≡◌, ℕ, ◌+◌, ◌≤◌, ◌<◌, List, [], ◌∷◌, ◌++◌, Option, Result, Ok, Err, length, map}
+use Rattle.std.specs.Prelude.{◌≡◌, ℕ, ◌+◌, ◌≤◌, ◌<◌, List, [], ◌∷◌, ◌++◌, Option, Result, Ok, Err, IsOk, length, map}
 use Rattle.std.specs.List.{flat_map}
 use Rattle.std.specs.Io.KnownBytes.{Consumes, Appends}
 use Rattle.alm_types.specs.declared.action.Action.{Action}
@@ -8,6 +8,7 @@ use Rattle.alm_types.specs.declared.refusal.Refusal.{Refusal}
 use Rattle.alm_types.specs.declared.refusal.Refusal.TheVariants as refusal
 use Rattle.alm_types.specs.declared.query.Query.{Query}
 use Rattle.alm_model.specs.Plant.{Condensed}
+use Rattle.alm_model.specs.Look.{look}
 use Rattle.alm_model.specs.Step.{run}
 use Rattle.alm_lines.specs.declared.line.Line.{Line}
 use Rattle.alm_lines.specs.declared.ask.Ask.{Ask}
@@ -42,7 +43,7 @@ pub record Heard : Type 0 where
   pub number : ℕ
   pub list : List Action
 
--- how a line was answered, by its id: an action by a receipt; a query by a look at a list, which the slot then knows, or by the refusal that it gave; or by one that was told that the storage has stopped;
+-- how a line was answered, by its id: an action by a receipt; a query by a look at a list, which the slot then knows, or by the refusal that it gave; or, where the plant has what is asked for, by one that was told that the storage has stopped;
 -- a bad line by its refusal. A query whose reply is longer than the buffer is refused for want of memory. A receipt that came while no action waited answers no line
 pub data Met : Type 0 where
   acted : ℕ → Heard → Met
@@ -114,7 +115,7 @@ KnowsNext looks base known (denied id asked list hindrance) next =
     ((why : Refusal) × looks asked (Err why) × (look_reply (run base list) id asked hindrance ≡ no_text id why)) × IsFront known list × (next ≡ known)
 KnowsNext looks base known (cramped id asked list) next =
     looks asked (Ok (run base list).panel.count) × IsFront known list × (next ≡ list) × (output_limit < length (look_reply (run base list) id asked Nothing))
-KnowsNext looks base known (gone id asked) next = looks asked (Err refusal.Stopped) × (next ≡ known)
+KnowsNext looks base known (gone id asked) next = looks asked (Err refusal.Stopped) × (next ≡ known) × IsOk (look base asked)
 KnowsNext looks base known (bad id refusal) next = next ≡ known
 KnowsNext looks base known (stray heard) next = IsFront known next × IsFront heard.list next
 

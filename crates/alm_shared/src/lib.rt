@@ -33,6 +33,7 @@ mod add;
 mod aim;
 mod board;
 mod desk;
+mod extent;
 mod front;
 mod glance;
 mod handing;
@@ -50,6 +51,7 @@ mod step;
 
 pub use aim::Aim;
 pub use desk::{Desk, SharedBoard};
+pub use extent::Extent;
 pub use front::Front;
 pub use glance::Glance;
 pub use head::Head;

@@ -3,6 +3,7 @@ ghost use Rattle.std.specs.Prelude.{◌≡◌, ◌<◌, ◌^◌, [], IfOk, vec_l
 ghost use Rattle.alm_shared.specs.Desks.{shown_of, pending_of};
 
 use crate::desk::{Desk, SharedBoard};
+use crate::extent::Extent;
 use crate::front::Front;
 use crate::naming::Naming;
 use crate::new_history::NewHistory;
@@ -29,6 +30,7 @@ pub fn open_board<J: Naming, P: Alarms + Drop, R: Wait>(
     ensures pending { IfOk result (λ r. pending_of r.0 ≡ []) }
     ensures lookers { IfOk result (λ r. vec_len r.1 ≡ lookers) }
 {
+    let extent = Extent::new(&plant);
     let second = plant.copy(alloc)?;
     let (head, front) = history.named::<J>();
     let first = Shown {
@@ -44,7 +46,7 @@ pub fn open_board<J: Naming, P: Alarms + Drop, R: Wait>(
         spare: None,
     };
     let board = Publisher::new(alloc, first, second, lookers, desk, head)?;
-    match looks(alloc, &board, &front, lookers) {
+    match looks(alloc, &board, &front, &extent, lookers) {
         Ok(looks) => Ok((board, looks)),
         Err(fault) => {
             drop(board.take(rt));
@@ -58,6 +60,7 @@ fn looks<J: Naming, P: Alarms + Drop>(
     alloc: Global,
     board: &SharedBoard<J, P>,
     front: &Front<J>,
+    extent: &Extent<J>,
     lookers: usize,
 ) -> Result<Vec<SharedLook<J, P>>, AllocError>
     ensures { IfOk result (λ looks. vec_len looks ≡ lookers) }
@@ -67,6 +70,7 @@ fn looks<J: Naming, P: Alarms + Drop>(
         let look = SharedLook {
             sight: board.sight()?,
             front: front.again(),
+            extent: extent.again(),
         };
         if looks.push(look).is_err() {
             return Err(AllocError);

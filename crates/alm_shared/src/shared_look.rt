@@ -1,10 +1,11 @@
 //! A slot's sight of a shared board.
-ghost use Rattle.std.specs.Prelude.{◌≡◌, ◌≤◌, length, OnOk};
-ghost use Rattle.alm_model.specs.Look.{IsLook};
+ghost use Rattle.std.specs.Prelude.{◌≡◌, ◌≤◌, length, IsOk, OnOk};
+ghost use Rattle.alm_model.specs.Look.{IsLook, look as told};
 ghost use Rattle.alm_model.specs.Step.{run};
 ghost use Rattle.alm_board.specs.Fronts.{IsFront};
 ghost use Rattle.alm_board.specs.Looks.{LookAnswers};
 
+use crate::extent::Extent;
 use crate::front::Front;
 use crate::naming::Naming;
 use crate::shown::Shown;
@@ -18,6 +19,7 @@ use alm_types::{Answer, Query, Refusal};
 pub struct SharedLook<J: Naming, P: Alarms + Drop> {
     pub(crate) sight: Sight<Shown<J, P>>,
     pub(crate) front: Front<J>,
+    pub(crate) extent: Extent<J>,
 }
 
 impl<J: Naming, P: Alarms + Drop> Look for SharedLook<J, P> {
@@ -28,6 +30,9 @@ impl<J: Naming, P: Alarms + Drop> Look for SharedLook<J, P> {
     ghost knows = { λ look. look.front };
 
     fn look(&mut self, query: Query, answer: &mut Answer) -> Result<u64, Refusal> {
+        if let Err(refusal) = self.extent.find(query) {
+            return Err(refusal);
+        }
         let Some(shown) = self.sight.enter() else {
             return Err(Refusal::Stopped);
         };
@@ -43,13 +48,14 @@ impl<J: Naming, P: Alarms + Drop> FreeLook for SharedLook<J, P> {
     ghost free = { λ look told. tt };
 }
 
-// Looks at what is shown. An older list than was known is not looked at: Stopped, which no run meets.
+// Looks at what is shown, at something that is there. An older list than was known is not looked at: Stopped, which no run meets.
 fn look_at<J: Naming, P: Alarms + Drop>(
     shown: &Shown<J, P>,
     front: &mut Front<J>,
     query: Query,
     answer: &mut Answer,
 ) -> Result<u64, Refusal>
+    requires there { IsOk (told J.base query) }
     ensures later { IsFront front.old front.new }
     ensures answer { LookAnswers J.base front.old front.new query answer.old answer.new result }
     ensures shown { length front.old ≤ length shown.now.front →

@@ -1,0 +1,16 @@
+use Rattle.std.proofs.Common.{subst, arith}
+use Rattle.std.specs.Prelude.{Err}
+use Rattle.alm_model.specs.Look.{IsLook}
+use Rattle.alm_model.specs.Plant.{Condensed}
+use Rattle.alm_board.proofs.FrontLaws.{front_of_prefix}
+use Rattle.alm_shared.proofs.Extents.{refused_answers}
+use Rattle.alm_shared.proofs.Fronts.{prefix_shorter}
+use Rattle.alm_shared.proofs.shared_look.look_at.Goals as goal
+
+pub returns-in-Err-clause-answer : goal.returns-in-Err-clause-answer
+returns-in-Err-clause-answer g c =
+    let known = c.args.front.now in
+    let shown = c.args.shown.now.front in
+    let within = prefix_shorter known shown c.longer.result c.longer.ensures.that c.longer.ensures.this (omega (arith, c.if-len.false, c.len.ensures.length, c.len-2.ensures.length)) in
+    let is = subst (λ (q : Condensed). IsLook q c.args.query c.args.answer.now c.look.new.answer (Err c.in-Err.refusal)) c.args.shown.now.is_fold c.in-Err.ensures in
+    refused_answers g.J.Naming.base known shown c.args.query c.args.answer.now c.look.new.answer c.in-Err.refusal c.requires.there (front_of_prefix known shown within) is
