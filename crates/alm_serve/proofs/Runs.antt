@@ -58,33 +58,34 @@ module _ (honest honest' : Type 0) (recovers : List ℕ → Condensed → Type 0
   tells_by base from (Some count) s = serves_by base from _ count s
   tells_by base from None s = (s.0, serves_by base from _ s.0 s.1)
 
-  opened_of : (device opened : DeviceState) (base : Condensed) → (honest → IsImage device opened.bytes × recovers opened.bytes base) → (honest → (place : ℕ) → opened.pending place ≡ false)
-      → IsOpened honest recovers device
-  opened_of device opened base stands settled = record {
+  opened_of : (opens : DeviceState → Type 0) (device opened : DeviceState) (base : Condensed) → opens opened → (honest → IsImage device opened.bytes × recovers opened.bytes base) → (honest → (place : ℕ) → opened.pending place ≡ false)
+      → IsOpened honest recovers opens device
+  opened_of opens device opened base by stands settled = record {
     opened = opened;
     base = base;
+    by = by;
     image = λ h. (stands h).0;
     stands = λ h. (stands h).1;
     settled = settled;
   }
 
-  pub opens_of : (device opened : DeviceState) (base : Condensed) (told : Option ℕ) → (honest → IsImage device opened.bytes × recovers opened.bytes base) → (honest → (place : ℕ) → opened.pending place ≡ false)
-      → Tells honest' recovers base opened told → Opens honest recovers device told
+  pub opens_of : (opens : DeviceState → Type 0) (device opened : DeviceState) (base : Condensed) (told : Option ℕ) → opens opened → (honest → IsImage device opened.bytes × recovers opened.bytes base) → (honest → (place : ℕ) → opened.pending place ≡ false)
+      → Tells honest' recovers base opened told → Opens honest recovers opens device told
   unfolding opened_of
-  opens_of device opened base told stands settled tells = (opened_of device opened base stands settled, tells_by base opened told tells)
+  opens_of opens device opened base told by stands settled tells = (opened_of opens device opened base by stands settled, tells_by base opened told tells)
 
-  pub ends_of : (device opened : DeviceState) (is_refused : OpenFault → Type 0) (base : Condensed) (result : Result ℕ ServeFault)
-      → (honest → IsImage device opened.bytes × recovers opened.bytes base) → (honest → (place : ℕ) → opened.pending place ≡ false)
+  pub ends_of : (opens : DeviceState → Type 0) (device opened : DeviceState) (is_refused : OpenFault → Type 0) (base : Condensed) (result : Result ℕ ServeFault)
+      → opens opened → (honest → IsImage device opened.bytes × recovers opened.bytes base) → (honest → (place : ℕ) → opened.pending place ≡ false)
       → IfOk result (λ count. Tells honest' recovers base opened (Some count))
       → IfErr result (λ fault. fault ≡ Storage → Tells honest' recovers base opened None)
       → IfErr result (λ fault. (why : OpenFault) → fault ≢ Open why)
-      → ServeEnds honest recovers device is_refused result
-  ends_of device opened is_refused base (Ok count) stands settled ran stopped opens = opens_of device opened base (Some count) stands settled ran
-  ends_of device opened is_refused base (Err Storage) stands settled ran stopped opens = opens_of device opened base None stands settled (stopped refl)
-  ends_of device opened is_refused base (Err (Open why)) stands settled ran stopped opens = absurd (opens why refl)
-  ends_of device opened is_refused base (Err Net) stands settled ran stopped opens = opened_of device opened base stands settled
-  ends_of device opened is_refused base (Err Write) stands settled ran stopped opens = opened_of device opened base stands settled
-  ends_of device opened is_refused base (Err Memory) stands settled ran stopped opens = opened_of device opened base stands settled
+      → ServeEnds honest recovers opens device is_refused result
+  ends_of opens device opened is_refused base (Ok count) by stands settled ran stopped none = opens_of opens device opened base (Some count) by stands settled ran
+  ends_of opens device opened is_refused base (Err Storage) by stands settled ran stopped none = opens_of opens device opened base None by stands settled (stopped refl)
+  ends_of opens device opened is_refused base (Err (Open why)) by stands settled ran stopped none = absurd (none why refl)
+  ends_of opens device opened is_refused base (Err Net) by stands settled ran stopped none = opened_of opens device opened base by stands settled
+  ends_of opens device opened is_refused base (Err Write) by stands settled ran stopped none = opened_of opens device opened base by stands settled
+  ends_of opens device opened is_refused base (Err Memory) by stands settled ran stopped none = opened_of opens device opened base by stands settled
 
 -- what is written, behind what else is known of a whole run
 pub writes_map : (whole whole' : ℕ → Type 0) (port : ℕ) (old new : Option (List ℕ)) (result : Result ℕ ServeFault)

@@ -1,8 +1,11 @@
 -- What a server's run has done.
 use Rattle.std.specs.Prelude.{◌≡◌, ◌≢◌, ◌⊎◌, ℕ, false, List, length, Option, Some, None, Result, Ok, Err, slice_get}
 use Rattle.alm_disk.specs.Device.{DeviceState, IsImage}
+use Rattle.alm_disk.specs.declared.call.Call.{Call}
+use Rattle.alm_disk.specs.declared.disk_fault.DiskFault.{DiskFault}
 use Rattle.alm_model.specs.Plant.{Condensed}
 use Rattle.alm_rings.specs.declared.slot_report.SlotReport.{SlotReport}
+use Rattle.alm_store.specs.Calls.{OpensBy}
 use Rattle.alm_store.specs.declared.phase.Phase.{Phase}
 use Rattle.alm_store.specs.declared.phase.Phase.TheVariants.{Stopped}
 use Rattle.alm_store.specs.declared.open_fault.OpenFault.{OpenFault}
@@ -40,17 +43,23 @@ module _ (honest : Type 0) (recovers : List ℕ → Condensed → Type 0) where
   Tells base from (Some count) = ServesRun base from IsWhole count
   Tells base from None = (count : ℕ) × ServesRun base from (λ phase reports. ¬ (IsWhole phase reports)) count
 
-  -- the device was opened: what was read is an image of it that stands for the plant from which a run goes on
+-- what a device becomes by an opening's calls
+abbrev pub OpensTo : {D : Type 0} → (D → Call → Result Unit DiskFault → D → Type 0) → (D → DeviceState) → D → DeviceState → Type 0
+OpensTo {D} serves state old to = (now : D) × OpensBy serves old now × (to ≡ state now)
+
+module _ (honest : Type 0) (recovers : List ℕ → Condensed → Type 0) (opens : DeviceState → Type 0) where
+  -- the device was opened: by an opening's calls, and what was read is an image of it that stands for the plant from which a run goes on
   pub record IsOpened (device : DeviceState) : Type 0 where
     pub opened : DeviceState
     pub base : Condensed
+    pub by : opens opened
     pub image : honest → IsImage device opened.bytes
     pub stands : honest → recovers opened.bytes base
     pub settled : honest → (place : ℕ) → opened.pending place ≡ false
 
   -- .. and was run to this end
   abbrev pub Opens : DeviceState → Option ℕ → Type 0
-  Opens device told = (o : IsOpened device) × Tells o.base o.opened told
+  Opens device told = (o : IsOpened device) × Tells honest recovers o.base o.opened told
 
   -- by how the server ends; of a device that isn't opened, why
   abbrev pub ServeEnds : DeviceState → (is_refused : OpenFault → Type 0) → Result ℕ ServeFault → Type 0

@@ -7,7 +7,7 @@ ghost use Rattle.alm_disk.specs.Failures.{HasFailed};
 ghost use Rattle.alm_keeper.specs.AsStore.{StandsFor};
 ghost use Rattle.alm_store.specs.Calls.{IsRefusedBy};
 ghost use Rattle.alm_store.specs.Opening.{HasCause};
-ghost use Rattle.alm_serve.specs.Runs.{AreAllSlots, Opens, ServeEnds, Tells};
+ghost use Rattle.alm_serve.specs.Runs.{AreAllSlots, Opens, OpensTo, ServeEnds, Tells};
 ghost use Rattle.alm_serve.specs.Serving.{serving_line, stopped_line, ServeWrites};
 ghost use Rattle.alm_types.specs.Sizes.{most_actions, slot_count};
 
@@ -203,9 +203,10 @@ pub fn serve_run<D: Disk + Drop, W: io::Write, R: Net + Threads + Wait + Clock +
 ) -> Result<u64, ServeFault>
     requires { port ≤ 65518 }
     ensures writes { ServeWrites
-        (λ count. Opens (D.honest disk) StandsFor (D.state disk) (Some count)) port
-        (W.contents writer.old) (W.contents writer.new) result }
-    ensures ends { ServeEnds (D.honest disk) StandsFor (D.state disk)
+        (λ count. Opens (D.honest disk) StandsFor (OpensTo D.serves D.state disk) (D.state disk)
+        (Some count)) port (W.contents writer.old) (W.contents writer.new) result }
+    ensures ends { ServeEnds (D.honest disk) StandsFor (OpensTo D.serves D.state disk)
+        (D.state disk)
         (λ why. (now : D) × IsRefusedBy why D.serves disk now ×
         (why ≡ OpenFault.Disk → HasFailed (D.failures disk) (D.failures now)) ×
         (D.honest disk →
