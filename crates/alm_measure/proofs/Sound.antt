@@ -4,10 +4,10 @@ use Rattle.std.proofs.lemmas.List.{length-map}
 use Rattle.std.proofs.lemmas.List.Elements.{All-map}
 use Rattle.alm_types.specs.Tables.{Listing, IsTable}
 use Rattle.alm_measure.specs.Metrics.{Metrics}
-use Rattle.alm_measure.specs.Shown.{IsSound}
+use Rattle.alm_measure.specs.Shown.{IsSoundMeasure}
 
 -- of a table's areas
-pub sound-made : (t : Listing) (m : Metrics) → IsTable t → m.areas ≡ map (λ a. a.area) t.alarms → length m.ages ≡ t.areas → length m.floods ≡ t.areas → length m.moments ≡ length t.alarms → IsSound m
+pub sound-made : (t : Listing) (m : Metrics) → IsTable t → m.areas ≡ map (λ a. a.area) t.alarms → length m.ages ≡ t.areas → length m.floods ≡ t.areas → length m.moments ≡ length t.alarms → IsSoundMeasure m
 sound-made t m h areas ages floods moments =
     let alarms : length m.areas ≡ length t.alarms = rw areas (length-map t.alarms (λ a. a.area)) in
     let few = h.few in

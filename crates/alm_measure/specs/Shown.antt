@@ -8,7 +8,7 @@ abbrev pub metrics_in : Inside → Metrics
 metrics_in m = record { now = m.clock; areas = m.areas.items; ages = m.rings.items; floods = m.floods.items; moments = m.moments.items }
 
 -- no more alarms than a table has, each in an area that there is, and each with moments; a flag for each area
-pub record IsSound (m : Metrics) : Type 0 where
+pub record IsSoundMeasure (m : Metrics) : Type 0 where
   pub few : length m.areas ≤ most_alarms
   pub moments : length m.moments ≡ length m.areas
   pub floods : length m.floods ≡ length m.ages

@@ -35,11 +35,11 @@ impl Model for Measure {
 
     ghost Value = { Metrics };
 
-    ghost use Rattle.alm_measure.specs.Shown.{IsExact, IsSound, metrics_in};
+    ghost use Rattle.alm_measure.specs.Shown.{IsExact, IsSoundMeasure, metrics_in};
 
     ghost view = { metrics_in };
 
-    ghost invariant = { λ m. IsSound (metrics_in m) × IsExact m };
+    ghost invariant = { λ m. IsSoundMeasure (metrics_in m) × IsExact m };
 }
 
 /// The area of each alarm.

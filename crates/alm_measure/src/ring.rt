@@ -22,13 +22,13 @@ pub struct Ring {
 
 impl Model for Ring {
     ghost use Rattle.std.specs.Prelude.{ℕ, List};
-    ghost use Rattle.alm_measure.specs.Rings.{rotated, IsRing};
+    ghost use Rattle.alm_measure.specs.Rings.{rotated, IsAgeRing};
 
     ghost Value = { List ℕ };
 
     ghost view = { λ r. rotated r.present r.counts };
 
-    ghost invariant = { λ r. IsRing r.counts r.present r.total };
+    ghost invariant = { λ r. IsAgeRing r.counts r.present r.total };
 }
 
 impl Ring {

@@ -3,7 +3,7 @@
 ghost use Rattle.std.specs.Prelude.{◌≡◌};
 ghost use Rattle.alm_model.specs.Lists.{stands_in};
 
-use crate::list::List;
+use crate::list::{List, WHEEL_SLOTS};
 use alm_state::Row;
 use alm_types::{Attr, Moment};
 
@@ -17,7 +17,7 @@ pub(crate) fn stands_in(list: List, attr: &Attr, row: &Row) -> bool
         }
         List::Area(area) => row.core.is_annunciated() && u32::from(attr.area) == area,
         List::Wheel(slot) => match row.shelved_until {
-            Some(deadline) => deadline % 256 == u64::from(slot),
+            Some(deadline) => deadline % u64::from(WHEEL_SLOTS) == u64::from(slot),
             None => false,
         },
         List::Stale => row.core.is_annunciated(),

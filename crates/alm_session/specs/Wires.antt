@@ -51,11 +51,11 @@ WriteBytes write.Blocked bytes old new = new ≡ old
 WriteBytes write.Failed bytes old new = new ≡ old
 
 -- what was read is behind what was held; else nothing changed
-abbrev pub Reads : ReadGave → Held → Held → Option (List ℕ) → Option (List ℕ) → Type 0
-Reads (read.Got n) before later old new = (length later.rest ≡ n) × Consumes old new later.rest × (later ≡ record before { rest = later.rest })
-Reads read.End before later old new = (later ≡ before) × (new ≡ old) × IsAtEnd new
-Reads read.Blocked before later old new = (later ≡ before) × (new ≡ old)
-Reads read.Failed before later old new = (later ≡ before) × (new ≡ old)
+abbrev pub ReadGives : ReadGave → Held → Held → Option (List ℕ) → Option (List ℕ) → Type 0
+ReadGives (read.Got n) before later old new = (length later.rest ≡ n) × Consumes old new later.rest × (later ≡ record before { rest = later.rest })
+ReadGives read.End before later old new = (later ≡ before) × (new ≡ old) × IsAtEnd new
+ReadGives read.Blocked before later old new = (later ≡ before) × (new ≡ old)
+ReadGives read.Failed before later old new = (later ≡ before) × (new ≡ old)
 
 -- what was written stood first of what is left
 abbrev pub WritesFront : Sent → Left → Left → Option (List ℕ) → Option (List ℕ) → Type 0

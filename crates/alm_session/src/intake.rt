@@ -52,7 +52,7 @@ impl Intake {
     ghost use Rattle.std.specs.Prelude.{◌≡◌, [], None, length, take, List, ℕ, Some};
     ghost use Rattle.std.specs.Io.KnownBytes.{Consumes};
     ghost use Rattle.alm_session.specs.Intakes.{Held, lines_in, open_in};
-    ghost use Rattle.alm_session.specs.Wires.{ReadCounts, Reads};
+    ghost use Rattle.alm_session.specs.Wires.{ReadCounts, ReadGives};
 
     /// Nothing has come.
     pub fn new() -> Self
@@ -94,7 +94,7 @@ impl Intake {
     pub fn read<W: Wire>(&mut self, wire: &mut W) -> ReadGave
         requires { self.old.rest ≡ [] }
         ensures counts { ReadCounts result piece_len (W.counts wire.old) (W.counts wire.new) }
-        ensures bytes { Reads result self.old self.new (W.coming wire.old) (W.coming wire.new) }
+        ensures bytes { ReadGives result self.old self.new (W.coming wire.old) (W.coming wire.new) }
         ensures written { W.written wire.new ≡ W.written wire.old }
     {
         let gave = wire.read(&mut self.bytes);

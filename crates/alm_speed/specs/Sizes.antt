@@ -4,7 +4,7 @@ use Rattle.alm_links.specs.Lists.{Families, family_at}
 use Rattle.alm_measure.specs.Metrics.{Metrics}
 
 -- one family of so many lists over so many nodes
-pub record HasSizes (nodes lists : ℕ) (c : Families) : Type 0 where
+pub record IsOfSizes (nodes lists : ℕ) (c : Families) : Type 0 where
   pub one_family : length c.families ≡ 1
   pub all_nodes : c.nodes ≡ nodes
   pub all_lists : length (family_at c.families 0) ≡ lists

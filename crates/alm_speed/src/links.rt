@@ -2,7 +2,7 @@
 //!
 //! `bench/links/run.sh` runs it beside the same in plain Rust.
 ghost use Rattle.std.specs.Prelude.{◌≡◌, ◌<◌, ◌≤◌, IfOk, length, vec_capacity};
-ghost use Rattle.alm_speed.specs.Sizes.{HasSizes};
+ghost use Rattle.alm_speed.specs.Sizes.{IsOfSizes};
 
 use crate::report::report;
 use alm_links::Chains;
@@ -35,10 +35,10 @@ fn below(number: u64, bound: u32) -> u32
 
 /// Puts a node to the end of a list, or takes it out where it stands in one; whether it was put.
 fn move_one(chains: &mut Chains, nodes: u32, lists: u32, list: u32, node: u32) -> bool
-    requires sizes { HasSizes nodes lists chains.old }
+    requires sizes { IsOfSizes nodes lists chains.old }
     requires list { list < lists }
     requires node { node < nodes }
-    ensures { HasSizes nodes lists chains.new }
+    ensures { IsOfSizes nodes lists chains.new }
 {
     let free = chains.list_of(0, node).is_none();
     if free {
@@ -51,7 +51,7 @@ fn move_one(chains: &mut Chains, nodes: u32, lists: u32, list: u32, node: u32) -
 
 /// So many moves at random; how many nodes were put.
 fn moves(chains: &mut Chains, nodes: u32, lists: u32, count: u32) -> u32
-    requires sizes { HasSizes nodes lists chains.old }
+    requires sizes { IsOfSizes nodes lists chains.old }
     requires nodes { 0 < nodes }
     requires lists { 0 < lists }
 {
@@ -131,7 +131,7 @@ fn ask_again(wheel: &Wheel, times: u32, from: u64, step: u64, out: &mut Vec<u32>
 }
 
 fn new_chains(alloc: Global, nodes: u32, lists: u32) -> Result<Chains, AllocError>
-    ensures { IfOk result (HasSizes nodes lists) }
+    ensures { IfOk result (IsOfSizes nodes lists) }
 {
     Chains::new(alloc, nodes, &[lists])
 }

@@ -6,9 +6,13 @@ pub record Schedule : Type 0 where
   pub deadlines : List (Option ℕ)
   pub slots : List (List ℕ)
 
+-- how many slots a wheel has
+abbrev pub wheel_size : ℕ
+wheel_size = 256
+
 -- the slot of a deadline
 abbrev pub slot_of : ℕ → ℕ
-slot_of deadline = deadline % 256
+slot_of deadline = deadline % wheel_size
 
 -- the deadline of a node, if it has one
 abbrev pub deadline_of : List (Option ℕ) → ℕ → Option ℕ

@@ -3,15 +3,15 @@ use Rattle.std.specs.Prelude.{ℕ, ◌+◌, ◌<◌, ◌≡◌, List, [], ◌++�
 use Rattle.std.specs.List.{AllByRecursion}
 use Rattle.alm_lists.specs.Lists.{times}
 use Rattle.alm_links.specs.Lists.{Lists, nodes_of, once}
-use Rattle.alm_wheel.specs.Deadlines.{Schedule, slot_of, deadline_of}
+use Rattle.alm_wheel.specs.Deadlines.{Schedule, wheel_size, slot_of, deadline_of}
 use Rattle.alm_wheel.specs.declared.wheel.Wheel.TheInside.{Inside}
 
 -- each node with a deadline stands once in its slot, and no other node stands in one
 pub record IsWheel (deadlines : List (Option ℕ)) (slots : Lists) : Type 0 where
   pub nodes : slots.nodes ≡ length deadlines
-  pub count : length slots.lists ≡ 256
-  pub small : (l : ℕ) → l < 256 → AllByRecursion (λ i. i < length deadlines) (nodes_of slots.lists l)
-  pub filed : (i l : ℕ) → i < length deadlines → l < 256 → times i (nodes_of slots.lists l) ≡ once (option_map slot_of (deadline_of deadlines i)) l
+  pub count : length slots.lists ≡ wheel_size
+  pub small : (l : ℕ) → l < wheel_size → AllByRecursion (λ i. i < length deadlines) (nodes_of slots.lists l)
+  pub filed : (i l : ℕ) → i < length deadlines → l < wheel_size → times i (nodes_of slots.lists l) ≡ once (option_map slot_of (deadline_of deadlines i)) l
 
 abbrev pub schedule_of : Inside → Schedule
 schedule_of w = record { deadlines = w.deadlines.items; slots = w.slots.lists }
