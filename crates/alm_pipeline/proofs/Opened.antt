@@ -1,5 +1,5 @@
 -- An opening that was done, and whose parts found no memory.
-use Rattle.std.proofs.Common.{List, [], ◌∷◌, inr, Result, Ok}
+use Rattle.std.proofs.Common.{List, [], ◌∷◌, inr, Result}
 use Rattle.alm_disk.specs.declared.call.Call.{Call}
 use Rattle.alm_disk.specs.declared.disk_fault.DiskFault.{DiskFault}
 use Rattle.alm_store.specs.Calls.{AreDone, SomeAreDone, OpensBy, IsRefusedBy}

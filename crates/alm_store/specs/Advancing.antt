@@ -1,5 +1,5 @@
 -- What the calls of a store make of it.
-use Rattle.std.specs.Prelude.{◌≡◌, ◌≢◌, ◌↔◌, ◌⊎◌, ◌<◌, ◌≤◌, ℕ, true, List}
+use Rattle.std.specs.Prelude.{◌≡◌, ◌≢◌, ◌↔◌, ◌⊎◌, ◌<◌, ◌≤◌, true, List}
 use Rattle.alm_types.specs.declared.action.Action.{Action}
 use Rattle.alm_disk.specs.Device.{DeviceState}
 use Rattle.alm_model.specs.Rules.{admits_all}

@@ -1,4 +1,4 @@
-use Rattle.std.proofs.Common.{◌≡◌, ◌++◌, [], codes, append-nil}
+use Rattle.std.proofs.Common.{◌++◌, [], codes, append-nil}
 use Rattle.std.specs.Fmt.{decimal}
 use Rattle.alm_types.specs.declared.query.Query.TheVariants.{Area, Flood}
 use Rattle.alm_model.specs.Look.{look}

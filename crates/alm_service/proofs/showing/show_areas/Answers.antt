@@ -1,4 +1,4 @@
-use Rattle.std.proofs.Common.{◌≡◌, ◌≤◌, ◌<◌, arith, rules}
+use Rattle.std.proofs.Common.{◌≤◌, ◌<◌, arith, rules}
 use Rattle.alm_lines.proofs.Prefixes.{prints_err}
 use Rattle.alm_service.specs.Showing.{area_line}
 use Rattle.alm_service.proofs.Shown.{wrote_line, cut_in_line, all_lines}

@@ -1,4 +1,4 @@
-use Rattle.std.proofs.Common.{◌≡◌, ◌<◌, ◌^◌, length, arith, sym, ◌∙◌, rules, ap, None, List, ℕ}
+use Rattle.std.proofs.Common.{◌<◌, ◌^◌, length, arith, sym, ◌∙◌, ap, None}
 use Rattle.alm_links.specs.declared.links.Link.{Link}
 use Rattle.alm_links.proofs.Left.{walk-first, left-rest}
 use Rattle.alm_links.proofs.list_nodes.ListNodesIterator.next.Goals as goal
