@@ -64,7 +64,8 @@ pub fn parts_of<'h, J: Naming, K: Store, H: Hold, R: Wait>(
     ensures slots { IfOk result (λ parts. parts.slots ≡ slots) }
     ensures refused { IfErr result (λ back. back ≡ store) }
 {
-    let Ok(slot_ends) = open_some(alloc, slots.as_slice()) else {
+    let named = slots.as_slice();
+    let Ok(slot_ends) = open_some(alloc, named) else {
         return Err(store);
     };
     let Ok((mut ends, mut fetch)) = open_batches(alloc) else {
@@ -77,14 +78,8 @@ pub fn parts_of<'h, J: Naming, K: Store, H: Hold, R: Wait>(
     let Ok(shown) = store.stored().copy(alloc) else {
         return Err(store);
     };
-    let Ok((board, looks)) = board_of::<J, Plant, H, R>(
-        rt,
-        alloc,
-        history,
-        shown,
-        slots.as_slice(),
-        hold,
-    ) else {
+    let Ok((board, looks)) = board_of::<J, Plant, H, R>(rt, alloc, history, shown, named, hold)
+    else {
         return Err(store);
     };
     let SlotEnds {
@@ -97,7 +92,6 @@ pub fn parts_of<'h, J: Naming, K: Store, H: Hold, R: Wait>(
         outboxes,
         fetch,
     };
-    let rings = Rings { inboxes, ends };
     Ok(Parts {
         slots,
         consoles,
@@ -105,7 +99,7 @@ pub fn parts_of<'h, J: Naming, K: Store, H: Hold, R: Wait>(
         board,
         middle: Middle {
             plant,
-            rings,
+            rings: Rings { inboxes, ends },
             flusher,
         },
     })
