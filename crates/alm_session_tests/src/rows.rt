@@ -1,9 +1,13 @@
 //! Rows of a session.
 
+ghost use Rattle.alm_rings.specs.Ends.{SameConsole};
+
 use crate::piece_wire::PieceWire;
 use crate::playing::{Course, answer, play, worked_look};
-use alm_rings::open_slot;
-use alm_session::{MemWire, Session, Turn, drain};
+use crate::still::{StillLook, StillTold};
+use alm_model::PlainPlant;
+use alm_rings::{Console, open_slot};
+use alm_session::{MemWire, Session, Turn, Wire, drain};
 use alm_types::{Action, AlarmId, Slot};
 use std::alloc::{AllocError, Global};
 use std::test::Fail;
@@ -111,6 +115,24 @@ fn a_query_waits_for_actions(rt: HostRuntime) -> Result<(), Fail> {
     Ok(())
 }
 
+/// How the next five turns of a session go.
+fn five_turns<W: Wire>(
+    session: &mut Session,
+    wire: &mut W,
+    console: &mut Console<StillTold>,
+    look: &mut StillLook<PlainPlant>,
+) -> [Turn; 5]
+    ensures { SameConsole console.old console.new }
+{
+    [
+        session.turn(wire, console, look),
+        session.turn(wire, console, look),
+        session.turn(wire, console, look),
+        session.turn(wire, console, look),
+        session.turn(wire, console, look),
+    ]
+}
+
 /// Three sends, a connection lost, and drained after three receipts: the next serial is 4, and the next connection's first line is its
 /// own.
 #[test]
@@ -122,24 +144,8 @@ fn a_lost_connection(rt: HostRuntime) -> Result<(), Fail> {
     let mut session = Session::new(alloc)?;
     let mut wire = MemWire::new(alloc, bytes(alloc, "7 ACK 0\n8 ACK 1\n9 ACK 1\n1 ST")?, 200)?;
     assert_eq!(rt;
-        session.turn(&mut wire, &mut console, &mut look),
-        Turn::Went
-    );
-    assert_eq!(rt;
-        session.turn(&mut wire, &mut console, &mut look),
-        Turn::Went
-    );
-    assert_eq!(rt;
-        session.turn(&mut wire, &mut console, &mut look),
-        Turn::Went
-    );
-    assert_eq!(rt;
-        session.turn(&mut wire, &mut console, &mut look),
-        Turn::Went
-    );
-    assert_eq!(rt;
-        session.turn(&mut wire, &mut console, &mut look),
-        Turn::Idle
+        five_turns(&mut session, &mut wire, &mut console, &mut look),
+        [Turn::Went, Turn::Went, Turn::Went, Turn::Went, Turn::Idle]
     );
     answer(&mut console, &mut inbox, &mut outbox, 1);
     answer(&mut console, &mut inbox, &mut outbox, 2);
