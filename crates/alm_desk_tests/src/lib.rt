@@ -11,6 +11,8 @@ pub mod desk;
 #[cfg(test)]
 mod device_desk;
 #[cfg(test)]
+mod refused;
+#[cfg(test)]
 mod rows;
 #[cfg(test)]
 mod slow_writer;

@@ -2,6 +2,7 @@
 
 use crate::check::{prints, prints_anew};
 use crate::desk::{new_desk, printed};
+use crate::device_desk::prints_over_a_device;
 use crate::slow_writer::SlowWriter;
 use alm_desk::{Backend, CountedWriter, DeskFault, LocalDesk, desk_of};
 use alm_plant::Plant;
@@ -84,6 +85,7 @@ fn desk_lines_that_are_none(rt: HostRuntime) -> Result<(), Fail> {
     let wanted =
         b"16 1 OK 1\n16 2 NO 9\n16 3 OK 2\n0 4 OK 3\n1 5 NO 2\n0 6 NO 11\n0 7 NO 13\n0 0 NO 13\n? NO 13\n? NO 13\n? NO 13\n0 8 NO 13\n";
     assert!(rt; prints_anew(rt.alloc(), input.as_slice(), wanted));
+    assert!(rt; prints_over_a_device(rt.alloc(), input, wanted));
     Ok(())
 }
 
@@ -145,19 +147,21 @@ fn line_of(alloc: Global, front: &str, len: usize) -> Result<Vec<u8>, Fail> {
     Ok(line)
 }
 
-/// Lines of a slot about the longest that there are, their lengths and what they are answered.
-const LONG_LINES: [(usize, &str); 4] = [
-    (127, "7 NO 13\n"),
-    (128, "7 NO 13\n"),
-    (129, "0 NO 14\n"),
-    (130, "0 NO 14\n"),
+/// Lines of a slot, the shortest and about the longest that there are: how they begin, their lengths and what they are answered.
+const SLOT_LINES: [(&str, usize, &str); 6] = [
+    ("", 1, "0 NO 13\n"),
+    ("7", 2, "7 NO 13\n"),
+    ("7 ", 127, "7 NO 13\n"),
+    ("7 ", 128, "7 NO 13\n"),
+    ("7 ", 129, "0 NO 14\n"),
+    ("7 ", 130, "0 NO 14\n"),
 ];
 
 #[test]
-fn the_longest_lines_of_a_slot(rt: HostRuntime) -> Result<(), Fail> {
+fn the_shortest_and_longest_lines_of_a_slot(rt: HostRuntime) -> Result<(), Fail> {
     let alloc = rt.alloc();
-    for (len, wanted) in LONG_LINES {
-        let line = line_of(alloc, "7 ", len)?;
+    for (front, len, wanted) in SLOT_LINES {
+        let line = line_of(alloc, front, len)?;
         for cut in 0..=line.len() {
             let pieces = [Piece::Whole(0, &line[..cut]), Piece::Whole(0, &line[cut..])];
             let same = answers_anew(alloc, &pieces, wanted.as_bytes());
