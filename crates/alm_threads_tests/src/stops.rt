@@ -14,41 +14,44 @@ use std::test::Fail;
 /// How many turns the source wants.
 const TURNS: u64 = 3;
 
-/// A source that counts its turns, and then ends.
+/// A source that counts its turns, and ends behind the last. In one of them it has all threads stop.
 #[derive(Drop)]
-struct Counted {
+struct Counted<'f> {
     turns: Arc<AtomicU64, Global>,
+    flags: &'f Flags<ThreadBell>,
+    stops_in: u64,
 }
 
-impl<T: Told + Drop, L: Look<Told = T>> Source<T, L> for Counted {
+impl<T: Told + Drop, L: Look<Told = T>> Source<T, L> for Counted<'_> {
     ghost use Rattle.std.specs.Prelude.{None};
 
     ghost slot = { λ _. None };
 
     fn turn(&mut self, _console: &mut Console<T>, _look: &mut L) -> Go {
-        let before = self.turns.fetch_add(1, Ordering::SeqCst);
-        if before.wrapping_add(1) < TURNS {
-            Go::Go
-        } else {
-            Go::End
+        let turn = self.turns.fetch_add(1, Ordering::SeqCst).wrapping_add(1);
+        if turn == self.stops_in {
+            self.flags.stop_all();
         }
+        if turn < TURNS { Go::Go } else { Go::End }
     }
 }
 
-/// How many turns it gets, where the threads are to stop before the first, or are not.
-fn turns<R: Wait>(rt: &R, alloc: Global, is_stopped: bool) -> Option<u64> {
+/// How many turns it gets, where the threads are to stop from so many turns on.
+fn turns<R: Wait>(rt: &R, alloc: Global, stops_in: u64) -> Option<u64> {
     let slot = Slot::new(0)?;
     let (console, _inbox, _outbox) = open_slot::<PlainTold>(alloc, slot).ok()?;
     let table = worked_table(alloc).ok()?;
     let board = PlainBoard::new(PlainPlant::new(alloc, &table).ok()?);
     let look = board.looker(Seen::new());
     let flags = Flags::<ThreadBell>::new(Bells::new(&[], Vec::new(alloc)));
-    if is_stopped {
+    if stops_in == 0 {
         flags.stop_all();
     }
     let turns = Arc::new(alloc, AtomicU64::new(0)).ok()?;
     let counted = Counted {
         turns: Arc::try_clone(&turns).ok()?,
+        flags: &flags,
+        stops_in,
     };
     drop(run_source(rt, &flags, console, look, counted));
     Some(turns.load(Ordering::SeqCst))
@@ -56,7 +59,9 @@ fn turns<R: Wait>(rt: &R, alloc: Global, is_stopped: bool) -> Option<u64> {
 
 #[test]
 fn a_source_gets_no_turn_behind_a_stop(rt: HostRuntime) -> Result<(), Fail> {
-    assert_eq!(rt; turns(&rt, rt.alloc(), false), Some(TURNS));
-    assert_eq!(rt; turns(&rt, rt.alloc(), true), Some(0));
+    for stops_in in 0..=TURNS {
+        assert_eq!(rt; turns(&rt, rt.alloc(), stops_in), Some(stops_in));
+    }
+    assert_eq!(rt; turns(&rt, rt.alloc(), u64::MAX), Some(TURNS));
     Ok(())
 }
