@@ -33,9 +33,13 @@ pub mod player;
 #[cfg(test)]
 mod refusals;
 #[cfg(test)]
+mod refused;
+#[cfg(test)]
 mod rows;
 #[cfg(test)]
 mod runs;
 pub mod script;
 #[cfg(test)]
 mod stops;
+#[cfg(test)]
+mod watched;

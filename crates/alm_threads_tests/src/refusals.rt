@@ -56,7 +56,7 @@ impl<C> Closes<C> for RefusingBoard {
 }
 
 /// Whether the clock's action goes to the flusher in a batch, as if its slot had asked for it.
-fn seals_one(ends: &mut SealEnds, clock: Slot) -> bool {
+pub fn seals_one(ends: &mut SealEnds, clock: Slot) -> bool {
     let (Some(moment), Some(mut batch)) = (Moment::new(1000), ends.empty()) else {
         return false;
     };
