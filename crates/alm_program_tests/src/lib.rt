@@ -26,3 +26,5 @@ mod shown;
 mod stopping;
 #[cfg(test)]
 mod stories;
+#[cfg(test)]
+mod told;
