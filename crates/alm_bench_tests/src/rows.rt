@@ -26,13 +26,9 @@ fn goes_so(
     Ok(found)
 }
 
-#[test]
-fn one_action_goes_its_way(rt: HostRuntime) -> Result<(), Fail> {
-    let alloc = rt.alloc();
-    let clock = Slot::new(17).ok_or("slot")?;
-    let console = Slot::new(0).ok_or("slot")?;
-    let now = Action::Clock(Moment::new(1000).ok_or("moment")?);
-    let steps = [
+/// One action from its request to its receipt, and a crash behind it.
+fn steps_of_one_action(alloc: Global, clock: Slot, console: Slot, now: Action) -> [Step; 18] {
+    [
         Step::Reopen,
         Step::Send(clock, now),
         Step::Take(clock),
@@ -51,11 +47,15 @@ fn one_action_goes_its_way(rt: HostRuntime) -> Result<(), Fail> {
         Step::Crash(Vec::new(alloc)),
         Step::Send(console, Action::Ack(AlarmId(0))),
         Step::Reopen,
-    ];
-    let wanted = [
+    ]
+}
+
+/// What they are answered.
+fn events_of_one_action(clock: Slot, now: &Action) -> [Event; 18] {
+    [
         Event::Opened(0),
         Event::Sent(1),
-        Event::Took(Verdict::Accepted(now)),
+        Event::Took(Verdict::Accepted(*now)),
         Event::Looked(0),
         Event::Sealed,
         Event::Fetched,
@@ -67,11 +67,21 @@ fn one_action_goes_its_way(rt: HostRuntime) -> Result<(), Fail> {
         Event::Published,
         Event::Looked(1),
         Event::Released(clock),
-        Event::Received(1, Verdict::Accepted(now), 1),
+        Event::Received(1, Verdict::Accepted(*now), 1),
         Event::Crashed,
         Event::Skipped,
         Event::Opened(1),
-    ];
+    ]
+}
+
+#[test]
+fn one_action_goes_its_way(rt: HostRuntime) -> Result<(), Fail> {
+    let alloc = rt.alloc();
+    let clock = Slot::new(17).ok_or("slot")?;
+    let console = Slot::new(0).ok_or("slot")?;
+    let now = Action::Clock(Moment::new(1000).ok_or("moment")?);
+    let wanted = events_of_one_action(clock, &now);
+    let steps = steps_of_one_action(alloc, clock, console, now);
     let found = goes_so(alloc, CALLS, &steps, &wanted);
     drop(steps);
     assert_eq!(rt; found?, None);
@@ -150,17 +160,12 @@ fn a_failure_closes_the_bench(rt: HostRuntime) -> Result<(), Fail> {
     Ok(())
 }
 
-#[test]
-fn a_refusal_waits_for_the_actions_before_it(rt: HostRuntime) -> Result<(), Fail> {
-    let alloc = rt.alloc();
-    let feed = Slot::new(16).ok_or("slot")?;
-    let console = Slot::new(0).ok_or("slot")?;
-    let value = Action::Value(AlarmId(0), Reading::new(800).ok_or("reading")?);
-    let refused = Verdict::Refused(Refusal::WrongRole, 1);
-    let steps = [
+/// The feed sends a value, and a console the same, which it may not.
+fn steps_of_a_refusal(feed: Slot, console: Slot, value: &Action) -> [Step; 22] {
+    [
         Step::Reopen,
-        Step::Send(feed, value),
-        Step::Send(console, value),
+        Step::Send(feed, *value),
+        Step::Send(console, *value),
         Step::Take(feed),
         Step::Take(console),
         Step::Receive(console),
@@ -180,13 +185,17 @@ fn a_refusal_waits_for_the_actions_before_it(rt: HostRuntime) -> Result<(), Fail
         Step::Look(console, Query::State(AlarmId(4))),
         Step::Look(console, Query::Priority(5)),
         Step::Look(console, Query::Priority(1)),
-    ];
-    let wanted = [
+    ]
+}
+
+/// What they are answered, where the console's request is refused so.
+fn events_of_a_refusal(feed: Slot, console: Slot, value: Action, refused: &Verdict) -> [Event; 22] {
+    [
         Event::Opened(0),
         Event::Sent(1),
         Event::Sent(1),
         Event::Took(Verdict::Accepted(value)),
-        Event::Took(refused),
+        Event::Took(*refused),
         Event::Skipped,
         Event::Sealed,
         Event::Fetched,
@@ -200,11 +209,22 @@ fn a_refusal_waits_for_the_actions_before_it(rt: HostRuntime) -> Result<(), Fail
         Event::Skipped,
         Event::Released(console),
         Event::GaveBack,
-        Event::Received(1, refused, 1),
+        Event::Received(1, *refused, 1),
         Event::Skipped,
         Event::Skipped,
         Event::Looked(1),
-    ];
+    ]
+}
+
+#[test]
+fn a_refusal_waits_for_the_actions_before_it(rt: HostRuntime) -> Result<(), Fail> {
+    let alloc = rt.alloc();
+    let feed = Slot::new(16).ok_or("slot")?;
+    let console = Slot::new(0).ok_or("slot")?;
+    let value = Action::Value(AlarmId(0), Reading::new(800).ok_or("reading")?);
+    let refused = Verdict::Refused(Refusal::WrongRole, 1);
+    let wanted = events_of_a_refusal(feed, console, value, &refused);
+    let steps = steps_of_a_refusal(feed, console, &value);
     let found = goes_so(alloc, CALLS, &steps, &wanted);
     drop(steps);
     assert_eq!(rt; found?, None);
