@@ -8,6 +8,8 @@ mod drawn_client;
 #[cfg(test)]
 mod drawn_lines;
 #[cfg(test)]
+mod latch;
+#[cfg(test)]
 mod one_sync;
 #[cfg(test)]
 mod rows;

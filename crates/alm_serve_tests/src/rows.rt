@@ -1,6 +1,7 @@
 //! Rows of the server.
 
 use crate::client::{asks, connect, gives};
+use crate::latch::Latch;
 use crate::one_sync::OneSync;
 use alm_disk::{HeldDisk, MemDisk, OnceDisk};
 use alm_keeper::{OpenFault, format};
@@ -9,6 +10,7 @@ use alm_service::worked_table;
 use std::alloc::{AllocError, Global};
 use std::io::{self, Read, Write};
 use std::net::{Shutdown, TcpListener};
+use std::sync::Arc;
 use std::test::Fail;
 use std::thread;
 
@@ -88,7 +90,8 @@ fn a_device_that_is_not_formatted(rt: HostRuntime) -> Result<(), Fail> {
 }
 
 /// A client that stalls within a line, one that never reads, one that is gone with requests unanswered, and one that sends a byte at a
-/// time and closes half: the last two end, and another slot is served beside them.
+/// time and closes half: the last two end, the next one at their slot begins with nothing of theirs, and another slot is served beside
+/// them.
 fn hostile_clients(rt: &HostRuntime, port: u16) -> io::Result<bool> {
     let mut stalled = connect(rt, port.saturating_add(1))?;
     stalled.write_all(b"1 STA")?;
@@ -108,9 +111,11 @@ fn hostile_clients(rt: &HostRuntime, port: u16) -> io::Result<bool> {
     half.shutdown(Shutdown::Write)?;
     let answered = gives(&mut half, b"7 STATE 0 NORM 0 - -\n8 NO 2\n")?;
     let ended = half.read(&mut [0_u8; 1])? == 0;
+    let mut next = connect(rt, port.saturating_add(3))?;
+    let began = asks(&mut next, b"1 STATE 0\n", b"1 STATE 0 NORM 0 - -\n")?;
     let mut console = connect(rt, port)?;
     let served = asks(&mut console, b"3 STATE 0\n", b"3 STATE 0 NORM 0 - -\n")?;
-    Ok(answered && ended && served)
+    Ok(answered && ended && began && served)
 }
 
 #[test]
@@ -119,9 +124,37 @@ fn clients_that_mean_no_good(rt: HostRuntime) -> Result<(), Fail> {
     let disk = worked_disk(rt.alloc())?.ok_or("format")?;
     let clients = thread::spawn(&rt, move || hostile_clients(&rt, port))?;
     let mut output = Vec::new(rt.alloc());
-    let served = serve_run(&rt, rt.alloc(), disk, port, 3, &mut output);
+    let served = serve_run(&rt, rt.alloc(), disk, port, 4, &mut output);
     assert!(rt; served == Ok(0));
     assert_eq!(rt; output.as_slice(), b"serving 20400\nstopped 0\n".as_slice());
+    assert!(rt; clients.join(&rt)?);
+    Ok(())
+}
+
+/// A client is gone with a reply unread and an action unanswered. The next one at its slot is answered behind that action.
+fn two_in_a_row(rt: &HostRuntime, port: u16, latch: &Latch) -> io::Result<bool> {
+    let mut lost = connect(rt, port.saturating_add(17))?;
+    lost.write_all(b"1 STATE 0\n2 CLOCK 1000\n")?;
+    let read = lost.read(&mut [0_u8; 1])?;
+    drop(lost);
+    let mut next = connect(rt, port.saturating_add(17))?;
+    let behind = asks(&mut next, b"3 STATE 0\n", b"3 STATE 1 NORM 0 - -\n")?;
+    latch.answer();
+    Ok(read == 1 && behind)
+}
+
+/// A connection is accepted once the requests of the one before are answered.
+#[test]
+fn a_connection_behind_a_lost_one(rt: HostRuntime) -> Result<(), Fail> {
+    let port = 20_800;
+    let disk = worked_disk(rt.alloc())?.ok_or("format")?;
+    let latch = Arc::new(rt.alloc(), Latch::new())?;
+    let disk = HeldDisk::new(disk, Arc::try_clone(&latch)?);
+    let clients = thread::spawn(&rt, move || two_in_a_row(&rt, port, &latch))?;
+    let mut output = Vec::new(rt.alloc());
+    let served = serve_run(&rt, rt.alloc(), disk, port, 2, &mut output);
+    assert!(rt; served == Ok(1));
+    assert_eq!(rt; output.as_slice(), b"serving 20800\nstopped 1\n".as_slice());
     assert!(rt; clients.join(&rt)?);
     Ok(())
 }
