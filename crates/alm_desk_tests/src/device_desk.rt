@@ -2,8 +2,8 @@
 
 use crate::desk::printed;
 use alm_desk::{Backend, Judged, LocalDesk, Stopped};
-use alm_disk::MemDisk;
-use alm_keeper::format;
+use alm_disk::{Disk, MemDisk};
+use alm_keeper::{OpenFault, format};
 use alm_service::worked_table;
 use alm_stack::Stack;
 use alm_types::{Answer, Query, Refusal, Request};
@@ -55,12 +55,36 @@ fn formatted(alloc: Global, calls: usize) -> Result<MemDisk, AllocError> {
     }
 }
 
+/// The stack over a device, or why it isn't opened.
+fn stack_over(alloc: Global, disk: MemDisk) -> Result<DeviceStack, OpenFault> {
+    match Stack::open(alloc, disk) {
+        Ok(stack) => Ok(DeviceStack { stack }),
+        Err((fault, _)) => Err(fault),
+    }
+}
+
 /// The stack over a device that fails behind so many calls, those of its format included. An error, too, where it isn't opened.
 fn open_stack(alloc: Global, calls: usize) -> Result<DeviceStack, AllocError> {
     let disk = formatted(alloc, calls)?;
-    match Stack::open(alloc, disk) {
-        Ok(stack) => Ok(DeviceStack { stack }),
+    match stack_over(alloc, disk) {
+        Ok(stack) => Ok(stack),
         Err(_) => Err(AllocError),
+    }
+}
+
+/// Why the stack isn't opened over a device of which one byte is set; nothing where it is.
+pub fn fault_with(alloc: Global, at: u64, byte: u8) -> Result<Option<OpenFault>, AllocError> {
+    let mut disk = formatted(alloc, MANY)?;
+    if at < disk.size() {
+        let _put = disk.write_at(at, &[byte]);
+        let _synced = disk.sync();
+    }
+    match stack_over(alloc, disk) {
+        Ok(stack) => {
+            drop(stack);
+            Ok(None)
+        }
+        Err(fault) => Ok(Some(fault)),
     }
 }
 

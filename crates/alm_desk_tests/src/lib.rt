@@ -7,6 +7,8 @@
 
 #[cfg(test)]
 mod check;
+#[cfg(test)]
+mod damaged;
 pub mod desk;
 #[cfg(test)]
 mod device_desk;
