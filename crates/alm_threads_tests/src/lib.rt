@@ -26,6 +26,8 @@ mod faults;
 pub mod folds;
 pub mod gate;
 pub mod looker;
+#[cfg(test)]
+mod looks;
 pub mod notes;
 #[cfg(test)]
 mod outages;
