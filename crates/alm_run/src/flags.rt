@@ -24,6 +24,8 @@ pub struct Flags<B: Bell + Drop> {
     pub awaited: Awaited,
     /// Wakes the flusher's thread.
     pub flusher: ThreadBell,
+    /// The flusher's thread waits for a slot to receive.
+    pub full: AtomicBool,
     /// Wake the slots' threads.
     pub slots: Bells<B>,
 }
@@ -39,6 +41,7 @@ impl<B: Bell + Drop> Flags<B> {
             sequencer: ThreadBell::new(),
             awaited: Awaited::new(),
             flusher: ThreadBell::new(),
+            full: AtomicBool::new(false),
             slots,
         }
     }
@@ -48,6 +51,14 @@ impl<B: Bell + Drop> Flags<B> {
         self.sequencer.ring();
         if self.awaited.come(slot) {
             self.sequencer.wake();
+        }
+    }
+
+    /// A slot may have received something: the flusher's thread is woken where it waits for that.
+    pub fn receive(&self) {
+        if self.full.load(Ordering::SeqCst) {
+            self.full.store(false, Ordering::SeqCst);
+            self.flusher.ring();
         }
     }
 

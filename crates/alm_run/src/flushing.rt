@@ -155,7 +155,7 @@ pub fn flush<K: Store, T: Told + Drop, B: Board<Told = T> + Publish<R>, E: Bell 
                     break;
                 }
             }
-            Pass::Full => {}
+            Pass::Full => flags.full.store(true, Ordering::SeqCst),
             Pass::Stopped => {
                 flags.stop_all();
                 break;

@@ -26,7 +26,7 @@ fn rest<T: Told + Drop, B: Bell + Drop, R: Wait>(
 }
 
 /// Takes turns until the source ends or `stop` is set. The sequencer is woken after a turn that may have sent something, the flusher
-/// after one that may have received something.
+/// after one that may have received something that it waits for.
 pub fn run_source<
     T: Told + Drop,
     L: Look<Told = T> + Drop,
@@ -54,7 +54,7 @@ pub fn run_source<
             flags.send(console.slot());
         }
         if went && before > 0 {
-            flags.flusher.ring();
+            flags.receive();
         }
         match go {
             Go::Go => idle = 0,
