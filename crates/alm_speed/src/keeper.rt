@@ -1,7 +1,8 @@
-//! A keeper: checkpoints, commits of 256 actions until a segment of 16 MiB is full, and opening what they leave. A sum is how often it
-//! was done.
+//! A keeper: opening what was formatted, checkpoints, commits of 256 actions until a segment of 16 MiB is full, and opening what they leave. A
+//! sum is how often it was done, or how many actions an opened device stands for.
 //!
-//! With the path of a file it is a device of the largest table, and is left with a full segment; else a small one in memory. `bench/keeper/run.sh` runs it beside plain Rust that makes the same calls and reads the same bytes.
+//! With the path of a file it is a device of the largest table, and is left with a full segment; else a small one in memory. `bench/keeper/run.sh`
+//! runs it beside plain Rust that makes the same calls and reads the same bytes.
 mod stored;
 
 use crate::report::report;
@@ -98,15 +99,22 @@ fn open_and_close<D: Disk + Drop>(alloc: Global, disk: D) -> (D, u64) {
     }
 }
 
-fn time_opening<D: Disk + Drop>(
+/// Opens a device so many times.
+fn time_openings<D: Disk + Drop>(
     rt: &(impl Print + Eprint + Clock),
     alloc: Global,
+    name: &str,
     disk: D,
+    openings: u32,
 ) -> Result<D> {
-    let start = Instant::now(rt)?;
-    let (disk, count) = open_and_close(alloc, disk);
-    let took = start.elapsed(rt)?.as_nanos();
-    report(rt, "open", count, took)?;
+    let mut disk = disk;
+    for _opening in 0..openings {
+        let start = Instant::now(rt)?;
+        let (back, count) = open_and_close(alloc, disk);
+        let took = start.elapsed(rt)?.as_nanos();
+        disk = back;
+        report(rt, name, count, took)?;
+    }
     Ok(disk)
 }
 
@@ -132,15 +140,14 @@ fn go<D: Disk + Drop>(
     let Ok(disk) = format(alloc, disk, table) else {
         return Err(anyhow!("formatting"));
     };
+    let disk = time_openings(rt, alloc, "open_image", disk, course.openings)?;
     let Ok(mut keeper) = open_store(alloc, disk) else {
         return Err(anyhow!("opening"));
     };
     let worked = work(rt, &mut keeper, &mut batch, course);
-    let mut disk = keeper.into_disk();
+    let disk = keeper.into_disk();
     worked?;
-    for _opening in 0..course.openings {
-        disk = time_opening(rt, alloc, disk)?;
-    }
+    time_openings(rt, alloc, "open", disk, course.openings)?;
     Ok(())
 }
 
