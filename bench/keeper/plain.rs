@@ -16,7 +16,9 @@ const AREA: usize = 4801;
 const ALARM: usize = 182;
 const IMAGE: usize = 16 + AREA * AREAS + ALARM * ALARMS;
 const SEGMENT: usize = 16_777_216;
-const HALF: usize = 25 + IMAGE + SEGMENT;
+const HEADER: usize = 23;
+const HEAD: usize = 25;
+const HALF: usize = HEAD + IMAGE + SEGMENT;
 const PIECE: usize = 65_536;
 const OPEN: u8 = 0xA5;
 const COMMITS: u32 = 4077;
@@ -116,15 +118,15 @@ fn replay(plant: &mut Plant, segment: &[u8], epoch: u64) -> Option<()> {
 }
 
 fn open(file: &File) -> Option<u64> {
-    let mut header = [0; 23];
+    let mut header = [0; HEADER];
     file.read_exact_at(&mut header, 0).ok()?;
-    let mut heads = [[0; 25]; 2];
-    file.read_exact_at(&mut heads[0], 23).ok()?;
-    file.read_exact_at(&mut heads[1], (23 + HALF) as u64).ok()?;
+    let mut heads = [[0; HEAD]; 2];
+    file.read_exact_at(&mut heads[0], HEADER as u64).ok()?;
+    file.read_exact_at(&mut heads[1], (HEADER + HALF) as u64).ok()?;
     let epoch = |half: usize| if heads[half][0] == OPEN { number(&heads[half], 1, 8) } else { 0 };
     let standing = if epoch(0) > epoch(1) { 0 } else { 1 };
     let mut half = vec![0; IMAGE + SEGMENT];
-    file.read_exact_at(&mut half, (23 + 25 + standing * HALF) as u64).ok()?;
+    file.read_exact_at(&mut half, (HEADER + HEAD + standing * HALF) as u64).ok()?;
     let mut plant = restore(&half[..IMAGE])?;
     replay(&mut plant, &half[IMAGE..], epoch(standing))?;
     Some(plant.count())
@@ -183,7 +185,7 @@ impl Journal {
 fn emptied(path: &str) -> File {
     let mut bytes = std::fs::read(path).expect("a device");
     for half in [0, HALF] {
-        bytes[23 + 25 + IMAGE + half] = 0;
+        bytes[HEADER + half + HEAD + IMAGE] = 0;
     }
     let copy = format!("{path}.image");
     std::fs::write(&copy, bytes).expect("a copy");
@@ -192,6 +194,7 @@ fn emptied(path: &str) -> File {
     file
 }
 
+/// Opens a device so many times, each of which has to find a plant.
 fn time_openings(name: &str, file: &File) {
     for _ in 0..OPENINGS {
         let start = Instant::now();
