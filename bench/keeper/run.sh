@@ -1,13 +1,26 @@
 #!/usr/bin/env bash
-# Times checkpoints and the making of their bodies, commits and openings of a file in memory, beside plain Rust: a copy of as many bytes, the same calls, and
-# opening the same device, with a full segment and with an empty one. It needs rt and rustc.
+# Times checkpoints and the making of their bodies, and commits, to a file in memory, beside plain Rust: a copy of as many bytes, and the same calls. Then
+# opening the device with an empty segment and with a full one, each time by a process of its own, as a server does. It needs rt and rustc.
 set -eu
 here="$(cd "$(dirname "$0")" && pwd)"
 . "$here/../turns.sh"
 
 build
-rustc --edition 2021 -O "$here/plain.rs" -o "$work/plain"
 device="$(mktemp /dev/shm/alm_speed.XXXXXX)"
-trap 'rm -rf "$work" "$device"' EXIT
+image="$device.image"
+trap 'rm -rf "$work" "$device" "$image"' EXIT
+rustc --edition 2021 -O "$here/plain.rs" -o "$work/plain"
 run_in_turns keeper "$device"
-print_ratios us 'key ~ /^open/ ? 1000 : 1000 * sum[key]'
+print_ratios us 'key == "formatted" || key == "left" ? 1000 : 1000 * sum[key]'
+
+# The same device with the first gate of each half's segment closed.
+cp "$device" "$image"
+for gate in 3289216 23355625; do
+    printf '\0' | dd of="$image" bs=1 seek="$gate" conv=notrunc status=none
+done
+rustc --edition 2021 -O "$here/opening.rs" -o "$work/plain"
+for opened in "$image" "$device"; do
+    rm -f "$work/times"
+    run_in_turns open "$opened"
+    print_ratios us 1000
+done

@@ -6,6 +6,7 @@
 //! | `codec`, `links`, `measure`, `plant`, `segment` | the part of that name |
 //! | `rings [REQUESTS]` | so many requests through a slot's rings, 100,000 where nothing is said |
 //! | `flusher [FILE]`, `keeper [FILE]` | the part of that name, and commits to a file |
+//! | `open FILE` | opening the device in a file, once |
 //! | `threads FILE` | the server's threads over a file |
 //!
 //! The scripts in `bench/` run them beside plain programs. What is stored of the run without words are the sums.
@@ -55,6 +56,10 @@ fn run(
         Benchmark::Keeper => keeper::run(rt, alloc, word),
         Benchmark::Links => links::run(rt, alloc),
         Benchmark::Measure => measure::run(rt, alloc),
+        Benchmark::Open => match word {
+            Some(path) => keeper::open(rt, alloc, path),
+            None => Err(anyhow!("open: name a device")),
+        },
         Benchmark::Plant => plant::run(rt, alloc),
         Benchmark::Rings => rings::run(rt, alloc, requests(word)),
         Benchmark::Segment => segment::run(rt, alloc),
