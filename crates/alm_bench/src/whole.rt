@@ -9,7 +9,7 @@ ghost use Rattle.alm_model.specs.Plant.{Condensed};
 ghost use Rattle.alm_keeper.specs.AsStore.{StandsFor, IsLastEpoch};
 ghost use Rattle.alm_pipeline.specs.World.{first, closed_world};
 ghost use Rattle.alm_store.specs.declared.phase.Phase.{Phase};
-ghost use Rattle.alm_pipeline.specs.Headline.{Sight, IsRun, device_alone};
+ghost use Rattle.alm_pipeline.specs.Headline.{IsRun, device_alone};
 ghost use Rattle.alm_bench.specs.StandOnly.{StandOnly};
 ghost use Rattle.alm_bench.specs.Traced.{KeepsTold};
 

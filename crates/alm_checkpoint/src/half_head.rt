@@ -4,7 +4,7 @@ ghost use Rattle.std.specs.Prelude.{◌≡◌, ◌≤◌, ◌^◌, ◌==◌, len
 ghost use Rattle.std.specs.Int.{w64};
 ghost use Rattle.alm_codec.specs.Reading.{Gives};
 ghost use Rattle.alm_codec.specs.Format.{tested_field, number_field};
-ghost use Rattle.alm_checkpoint.specs.Headers.{half_head, mark, mark_weight, allows, is_first};
+ghost use Rattle.alm_checkpoint.specs.Headers.{half_head, mark, mark_weight, allows};
 ghost use Rattle.alm_checkpoint.specs.Opening.{half_head_from};
 ghost use Rattle.alm_types.specs.Sizes.{most_actions};
 

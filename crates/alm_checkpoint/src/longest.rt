@@ -1,7 +1,6 @@
 //! The longest segment that fits twice.
 
 ghost use Rattle.std.specs.Prelude.{◌≡◌, ◌≤◌, ℕ, true, false, IfSome, None};
-ghost use Rattle.alm_checkpoint.specs.Layouts.{is_segment};
 ghost use Rattle.alm_checkpoint.specs.Headers.{segment_fits};
 
 use crate::layout::{HEADER_LEN, LONGEST_SEGMENT, Layout, SHORTEST_SEGMENT};

@@ -1,6 +1,6 @@
 //! The text of an action.
 
-ghost use Rattle.std.specs.Prelude.{◌≡◌, ◌+◌, ◌≤◌, ◌++◌, ℕ, List, length, drop, IfOk, IfErr, Ok};
+ghost use Rattle.std.specs.Prelude.{◌≡◌, ◌+◌, ◌≤◌, ◌++◌, length, drop, IfOk, IfErr, Ok};
 ghost use Rattle.alm_types.specs.declared.action.Action.{Action as AnAction};
 ghost use Rattle.alm_types.specs.Actions.{IsAction, alarm_of};
 ghost use Rattle.alm_codec.specs.Actions.{action_text, argument_of, kind_of, action_at, action_in, action_meant, reading_at};

@@ -1,6 +1,6 @@
 //! The fields of an area in an image.
 
-ghost use Rattle.std.specs.Prelude.{◌≡◌, ◌-◌, nat_le, sum, Some, None, if◌then◌else◌};
+ghost use Rattle.std.specs.Prelude.{◌≡◌, ◌-◌, sum, Some, None};
 ghost use Rattle.alm_codec.specs.Reading.{Gives};
 ghost use Rattle.alm_codec.specs.ImageFields.{ages, age_field, is_flooded, area};
 ghost use Rattle.alm_codec.specs.Parts.{area_from};

@@ -1,6 +1,6 @@
 //! Numbers as bytes, the highest first.
 
-ghost use Rattle.std.specs.Prelude.{◌≡◌, ◌+◌, ◌-◌, ◌≤◌, List, ℕ, length, take, drop, replicate, IfOk};
+ghost use Rattle.std.specs.Prelude.{◌≡◌, ◌+◌, ◌-◌, ◌≤◌, length, replicate, IfOk};
 ghost use Rattle.std.specs.Int.{w16, w32, w64, from_be_bytes, to_be_bytes};
 ghost use Rattle.alm_codec.specs.Reading.{Gives, next_byte, number_at};
 ghost use Rattle.alm_codec.specs.Writing.{Wrote};

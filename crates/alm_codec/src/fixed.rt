@@ -1,6 +1,6 @@
 //! The fields of an image that are fixed of an alarm.
 
-ghost use Rattle.std.specs.Prelude.{◌≡◌, ◌&&◌, ◌==◌, ◌≤◌, ◌<◌, nat_le, nat_lt, true, length, IfOk};
+ghost use Rattle.std.specs.Prelude.{◌≡◌, ◌&&◌, ◌==◌, ◌<◌, nat_le, nat_lt, true};
 ghost use Rattle.alm_types.specs.Texts.{is_tag, is_text};
 ghost use Rattle.alm_codec.specs.Reading.{Gives};
 ghost use Rattle.alm_codec.specs.Format.{byte, tested_field};

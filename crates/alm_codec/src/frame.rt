@@ -2,8 +2,6 @@
 
 ghost use Rattle.std.specs.Prelude.{◌≡◌, ◌+◌, ◌*◌, ◌<◌, ◌≤◌, ◌++◌, ◌∷◌, [], ℕ, List, length, drop, IfOk, OnErr, Ok, vec_len, vec_capacity};
 ghost use Rattle.alm_types.specs.declared.action.Action.{Action as AnAction};
-ghost use Rattle.alm_types.specs.Actions.{IsAction};
-ghost use Rattle.alm_codec.specs.Actions.{action_text};
 ghost use Rattle.alm_codec.specs.Reading.{Gives, FindsOrDamage};
 ghost use Rattle.alm_codec.specs.Frames.{IsFrame, frame_text, frame_body, head_at, with_front, actions_at, frame_at, IsBefore};
 ghost use Rattle.alm_codec.specs.Versions.{AreBorne};

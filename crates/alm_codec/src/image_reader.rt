@@ -1,10 +1,9 @@
 //! Reading an image.
 
-ghost use Rattle.std.specs.Prelude.{◌≡◌, ◌≤◌, ◌*◌, ◌+◌, ◌&&◌, length, nat_lt, nat_le, IfOk};
+ghost use Rattle.std.specs.Prelude.{◌≡◌, ◌≤◌, ◌*◌, ◌+◌, ◌&&◌, length, nat_le, IfOk};
 ghost use Rattle.alm_model.specs.Plant.{Condensed};
 ghost use Rattle.alm_model.specs.Parts.{plant_of};
 ghost use Rattle.alm_codec.specs.Reading.{Gives, GivesOr};
-ghost use Rattle.alm_codec.specs.Format.{tested_field};
 ghost use Rattle.alm_codec.specs.Image.{IsImageText, IsOf};
 ghost use Rattle.alm_codec.specs.ImageFields.{u64, moment_field, next_stamp, image, image_in, damage_in};
 ghost use Rattle.alm_codec.specs.Faults.{IsDamagedAt, IsReadAs};

@@ -1,6 +1,6 @@
 //! The fields of an image that change of an alarm.
 
-ghost use Rattle.std.specs.Prelude.{◌≡◌, ◌&&◌, ◌||◌, ◌≤◌, ◌<◌, ◌+◌, ◌^◌, nat_le, nat_lt, true, not, length, IfOk};
+ghost use Rattle.std.specs.Prelude.{◌&&◌, ◌||◌, ◌≤◌, ◌<◌, ◌+◌, nat_le, nat_lt, not, IfOk};
 ghost use Rattle.alm_state.specs.Rows.{is_annunciated};
 ghost use Rattle.alm_codec.specs.Reading.{Gives};
 ghost use Rattle.alm_codec.specs.Format.{byte, tested_field};

@@ -1,6 +1,6 @@
 //! Devices that can crash and be told to fail.
 
-ghost use Rattle.std.specs.Prelude.{◌≡◌, ◌↔◌, ℕ, Result, Err};
+ghost use Rattle.std.specs.Prelude.{◌≡◌, ◌↔◌, Result, Err};
 ghost use Rattle.alm_disk.specs.Calls.{IsInside, Fails};
 ghost use Rattle.alm_disk.specs.Device.{Crashes};
 ghost use Rattle.alm_disk.specs.Failures.{CountsFault};

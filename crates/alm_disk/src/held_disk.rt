@@ -39,8 +39,7 @@ impl<D: Disk, H: Hold> HeldDisk<D, H> {
 }
 
 impl<D: Disk, H: Hold> Disk for HeldDisk<D, H> {
-    ghost use Rattle.std.specs.Prelude.{ℕ, ◌+◌, ◌||◌, min};
-    ghost use Rattle.alm_disk.specs.Device.{DeviceState};
+    ghost use Rattle.std.specs.Prelude.{◌+◌, ◌||◌, min};
     ghost use Rattle.alm_disk.specs.Served.{IsServedBehind};
 
     ghost honest = { λ d. D.honest d.disk };

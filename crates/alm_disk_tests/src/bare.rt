@@ -12,7 +12,6 @@ struct Bare {
 
 impl Disk for Bare {
     ghost use Rattle.std.specs.Prelude.{ℕ, [], false};
-    ghost use Rattle.alm_disk.specs.Device.{DeviceState};
 
     ghost honest = { λ _. ⊥ };
 

@@ -1,6 +1,6 @@
 //! A run of ten calls.
 
-ghost use Rattle.std.specs.Prelude.{◌≡◌, ◌≤◌, ◌+◌, ℕ, length, IsTrue};
+ghost use Rattle.std.specs.Prelude.{◌≤◌, ◌+◌, length, IsTrue};
 
 use alm_disk::{Disk, DiskFault, MemDisk};
 use std::alloc::{AllocError, Global};

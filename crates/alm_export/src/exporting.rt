@@ -1,6 +1,6 @@
 //! Exporting a plant's table.
 
-ghost use Rattle.std.specs.Prelude.{◌≡◌, ◌≤◌, IfOk, string_bytes};
+ghost use Rattle.std.specs.Prelude.{◌≡◌, IfOk, string_bytes};
 ghost use Rattle.alm_export.specs.Tree.{named_size};
 ghost use Rattle.alm_export.specs.Exported.{IsTableText, Exports, CountsExport};
 

@@ -1,6 +1,6 @@
 //! A file as a device.
 
-ghost use Rattle.std.specs.Prelude.{◌≡◌, ◌≤◌, ℕ, pos, ◌<ℤ◌, IfOk, OnOk, OnErr};
+ghost use Rattle.std.specs.Prelude.{◌≡◌, ◌≤◌, pos, ◌<ℤ◌, IfOk};
 ghost use Rattle.std.specs.Fd.{file_raw_fd};
 ghost use Rattle.alm_disk.specs.Failures.{CountsFault, last_count};
 
@@ -169,7 +169,6 @@ impl FileDisk {
 
 impl Disk for FileDisk {
     ghost use Rattle.std.specs.Prelude.{[], false, ⊤};
-    ghost use Rattle.alm_disk.specs.Device.{DeviceState};
 
     // No proof says what a file does.
     ghost honest = { λ _. ⊥ };

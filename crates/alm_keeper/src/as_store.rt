@@ -8,7 +8,7 @@ use alm_types::Batch;
 use std::alloc::Global;
 
 impl<D: Disk + Drop> Store for Keeper<D> {
-    ghost use Rattle.std.specs.Prelude.{◌≡◌, ◌≤◌, ◌+◌, ◌-◌, ◌^◌, length};
+    ghost use Rattle.std.specs.Prelude.{◌≡◌, ◌≤◌, ◌+◌, ◌-◌, ◌^◌};
     ghost use Rattle.alm_codec.specs.declared.version.Version.TheVariants.{V02};
     ghost use Rattle.alm_keeper.specs.Keeper.{Takes, next};
     ghost use Rattle.alm_keeper.specs.AsStore.{StandsFor, IsLastEpoch, store_state_of};

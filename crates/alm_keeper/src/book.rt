@@ -1,9 +1,8 @@
 //! What a keeper knows of its device, and what it has begun.
 
-ghost use Rattle.std.specs.Prelude.{◌≡◌, ◌≤◌, ◌<◌, ◌+◌, ◌*◌, ◌-◌, ◌∷◌, ◌++◌, ℕ, ◌↔◌, IsTrue, length, OnOk, OnErr, IfErr, take, drop, true, false};
-ghost use Rattle.alm_keeper.specs.Stages.{IsWorking, next_stage, first_stage, rest_stage, rest_work};
-ghost use Rattle.alm_checkpoint.specs.Layouts.{half_at, half_len};
-ghost use Rattle.alm_codec.specs.Frames.{frame_body};
+ghost use Rattle.std.specs.Prelude.{◌≡◌, ◌≤◌, ◌<◌, ◌+◌, ◌*◌, ◌-◌, ◌↔◌, IsTrue, length, take, drop, true, false};
+ghost use Rattle.alm_keeper.specs.Stages.{IsWorking, first_stage};
+ghost use Rattle.alm_checkpoint.specs.Layouts.{half_len};
 ghost use Rattle.alm_segment.specs.Course.{frame_len};
 ghost use Rattle.alm_model.specs.Judging.{accepted_of};
 ghost use Rattle.alm_keeper.specs.Stand.{other_at, end_of_half, FitsFrame, TakesFrame, with_commit};

@@ -1,9 +1,9 @@
 //! The ten device calls that format a device: the header's gate is closed; all else is written behind it, and half 0's gate is
 //! opened; then the header's gate is opened.
 
-ghost use Rattle.std.specs.Prelude.{◌≡◌, ◌≤◌, ◌<◌, ◌+◌, ◌^◌, ◌↔◌, ◌⊎◌, ◌∷◌, [], ℕ, List, false, length, OnOk, OnErr};
+ghost use Rattle.std.specs.Prelude.{◌≡◌, ◌≤◌, ◌<◌, ◌+◌, ◌↔◌, ◌⊎◌, ◌∷◌, [], ℕ, List, false, length, OnOk, OnErr};
 ghost use Rattle.alm_disk.specs.Device.{IsImage, Writes, Syncs};
-ghost use Rattle.alm_disk.specs.Failures.{CountsFault, HasFailed};
+ghost use Rattle.alm_disk.specs.Failures.{CountsFault};
 ghost use Rattle.alm_disk.specs.Settled.{IsSettled};
 ghost use Rattle.alm_segment.specs.Course.{is_gate_open};
 ghost use Rattle.alm_checkpoint.specs.Layouts.{layout_byte, device_len, image_size};

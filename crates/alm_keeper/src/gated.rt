@@ -1,6 +1,6 @@
 //! A write behind a gate, one device call at a time.
 
-ghost use Rattle.std.specs.Prelude.{◌≡◌, ◌↔◌, ◌<◌, ◌≤◌, ◌+◌, ◌^◌, List, ℕ, length};
+ghost use Rattle.std.specs.Prelude.{◌≡◌, ◌↔◌, ◌<◌, ◌≤◌, ◌+◌, ◌^◌, length};
 ghost use Rattle.alm_keeper.specs.Stages.{IsWorking};
 ghost use Rattle.alm_disk.specs.Failures.{CountsFault};
 ghost use Rattle.alm_keeper.specs.Calls.{stage_call};

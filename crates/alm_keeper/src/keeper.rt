@@ -1,6 +1,6 @@
 //! Keepers.
 
-ghost use Rattle.std.specs.Prelude.{◌≡◌, ◌≢◌, ◌≤◌, ◌⊎◌, ◌↔◌, ◌+◌, ◌*◌, ◌∷◌, List, ℕ, length, IsTrue, IfOk, IfErr, MatchResult, Err, true, false};
+ghost use Rattle.std.specs.Prelude.{◌≡◌, ◌≢◌, ◌≤◌, ◌⊎◌, ◌↔◌, ◌+◌, ◌∷◌, List, ℕ, length, IsTrue, IfOk, IfErr, MatchResult, Err, true, false};
 ghost use Rattle.alm_disk.specs.declared.call.Call.{Call};
 ghost use Rattle.alm_checkpoint.specs.declared.half.Half.{Half};
 ghost use Rattle.alm_checkpoint.specs.declared.layout.Layout.{Layout};
@@ -9,7 +9,6 @@ ghost use Rattle.alm_keeper.specs.Calls.{reads_of};
 ghost use Rattle.alm_disk.specs.Device.{IsImage};
 ghost use Rattle.alm_disk.specs.Failures.{HasFailed};
 ghost use Rattle.alm_disk.specs.Settled.{IsSettled};
-ghost use Rattle.alm_model.specs.Plant.{Condensed};
 ghost use Rattle.alm_model.specs.Judging.{accepted_of};
 ghost use Rattle.alm_store.specs.Calls.{IsCall, AreDone, SyncsAndEndsIn};
 ghost use Rattle.alm_keeper.specs.Stages.{IsWorking, phase_of};

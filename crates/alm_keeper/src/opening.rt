@@ -1,6 +1,6 @@
 //! Opening a device.
 
-ghost use Rattle.std.specs.Prelude.{◌≡◌, ◌≤◌, ◌<◌, ◌+◌, ◌^◌, ◌↔◌, ◌⊎◌, List, [], ◌∷◌, ℕ, length, take, OnOk, OnErr, IfOk, IfErr, ◌≢◌, false};
+ghost use Rattle.std.specs.Prelude.{◌≡◌, ◌≤◌, ◌<◌, ◌+◌, ◌^◌, ◌↔◌, ◌⊎◌, List, [], ◌∷◌, ℕ, length, OnOk, OnErr, IfOk, IfErr, ◌≢◌, false};
 ghost use Rattle.alm_disk.specs.Device.{IsImage, AreBytes};
 ghost use Rattle.alm_disk.specs.Failures.{HasFailed};
 ghost use Rattle.alm_disk.specs.Settled.{IsSettled};

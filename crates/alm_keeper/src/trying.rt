@@ -1,6 +1,6 @@
 //! Trying the actions of a batch on a plant.
 
-ghost use Rattle.std.specs.Prelude.{◌≡◌, ◌+◌, ◌<◌, ◌≤◌, ◌++◌, [], ℕ, length, MatchBool, MatchOption, Ok, Err, vec_len, vec_capacity};
+ghost use Rattle.std.specs.Prelude.{◌≡◌, ◌+◌, ◌<◌, ◌≤◌, [], ℕ, length, MatchBool, MatchOption, Ok, Err, vec_len, vec_capacity};
 ghost use Rattle.alm_keeper.specs.Batch.{tried_one, tried_batch, Tries, TriesAll};
 
 use alm_model::Alarms;

@@ -1,8 +1,7 @@
 //! The lines of a stream that comes in pieces.
 
-ghost use Rattle.std.specs.Prelude.{◌≡◌, ℕ, ◌+◌, ◌≤◌, ◌<◌, ◌++◌, List, [], ◌∷◌, length, take, drop, Option, Some, None, unwrap_or, option_map};
-ghost use Rattle.std.specs.List.{position_or_len};
-ghost use Rattle.alm_lines.specs.Stream.{is_end, held_behind, bytes_used, line_ended};
+ghost use Rattle.std.specs.Prelude.{◌≡◌, ℕ, ◌+◌, ◌≤◌, ◌<◌, ◌++◌, List, [], ◌∷◌, length, take, Option, Some, None, option_map};
+ghost use Rattle.alm_lines.specs.Stream.{held_behind, bytes_used, line_ended};
 ghost use Rattle.alm_lines.specs.Line.{line_of};
 
 use crate::grammar::line_of;

@@ -1,6 +1,6 @@
 //! What the bytes of a line ask.
 
-ghost use Rattle.std.specs.Prelude.{◌≡◌, ◌+◌, take, drop, option_map, position, ◌==◌};
+ghost use Rattle.std.specs.Prelude.{◌≡◌, ◌+◌, option_map, position, ◌==◌};
 ghost use Rattle.alm_lines.specs.Line.{line_of, cut_at_space, ask_in, of_none, of_one, of_two, of_letter};
 
 use crate::ask::Ask;

@@ -4,7 +4,6 @@ ghost use Rattle.std.specs.Prelude.{◌≡◌, ℕ, ◌<◌, ◌≤◌, ◌^◌,
 ghost use Rattle.alm_lines.specs.Line.{line_of, line_limit};
 ghost use Rattle.alm_lines.specs.Texts.{request_text, IsAskInRange, IsAsking};
 ghost use Rattle.alm_lines.specs.declared.ask.Ask.{Ask};
-ghost use Rattle.alm_lines.specs.declared.line.Line.{Line};
 
 /// Each request has exactly one text: a line that asks for something is the text of what it asks, that text asks for it,
 /// and with the end of its line it has at most 128 bytes.

@@ -1,6 +1,6 @@
 //! Numbers in digits.
 
-ghost use Rattle.std.specs.Prelude.{◌≡◌, ◌<◌, ◌≤◌, ◌^◌, length, ℕ};
+ghost use Rattle.std.specs.Prelude.{◌≡◌, ◌<◌, ◌≤◌, ◌^◌, length};
 ghost use Rattle.alm_lines.specs.Line.{value, up_to, number, word, alarm, moment_in, reading_from, switch};
 
 use alm_types::{AlarmId, Moment, Reading};

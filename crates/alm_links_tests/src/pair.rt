@@ -1,6 +1,6 @@
 //! Two families whose calls may be made at any time: those whose conditions aren't met do nothing.
 
-ghost use Rattle.std.specs.Prelude.{◌≡◌, ◌<◌, ◌≤◌, length};
+ghost use Rattle.std.specs.Prelude.{◌<◌};
 ghost use Rattle.alm_links_tests.specs.Sizes.{HasSizes};
 
 use alm_links::Chains;

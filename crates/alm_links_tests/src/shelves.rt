@@ -1,6 +1,6 @@
 //! A wheel whose calls may be made at any time: those whose conditions aren't met do nothing.
 
-ghost use Rattle.std.specs.Prelude.{◌≡◌, ◌<◌, ◌≤◌, length};
+ghost use Rattle.std.specs.Prelude.{◌≡◌, ◌<◌, length};
 
 use alm_wheel::Wheel;
 use std::alloc::{AllocError, Global};

@@ -1,10 +1,9 @@
 //! What every plant does.
 
-ghost use Rattle.std.specs.Prelude.{◌≡◌, ℕ, ◌≤◌, ◌<◌, length, vec_capacity, IsTrue, OnErr, OnOk, IfOk, Option, Some, None, IfSome, MatchOption, slice_get, map, sum};
-ghost use Rattle.alm_model.specs.Plant.{Panel, Condensed, Plant};
-ghost use Rattle.alm_model.specs.Accept.{refusal, answer, accept, may_ask};
-ghost use Rattle.alm_types.specs.Slots.{role_of};
-ghost use Rattle.alm_model.specs.Step.{step, run};
+ghost use Rattle.std.specs.Prelude.{◌≡◌, ◌≤◌, ◌<◌, length, vec_capacity, IsTrue, OnOk, IfOk, Option, Some, None, slice_get, map, sum};
+ghost use Rattle.alm_model.specs.Plant.{Condensed};
+ghost use Rattle.alm_model.specs.Accept.{refusal, answer, accept};
+ghost use Rattle.alm_model.specs.Step.{step};
 ghost use Rattle.alm_model.specs.Lists.{list_of, exists, moments_in};
 ghost use Rattle.alm_model.specs.New.{new_plant};
 ghost use Rattle.alm_model.specs.Parts.{plant_of, age_of};

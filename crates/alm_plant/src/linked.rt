@@ -1,9 +1,9 @@
 //! The plant by linked lists, within an action too.
 
-ghost use Rattle.std.specs.Prelude.{◌≡◌, ◌<◌, ◌≤◌, ◌+◌, ◌*◌, ◌^◌, ℕ, true, IsTrue, None, Some, IfOk, OnOk, length, slice_get, slice_index, map, sum, All, fold, vec_capacity};
+ghost use Rattle.std.specs.Prelude.{◌≡◌, ◌<◌, ◌≤◌, ◌+◌, ◌*◌, ◌^◌, true, IsTrue, None, Some, IfOk, OnOk, length, slice_get, map, sum, All, fold, vec_capacity};
 ghost use Rattle.alm_model.specs.Accept.{alarm_refusal, own_refusal, refusal, answer, accept};
 ghost use Rattle.alm_model.specs.Keeping.{in_brief};
-ghost use Rattle.alm_model.specs.Step.{with_outcome, touch, settle, unshelve, later, with_one_more, with_attributes, with_effect, step};
+ghost use Rattle.alm_model.specs.Step.{with_outcome, touch, settle, unshelve, later, with_one_more, with_attributes, step};
 ghost use Rattle.alm_state.specs.Outcome.{outcome, attr_after};
 ghost use Rattle.alm_model.specs.Lists.{due, exists, list_of, moments_in};
 ghost use Rattle.alm_model.specs.declared.list.List.TheVariants.{Priority, Area, Wheel, Stale, Chatter};

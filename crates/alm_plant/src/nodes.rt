@@ -1,16 +1,16 @@
 //! The alarms by number, with their lists by priority, area and wheel slot.
 
-ghost use Rattle.std.specs.Prelude.{◌≡◌, ◌<◌, ◌≤◌, ◌+◌, ◌-◌, ℕ, None, Some, true, IsTrue, IfSome, ◌↔◌, is_some, All, length, map, slice_get, slice_set, slice_index_or, option_map, vec_capacity, IfOk, replicate, if◌then◌else◌};
+ghost use Rattle.std.specs.Prelude.{◌≡◌, ◌<◌, ◌≤◌, ◌-◌, None, Some, true, IsTrue, IfSome, ◌↔◌, is_some, All, length, map, slice_get, slice_set, option_map, vec_capacity, IfOk, replicate, if◌then◌else◌};
 ghost use Rattle.alm_model.specs.New.{at_rest};
 ghost use Rattle.alm_model.specs.Lists.{alarms_by, stands_in, stamp, deadline, is_due};
 ghost use Rattle.alm_model.specs.declared.list.List.TheVariants.{Priority, Area, Wheel as Slot};
 ghost use Rattle.alm_model.specs.Keeping.{area_in};
 ghost use Rattle.alm_lists.specs.Lists.{list_without};
 ghost use Rattle.alm_lists.specs.Orders.{IsSortedFilter};
-ghost use Rattle.alm_links.specs.Lists.{list_holding, nodes_of, family_at, key_at_node};
+ghost use Rattle.alm_links.specs.Lists.{list_holding, family_at, key_at_node};
 ghost use Rattle.alm_wheel.specs.Deadlines.{deadline_of, slot_of};
 ghost use Rattle.alm_state.specs.Rows.{is_annunciated, IsState};
-ghost use Rattle.alm_plant.specs.Filing.{stamp_in, filed_again, chains_after, with_insertion, IsPlaced, AreAhead, AreDistinct, by_priority, by_area, by_slot};
+ghost use Rattle.alm_plant.specs.Filing.{stamp_in, filed_again, chains_after, with_insertion, IsPlaced, AreAhead, AreDistinct, by_priority, by_area};
 ghost use Rattle.alm_model.specs.Lists.{wheel_slots};
 ghost use Rattle.alm_types.specs.Sizes.{most_alarms};
 

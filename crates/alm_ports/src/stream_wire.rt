@@ -1,6 +1,6 @@
 //! A non-blocking stream as a wire.
 
-ghost use Rattle.std.specs.Prelude.{◌≡◌, ◌↔◌, ◌⊎◌, ◌≤◌, ◌^◌, ◌-◌, IsTrue};
+ghost use Rattle.std.specs.Prelude.{◌≡◌, ◌↔◌, ◌⊎◌, ◌-◌, IsTrue};
 ghost use Rattle.std_io.specs.declared.io.kind.ErrorKind.TheVariants.{WouldBlock, Interrupted};
 
 use alm_session::{ReadGave, Wire, WriteTook};

@@ -1,6 +1,5 @@
 //! The ends of a slot in two threads.
 
-ghost use Rattle.std.specs.Prelude.{◌≡◌};
 ghost use Rattle.alm_rings.specs.Ends.{SameConsole, SameInbox, SameOutbox};
 
 use crate::one::{One, accepted, ack};

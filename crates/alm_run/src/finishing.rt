@@ -1,5 +1,5 @@
 //! The flusher from its parts.
-ghost use Rattle.std.specs.Prelude.{◌≡◌, ◌≢◌, ℕ, [], None};
+ghost use Rattle.std.specs.Prelude.{◌≡◌, ℕ, []};
 ghost use Rattle.alm_rings.specs.Batches.{SameFetchEnds, fetched_of};
 ghost use Rattle.alm_rings.specs.Placed.{AreApart, SameOutboxAt, outbox_at, released_by};
 ghost use Rattle.alm_run.specs.Histories.{Flushed, LeavesOneOf};

@@ -1,5 +1,5 @@
 //! The flusher's thread.
-ghost use Rattle.std.specs.Prelude.{◌≡◌, ◌≢◌, ◌↔◌, ℕ};
+ghost use Rattle.std.specs.Prelude.{◌≡◌, ◌↔◌, ℕ};
 ghost use Rattle.alm_rings.specs.Batches.{SameFetchEnds};
 ghost use Rattle.alm_rings.specs.Placed.{SameOutboxAt, outbox_at};
 

@@ -1,5 +1,5 @@
 //! Whom the open batch waits for.
-ghost use Rattle.std.specs.Prelude.{◌≡◌, ◌↔◌, ◌<◌, ◌/◌, ℕ, None, min, IsTrue, IfSome, MatchBool, slice_set, true, false};
+ghost use Rattle.std.specs.Prelude.{◌≡◌, ◌↔◌, ◌<◌, ◌/◌, None, min, IsTrue, IfSome, MatchBool, slice_set, true, false};
 ghost use Rattle.alm_run.specs.Gatherings.{Awaits, AwaitsSome, AwaitsNone, nobody};
 ghost use Rattle.alm_types.specs.Sizes.{slot_count};
 

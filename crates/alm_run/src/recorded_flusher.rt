@@ -25,7 +25,7 @@ pub struct RecordedFlusher<K: Store, T: Told + Drop, B: Board<Told = T>> {
 }
 
 impl<K: Store, T: Told + Drop, B: Board<Told = T>> RecordedFlusher<K, T, B> {
-    ghost use Rattle.std.specs.Prelude.{◌≡◌, ◌≢◌, ◌↔◌, ◌+◌, ◌≤◌, [], ℕ, slice_get, Some};
+    ghost use Rattle.std.specs.Prelude.{◌≡◌, ◌↔◌, ◌+◌, ◌≤◌, [], ℕ, slice_get, Some};
     ghost use Rattle.alm_rings.specs.Batches.{SameFetchEnds};
     ghost use Rattle.alm_rings.specs.Placed.{AreApart, SameOutboxAt, outbox_at, released_by};
     ghost use Rattle.alm_flush.specs.HeldBatch.{next_entry_of};

@@ -119,7 +119,7 @@ impl<P: Alarms + Drop> Sequencer<P> {
     ghost use Rattle.rtrb.specs.Ring.{IsPair};
     ghost use Rattle.alm_rings.specs.Ends.{sent_of, received_of, coming_to, room_of, SameConsole};
     ghost use Rattle.alm_rings.specs.Batches.{SameSealEnds, sealed_of, empties_in, emptied_of};
-    ghost use Rattle.alm_rings.specs.Placed.{AreApart, inbox_at, taken_by, waiting_by, SameInboxAt};
+    ghost use Rattle.alm_rings.specs.Placed.{AreApart, inbox_at, taken_by, waiting_by};
     ghost use Rattle.alm_seq.specs.Sequences.{TakeAnswers, SealAnswers, SameInboxes, SameSeals, live_of, history_of, base_of};
 
     /// The first batch is one of the empty ones that are known to wait.

@@ -1,11 +1,10 @@
 //! What is shown of a plant.
 
-ghost use Rattle.std.specs.Prelude.{◌≡◌};
 ghost use Rattle.std.specs.List.{flat_map, range_with_len};
 ghost use Rattle.alm_lines.specs.Parts.{text_of_parts};
 ghost use Rattle.alm_lines.specs.Written.{Prints};
 ghost use Rattle.alm_model.specs.Look.{look};
-ghost use Rattle.alm_service.specs.Showing.{told_between, alarm_line, priority_line, area_line, head_line, plant_text, CountsShow};
+ghost use Rattle.alm_service.specs.Showing.{told_between, alarm_line, priority_line, area_line, plant_text, CountsShow};
 
 use crate::show_fault::ShowFault;
 use alm_desk::CountedWriter;

@@ -1,7 +1,7 @@
 //! What a lost connection leaves behind.
 
 ghost use Rattle.std.specs.Prelude.{◌≡◌, ◌↔◌, ◌≤◌, ◌+◌, ◌⊎◌, IsTrue, length, false, true};
-ghost use Rattle.alm_rings.specs.Ends.{SameConsole, sent_of, received_of, coming_to};
+ghost use Rattle.alm_rings.specs.Ends.{SameConsole, sent_of, received_of};
 ghost use Rattle.alm_session.specs.Draining.{IsDrained};
 ghost use Rattle.alm_session.specs.Sides.{heard_by, IsQuiet};
 ghost use Rattle.alm_types.specs.Sizes.{most_out};

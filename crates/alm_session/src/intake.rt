@@ -49,8 +49,7 @@ fn feed_from(decoder: &mut Decoder, bytes: &[u8], at: usize, end: usize) -> (usi
 }
 
 impl Intake {
-    ghost use Rattle.std.specs.Prelude.{◌≡◌, [], None, length, take, List, ℕ, Some};
-    ghost use Rattle.std.specs.Io.KnownBytes.{Consumes};
+    ghost use Rattle.std.specs.Prelude.{◌≡◌, [], None, length, take};
     ghost use Rattle.alm_session.specs.Intakes.{Held, lines_in, open_in};
     ghost use Rattle.alm_session.specs.Wires.{ReadCounts, ReadGives};
 

@@ -1,6 +1,6 @@
 //! A wire in memory.
 
-ghost use Rattle.std.specs.Prelude.{◌≡◌, ◌≤◌, length, vec_capacity, vec_len};
+ghost use Rattle.std.specs.Prelude.{◌≡◌, ◌≤◌, vec_capacity, vec_len};
 
 use crate::wire::{ReadGave, Wire, WriteTook};
 use std::alloc::{AllocError, Global};
@@ -46,8 +46,7 @@ impl MemWire {
 }
 
 impl Wire for MemWire {
-    ghost use Rattle.std.specs.Prelude.{◌≡◌, Some, drop};
-    ghost use Rattle.alm_session.specs.Wires.{Counts};
+    ghost use Rattle.std.specs.Prelude.{◌≡◌, Some};
     ghost use Rattle.alm_session.specs.MemWires.{input_of, output_of};
 
     ghost counts = { λ w. record { blocked_reads = 0; blocked_writes = w.blocked; failed = 0 } };

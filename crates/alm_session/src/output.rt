@@ -1,6 +1,6 @@
 //! Replies that aren't written yet.
 
-ghost use Rattle.std.specs.Prelude.{◌≡◌, ◌+◌, ◌≤◌, ◌++◌, [], length, vec_len, vec_capacity, OnErr, OnOk, is_ok, decimal, codes, IfOk};
+ghost use Rattle.std.specs.Prelude.{◌≡◌, ◌+◌, ◌≤◌, ◌++◌, [], length, vec_len, vec_capacity, is_ok, decimal, codes, IfOk};
 ghost use Rattle.alm_lines.specs.Reply.{ok_text, no_text};
 ghost use Rattle.alm_session.specs.Outputs.{output_limit, reply_limit};
 
@@ -69,7 +69,7 @@ fn put_line(text: &mut Vec<u8>, id: u32, word: &str, number: u64)
 }
 
 impl Output {
-    ghost use Rattle.std.specs.Prelude.{◌≡◌, ◌+◌, ◌≤◌, ◌<◌, ◌++◌, [], length, IfOk, take, drop};
+    ghost use Rattle.std.specs.Prelude.{◌≡◌, ◌+◌, ◌≤◌, ◌<◌, ◌++◌, [], length, IfOk, drop};
     ghost use Rattle.alm_lines.specs.Reply.{ok_text, no_text, told_text};
     ghost use Rattle.alm_types.specs.Reports.{report};
     ghost use Rattle.std.specs.Prelude.{true, false};

@@ -27,15 +27,14 @@ pub struct Session {
 }
 
 impl Session {
-    ghost use Rattle.std.specs.Prelude.{◌≡◌, ◌+◌, ◌≤◌, ◌<◌, ◌⊎◌, ℕ, List, [], ◌∷◌, length, Option, None, Some, IfOk, true, false, IsTrue};
+    ghost use Rattle.std.specs.Prelude.{◌≡◌, ◌+◌, ◌≤◌, ◌<◌, ◌⊎◌, ℕ, List, [], ◌∷◌, length, Option, None, Some, IfOk, true, false};
     ghost use Rattle.arrayvec.specs.ArrayVec.{array_vec_len};
-    ghost use Rattle.alm_rings.specs.Ends.{SameConsole, sent_of, received_of, coming_to, room_of};
+    ghost use Rattle.alm_rings.specs.Ends.{SameConsole, sent_of};
     ghost use Rattle.alm_session.specs.Intakes.{lines_in};
-    ghost use Rattle.alm_session.specs.Wires.{blocked_write, blocked_read, failed_call};
-    ghost use Rattle.alm_session.specs.Turns.{IsTurn, IsOwn, Side, Heard, between, no_looks};
+    ghost use Rattle.alm_session.specs.Turns.{IsTurn, Heard, between, no_looks};
     ghost use Rattle.alm_types.specs.declared.action.Action.{Action};
     ghost use Rattle.alm_session.specs.Sides.{side_of, heard_by, least_of, IsQuiet, IsStuck, ReadTurns, GoneOn, Turns};
-    ghost use Rattle.std.specs.Prelude.{◌++◌, ◌==◌, if◌then◌else◌};
+    ghost use Rattle.std.specs.Prelude.{◌++◌, if◌then◌else◌};
     ghost use Rattle.alm_model.specs.Plant.{Condensed};
     ghost use Rattle.alm_lines.specs.Reply.{no_text};
     ghost use Rattle.alm_desk.specs.Answers.{verdict_reply};

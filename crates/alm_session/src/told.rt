@@ -1,8 +1,7 @@
 //! The replies to queries, into a buffer.
 
-ghost use Rattle.std.specs.Prelude.{◌≡◌, ◌≤◌, ◌<◌, ◌+◌, ◌++◌, OnOk, OnErr, length, take, vec_capacity, vec_len, decimal, codes};
-ghost use mathlib.Core.List.{IsPrefix};
-ghost use Rattle.alm_types.specs.Reports.{report, alarms};
+ghost use Rattle.std.specs.Prelude.{◌≡◌, ◌≤◌, ◌<◌, ◌+◌, ◌++◌, OnOk, OnErr, length, vec_capacity, vec_len, decimal};
+ghost use Rattle.alm_types.specs.Reports.{report};
 ghost use Rattle.alm_lines.specs.Reply.{told_text, report_text, with_spaces};
 
 use alm_lines::{letters, query_word, shown_word};

@@ -1,5 +1,5 @@
 //! The one who publishes to readers in other threads.
-ghost use Rattle.std.specs.Prelude.{◌≡◌, ◌^◌, ◌<◌, [], drop, fold, IfOk};
+ghost use Rattle.std.specs.Prelude.{◌≡◌, ◌^◌, ◌<◌, drop, fold, IfOk};
 
 use crate::aim::Aim;
 use crate::sight::Sight;

@@ -2,7 +2,7 @@
 //! is how many requests were answered or looks shown.
 //!
 //! `bench/threads/run.sh` runs it beside plain Rust threads, on a file whose syncs take 0.2 ms.
-ghost use Rattle.std.specs.Prelude.{◌≡◌, ◌<◌, ◌≤◌, ◌^◌, IfOk, length};
+ghost use Rattle.std.specs.Prelude.{◌≡◌, ◌<◌, ◌^◌, length};
 ghost use Rattle.alm_rings.specs.Placed.{AreApart};
 
 use crate::report::report;

@@ -57,7 +57,7 @@ impl Model for Row {
 
 impl Row {
     ghost use Rattle.std.specs.Prelude.{◌≡◌, None, false};
-    ghost use Rattle.alm_state.specs.Rows.{is_suppressed, is_annunciated};
+    ghost use Rattle.alm_state.specs.Rows.{is_suppressed};
     ghost use Rattle.alm_state.specs.declared.core_state.Core.TheVariants.{Normal};
 
     /// An alarm without a condition.

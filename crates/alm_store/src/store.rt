@@ -13,7 +13,7 @@ use std::alloc::Global;
 
 /// A store of actions over a device.
 pub trait Store: Drop {
-    ghost use Rattle.std.specs.Prelude.{◌≡◌, ◌≢◌, ◌⊎◌, ◌↔◌, ◌<◌, ◌≤◌, ◌+◌, ◌*◌, ℕ, true, false, List, length, None, IsSome, IsOk, IfOk, IfErr, OnOk, OnErr, IsTrue, MatchResult};
+    ghost use Rattle.std.specs.Prelude.{◌≡◌, ◌≢◌, ◌⊎◌, ◌↔◌, ◌<◌, ◌≤◌, ◌+◌, ◌*◌, ℕ, false, List, length, None, IsSome, IsOk, IfOk, IfErr, OnOk, OnErr, IsTrue, MatchResult};
     ghost use Rattle.alm_types.specs.declared.action.Action.{Action};
     ghost use Rattle.alm_disk.specs.Device.{DeviceState, AreBytes, IsImage};
     ghost use Rattle.alm_disk.specs.Failures.{HasFailed};

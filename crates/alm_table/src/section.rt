@@ -1,10 +1,9 @@
 //! A table of the file: its keys and their values.
 
-ghost use Rattle.std.specs.Prelude.{◌≡◌, ◌≤◌, Some, None, Ok, [], false, IfOk, IfErr, option_map, codes, IsTrue};
+ghost use Rattle.std.specs.Prelude.{◌≡◌, ◌≤◌, Some, None, Ok, [], false, IfOk, IfErr, option_map, IsTrue};
 ghost use Rattle.toml.specs.Data.{get_member, as_bool};
 ghost use Rattle.toml.specs.View.{view, table_view, array_view};
-ghost use Rattle.alm_types.specs.Attributes.{deadband_limit};
-ghost use Rattle.alm_table.specs.TableFile.{first_unknown, if_known, field, natural, reading_of_data, kind_named, kind_of_data, tag_of_data, text, tables, are_tables};
+ghost use Rattle.alm_table.specs.TableFile.{first_unknown, if_known, field, natural, reading_of_data, kind_of_data, tag_of_data, text, tables, are_tables};
 ghost use Rattle.alm_table.specs.Faults.{IsFaultIn, NamesKey};
 
 use crate::keys::first_unknown;

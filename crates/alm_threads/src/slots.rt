@@ -1,5 +1,5 @@
 //! The ends of some slots.
-ghost use Rattle.std.specs.Prelude.{◌≡◌, ℕ, [], length, map, slice_get, Some, IfOk};
+ghost use Rattle.std.specs.Prelude.{◌≡◌, map, IfOk};
 ghost use Rattle.alm_rings.specs.Placed.{AreApart};
 ghost use Rattle.alm_threads.specs.Slots.{AreNew, AreTied};
 

@@ -1,6 +1,6 @@
 //! Requests and their receipts between two threads.
 
-ghost use Rattle.std.specs.Prelude.{◌≡◌, IfOk, IsSome};
+ghost use Rattle.std.specs.Prelude.{IfOk, IsSome};
 ghost use Rattle.alm_rings.specs.Ends.{SameConsole, SameInbox, SameOutbox};
 
 use crate::rings::untold::{Untold, refused};
