@@ -2,6 +2,7 @@
 
 use crate::bell::Bell;
 use alm_types::{SLOTS, Slot};
+use std::sync::atomic::{AtomicU32, Ordering};
 
 /// The bells of the slots.
 #[derive(Drop)]
@@ -9,6 +10,8 @@ pub struct Bells<B: Bell + Drop> {
     bells: Vec<B>,
     // Where the bell of each slot stands; not below their number where it has none.
     places: [usize; SLOTS],
+    // Whom one thread left for another to wake: a bit each.
+    left: AtomicU32,
 }
 
 impl<B: Bell + Drop> Bells<B> {
@@ -18,7 +21,11 @@ impl<B: Bell + Drop> Bells<B> {
         for place in 0..slots.len() {
             places[slots[place].number() as usize] = place;
         }
-        Bells { bells, places }
+        Bells {
+            bells,
+            places,
+            left: AtomicU32::new(0),
+        }
     }
 
     /// The bell of a slot.
@@ -30,6 +37,26 @@ impl<B: Bell + Drop> Bells<B> {
     pub fn ring(&self, slot: Slot) {
         if let Some(bell) = self.of(slot) {
             bell.ring();
+        }
+    }
+
+    /// Leaves the bell of a slot to whoever calls [`Bells::ring_left`] next.
+    pub fn leave(&self, slot: Slot) {
+        self.left.fetch_or(1u32 << slot.number(), Ordering::SeqCst);
+    }
+
+    /// Rings those that were left. A load alone where none was.
+    pub fn ring_left(&self) {
+        if self.left.load(Ordering::SeqCst) == 0 {
+            return;
+        }
+        let left = self.left.swap(0, Ordering::SeqCst);
+        for number in 0..SLOTS {
+            if left & (1u32 << number) != 0 {
+                if let Some(bell) = self.bells.get(self.places[number]) {
+                    bell.ring();
+                }
+            }
         }
     }
 

@@ -5,7 +5,7 @@ use crate::bell::Bell;
 use crate::bells::Bells;
 use crate::thread_bell::ThreadBell;
 use alm_types::Slot;
-use std::sync::atomic::{AtomicBool, AtomicUsize, Ordering};
+use std::sync::atomic::{AtomicBool, AtomicU64, AtomicUsize, Ordering};
 
 /// What the threads tell each other beside the rings: hints, on which no contract rests.
 #[derive(Drop)]
@@ -14,6 +14,8 @@ pub struct Flags<B: Bell + Drop> {
     pub stop: AtomicBool,
     /// A sealed batch is on its way, or held.
     pub out: AtomicBool,
+    /// How many batches were sealed.
+    pub batches: AtomicU64,
     /// Nothing more is sealed.
     pub sealed: AtomicBool,
     /// So many sources have ended.
@@ -36,6 +38,7 @@ impl<B: Bell + Drop> Flags<B> {
         Flags {
             stop: AtomicBool::new(false),
             out: AtomicBool::new(false),
+            batches: AtomicU64::new(0),
             sealed: AtomicBool::new(false),
             ended: AtomicUsize::new(0),
             sequencer: ThreadBell::new(),

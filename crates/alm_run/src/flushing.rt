@@ -7,10 +7,12 @@ use crate::bell::Bell;
 use crate::flags::Flags;
 use crate::recorded_flusher::RecordedFlusher;
 use crate::thread_bell::YIELDS;
+use crate::waking::Waking;
 use alm_board::{Board, Publish};
 use alm_flush::{Advance, Fetch, Publishes, Release};
 use alm_rings::Told;
 use alm_store::Store;
+use alm_types::{MOST_ENTRIES, SLOTS, Slot};
 use std::sync::Wait;
 use std::sync::atomic::Ordering;
 
@@ -32,10 +34,12 @@ enum Pass {
     Stopped,
 }
 
-// Commits a step of the held batch and publishes it, where that is next.
-fn commit<K: Store, T: Told + Drop, B: Board<Told = T> + Publish<R>, R: Wait>(
+// Commits a step of the held batch and publishes it, where that is next: its replies are then due.
+fn commit<K: Store, T: Told + Drop, B: Board<Told = T> + Publish<R>, E: Bell + Drop, R: Wait>(
     rt: &R,
+    flags: &Flags<E>,
     flusher: &mut RecordedFlusher<K, T, B>,
+    waking: &mut Waking,
     refused: &mut u64,
 ) -> Pass
     ensures fetch { SameFetchEnds flusher.old.flusher.fetch flusher.new.flusher.fetch }
@@ -49,7 +53,10 @@ fn commit<K: Store, T: Told + Drop, B: Board<Told = T> + Publish<R>, R: Wait>(
         return Pass::Stopped;
     }
     match flusher.publish::<R>(rt) {
-        Publishes::Published => *refused = 0,
+        Publishes::Published => {
+            *refused = 0;
+            waking.begin(flags.batches.load(Ordering::SeqCst));
+        }
         Publishes::OutOfMemory => {
             *refused = u64::saturating_add(*refused, 1);
             if *refused >= REFUSALS {
@@ -61,10 +68,27 @@ fn commit<K: Store, T: Told + Drop, B: Board<Told = T> + Publish<R>, R: Wait>(
     Pass::Work
 }
 
-// Releases the next receipt and wakes its slot, or gives the batch back.
+// Has those woken who are still to be woken as a batch is answered: by the sequencer's thread, which is two batches ahead.
+fn wake<E: Bell + Drop>(flags: &Flags<E>, waking: &mut Waking) {
+    let mut left = false;
+    for number in 0..SLOTS {
+        if let Some(slot) = Slot::new(number as u8) {
+            if waking.end(slot) {
+                flags.slots.leave(slot);
+                left = true;
+            }
+        }
+    }
+    if left {
+        flags.sequencer.wake();
+    }
+}
+
+// Releases the batch's receipts and wakes their slots, gives it back, and wakes whoever was left asleep.
 fn answer<K: Store, T: Told + Drop, B: Board<Told = T>, E: Bell + Drop>(
     flags: &Flags<E>,
     flusher: &mut RecordedFlusher<K, T, B>,
+    waking: &mut Waking,
 ) -> Pass
     ensures fetch { SameFetchEnds flusher.old.flusher.fetch flusher.new.flusher.fetch }
     ensures outboxes { (s : ℕ) →
@@ -74,16 +98,23 @@ fn answer<K: Store, T: Told + Drop, B: Board<Told = T>, E: Bell + Drop>(
     ensures store { flusher.new.flusher.store ≡ flusher.old.flusher.store }
     ensures first { flusher.new.first ≡ flusher.old.first }
 {
-    match flusher.release() {
-        Release::Released(slot) => flags.slots.ring(slot),
-        Release::Full(slot) => {
-            flags.slots.ring(slot);
-            return Pass::Full;
+    for _ in 0..MOST_ENTRIES {
+        match flusher.release() {
+            Release::Released(slot) => {
+                if waking.reply(slot) {
+                    flags.slots.ring(slot);
+                }
+            }
+            Release::Full(slot) => {
+                flags.slots.ring(slot);
+                return Pass::Full;
+            }
+            Release::Nothing => break,
         }
-        Release::Nothing => {}
     }
     if flusher.give_back() {
         flags.sequencer.ring();
+        wake(flags, waking);
     }
     Pass::Work
 }
@@ -93,6 +124,7 @@ fn step<K: Store, T: Told + Drop, B: Board<Told = T> + Publish<R>, E: Bell + Dro
     rt: &R,
     flags: &Flags<E>,
     flusher: &mut RecordedFlusher<K, T, B>,
+    waking: &mut Waking,
     refused: &mut u64,
     idle: u32,
 ) -> Pass
@@ -105,17 +137,24 @@ fn step<K: Store, T: Told + Drop, B: Board<Told = T> + Publish<R>, E: Bell + Dro
         K.Device.honest (K.disk flusher.new.flusher.store) }
     ensures first { flusher.new.first ≡ flusher.old.first }
 {
-    if flusher.fetch() == Fetch::Empty {
-        if idle >= REST && flusher.advance() == Advance::Failed {
-            return Pass::Stopped;
+    match flusher.fetch() {
+        Fetch::Got => waking.fetch(),
+        Fetch::Held => {}
+        Fetch::Empty => {
+            if idle >= REST && flusher.advance() == Advance::Failed {
+                return Pass::Stopped;
+            }
+            return Pass::Empty;
         }
-        return Pass::Empty;
     }
     // Replies that wait come before the pieces of a checkpoint.
-    if flusher.next().is_none() && commit(rt, flusher, refused) == Pass::Stopped {
-        return Pass::Stopped;
+    if flusher.next().is_none() {
+        let pass = commit(rt, flags, flusher, waking, refused);
+        if pass == Pass::Stopped {
+            return pass;
+        }
     }
-    answer(flags, flusher)
+    answer(flags, flusher, waking)
 }
 
 /// Commits, publishes and releases until nothing more is sealed and nothing is left, or the store has stopped, or a publish was
@@ -134,6 +173,7 @@ pub fn flush<K: Store, T: Told + Drop, B: Board<Told = T> + Publish<R>, E: Bell 
         K.Device.honest (K.disk flusher.new.flusher.store) }
     ensures first { flusher.new.first ≡ flusher.old.first }
 {
+    let mut waking = Waking::new();
     let mut refused: u64 = 0;
     let mut idle: u32 = 0;
     for _ in rt.forever() {
@@ -142,7 +182,7 @@ pub fn flush<K: Store, T: Told + Drop, B: Board<Told = T> + Publish<R>, E: Bell 
         }
         // Before the fetch: what was sealed then is found by it.
         let last = flags.sealed.load(Ordering::SeqCst);
-        match step(rt, flags, flusher, &mut refused, idle) {
+        match step(rt, flags, flusher, &mut waking, &mut refused, idle) {
             Pass::Work => {
                 idle = 0;
                 continue;
@@ -155,7 +195,12 @@ pub fn flush<K: Store, T: Told + Drop, B: Board<Told = T> + Publish<R>, E: Bell 
                     break;
                 }
             }
-            Pass::Full => flags.full.store(true, Ordering::SeqCst),
+            Pass::Full => {
+                // What is received once that is said rings: only what was tried since then is waited for.
+                if !flags.full.swap(true, Ordering::SeqCst) {
+                    continue;
+                }
+            }
             Pass::Stopped => {
                 flags.stop_all();
                 break;

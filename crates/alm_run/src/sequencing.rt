@@ -117,6 +117,7 @@ fn seal_some<P: Alarms + Drop, B: Bell + Drop, C: Clock>(
             Seal::Sealed => {
                 gathering.seal();
                 commit.begin(clock);
+                flags.batches.fetch_add(1, Ordering::SeqCst);
                 flags.out.store(true, Ordering::SeqCst);
                 flags.flusher.ring();
                 return Left::Work;
@@ -154,6 +155,7 @@ pub fn sequence<P: Alarms + Drop, B: Bell + Drop, H: Hold, R: Wait + Clock>(
         if flags.is_stopped() {
             break;
         }
+        flags.slots.ring_left();
         // Before the pass: what was sent then is found by it.
         let last = flags.ended.load(Ordering::SeqCst) >= slots.len();
         let found = go_round(&mut sequencer, slots, hold, &mut gathering);

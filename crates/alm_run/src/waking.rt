@@ -1,0 +1,86 @@
+//! When the slots are woken that a batch answers.
+ghost use Rattle.std.specs.Prelude.{◌≡◌, ◌≤◌, ◌+◌, ◌-◌, ◌^◌, ◌&&◌, ◌↔◌, IsTrue, MatchBool, min, not, false, true, slice_set};
+ghost use Rattle.alm_run.specs.Wakings.{is_owed, may_sleep, no_one, no_reply, with_reply};
+
+use alm_types::{SLOTS, Slot};
+
+/// How many replies of one batch tell that a slot asks on without waiting for them.
+const MANY: u16 = 8;
+
+/// How many batches have to wait before anybody is left asleep.
+const QUEUE: u64 = 2;
+
+/// When the slots are woken that a batch answers. Each is woken as soon as it is answered, unless two batches more wait: then each is woken
+/// once the whole batch is answered, but for a slot with eight replies of it or more, which asks on without them. What that one asks for
+/// waits behind those two batches: it is left asleep until the next one is answered, not twice in a row, and takes the replies of both by one wake.
+#[derive(Clone, Copy, Debug, PartialEq, Eq)]
+pub struct Waking {
+    /// So many batches were fetched.
+    fetched: u64,
+    /// Two more waited as the first reply of this batch was due.
+    busy: bool,
+    /// How many replies of it each slot has for which it wasn't woken.
+    replies: [u16; SLOTS],
+    /// Who was left asleep by the batch before.
+    late: [bool; SLOTS],
+}
+
+impl Waking {
+    /// No batch yet.
+    pub fn new() -> Self
+        ensures { result ≡
+            record { fetched = 0; busy = false; replies = no_reply; late = no_one } }
+    {
+        Waking {
+            fetched: 0,
+            busy: false,
+            replies: [0; SLOTS],
+            late: [false; SLOTS],
+        }
+    }
+
+    /// A batch was fetched.
+    pub fn fetch(&mut self)
+        ensures { self.new ≡ record self.old { fetched = min (self.old.fetched + 1) (2 ^ 64 - 1) } }
+    {
+        self.fetched = self.fetched.saturating_add(1);
+    }
+
+    /// The replies of the batch that was fetched last are due, and so many batches were sealed by now.
+    pub fn begin(&mut self, sealed: u64)
+        ensures busy { IsTrue self.new.busy ↔ (2 ≤ sealed - self.old.fetched) }
+        ensures same { self.new ≡
+            record self.old { busy = self.new.busy; replies = no_reply } }
+    {
+        self.busy = sealed.saturating_sub(self.fetched) >= QUEUE;
+        self.replies = [0; SLOTS];
+    }
+
+    /// A slot has a reply: whether it is woken at once.
+    pub fn reply(&mut self, slot: Slot) -> bool
+        ensures { MatchBool result ((self.old.busy ≡ false) × (self.new ≡ self.old))
+            ((self.old.busy ≡ true) ×
+            (self.new ≡ record self.old { replies = with_reply self.old.replies slot })) }
+    {
+        if !self.busy {
+            return true;
+        }
+        let place = slot.number() as usize;
+        self.replies[place] = self.replies[place].saturating_add(1);
+        false
+    }
+
+    /// The batch is answered: whether a slot is woken now.
+    pub fn end(&mut self, slot: Slot) -> bool
+        ensures woken { result ≡ is_owed self.old slot && not (may_sleep self.old slot) }
+        ensures late { self.new ≡
+            record self.old { late = slice_set self.old.late slot (may_sleep self.old slot) } }
+    {
+        let place = slot.number() as usize;
+        let replies = self.replies[place];
+        let late = self.late[place];
+        let sleeps = self.busy && replies >= MANY && !late;
+        self.late[place] = sleeps;
+        (replies > 0 || late) && !sleeps
+    }
+}
