@@ -7,14 +7,16 @@ Clients on all ports ask one request after another, each behind the answer to it
 actions in the order of their numbers. Then some do so while at each call on the device's file in turn the call fails, the process is killed
 or the power fails, or while from a request on there is no more memory: the server has ended with the status of its fault line, and
 the device holds each action that was answered, at the number that the answer named, and of those without an answer what may have come
-before or behind. A server that nobody asks ends its checkpoint. Each request for memory, and each thread, is refused in turn. Lines of a grammar that
-breaks itself (lines.py) are sent to a port in pieces that end anywhere; the replies fit the second reading of the lines. Connections
-that end their sending while replies are owed get these, and their end.
+before or behind. Clients with all the requests out that they may have get all replies in order. A server that nobody asks ends its
+checkpoint. Each request for memory, and each thread, is refused in turn. Lines of a grammar that breaks itself (lines.py) are sent to a port in
+pieces that end anywhere; the replies fit the second reading of the lines. Connections that end their sending while replies are owed get these, and
+their end.
 """
 import itertools
 import os
 import random
 import re
+import selectors
 import shutil
 import socket
 import subprocess
@@ -26,6 +28,8 @@ import lines as grammar
 from program import PLANT, PORTS, Fault, Wrong, begin, check, ends, finish, preload, run_words, state
 
 SLOTS = (0, 5, 16, 17)
+OUT = 64  # so many requests of a connection may be unanswered
+SLOW = os.path.join(os.path.dirname(os.path.abspath(__file__)), "..", "bench", "serve", "sync.c")  # syncs that take their time
 FEW = [(b"1 SHELVE 0 60", b"1 OK 1\n"), (b"2 LIST P 1", b"2 LIST 1 0\n"), (b"3 OOS 1 ON", b"3 OK 2\n"), (b"4 LIST A 0", b"4 LIST 2 0\n"),
        (b"5 CHATTER", b"5 CHATTER 2 0\n")]
 STOPS = (b"fault stopped\n", b"fault disk\n", b"fault io\n")
@@ -95,6 +99,39 @@ class Client(threading.Thread):
                     self.answered.append((line, reply.decode()))
         except OSError:
             pass
+
+
+class Pipeliner:
+    """Keeps as many requests out at a slot as one may, and notes the ids of the replies."""
+
+    def __init__(self, server, slot, count):
+        self.one, self.slot, self.count = server.connect(slot), slot, count
+        self.sent, self.ids, self.held = 0, [], b""
+        self.ask()
+
+    def line(self, number):
+        if self.slot == 16:
+            return f"{number} VAL 0 {700 if number % 2 else 800}\n"
+        if self.slot == 17:
+            return f"{number} CLOCK {number}\n"
+        return f"{number} OOS {self.slot % 4} {'ON' if number % 2 else 'OFF'}\n"
+
+    def ask(self):
+        """Asks for as many as it may, eight or more at once."""
+        until = min(self.count, len(self.ids) + OUT)
+        if until < self.sent + 8 and until < self.count:
+            return
+        self.one.sendall("".join(self.line(number) for number in range(self.sent + 1, until + 1)).encode())
+        self.sent = until
+
+    def take(self):
+        """Takes the replies that have come, and asks for as many more. Whether any is owed."""
+        came = self.one.recv(1 << 16)
+        check(came, "slot", self.slot, "was ended behind", len(self.ids), "replies")
+        *replies, self.held = (self.held + came).split(b"\n")
+        self.ids += [int(reply.split()[0]) for reply in replies]
+        self.ask()
+        return len(self.ids) < self.count
 
 
 def accepted_of(clients):
@@ -205,6 +242,30 @@ class Serving:
         check(not doubts and sorted(known) == list(range(1, len(known) + 1)), "numbers are missing")
         check(self.replay([known[number] for number in sorted(known)]) == state(self.program, device), "the device stands for something else")
         return len(known)
+
+    def crowd(self, count):
+        """Clients at all slots with as many requests out as each may have, over a disk that takes a millisecond for 1,000 bytes, so that full
+        batches wait for one another: all replies come in order, within 15 seconds."""
+        device = os.path.join(self.folder, "device")
+        shutil.copyfile(self.fresh, device)
+        slow = os.path.join(self.folder, "slow.so")
+        subprocess.run(["cc", "-O2", "-shared", "-fPIC", "-o", slow, SLOW], check=True)
+        server = self.start(device, {"LD_PRELOAD": slow, "SYNC_BYTES_A_US": "1", "SYNC_COUNT": os.path.join(self.folder, "syncs")})
+        started = time.monotonic()
+        clients = [Pipeliner(server, slot, count) for slot in range(18)]
+        with selectors.DefaultSelector() as owed:
+            for client in clients:
+                owed.register(client.one, selectors.EVENT_READ, client)
+            while owed.get_map():
+                for key, _ in owed.select(1):
+                    if not key.data.take():
+                        owed.unregister(key.fileobj)
+                check(time.monotonic() - started < 15, "after 15 s", [len(client.ids) for client in clients], "replies of", count)
+        for client in clients:
+            check(client.ids == list(range(1, count + 1)), "slot", client.slot, "is answered out of order")
+            client.one.close()
+        server.end()
+        return count * len(clients)
 
     def idle(self):
         """59 actions use more than half of the least segment, and nobody asks any more: the checkpoint goes out all the same."""
@@ -325,6 +386,7 @@ def main():
     try:
         serving = Serving(program, folder)
         accepted = serving.whole(600 // step + 20)
+        crowded = serving.crowd(1500)
         serving.idle()
         faults = serving.faults(step)
         stopped = serving.scarcity(step // 17 + 1)
@@ -334,8 +396,9 @@ def main():
         halves = serving.half_closed(1, 3000 // step + 100)
     except Wrong as wrong:
         sys.exit(f"serve: {wrong}; devices are in {folder}")
-    finish("serve", folder, f"{accepted} actions of 18 slots, {faults} faults, kills and power cuts, {refused} requests for memory and {threads} threads refused,"
-           f" {stopped} stops for want of it, {lines} lines in pieces, {halves} connections half closed, none wrong, {time.monotonic() - started:.0f} s")
+    finish("serve", folder, f"{accepted} actions of 18 slots, {crowded} requests with {OUT} out, {faults} faults, kills and power cuts,"
+           f" {refused} requests for memory and {threads} threads refused, {stopped} stops for want of it, {lines} lines in pieces,"
+           f" {halves} connections half closed, none wrong, {time.monotonic() - started:.0f} s")
 
 
 if __name__ == "__main__":
