@@ -354,21 +354,21 @@ impl Linked {
             (outcome self.old.panel.now self.old.panel.next_stamp action.now)) }
     {
         let index = id.0 as usize;
-        let attr = self.nodes.attr(index);
-        let area = attr.area;
         let next = outcome_of(
             self.measure.now(),
             self.next_stamp,
             action,
-            attr,
+            self.nodes.attr(index),
             self.nodes.row(index),
         );
         if self.put(id.0, next) {
+            let area = self.nodes.attr(index).area;
             self.measure.settle_area(u32::from(area));
         }
     }
 
     /// The alarm has the attributes that an action gives it; its row and its stamp stay.
+    #[inline(never)]
     fn configure(&mut self, id: AlarmId, action: &Action)
         requires here { alarm_refusal action.now (slice_get self.old.panel.attrs id.0)
             (slice_get self.old.panel.rows id.0) ≡ None }
@@ -400,6 +400,7 @@ impl Linked {
     }
 
     /// The shelving of an alarm ends.
+    #[inline(never)]
     fn unshelve(&mut self, number: u32)
         requires here { number < length self.old.panel.rows }
         requires stamps { self.old.panel.next_stamp < 1 + most_alarms * self.old.panel.count }

@@ -54,8 +54,11 @@ fn keeps_lists(before: &Row, row: &Row) -> bool
         ((is_annunciated before.now.core ≡ is_annunciated row.now.core) ×
         (is_annunciated row.now.core ≡ true → before.now.stamp ≡ row.now.stamp)) }
 {
-    let is = row.core.is_annunciated();
-    before.core.is_annunciated() == is && (!is || before.stamp == row.stamp)
+    if row.core.is_annunciated() {
+        before.core.is_annunciated() && before.stamp == row.stamp
+    } else {
+        !before.core.is_annunciated()
+    }
 }
 
 /// Whether it keeps its place in the wheel, or has none before and after.
@@ -64,8 +67,11 @@ fn keeps_slot(before: &Row, row: &Row) -> bool
         ((is_some before.now.shelved_until ≡ is_some row.now.shelved_until) ×
         (is_some row.now.shelved_until ≡ true → before.now.stamp ≡ row.now.stamp)) }
 {
-    let is = row.shelved_until.is_some();
-    before.shelved_until.is_some() == is && (!is || before.stamp == row.stamp)
+    if row.shelved_until.is_some() {
+        before.shelved_until.is_some() && before.stamp == row.stamp
+    } else {
+        before.shelved_until.is_none()
+    }
 }
 
 /// The list of an alarm's priority, where it stands in it.
@@ -105,6 +111,7 @@ fn take_out(chains: &mut Chains, family: u32, node: u32)
 }
 
 /// The same, and puts it to the end of a list, where it is to stand in one.
+#[inline(never)]
 fn refile(chains: &mut Chains, family: u32, node: u32, to: Option<u32>)
     requires family { family < length chains.old.families }
     requires node { node < chains.old.nodes }
@@ -194,6 +201,7 @@ fn rechain(chains: &mut Chains, stays: bool, index: u32, attr: &Attr, row: &Row)
 }
 
 /// A node has a deadline from now on, or none any more.
+#[inline(never)]
 fn schedule(wheel: &mut Wheel, node: u32, to: Option<u64>)
     requires node { node < length wheel.old.deadlines }
     requires filed { list_holding node wheel.old.slots ≡
@@ -208,6 +216,7 @@ fn schedule(wheel: &mut Wheel, node: u32, to: Option<u64>)
 }
 
 /// An alarm's place in the wheel, unless that stays.
+#[inline(always)]
 fn reschedule(wheel: &mut Wheel, stays: bool, index: u32, row: &Row)
     requires node { index < length wheel.old.deadlines }
     requires filed { list_holding index wheel.old.slots ≡
@@ -332,12 +341,12 @@ impl Nodes {
         requires placed { IsPlaced self.old.rows index row }
         ensures { self.new ≡ record self.old { rows = slice_set self.old.rows index row } }
     {
-        let before = self.rows[index as usize];
+        let before = &self.rows[index as usize];
         let attr = &self.attrs[index as usize];
+        let lists_stay = keeps_lists(before, &row);
+        let slot_stays = keeps_slot(before, &row);
         self.rows[index as usize] = row;
         self.stamps[index as usize] = row.stamp;
-        let lists_stay = keeps_lists(&before, &row);
-        let slot_stays = keeps_slot(&before, &row);
         rechain(&mut self.chains, lists_stay, index, attr, &row);
         reschedule(&mut self.wheel, slot_stays, index, &row);
     }

@@ -97,6 +97,24 @@ fn followed(row: Row, attr: &Attr, active: bool, stamp: u64) -> Outcome
     }
 }
 
+/// A copy of a row, part by part: a copy of the whole takes the bytes between its parts along.
+#[inline(always)]
+fn copied(row: &Row) -> Row
+    ensures { result ≡ row.now }
+{
+    Row {
+        shelved_until: match row.shelved_until {
+            Some(until) => Some(until),
+            None => None,
+        },
+        stamp: row.stamp,
+        active: row.active,
+        core: row.core,
+        by_design: row.by_design,
+        out_of_service: row.out_of_service,
+    }
+}
+
 /// What an action at a moment makes of the alarm that it names.
 #[inline(always)]
 pub fn outcome_of(now: Moment, stamp: u64, action: &Action, attr: &Attr, row: &Row) -> Outcome
@@ -104,7 +122,7 @@ pub fn outcome_of(now: Moment, stamp: u64, action: &Action, attr: &Attr, row: &R
     requires admitted { row_refusal action.now attr.now row.now ≡ None }
     ensures { result ≡ outcome now stamp action.now attr.now row.now }
 {
-    let row = *row;
+    let row = copied(row);
     let active = row.active;
     let shelved_until = row.shelved_until;
     let by_design = row.by_design;

@@ -9,16 +9,16 @@ use std::marker::Model;
 /// exactly where the alarm is annunciated or shelved.
 #[derive(Clone, Copy, Debug, PartialEq, Eq)]
 pub struct Row {
+    /// The moment at which the shelving ends; `None` where the alarm isn't shelved.
+    pub shelved_until: Option<u64>,
+    /// The stamp of the last annunciation while annunciated, that of the shelving while shelved, else 0.
+    pub stamp: u64,
     /// Whether the condition holds; it is followed under flags too.
     pub active: bool,
     pub core: Core,
-    /// The moment at which the shelving ends; `None` where the alarm isn't shelved.
-    pub shelved_until: Option<u64>,
     /// Suppressed by design.
     pub by_design: bool,
     pub out_of_service: bool,
-    /// The stamp of the last annunciation while annunciated, that of the shelving while shelved, else 0.
-    pub stamp: u64,
 }
 
 impl Model for Row {
