@@ -1,6 +1,6 @@
 //! One step of the commit of a batch, or of a checkpoint.
 
-ghost use Rattle.std.specs.Prelude.{◌≡◌, ◌≢◌, ℕ, ◌⊎◌, ◌+◌, ◌*◌, ◌<◌, ◌≤◌, [], length, IsTrue, false};
+ghost use Rattle.std.specs.Prelude.{◌≡◌, ◌≢◌, ℕ, ◌⊎◌, ◌↔◌, ◌+◌, ◌*◌, ◌<◌, ◌≤◌, [], length, IsTrue, false};
 ghost use Rattle.alm_disk.specs.Failures.{HasFailed};
 ghost use Rattle.alm_model.specs.Judging.{accepted_of};
 ghost use Rattle.alm_store.specs.Pace.{most, most_calls};
@@ -204,6 +204,15 @@ fn commit<K: Store>(store: &mut K, batch: &Batch) -> Advance
     call(store, batch)
 }
 
+// Whether a batch has actions. While one is committed it isn't looked at again.
+fn has_actions<K: Store>(store: &K, batch: &Batch) -> bool
+    requires idle { accepted_of batch.now.entries ≡ [] →
+        (K.state store.now).phase ≢ Phase.Committing }
+    ensures { IsTrue result ↔ (0 < length (accepted_of batch.now.entries)) }
+{
+    store.phase() == Phase::Committing || accepted_in(batch) > 0
+}
+
 /// At most one device call. A batch without actions needs none; one that isn't taken needs a checkpoint first. Once a batch is
 /// committed a checkpoint is opened where more than half of the segment is used.
 pub fn advance_by<K: Store>(store: &mut K, batch: &Batch) -> Advance
@@ -231,10 +240,10 @@ pub fn advance_by<K: Store>(store: &mut K, batch: &Batch) -> Advance
     if store.phase() == Phase::Stopped {
         return Advance::Failed;
     }
-    let advanced = if accepted_in(batch) == 0 {
-        Advance::Committed
-    } else {
+    let advanced = if has_actions(store, batch) {
         commit(store, batch)
+    } else {
+        Advance::Committed
     };
     if advanced == Advance::Committed {
         open_checkpoint(store);
