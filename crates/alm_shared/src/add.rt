@@ -1,21 +1,32 @@
 //! The step by which a history grows.
 
-use alm_types::Action;
+use alm_types::{Action, Batch};
 use logbook::{Plain, Play};
 
-/// The step by which a history grows by an action.
+/// Actions that are added to a history together: contracts see their list, which takes no bytes.
+pub type Growth = [Action; 0];
+
+/// The accepted actions of a batch, but for so many of the first.
+#[derive(Drop)]
+pub struct Rest<'a> {
+    pub batch: &'a Batch,
+    pub from: u64,
+}
+
+/// The step by which a history grows by the rest of a batch.
 pub struct Add;
 
-impl Play<Action, u64> for Add {
+impl Play<Growth, u64> for Add {
     ghost use Rattle.alm_shared.specs.History.{Adds};
 
     ghost then = { Adds };
 }
 
-impl Plain<Action, Action, u64> for Add {
-    ghost use Rattle.std.specs.Prelude.{None};
+impl Plain<Rest<'_>, Growth, u64> for Add {
+    ghost use Rattle.std.specs.Prelude.{None, drop};
+    ghost use Rattle.alm_model.specs.Judging.{accepted_of};
 
-    ghost ask = { λ action. action };
+    ghost ask = { λ rest. drop rest.from (accepted_of rest.batch.now.entries) };
 
-    ghost state = { λ action. None };
+    ghost state = { λ rest. None };
 }

@@ -10,10 +10,10 @@ use crate::step::Step;
 /// What the owner of a shared board keeps beside what is shown.
 #[derive(Drop)]
 pub struct Desk<J: Naming> {
-    /// All actions that were handed over.
+    /// All actions that were handed over, which the next turn shows.
     pub handed: Front<J>,
-    /// The next one, where it found no memory.
-    pub spare: Option<Step<J>>,
+    /// All actions of the history: those behind `handed` found no memory.
+    pub reached: Front<J>,
 }
 
 impl<J: Naming> Aim for Desk<J> {

@@ -1,42 +1,46 @@
 //! A beginning of a run's history.
-ghost use Rattle.std.specs.Prelude.{◌≡◌, ◌+◌, ◌-◌, ◌≤◌, ◌++◌, ◌∷◌, ◌⊎◌, ◌↔◌, [], length, MatchBool, IsTrue, Some, None, slice_get};
+ghost use Rattle.std.specs.Prelude.{◌≡◌, ◌+◌, ◌-◌, ◌≤◌, ◌++◌, ◌∷◌, ◌⊎◌, ◌↔◌, [], length, take, drop, MatchBool, IsTrue, Some, None, slice_get};
 ghost use mathlib.Core.List.{IsPrefix};
 ghost use Rattle.alm_model.specs.Accept.{refusal};
+ghost use Rattle.alm_model.specs.Judging.{accepted_of};
 ghost use Rattle.alm_model.specs.Step.{run};
 ghost use Rattle.alm_types.specs.Sizes.{most_actions};
+ghost use Rattle.alm_board.specs.Fronts.{IsFront};
 
-use crate::add::Add;
+use crate::add::{Add, Growth, Rest};
 use crate::head::Head;
 use crate::law::Law;
 use crate::naming::Naming;
 use crate::nothing::Nothing;
+use alm_model::accepted_in;
 use alm_rings::Told;
-use alm_types::{Action, MOST_ACTIONS};
+use alm_types::{Action, Batch, MOST_ACTIONS};
 use logbook::{Offer, Seen};
 use std::marker::{Model, PhantomData};
 
-/// A beginning of a run's history, as long as it was seen: eight bytes, however long. Each action is admitted where it comes. Contracts see
-/// it as its actions.
+/// A beginning of a run's history, of so many of the actions that were seen: eight bytes, however long. Each action is admitted where it comes.
+/// Contracts see it as its actions.
 #[derive(Drop)]
 pub struct Front<J: Naming> {
     len: u64,
-    seen: Seen<Action, u64, Law>,
+    seen: Seen<Growth, u64, Law>,
     of: PhantomData<J>,
 }
 
 impl<J: Naming> Model for Front<J> {
-    ghost use Rattle.std.specs.Prelude.{◌≡◌, ◌≤◌, List, length};
+    ghost use Rattle.std.specs.Prelude.{◌≡◌, ◌≤◌, List, length, take};
     ghost use Rattle.alm_types.specs.declared.action.Action.{Action};
     ghost use Rattle.alm_model.specs.Rules.{AllAdmitted};
     ghost use Rattle.alm_types.specs.Sizes.{most_actions};
+    ghost use Rattle.alm_shared.specs.History.{joined};
 
     ghost Value = { List Action };
 
-    ghost view = { λ f. f.seen.log };
+    ghost view = { λ f. take f.len (joined f.seen.log) };
 
     ghost invariant = { λ f.
-        (f.len ≡ length f.seen.log) × (f.len ≤ most_actions) × (f.seen.book ≡ J.book) ×
-        AllAdmitted J.base f.seen.log };
+        (f.len ≤ length (joined f.seen.log)) × (f.len ≤ most_actions) × (f.seen.book ≡ J.book) ×
+        AllAdmitted J.base (take f.len (joined f.seen.log)) };
 }
 
 impl<J: Naming> Told for Front<J> {
@@ -49,7 +53,7 @@ impl<J: Naming> Front<J> {
     ghost use Rattle.alm_model.specs.Rules.{AllAdmitted};
 
     // A front that has seen nothing.
-    pub(crate) fn new(seen: Seen<Action, u64, Law>) -> Front<J>
+    pub(crate) fn new(seen: Seen<Growth, u64, Law>) -> Front<J>
         requires empty { seen.log ≡ [] }
         requires book { seen.book ≡ J.book }
         ensures { result ≡ [] }
@@ -96,6 +100,14 @@ impl<J: Naming> Front<J> {
         }
     }
 
+    // Whether `other` begins with this front: it does where it is no shorter.
+    pub(crate) fn begins(&self, other: &Front<J>) -> bool
+        ensures { IsTrue result ↔ IsFront self.now other.now }
+    {
+        drop(self.longer(other));
+        self.len() <= other.len()
+    }
+
     /// Whether `next` is this front with one action more, which is then `action`.
     pub fn is_followed_by(&self, next: &Front<J>, action: Action) -> bool
         requires last { slice_get next.now (length next.now - 1) ≡ Some action }
@@ -108,28 +120,49 @@ impl<J: Naming> Front<J> {
         next.len() == self.len() + 1
     }
 
-    // Adds an action to the history, and holds it too. Nothing changes where the history is longer than this front, or has no room.
-    pub(crate) fn extend(&mut self, head: &Head<J>, action: Action) -> bool
-        requires { refusal (run J.base self.old).panel action ≡ None }
-        ensures { MatchBool result (self.new ≡ self.old ++ action ∷ []) (self.new ≡ self.old) }
+    // The first `len` of its actions.
+    pub(crate) fn first(&self, len: u64) -> Front<J>
+        requires { len ≤ length self.now }
+        ensures { result ≡ take len self.now }
+    {
+        Front {
+            len,
+            seen: self.seen.again(),
+            of: PhantomData,
+        }
+    }
+
+    // Adds the accepted actions of a batch to the history, but for so many of the first, and holds them too. Nothing changes where the history
+    // is longer than this front, or has no room.
+    pub(crate) fn extend(&mut self, head: &Head<J>, batch: &Batch, from: u64) -> bool
+        requires within { from ≤ length (accepted_of batch.now.entries) }
+        requires admitted { AllAdmitted (run J.base self.old)
+            (drop from (accepted_of batch.now.entries)) }
+        ensures { MatchBool result
+            (self.new ≡ self.old ++ drop from (accepted_of batch.now.entries))
+            (self.new ≡ self.old) }
     {
         let len = self.len;
-        if len >= MOST_ACTIONS {
+        let more = accepted_in(batch) as u64 - from;
+        if more == 0 {
+            return true;
+        }
+        if more > MOST_ACTIONS - len {
             return false;
         }
         let mut seen = self.seen.again();
-        let mut offer: Offer<Action, u64, Law, Nothing> = seen.plain::<Nothing, Action, Add>(
-            &action,
+        let mut offer: Offer<Growth, u64, Law, Nothing> = seen.plain::<Nothing, Rest<'_>, Add>(
+            &Rest { batch, from },
         );
         let mut pen = seen.no_pen();
         let found = head
             .head
-            .compare_exchange::<Add, Nothing>(len, len + 1, &mut seen, &mut offer, &mut pen);
+            .compare_exchange::<Add, Nothing>(len, len + more, &mut seen, &mut offer, &mut pen);
         if found != len {
             return false;
         }
         self.seen = seen;
-        self.len = len + 1;
+        self.len = len + more;
         true
     }
 }

@@ -2,22 +2,22 @@
 ghost use Rattle.std.specs.Prelude.{◌≡◌};
 ghost use Rattle.alm_shared.specs.History.{newest_of};
 
+use crate::add::Growth;
 use crate::law::Law;
 use crate::naming::Naming;
-use alm_types::Action;
 use logbook::Word;
 use std::marker::PhantomData;
 
 /// The length of a run's history. Whoever holds it may add to the history.
 #[derive(Drop)]
 pub struct Head<J: Naming> {
-    pub(crate) head: Word<Action, u64, Law>,
+    pub(crate) head: Word<Growth, u64, Law>,
     of: PhantomData<J>,
     pub ghost head_is: { head ≡ newest_of J.book },
 }
 
 impl<J: Naming> Head<J> {
-    pub(crate) fn new(head: Word<Action, u64, Law>) -> Head<J>
+    pub(crate) fn new(head: Word<Growth, u64, Law>) -> Head<J>
         requires { head ≡ newest_of J.book }
     {
         Head {

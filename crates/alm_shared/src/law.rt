@@ -1,12 +1,12 @@
 //! The rule of the history of a run.
 
-use alm_types::Action;
+use crate::add::Growth;
 use logbook::Rule;
 
 /// The rule of the history of a run: its word is its length.
 pub struct Law;
 
-impl Rule<Action, u64> for Law {
+impl Rule<Growth, u64> for Law {
     ghost use Rattle.std.specs.Prelude.{[]};
     ghost use base.Fml.{ftrue};
     ghost use Rattle.alm_shared.specs.History.{IsKept};

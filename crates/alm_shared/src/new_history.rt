@@ -2,18 +2,18 @@
 ghost use Rattle.std.specs.Prelude.{◌≡◌, []};
 ghost use Rattle.alm_shared.specs.History.{newest_of};
 
+use crate::add::Growth;
 use crate::front::Front;
 use crate::head::Head;
 use crate::law::Law;
 use crate::naming::Naming;
-use alm_types::Action;
 use logbook::{Seen, Start, Word};
 
 /// An empty history, before it has a name.
 #[derive(Drop)]
 pub struct NewHistory {
-    head: Word<Action, u64, Law>,
-    seen: Seen<Action, u64, Law>,
+    head: Word<Growth, u64, Law>,
+    seen: Seen<Growth, u64, Law>,
     pub ghost empty: { seen.log ≡ [] },
     pub ghost head_is: { head ≡ newest_of seen.book },
 }

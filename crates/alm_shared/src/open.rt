@@ -43,7 +43,7 @@ pub fn open_board<J: Naming, P: Alarms + Drop, R: Wait>(
     };
     let desk = Desk {
         handed: front.again(),
-        spare: None,
+        reached: front.again(),
     };
     let board = Publisher::new(alloc, first, second, lookers, desk, head)?;
     match looks(alloc, &board, &front, &extent, lookers) {

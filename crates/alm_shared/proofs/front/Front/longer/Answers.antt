@@ -1,19 +1,28 @@
-use Rattle.std.proofs.Common.{◌≤◌, ap, subst, arith, length, List}
+use Rattle.std.proofs.Common.{◌≤◌, ap, subst, arith, length, take, List}
+use Rattle.std.proofs.lemmas.List.{length-take-le}
 use mathlib.Core.List.{IsPrefix}
 use Rattle.alm_types.specs.declared.action.Action.{Action}
-use Rattle.alm_shared.proofs.Fronts.{prefix_shorter}
+use Rattle.alm_shared.specs.History.{joined}
+use Rattle.alm_shared.proofs.Fronts.{prefix_shorter, prefix_joined, prefix_take}
 use Rattle.alm_shared.proofs.front.Front.longer.Goals as goal
+
+-- of two beginnings of what was joined, the one of fewer actions begins the other
+shorter : (m n : _) (v w both : List (List Action)) → IsPrefix v both → IsPrefix w both → m ≤ length (joined v) → n ≤ length (joined w) → m ≤ n → IsPrefix (take m (joined v)) (take n (joined w))
+shorter m n v w both p q here there le =
+    prefix_shorter (take m (joined v)) (take n (joined w)) (joined both)
+    (prefix_take m (joined v) (joined both) (prefix_joined v both p)) (prefix_take n (joined w) (joined both) (prefix_joined w both q))
+    (omega (arith, length-take-le m (joined v) here, length-take-le n (joined w) there, le))
 
 pub returns-then-self-other-clause-this : goal.returns-then-self-other-clause-this
 returns-then-self-other-clause-this g c =
     let both = c.learn.new.self.log in
-    let this : IsPrefix c.self.inside.seen.log both = subst (λ (l : List Action). IsPrefix l both) (ap (λ s. s.log) c.again-both.ensures) c.learn.ensures.2 in
-    let less : length c.self.inside.seen.log ≤ length c.other.inside.seen.log = omega (arith, c.self.invariant.0, c.other.invariant.0) in
-    rw (c.again.ensures, ← c.self.view_is, ← c.other.view_is) (prefix_shorter c.self.inside.seen.log c.other.inside.seen.log both this c.learn.ensures.3 less)
+    let this : IsPrefix c.self.inside.seen.log both = subst (λ (l : List (List Action)). IsPrefix l both) (ap (λ s. s.log) c.again-both.ensures) c.learn.ensures.2 in
+    rw (c.again.ensures, ← c.self.view_is, ← c.other.view_is)
+    (shorter c.self.inside.len c.other.inside.len c.self.inside.seen.log c.other.inside.seen.log both this c.learn.ensures.3 c.self.invariant.0 c.other.invariant.0 (omega arith))
 
 pub returns-clause-that : goal.returns-clause-that
 returns-clause-that g c =
     let both = c.learn.new.self.log in
-    let this : IsPrefix c.self.inside.seen.log both = subst (λ (l : List Action). IsPrefix l both) (ap (λ s. s.log) c.again-both.ensures) c.learn.ensures.2 in
-    let less : length c.other.inside.seen.log ≤ length c.self.inside.seen.log = omega (arith, c.self.invariant.0, c.other.invariant.0) in
-    rw (c.again-else-self-other.ensures, ← c.self.view_is, ← c.other.view_is) (prefix_shorter c.other.inside.seen.log c.self.inside.seen.log both c.learn.ensures.3 this less)
+    let this : IsPrefix c.self.inside.seen.log both = subst (λ (l : List (List Action)). IsPrefix l both) (ap (λ s. s.log) c.again-both.ensures) c.learn.ensures.2 in
+    rw (c.again-else-self-other.ensures, ← c.self.view_is, ← c.other.view_is)
+    (shorter c.other.inside.len c.self.inside.len c.other.inside.seen.log c.self.inside.seen.log both c.learn.ensures.3 this c.other.invariant.0 c.self.invariant.0 (omega arith))

@@ -1,0 +1,14 @@
+use Rattle.std.proofs.Common.{◌≤◌, arith, length}
+use Rattle.std.proofs.lemmas.Bool.{leb-true, le-leb}
+use Rattle.alm_board.proofs.FrontLaws.{front_of_prefix, front_length}
+use Rattle.alm_shared.proofs.Fronts.{prefix_shorter}
+use Rattle.alm_shared.proofs.front.Front.begins.Goals as goal
+
+pub returns : goal.returns
+returns g c =
+    let xs = c.args.self.now in
+    let ys = c.args.other.now in
+    let within = λ (le : length xs ≤ length ys). front_of_prefix xs ys (prefix_shorter xs ys c.longer.result c.longer.ensures.this c.longer.ensures.that le) in (
+      λ is. within (omega (arith, leb-true _ _ is, c.len.ensures.length, c.len-2.ensures.length)),
+      λ front. le-leb _ _ (omega (arith, front_length xs ys front, c.len.ensures.length, c.len-2.ensures.length)),
+    )
