@@ -22,6 +22,6 @@ is_late w s = slice_index_or w.late s false
 abbrev pub is_owed : Waking → ℕ → Bool
 is_owed w s = nat_lt 0 (slice_index w.replies s) || is_late w s
 
--- the slot may sleep until the next batch is answered: others wait, it has eight replies of this batch, and slept through none
+-- the slot may sleep until the next batch is answered: two wait, it has eight replies of this batch, and slept through none
 abbrev pub may_sleep : Waking → ℕ → Bool
-may_sleep w s = w.busy && nat_le 8 (slice_index w.replies s) && not (is_late w s)
+may_sleep w s = nat_le 2 w.waiting && nat_le 8 (slice_index w.replies s) && not (is_late w s)

@@ -25,6 +25,11 @@ impl CommitTime {
         self.since = Instant::now(clock).ok();
     }
 
+    /// How long the last one was that is known.
+    pub fn last(&self) -> u64 {
+        self.micros
+    }
+
     /// None is out: how long the last one was.
     pub fn end<C: Clock>(&mut self, clock: &C) -> u64 {
         if let Some(since) = self.since.take() {

@@ -16,6 +16,8 @@ pub struct Flags<B: Bell + Drop> {
     pub out: AtomicBool,
     /// How many batches were sealed.
     pub batches: AtomicU64,
+    /// Two more waited than the one that was last answered.
+    pub busy: AtomicBool,
     /// Nothing more is sealed.
     pub sealed: AtomicBool,
     /// So many sources have ended.
@@ -39,6 +41,7 @@ impl<B: Bell + Drop> Flags<B> {
             stop: AtomicBool::new(false),
             out: AtomicBool::new(false),
             batches: AtomicU64::new(0),
+            busy: AtomicBool::new(false),
             sealed: AtomicBool::new(false),
             ended: AtomicUsize::new(0),
             sequencer: ThreadBell::new(),

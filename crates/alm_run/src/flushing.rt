@@ -56,6 +56,7 @@ fn commit<K: Store, T: Told + Drop, B: Board<Told = T> + Publish<R>, E: Bell + D
         Publishes::Published => {
             *refused = 0;
             waking.begin(flags.batches.load(Ordering::SeqCst));
+            flags.busy.store(waking.is_busy(), Ordering::SeqCst);
         }
         Publishes::OutOfMemory => {
             *refused = u64::saturating_add(*refused, 1);
@@ -68,23 +69,18 @@ fn commit<K: Store, T: Told + Drop, B: Board<Told = T> + Publish<R>, E: Bell + D
     Pass::Work
 }
 
-// Has those woken who are still to be woken as a batch is answered: by the sequencer's thread, which is two batches ahead.
-fn wake<E: Bell + Drop>(flags: &Flags<E>, waking: &mut Waking) {
-    let mut left = false;
+// Leaves to the sequencer's thread whoever is still to be woken as a batch is answered: it is a batch ahead then.
+fn leave<E: Bell + Drop>(flags: &Flags<E>, waking: &mut Waking) {
     for number in 0..SLOTS {
         if let Some(slot) = Slot::new(number as u8) {
             if waking.end(slot) {
                 flags.slots.leave(slot);
-                left = true;
             }
         }
     }
-    if left {
-        flags.sequencer.wake();
-    }
 }
 
-// Releases the batch's receipts and wakes their slots, gives it back, and wakes whoever was left asleep.
+// Releases the batch's receipts and wakes their slots, gives it back, and has those woken who were left asleep.
 fn answer<K: Store, T: Told + Drop, B: Board<Told = T>, E: Bell + Drop>(
     flags: &Flags<E>,
     flusher: &mut RecordedFlusher<K, T, B>,
@@ -113,8 +109,8 @@ fn answer<K: Store, T: Told + Drop, B: Board<Told = T>, E: Bell + Drop>(
         }
     }
     if flusher.give_back() {
+        leave(flags, waking);
         flags.sequencer.ring();
-        wake(flags, waking);
     }
     Pass::Work
 }

@@ -17,6 +17,9 @@ use std::sync::Wait;
 use std::sync::atomic::Ordering;
 use std::time::Clock;
 
+/// How many turns in a row that find nothing it dozes through: four commits of that time. A device that hangs keeps no thread awake.
+const DOZES: u32 = 16;
+
 // What a pass over the slots found.
 #[derive(Clone, Copy, Debug, PartialEq, Eq)]
 enum Found {
@@ -132,6 +135,17 @@ fn seal_some<P: Alarms + Drop, B: Bell + Drop, C: Clock>(
     left
 }
 
+// Waits for something to do: until it is woken, or for a quarter of a commit where two batches more waited than the one that was answered.
+// Nobody is held up by that, and no thread has to wake this one, the flusher's least of all.
+fn rest<B: Bell + Drop, R: Wait>(rt: &R, flags: &Flags<B>, commit: &CommitTime, idle: u32) {
+    let quarter = commit.last() / 4;
+    if quarter > 0 && idle < DOZES && flags.busy.load(Ordering::SeqCst) {
+        flags.sequencer.doze(rt, Pause::of(quarter));
+    } else {
+        flags.sequencer.wait(rt, idle);
+    }
+}
+
 /// Takes, judges and seals until all sources have ended and nothing is left, or `stop` is set. It seals where no batch is out and those
 /// whom the last one answered have asked again, or half of the time that it took has passed since it came back, and never more than
 /// 500 microseconds; or where the open batch is full. The hold is told of each request that is taken.
@@ -181,7 +195,7 @@ pub fn sequence<P: Alarms + Drop, B: Bell + Drop, H: Hold, R: Wait + Clock>(
             }
             Left::Empty if last => break,
             Left::Empty | Left::Waiting => {
-                flags.sequencer.wait(rt, idle);
+                rest(rt, flags, &commit, idle);
                 idle = idle.saturating_add(1);
             }
         }

@@ -44,6 +44,12 @@ impl ThreadBell {
             .park_timeout(rt, Duration::from_micros(pause.micros()));
     }
 
+    /// The same where rings are to bring nothing.
+    pub fn doze<R: Wait>(&self, rt: &R, pause: Pause) {
+        self.listens.store(false, Ordering::SeqCst);
+        self.sleep(rt, pause);
+    }
+
     /// Ends its sleep, or the next one, also where rings bring nothing.
     pub fn wake(&self) {
         self.parker.unpark();

@@ -1,5 +1,5 @@
 //! When the slots are woken that a batch answers.
-ghost use Rattle.std.specs.Prelude.{◌≡◌, ◌≤◌, ◌+◌, ◌-◌, ◌^◌, ◌&&◌, ◌↔◌, IsTrue, MatchBool, min, not, false, true, slice_set};
+ghost use Rattle.std.specs.Prelude.{◌≡◌, ◌<◌, ◌+◌, ◌-◌, ◌^◌, ◌&&◌, MatchBool, min, nat_le, not, slice_set};
 ghost use Rattle.alm_run.specs.Wakings.{is_owed, may_sleep, no_one, no_reply, with_reply};
 
 use alm_types::{SLOTS, Slot};
@@ -10,15 +10,16 @@ const MANY: u16 = 8;
 /// How many batches have to wait before anybody is left asleep.
 const QUEUE: u64 = 2;
 
-/// When the slots are woken that a batch answers. Each is woken as soon as it is answered, unless two batches more wait: then each is woken
-/// once the whole batch is answered, but for a slot with eight replies of it or more, which asks on without them. What that one asks for
-/// waits behind those two batches: it is left asleep until the next one is answered, not twice in a row, and takes the replies of both by one wake.
+/// When the slots are woken that a batch answers. Each is woken as soon as it is answered, unless another batch waits: then each is woken
+/// once the whole batch is answered, but where two wait for a slot with eight replies of it or more, which asks on without them. What that one
+/// asks for waits behind those two batches: it is left asleep until the next one is answered, not twice in a row, and takes the replies of both
+/// by one wake.
 #[derive(Clone, Copy, Debug, PartialEq, Eq)]
 pub struct Waking {
     /// So many batches were fetched.
     fetched: u64,
-    /// Two more waited as the first reply of this batch was due.
-    busy: bool,
+    /// So many more waited as the first reply of this batch was due.
+    waiting: u64,
     /// How many replies of it each slot has for which it wasn't woken.
     replies: [u16; SLOTS],
     /// Who was left asleep by the batch before.
@@ -29,11 +30,11 @@ impl Waking {
     /// No batch yet.
     pub fn new() -> Self
         ensures { result ≡
-            record { fetched = 0; busy = false; replies = no_reply; late = no_one } }
+            record { fetched = 0; waiting = 0; replies = no_reply; late = no_one } }
     {
         Waking {
             fetched: 0,
-            busy: false,
+            waiting: 0,
             replies: [0; SLOTS],
             late: [false; SLOTS],
         }
@@ -48,21 +49,27 @@ impl Waking {
 
     /// The replies of the batch that was fetched last are due, and so many batches were sealed by now.
     pub fn begin(&mut self, sealed: u64)
-        ensures busy { IsTrue self.new.busy ↔ (2 ≤ sealed - self.old.fetched) }
-        ensures same { self.new ≡
-            record self.old { busy = self.new.busy; replies = no_reply } }
+        ensures { self.new ≡
+            record self.old { waiting = sealed - self.old.fetched; replies = no_reply } }
     {
-        self.busy = sealed.saturating_sub(self.fetched) >= QUEUE;
+        self.waiting = sealed.saturating_sub(self.fetched);
         self.replies = [0; SLOTS];
+    }
+
+    /// Whether two batches more waited.
+    pub fn is_busy(&self) -> bool
+        ensures { result ≡ nat_le 2 self.now.waiting }
+    {
+        self.waiting >= QUEUE
     }
 
     /// A slot has a reply: whether it is woken at once.
     pub fn reply(&mut self, slot: Slot) -> bool
-        ensures { MatchBool result ((self.old.busy ≡ false) × (self.new ≡ self.old))
-            ((self.old.busy ≡ true) ×
+        ensures { MatchBool result ((self.old.waiting ≡ 0) × (self.new ≡ self.old))
+            ((0 < self.old.waiting) ×
             (self.new ≡ record self.old { replies = with_reply self.old.replies slot })) }
     {
-        if !self.busy {
+        if self.waiting == 0 {
             return true;
         }
         let place = slot.number() as usize;
@@ -79,7 +86,7 @@ impl Waking {
         let place = slot.number() as usize;
         let replies = self.replies[place];
         let late = self.late[place];
-        let sleeps = self.busy && replies >= MANY && !late;
+        let sleeps = self.is_busy() && replies >= MANY && !late;
         self.late[place] = sleeps;
         (replies > 0 || late) && !sleeps
     }
