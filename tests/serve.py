@@ -7,10 +7,10 @@ Clients on all ports ask one request after another, each behind the answer to it
 actions in the order of their numbers. Then some do so while at each call on the device's file in turn the call fails, the process is killed
 or the power fails, or while from a request on there is no more memory: the server has ended with the status of its fault line, and
 the device holds each action that was answered, at the number that the answer named, and of those without an answer what may have come
-before or behind. Clients with all the requests out that they may have get all replies in order. A server that nobody asks ends its
-checkpoint. Each request for memory, and each thread, is refused in turn. Lines of a grammar that breaks itself (lines.py) are sent to a port in
-pieces that end anywhere; the replies fit the second reading of the lines. Connections that end their sending while replies are owed get these, and
-their end.
+before or behind. Clients with all the requests out that they may have get all replies in order. Of two clients that are answered
+together one asks a little later than the other: both go by one commit. A server that nobody asks ends its checkpoint. Each request for memory,
+and each thread, is refused in turn. Lines of a grammar that breaks itself (lines.py) are sent to a port in pieces that end anywhere; the replies
+fit the second reading of the lines. Connections that end their sending while replies are owed get these, and their end.
 """
 import itertools
 import os
@@ -243,14 +243,23 @@ class Serving:
         check(self.replay([known[number] for number in sorted(known)]) == state(self.program, device), "the device stands for something else")
         return len(known)
 
+    def slow(self, **how):
+        """What a server is started with for syncs that take their time, and are counted."""
+        library = os.path.join(self.folder, "slow.so")
+        subprocess.run(["cc", "-O2", "-shared", "-fPIC", "-o", library, SLOW], check=True)
+        return {"LD_PRELOAD": library, "SYNC_COUNT": os.path.join(self.folder, "syncs"), **how}
+
+    def commits(self):
+        """The commits of such a server so far: two syncs each."""
+        with open(os.path.join(self.folder, "syncs"), "rb") as count:
+            return int.from_bytes(count.read(8), "little") // 2
+
     def crowd(self, count):
         """Clients at all slots with as many requests out as each may have, over a disk that takes a millisecond for 1,000 bytes, so that full
         batches wait for one another: all replies come in order, within 15 seconds."""
         device = os.path.join(self.folder, "device")
         shutil.copyfile(self.fresh, device)
-        slow = os.path.join(self.folder, "slow.so")
-        subprocess.run(["cc", "-O2", "-shared", "-fPIC", "-o", slow, SLOW], check=True)
-        server = self.start(device, {"LD_PRELOAD": slow, "SYNC_BYTES_A_US": "1", "SYNC_COUNT": os.path.join(self.folder, "syncs")})
+        server = self.start(device, self.slow(SYNC_BYTES_A_US="1"))
         started = time.monotonic()
         clients = [Pipeliner(server, slot, count) for slot in range(18)]
         with selectors.DefaultSelector() as owed:
@@ -266,6 +275,34 @@ class Serving:
             client.one.close()
         server.end()
         return count * len(clients)
+
+    def together(self, rounds):
+        """Two clients that are answered together ask again, one 0.25 ms behind the other: the open batch waits for it, and both go by one commit.
+        A server that waits for nobody makes two, where nothing else runs that holds its threads up until both have come. As others may hold up a
+        client, the best of ten tries counts."""
+        device = os.path.join(self.folder, "device")
+        shutil.copyfile(self.fresh, device)
+        server = self.start(device, self.slow(SYNC_US="1000"))
+        with server.connect(0) as first, server.connect(5) as second:
+            tries = (self.commits_in(first, second, range(at, at + rounds)) for at in range(1, 10 * rounds, rounds))
+            made = next((commits for commits in tries if 2 * commits <= 3 * rounds), None)
+        server.end()
+        check(made, "two clients that were answered together go by two commits")
+        return made
+
+    def commits_in(self, first, second, numbers):
+        """The commits in so many rounds."""
+        before = self.commits()
+        for number in numbers:
+            how = "ON" if number % 2 else "OFF"
+            first.sendall(f"{number} OOS 0 {how}\n".encode())
+            later = time.perf_counter() + 0.25e-3
+            while time.perf_counter() < later:
+                pass
+            second.sendall(f"{number} OOS 1 {how}\n".encode())
+            for one in (first, second):
+                check(b" OK " in one.recv(100), "a round wasn't answered")
+        return self.commits() - before
 
     def idle(self):
         """59 actions use more than half of the least segment, and nobody asks any more: the checkpoint goes out all the same."""
@@ -387,6 +424,7 @@ def main():
         serving = Serving(program, folder)
         accepted = serving.whole(600 // step + 20)
         crowded = serving.crowd(1500)
+        together = serving.together(20)
         serving.idle()
         faults = serving.faults(step)
         stopped = serving.scarcity(step // 17 + 1)
@@ -396,7 +434,8 @@ def main():
         halves = serving.half_closed(1, 3000 // step + 100)
     except Wrong as wrong:
         sys.exit(f"serve: {wrong}; devices are in {folder}")
-    finish("serve", folder, f"{accepted} actions of 18 slots, {crowded} requests with {OUT} out, {faults} faults, kills and power cuts,"
+    finish("serve", folder, f"{accepted} actions of 18 slots, {crowded} requests with {OUT} out, {together} commits for 20 rounds of two clients,"
+           f" {faults} faults, kills and power cuts,"
            f" {refused} requests for memory and {threads} threads refused, {stopped} stops for want of it, {lines} lines in pieces,"
            f" {halves} connections half closed, none wrong, {time.monotonic() - started:.0f} s")
 
