@@ -12,9 +12,8 @@ ghost use Rattle.alm_flush.specs.Pacing.{NearPace};
 ghost use Rattle.alm_flush.specs.Steps.{BeginsInOrder, BeginsInPace, CallsDevice, CommitsOnly, EndsWithin, HasCauses, IsEither, IsInOrder, IsUntouched, KeepsPhase, NearsPace, OpensBehind, StartsInPace, StaysInPace, StoresBatch};
 
 use crate::advance::Advance;
-use alm_model::accepted_in;
 use alm_store::{Phase, Progress, Store};
-use alm_types::Batch;
+use alm_types::{Batch, Verdict};
 
 // A batch has at most 256 accepted actions.
 pub fn few(batch: &Batch)
@@ -204,13 +203,26 @@ fn commit<K: Store>(store: &mut K, batch: &Batch) -> Advance
     call(store, batch)
 }
 
+// Whether one of a batch's requests is accepted, up to the first that is.
+fn has_accepted(batch: &Batch) -> bool
+    ensures { IsTrue result ↔ (0 < length (accepted_of batch.now.entries)) }
+{
+    for entry in batch.entries() {
+        match &entry.verdict {
+            Verdict::Accepted(_) => return true,
+            Verdict::Refused(_, _) => {}
+        }
+    }
+    false
+}
+
 // Whether a batch has actions. While one is committed it isn't looked at again.
 fn has_actions<K: Store>(store: &K, batch: &Batch) -> bool
     requires idle { accepted_of batch.now.entries ≡ [] →
         (K.state store.now).phase ≢ Phase.Committing }
     ensures { IsTrue result ↔ (0 < length (accepted_of batch.now.entries)) }
 {
-    store.phase() == Phase::Committing || accepted_in(batch) > 0
+    store.phase() == Phase::Committing || has_accepted(batch)
 }
 
 /// At most one device call. A batch without actions needs none; one that isn't taken needs a checkpoint first. Once a batch is

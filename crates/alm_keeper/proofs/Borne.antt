@@ -9,6 +9,7 @@ use Rattle.alm_types.specs.declared.verdict.Verdict.{Verdict}
 use Rattle.alm_types.specs.declared.verdict.Verdict.TheVariants.{Accepted, Refused}
 use Rattle.alm_model.specs.Judging.{accepted_of, when_accepted}
 use Rattle.alm_codec.specs.declared.version.Version.{Version}
+use Rattle.alm_codec.specs.declared.version.Version.TheVariants.{V02}
 use Rattle.alm_codec.specs.Versions.{IsBorne, AreBorne}
 use Rattle.alm_keeper.specs.Batch.{bears_verdict, bears_entry}
 
@@ -37,3 +38,11 @@ borne_each version (e ∷ entries) all =
 
 pub borne_all : (version : Version) (entries : List Entry) → AreBorne version (accepted_of entries) → list_all (bears_entry version) entries ≡ true
 borne_all version entries all = borne_each version entries (recursion_from_All (IsBorne version) (accepted_of entries) all)
+
+each_newest : (actions : List Action) → AllByRecursion (IsBorne V02) actions
+each_newest [] = tt
+each_newest (a ∷ actions) = (refl, each_newest actions)
+
+-- version 02 has all actions
+pub newest_bears : (actions : List Action) → AreBorne V02 actions
+newest_bears actions = All-from_recursion (IsBorne V02) actions (each_newest actions)

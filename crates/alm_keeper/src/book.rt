@@ -322,12 +322,22 @@ impl Book {
         room > 19 && actions as u64 <= (room - 20) / 16
     }
 
+    /// Whether a frame of a batch's accepted actions fits behind what is stored. They are counted only where one of all its
+    /// entries wouldn't fit.
+    fn fits_accepted(&self, batch: &Batch) -> bool
+        requires { InOrder self.now }
+        ensures { IsTrue result ↔
+            FitsFrame (account self.now) (length (accepted_of batch.now.entries)) }
+    {
+        self.fits(batch.entries().len()) || self.fits(accepted_in(batch))
+    }
+
     /// Whether a frame of a batch's accepted actions fits behind what is stored, and the half may hold them.
     pub fn takes(&self, batch: &Batch) -> bool
         requires { InOrder self.now }
         ensures { IsTrue result ↔ TakesFrame (account self.now) (accepted_of batch.now.entries) }
     {
-        self.fits(accepted_in(batch)) && bears_all(self.version, batch.entries())
+        self.fits_accepted(batch) && bears_all(self.version, batch.entries())
     }
 
     /// Begins a checkpoint, without a device call: the stored plant is copied. The other half's gate is closed first only where
