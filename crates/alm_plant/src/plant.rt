@@ -86,6 +86,7 @@ impl Alarms for Plant {
         self.linked.admits(action)
     }
 
+    #[inline(always)]
     fn apply(&mut self, action: &Action) {
         self.linked.apply(action, &mut self.working);
     }
