@@ -9,7 +9,7 @@
 //! | thread | runs | ends |
 //! |---|---|---|
 //! | of each slot | [`run_source`]: one turn of its [`Source`] after another | after a turn that says [`Go::End`], or before one where `stop` is set |
-//! | the sequencer's | [`run_sequencer`]: takes one request of each slot in turn, and seals where no batch is out, once those whom the last one answered have asked again or half of the time that it took has passed, 500 microseconds at most, or where the open batch is full | where all sources had ended before a pass that took nothing, and the open batch is empty; or where `stop` is set |
+//! | the sequencer's | [`run_sequencer`]: takes from each slot in turn, 14 requests in a row at most, and seals where no batch is out, once those whom the last one answered have asked again or half of the time that it took has passed, 500 microseconds at most, or where the open batch is full | where all sources had ended before a pass that took nothing, and the open batch is empty; or where `stop` is set |
 //! | the flusher's | [`run_flusher`]: commits, publishes and releases, and wakes each slot that it answers; where two batches more wait it leaves that to the sequencer's thread, and whoever asks on without its answers is woken once for two batches; each time its sleep ends and nothing is there, a piece of an open checkpoint | where nothing more was to be sealed before a fetch that gave nothing; at a failure of the device; after 1,000 refused publishes in a row |
 //!
 //! [`Flags`] are hints, each read before the step that it bounds. A thread that has nothing to do looks again some 8 times, and then sleeps by

@@ -1,6 +1,7 @@
 //! The sequencer's thread.
-ghost use Rattle.std.specs.Prelude.{◌≡◌};
+ghost use Rattle.std.specs.Prelude.{◌≡◌, IsSome};
 ghost use Rattle.alm_rings.specs.Batches.{SameSealEnds};
+ghost use Rattle.alm_rings.specs.Placed.{inbox_at};
 ghost use Rattle.alm_seq.specs.Sequences.{SameInboxes, base_of};
 ghost use Rattle.alm_run.specs.Serving.{ServesSlots};
 
@@ -12,13 +13,17 @@ use crate::pause::Pause;
 use alm_disk::Hold;
 use alm_model::Alarms;
 use alm_seq::{Seal, Sequencer, Take};
-use alm_types::Slot;
+use alm_types::{MOST_ENTRIES, SLOTS, Slot};
 use std::sync::Wait;
 use std::sync::atomic::Ordering;
 use std::time::Clock;
 
 /// How many turns in a row that find nothing it dozes through: four commits of that time. A device that hangs keeps no thread awake.
 const DOZES: u32 = 16;
+
+/// How many requests of a slot are taken in a row at most: its share of a batch, so that one round finds room for all slots. What such
+/// requests have in common is at hand for the next one, in each thread that the batch goes through.
+const SHARE: usize = MOST_ENTRIES / SLOTS;
 
 // What a pass over the slots found.
 #[derive(Clone, Copy, Debug, PartialEq, Eq)]
@@ -41,7 +46,34 @@ enum Left {
     Empty,
 }
 
-// Takes one request of each slot that has one, and tells the hold of each.
+// Takes requests of a slot, as many in a row as are its share of a batch, and tells the hold of each.
+fn take_share<P: Alarms + Drop, H: Hold>(
+    sequencer: &mut Sequencer<P>,
+    slot: Slot,
+    hold: &H,
+    gathering: &mut Gathering,
+) -> Found
+    requires { IsSome (inbox_at slot sequencer.old.inboxes.items) }
+    ensures inboxes { SameInboxes sequencer.old.inboxes.items sequencer.new.inboxes.items }
+    ensures ends { SameSealEnds sequencer.old.ends sequencer.new.ends }
+    ensures base { base_of sequencer.new ≡ base_of sequencer.old }
+{
+    let mut found = Found::Nothing;
+    for _ in 0..SHARE {
+        match sequencer.take(slot) {
+            Take::Taken(_) => {
+                found = Found::Some;
+                gathering.join(slot);
+                hold.taken(slot);
+            }
+            Take::Empty => break,
+            Take::BatchFull => return Found::Full,
+        }
+    }
+    found
+}
+
+// Takes of each slot that has requests up to its share of a batch.
 fn go_round<P: Alarms + Drop, H: Hold>(
     sequencer: &mut Sequencer<P>,
     slots: &[Slot],
@@ -56,14 +88,10 @@ fn go_round<P: Alarms + Drop, H: Hold>(
 {
     let mut found = Found::Nothing;
     for slot in slots {
-        match sequencer.take(*slot) {
-            Take::Taken(_) => {
-                found = Found::Some;
-                gathering.join(*slot);
-                hold.taken(*slot);
-            }
-            Take::Empty => {}
-            Take::BatchFull => return Found::Full,
+        match take_share(sequencer, *slot, hold, gathering) {
+            Found::Nothing => {}
+            Found::Some => found = Found::Some,
+            Found::Full => return Found::Full,
         }
     }
     found
@@ -137,7 +165,12 @@ fn seal_some<P: Alarms + Drop, B: Bell + Drop, C: Clock>(
 
 // Waits for something to do: until it is woken, or for a quarter of a commit where two batches more waited than the one that was answered.
 // Nobody is held up by that, and no thread has to wake this one, the flusher's least of all.
-fn rest<B: Bell + Drop, R: Wait>(rt: &R, flags: &Flags<B>, commit: &CommitTime, idle: u32) {
+fn wait_for_work<B: Bell + Drop, R: Wait>(
+    rt: &R,
+    flags: &Flags<B>,
+    commit: &CommitTime,
+    idle: u32,
+) {
     let quarter = commit.last() / 4;
     if quarter > 0 && idle < DOZES && flags.busy.load(Ordering::SeqCst) {
         flags.sequencer.doze(rt, Pause::of(quarter));
@@ -195,7 +228,7 @@ pub fn sequence<P: Alarms + Drop, B: Bell + Drop, H: Hold, R: Wait + Clock>(
             }
             Left::Empty if last => break,
             Left::Empty | Left::Waiting => {
-                rest(rt, flags, &commit, idle);
+                wait_for_work(rt, flags, &commit, idle);
                 idle = idle.saturating_add(1);
             }
         }
