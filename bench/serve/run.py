@@ -5,8 +5,8 @@
 
 PROGRAM is a build of alm_server, `plain` the server in C beside this file; without names it is this repository's build beside plain. The last one is
 what the others are compared with. Each fdatasync sleeps 0.2 ms (sync.c), and with --disk longer, a microsecond for so many bytes. Servers and
-clients run under one scheduling class (SCHED_RR), each load of each server on a new device, the servers in turn; a turn of which the host stole more than
-5 % is made again, twice at most.
+clients run under one scheduling class (SCHED_RR), each load of each server on a new device, the servers in turn, another of them first in each turn: who
+comes behind the last one of the turn before is some 2 % slower. A turn of which the host stole more than 5 % is made again, twice at most.
 
 Loads (--loads takes names, and beginnings of names): closed_1, closed_4, closed_18 clients with one request out; closed_18_64 with 64; open_CLIENTS_RATE_regular
 and _random, requests at their own times, so many a second in all; idle, 18 connections that say nothing, whose cpu is per cent of a core.
@@ -192,11 +192,11 @@ def main() -> None:
     with tempfile.TemporaryDirectory(prefix="serve", dir="/dev/shm") as folder:
         bench = Bench(pathlib.Path(folder), chosen.port, {"SYNC_BYTES_A_US": str(chosen.disk)})
         bench.compile(chosen.largest)
-        began = time.monotonic()
+        began, names = time.monotonic(), list(programs)
         for number in range(chosen.turns):
             for load in loads:
-                for name, program in programs.items():
-                    turns[load, name].append(turn(bench, name, program, load, chosen.seconds))
+                for name in names[number % len(names):] + names[:number % len(names)]:
+                    turns[load, name].append(turn(bench, name, programs[name], load, chosen.seconds))
             print(f"turn {number + 1} of {chosen.turns}, {time.monotonic() - began:.0f} s", file=sys.stderr, flush=True)
     print_table(list(programs), turns)
 
