@@ -1,6 +1,7 @@
 -- What was handed over of a list.
-use Rattle.std.proofs.Common.{◌≡◌, ℕ, ◌+◌, ◌-◌, ◌≤◌, List, [], ◌∷◌, ◌++◌, length, take, drop, sym, ◌∙◌, ap, subst, arith, length-append, length-drop, append_assoc}
-use Rattle.std.proofs.lemmas.List.{take_all, take-append-drop}
+use Rattle.std.proofs.Common.{◌≡◌, ℕ, ◌+◌, ◌-◌, ◌≤◌, ◌<◌, ◌≢◌, List, [], ◌∷◌, ◌++◌, length, take, drop, sym, ◌∙◌, ap, subst, arith, length-append, length-drop, append_assoc}
+use Rattle.std.proofs.lemmas.List.{take-append-drop, drop-append-le, drop_all}
+use Rattle.std.proofs.Math.Seq.{drop-append-add}
 use Rattle.alm_types.specs.declared.action.Action.{Action}
 use Rattle.alm_types.specs.declared.entry.Entry.{Entry}
 use Rattle.alm_model.specs.Judging.{accepted_of}
@@ -10,15 +11,7 @@ use Rattle.alm_model.specs.Step.{run}
 use Rattle.alm_model.proofs.Runs.{run_append}
 use Rattle.alm_model.proofs.Legal.{accepted_append, admitted_append}
 use Rattle.alm_board.specs.Fronts.{IsFront}
-use Rattle.alm_board.proofs.FrontLaws.{front_of, front_append, front_trans, front_length, rest_of}
-
--- two beginnings of one list, as long as each other, are the same
-pub front_same : {A : Type 0} (xs ys zs : List A) → IsFront xs zs → IsFront ys zs → length xs ≡ length ys → xs ≡ ys
-front_same xs ys zs p q same = sym p ∙ (ap (λ n. take n zs) same ∙ q)
-
--- a beginning as long as the whole is the whole
-pub front_whole : {A : Type 0} (xs ys : List A) → IsFront xs ys → length ys ≤ length xs → xs ≡ ys
-front_whole xs ys p le = sym p ∙ take_all (length xs) ys le
+use Rattle.alm_board.proofs.FrontLaws.{front_of, front_trans, front_length, rest_of}
 
 pub front_behind : {A : Type 0} (s xs ys : List A) → IsFront xs ys → IsFront (s ++ xs) (s ++ ys)
 front_behind s xs ys p = front_of (s ++ xs) (drop (length xs) ys) (s ++ ys) (append_assoc s xs (drop (length xs) ys) ∙ ap (λ l. s ++ l) (rest_of xs ys p))
@@ -32,17 +25,21 @@ handed_front s h t acc shown handed same =
     let all : IsFront t (s ++ acc) = subst (λ (l : List Action). IsFront l (s ++ acc)) (rest_of s t (front_trans s h t shown handed)) (front_behind s (drop (length s) t) acc same) in
     front_trans h t (s ++ acc) handed all
 
--- the next action behind what was handed over
-pub handed_next : (s h before acc : List Action) (a : Action) → IsFront h (s ++ acc) → IsFront (before ++ a ∷ []) acc → length s + length before ≡ length h → take (length h + 1) (s ++ acc) ≡ h ++ a ∷ []
-handed_next s h before acc a handed next len =
-    let front : IsFront before acc = front_trans before (before ++ a ∷ []) acc (front_append before (a ∷ [])) next in
-    let here : h ≡ s ++ before = front_same h (s ++ before) (s ++ acc) handed (front_behind s before acc front) (omega (arith, len, length-append s before)) in
-    let more : h ++ a ∷ [] ≡ s ++ (before ++ a ∷ []) = ap (λ l. l ++ a ∷ []) here ∙ append_assoc s before (a ∷ []) in
-    let long : length h + 1 ≡ length (s ++ (before ++ a ∷ [])) = omega (arith, ap length more, length-append h (a ∷ [])) in
-    ap (λ n. take n (s ++ acc)) long ∙ (front_behind s (before ++ a ∷ []) acc next ∙ sym more)
+-- what was handed over of these actions behind those that are shown, and the rest of them, are all
+pub handed_rest : (s h acc : List Action) → IsFront s h → IsFront h (s ++ acc) → h ++ drop (length h - length s) acc ≡ s ++ acc
+handed_rest s h acc shown handed =
+    let long : length h ≡ length s + (length h - length s) = omega (arith, front_length s h shown) in
+    let behind : drop (length h) (s ++ acc) ≡ drop (length h - length s) acc = ap (λ n. drop n (s ++ acc)) long ∙ drop-append-add s acc (length h - length s) in
+    ap (λ l. h ++ l) (sym behind) ∙ rest_of h (s ++ acc) handed
 
-pub handed_more : (s h acc : List Action) (a : Action) → take (length h + 1) (s ++ acc) ≡ h ++ a ∷ [] → IsFront (h ++ a ∷ []) (s ++ acc)
-handed_more s h acc a next = let long : length (h ++ a ∷ []) ≡ length h + 1 = length-append h (a ∷ []) in ap (λ n. take n (s ++ acc)) long ∙ next
+-- so many of the first are passed over, and then an action more is taken; or it is one of those
+pub one_taken : (before : List Action) (a : Action) (n : ℕ) → n - length before ≡ 0 → drop n (before ++ a ∷ []) ≡ drop n before ++ a ∷ []
+one_taken before a n none = drop-append-le n before (a ∷ []) (omega (arith, none))
+
+pub one_passed : (before : List Action) (a : Action) (n : ℕ) → n - length before ≢ 0 → drop n (before ++ a ∷ []) ≡ drop n before
+one_passed before a n some =
+    let less : length before < n = omega (arith, some) in
+    drop_all n (before ++ a ∷ []) (omega (arith, less, length-append before (a ∷ []))) ∙ sym (drop_all n before (omega (arith, less)))
 
 -- what a history, which goes on behind what is shown by the first of these actions, has to grow by
 module _ (s t acc : List Action) (shown : IsFront s t) (same : IsFront (drop (length s) t) acc) where

@@ -1,11 +1,11 @@
 //! A beginning of a run's history.
-ghost use Rattle.std.specs.Prelude.{◌≡◌, ◌+◌, ◌-◌, ◌≤◌, ◌++◌, ◌∷◌, ◌⊎◌, ◌↔◌, [], length, take, drop, MatchBool, IsTrue, Some, None, slice_get};
+ghost use Rattle.std.specs.Prelude.{◌≡◌, ◌+◌, ◌≤◌, ◌++◌, ◌⊎◌, ◌↔◌, [], length, take, drop, MatchBool, IsTrue};
 ghost use mathlib.Core.List.{IsPrefix};
-ghost use Rattle.alm_model.specs.Accept.{refusal};
 ghost use Rattle.alm_model.specs.Judging.{accepted_of};
 ghost use Rattle.alm_model.specs.Step.{run};
 ghost use Rattle.alm_types.specs.Sizes.{most_actions};
 ghost use Rattle.alm_board.specs.Fronts.{IsFront};
+ghost use Rattle.alm_shared.specs.Growing.{EndsIn};
 
 use crate::add::{Add, Growth, Rest};
 use crate::head::Head;
@@ -108,28 +108,15 @@ impl<J: Naming> Front<J> {
         self.len() <= other.len()
     }
 
-    /// Whether `next` is this front with one action more, which is then `action`.
-    pub fn is_followed_by(&self, next: &Front<J>, action: Action) -> bool
-        requires last { slice_get next.now (length next.now - 1) ≡ Some action }
-        ensures one_more { IsTrue result ↔ (length next.now ≡ length self.now + 1) }
-        ensures next { IsTrue result → next.now ≡ self.now ++ action ∷ [] }
-        ensures admitted { IsTrue result → refusal (run J.base self.now).panel action ≡ None }
+    /// Whether `next` is this front with just the last of its actions more, which are `actions`.
+    pub fn is_followed_by(&self, next: &Front<J>, actions: &[Action]) -> bool
+        requires last { EndsIn next.now actions.now }
+        ensures longer { IsTrue result ↔ (length next.now ≡ length self.now + length actions.now) }
+        ensures next { IsTrue result → next.now ≡ self.now ++ actions.now }
+        ensures admitted { IsTrue result → AllAdmitted (run J.base self.now) actions.now }
     {
-        let both = self.longer(next);
-        drop(both);
-        next.len() == self.len() + 1
-    }
-
-    // The first `len` of its actions.
-    pub(crate) fn first(&self, len: u64) -> Front<J>
-        requires { len ≤ length self.now }
-        ensures { result ≡ take len self.now }
-    {
-        Front {
-            len,
-            seen: self.seen.again(),
-            of: PhantomData,
-        }
+        drop(self.longer(next));
+        next.len() == self.len() + actions.len() as u64
     }
 
     // Adds the accepted actions of a batch to the history, but for so many of the first, and holds them too. Nothing changes where the history

@@ -1,4 +1,6 @@
 //! A shared board takes batches over, to show them by the next turn.
+ghost use Rattle.std.specs.Prelude.{◌≡◌, ◌+◌, IfOk, drop, length};
+ghost use Rattle.alm_model.specs.Judging.{accepted_of};
 
 use crate::desk::Desk;
 use crate::head::Head;
@@ -8,10 +10,10 @@ use crate::shown::Shown;
 use crate::step::Step;
 use alm_model::Alarms;
 use alm_types::{Action, Batch, Verdict};
-use std::alloc::AllocError;
+use std::alloc::{AllocError, Global};
 
 impl<J: Naming, P: Alarms + Drop> Publisher<Shown<J, P>, Step<J>, Desk<J>, Head<J>> {
-    ghost use Rattle.std.specs.Prelude.{◌≡◌, ◌+◌, ◌++◌, [], ◌∷◌, ◌↔◌, OnOk, OnErr, IsTrue, MatchBool, MatchResult, length, take};
+    ghost use Rattle.std.specs.Prelude.{◌≡◌, ◌++◌, ◌↔◌, OnOk, OnErr, IsTrue, MatchBool, MatchResult};
     ghost use Rattle.alm_model.specs.Judging.{accepted_of};
     ghost use Rattle.alm_model.specs.Rules.{AllAdmitted};
     ghost use Rattle.alm_model.specs.Step.{run};
@@ -44,29 +46,27 @@ impl<J: Naming, P: Alarms + Drop> Publisher<Shown<J, P>, Step<J>, Desk<J>, Head<
         self.beside.reached.extend(&self.more, batch, from)
     }
 
-    // Hands over the next action of the history.
-    fn hand(&mut self, action: Action) -> Result<(), AllocError>
-        requires next { take (length self.old.beside.handed + 1) self.old.beside.reached ≡
-            self.old.beside.handed ++ action ∷ [] }
+    // Hands over the actions by which the history is ahead of what was handed over, in one step.
+    fn hand(&mut self, actions: Vec<Action>) -> Result<(), AllocError>
+        requires next { self.old.beside.reached ≡ self.old.beside.handed ++ actions.items }
         ensures published { published self.new ≡ published self.old }
         ensures reached { self.new.beside.reached ≡ self.old.beside.reached }
         ensures handed { MatchResult result
-            (λ _. self.new.beside.handed ≡ self.old.beside.handed ++ action ∷ [])
+            (λ _. self.new.beside.handed ≡ self.old.beside.reached)
             (λ _. self.new.beside.handed ≡ self.old.beside.handed) }
     {
-        let Desk { handed, reached } = &self.beside;
-        let front = reached.first(handed.len() + 1);
+        let front = self.beside.reached.again();
         let desk = Desk {
             handed: front.again(),
-            reached: reached.again(),
+            reached: front.again(),
         };
-        match self.append(Step { action, front }, desk) {
+        match self.append(Step { actions, front }, desk) {
             Ok(()) => Ok(()),
             Err(_) => Err(AllocError),
         }
     }
 
-    // Hands over what is left of a batch.
+    // Hands over what is left of a batch in one step, so that its copies compare fronts once a batch and not once an action.
     pub(crate) fn hand_over(&mut self, batch: &Batch) -> Result<(), AllocError>
         requires admitted { AllAdmitted (run J.base (shown_of self.old))
             (accepted_of batch.now.entries) }
@@ -83,20 +83,35 @@ impl<J: Naming, P: Alarms + Drop> Publisher<Shown<J, P>, Step<J>, Desk<J>, Head<
         if !self.reach(batch) {
             return Err(AllocError);
         }
-        let mut next = self.shown().front.len();
-        for entry in batch.entries() {
-            match entry.verdict {
-                Verdict::Accepted(action) => {
-                    let len = self.beside.handed.len();
-                    let at = next;
-                    next += 1;
-                    if at == len {
-                        self.hand(action)?;
-                    }
-                }
-                Verdict::Refused(_, _) => {}
-            }
+        let handed = self.beside.handed.len();
+        let more = self.beside.reached.len() - handed;
+        if more == 0 {
+            return Ok(());
         }
-        Ok(())
+        let from = handed - self.shown().front.len();
+        let actions = last_of(self.more.alloc, batch, from, more)?;
+        self.hand(actions)
     }
+}
+
+// The accepted actions of a batch behind the first `from` of them: `more` are left.
+fn last_of(alloc: Global, batch: &Batch, from: u64, more: u64) -> Result<Vec<Action>, AllocError>
+    requires more { from + more ≡ length (accepted_of batch.now.entries) }
+    ensures { IfOk result (λ last. last.items ≡ drop from (accepted_of batch.now.entries)) }
+{
+    let mut last = Vec::with_capacity(alloc, more as usize)?;
+    let mut before = from;
+    for entry in batch.entries() {
+        match entry.verdict {
+            Verdict::Accepted(action) => {
+                if before == 0 {
+                    last.push_reserved(action);
+                } else {
+                    before -= 1;
+                }
+            }
+            Verdict::Refused(_, _) => {}
+        }
+    }
+    Ok(last)
 }

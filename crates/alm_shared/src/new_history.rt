@@ -8,6 +8,7 @@ use crate::head::Head;
 use crate::law::Law;
 use crate::naming::Naming;
 use logbook::{Seen, Start, Word};
+use std::alloc::Global;
 
 /// An empty history, before it has a name.
 #[derive(Drop)]
@@ -29,11 +30,11 @@ impl NewHistory {
     }
 
     // Its length under a name, and the front that has seen nothing.
-    pub(crate) fn named<J: Naming>(self) -> (Head<J>, Front<J>)
+    pub(crate) fn named<J: Naming>(self, alloc: Global) -> (Head<J>, Front<J>)
         requires { self.seen.book ≡ J.book }
         ensures { result.1 ≡ [] }
     {
         let NewHistory { head, seen } = self;
-        (Head::new(head), Front::new(seen))
+        (Head::new(alloc, head), Front::new(seen))
     }
 }

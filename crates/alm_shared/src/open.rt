@@ -32,7 +32,7 @@ pub fn open_board<J: Naming, P: Alarms + Drop, R: Wait>(
 {
     let extent = Extent::new(&plant);
     let second = plant.copy(alloc)?;
-    let (head, front) = history.named::<J>();
+    let (head, front) = history.named::<J>(alloc);
     let first = Shown {
         plant,
         front: front.again(),

@@ -5,7 +5,7 @@ ghost use Rattle.alm_model.specs.Step.{run};
 use crate::front::Front;
 use crate::naming::Naming;
 use crate::step::Step;
-use alm_model::Alarms;
+use alm_model::{Alarms, apply_all};
 use alm_types::Action;
 use left_right::Absorb;
 use std::alloc::AllocError;
@@ -19,17 +19,17 @@ pub struct Shown<J: Naming, P: Alarms + Drop> {
 }
 
 impl<J: Naming, P: Alarms + Drop> Shown<J, P> {
-    ghost use Rattle.std.specs.Prelude.{◌≡◌, ◌++◌, [], ◌∷◌, None};
-    ghost use Rattle.alm_model.specs.Accept.{refusal};
+    ghost use Rattle.std.specs.Prelude.{◌≡◌, ◌++◌};
+    ghost use Rattle.alm_model.specs.Rules.{AllAdmitted};
     ghost use Rattle.alm_model.specs.Step.{run};
 
-    // The next action.
-    fn take(&mut self, action: Action, front: Front<J>)
-        requires next { front ≡ self.old.front ++ action ∷ [] }
-        requires admitted { refusal (run J.base self.old.front).panel action ≡ None }
+    // The next actions.
+    fn take(&mut self, actions: &[Action], front: Front<J>)
+        requires next { front ≡ self.old.front ++ actions.now }
+        requires admitted { AllAdmitted (run J.base self.old.front) actions.now }
         ensures { self.new.front ≡ front }
     {
-        self.plant.apply(&action);
+        apply_all(&mut self.plant, actions);
         self.front = front;
     }
 }
@@ -41,7 +41,7 @@ impl<J: Naming, P: Alarms + Drop> Absorb<Step<J>> for Shown<J, P> {
 
     ghost state = { λ s. s.front };
 
-    ghost applied = { λ xs step. next_if_longer xs step.front };
+    ghost applied = { λ xs step. next_if_longer xs step.actions.items step.front };
 
     ghost never_fails = { Unit {0} };
 
@@ -50,11 +50,9 @@ impl<J: Naming, P: Alarms + Drop> Absorb<Step<J>> for Shown<J, P> {
         operation: &Step<J>,
         _other: &Shown<J, P>,
     ) -> Result<(), AllocError> {
-        let next = operation.front.again();
-        let action = operation.action;
-        let same = action;
-        if self.front.is_followed_by(&next, same) {
-            self.take(action, next);
+        let Step { actions, front } = operation;
+        if self.front.is_followed_by(front, actions) {
+            self.take(actions, front.again());
         }
         Ok(())
     }

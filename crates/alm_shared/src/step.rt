@@ -1,14 +1,14 @@
-//! One action of a history.
-ghost use Rattle.std.specs.Prelude.{◌≡◌, ◌-◌, length, Some, slice_get};
+//! Actions of a history that are handed over together.
+ghost use Rattle.alm_shared.specs.Growing.{EndsIn};
 
 use crate::front::Front;
 use crate::naming::Naming;
 use alm_types::Action;
 
-/// One action of a history, with all the actions up to it.
+/// Actions of a history that are handed over together, with all the actions up to the last of them.
 #[derive(Drop)]
 pub struct Step<J: Naming> {
-    pub action: Action,
+    pub actions: Vec<Action>,
     pub front: Front<J>,
-    pub ghost last: { slice_get front (length front - 1) ≡ Some action },
+    pub ghost last: { EndsIn front actions.items },
 }

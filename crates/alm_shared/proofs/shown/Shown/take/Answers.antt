@@ -1,5 +1,5 @@
-use Rattle.std.proofs.Common.{sym, ◌∙◌, ap, ◌≡◌, ◌∷◌, []}
-use Rattle.alm_model.specs.Step.{run, step}
+use Rattle.std.proofs.Common.{sym, ◌∙◌, ap, ◌≡◌}
+use Rattle.alm_model.specs.Step.{run}
 use Rattle.alm_model.proofs.Runs.{run_append}
 use Rattle.alm_shared.proofs.shown.Shown.take.Goals as goal
 
@@ -7,6 +7,6 @@ pub invariant_of-self : goal.invariant_of-self
 invariant_of-self g c =
     let old = c.args.self.now in
     let base = g.J.Naming.base in
-    let fact : g.P.Alarms.plant c.apply.new.self ≡ run base c.args.front =
-    c.apply.ensures.plant ∙ (ap (λ p. step p c.args.action) old.is_fold ∙ (sym (run_append base old.front (c.args.action ∷ [])) ∙ ap (run base) (sym c.requires.next))) in
+    let fact : g.P.Alarms.plant c.apply_all.new.plant ≡ run base c.args.front =
+    c.apply_all.ensures.fold ∙ (ap (λ p. run p c.args.actions.now) old.is_fold ∙ (sym (run_append base old.front c.args.actions.now) ∙ ap (run base) (sym c.requires.next))) in
     record { is_fold = fact }
