@@ -4,7 +4,14 @@ use crate::gathering::Gathering;
 use alm_types::{SLOTS, Slot};
 use std::sync::atomic::{AtomicU32, Ordering};
 
-/// Those whom the sequencer's thread waits for, as the slots see them: a bit each. The last of them to come wakes it.
+/// With so few still to come the thread that waits for them is woken: it takes about as long to wake as they take to come.
+const FEW: u32 = 2;
+
+/// Beside the slots' bits: that thread is awake.
+const AWAKE: u32 = 1 << 31;
+
+/// Those whom the sequencer's thread waits for, as the slots see them: a bit each. It is woken with two of them still to come, so that it is
+/// awake as the last one comes, who wakes it where it isn't.
 #[derive(Drop)]
 pub struct Awaited {
     slots: AtomicU32,
@@ -40,17 +47,33 @@ impl Awaited {
         self.slots.fetch_and(bits, Ordering::SeqCst) & bits != 0
     }
 
+    /// The thread is awake: nobody wakes it from now on.
+    pub fn attend(&self) {
+        self.slots.fetch_or(AWAKE, Ordering::SeqCst);
+    }
+
+    /// Whether all have come.
+    pub fn have_come(&self) -> bool {
+        self.slots.load(Ordering::SeqCst) & !AWAKE == 0
+    }
+
+    /// It is woken again from now on: whether all have come.
+    pub fn listen(&self) -> bool {
+        self.slots.fetch_and(!AWAKE, Ordering::SeqCst) & !AWAKE == 0
+    }
+
     /// Nobody any longer.
     pub fn end(&self) {
         self.slots.store(0, Ordering::SeqCst);
     }
 
-    /// This slot has sent something: whether it was the last that was awaited. A load alone where it wasn't awaited.
+    /// This slot has sent something: whether it was awaited, and the thread is to be woken. A load alone where it wasn't awaited.
     pub fn come(&self, slot: Slot) -> bool {
         let bit = 1u32 << slot.number();
         if self.slots.load(Ordering::SeqCst) & bit == 0 {
             return false;
         }
-        self.slots.fetch_and(!bit, Ordering::SeqCst) == bit
+        let left = self.slots.fetch_and(!bit, Ordering::SeqCst) & !bit;
+        left == 0 || left & AWAKE == 0 && left.count_ones() == FEW
     }
 }

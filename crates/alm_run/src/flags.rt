@@ -18,6 +18,8 @@ pub struct Flags<B: Bell + Drop> {
     pub batches: AtomicU64,
     /// Two more waited than the one that was last answered.
     pub busy: AtomicBool,
+    /// The open batch is about to be sealed: the flusher's thread was woken ahead of it.
+    pub near: AtomicBool,
     /// Nothing more is sealed.
     pub sealed: AtomicBool,
     /// So many sources have ended.
@@ -42,6 +44,7 @@ impl<B: Bell + Drop> Flags<B> {
             out: AtomicBool::new(false),
             batches: AtomicU64::new(0),
             busy: AtomicBool::new(false),
+            near: AtomicBool::new(false),
             sealed: AtomicBool::new(false),
             ended: AtomicUsize::new(0),
             sequencer: ThreadBell::new(),
@@ -52,11 +55,14 @@ impl<B: Bell + Drop> Flags<B> {
         }
     }
 
-    /// A slot may have sent something: the sequencer's thread is woken where it waits for anybody, or for this one as the last.
+    /// A slot may have sent something: the sequencer's thread is woken where it waits for anybody, or for this one as one of the last, and then
+    /// the flusher's too, so that it is awake as their batch comes.
     pub fn send(&self, slot: Slot) {
         self.sequencer.ring();
         if self.awaited.come(slot) {
             self.sequencer.wake();
+            self.near.store(true, Ordering::SeqCst);
+            self.flusher.ring();
         }
     }
 

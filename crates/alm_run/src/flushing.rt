@@ -6,7 +6,7 @@ ghost use Rattle.alm_rings.specs.Placed.{SameOutboxAt, outbox_at};
 use crate::bell::Bell;
 use crate::flags::Flags;
 use crate::recorded_flusher::RecordedFlusher;
-use crate::thread_bell::YIELDS;
+use crate::thread_bell::{EARLY_YIELDS, YIELDS};
 use crate::waking::Waking;
 use alm_board::{Board, Publish};
 use alm_flush::{Advance, Fetch, Publishes, Release};
@@ -15,6 +15,7 @@ use alm_store::Store;
 use alm_types::{MOST_ENTRIES, SLOTS, Slot};
 use std::sync::Wait;
 use std::sync::atomic::Ordering;
+use std::thread;
 
 /// How often the same publish is refused before the run stops.
 const REFUSALS: u64 = 1000;
@@ -115,6 +116,21 @@ fn answer<K: Store, T: Told + Drop, B: Board<Told = T>, E: Bell + Drop>(
     Pass::Work
 }
 
+// Whether a batch is about to come, ahead of which the thread was woken: it stays awake for it a while, and lets others run.
+fn stays_awake<E: Bell + Drop>(flags: &Flags<E>, yields: &mut u32) -> bool {
+    if !flags.near.load(Ordering::SeqCst) {
+        *yields = 0;
+        return false;
+    }
+    if *yields >= EARLY_YIELDS {
+        flags.near.store(false, Ordering::SeqCst);
+        return false;
+    }
+    *yields += 1;
+    thread::yield_now();
+    true
+}
+
 // One step of each kind, behind so many turns that found nothing to do.
 fn step<K: Store, T: Told + Drop, B: Board<Told = T> + Publish<R>, E: Bell + Drop, R: Wait>(
     rt: &R,
@@ -134,10 +150,15 @@ fn step<K: Store, T: Told + Drop, B: Board<Told = T> + Publish<R>, E: Bell + Dro
     ensures first { flusher.new.first ≡ flusher.old.first }
 {
     match flusher.fetch() {
-        Fetch::Got => waking.fetch(),
+        Fetch::Got => {
+            flags.near.store(false, Ordering::SeqCst);
+            waking.fetch();
+        }
         Fetch::Held => {}
         Fetch::Empty => {
-            if idle >= REST && flusher.advance() == Advance::Failed {
+            // The pieces of a checkpoint wait for a batch that is about to come.
+            let rests = idle >= REST && !flags.near.load(Ordering::SeqCst);
+            if rests && flusher.advance() == Advance::Failed {
                 return Pass::Stopped;
             }
             return Pass::Empty;
@@ -172,6 +193,7 @@ pub fn flush<K: Store, T: Told + Drop, B: Board<Told = T> + Publish<R>, E: Bell 
     let mut waking = Waking::new();
     let mut refused: u64 = 0;
     let mut idle: u32 = 0;
+    let mut yields: u32 = 0;
     for _ in rt.forever() {
         if flags.is_stopped() {
             break;
@@ -189,6 +211,9 @@ pub fn flush<K: Store, T: Told + Drop, B: Board<Told = T> + Publish<R>, E: Bell 
                 }
                 if last {
                     break;
+                }
+                if stays_awake(flags, &mut yields) {
+                    continue;
                 }
             }
             Pass::Full => {

@@ -5,18 +5,21 @@ ghost use Rattle.alm_rings.specs.Placed.{inbox_at};
 ghost use Rattle.alm_seq.specs.Sequences.{SameInboxes, base_of};
 ghost use Rattle.alm_run.specs.Serving.{ServesSlots};
 
+use crate::awaited::Awaited;
 use crate::bell::Bell;
-use crate::commit_time::CommitTime;
+use crate::commit_time::{CommitTime, micros_since};
 use crate::flags::Flags;
 use crate::gathering::Gathering;
 use crate::pause::Pause;
+use crate::thread_bell::EARLY_YIELDS;
 use alm_disk::Hold;
 use alm_model::Alarms;
 use alm_seq::{Seal, Sequencer, Take};
 use alm_types::{MOST_ENTRIES, SLOTS, Slot};
 use std::sync::Wait;
 use std::sync::atomic::Ordering;
-use std::time::Clock;
+use std::thread;
+use std::time::{Clock, Instant};
 
 /// How many turns in a row that find nothing it dozes through: four commits of that time. A device that hangs keeps no thread awake.
 const DOZES: u32 = 16;
@@ -97,8 +100,41 @@ fn go_round<P: Alarms + Drop, H: Hold>(
     found
 }
 
+// Lets others run until the last ones have come, for a while: whether all have.
+fn yield_to_last(awaited: &Awaited) -> bool {
+    awaited.attend();
+    for _ in 0..EARLY_YIELDS {
+        if awaited.have_come() {
+            return true;
+        }
+        thread::yield_now();
+    }
+    awaited.listen()
+}
+
+// Sleeps until few are awaited, and stays awake for those: for one pause in all.
+fn await_all<B: Bell + Drop, R: Wait + Clock>(rt: &R, flags: &Flags<B>, pause: Pause) {
+    let mut pause = pause;
+    for _ in rt.forever() {
+        let most = pause.micros();
+        let began = Instant::now(rt);
+        flags.sequencer.sleep(rt, pause);
+        if yield_to_last(&flags.awaited) {
+            return;
+        }
+        let slept = match began {
+            Ok(began) => micros_since(rt, began).unwrap_or(most),
+            Err(_) => most,
+        };
+        if slept >= most {
+            return;
+        }
+        pause = Pause::of(most - slept);
+    }
+}
+
 // Waits until those have come whom the open batch awaits, for one pause at most.
-fn gather<P: Alarms + Drop, B: Bell + Drop, H: Hold, R: Wait>(
+fn gather<P: Alarms + Drop, B: Bell + Drop, H: Hold, R: Wait + Clock>(
     rt: &R,
     flags: &Flags<B>,
     sequencer: &mut Sequencer<P>,
@@ -118,7 +154,7 @@ fn gather<P: Alarms + Drop, B: Bell + Drop, H: Hold, R: Wait>(
     // Who came before that woke nobody.
     let found = go_round(sequencer, slots, hold, gathering);
     if flags.awaited.narrow(gathering) && found != Found::Full {
-        flags.sequencer.sleep(rt, pause);
+        await_all(rt, flags, pause);
     }
     flags.awaited.end();
 }
