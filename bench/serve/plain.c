@@ -1,9 +1,11 @@
-/* A server of the same lines, ports and frames, as one would write it in C without proofs: `plain FILE PORT`.
+/* A server of the same lines, ports and frames, as one would write it in C without proofs: `plain FILE PORT [gather]`.
    One thread a connection, one plant under a mutex, and one committer, which writes all actions that came while it last
    committed as one frame: the body, fdatasync, the gate, fdatasync. A connection reads what has come, judges each line,
-   waits until all that its replies tell of is stored, and answers in one write.
+   waits until all that its replies tell of is stored, and answers in one write. With `gather` the committer waits behind a frame of at most
+   18 actions until as many more have come, half of a commit at most: so it does what ours does for clients with one request out.
    Left out: lists and the other queries but STATE, the flood windows, checkpoints (the journal begins anew where it is full). */
 #include <arpa/inet.h>
+#include <errno.h>
 #include <fcntl.h>
 #include <netinet/tcp.h>
 #include <pthread.h>
@@ -12,9 +14,10 @@
 #include <stdlib.h>
 #include <string.h>
 #include <sys/socket.h>
+#include <time.h>
 #include <unistd.h>
 
-enum { SLOTS = 18, FEED = 16, CLOCK_SLOT = 17, ALARMS = 16, BATCH = 256, PENDING = 8192, READ = 2048, JOURNAL = 16 << 20 };
+enum { SLOTS = 18, FEED = 16, CLOCK_SLOT = 17, ALARMS = 16, BATCH = 256, PENDING = 8192, READ = 2048, JOURNAL = 16 << 20, HALF_COMMIT_NS = 206000 };
 enum kind { CLOCK = 1, VAL, ACK, RESET, SHELVE, UNSHELVE, OOS, DESIGN };
 enum core { NORM, UNACK, ACKED, RTNUN, LATUN, LATAK };
 enum flag { SHELVED = 1, BY_DESIGN = 2, OUT = 4 };
@@ -46,8 +49,9 @@ static struct alarm alarms[ALARMS] = {
 };
 static int64_t plant_clock;
 static uint64_t accepted, stored;
+static uint64_t wanted; /* so many are to be pending before the next commit, as long as it waits for them */
 static unsigned char pending[PENDING][16]; /* action n is at n modulo PENDING until it is stored */
-static int file, base;
+static int file, base, gathers;
 
 static void put(unsigned char *to, int bytes, uint64_t number) {
     while (bytes--) {
@@ -75,6 +79,18 @@ static void commit(long at, uint64_t first, int n) {
     if (pwrite(file, &gate, 1, at) != 1 || fdatasync(file)) fail("gate");
 }
 
+/* Waits until so many more are pending, or half a commit has passed. The mutex is held. */
+static void gather(int n) {
+    struct timespec end;
+    clock_gettime(CLOCK_REALTIME, &end);
+    end.tv_nsec += HALF_COMMIT_NS;
+    if (end.tv_nsec >= 1000000000) end.tv_sec++, end.tv_nsec -= 1000000000;
+    wanted = accepted - stored + n;
+    while (accepted - stored < wanted)
+        if (pthread_cond_timedwait(&came, &mutex, &end) == ETIMEDOUT) break;
+    wanted = 0;
+}
+
 static void *run_committer(void *none) {
     long at = 0;
     pthread_mutex_lock(&mutex);
@@ -89,6 +105,7 @@ static void *run_committer(void *none) {
         pthread_mutex_lock(&mutex);
         stored += n;
         pthread_cond_broadcast(&committed);
+        if (gathers && n <= SLOTS) gather(n);
     }
     return none;
 }
@@ -210,7 +227,7 @@ static int answer_all(int socket, int slot, char *text, int length) {
         done = end + 1 - text;
     }
     uint64_t last = accepted; /* a refusal tells of the plant too */
-    if (stored < last) pthread_cond_signal(&came);
+    if (stored < last && accepted - stored >= wanted) pthread_cond_signal(&came);
     while (stored < last) pthread_cond_wait(&committed, &mutex);
     pthread_mutex_unlock(&mutex);
     return write(socket, replies, written) == written ? done : -1;
@@ -248,7 +265,8 @@ static void *run_slot(void *which) {
 }
 
 int main(int count, char **words) {
-    if (count != 3) return 1;
+    if (count < 3) return 1;
+    gathers = count > 3 && !strcmp(words[3], "gather");
     file = open(words[1], O_RDWR | O_CREAT | O_TRUNC, 0600);
     if (file < 0 || ftruncate(file, JOURNAL)) fail("open");
     base = atoi(words[2]);

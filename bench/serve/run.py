@@ -1,10 +1,10 @@
 #!/usr/bin/env python3
 """Servers beside each other, in turns, under the loads that users bring about.
 
-    bench/serve/run.py [NAME=PROGRAM..] [plain] [--turns 3] [--seconds 2] [--loads WORD,..] [--largest] [--disk BYTES]
+    bench/serve/run.py [NAME=PROGRAM..] [gather] [plain] [--turns 3] [--seconds 2] [--loads WORD,..] [--largest] [--disk BYTES]
 
-PROGRAM is a build of alm_server, `plain` the server in C beside this file; without names it is this repository's build beside plain. The last one is
-what the others are compared with. Each fdatasync sleeps 0.2 ms (sync.c), and with --disk longer, a microsecond for so many bytes. Servers and
+PROGRAM is a build of alm_server, `plain` the server in C beside this file, `gather` the same where it waits for those whom it answered; without names
+it is this repository's build beside plain. The last one is what the others are compared with. Each fdatasync sleeps 0.2 ms (sync.c), and with --disk longer, a microsecond for so many bytes. Servers and
 clients run under one scheduling class (SCHED_RR), each load of each server on a new device, the servers in turn, another of them first in each turn: who
 comes behind the last one of the turn before is some 2 % slower. A turn of which the host stole more than 5 % is made again, twice at most.
 
@@ -73,8 +73,8 @@ class Bench:
         """The words that start a server on a new device."""
         device = self.folder / "device"
         device.unlink(missing_ok=True)
-        if program == "plain":
-            return [str(self.folder / "plain"), str(device), str(self.port)]
+        if program in ("plain", "gather"):
+            return [str(self.folder / "plain"), str(device), str(self.port), program]
         fresh = self.folder / f"fresh{abs(hash(program))}"
         if not fresh.exists():
             subprocess.run([program, "format", fresh, self.folder / "plant.toml"], check=True, stdout=subprocess.DEVNULL)
@@ -178,7 +178,7 @@ def ratio(figures: dict[str, float], figure: str, others: dict[str, float] | Non
 
 def main() -> None:
     words = argparse.ArgumentParser(description=__doc__, formatter_class=argparse.RawDescriptionHelpFormatter)
-    words.add_argument("servers", nargs="*", default=[f"ours={BUILT}", "plain"], help="NAME=PROGRAM, or plain")
+    words.add_argument("servers", nargs="*", default=[f"ours={BUILT}", "plain"], help="NAME=PROGRAM, gather or plain")
     words.add_argument("--turns", type=int, default=3)
     words.add_argument("--seconds", type=float, default=2.0, help="of a load")
     words.add_argument("--loads", default="", help="names of loads, or their beginnings, with commas between")
