@@ -3,10 +3,11 @@
 
     bench/serve/run.py [NAME=PROGRAM..] [gather] [plain] [--turns 3] [--seconds 2] [--loads WORD,..] [--largest] [--disk BYTES]
 
-PROGRAM is a build of alm_server, `plain` the server in C beside this file, `gather` the same where it waits for those whom it answered; without names
-it is this repository's build beside plain. The last one is what the others are compared with. Each fdatasync sleeps 0.2 ms (sync.c), and with --disk longer, a microsecond for so many bytes. Servers and
-clients run under one scheduling class (SCHED_RR), each load of each server on a new device, the servers in turn, another of them first in each turn: who
-comes behind the last one of the turn before is some 2 % slower. A turn of which the host stole more than 5 % is made again, twice at most.
+PROGRAM is a build of alm_server, `plain` the server in C beside this file, `gather` the same where it waits for those whom it answered; without
+names it is this repository's build beside plain. The last one is what the others are compared with. Each fdatasync sleeps 0.2 ms (sync.c), and with
+--disk longer, a microsecond for so many bytes. Servers and clients run under one scheduling class (SCHED_RR), each load of each server on a new
+device, the servers in turn, another of them first in each turn: who comes behind the last one of the turn before is some 2 % slower. A turn of
+which the host stole more than 5 % is made again, twice at most.
 
 Loads (--loads takes names, and beginnings of names): closed_1, closed_4, closed_18 clients with one request out; closed_18_64 with 64; open_CLIENTS_RATE_regular
 and _random, requests at their own times, so many a second in all; idle, 18 connections that say nothing, whose cpu is per cent of a core.

@@ -13,7 +13,8 @@
 //! | the flusher's | [`run_flusher`]: commits, publishes and releases, and wakes each slot that it answers; where two batches more wait it leaves that to the sequencer's thread, and whoever asks on without its answers is woken once for two batches; each time its sleep ends and nothing is there, a piece of an open checkpoint | where nothing more was to be sealed before a fetch that gave nothing; at a failure of the device; after 1,000 refused publishes in a row |
 //!
 //! [`Flags`] are hints, each read before the step that it bounds. A thread that has nothing to do looks again some 8 times, and then sleeps by
-//! its [`Bell`]: whoever has something for it rings, and every 100 milliseconds it looks once by itself.
+//! its [`Bell`]: whoever has something for it rings, and every 100 milliseconds it looks once by itself. The sequencer and the flusher are
+//! woken as two of the awaited slots are left, and let others run some 32 times for those.
 //!
 //! What is used above: each thread gives back the ends that it was given, so that whoever joins them all has both ends of each ring
 //! again and may close the slots; a sequencer and a flusher are made in their threads, and what their types say holds throughout. What went

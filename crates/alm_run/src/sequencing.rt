@@ -100,11 +100,16 @@ fn go_round<P: Alarms + Drop, H: Hold>(
     found
 }
 
-// Lets others run until the last ones have come, for a while: whether all have.
-fn yield_to_last(awaited: &Awaited) -> bool {
+// What is left of a wait of so many microseconds that began then: none where the clock can't be read.
+fn left_of<C: Clock>(clock: &C, began: &Instant, most: u64) -> u64 {
+    most.saturating_sub(micros_since(clock, began).unwrap_or(most))
+}
+
+// Lets others run until the last ones have come, for a while: whether the wait is over.
+fn yield_to_last<C: Clock>(clock: &C, awaited: &Awaited, began: &Instant, most: u64) -> bool {
     awaited.attend();
     for _ in 0..EARLY_YIELDS {
-        if awaited.have_come() {
+        if awaited.have_come() || left_of(clock, began, most) == 0 {
             return true;
         }
         thread::yield_now();
@@ -114,22 +119,22 @@ fn yield_to_last(awaited: &Awaited) -> bool {
 
 // Sleeps until few are awaited, and stays awake for those: for one pause in all.
 fn await_all<B: Bell + Drop, R: Wait + Clock>(rt: &R, flags: &Flags<B>, pause: Pause) {
+    let most = pause.micros();
+    let Ok(began) = Instant::now(rt) else {
+        flags.sequencer.sleep(rt, pause);
+        return;
+    };
     let mut pause = pause;
     for _ in rt.forever() {
-        let most = pause.micros();
-        let began = Instant::now(rt);
         flags.sequencer.sleep(rt, pause);
-        if yield_to_last(&flags.awaited) {
+        if yield_to_last(rt, &flags.awaited, &began, most) {
             return;
         }
-        let slept = match began {
-            Ok(began) => micros_since(rt, began).unwrap_or(most),
-            Err(_) => most,
-        };
-        if slept >= most {
+        let left = left_of(rt, &began, most);
+        if left == 0 {
             return;
         }
-        pause = Pause::of(most - slept);
+        pause = Pause::of(left);
     }
 }
 
