@@ -3,7 +3,7 @@
 use std::time::{Clock, Instant};
 
 /// How long ago that was, in microseconds; `None` where the clock can't be read.
-pub fn micros_since<C: Clock>(clock: &C, since: &Instant) -> Option<u64> {
+pub fn micros_since<C: Clock>(clock: &C, since: Instant) -> Option<u64> {
     match since.elapsed(clock) {
         Ok(time) => Some(u64::try_from(time.as_micros()).unwrap_or(u64::MAX)),
         Err(_) => None,
@@ -41,7 +41,7 @@ impl CommitTime {
     /// None is out: how long the last one was.
     pub fn end<C: Clock>(&mut self, clock: &C) -> u64 {
         if let Some(since) = self.since.take() {
-            self.micros = micros_since(clock, &since).unwrap_or(0);
+            self.micros = micros_since(clock, since).unwrap_or(0);
         }
         self.micros
     }

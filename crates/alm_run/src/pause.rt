@@ -4,7 +4,7 @@ ghost use Rattle.std.specs.Prelude.{◌≤◌};
 /// How long a pause is at most, in microseconds.
 pub const LONGEST_PAUSE: u64 = 500;
 
-/// A leave to wait once, for so long at most: whoever waits by it gives it up.
+/// A leave to wait once, for so long at most: whoever waits by it gives it up, and has what is left of it.
 #[derive(Debug, Drop, PartialEq, Eq)]
 pub struct Pause {
     micros: u64,
@@ -12,7 +12,7 @@ pub struct Pause {
 }
 
 impl Pause {
-    ghost use Rattle.std.specs.Prelude.{◌≡◌, ◌≤◌, min};
+    ghost use Rattle.std.specs.Prelude.{◌≡◌, ◌≤◌, ◌+◌, min, IfSome, None};
 
     /// A pause of so many microseconds, or the longest there is.
     pub fn of(micros: u64) -> Self
@@ -21,6 +21,19 @@ impl Pause {
         Pause {
             micros: micros.min(LONGEST_PAUSE),
         }
+    }
+
+    /// What is left of it behind so many microseconds; nothing where it is over by then.
+    pub fn after(self, passed: u64) -> Option<Pause>
+        ensures left { IfSome result (λ left. left.micros + passed ≡ self.micros) }
+        ensures over { result ≡ None → self.micros ≤ passed }
+    {
+        if self.micros <= passed {
+            return None;
+        }
+        Some(Pause {
+            micros: self.micros - passed,
+        })
     }
 
     /// How long it is at most, in microseconds.

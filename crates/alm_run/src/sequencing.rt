@@ -1,5 +1,5 @@
 //! The sequencer's thread.
-ghost use Rattle.std.specs.Prelude.{◌≡◌, IsSome};
+ghost use Rattle.std.specs.Prelude.{◌≡◌, ◌≤◌, IsSome, IfSome};
 ghost use Rattle.alm_rings.specs.Batches.{SameSealEnds};
 ghost use Rattle.alm_rings.specs.Placed.{inbox_at};
 ghost use Rattle.alm_seq.specs.Sequences.{SameInboxes, base_of};
@@ -100,41 +100,36 @@ fn go_round<P: Alarms + Drop, H: Hold>(
     found
 }
 
-// What is left of a wait of so many microseconds that began then: none where the clock can't be read.
-fn left_of<C: Clock>(clock: &C, began: &Instant, most: u64) -> u64 {
-    most.saturating_sub(micros_since(clock, began).unwrap_or(most))
-}
-
-// Lets others run until the last ones have come, for a while: whether the wait is over.
-fn yield_to_last<C: Clock>(clock: &C, awaited: &Awaited, began: &Instant, most: u64) -> bool {
+// Lets others run until the last ones have come, for a while: what is left of the pause where they haven't.
+fn yield_to_last<C: Clock>(clock: &C, awaited: &Awaited, pause: Pause) -> Option<Pause>
+    ensures { IfSome result (λ left. left.micros ≤ pause.micros) }
+{
+    let began = Instant::now(clock).ok()?;
+    let most = pause.micros();
     awaited.attend();
     for _ in 0..EARLY_YIELDS {
-        if awaited.have_come() || left_of(clock, began, most) == 0 {
-            return true;
+        if awaited.have_come() || micros_since(clock, began)? >= most {
+            return None;
         }
         thread::yield_now();
     }
-    awaited.listen()
+    if awaited.listen() {
+        return None;
+    }
+    pause.after(micros_since(clock, began)?)
 }
 
 // Sleeps until few are awaited, and stays awake for those: for one pause in all.
 fn await_all<B: Bell + Drop, R: Wait + Clock>(rt: &R, flags: &Flags<B>, pause: Pause) {
-    let most = pause.micros();
-    let Ok(began) = Instant::now(rt) else {
-        flags.sequencer.sleep(rt, pause);
-        return;
-    };
     let mut pause = pause;
     for _ in rt.forever() {
-        flags.sequencer.sleep(rt, pause);
-        if yield_to_last(rt, &flags.awaited, &began, most) {
+        let Some(left) = flags.sequencer.sleep(rt, pause) else {
             return;
-        }
-        let left = left_of(rt, &began, most);
-        if left == 0 {
+        };
+        let Some(left) = yield_to_last(rt, &flags.awaited, left) else {
             return;
-        }
-        pause = Pause::of(left);
+        };
+        pause = left;
     }
 }
 

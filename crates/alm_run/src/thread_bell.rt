@@ -1,12 +1,14 @@
 //! A bell that one thread sleeps by.
+ghost use Rattle.std.specs.Prelude.{◌≤◌, IfSome};
 
 use crate::bell::Bell;
+use crate::commit_time::micros_since;
 use crate::pause::Pause;
 use std::sync::Wait;
 use std::sync::atomic::{AtomicBool, Ordering};
 use std::thread;
 use std::thread::Parker;
-use std::time::Duration;
+use std::time::{Clock, Duration, Instant};
 
 /// How often a thread looks again, and only lets others run, before it sleeps: a few microseconds.
 pub const YIELDS: u32 = 8;
@@ -41,16 +43,22 @@ impl ThreadBell {
         self.parker.park_timeout(rt, Duration::from_micros(0));
     }
 
-    /// Sleeps until it is woken, no longer than the pause that is given up for it.
-    pub fn sleep<R: Wait>(&self, rt: &R, pause: Pause) {
+    /// Sleeps until it is woken, no longer than the pause that is given up for it: what is left of that, and nothing where the clock
+    /// can't be read.
+    pub fn sleep<R: Wait + Clock>(&self, rt: &R, pause: Pause) -> Option<Pause>
+        ensures { IfSome result (λ left. left.micros ≤ pause.micros) }
+    {
+        let began = Instant::now(rt).ok();
         self.parker
             .park_timeout(rt, Duration::from_micros(pause.micros()));
+        pause.after(micros_since(rt, began?)?)
     }
 
-    /// The same where rings are to bring nothing.
+    /// Sleeps for a pause at most where rings are to bring nothing.
     pub fn doze<R: Wait>(&self, rt: &R, pause: Pause) {
         self.listens.store(false, Ordering::SeqCst);
-        self.sleep(rt, pause);
+        self.parker
+            .park_timeout(rt, Duration::from_micros(pause.micros()));
     }
 
     /// Ends its sleep, or the next one, also where rings bring nothing.
