@@ -4,19 +4,26 @@ ghost use Rattle.std.specs.Prelude.{◌≡◌, ◌≤◌, pos, ◌<ℤ◌, IfOk}
 ghost use Rattle.std.specs.Fd.{file_raw_fd};
 ghost use Rattle.alm_disk.specs.Failures.{CountsFault, last_count};
 
+use crate::disk_cache::{forget, has_no_sync, sync_with_name, take_room};
 use crate::file_fault::FileFault;
+use crate::file_lock::FileLock;
+use crate::limit::refuse_beyond_limit;
+use crate::place::Place;
 use crate::streams::{is_apart, refuse_streams};
 use alm_disk::{Disk, DiskFault};
 use std::fs::{self, File, Files, OpenOptions};
 use std::io::{self, ErrorKind};
-use std::os::unix::fs::FileExt;
-use std::path::Path;
+use std::os::unix::fs::{FileExt, OpenOptionsExt};
 
-/// A regular file, whether it is read alone, its size in bytes when it was opened, and how often a call of it failed. Its descriptor is
-/// none of a standard stream's.
+/// The mode of a new device: its owner alone reads and writes it.
+const MODE: u32 = 0o600;
+
+/// A regular file, where it stands, whether it is read alone, its size in bytes when it was opened, and how often a call of it failed. Its
+/// descriptor is none of a standard stream's.
 #[derive(Drop)]
-pub struct FileDisk {
+pub struct FileDisk<'r, R: Files<File = File>> {
     file: File,
+    place: Place<'r, R>,
     is_read_only: bool,
     size: u64,
     failures: u64,
@@ -59,48 +66,22 @@ fn open_apart<R: Files<File = File>>(
     Ok(file)
 }
 
-/// Whether a file system that is read-only has no sync: nothing of it is unwritten.
-fn has_no_sync(error: &io::Error) -> bool {
-    matches!(
-        error.kind(),
-        ErrorKind::InvalidInput | ErrorKind::ReadOnlyFilesystem
-    )
-}
-
-/// Waits until the folder of a file, which has its name, is on the disk.
-fn sync_folder<R: Files<File = File>>(rt: &R, path: &str) -> io::Result<()> {
-    let folder = match Path::new(path).parent() {
-        Some(folder) if !folder.as_str().is_empty() => folder,
-        _ => Path::new("."),
-    };
-    File::open(rt, folder)?.sync_all()
-}
-
-/// How many bytes are read and written at once.
-const PIECE: usize = 16_384;
-
-/// Writes the bytes of a file up to a place anew, as they read: so each of them has its place on the disk, and a later write can't meet
-/// a full one.
-fn take_room(file: &File, used: u64) -> io::Result<()> {
-    let mut piece = [0u8; PIECE];
-    for at in (0..used).step_by(PIECE) {
-        let length = (used - at).min(PIECE as u64) as usize;
-        file.read_exact_at(&mut piece[..length], at)?;
-        file.write_all_at(&piece[..length], at)?;
-    }
-    Ok(())
-}
-
-impl FileDisk {
-    /// The file at a path, as long as it is. It is refused where there is none, or another process has it open.
-    pub fn open<R: Files<File = File>>(rt: &R, path: &str) -> Result<FileDisk, FileFault>
-        ensures count { IfOk result (λ d. ⟦<FileDisk as Disk>⟧.failures d ≡ 0) }
+impl<'r, R: Files<File = File> + AllocGlobal> FileDisk<'r, R> {
+    /// The file at a path, as long as it is, once its bytes and its name are on the disk. It is refused where there is none, where
+    /// another process has it open, and where the process may not write to its end.
+    pub fn open(rt: &'r R, path: &'r str) -> Result<Self, FileFault>
+        ensures count { IfOk result (λ d. ⟦<FileDisk<'r, R> as Disk>⟧.failures d ≡ 0) }
     {
         let file = open_apart(rt, OpenOptions::new().read(true).write(true), path)?;
         file.try_lock().map_err(io::Error::from)?;
-        let size = file.metadata()?.len();
+        let place = Place::of(rt, path, &file)?;
+        let size = place.size;
+        refuse_beyond_limit(size)?;
+        forget(&file);
+        sync_with_name(rt, &file, path).map_err(FileFault::Sync)?;
         Ok(FileDisk {
             file,
+            place,
             is_read_only: false,
             size,
             failures: 0,
@@ -109,47 +90,71 @@ impl FileDisk {
 
     /// The same file to be read alone: each write to it fails. It is refused where there is none, or another process has it open to
     /// write. Several may read it at once.
-    pub fn open_to_read<R: Files<File = File>>(rt: &R, path: &str) -> Result<FileDisk, FileFault>
-        ensures count { IfOk result (λ d. ⟦<FileDisk as Disk>⟧.failures d ≡ 0) }
+    pub fn open_to_read(rt: &'r R, path: &'r str) -> Result<Self, FileFault>
+        ensures count { IfOk result (λ d. ⟦<FileDisk<'r, R> as Disk>⟧.failures d ≡ 0) }
     {
         let file = open_apart(rt, OpenOptions::new().read(true), path)?;
         file.try_lock_shared().map_err(io::Error::from)?;
-        let size = file.metadata()?.len();
+        let place = Place::of(rt, path, &file)?;
+        let size = place.size;
+        forget(&file);
         Ok(FileDisk {
             file,
+            place,
             is_read_only: true,
             size,
             failures: 0,
         })
     }
 
-    /// The file at a path, made where there is none, cut or lengthened with zeros to a size, with room on the disk for the
-    /// bytes that are used.
-    pub fn make<R: Files<File = File>>(
-        rt: &R,
-        path: &str,
-        size: u64,
-        used: u64,
-    ) -> Result<FileDisk, FileFault>
-        ensures size { IfOk result (λ d. ⟦<FileDisk as Disk>⟧.size d ≡ size) }
-        ensures count { IfOk result (λ d. ⟦<FileDisk as Disk>⟧.failures d ≡ 0) }
+    /// The file at a path, made where there is none, for its owner alone, and cut or lengthened with zeros to a size, with room on the
+    /// disk for the bytes that are used. Where there is no such room it is refused, and has its new size.
+    pub fn make(rt: &'r R, path: &'r str, size: u64, used: u64) -> Result<Self, FileFault>
+        ensures size { IfOk result (λ d. ⟦<FileDisk<'r, R> as Disk>⟧.size d ≡ size) }
+        ensures count { IfOk result (λ d. ⟦<FileDisk<'r, R> as Disk>⟧.failures d ≡ 0) }
     {
         let file = open_apart(
             rt,
-            OpenOptions::new().read(true).write(true).create(true),
+            OpenOptions::new()
+                .read(true)
+                .write(true)
+                .create(true)
+                .mode(MODE),
             path,
         )?;
         file.try_lock().map_err(io::Error::from)?;
+        refuse_beyond_limit(size)?;
         file.set_len(size)?;
         take_room(&file, used.min(size))?;
-        file.sync_all()?;
-        sync_folder(rt, path)?;
+        sync_with_name(rt, &file, path)?;
         Ok(FileDisk {
+            place: Place::of(rt, path, &file)?,
             file,
             is_read_only: false,
             size,
             failures: 0,
         })
+    }
+}
+
+impl<'r, R: Files<File = File>> FileDisk<'r, R> {
+    /// The lock on the file, to be released before the device ends.
+    pub fn lock(&self) -> io::Result<FileLock> {
+        let file = self.file.try_clone()?;
+        Ok(FileLock { file })
+    }
+
+    /// Waits until the file's bytes are on the disk, and looks whether the file still stands at its place. Where that fails nothing is read
+    /// from then on but what the disk has.
+    fn sync_in_place(&self) -> io::Result<()> {
+        match self.file.sync_data() {
+            Ok(()) => self.place.look(),
+            Err(error) if self.is_read_only && has_no_sync(&error) => self.place.look(),
+            Err(error) => {
+                forget(&self.file);
+                Err(error)
+            }
+        }
     }
 
     /// Counts a failure.
@@ -167,7 +172,7 @@ impl FileDisk {
     }
 }
 
-impl Disk for FileDisk {
+impl<'r, R: Files<File = File>> Disk for FileDisk<'r, R> {
     ghost use Rattle.std.specs.Prelude.{[], false, ⊤};
 
     // No proof says what a file does.
@@ -200,10 +205,7 @@ impl Disk for FileDisk {
     }
 
     fn sync(&mut self) -> Result<(), DiskFault> {
-        let answer = match self.file.sync_data() {
-            Err(error) if self.is_read_only && has_no_sync(&error) => Ok(()),
-            answer => answer,
-        };
+        let answer = self.sync_in_place();
         self.count(answer)
     }
 }

@@ -2,12 +2,15 @@
 
 use std::io;
 
-/// Why a device's file isn't opened. It is as it was.
+/// Why a device's file isn't opened. Its bytes are as they were; one that is made may have its new size by then.
 #[derive(Debug, thiserror::Error, Drop)]
 pub enum FileFault {
     /// Standard input, output or error is this very file.
     #[error("the file is a standard stream's")]
     Stream,
+    /// Its bytes or its name can't be brought to the disk.
+    #[error("{0}")]
+    Sync(io::Error),
     /// There is none, it is no regular file, or a call of the system was refused.
     #[error("{0}")]
     Io(io::Error),

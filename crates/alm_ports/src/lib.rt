@@ -29,6 +29,7 @@
 mod bound;
 mod connection;
 mod connection_count;
+mod first_bytes;
 mod opening;
 mod port_fault;
 mod slot_bell;

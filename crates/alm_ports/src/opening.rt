@@ -9,7 +9,7 @@ use crate::slot_bell::SlotBell;
 use crate::slot_port::SlotPort;
 use alm_session::Session;
 use alm_types::Slot;
-use mio::Events;
+use mio::{Events, Poll};
 use std::alloc::Global;
 use std::net::Net;
 use std::sync::Arc;
@@ -100,7 +100,21 @@ fn ports_of(
     Ok(ports)
 }
 
-/// Binds the ports of these slots on loopback, the first slot's given, for so many connections in all; 0 is without end.
+/// Opens as many descriptors as these ports have connections at once, and closes them: where they can't be had, some slots would be served
+/// and others not.
+fn try_descriptors<R: Net>(rt: &R, alloc: Global, bounds: &[Bound]) -> Result<(), PortFault> {
+    let mut spare = Vec::with_capacity(alloc, bounds.len())?;
+    for _ in bounds {
+        match spare.push(Poll::new(rt)?) {
+            Ok(()) => {}
+            Err(_) => return Err(PortFault::OutOfMemory),
+        }
+    }
+    Ok(())
+}
+
+/// Binds the ports of these slots on loopback, the first slot's given, for so many connections in all; 0 is without end. Each of them can have
+/// a connection then, as far as descriptors go.
 pub fn open_ports<R: Net>(
     rt: &R,
     alloc: Global,
@@ -113,6 +127,7 @@ pub fn open_ports<R: Net>(
     ensures bells { IfOk result (λ d. vec_len d.bells ≡ length slots.now) }
 {
     let bounds = bind_all(rt, alloc, slots, port)?;
+    try_descriptors(rt, alloc, &bounds)?;
     let count = count_of(alloc, conns, &bounds)?;
     let bells = bells_of(alloc, &bounds)?;
     let ports = ports_of(alloc, bounds, &count)?;

@@ -80,8 +80,8 @@ impl SlotPort {
         let Ok((mut stream, _)) = self.listener.accept() else {
             return false;
         };
-        let both = Interest::READABLE | Interest::WRITABLE;
-        let polled = self.poll.registry().register(&mut stream, STREAM, both);
+        let all = Interest::READABLE | Interest::WRITABLE | Interest::PRIORITY;
+        let polled = self.poll.registry().register(&mut stream, STREAM, all);
         if polled.is_err() || stream.set_nodelay(true).is_err() {
             self.connection = Connection::Ended;
             return true;
@@ -144,9 +144,9 @@ impl SlotPort {
             return;
         };
         for event in &self.events {
-            let is_closing = event.is_read_closed() || event.is_error();
-            if event.token() == STREAM && (event.is_readable() || is_closing) {
-                wire.find_ready(is_closing);
+            let reads_on = event.is_read_closed() || event.is_error() || event.is_priority();
+            if event.token() == STREAM && (event.is_readable() || reads_on) {
+                wire.find_ready(reads_on);
             }
         }
     }

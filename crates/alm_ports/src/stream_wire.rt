@@ -3,41 +3,66 @@
 ghost use Rattle.std.specs.Prelude.{◌≡◌, ◌↔◌, ◌⊎◌, ◌-◌, IsTrue};
 ghost use Rattle.std_io.specs.declared.io.kind.ErrorKind.TheVariants.{WouldBlock, Interrupted};
 
+use crate::first_bytes::FirstBytes;
 use alm_session::{ReadGave, Wire, WriteTook};
 use std::io::{ErrorKind, Read, Write};
 
 /// A non-blocking stream as a wire: what it would have to wait for, or was interrupted in, is Blocked; a read of 0 bytes is the
-/// end; every other error, and a write of 0 bytes, is Failed.
+/// end; every other error, and a write of 0 bytes, is Failed. A stream that begins as a request of HTTP has ended: a browser sends such a
+/// request for any page that asks it to, and its body may have lines of the protocol.
 ///
 /// A read that gives fewer bytes than there is room for has left none behind. The wire is dry then, and reads are Blocked without a
-/// call until a poll finds the stream ready. Once the other side has ended its sending no poll tells of it again, so reads go on.
+/// call until a poll finds the stream ready. Once the other side has ended its sending no poll tells of it again, so reads go on; so they
+/// do where urgent data came, since a read ends before it.
 #[derive(Drop)]
 pub struct StreamWire<S: Read + Write + Drop> {
     stream: S,
+    first: FirstBytes,
     is_dry: bool,
-    is_closing: bool,
+    reads_on: bool,
     blocked_reads: u64,
     blocked_writes: u64,
     failed: u64,
 }
 
 impl<S: Read + Write + Drop> StreamWire<S> {
+    ghost use Rattle.std.specs.Prelude.{◌≡◌, ◌++◌, ◌-◌, if◌then◌else◌, length, take};
+    ghost use Rattle.alm_ports.specs.Http.{begins_as_http};
+    ghost use Rattle.alm_session.specs.declared.wire.ReadGave.TheVariants as gave;
+
     /// A wire over a stream that never waits.
     pub fn new(stream: S) -> Self {
         StreamWire {
             stream,
+            first: FirstBytes::new(),
             is_dry: false,
-            is_closing: false,
+            reads_on: false,
             blocked_reads: 0,
             blocked_writes: 0,
             failed: 0,
         }
     }
 
-    /// A poll found the stream ready to be read, and whether the other side sends no more.
-    pub fn find_ready(&mut self, is_closing: bool) {
+    /// A poll found the stream ready to be read. From now on a short read leaves bytes behind where the other side sends no more, or
+    /// sent urgent data.
+    pub fn find_ready(&mut self, reads_on: bool) {
         self.is_dry = false;
-        self.is_closing = self.is_closing || is_closing;
+        self.reads_on = self.reads_on || reads_on;
+    }
+
+    /// What a read gave, by the bytes that came in it.
+    fn give(&mut self, came: &[u8]) -> ReadGave
+        ensures { result ≡
+            (if begins_as_http (self.old.first.bytes.items ++
+            take (8 - length self.old.first.bytes.items) came.now) then gave.End
+            else gave.Got (length came.now)) }
+    {
+        self.first.take(came);
+        if self.first.are_http() {
+            ReadGave::End
+        } else {
+            ReadGave::Got(came.len())
+        }
     }
 }
 
@@ -70,11 +95,11 @@ impl<S: Read + Write + Drop> Wire for StreamWire<S> {
         match self.stream.read(into) {
             Ok(0) => ReadGave::End,
             Ok(count) => {
-                self.is_dry = count < room && !self.is_closing;
-                ReadGave::Got(count)
+                self.is_dry = count < room && !self.reads_on;
+                self.give(&into[..count])
             }
             Err(error) if is_for_later(error.kind()) => {
-                self.is_dry = error.kind() == ErrorKind::WouldBlock && !self.is_closing;
+                self.is_dry = error.kind() == ErrorKind::WouldBlock && !self.reads_on;
                 self.blocked_reads = self.blocked_reads.saturating_add(1);
                 ReadGave::Blocked
             }

@@ -3,12 +3,11 @@
 ghost use Rattle.alm_program.specs.Ends.{PrintEnds, PrintsTable};
 
 use crate::fault::Fault;
-use crate::io_faults::{file_fault, io_fault};
-use crate::showing::open_to_print;
+use crate::io_faults::io_fault;
+use crate::showing::read_file;
 use alm_desk::CountedWriter;
 use alm_disk::Disk;
 use alm_export::export_plant;
-use alm_file::FileDisk;
 use alm_keeper::Keeper;
 use std::alloc::Global;
 use std::fs::{File, Files};
@@ -33,9 +32,9 @@ fn print_table<D: Disk + Drop, W: Write + Drop>(
 }
 
 /// The same on standard output.
-fn print_store<R: Print + AllocGlobal>(
+fn print_store<R: Print + AllocGlobal, D: Disk + Drop>(
     rt: &R,
-    keeper: &Keeper<FileDisk>,
+    keeper: &Keeper<D>,
     size: u64,
 ) -> Result<(), Fault> {
     let alloc = rt.alloc();
@@ -48,8 +47,6 @@ pub fn run_export<R: Print + Files<File = File> + AllocGlobal>(
     rt: &R,
     device: &str,
 ) -> Result<(), Fault> {
-    let disk = FileDisk::open_to_read(rt, device).map_err(file_fault)?;
-    let size = disk.size();
-    let keeper = open_to_print(rt.alloc(), disk)?;
+    let (keeper, size) = read_file(rt, device)?;
     print_store(rt, &keeper, size)
 }

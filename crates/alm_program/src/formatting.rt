@@ -38,8 +38,8 @@ fn layout_for(size: u64, table: &Table) -> Result<Layout, Fault>
     Layout::longest(rows, table.areas(), size, Version::V02).ok_or(Fault::TooSmall)
 }
 
-/// Formats the file of a device for a table: with room on the disk for all that its layout uses, so that no later write can
-/// meet a full disk. An old file is set to the size, and is as it was where the table needs a larger one. The length of its segments.
+/// Formats the file of a device for a table, which is made or set to this size first, whatever comes of it: with room on the disk for all
+/// that its layout uses, so that no later write can meet a full disk. The length of its segments.
 fn format_file<R: Files<File = File> + AllocGlobal>(
     rt: &R,
     device: &str,
@@ -50,8 +50,13 @@ fn format_file<R: Files<File = File> + AllocGlobal>(
         (λ segment. (layout : Layout) × IsLongest size table.now layout ×
         (layout.segment ≡ segment)) }
 {
-    let layout = layout_for(size, table)?;
-    let disk = FileDisk::make(rt, device, size, layout.device_len()).map_err(file_fault)?;
+    let fitting = layout_for(size, table);
+    let used = match &fitting {
+        Ok(layout) => layout.device_len(),
+        Err(_) => 0,
+    };
+    let disk = FileDisk::make(rt, device, size, used).map_err(file_fault)?;
+    let layout = fitting?;
     match format(rt.alloc(), disk, table) {
         Ok(_) => Ok(layout.segment),
         Err((fault, _)) => Err(Fault::from(fault)),
@@ -80,7 +85,8 @@ fn print_formatted<W: io::Write>(table: &Table, segment: u32, writer: &mut W) ->
     )
 }
 
-/// Makes a device of a table file, and prints its rows, areas and segment. Nothing is made where the table is refused.
+/// Makes a device of a table file, and prints its rows, areas and segment. Nothing is made where the table is refused, but one that is too
+/// large for its `size` leaves a file of that size.
 pub fn run_format<R: Files<File = File> + Print + AllocGlobal>(
     rt: &R,
     device: &str,

@@ -26,7 +26,7 @@ use std::fs::{File, Files};
 use std::io::{self, BufWriter, Write};
 
 /// Opens a device whose plant is to be printed.
-pub(crate) fn open_to_print<D: Disk + Drop>(alloc: Global, disk: D) -> Result<Keeper<D>, Fault>
+fn open_to_print<D: Disk + Drop>(alloc: Global, disk: D) -> Result<Keeper<D>, Fault>
     ensures stands { D.honest disk →
         IfOk result (λ keeper. StandsWithRoom keeper.stored (D.state keeper.disk).bytes) }
     ensures unwritten { D.honest disk →
@@ -65,10 +65,26 @@ fn print_plant<D: Disk + Drop, W: Write + Drop>(
 }
 
 /// The same on standard output.
-fn print_store<R: Print + AllocGlobal>(rt: &R, keeper: &Keeper<FileDisk>) -> Result<(), Fault> {
+fn print_store<R: Print + AllocGlobal, D: Disk + Drop>(
+    rt: &R,
+    keeper: &Keeper<D>,
+) -> Result<(), Fault> {
     let alloc = rt.alloc();
     let writer = BufWriter::with_capacity(alloc, 65536, io::writer(rt)).map_err(io_fault)?;
     print_plant(alloc, keeper, &mut CountedWriter::new(writer))
+}
+
+/// Reads a device's file whose plant is to be printed, and lets other processes have it then. Its size, in bytes, comes with it.
+pub(crate) fn read_file<'r, R: Files<File = File> + AllocGlobal>(
+    rt: &'r R,
+    device: &'r str,
+) -> Result<(Keeper<FileDisk<'r, R>>, u64), Fault> {
+    let disk = FileDisk::open_to_read(rt, device).map_err(file_fault)?;
+    let size = disk.size();
+    let lock = disk.lock().map_err(io_fault)?;
+    let keeper = open_to_print(rt.alloc(), disk)?;
+    lock.release();
+    Ok((keeper, size))
 }
 
 /// Prints the plant of a device, which is opened to be read alone.
@@ -76,7 +92,6 @@ pub fn run_show<R: Print + Files<File = File> + AllocGlobal>(
     rt: &R,
     device: &str,
 ) -> Result<(), Fault> {
-    let disk = FileDisk::open_to_read(rt, device).map_err(file_fault)?;
-    let keeper = open_to_print(rt.alloc(), disk)?;
+    let (keeper, _) = read_file(rt, device)?;
     print_store(rt, &keeper)
 }

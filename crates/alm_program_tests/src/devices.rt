@@ -2,6 +2,7 @@
 
 use crate::runs::{BROKEN, DONE, Run, TABLE_FAULT, USAGE, ends, first_wrong};
 use std::fs;
+use std::os::unix::fs::MetadataExt;
 use std::test::Fail;
 
 /// The worked table, in two parts.
@@ -95,26 +96,12 @@ const KEEPS: [Run; 6] = [
     ),
 ];
 
-/// A table that is too large for its size leaves the device as it was.
-const STAYS: [Run; 2] = [
-    (
-        b"alm_server\nformat\nkeeps.device\nsmall.toml\n",
-        b"",
-        (TABLE_FAULT, b"", b"fault too-small\n"),
-    ),
-    (
-        b"alm_server\ndesk\nkeeps.device\n",
-        b"17 1 CLOCK 5\n",
-        (DONE, b"17 1 NO 10\n", b""),
-    ),
-];
-
 #[test]
 fn a_device_keeps_what_was_answered(rt: HostRuntime) -> Result<(), Fail> {
     write_file(&rt, "keeps.toml", &[SIZES, ALARMS])?;
     assert_eq!(rt; first_wrong(&rt, &KEEPS), None);
-    write_file(&rt, "small.toml", &["size = 28996\nareas = 2\n", ALARMS])?;
-    assert_eq!(rt; first_wrong(&rt, &STAYS), None);
+    let made = fs::metadata(&rt, "keeps.device")?;
+    assert_eq!(rt; made.mode() & 0o777, 0o600);
     Ok(())
 }
 
@@ -228,7 +215,7 @@ const MISSING: [Run; 1] = [(
     (BROKEN, b"", b"fault io\n"),
 )];
 
-/// A byte too small for four alarms: nothing is made.
+/// A byte too small for four alarms: the file is made, and never formatted.
 const TOO_SMALL: [Run; 2] = [
     (
         b"alm_server\nformat\nfaulty.device\nfaulty.toml\n",
@@ -238,7 +225,7 @@ const TOO_SMALL: [Run; 2] = [
     (
         b"alm_server\nshow\nfaulty.device\n",
         b"",
-        (BROKEN, b"", b"fault io\n"),
+        (TABLE_FAULT, b"", b"fault unformatted\n"),
     ),
 ];
 
@@ -280,5 +267,39 @@ fn the_fault_of_a_device_is_told(rt: HostRuntime) -> Result<(), Fail> {
     let text = b"\xA5BLMSRV01 and more than a header has\n";
     fs::write(&rt, "faulty.device", text.as_slice())?;
     assert_eq!(rt; first_wrong(&rt, &ANOTHER), None);
+    Ok(())
+}
+
+/// Formats for a table that wants a byte more than its size.
+const FORMATS_TOO_SMALL: [Run; 1] = [(
+    b"alm_server\nformat\nsmall.device\nsmall.toml\n",
+    b"",
+    (TABLE_FAULT, b"", b"fault too-small\n"),
+)];
+
+/// The size of that table.
+const SMALL: usize = 28_996;
+
+/// Whether the file has that size, these bytes at its front and zeros behind them.
+fn is_set(rt: &HostRuntime, front: &[u8]) -> Result<bool, Fail> {
+    let bytes = fs::read(rt, "small.device")?;
+    let rest = bytes.get(front.len()..).unwrap_or(&[]);
+    Ok(bytes.len() == SMALL && bytes.starts_with(front) && rest.iter().all(|byte| *byte == 0))
+}
+
+/// A file that is there before, and how many of its bytes stay.
+const BEFORE: [(&[u8], usize); 2] = [(&[7; 64], 64), (&[7; 30_000], SMALL)];
+
+#[test]
+fn a_table_that_is_too_large_sets_the_size_of_its_device(rt: HostRuntime) -> Result<(), Fail> {
+    write_file(&rt, "small.toml", &["size = 28996\nareas = 2\n", ALARMS])?;
+    assert_eq!(rt; first_wrong(&rt, &FORMATS_TOO_SMALL), None);
+    assert!(rt; is_set(&rt, &[])?);
+    for (before, kept) in BEFORE {
+        fs::write(&rt, "small.device", before)?;
+        assert_eq!(rt; first_wrong(&rt, &FORMATS_TOO_SMALL), None);
+        let front = before.get(..kept).ok_or("front")?;
+        assert!(rt; is_set(&rt, front)?, "{kept}");
+    }
     Ok(())
 }

@@ -1,6 +1,7 @@
 //! Eighteen clients at once.
 
 use crate::drawn_client::converse;
+use crate::ports::free_ports;
 use alm_disk::Disk;
 use alm_file::FileDisk;
 use alm_keeper::{Keeper, format};
@@ -59,7 +60,7 @@ fn kept<K: Store>(
 #[test]
 fn the_device_keeps_what_eighteen_clients_were_answered(rt: HostRuntime) -> Result<(), Fail> {
     let alloc = rt.alloc();
-    let port = 20_500;
+    let port = free_ports(&rt)?;
     let table = worked_table(alloc)?;
     let notes = Arc::new(alloc, Notes::new(alloc, 3600)?)?;
     let disk = FileDisk::make(&rt, PATH, 28_997, 28_997)?;
@@ -71,7 +72,7 @@ fn the_device_keeps_what_eighteen_clients_were_answered(rt: HostRuntime) -> Resu
     assert!(rt; clients.join(&rt)?);
     assert_eq!(rt; notes.wrong.load(Ordering::SeqCst), 0);
     let disk = FileDisk::open(&rt, PATH)?;
-    let (count, is_kept) = kept::<Keeper<FileDisk>>(alloc, disk, &table, &notes).ok_or("opening")?;
+    let (count, is_kept) = kept::<Keeper<FileDisk<'_, HostRuntime>>>(alloc, disk, &table, &notes).ok_or("opening")?;
     assert!(rt; served == Ok(count));
     assert!(rt; is_kept);
     fs::remove_file(&rt, PATH)?;

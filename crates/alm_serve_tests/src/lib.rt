@@ -2,6 +2,8 @@
 #![tactic(auto)]
 
 #[cfg(test)]
+mod browsers;
+#[cfg(test)]
 mod client;
 #[cfg(test)]
 mod drawn_client;
@@ -11,5 +13,7 @@ mod drawn_lines;
 mod latch;
 #[cfg(test)]
 mod one_sync;
+#[cfg(test)]
+mod ports;
 #[cfg(test)]
 mod rows;

@@ -3,13 +3,14 @@
 use crate::client::{asks, connect, gives};
 use crate::latch::Latch;
 use crate::one_sync::OneSync;
+use crate::ports::free_ports;
 use alm_disk::{HeldDisk, MemDisk, OnceDisk};
 use alm_keeper::{OpenFault, format};
 use alm_serve::{ServeFault, serve_run};
 use alm_service::worked_table;
 use std::alloc::{AllocError, Global};
 use std::io::{self, Read, Write};
-use std::net::{Shutdown, TcpListener};
+use std::net::{Ipv4Addr, Shutdown, SocketAddr, TcpListener};
 use std::sync::Arc;
 use std::test::Fail;
 use std::thread;
@@ -17,16 +18,11 @@ use std::thread;
 /// Opening a device makes a sync and five reads.
 const OPENING_CALLS: u64 = 6;
 
-/// Where the device of each of the four calls of a commit is served, and what is written of it.
-const COMMITS: [(u64, u16, &[u8]); 4] = [
-    (1, 20_700, b"serving 20700\n"),
-    (2, 20_720, b"serving 20720\n"),
-    (3, 20_740, b"serving 20740\n"),
-    (4, 20_760, b"serving 20760\n"),
-];
+/// An action's commit makes so many calls.
+const COMMIT_CALLS: u64 = 4;
 
 /// A device in memory that is formatted for the worked table.
-fn worked_disk(alloc: Global) -> Result<Option<MemDisk>, AllocError> {
+pub fn worked_disk(alloc: Global) -> Result<Option<MemDisk>, AllocError> {
     let table = worked_table(alloc)?;
     let disk = MemDisk::new(alloc, vec![in alloc; 0_u8; 28_997]?, 100_000)?;
     match format(alloc, disk, &table) {
@@ -51,23 +47,29 @@ fn two_clients(rt: &HostRuntime, port: u16) -> io::Result<bool> {
 
 #[test]
 fn two_connections(rt: HostRuntime) -> Result<(), Fail> {
-    let port = 20_100;
+    let port = free_ports(&rt)?;
     let disk = worked_disk(rt.alloc())?.ok_or("format")?;
     let clients = thread::spawn(&rt, move || two_clients(&rt, port))?;
     let mut output = Vec::new(rt.alloc());
     let served = serve_run(&rt, rt.alloc(), disk, port, 2, &mut output);
     assert!(rt; served == Ok(2));
-    assert_eq!(rt; output.as_slice(), b"serving 20100\nstopped 2\n".as_slice());
+    let said = format!(in rt.alloc(); "serving {port}\nstopped 2\n")?;
+    assert_eq!(rt; output.as_slice(), said.as_bytes());
     assert!(rt; clients.join(&rt)?);
     Ok(())
+}
+
+/// Takes a port of loopback.
+fn take_port(rt: &HostRuntime, port: u16) -> io::Result<TcpListener> {
+    TcpListener::bind(rt, SocketAddr::from((Ipv4Addr::LOCALHOST, port)))
 }
 
 /// A port that can't be had is a fault before anything is written.
 #[test]
 fn a_port_that_is_taken(rt: HostRuntime) -> Result<(), Fail> {
-    let port = 20_200;
+    let port = free_ports(&rt)?;
     let disk = worked_disk(rt.alloc())?.ok_or("format")?;
-    let taken = TcpListener::bind(&rt, "127.0.0.1:20205")?;
+    let taken = take_port(&rt, port.saturating_add(5))?;
     let mut output = Vec::new(rt.alloc());
     let served = serve_run(&rt, rt.alloc(), disk, port, 1, &mut output);
     assert!(rt; served == Err(ServeFault::Net));
@@ -80,9 +82,10 @@ fn a_port_that_is_taken(rt: HostRuntime) -> Result<(), Fail> {
 #[test]
 fn a_device_that_is_not_formatted(rt: HostRuntime) -> Result<(), Fail> {
     let disk = MemDisk::new(rt.alloc(), vec![in rt.alloc(); 0_u8; 28_997]?, 100)?;
-    let taken = TcpListener::bind(&rt, "127.0.0.1:20300")?;
+    let port = free_ports(&rt)?;
+    let taken = take_port(&rt, port)?;
     let mut output = Vec::new(rt.alloc());
-    let served = serve_run(&rt, rt.alloc(), disk, 20_300, 1, &mut output);
+    let served = serve_run(&rt, rt.alloc(), disk, port, 1, &mut output);
     assert!(rt; served == Err(ServeFault::Open(OpenFault::Unformatted)));
     assert!(rt; output.is_empty());
     drop(taken);
@@ -120,13 +123,14 @@ fn hostile_clients(rt: &HostRuntime, port: u16) -> io::Result<bool> {
 
 #[test]
 fn clients_that_mean_no_good(rt: HostRuntime) -> Result<(), Fail> {
-    let port = 20_400;
+    let port = free_ports(&rt)?;
     let disk = worked_disk(rt.alloc())?.ok_or("format")?;
     let clients = thread::spawn(&rt, move || hostile_clients(&rt, port))?;
     let mut output = Vec::new(rt.alloc());
     let served = serve_run(&rt, rt.alloc(), disk, port, 4, &mut output);
     assert!(rt; served == Ok(0));
-    assert_eq!(rt; output.as_slice(), b"serving 20400\nstopped 0\n".as_slice());
+    let said = format!(in rt.alloc(); "serving {port}\nstopped 0\n")?;
+    assert_eq!(rt; output.as_slice(), said.as_bytes());
     assert!(rt; clients.join(&rt)?);
     Ok(())
 }
@@ -146,7 +150,7 @@ fn two_in_a_row(rt: &HostRuntime, port: u16, latch: &Latch) -> io::Result<bool> 
 /// A connection is accepted once the requests of the one before are answered.
 #[test]
 fn a_connection_behind_a_lost_one(rt: HostRuntime) -> Result<(), Fail> {
-    let port = 20_800;
+    let port = free_ports(&rt)?;
     let disk = worked_disk(rt.alloc())?.ok_or("format")?;
     let latch = Arc::new(rt.alloc(), Latch::new())?;
     let disk = HeldDisk::new(disk, Arc::try_clone(&latch)?);
@@ -154,7 +158,8 @@ fn a_connection_behind_a_lost_one(rt: HostRuntime) -> Result<(), Fail> {
     let mut output = Vec::new(rt.alloc());
     let served = serve_run(&rt, rt.alloc(), disk, port, 2, &mut output);
     assert!(rt; served == Ok(1));
-    assert_eq!(rt; output.as_slice(), b"serving 20800\nstopped 1\n".as_slice());
+    let said = format!(in rt.alloc(); "serving {port}\nstopped 1\n")?;
+    assert_eq!(rt; output.as_slice(), said.as_bytes());
     assert!(rt; clients.join(&rt)?);
     Ok(())
 }
@@ -169,14 +174,15 @@ fn unanswered_client(rt: &HostRuntime, port: u16) -> io::Result<bool> {
 /// A device that fails once it is served ends the server, and answers nobody.
 #[test]
 fn a_device_that_fails_while_it_is_served(rt: HostRuntime) -> Result<(), Fail> {
-    let port = 20_500;
+    let port = free_ports(&rt)?;
     let disk = worked_disk(rt.alloc())?.ok_or("format")?;
     let disk = HeldDisk::new(disk, OneSync::new());
     let clients = thread::spawn(&rt, move || unanswered_client(&rt, port))?;
     let mut output = Vec::new(rt.alloc());
     let served = serve_run(&rt, rt.alloc(), disk, port, 1, &mut output);
     assert!(rt; served == Err(ServeFault::Storage));
-    assert_eq!(rt; output.as_slice(), b"serving 20500\n".as_slice());
+    let said = format!(in rt.alloc(); "serving {port}\n")?;
+    assert_eq!(rt; output.as_slice(), said.as_bytes());
     assert!(rt; clients.join(&rt)?);
     Ok(())
 }
@@ -184,11 +190,12 @@ fn a_device_that_fails_while_it_is_served(rt: HostRuntime) -> Result<(), Fail> {
 /// A device that fails one call of its opening, whichever it is, is a fault before any port is bound.
 #[test]
 fn a_device_that_fails_as_it_is_opened(rt: HostRuntime) -> Result<(), Fail> {
-    let taken = TcpListener::bind(&rt, "127.0.0.1:20600")?;
+    let port = free_ports(&rt)?;
+    let taken = take_port(&rt, port)?;
     for call in 1..=OPENING_CALLS {
         let disk = OnceDisk::new(worked_disk(rt.alloc())?.ok_or("format")?, call);
         let mut output = Vec::new(rt.alloc());
-        let served = serve_run(&rt, rt.alloc(), disk, 20_600, 1, &mut output);
+        let served = serve_run(&rt, rt.alloc(), disk, port, 1, &mut output);
         assert!(rt;
             served == Err(ServeFault::Open(OpenFault::Disk)),
             "call {call}"
@@ -203,14 +210,16 @@ fn a_device_that_fails_as_it_is_opened(rt: HostRuntime) -> Result<(), Fail> {
 /// would be served.
 #[test]
 fn a_device_that_fails_one_call_of_an_action(rt: HostRuntime) -> Result<(), Fail> {
-    for (call, port, said) in COMMITS {
+    for call in 1..=COMMIT_CALLS {
+        let port = free_ports(&rt)?;
         let disk = worked_disk(rt.alloc())?.ok_or("format")?;
         let disk = OnceDisk::new(disk, OPENING_CALLS.saturating_add(call));
         let clients = thread::spawn(&rt, move || unanswered_client(&rt, port))?;
         let mut output = Vec::new(rt.alloc());
         let served = serve_run(&rt, rt.alloc(), disk, port, 1, &mut output);
         assert!(rt; served == Err(ServeFault::Storage), "call {call}");
-        assert_eq!(rt; output.as_slice(), said, "call {call}");
+        let said = format!(in rt.alloc(); "serving {port}\n")?;
+        assert_eq!(rt; output.as_slice(), said.as_bytes(), "call {call}");
         assert!(rt; clients.join(&rt)?, "call {call}");
     }
     Ok(())

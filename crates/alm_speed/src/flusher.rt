@@ -102,7 +102,11 @@ fn time_refusals(
 }
 
 /// Batches of accepted actions, over a file.
-fn time_commits(rt: &(impl Print + Eprint + Clock), alloc: Global, disk: FileDisk) -> Result<()> {
+fn time_commits<D: Disk + Drop>(
+    rt: &(impl Print + Eprint + Clock),
+    alloc: Global,
+    disk: D,
+) -> Result<()> {
     let many = Course::Accepted { each: 64, after: 0 };
     let one = Course::Accepted {
         each: 1,
@@ -114,7 +118,7 @@ fn time_commits(rt: &(impl Print + Eprint + Clock), alloc: Global, disk: FileDis
 
 /// Batches of refusals, over a small device and the largest; and with a file batches of accepted actions.
 pub fn run(
-    rt: &(impl Print + Eprint + Clock + Files<File = File>),
+    rt: &(impl Print + Eprint + Clock + Files<File = File> + AllocGlobal),
     alloc: Global,
     path: Option<&str>,
 ) -> Result<()> {

@@ -146,7 +146,7 @@ fn go<D: Disk + Drop>(
 
 /// The works of a keeper of a file of the largest table, or of a small device in memory.
 pub fn run(
-    rt: &(impl Print + Eprint + Clock + Files<File = File>),
+    rt: &(impl Print + Eprint + Clock + Files<File = File> + AllocGlobal),
     alloc: Global,
     path: Option<&str>,
 ) -> Result<()> {
@@ -164,7 +164,7 @@ pub fn run(
 
 /// Opens the device in a file, as a process does.
 pub fn open(
-    rt: &(impl Print + Eprint + Clock + Files<File = File>),
+    rt: &(impl Print + Eprint + Clock + Files<File = File> + AllocGlobal),
     alloc: Global,
     path: &str,
 ) -> Result<()> {

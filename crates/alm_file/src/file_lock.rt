@@ -1,0 +1,16 @@
+//! The lock on a device's file.
+
+use std::fs::File;
+
+/// The lock on a device's file. It ends with the device, or before that, once it is released.
+#[derive(Drop)]
+pub struct FileLock {
+    pub(crate) file: File,
+}
+
+impl FileLock {
+    /// Lets other processes have the file. Where the system refuses that, the lock ends with the process.
+    pub fn release(self) {
+        let _ = self.file.unlock();
+    }
+}
