@@ -1,15 +1,30 @@
 #!/usr/bin/env python3
-"""Lists what a reader of the headline has to believe: each definition of specs/ to which its contract unfolds, by file.
+"""Writes what a reader of the headline has to believe: each definition of specs/ to which its contracts unfold, by file.
 
-    docs/believed.py [CRATE.FILE:NAME ..]      without names: those that the contract of `life` cites
+    docs/believed.py > docs/BELIEVED.md        the page
+    docs/believed.py --check                   whether the page is that
+    docs/believed.py CRATE.FILE:NAME ..        what these definitions unfold to
 """
 import re
 import sys
 from pathlib import Path
 
 CRATES = Path(__file__).resolve().parent.parent / "crates"
-HEADLINE = ["alm_bench.StandOnly:StandOnly", "alm_bench.Traced:KeepsTold", "alm_pipeline.Headline:IsRun", "alm_pipeline.Headline:device_alone",
-            "alm_pipeline.World:first", "alm_pipeline.World:closed_world", "alm_keeper.AsStore:StandsFor", "alm_keeper.AsStore:IsLastEpoch"]
+PAGE = Path(__file__).resolve().parent / "BELIEVED.md"
+# The words that the contract of each call cites.
+CLAIMS = {
+    "The server: `serve_run`": [
+        "alm_serve.Serving:ServeWrites", "alm_serve.Runs:ServeEnds", "alm_serve.Runs:Opens", "alm_serve.Runs:OpensTo", "alm_keeper.AsStore:StandsFor",
+        "alm_store.Calls:IsRefusedBy", "alm_store.Opening:HasCause", "alm_disk.Failures:HasFailed"],
+    "One thread: `life`": [
+        "alm_bench.StandOnly:StandOnly", "alm_bench.Traced:KeepsTold", "alm_pipeline.Headline:IsRun", "alm_pipeline.Headline:device_alone",
+        "alm_pipeline.World:first", "alm_pipeline.World:closed_world", "alm_keeper.AsStore:StandsFor", "alm_keeper.AsStore:IsLastEpoch"],
+}
+HEAD = """# What the headline unfolds to
+
+Whoever believes these definitions, and the Rust types that they name, need not read the code to know what [HEADLINE.md](HEADLINE.md) says. The
+page is made by `docs/believed.py`; a case or a field counts as the definition that it belongs to.
+"""
 BEGINS = re.compile(r"\s*(?:(?:pub|abbrev|unfoldable|opaque) )*(?:(?:pub|abbrev|unfoldable|opaque|record|data) )(\S+)")
 IMPORT = re.compile(r"\s*use Rattle\.(\w+)\.specs\.(\w+)\.\{(.*)\}")
 WORD = re.compile(r"[^\s(){}\[\];,.]+")
@@ -27,7 +42,9 @@ class Specs:
                 for word in words.split(", "):
                     origin, _, here = word.partition(" as ")
                     self.brings[here or origin] = f"{crate}.{file}", origin
-            elif line.strip() and not re.match(r"\s*(--|use |module |infix)", line):
+            elif re.match(r"\s*module ", line):
+                name = None
+            elif line.strip() and not re.match(r"\s*(--|use |infix)", line):
                 begins = BEGINS.match(line)
                 indent = len(line) - len(line.lstrip())
                 if begins and not (name and indent > depth):
@@ -59,19 +76,36 @@ def unfold(specs, names):
     return seen
 
 
-def main(names):
+def table(specs, names):
+    """The files to which these definitions unfold, each with its definitions, and their counts."""
+    seen = unfold(specs, names)
+    lines, total = ["| file | definitions | lines |", "|---|---|---|"], 0
+    files = sorted({file for file, _ in seen})
+    for file in files:
+        named = sorted(name for holder, name in seen if holder == file)
+        count = sum(len(specs[file].lines[name]) for name in named)
+        total += count
+        crate, stem = file.split(".")
+        lines.append(f"| [{crate}: {stem}](../crates/{crate}/specs/{stem}.antt) | {', '.join(f'`{name}`' for name in named)} | {count} |")
+    return [*lines, "", f"{len(files)} files, {len(seen)} definitions, {total} lines"]
+
+
+def page(specs):
+    """The whole page."""
+    parts = [line for title, names in CLAIMS.items() for line in ("", f"## {title}", "", *table(specs, names))]
+    return HEAD + "\n".join(parts) + "\n"
+
+
+def main(words):
     paths = {f"{path.parent.parent.name}.{path.stem}": path for path in CRATES.glob("*/specs/*.antt") if path.stem != "Lib"}
     specs = {file: Specs(path) for file, path in paths.items()}
-    seen = unfold(specs, names or HEADLINE)
-    total = 0
-    print("| file | definitions | lines |\n|---|---|---|")
-    for file in sorted({file for file, _ in seen}):
-        named = sorted(name for holder, name in seen if holder == file)
-        lines = sum(len(specs[file].lines[name]) for name in named)
-        total += lines
-        crate, stem = file.split(".")
-        print(f"| [{crate}: {stem}](../crates/{crate}/specs/{stem}.antt) | {', '.join(f'`{name}`' for name in named)} | {lines} |")
-    print(f"\n{len({file for file, _ in seen})} files, {len(seen)} definitions, {total} lines")
+    if words == ["--check"]:
+        if PAGE.read_text(encoding="utf-8") != page(specs):
+            sys.exit("believed.py: docs/BELIEVED.md isn't what the definitions unfold to: docs/believed.py > docs/BELIEVED.md")
+    elif words:
+        print("\n".join(table(specs, words)))
+    else:
+        print(page(specs), end="")
 
 
 if __name__ == "__main__":

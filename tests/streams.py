@@ -16,12 +16,12 @@ import subprocess
 import sys
 import time
 
-from program import PLANT, Wrong, begin, check, finish, run_words
+from program import PLANT, Wrong, begin, check, finish, free_ports, run_words
 
 STORED = b"17 1 CLOCK 1000\n16 2 VAL 0 800\n16 3 VAL 1 100\n"
 ASKED = b"0 4 ACK 0\n1 5 ACK 1\n"
 INPUT, OUTPUT, ERRORS = range(3)
-PORT = 23000
+PORT = free_ports()
 
 
 def read(path):

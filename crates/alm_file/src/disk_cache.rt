@@ -1,5 +1,6 @@
 //! What brings a file to the disk, and what lets the kernel forget what it keeps of it.
 
+use crate::file_fault::FileFault;
 use std::fs::{self, File, Files};
 use std::io::{self, ErrorKind};
 use std::os::fd::AsRawFd;
@@ -24,14 +25,14 @@ pub fn has_no_sync(error: &io::Error) -> bool {
 }
 
 /// Waits until the folder that a path leads through last is on the disk.
-fn sync_folder<R: Files<File = File>>(rt: &R, path: &str) -> io::Result<()> {
+fn sync_folder<R: Files<File = File>>(rt: &R, path: &str) -> Result<(), FileFault> {
     let folder = match Path::new(path).parent() {
         Some(folder) if !folder.as_str().is_empty() => folder,
         _ => Path::new("."),
     };
     match File::open(rt, folder)?.sync_all() {
         Err(error) if has_no_sync(&error) => Ok(()),
-        answer => answer,
+        answer => answer.map_err(FileFault::Sync),
     }
 }
 
@@ -41,12 +42,12 @@ pub fn sync_with_name<R: Files<File = File> + AllocGlobal>(
     rt: &R,
     file: &File,
     path: &str,
-) -> io::Result<()> {
-    file.sync_all()?;
+) -> Result<(), FileFault> {
+    file.sync_all().map_err(FileFault::Sync)?;
     sync_folder(rt, path)?;
     if fs::symlink_metadata(rt, path)?.is_symlink() {
         let target = rt.canonicalize(rt.alloc(), path)?;
-        sync_folder(rt, target.as_str())?;
+        return sync_folder(rt, target.as_str());
     }
     Ok(())
 }

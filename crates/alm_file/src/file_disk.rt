@@ -78,7 +78,7 @@ impl<'r, R: Files<File = File> + AllocGlobal> FileDisk<'r, R> {
         let size = place.size;
         refuse_beyond_limit(size)?;
         forget(&file);
-        sync_with_name(rt, &file, path).map_err(FileFault::Sync)?;
+        sync_with_name(rt, &file, path)?;
         Ok(FileDisk {
             file,
             place,

@@ -8,7 +8,7 @@ pub enum FileFault {
     /// Standard input, output or error is this very file.
     #[error("the file is a standard stream's")]
     Stream,
-    /// Its bytes or its name can't be brought to the disk.
+    /// A sync of its bytes or of its name failed.
     #[error("{0}")]
     Sync(io::Error),
     /// There is none, it is no regular file, or a call of the system was refused.

@@ -1,18 +1,31 @@
 //! How a connection begins.
 
-ghost use Rattle.std.specs.Prelude.{◌≡◌, ◌++◌, ◌-◌, [], length, take};
+ghost use Rattle.std.specs.Prelude.{◌≡◌, ◌++◌, ◌-◌, ◌⊎◌, [], length, take, true, false};
+ghost use Rattle.alm_session.specs.declared.wire.ReadGave.TheVariants as gave;
 ghost use Rattle.alm_ports.specs.Http.{begins_as_http};
 
+use alm_session::ReadGave;
 use arrayvec::ArrayVec;
 
-/// The methods of HTTP, each with the space behind it, by which a request begins (RFC 9110, section 9; PATCH by RFC 5789, and PRI by
-/// RFC 9113, section 3.4).
-const METHODS: [&str; 10] = [
-    "GET ", "HEAD ", "POST ", "PUT ", "DELETE ", "CONNECT ", "OPTIONS ", "TRACE ", "PATCH ", "PRI ",
-];
-
-/// How many bytes tell it: those of the longest method and its space.
+/// How many bytes tell it: those of the longest method of HTTP and the space behind it.
 const MOST: usize = 8;
+
+/// Whether these bytes begin by a method of HTTP and a space, as a browser's requests do (RFC 9110, section 9; PATCH by RFC 5789, PRI by
+/// RFC 9113, section 3.4). No line of the protocol begins by a letter.
+fn begins_as_http(bytes: &[u8]) -> bool
+    ensures { result ≡ begins_as_http bytes.now }
+{
+    bytes.starts_with(b"GET ")
+        | bytes.starts_with(b"HEAD ")
+        | bytes.starts_with(b"POST ")
+        | bytes.starts_with(b"PUT ")
+        | bytes.starts_with(b"DELETE ")
+        | bytes.starts_with(b"CONNECT ")
+        | bytes.starts_with(b"OPTIONS ")
+        | bytes.starts_with(b"TRACE ")
+        | bytes.starts_with(b"PATCH ")
+        | bytes.starts_with(b"PRI ")
+}
 
 /// The first bytes of a connection, at most eight.
 #[derive(Drop)]
@@ -31,21 +44,32 @@ impl FirstBytes {
     }
 
     /// Takes what came next.
-    pub fn take(&mut self, came: &[u8])
+    #[tactic(auto, using(crate::proofs::Taken::taken))]
+    fn take(&mut self, came: &[u8])
         ensures { self.new.bytes.items ≡
             self.old.bytes.items ++ take (8 - length self.old.bytes.items) came.now }
     {
         let count = self.bytes.remaining_capacity().min(came.len());
-        let _ = self.bytes.try_extend_from_slice(&came[..count]);
+        match self.bytes.try_extend_from_slice(&came[..count]) {
+            Ok(()) => {}
+            Err(_) => unreachable!(),
+        }
     }
 
-    /// Whether they begin a request of HTTP, as a browser sends it. No line of the protocol begins by a letter.
-    pub fn are_http(&self) -> bool
-        ensures { result ≡ begins_as_http self.now.bytes.items }
+    /// What a read gave in which these bytes came: the end, where the connection began as a request of HTTP.
+    pub fn give(&mut self, came: &[u8]) -> ReadGave
+        ensures bytes { self.new.bytes.items ≡
+            self.old.bytes.items ++ take (8 - length self.old.bytes.items) came.now }
+        ensures http { begins_as_http self.new.bytes.items ≡ true → result ≡ gave.End }
+        ensures other { begins_as_http self.new.bytes.items ≡ false →
+            result ≡ gave.Got (length came.now) }
+        ensures either { (result ≡ gave.End) ⊎ (result ≡ gave.Got (length came.now)) }
     {
-        let bytes = self.bytes.as_slice();
-        METHODS
-            .iter()
-            .any(|method| bytes.starts_with(method.as_bytes()))
+        self.take(came);
+        if begins_as_http(self.bytes.as_slice()) {
+            ReadGave::End
+        } else {
+            ReadGave::Got(came.len())
+        }
     }
 }

@@ -26,10 +26,6 @@ pub struct StreamWire<S: Read + Write + Drop> {
 }
 
 impl<S: Read + Write + Drop> StreamWire<S> {
-    ghost use Rattle.std.specs.Prelude.{◌≡◌, ◌++◌, ◌-◌, if◌then◌else◌, length, take};
-    ghost use Rattle.alm_ports.specs.Http.{begins_as_http};
-    ghost use Rattle.alm_session.specs.declared.wire.ReadGave.TheVariants as gave;
-
     /// A wire over a stream that never waits.
     pub fn new(stream: S) -> Self {
         StreamWire {
@@ -48,21 +44,6 @@ impl<S: Read + Write + Drop> StreamWire<S> {
     pub fn find_ready(&mut self, reads_on: bool) {
         self.is_dry = false;
         self.reads_on = self.reads_on || reads_on;
-    }
-
-    /// What a read gave, by the bytes that came in it.
-    fn give(&mut self, came: &[u8]) -> ReadGave
-        ensures { result ≡
-            (if begins_as_http (self.old.first.bytes.items ++
-            take (8 - length self.old.first.bytes.items) came.now) then gave.End
-            else gave.Got (length came.now)) }
-    {
-        self.first.take(came);
-        if self.first.are_http() {
-            ReadGave::End
-        } else {
-            ReadGave::Got(came.len())
-        }
     }
 }
 
@@ -96,7 +77,7 @@ impl<S: Read + Write + Drop> Wire for StreamWire<S> {
             Ok(0) => ReadGave::End,
             Ok(count) => {
                 self.is_dry = count < room && !self.reads_on;
-                self.give(&into[..count])
+                self.first.give(&into[..count])
             }
             Err(error) if is_for_later(error.kind()) => {
                 self.is_dry = error.kind() == ErrorKind::WouldBlock && !self.reads_on;

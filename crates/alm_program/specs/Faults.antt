@@ -84,16 +84,11 @@ abbrev pub fault_of_error : ErrorKind → Fault
 fault_of_error kind.OutOfMemory = OutOfMemory
 fault_of_error _ = Io
 
--- .. of a sync that is refused as a device is opened
-abbrev pub fault_of_sync : ErrorKind → Fault
-fault_of_sync kind.OutOfMemory = OutOfMemory
-fault_of_sync _ = Disk
-
--- .. of a device's file that isn't opened: one that is a standard stream's is named wrongly, and one that can't be brought to the disk has
--- failed as a device
+-- .. of a device's file that isn't opened: one that is a standard stream's is named wrongly, and one whose sync failed has failed as a
+-- device
 abbrev pub fault_of_file : FileFault → Fault
 fault_of_file file.Stream = Usage
-fault_of_file (file.Sync error) = fault_of_sync (error_kind error)
+fault_of_file (file.Sync error) = Disk
 fault_of_file (file.Io error) = fault_of_error (error_kind error)
 
 -- the line on standard error

@@ -2,7 +2,7 @@
 
 ghost use Rattle.std.specs.Prelude.{◌≡◌};
 ghost use Rattle.std.specs.IoError.{error_kind};
-ghost use Rattle.alm_program.specs.Faults.{fault_of_error, fault_of_file, fault_of_sync};
+ghost use Rattle.alm_program.specs.Faults.{fault_of_error, fault_of_file};
 
 use crate::fault::Fault;
 use alm_file::FileFault;
@@ -18,24 +18,14 @@ pub fn io_fault(error: io::Error) -> Fault
     }
 }
 
-/// What a sync that is refused as a device is opened is to the program.
-fn sync_fault(error: io::Error) -> Fault
-    ensures { result ≡ fault_of_sync (error_kind error) }
-{
-    match error.kind() {
-        ErrorKind::OutOfMemory => Fault::OutOfMemory,
-        _ => Fault::Disk,
-    }
-}
-
-/// What a device's file that isn't opened is to the program: one that is a standard stream's is named wrongly, and one that can't be brought
-/// to the disk is a device that failed.
+/// What a device's file that isn't opened is to the program: one that is a standard stream's is named wrongly, and one whose sync failed is a
+/// device that failed.
 pub fn file_fault(fault: FileFault) -> Fault
     ensures { result ≡ fault_of_file fault }
 {
     match fault {
         FileFault::Stream => Fault::Usage,
-        FileFault::Sync(error) => sync_fault(error),
+        FileFault::Sync(_) => Fault::Disk,
         FileFault::Io(error) => io_fault(error),
     }
 }

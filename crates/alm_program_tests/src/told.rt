@@ -2,9 +2,11 @@
 //! of ports.
 
 use crate::runs::{BROKEN, is_status};
+use alm_file::FileFault;
 use alm_keeper::{FormatFault, OpenFault};
-use alm_program::{Fault, end_of};
+use alm_program::{Fault, end_of, file_fault};
 use std::alloc::AllocError;
+use std::io::{Error, ErrorKind};
 
 /// Whether the program ends with this line and status 3 by a fault.
 fn is_told(rt: &HostRuntime, fault: Fault, line: &[u8]) -> bool {
@@ -17,6 +19,10 @@ fn is_told(rt: &HostRuntime, fault: Fault, line: &[u8]) -> bool {
 fn a_device_that_fails_as_it_is_opened_or_formatted(rt: HostRuntime) {
     assert!(rt; is_told(&rt, Fault::from(OpenFault::Disk), b"fault disk\n"));
     assert!(rt; is_told(&rt, Fault::from(FormatFault::Disk), b"fault disk\n"));
+    let failed = file_fault(FileFault::Sync(Error::from(ErrorKind::Other)));
+    assert!(rt; is_told(&rt, failed, b"fault disk\n"));
+    let refused = file_fault(FileFault::Io(Error::from(ErrorKind::Other)));
+    assert!(rt; is_told(&rt, refused, b"fault io\n"));
 }
 
 #[test]
@@ -33,6 +39,6 @@ fn want_of_memory(rt: HostRuntime) {
 }
 
 #[test]
-fn a_port_that_is_taken(rt: HostRuntime) {
+fn the_line_of_a_port(rt: HostRuntime) {
     assert!(rt; is_told(&rt, Fault::Net, b"fault net\n"));
 }

@@ -1,0 +1,124 @@
+#!/usr/bin/env python3
+"""Checks what the pages say that can be counted or looked up.
+
+    tests/pages.py
+
+Each link to a file of the repository leads to one, and to a heading of it where it names one. Each block of Rust that a page of docs/ quotes
+stands in a source, whatever its spaces. The counts of wrong bodies and of crates below the program are the tree's, docs/BELIEVED.md is what the
+definitions unfold to, and its sums stand in docs/HEADLINE.md. Each call that docs/PROVED.md names as carrying a claim is one of its crate's sources.
+"""
+import re
+import subprocess
+import sys
+from pathlib import Path
+
+TOP = Path(__file__).resolve().parent.parent
+PAGES = sorted([*TOP.glob("*.md"), *TOP.glob("docs/*.md"), *TOP.glob("tests/*.md"), *TOP.glob("examples/*.md"), *TOP.glob("bench/*.md")])
+LINK = re.compile(r"\[[^\]]*\]\(([^)\s]+)\)")
+RUST = re.compile(r"```rust\n(.*?)```", re.DOTALL)
+FENCE = re.compile(r"```.*?```", re.DOTALL)
+QUOTED = re.compile(r"`([A-Za-z_][A-Za-z_0-9:]*)`")
+
+
+class Found:
+    """What is wrong, and how much was looked at."""
+
+    def __init__(self):
+        self.wrong, self.looked = [], 0
+
+    def check(self, holds, *said):
+        self.looked += 1
+        if not holds:
+            self.wrong.append(" ".join(str(word) for word in said))
+
+
+def text_of(path):
+    return path.read_text(encoding="utf-8")
+
+
+def anchors(path):
+    """The names that the headings of a page have as targets of links."""
+    headings = re.findall(r"^#+ (.*)$", FENCE.sub("", text_of(path)), re.MULTILINE)
+    return {re.sub(r"[^\w\- ]", "", heading.lower()).replace(" ", "-") for heading in headings}
+
+
+def links(found):
+    for page in PAGES:
+        for link in LINK.findall(FENCE.sub("", text_of(page))):
+            if "://" in link:
+                continue
+            name, _, anchor = link.partition("#")
+            target = (page.parent / name).resolve() if name else page
+            found.check(target.exists(), page.name, "links to", link, "which isn't there")
+            if anchor and target.suffix == ".md" and target.exists():
+                found.check(anchor in anchors(target), page.name, "links to", link, "which has no such heading")
+
+
+def bare(text):
+    return re.sub(r"\s+", "", text)
+
+
+def quotes(found):
+    sources = [bare(text_of(path)) for path in TOP.glob("crates/*/src/**/*.rt")]
+    for page in TOP.glob("docs/*.md"):
+        for quote in RUST.findall(text_of(page)):
+            found.check(any(bare(quote) in source for source in sources), page.name, "quotes what stands in no source:", quote.strip().splitlines()[0])
+
+
+def crates_below(name):
+    """The crates of crates.txt on which one stands, and itself."""
+    below = {}
+    for line in text_of(TOP / "crates.txt").splitlines():
+        words, colon, rest = line.partition("#")[0].partition(":")
+        if colon:
+            below[words.split()[0]] = rest.split()
+    seen, left = set(), [name]
+    while left:
+        crate = left.pop()
+        if crate in below and crate not in seen:
+            seen.add(crate)
+            left += below[crate]
+    return seen
+
+
+def counts(found):
+    readme = text_of(TOP / "README.md")
+    in_gate, beside = len(list(TOP.glob("crates/*/must-fail/*.edit"))), len(list(TOP.glob("crates/*/wrong/*.edit")))
+    found.check(f"each of {in_gate} wrong bodies" in readme, "README.md: the gate has", in_gate, "wrong bodies")
+    found.check(f"{beside} more stand beside the gate" in readme, "README.md:", beside, "wrong bodies stand beside the gate")
+    crates = len(crates_below("alm_server"))
+    found.check(f"it proves {crates} crates" in readme, "README.md: the program stands on", crates, "crates, itself among them")
+
+
+def believed(found):
+    made = subprocess.run([TOP / "docs" / "believed.py"], capture_output=True, check=True).stdout.decode()
+    page = text_of(TOP / "docs" / "BELIEVED.md")
+    found.check(made == page, "docs/BELIEVED.md isn't what docs/believed.py prints")
+    headline = " ".join(text_of(TOP / "docs" / "HEADLINE.md").split())
+    for total in re.findall(r"^\d+ files, .*$", page, re.MULTILINE):
+        found.check(total in headline, "docs/HEADLINE.md doesn't say", total)
+
+
+def claims(found):
+    """The words in the last column of PROVED's table, each of a row's crates or of those below it."""
+    for line in text_of(TOP / "docs" / "PROVED.md").splitlines():
+        if not line.startswith("| alm_"):
+            continue
+        crates, by = line.split("|")[1].replace(",", " ").split(), line.split("|")[-2]
+        below = set().union(*(crates_below(crate) for crate in crates))
+        source = "".join(text_of(path) for crate in below for path in TOP.glob(f"crates/{crate}/src/**/*.rt"))
+        for word in {word for name in QUOTED.findall(by) for word in name.split("::")}:
+            found.check(re.search(rf"\b{word}\b", source), "docs/PROVED.md:", ", ".join(crates), "has no", word)
+
+
+def main():
+    found = Found()
+    for look in (links, quotes, counts, believed, claims):
+        look(found)
+    if found.wrong:
+        sys.exit("\n".join(f"pages.py: {wrong}" for wrong in found.wrong))
+    print(f"pages.py: {found.looked} links, quotes, counts and names of the pages, none wrong")
+
+
+if __name__ == "__main__":
+    main()

@@ -1,0 +1,319 @@
+#!/usr/bin/env python3
+"""What surrounds the process: limits, locks, modes, a full disk, other addresses, urgent data, browsers.
+
+    tests/surroundings.py PROGRAM [--short]
+
+A server is asked by requests of HTTP, cut at each byte, and by a real browser (Debian: chromium), which is left out with a word where it isn't
+there. It is started at each limit of descriptors, and with too small a limit of a file's size. `format` is tried beside a server, on a disk that is
+full (root, for a small file system) and for its modes and its room; `show` and `export` beside a server that starts.
+"""
+import os
+import resource
+import shutil
+import socket
+import stat
+import subprocess
+import sys
+import time
+
+from program import PLANT, Wrong, begin, check, finish, free_ports, run_words
+
+TOP = os.path.join(os.path.dirname(os.path.abspath(__file__)), "..")
+REFINERY = os.path.join(TOP, "examples", "refinery.toml")
+CLOCK = 17
+SLOTS = 18
+# The methods by which a request of HTTP begins, and what may come behind them.
+METHODS = [b"GET ", b"HEAD ", b"POST ", b"PUT ", b"DELETE ", b"CONNECT ", b"OPTIONS ", b"TRACE ", b"PATCH ", b"PRI "]
+REST = b"/ HTTP/1.1\r\nHost: 127.0.0.1\r\nContent-Type: text/plain\r\n\r\n\n1 CLOCK 1000\n2 STATE 0\n"
+# First lines that are no such request, and the reply to each. Behind a line that is refused the connection goes on.
+NEAR = [b"GETS /", b"GET", b"get /", b" GET /", b"HEADER x", b"PRIO 0 1", b"POST"]
+PAGE = """<!doctype html><title>page</title><form id=f method=post enctype=text/plain action=http://127.0.0.1:{port}/><input name=x></form><script>
+const body = '\\n1 ACK 0\\n1 CLOCK 1000\\n1 VAL 0 900\\n';
+for (let slot = 0; slot < 18; slot++) {{
+    const at = '127.0.0.1:' + ({port} + slot) + '/';
+    for (const method of ['GET', 'HEAD', 'POST']) {{
+        fetch('http://' + at, {{method, mode: 'no-cors', body: method === 'POST' ? body : undefined}}).catch(() => 0);
+    }}
+    try {{ new WebSocket('ws://' + at).onopen = event => event.target.send(body); }} catch (error) {{ }}
+}}
+document.querySelector('input').value = body;
+setTimeout(() => document.getElementById('f').submit(), 1500);
+</script>"""
+
+
+def limited(limits):
+    """What a child does before it becomes the program: it takes these limits."""
+    def limit():
+        for which, most in limits.items():
+            resource.setrlimit(which, (most, most))
+    return limit
+
+
+class Served:
+    """A server over a device, with limits, to the end of a block."""
+
+    def __init__(self, program, device, limits=None):
+        self.port = free_ports()
+        words = [program, "serve", device, "--port", str(self.port)]
+        self.process = subprocess.Popen(words, stdout=subprocess.PIPE, stderr=subprocess.PIPE, preexec_fn=limited(limits or {}))
+        self.serves = self.process.stdout.readline() == f"serving {self.port}\n".encode()
+
+    def __enter__(self):
+        return self
+
+    def __exit__(self, *_):
+        self.process.kill()
+        self.process.communicate()
+
+    def connect(self, slot):
+        return socket.create_connection(("127.0.0.1", self.port + slot), timeout=10)
+
+    def ask(self, slot, line):
+        """The first reply of a new connection."""
+        with self.connect(slot) as client:
+            client.sendall(line)
+            return client.makefile("rb").readline()
+
+
+class Surroundings:
+    def __init__(self, program, folder):
+        self.program, self.folder, self.done = program, folder, 0
+        self.device = os.path.join(folder, "plant.device")
+        self.format(self.device, PLANT)
+
+    def format(self, device, table):
+        run = run_words(self.program, ["format", device, table])
+        check(run.returncode == 0, "format", run.stderr)
+
+    def refused(self, words, line, **more):
+        """A command that ends by this fault, with nothing printed."""
+        run = subprocess.run([self.program, *words], capture_output=True, timeout=60, **more)
+        self.done += 1
+        check((run.returncode, run.stdout, run.stderr) == (3, b"", line), words, run.returncode, run.stdout, run.stderr)
+
+    def requests_of_http(self, step):
+        """Each method, cut at each byte, at a console's port and the clock's: no byte comes back and nothing is done."""
+        with Served(self.program, self.device) as server:
+            for method in METHODS:
+                for cut in range(1, len(method) + 1, step):
+                    for slot in (0, CLOCK):
+                        self.http(server, slot, method, cut)
+            check(server.ask(CLOCK, b"1 STATE 0\n") == b"1 STATE 0 NORM 0 - -\n", "after requests of HTTP")
+            for line in NEAR:
+                check(server.ask(0, line + b"\n") == b"0 NO 13\n", line)
+                self.done += 1
+
+    def http(self, server, slot, method, cut):
+        with server.connect(slot) as client:
+            client.setsockopt(socket.IPPROTO_TCP, socket.TCP_NODELAY, 1)
+            client.sendall(method[:cut])
+            time.sleep(0.001)
+            try:
+                client.sendall(method[cut:] + REST)
+                came = client.recv(64)
+            except (BrokenPipeError, ConnectionResetError):
+                came = b""
+        self.done += 1
+        check(came == b"", "HTTP", method, cut, "slot", slot, "was answered", came)
+
+    def browser(self):
+        """A page that fetches, opens WebSockets and posts a form at each port does nothing to the plant."""
+        chromium = shutil.which("chromium")
+        if chromium is None:
+            print("surroundings.py: no chromium, so no browser was tried (Debian: chromium)")
+            return
+        page = os.path.join(self.folder, "page.html")
+        with Served(self.program, self.device) as server:
+            with open(page, "w", encoding="utf-8") as file:
+                file.write(PAGE.format(port=server.port))
+            words = ["--headless=new", "--no-sandbox", "--disable-gpu", "--disable-web-security", f"--user-data-dir={self.folder}/chromium",
+                     "--virtual-time-budget=8000", "--dump-dom", "file://" + page]
+            subprocess.run([chromium, *words], capture_output=True, timeout=90, check=False)
+            for slot in (0, 16, CLOCK):
+                check(server.ask(slot, b"1 STATE 0\n") == b"1 STATE 0 NORM 0 - -\n", "a page commanded slot", slot)
+        self.done += 1
+
+    def urgent(self, rounds):
+        """A line behind a byte of urgent data is answered, without another byte that comes."""
+        with Served(self.program, self.device) as server:
+            for _ in range(rounds):
+                with server.connect(0) as client:
+                    self.urgent_once(server, client)
+                self.done += 1
+
+    def urgent_once(self, server, client):
+        client.settimeout(3)
+        server.process.send_signal(19)  # SIGSTOP: all of it has come by the first read
+        client.sendall(b"1 STATE 0\n")
+        client.send(b"!", socket.MSG_OOB)
+        client.sendall(b"2 STATE 0\n")
+        server.process.send_signal(18)
+        came = b""
+        try:
+            while came.count(b"\n") < 2:
+                came += client.recv(64)
+        except TimeoutError:
+            pass
+        check(came == b"1 STATE 0 NORM 0 - -\n2 STATE 0 NORM 0 - -\n", "urgent data", came)
+
+    def descriptors(self, step):
+        """With each limit either nothing is served, or all slots are."""
+        served = 0
+        for most in range(4, 100, step):
+            with Served(self.program, self.device, {resource.RLIMIT_NOFILE: most}) as server:
+                if server.serves:
+                    served += 1
+                    self.all_slots(server, most)
+                else:
+                    errors = server.process.communicate(timeout=20)[1]
+                    known = errors in (b"fault net\n", b"fault io\n", b"fault memory\n") or b"error while loading" in errors
+                    check(known and server.process.returncode != 0, "descriptors", most, errors)
+            self.done += 1
+        check(served > 0, "no limit of descriptors below 100 is enough")
+
+    def all_slots(self, server, most):
+        """All at once: each connection stays open until all are answered."""
+        clients = [server.connect(slot) for slot in range(SLOTS)]
+        for slot, client in enumerate(clients):
+            client.sendall(b"1 STATE 0\n")
+            try:
+                line = client.recv(64)
+            except TimeoutError:
+                line = b""
+            check(line == b"1 STATE 0 NORM 0 - -\n", "descriptors", most, "slot", slot, "isn't served", line)
+        for client in clients:
+            client.close()
+
+    def sizes(self):
+        """A file above the process's limit of size is refused by a line, and not by a signal; to be read it is opened."""
+        size = os.path.getsize(self.device)
+        for most in (1, 4_096, size - 1):
+            limit = limited({resource.RLIMIT_FSIZE: most})
+            self.refused(["desk", self.device], b"fault io\n", preexec_fn=limit, input=b"")
+            self.refused(["serve", self.device, "--port", str(free_ports())], b"fault io\n", preexec_fn=limit)
+            self.refused(["format", os.path.join(self.folder, "limited"), PLANT], b"fault io\n", preexec_fn=limit)
+        shown = subprocess.run([self.program, "show", self.device], capture_output=True, timeout=60, preexec_fn=limited({resource.RLIMIT_FSIZE: 1}))
+        check(shown.returncode == 0 and shown.stderr == b"", "show", shown.stderr)
+
+    def modes(self):
+        """A new device is its owner's alone, whatever the umask; an old one keeps its mode."""
+        for mask in (0o000, 0o022, 0o077):
+            made = os.path.join(self.folder, f"mode{mask:o}")
+            run = subprocess.run([self.program, "format", made, PLANT], capture_output=True, timeout=60, umask=mask)
+            check(run.returncode == 0, "format", run.stderr)
+            check(stat.S_IMODE(os.stat(made).st_mode) == 0o600, "mode", oct(os.stat(made).st_mode), "umask", oct(mask))
+            os.chmod(made, 0o640)
+            self.format(made, PLANT)
+            check(stat.S_IMODE(os.stat(made).st_mode) == 0o640, "mode of an old device")
+            self.done += 1
+
+    def room(self):
+        """A new device has room on the disk for all its bytes that are used, and none is a hole."""
+        made = os.path.join(self.folder, "room")
+        self.format(made, REFINERY)
+        found = os.stat(made)
+        # The refinery's halves end a few bytes before the file does.
+        check(found.st_blocks * 512 >= found.st_size - 4_096, "room", found.st_blocks * 512, "of", found.st_size)
+        self.done += 1
+
+    def format_beside_a_server(self):
+        """`format` is refused beside a server, a desk and a reader, and the device stands as it was."""
+        with open(self.device, "rb") as file:
+            before = file.read()
+        with Served(self.program, self.device):
+            self.refused(["format", self.device, PLANT], b"fault io\n")
+        with open(self.device, "rb") as file:
+            check(file.read() == before, "format beside a server", "the device")
+
+    def readers(self):
+        """A server starts while what `show` and `export` print waits for its reader."""
+        device = os.path.join(self.folder, "refinery")
+        self.format(device, self.large_table())
+        for word in ("show", "export"):
+            with subprocess.Popen([self.program, word, device], stdout=subprocess.PIPE) as reader:
+                reader.stdout.read(1)
+                with Served(self.program, device) as server:
+                    check(server.serves, "a server beside", word, "that waits for its reader")
+                reader.stdout.read()
+            self.done += 1
+
+    def large_table(self):
+        """A table of 4,000 alarms, so that what is shown of it doesn't fit into a pipe."""
+        path = os.path.join(self.folder, "large.toml")
+        rows = "".join(f'[[alarm]]\nkind = "high"\nsetpoint = 1\npriority = 1\narea = 0\ntag = "T-{number}"\n' for number in range(4_000))
+        with open(path, "w", encoding="ascii") as file:
+            file.write("size = 8000000\nareas = 1\n" + rows)
+        return path
+
+    def other_addresses(self):
+        """The ports are at 127.0.0.1 and at no other address of the machine."""
+        with Served(self.program, self.device) as server:
+            for address in ["127.0.0.2", *own_addresses()]:
+                for slot in range(SLOTS):
+                    with socket.socket() as client:
+                        client.settimeout(2)
+                        check(client.connect_ex((address, server.port + slot)) != 0, "port", slot, "at", address)
+                self.done += 1
+
+    def full_disk(self):
+        """`format` on a disk without room: the fault alone, the file at its new size, and whatever old bytes fit stay."""
+        place = os.path.join(self.folder, "small")
+        os.mkdir(place)
+        script = 'mount -t tmpfs -o size=2m none "$1" && exec python3 "$2" --on-a-full-disk "$3" "$1"'
+        run = subprocess.run(["unshare", "-m", "sh", "-c", script, "", place, os.path.abspath(__file__), self.program], capture_output=True, timeout=120)
+        if b"unshare" in run.stderr or b"mount" in run.stderr:
+            print("surroundings.py: no file system could be mounted, so no full disk was tried")
+            return
+        check(run.returncode == 0, "full disk", run.stderr.decode())
+        self.done += 3
+
+
+def own_addresses():
+    """The machine's addresses but those of loopback, without a word where they can't be had."""
+    found = subprocess.run(["hostname", "-I"], capture_output=True, check=False).stdout.decode().split()
+    return [address for address in found if ":" not in address]
+
+
+def on_a_full_disk(program, folder):
+    """In a file system of 2 MB: the refinery's table wants 16."""
+    device = os.path.join(folder, "device")
+    refused = ["format", device, REFINERY]
+    size = 16_777_216
+    run = run_words(program, refused)
+    check((run.returncode, run.stdout, run.stderr) == (3, b"", b"fault io\n"), "format without room", run)
+    check(os.path.getsize(device) == size, "its size", os.path.getsize(device))
+    check(run_words(program, ["show", device]).stderr == b"fault unformatted\n", "it is no device")
+    os.remove(device)
+    check(run_words(program, ["format", device, PLANT]).returncode == 0, "format")
+    check(run_words(program, ["desk", device], lines=b"17 1 CLOCK 1000\n").stdout == b"17 1 OK 1\n", "desk")
+    shown = run_words(program, ["show", device]).stdout
+    check(run_words(program, refused).stderr == b"fault io\n", "format over an old device")
+    check(os.path.getsize(device) == size and run_words(program, ["show", device]).stdout == shown, "a shorter old device opens as it was")
+
+
+def main(argv):
+    if argv[1:2] == ["--on-a-full-disk"]:
+        on_a_full_disk(*argv[2:])
+        return
+    program, step, folder = begin("surroundings.py", argv, 1, 3)
+    began = time.monotonic()
+    around = Surroundings(program, folder)
+    around.requests_of_http(step)
+    around.urgent(60 // step)
+    around.descriptors(step)
+    around.sizes()
+    around.modes()
+    around.room()
+    around.format_beside_a_server()
+    around.readers()
+    around.other_addresses()
+    around.full_disk()
+    around.browser()
+    finish("surroundings.py", folder, f"{around.done} trials around the process, none wrong, {time.monotonic() - began:.0f} s")
+
+
+if __name__ == "__main__":
+    try:
+        main(sys.argv)
+    except Wrong as wrong:
+        sys.exit(f"surroundings.py: {wrong}")
