@@ -8,22 +8,21 @@ use crate::disk_cache::{forget, has_no_sync, sync_with_name, take_room};
 use crate::file_fault::FileFault;
 use crate::file_lock::FileLock;
 use crate::limit::refuse_beyond_limit;
-use crate::place::Place;
+use crate::place::replaced;
 use crate::streams::{is_apart, refuse_streams};
 use alm_disk::{Disk, DiskFault};
 use std::fs::{self, File, Files, OpenOptions};
 use std::io::{self, ErrorKind};
-use std::os::unix::fs::{FileExt, OpenOptionsExt};
+use std::os::unix::fs::{FileExt, MetadataExt, OpenOptionsExt};
 
 /// The mode of a new device: its owner alone reads and writes it.
 const MODE: u32 = 0o600;
 
-/// A regular file, where it stands, whether it is read alone, its size in bytes when it was opened, and how often a call of it failed. Its
-/// descriptor is none of a standard stream's.
+/// A regular file, whether it is read alone, its size in bytes when it was opened, and how often a call of it failed. Its descriptor is
+/// none of a standard stream's.
 #[derive(Drop)]
-pub struct FileDisk<'r, R: Files<File = File>> {
-    file: File,
-    place: Place<'r, R>,
+pub struct FileDisk {
+    pub(crate) file: File,
     is_read_only: bool,
     size: u64,
     failures: u64,
@@ -66,22 +65,23 @@ fn open_apart<R: Files<File = File>>(
     Ok(file)
 }
 
-impl<'r, R: Files<File = File> + AllocGlobal> FileDisk<'r, R> {
+impl FileDisk {
     /// The file at a path, as long as it is, once its bytes and its name are on the disk. It is refused where there is none, where
     /// another process has it open, and where the process may not write to its end.
-    pub fn open(rt: &'r R, path: &'r str) -> Result<Self, FileFault>
-        ensures count { IfOk result (λ d. ⟦<FileDisk<'r, R> as Disk>⟧.failures d ≡ 0) }
+    pub fn open<R: Files<File = File> + AllocGlobal>(
+        rt: &R,
+        path: &str,
+    ) -> Result<FileDisk, FileFault>
+        ensures count { IfOk result (λ d. ⟦<FileDisk as Disk>⟧.failures d ≡ 0) }
     {
         let file = open_apart(rt, OpenOptions::new().read(true).write(true), path)?;
         file.try_lock().map_err(io::Error::from)?;
-        let place = Place::of(rt, path, &file)?;
-        let size = place.size;
+        let size = file.metadata()?.len();
         refuse_beyond_limit(size)?;
         forget(&file);
         sync_with_name(rt, &file, path)?;
         Ok(FileDisk {
             file,
-            place,
             is_read_only: false,
             size,
             failures: 0,
@@ -90,17 +90,15 @@ impl<'r, R: Files<File = File> + AllocGlobal> FileDisk<'r, R> {
 
     /// The same file to be read alone: each write to it fails. It is refused where there is none, or another process has it open to
     /// write. Several may read it at once.
-    pub fn open_to_read(rt: &'r R, path: &'r str) -> Result<Self, FileFault>
-        ensures count { IfOk result (λ d. ⟦<FileDisk<'r, R> as Disk>⟧.failures d ≡ 0) }
+    pub fn open_to_read<R: Files<File = File>>(rt: &R, path: &str) -> Result<FileDisk, FileFault>
+        ensures count { IfOk result (λ d. ⟦<FileDisk as Disk>⟧.failures d ≡ 0) }
     {
         let file = open_apart(rt, OpenOptions::new().read(true), path)?;
         file.try_lock_shared().map_err(io::Error::from)?;
-        let place = Place::of(rt, path, &file)?;
-        let size = place.size;
+        let size = file.metadata()?.len();
         forget(&file);
         Ok(FileDisk {
             file,
-            place,
             is_read_only: true,
             size,
             failures: 0,
@@ -109,9 +107,14 @@ impl<'r, R: Files<File = File> + AllocGlobal> FileDisk<'r, R> {
 
     /// The file at a path, made where there is none, for its owner alone, and cut or lengthened with zeros to a size, with room on the
     /// disk for the bytes that are used. Where there is no such room it is refused, and has its new size.
-    pub fn make(rt: &'r R, path: &'r str, size: u64, used: u64) -> Result<Self, FileFault>
-        ensures size { IfOk result (λ d. ⟦<FileDisk<'r, R> as Disk>⟧.size d ≡ size) }
-        ensures count { IfOk result (λ d. ⟦<FileDisk<'r, R> as Disk>⟧.failures d ≡ 0) }
+    pub fn make<R: Files<File = File> + AllocGlobal>(
+        rt: &R,
+        path: &str,
+        size: u64,
+        used: u64,
+    ) -> Result<FileDisk, FileFault>
+        ensures size { IfOk result (λ d. ⟦<FileDisk as Disk>⟧.size d ≡ size) }
+        ensures count { IfOk result (λ d. ⟦<FileDisk as Disk>⟧.failures d ≡ 0) }
     {
         let file = open_apart(
             rt,
@@ -128,28 +131,35 @@ impl<'r, R: Files<File = File> + AllocGlobal> FileDisk<'r, R> {
         take_room(&file, used.min(size))?;
         sync_with_name(rt, &file, path)?;
         Ok(FileDisk {
-            place: Place::of(rt, path, &file)?,
             file,
             is_read_only: false,
             size,
             failures: 0,
         })
     }
-}
 
-impl<'r, R: Files<File = File>> FileDisk<'r, R> {
     /// The lock on the file, to be released before the device ends.
     pub fn lock(&self) -> io::Result<FileLock> {
         let file = self.file.try_clone()?;
         Ok(FileLock { file })
     }
 
-    /// Waits until the file's bytes are on the disk, and looks whether the file still stands at its place. Where that fails nothing is read
-    /// from then on but what the disk has.
-    fn sync_in_place(&self) -> io::Result<()> {
+    /// Fails where no path names the file any more, or its size is another than it was.
+    fn look(&self) -> io::Result<()> {
+        let found = self.file.metadata()?;
+        if found.nlink() > 0 && found.len() == self.size {
+            Ok(())
+        } else {
+            Err(replaced())
+        }
+    }
+
+    /// Waits until the file's bytes are on the disk, and looks at the file. Where that fails nothing is read from then on but what the disk
+    /// has.
+    fn sync_and_look(&self) -> io::Result<()> {
         match self.file.sync_data() {
-            Ok(()) => self.place.look(),
-            Err(error) if self.is_read_only && has_no_sync(&error) => self.place.look(),
+            Ok(()) => self.look(),
+            Err(error) if self.is_read_only && has_no_sync(&error) => self.look(),
             Err(error) => {
                 forget(&self.file);
                 Err(error)
@@ -158,7 +168,7 @@ impl<'r, R: Files<File = File>> FileDisk<'r, R> {
     }
 
     /// Counts a failure.
-    fn count(&mut self, answer: io::Result<()>) -> Result<(), DiskFault>
+    pub(crate) fn count(&mut self, answer: io::Result<()>) -> Result<(), DiskFault>
         ensures size { self.new.size ≡ self.old.size }
         ensures count { CountsFault result self.old.failures self.new.failures }
     {
@@ -172,7 +182,7 @@ impl<'r, R: Files<File = File>> FileDisk<'r, R> {
     }
 }
 
-impl<'r, R: Files<File = File>> Disk for FileDisk<'r, R> {
+impl Disk for FileDisk {
     ghost use Rattle.std.specs.Prelude.{[], false, ⊤};
 
     // No proof says what a file does.
@@ -205,7 +215,7 @@ impl<'r, R: Files<File = File>> Disk for FileDisk<'r, R> {
     }
 
     fn sync(&mut self) -> Result<(), DiskFault> {
-        let answer = self.sync_in_place();
+        let answer = self.sync_and_look();
         self.count(answer)
     }
 }

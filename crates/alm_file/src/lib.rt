@@ -13,7 +13,8 @@
 //! | [`FileDisk::open_to_read`] | the same, to be read alone |
 //! | [`FileDisk::make`] | makes a file of a size where there is none, else cuts or lengthens it, and takes room for it on the disk |
 //! | `read_at`, `write_at` | read and write at a place (`pread`, `pwrite`), whole or not at all that is told of |
-//! | `sync` | waits until the file's bytes are on the disk (`fdatasync`), and fails where its path names another file or none |
+//! | `sync` | waits until the file's bytes are on the disk (`fdatasync`), and fails where no path names the file by then, or its size is another |
+//! | [`PlacedDisk::open`] | the same file, whose `sync` fails also where its own path names another file |
 //! | [`FileLock::release`] | lets other processes have the file |
 //!
 //! Whoever has a device's file open holds a lock on it, so that no other process of this program has it too; those that only read it
@@ -37,9 +38,11 @@ mod file_fault;
 mod file_lock;
 mod limit;
 mod place;
+mod placed_disk;
 mod streams;
 
 pub use file_disk::FileDisk;
 pub use file_fault::FileFault;
 pub use file_lock::FileLock;
+pub use placed_disk::PlacedDisk;
 pub use streams::fill_streams;

@@ -1,18 +1,21 @@
 //! The place of an open file: its path, and which file that named.
 
-use std::fs::{self, File, Files, Metadata};
+use std::fs::{self, File, Files};
 use std::io::{self, ErrorKind};
 use std::os::unix::fs::MetadataExt;
 
-/// The path that a file was opened by, and what tells that file from all others: its file system, its number there, and its size in
-/// bytes.
+/// The error of a file that is no longer at its place, or has another size.
+pub fn replaced() -> io::Error {
+    io::Error::new(ErrorKind::NotFound, "another file")
+}
+
+/// The path that a file was opened by, and what tells that file from all others: its file system, and its number there.
 #[derive(Drop)]
 pub struct Place<'r, R: Files<File = File>> {
     rt: &'r R,
     path: &'r str,
     device: u64,
     inode: u64,
-    pub size: u64,
 }
 
 impl<'r, R: Files<File = File>> Place<'r, R> {
@@ -24,21 +27,16 @@ impl<'r, R: Files<File = File>> Place<'r, R> {
             path,
             device: found.dev(),
             inode: found.ino(),
-            size: found.len(),
         })
     }
 
-    /// Whether this is what was found of the file when it was opened.
-    fn is_of(&self, found: &Metadata) -> bool {
-        found.dev() == self.device && found.ino() == self.inode && found.len() == self.size
-    }
-
-    /// Fails unless the path still names that file, at the size that it had.
+    /// Fails unless the path still names that file.
     pub fn look(&self) -> io::Result<()> {
-        if self.is_of(&fs::metadata(self.rt, self.path)?) {
+        let found = fs::metadata(self.rt, self.path)?;
+        if found.dev() == self.device && found.ino() == self.inode {
             Ok(())
         } else {
-            Err(io::Error::new(ErrorKind::NotFound, "another file"))
+            Err(replaced())
         }
     }
 }

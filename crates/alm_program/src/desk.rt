@@ -59,10 +59,7 @@ pub fn run_desk<R: Input + Print + AllocGlobal>(rt: &R) -> Result<(), Fault> {
 }
 
 /// Opens the stack over a file.
-fn open_stack<'r, R: Files<File = File>>(
-    alloc: Global,
-    disk: FileDisk<'r, R>,
-) -> Result<FileStack<'r, R>, Fault> {
+fn open_stack(alloc: Global, disk: FileDisk) -> Result<FileStack, Fault> {
     match Stack::open(alloc, disk) {
         Ok(stack) => Ok(FileStack { stack }),
         Err((fault, _)) => Err(Fault::from(fault)),

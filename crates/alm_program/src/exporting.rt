@@ -8,6 +8,7 @@ use crate::showing::read_file;
 use alm_desk::CountedWriter;
 use alm_disk::Disk;
 use alm_export::export_plant;
+use alm_file::FileDisk;
 use alm_keeper::Keeper;
 use std::alloc::Global;
 use std::fs::{File, Files};
@@ -32,9 +33,9 @@ fn print_table<D: Disk + Drop, W: Write + Drop>(
 }
 
 /// The same on standard output.
-fn print_store<R: Print + AllocGlobal, D: Disk + Drop>(
+fn print_store<R: Print + AllocGlobal>(
     rt: &R,
-    keeper: &Keeper<D>,
+    keeper: &Keeper<FileDisk>,
     size: u64,
 ) -> Result<(), Fault> {
     let alloc = rt.alloc();

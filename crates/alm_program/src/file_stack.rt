@@ -4,20 +4,19 @@ use alm_desk::{Backend, Judged, Stopped};
 use alm_file::FileDisk;
 use alm_stack::Stack;
 use alm_types::{Answer, Query, Refusal, Request};
-use std::fs::{File, Files};
 
 /// The stack over a device's file.
 #[derive(Drop)]
-pub struct FileStack<'r, R: Files<File = File>> {
-    pub stack: Stack<FileDisk<'r, R>>,
+pub struct FileStack {
+    pub stack: Stack<FileDisk>,
 }
 
-impl<'r, R: Files<File = File>> Backend for FileStack<'r, R> {
-    ghost stands = { λ s. ⟦<Stack<FileDisk<'r, R>> as Backend>⟧.stands s.stack };
+impl Backend for FileStack {
+    ghost stands = { λ s. ⟦<Stack<FileDisk> as Backend>⟧.stands s.stack };
 
-    ghost kept = { λ s. ⟦<Stack<FileDisk<'r, R>> as Backend>⟧.kept s.stack };
+    ghost kept = { λ s. ⟦<Stack<FileDisk> as Backend>⟧.kept s.stack };
 
-    ghost failures = { λ s. ⟦<Stack<FileDisk<'r, R>> as Backend>⟧.failures s.stack };
+    ghost failures = { λ s. ⟦<Stack<FileDisk> as Backend>⟧.failures s.stack };
 
     fn submit(&mut self, request: &Request) -> Result<Judged, Stopped> {
         self.stack.submit(request)

@@ -65,20 +65,17 @@ fn print_plant<D: Disk + Drop, W: Write + Drop>(
 }
 
 /// The same on standard output.
-fn print_store<R: Print + AllocGlobal, D: Disk + Drop>(
-    rt: &R,
-    keeper: &Keeper<D>,
-) -> Result<(), Fault> {
+fn print_store<R: Print + AllocGlobal>(rt: &R, keeper: &Keeper<FileDisk>) -> Result<(), Fault> {
     let alloc = rt.alloc();
     let writer = BufWriter::with_capacity(alloc, 65536, io::writer(rt)).map_err(io_fault)?;
     print_plant(alloc, keeper, &mut CountedWriter::new(writer))
 }
 
 /// Reads a device's file whose plant is to be printed, and lets other processes have it then. Its size, in bytes, comes with it.
-pub(crate) fn read_file<'r, R: Files<File = File> + AllocGlobal>(
-    rt: &'r R,
-    device: &'r str,
-) -> Result<(Keeper<FileDisk<'r, R>>, u64), Fault> {
+pub(crate) fn read_file<R: Files<File = File> + AllocGlobal>(
+    rt: &R,
+    device: &str,
+) -> Result<(Keeper<FileDisk>, u64), Fault> {
     let disk = FileDisk::open_to_read(rt, device).map_err(file_fault)?;
     let size = disk.size();
     let lock = disk.lock().map_err(io_fault)?;

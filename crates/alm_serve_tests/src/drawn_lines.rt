@@ -72,7 +72,7 @@ fn the_device_keeps_what_eighteen_clients_were_answered(rt: HostRuntime) -> Resu
     assert!(rt; clients.join(&rt)?);
     assert_eq!(rt; notes.wrong.load(Ordering::SeqCst), 0);
     let disk = FileDisk::open(&rt, PATH)?;
-    let (count, is_kept) = kept::<Keeper<FileDisk<'_, HostRuntime>>>(alloc, disk, &table, &notes).ok_or("opening")?;
+    let (count, is_kept) = kept::<Keeper<FileDisk>>(alloc, disk, &table, &notes).ok_or("opening")?;
     assert!(rt; served == Ok(count));
     assert!(rt; is_kept);
     fs::remove_file(&rt, PATH)?;

@@ -3,7 +3,7 @@
 ghost use Rattle.std.specs.Prelude.{◌≡◌, ◌≤◌};
 ghost use Rattle.alm_server.specs.Serving.{fault_of_serve};
 
-use alm_file::FileDisk;
+use alm_file::PlacedDisk;
 use alm_program::{Fault, file_fault};
 use alm_serve::{ServeFault, serve_run};
 use std::fs::{File, Files};
@@ -32,7 +32,7 @@ pub fn serve_file<
 >(rt: &R, device: &str, port: u16, conns: u32) -> Result<(), Fault>
     requires { port ≤ 65518 }
 {
-    let disk = match FileDisk::open(rt, device) {
+    let disk = match PlacedDisk::open(rt, device) {
         Ok(disk) => disk,
         Err(fault) => return Err(file_fault(fault)),
     };

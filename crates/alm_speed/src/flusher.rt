@@ -102,11 +102,7 @@ fn time_refusals(
 }
 
 /// Batches of accepted actions, over a file.
-fn time_commits<D: Disk + Drop>(
-    rt: &(impl Print + Eprint + Clock),
-    alloc: Global,
-    disk: D,
-) -> Result<()> {
+fn time_commits(rt: &(impl Print + Eprint + Clock), alloc: Global, disk: FileDisk) -> Result<()> {
     let many = Course::Accepted { each: 64, after: 0 };
     let one = Course::Accepted {
         each: 1,

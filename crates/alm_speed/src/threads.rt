@@ -6,7 +6,7 @@ ghost use Rattle.std.specs.Prelude.{◌≡◌, ◌<◌, ◌^◌, length};
 ghost use Rattle.alm_rings.specs.Placed.{AreApart};
 
 use crate::report::report;
-use alm_disk::{Disk, Free};
+use alm_disk::Free;
 use alm_file::FileDisk;
 use alm_keeper::{Keeper, format};
 use alm_threads::Storage;
@@ -46,10 +46,10 @@ fn table(alloc: Global) -> Result<Table> {
 }
 
 /// A run over a formatted file: how many actions are stored at its end.
-fn stored_after<D: Disk + Drop, R: Threads + Wait + Clock + Sync>(
+fn stored_after<R: Threads + Wait + Clock + Sync>(
     rt: &R,
     alloc: Global,
-    disk: D,
+    disk: FileDisk,
     slots: Vec<Slot>,
     sources: Vec<Player>,
 ) -> Option<u64>
@@ -57,16 +57,16 @@ fn stored_after<D: Disk + Drop, R: Threads + Wait + Clock + Sync>(
     requires apart { AreApart (λ s. s) slots.items }
     requires sources { length sources.items ≡ length slots.items }
 {
-    let left = run_on::<Keeper<D>, _, _>(rt, alloc, disk, slots, &Free, sources)?;
+    let left = run_on::<Keeper<FileDisk>, _, _>(rt, alloc, disk, slots, &Free, sources)?;
     let Left { storage, count, .. } = left;
     (storage == Storage::Whole).then_some(count)
 }
 
 /// 18 slots ask each so many times, with so many requests out: how many actions are stored.
-fn ask<D: Disk + Drop, R: Threads + Wait + Clock + Sync>(
+fn ask<R: Threads + Wait + Clock + Sync>(
     rt: &R,
     alloc: Global,
-    disk: D,
+    disk: FileDisk,
     out: u64,
     each: u64,
 ) -> Option<u64> {
@@ -77,10 +77,10 @@ fn ask<D: Disk + Drop, R: Threads + Wait + Clock + Sync>(
 }
 
 /// So many consoles look each so many hundred times beside the feed: how many looks were shown.
-fn look<D: Disk + Drop, R: Threads + Wait + Clock + Sync>(
+fn look<R: Threads + Wait + Clock + Sync>(
     rt: &R,
     alloc: Global,
-    disk: D,
+    disk: FileDisk,
     readers: u8,
     hundreds: u64,
 ) -> Option<u64> {
