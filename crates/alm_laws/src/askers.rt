@@ -1,0 +1,32 @@
+//! Laws of who asks for what.
+
+ghost use Rattle.std.specs.Prelude.{ℕ, ◌≡◌, Ok};
+ghost use Rattle.alm_types.specs.Slots.{role_of};
+ghost use Rattle.alm_types.specs.declared.request.Request.{Request};
+ghost use Rattle.alm_state.specs.Rows.{State};
+ghost use Rattle.alm_model.specs.Plant.{Panel, Condensed};
+ghost use Rattle.alm_model.specs.Accept.{accept};
+ghost use Rattle.alm_laws.specs.Plant.{Becomes, asker_of, ShelvedOnlyByAConsole, ServiceOnlyByAConsole, DesignOnlyByTheFeed, ConditionOnlyByTheFeed, TimeOnlyByTheClock, AttributesOnlyByAConsole};
+
+/// Whatever is accepted comes from whoever may ask for it.
+pub fn each_action_has_its_asker()
+    ensures { (p : Panel) (r : Request) → accept p r ≡ Ok r.want → role_of r.slot ≡ asker_of r.want }
+{}
+
+/// Only a console shelves and sets out of service or back, and gives other priorities and setpoints.
+pub fn only_consoles_operate()
+    ensures shelves { (q : Condensed) (r : Request) (i : ℕ) (s t : State) → Becomes q r i s t → ShelvedOnlyByAConsole r i s t }
+    ensures service { (q : Condensed) (r : Request) (i : ℕ) (s t : State) → Becomes q r i s t → ServiceOnlyByAConsole r i s t }
+    ensures attributes { (q : Condensed) (r : Request) → accept q.panel r ≡ Ok r.want → (i : ℕ) → AttributesOnlyByAConsole q r i }
+{}
+
+/// Only the feed moves a condition and suppresses by design.
+pub fn only_the_feed_moves_conditions()
+    ensures condition { (q : Condensed) (r : Request) (i : ℕ) (s t : State) → Becomes q r i s t → ConditionOnlyByTheFeed r i s t }
+    ensures design { (q : Condensed) (r : Request) (i : ℕ) (s t : State) → Becomes q r i s t → DesignOnlyByTheFeed r i s t }
+{}
+
+/// Only the clock slot moves the time.
+pub fn only_the_clock_moves_time()
+    ensures { (q : Condensed) (r : Request) → accept q.panel r ≡ Ok r.want → TimeOnlyByTheClock q r }
+{}

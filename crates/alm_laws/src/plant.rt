@@ -1,0 +1,41 @@
+//! Laws of the alarms of a plant.
+
+ghost use Rattle.std.specs.Prelude.{ℕ, ◌≡◌, true, Some, slice_get, Contains};
+ghost use Rattle.alm_state.specs.Rows.{is_suppressed};
+ghost use Rattle.alm_state.specs.declared.core_state.Core.TheVariants.{Normal};
+ghost use Rattle.alm_model.specs.Lists.{list_of};
+ghost use Rattle.alm_model.specs.Rules.{KeepsRules};
+ghost use Rattle.alm_model.specs.declared.list.List.TheVariants.{Priority};
+ghost use Rattle.alm_types.specs.declared.request.Request.{Request};
+ghost use Rattle.alm_state.specs.Rows.{State};
+ghost use Rattle.alm_model.specs.Plant.{Condensed};
+ghost use Rattle.alm_laws.specs.Plant.{Becomes, LeavesUnacknowledgedOnlyByAckOrFlag, LeavesLatchOnlyByResetOrFlag, ShelvingEndsOnlyByUnshelveOrClock, ClockEndsTheShelving, FreedIsAnnunciatedAnew, AnnunciatedOnlyThen, OthersStay};
+
+/// Nobody acknowledges for the operator.
+pub fn nobody_acknowledges_for_the_operator()
+    ensures { (q : Condensed) (r : Request) (i : ℕ) (s t : State) → Becomes q r i s t → LeavesUnacknowledgedOnlyByAckOrFlag r i s t }
+{}
+
+/// What is latched stays until it is reset.
+pub fn latched_stays_until_reset()
+    ensures { (q : Condensed) (r : Request) (i : ℕ) (s t : State) → Becomes q r i s t → LeavesLatchOnlyByResetOrFlag r i s t }
+{}
+
+/// A shelving ends by a console's UNSHELVE or by the clock, which ends each whose deadline has come.
+pub fn shelvings_end_by_unshelve_or_clock()
+    ensures only { (q : Condensed) (r : Request) (i : ℕ) (s t : State) → Becomes q r i s t → ShelvingEndsOnlyByUnshelveOrClock r i s t }
+    ensures due { (q : Condensed) (r : Request) (i : ℕ) (s t : State) → Becomes q r i s t → ClockEndsTheShelving r s t }
+{}
+
+/// Whoever's last flag falls while it is active is annunciated anew, and nobody else is but where a condition comes.
+pub fn freed_is_annunciated_anew()
+    ensures freed { (q : Condensed) (r : Request) (i : ℕ) (s t : State) → Becomes q r i s t → FreedIsAnnunciatedAnew q s t }
+    ensures only { (q : Condensed) (r : Request) (i : ℕ) (s t : State) → Becomes q r i s t → AnnunciatedOnlyThen s t }
+    ensures others { (q : Condensed) (r : Request) (i : ℕ) (s t : State) → Becomes q r i s t → OthersStay r i s t }
+{}
+
+/// A suppressed alarm is Normal, and stands in no list by priority.
+pub fn suppressed_asks_for_nobody()
+    ensures { (q : Condensed) (i priority : ℕ) (s : State) → KeepsRules q → slice_get q.panel.rows i ≡ Some s → is_suppressed s ≡ true →
+        (s.core ≡ Normal) × (Contains (list_of (Priority priority) q) i → ⊥) }
+{}
