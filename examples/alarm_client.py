@@ -7,6 +7,14 @@
 A `Client` asks at one slot. Each method waits for its reply; `ask_all` keeps up to 64 requests under way and gives their replies
 in order. An answer NO is a `Refused`, an end of the connection is a `Lost`: of an action that had no reply nothing is known, so ask the
 state when the server is back.
+
+Requests go by an alarm's number, people by its tag. A `Plant` is a server with its table file, and reads that file at each new connection:
+
+    plant = Plant(5000, 0, "plant.toml")
+    with plant.connect() as console:
+        console.acknowledge(plant.table.numbers()["TI-101"])
+
+Where the plant isn't the table's, or isn't the one that was seen before, that is an `OtherPlant`: end then, since a name may be wrong.
 """
 import collections
 import enum
@@ -16,7 +24,10 @@ import subprocess
 from dataclasses import dataclass
 from typing import Iterable, Iterator, Optional
 
+from table_file import Table, TableFile
+
 HOST = "127.0.0.1"
+CONSOLES = range(16)
 FEED, CLOCK = 16, 17
 PRIORITIES = range(1, 5)
 WHEEL_SLOTS = range(256)
@@ -27,7 +38,7 @@ PATIENCE = 5.0
 
 
 class Refusal(enum.IntEnum):
-    """The numbers behind NO."""
+    """The numbers after NO."""
 
     NO_SUCH_ALARM = 1
     NOT_UNACKNOWLEDGED = 2
@@ -60,6 +71,10 @@ class Refused(Exception):
 
 class Lost(Exception):
     """The connection ended, or no reply came in time: whether the last requests were done isn't known."""
+
+
+class OtherPlant(Exception):
+    """The plant isn't the one that the client knows: it has another size than the table, or fewer actions than were seen before."""
 
 
 @dataclass(frozen=True)
@@ -95,13 +110,13 @@ class Flood:
 
 
 def read_state(words: list[str]) -> State:
-    """The state in the words behind STATE."""
+    """The state in the words after STATE."""
     count, shown, condition, flags, deadline = words
     return State(int(count), shown, condition == "1", flags.strip("-"), None if deadline == "-" else int(deadline))
 
 
 def read_listing(words: list[str]) -> Listing:
-    """The list in the words behind LIST, STALE or CHATTER."""
+    """The list in the words after LIST, STALE or CHATTER."""
     count, length, *alarms = words
     if len(alarms) != int(length):
         raise Lost(f"a list of {length} alarms has {len(alarms)}")
@@ -109,21 +124,25 @@ def read_listing(words: list[str]) -> Listing:
 
 
 def read_flood(words: list[str]) -> Flood:
-    """The window in the words behind FLOOD."""
+    """The window in the words after FLOOD."""
     count, window, flooded = words
     return Flood(int(count), int(window), flooded == "1")
 
 
 class Client:
-    """The requests of one slot. How lines go out and come back is a subclass's `send`, `receive` and `close`."""
+    """The requests of one slot. How lines go out and come back is a subclass's `send`, `receive` and `close`.
 
-    def __init__(self) -> None:
+    `seen` is the greatest count of actions that a reply had. A reply with a lower one comes of another device.
+    """
+
+    def __init__(self, seen: int = 0) -> None:
         self.ids = itertools.count(1)
+        self.seen = seen
 
     @staticmethod
-    def connect(port: int, slot: int, patience: float = PATIENCE) -> "ServerClient":
-        """A connection to a server whose slot 0 is at this port."""
-        return ServerClient(port, slot, patience)
+    def connect(port: int, slot: int, patience: float = PATIENCE, seen: int = 0) -> "ServerClient":
+        """A connection to a server whose slot 0 is at this port. With `seen`, the count that an earlier one ended with, another device is noticed."""
+        return ServerClient(port, slot, patience, seen)
 
     def send(self, text: str) -> None:
         raise NotImplementedError
@@ -146,17 +165,24 @@ class Client:
         return number, f"{number} {request}\n"
 
     def reply_to(self, number: str, request: str) -> list[str]:
-        """The words of the next reply behind its id."""
+        """The words of the next reply after its id."""
         line = self.receive()
         words = line.split()
         if not line.endswith("\n") or words[:1] != [number]:
             raise Lost(f"no reply to {request}")
         if words[1] == "NO":
             raise Refused(request, Refusal(int(words[2])))
+        self.note(int(words[2]))
         return words[1:]
 
+    def note(self, count: int) -> None:
+        """Takes note of a reply's count of actions, which never falls."""
+        if count < self.seen:
+            raise OtherPlant(f"the server has another device than before: its count of actions is {count}, and it was {self.seen}")
+        self.seen = count
+
     def ask(self, request: str) -> list[str]:
-        """Asks; the words of the reply behind its id."""
+        """Asks; the words of the reply after its id."""
         number, line = self.next_line(request)
         self.send(line)
         return self.reply_to(number, request)
@@ -198,6 +224,22 @@ class Client:
     def unshelve(self, alarm: int) -> int:
         return self.act(f"UNSHELVE {alarm}")
 
+    def oos(self, alarm: int, on: bool) -> int:
+        """Puts an alarm out of service, or back."""
+        return self.act(f"OOS {alarm} {switch(on)}")
+
+    def design(self, alarm: int, on: bool) -> int:
+        """Suppresses an alarm by design, or no longer."""
+        return self.act(f"DESIGN {alarm} {switch(on)}")
+
+    def priority(self, alarm: int, priority: int) -> int:
+        """Gives an alarm another priority."""
+        return self.act(f"PRIO {alarm} {priority}")
+
+    def setpoint(self, alarm: int, value: int) -> int:
+        """Gives an alarm another setpoint."""
+        return self.act(f"SETP {alarm} {value}")
+
     def value(self, alarm: int, value: int) -> int:
         return self.act(f"VAL {alarm} {value}")
 
@@ -220,7 +262,12 @@ class Client:
         return self.listing(f"LIST P {priority}")
 
     def area_list(self, area: int) -> Listing:
+        """The annunciated alarms of an area, the oldest annunciation first."""
         return self.listing(f"LIST A {area}")
+
+    def wheel_list(self, slot: int) -> Listing:
+        """The shelved alarms whose deadline is this slot modulo 256, in the order of their shelving."""
+        return self.listing(f"LIST S {slot}")
 
     def shelved(self) -> list[int]:
         """All shelved alarms."""
@@ -228,9 +275,11 @@ class Client:
         return [alarm for reply in replies for alarm in read_listing(granted(reply)[1:]).alarms]
 
     def stale(self) -> Listing:
+        """The alarms that have been annunciated for a day or more."""
         return self.listing("STALE")
 
     def chattering(self) -> Listing:
+        """The alarms with three annunciations or more in the last 60 seconds."""
         return self.listing("CHATTER")
 
     def flood(self, area: int) -> Flood:
@@ -240,6 +289,29 @@ class Client:
         """The floods of all areas, by number."""
         replies = self.ask_all(f"FLOOD {area}" for area in range(64))
         return [read_flood(reply[1:]) for reply in replies if not isinstance(reply, Refused)]
+
+    def action_count(self) -> int:
+        """How many actions made the plant that the server shows."""
+        return self.flood(0).count
+
+    def check_size(self, alarms: int, areas: int) -> None:
+        """Raises `OtherPlant` where the plant has another number of alarms or areas."""
+        for word, things, number in (("STATE", "alarms", alarms), ("FLOOD", "areas", areas)):
+            last, next_one = (missing(reply) for reply in self.ask_all([f"{word} {number - 1}", f"{word} {number}"]))
+            if last or not next_one:
+                raise OtherPlant(f"the plant has {'fewer' if last else 'more'} {things} than the table's {number}")
+
+
+def switch(on: bool) -> str:
+    return "ON" if on else "OFF"
+
+
+def missing(reply: list[str] | Refused) -> bool:
+    """Whether a query was refused since there is no such alarm or area; raises any other refusal."""
+    if isinstance(reply, Refused) and reply.refusal in (Refusal.NO_SUCH_ALARM, Refusal.NO_SUCH_LIST):
+        return True
+    granted(reply)
+    return False
 
 
 def granted(reply: list[str] | Refused) -> list[str]:
@@ -252,8 +324,8 @@ def granted(reply: list[str] | Refused) -> list[str]:
 class ServerClient(Client):
     """A connection to a slot of `alm_server serve`."""
 
-    def __init__(self, port: int, slot: int, patience: float = PATIENCE):
-        super().__init__()
+    def __init__(self, port: int, slot: int, patience: float = PATIENCE, seen: int = 0):
+        super().__init__(seen)
         self.slot = slot
         try:
             self.socket = socket.create_connection((HOST, port + slot), timeout=patience)
@@ -279,6 +351,56 @@ class ServerClient(Client):
     def close(self) -> None:
         self.stream.close()
         self.socket.close()
+
+
+class Plant:
+    """A served plant, by one slot and maybe a table file.
+
+    A connection begins with the table as the file has it then, so that no name is older than the connection. It asks whether the plant
+    has the table's number of alarms and areas, and no fewer actions than were seen before. Without a file it asks for the actions alone.
+    """
+
+    def __init__(self, port: int, slot: int, path: Optional[str] = None, patience: float = PATIENCE):
+        self.port, self.slot, self.patience = port, slot, patience
+        self.file = None if path is None else TableFile(path)
+        self.client: Optional[ServerClient] = None
+
+    @property
+    def table(self) -> Table:
+        """The table that the last connection began with, at first the file's."""
+        return self.file.table
+
+    def connect(self) -> ServerClient:
+        """A new connection. `Lost` says that there is none, `OtherPlant` and `NoTable` that the client had better end."""
+        seen = self.client.seen if self.client else 0
+        client = Client.connect(self.port, self.slot, self.patience, seen)
+        try:
+            client.action_count()
+            if self.file is not None:
+                self.read_table(client)
+        except Exception:
+            client.close()
+            raise
+        self.client = client
+        return client
+
+    def read_table(self, client: Client) -> None:
+        """Reads the table again, and holds the plant's size against it."""
+        table = self.file.read()
+        try:
+            client.check_size(len(table.alarms), table.areas)
+        except OtherPlant as other:
+            raise OtherPlant(f"{self.file.path}: {other}") from None
+
+    def lose(self) -> None:
+        """Closes the connection."""
+        if self.client is not None:
+            self.client.close()
+
+    def forget(self) -> None:
+        """Closes the connection, and forgets the count that was seen: the next one may be to another device."""
+        self.lose()
+        self.client = None
 
 
 class DeskProcess:

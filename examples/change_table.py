@@ -4,13 +4,21 @@
     alm_server format NEW NEW.toml
     examples/change_table.py OLD NEW.toml | alm_server desk NEW
 
-It asks `alm_server export OLD` and `alm_server show OLD`, and prints desk lines that bring, for every tag that both tables have, the
-condition, the acknowledgement, what is left of a shelving, the flags, the priority and the setpoint onto a device that was formatted
-with NEW.toml. Annunciated alarms come in the order of the old lists. After the lines `show NEW` says of these alarms what `show OLD` said.
-Where the new table can't hold something, as a shelving longer than its max_shelve, that is told on standard error, and the status is 1.
+It asks `alm_server export OLD` and `alm_server show OLD`, and prints desk lines for a device that was formatted with NEW.toml. For
+every tag that both tables have they bring the condition, the acknowledgement, what is left of a shelving, the flags, the priority and
+the setpoint. Annunciated alarms come in the order of the old lists. After the lines `show NEW` says of these alarms what `show OLD` said.
+
+Where the new table can't hold something, as a shelving longer than its max_shelve, standard error says so, and the status is 1.
 
 Not brought: the count of actions, which begins anew; the moments of annunciations, so FLOOD, STALE and CHATTER begin without them; the order
 within LIST S. With --new-values priorities and setpoints are those of the new table.
+
+The new plant has the old one's clock. A clock that once ran ahead by mistake is set back by --now MOMENT, in seconds since 1970: what
+is left of each shelving stays as long. The table may be the old one then:
+
+    alm_server export OLD > OLD.toml
+    alm_server format NEW OLD.toml
+    examples/change_table.py OLD OLD.toml --now $(date +%s) | alm_server desk NEW
 """
 import argparse
 import graphlib
@@ -22,10 +30,13 @@ from dataclasses import dataclass, replace
 from typing import Iterator, Optional
 
 from alarm_client import CLOCK, FEED
+from arguments import new_parser
 from table_file import READING_LIMIT, Alarm, Table, load_table, read_table
 
 PROGRAM = pathlib.Path(__file__).resolve().parent.parent / "alm_server"
 CONSOLE = 0
+# A plant's clock stands below this.
+MOMENTS = 2**40
 # How long an annunciation counts in FLOOD and CHATTER, in seconds: what is brought stands farther back than that.
 WINDOW = 600
 GONE = ("RTNUN", "LATUN", "LATAK")
@@ -85,8 +96,9 @@ def in_order(plant: Plant) -> list[int]:
 class Change:
     """The lines from an old plant to a new table, and what can't be brought."""
 
-    def __init__(self, plant: Plant, table: Table, new_values: bool):
+    def __init__(self, plant: Plant, table: Table, new_values: bool, now: Optional[int] = None):
         self.plant, self.new_values = plant, new_values
+        self.now = plant.now if now is None else now
         numbers = table.numbers()
         old = plant.table.numbers()
         self.pairs = {number: (numbers[tag], table.alarms[numbers[tag]]) for tag, number in old.items() if tag in numbers}
@@ -103,16 +115,16 @@ class Change:
         self.kept_back.append(f"{self.tags[number]}: {why}")
 
     def lines(self) -> Iterator[str]:
-        """All lines: values, then annunciated alarms at a moment before the windows, then at the present moment the suppressed ones."""
+        """All lines: settings, then annunciated alarms at a moment before the windows, then at the present moment the suppressed ones."""
         for number in self.pairs:
             yield from self.settings(number)
-        if self.plant.now > WINDOW + 1:
-            yield self.line(CLOCK, f"CLOCK {self.plant.now - WINDOW - 1}")
+        if self.now > WINDOW + 1:
+            yield self.line(CLOCK, f"CLOCK {self.now - WINDOW - 1}")
         for number in in_order(self.plant):
             if number in self.pairs:
                 yield from self.annunciation(number)
-        if self.plant.now:
-            yield self.line(CLOCK, f"CLOCK {self.plant.now}")
+        if self.now:
+            yield self.line(CLOCK, f"CLOCK {self.now}")
         for number in self.pairs:
             if self.plant.alarms[number].flags:
                 yield from self.suppression(number)
@@ -174,34 +186,43 @@ class Change:
             yield self.line(CONSOLE, f"SHELVE {there} {allowed}")
 
 
+def moment(text: str) -> int:
+    """A moment of a plant's clock, in an argument."""
+    if not text.isdecimal() or int(text) >= MOMENTS:
+        raise argparse.ArgumentTypeError(f"{text} isn't a moment from 0 to {MOMENTS - 1}")
+    return int(text)
+
+
 def say(*words: object) -> None:
     print("change_table:", *words, file=sys.stderr)
 
 
-def tell(change: Change) -> None:
+def report(change: Change) -> None:
     """Says what there was, and what isn't brought."""
-    say(f"{len(change.pairs)} alarms in both tables, {len(change.added)} new, {len(change.left)} left out:", *change.left)
+    names = f": {' '.join(change.left)}" if change.left else ""
+    say(f"{len(change.pairs)} alarms in both tables, {len(change.added)} new, {len(change.left)} left out{names}")
     say("not brought: the count, and the moments of annunciations, so FLOOD, STALE and CHATTER begin without them")
     for why in change.kept_back:
         say(why)
 
 
 def main() -> None:
-    words = argparse.ArgumentParser(description="Brings the states of a stopped device onto one with another table.")
-    words.add_argument("old", help="the stopped device")
-    words.add_argument("table", help="the new table file")
+    words = new_parser(__doc__)
+    words.add_argument("old", metavar="OLD", help="the stopped device")
+    words.add_argument("table", metavar="NEW.toml", help="the new table file")
     words.add_argument("--program", default=str(PROGRAM), help="alm_server")
     words.add_argument("--new-values", action="store_true", help="priorities and setpoints as the new table has them")
+    words.add_argument("--now", type=moment, metavar="MOMENT", help="the new plant's clock; the old plant's where it is left out")
     chosen = words.parse_args()
     try:
-        change = Change(load_plant(chosen.program, chosen.old), load_table(chosen.table), chosen.new_values)
+        change = Change(load_plant(chosen.program, chosen.old), load_table(chosen.table), chosen.new_values, chosen.now)
     except (ValueError, OSError) as error:
         sys.exit(f"change_table: {error}")
     except subprocess.CalledProcessError as error:
         sys.exit(error.returncode)
     for line in change.lines():
         print(line)
-    tell(change)
+    report(change)
     sys.exit(1 if change.kept_back else 0)
 
 

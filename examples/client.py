@@ -4,13 +4,13 @@
     examples/client.py              starts `./alm_server desk`, and asks it through a pipe
     examples/client.py --port P     asks a server, `./alm_server serve DEVICE --port P`
 """
-import argparse
 import contextlib
 import pathlib
 import time
 from typing import Callable
 
 from alarm_client import CLOCK, FEED, Client, DeskProcess, Refused
+from arguments import add_port, new_parser
 
 PROGRAM = pathlib.Path(__file__).resolve().parent.parent / "alm_server"
 CONSOLE = 0
@@ -42,16 +42,17 @@ def morning(console: Client, feed: Client, clock: Client) -> None:
 
 
 def main() -> None:
-    words = argparse.ArgumentParser(description="A client of the alarm server.")
-    words.add_argument("--port", type=int, help="the port of slot 0; without it a desk is started")
-    port = words.parse_args().port
-    if port is None:
-        desk = DeskProcess(str(PROGRAM))
+    words = new_parser(__doc__)
+    add_port(words, required=False)
+    words.add_argument("--program", default=str(PROGRAM), help="the alm_server whose desk is started; the repository's where it is left out")
+    chosen = words.parse_args()
+    if chosen.port is None:
+        desk = DeskProcess(chosen.program)
         morning(desk.at(CONSOLE), desk.at(FEED), desk.at(CLOCK))
         print("status", desk.end())
         return
     with contextlib.ExitStack() as stack:
-        morning(*(stack.enter_context(Client.connect(port, slot)) for slot in (CONSOLE, FEED, CLOCK)))
+        morning(*(stack.enter_context(Client.connect(chosen.port, slot)) for slot in (CONSOLE, FEED, CLOCK)))
 
 
 if __name__ == "__main__":

@@ -8,14 +8,14 @@ latching (true or false) and text may be. Cells are separated by commas, or by s
 that is left out. The number of areas is one more than the greatest, and `size` is worked out: 926,067 bytes for four alarms in two areas, more
 with a longer segment.
 
-A fault is told with its row, as the spreadsheet counts them, and its column; nothing is printed then, and the status is 1.
+A fault is reported with its row, as the spreadsheet counts them, and its column; nothing is printed then, and the status is 1.
 """
-import argparse
 import csv
 import io
 import sys
 from typing import Callable
 
+from arguments import new_parser
 from table_file import ALARM_LIMIT, AREA_LIMIT, CALM_SEGMENT, KINDS, READING_LIMIT, SHELVE_LIMIT, device_size, written
 
 REQUIRED = ("tag", "kind", "setpoint", "priority", "area")
@@ -113,12 +113,13 @@ def print_table(alarms: list[dict[str, object]], segment: int) -> None:
 
 
 def main() -> None:
-    words = argparse.ArgumentParser(description="A table file from a spreadsheet's CSV.")
-    words.add_argument("table", help="the CSV file")
-    words.add_argument("--segment", type=int, default=CALM_SEGMENT, help="bytes of a segment of the device")
+    words = new_parser(__doc__)
+    words.add_argument("table", metavar="TABLE.csv", help="the CSV file")
+    words.add_argument("--segment", type=int, default=CALM_SEGMENT, metavar="BYTES",
+                       help="bytes of a segment of the device; %(default)s where it is left out")
     chosen = words.parse_args()
     try:
-        # a byte that is no UTF-8 becomes a character that no cell may have, and so is told with its row
+        # a byte that is no UTF-8 becomes a character that no cell may have, and so is reported with its row
         with open(chosen.table, encoding="utf-8-sig", errors="surrogateescape", newline="") as file:
             alarms = read_rows(file.read())
     except (Fault, OSError) as fault:

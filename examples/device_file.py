@@ -1,7 +1,7 @@
 """The bytes of a device file, after docs/FORMAT.md: read without the server and without its lock, also while it runs.
 
-A half that is being written isn't looked at, and what is read is kept only where the same half stands afterwards, so that a reader
-never sees a torn piece. Nothing is written.
+A half that is being written isn't read. What is read is kept only if the same half stands afterwards, so that a reader never sees
+a torn piece. Nothing is written.
 """
 import os
 import struct
@@ -30,7 +30,7 @@ class Action:
     alarm: int
     argument: int
 
-    def told(self, tags: list[str]) -> str:
+    def request(self, tags: list[str]) -> str:
         """The action in the words of a request, with the alarm's tag."""
         if self.word == "CLOCK":
             return f"CLOCK {self.argument}"
@@ -124,6 +124,15 @@ class DeviceFile:
     def clock(self, head: Head) -> int:
         """The clock of a half's image."""
         return int.from_bytes(self.read(self.half_at(head.half) + HEAD, 8), "big")
+
+    def moment(self) -> int:
+        """The plant's clock: the last CLOCK of the journal, or the image's. It may be ahead of what the server has stored durably."""
+        while True:
+            head = self.standing()
+            clocks = [action.argument for frame in self.frames(head) for action in frame.actions if action.word == "CLOCK"]
+            moment = clocks[-1] if clocks else self.clock(head)
+            if self.standing().epoch == head.epoch:
+                return moment
 
     def tags(self) -> list[str]:
         """The tags of the alarms by number. They never change."""

@@ -3,70 +3,116 @@
 
     examples/feed.py --port P TABLE.toml [FILE]
 
-Without FILE the lines come from standard input. A value is a whole number in the unit of the alarm's setpoint; empty lines and lines that
-begin with # are passed over. Up to 64 values are under way. A value that changes no condition is no fault; any other refusal, an unknown
-tag and a line that is none are told on standard error. Where the connection ends it is made again, and the last value of each tag is sent
-again: the server may have been put back to an earlier state.
+Without FILE the lines come from standard input:
+
+    TI-101,3805          a value: a whole number in the unit of the alarm's setpoint
+    TI-101,design,on     the alarm is suppressed by design
+    TI-101,design,off    it no longer is
+    # a remark           passed over, as empty lines are
+
+Up to 64 requests are under way. One that changes nothing is no fault; any other refusal, an unknown tag and a line that is none
+are reported on standard error.
+
+Where the connection ends it is made again, the table file is read again, and the last value and the last suppression of each tag
+are sent again: what had no reply may be lost. It ends with status 1 where the plant doesn't fit that file, or is another one than
+before, as after a restore: start it again with the plant's table.
 
 At the end of the lines it prints how many there were. Its status is 0 where all were taken, else 1.
 """
-import argparse
 import collections
 import os
 import select
 import sys
 import time
+from dataclasses import dataclass
 from typing import Iterable, Iterator
 
-from alarm_client import FEED, Client, Lost, Refusal, Refused, ServerClient
-from table_file import READING_LIMIT, table_or_exit
+from alarm_client import FEED, Lost, OtherPlant, Plant, Refusal, Refused, ServerClient, switch
+from arguments import add_port, new_parser
+from table_file import READING_LIMIT, NoTable
 
 CHUNK = 65_536
+SWITCHES = {"on": True, "off": False}
+# Refusals of what stands so already.
+SAME = (Refusal.NO_CHANGE, Refusal.ALREADY_SET, Refusal.NOT_SET)
 
 
 class BadLine(Exception):
-    """A line that is no value of an alarm."""
+    """A line that asks nothing of an alarm."""
+
+
+@dataclass(frozen=True)
+class Input:
+    """What a line brings: a value of a tag, or whether it is suppressed by design."""
+
+    tag: str
+    value: int | bool
+
+    @property
+    def is_design(self) -> bool:
+        return isinstance(self.value, bool)
+
+    def request(self, alarm: int) -> str:
+        return f"DESIGN {alarm} {switch(self.value)}" if self.is_design else f"VAL {alarm} {self.value}"
+
+    def __str__(self) -> str:
+        return f"{self.tag},design,{switch(self.value).lower()}" if self.is_design else f"{self.tag},{self.value}"
 
 
 def say(*words: object) -> None:
     print("feed:", *words, file=sys.stderr, flush=True)
 
 
-def read_line(line: str, numbers: dict[str, int]) -> tuple[str, int]:
-    """The tag and the value of a line. A tag may have a comma."""
-    tag, comma, text = (part.strip() for part in line.rpartition(","))
-    if not comma:
-        raise BadLine("no comma")
-    if tag not in numbers:
-        raise BadLine("the table has no such tag")
+def read_value(text: str) -> int:
+    """The value in the last field of a line."""
     try:
         value = int(text)
     except ValueError:
         raise BadLine("the value is no whole number") from None
     if abs(value) > READING_LIMIT:
         raise BadLine(f"the value isn't from -{READING_LIMIT} to {READING_LIMIT}")
-    return tag, value
+    return value
+
+
+def read_line(line: str, numbers: dict[str, int]) -> Input:
+    """What a line brings. A tag may have a comma."""
+    tag, comma, text = (part.strip() for part in line.rpartition(","))
+    if not comma:
+        raise BadLine("no comma")
+    before, _, word = (part.strip() for part in tag.rpartition(","))
+    is_design = word.lower() == "design" and text.lower() in SWITCHES
+    found = Input(before, SWITCHES[text.lower()]) if is_design else Input(tag, 0)
+    if found.tag not in numbers:
+        raise BadLine("the table has no such tag")
+    return found if is_design else Input(tag, read_value(text))
+
+
+def again(latest: Iterable[Input]) -> list[Input]:
+    """What is sent again, in an order that annunciates nothing that is to be suppressed: suppressions, values, then the ends of suppressions."""
+    return sorted(latest, key=lambda one: (not one.value) * 2 if one.is_design else 1)
 
 
 class Feed:
     """Values on their way to a server."""
 
-    def __init__(self, port: int, numbers: dict[str, int]):
-        self.port, self.numbers = port, numbers
-        self.latest: dict[str, int] = {}
+    def __init__(self, plant: Plant):
+        self.plant = plant
+        self.latest: dict[tuple[str, bool], Input] = {}
         self.counts: collections.Counter[str] = collections.Counter()
         self.client = self.connect()
 
     def connect(self) -> ServerClient:
-        """A connection, as soon as there is a server."""
-        told = ""
+        """A connection, as soon as there is a server, and the numbers of the tags that are right for it."""
+        said = ""
         while True:
             try:
-                return Client.connect(self.port, FEED)
+                client = self.plant.connect()
+                self.numbers = self.plant.table.numbers()
+                return client
             except Lost as lost:
-                if str(lost) != told:
+                if str(lost) != said:
                     say(lost, "- trying again")
-                told = str(lost)
+                said = str(lost)
                 time.sleep(1)
 
     def chunks(self, file: int) -> Iterator[list[str]]:
@@ -84,8 +130,8 @@ class Feed:
             if not read:
                 return
 
-    def values(self, lines: Iterable[str]) -> Iterator[tuple[str, int]]:
-        """The values in lines; tells of lines that have none."""
+    def inputs(self, lines: Iterable[str]) -> Iterator[Input]:
+        """What lines bring; reports those that bring nothing."""
         for line in lines:
             if not line or line.startswith("#"):
                 continue
@@ -95,50 +141,67 @@ class Feed:
                 self.counts["bad"] += 1
                 say(f"{line}: {bad}")
 
-    def send(self, values: list[tuple[str, int]]) -> None:
-        """Sends values, and takes their replies."""
-        self.latest.update(values)
+    def send(self, inputs: list[Input]) -> None:
+        """Sends what lines bring, and takes the replies."""
+        self.latest.update({(one.tag, one.is_design): one for one in inputs})
         try:
-            self.ask(values)
+            self.ask(inputs)
         except Lost as lost:
             say(lost)
             self.resend()
 
     def resend(self) -> None:
-        """Connects anew and sends the last value of each tag, until that is done."""
+        """Connects again and sends the last of each tag, until that is done."""
         while True:
             self.client.close()
             self.client = self.connect()
+            self.drop_unknown()
             say(f"connected again, {len(self.latest)} values are sent again")
             try:
-                return self.ask(list(self.latest.items()))
+                return self.ask(again(self.latest.values()))
             except Lost as lost:
                 say(lost)
                 time.sleep(1)
 
-    def ask(self, values: list[tuple[str, int]]) -> None:
-        requests = (f"VAL {self.numbers[tag]} {value}" for tag, value in values)
-        for (tag, value), reply in zip(values, self.client.ask_all(requests)):
+    def drop_unknown(self) -> None:
+        """Drops what was sent of tags that the table no longer has."""
+        for tag, is_design in list(self.latest):
+            if tag not in self.numbers:
+                say(f"{self.latest.pop((tag, is_design))}: the table no longer has this tag")
+
+    def ask(self, inputs: list[Input]) -> None:
+        requests = (one.request(self.numbers[one.tag]) for one in inputs)
+        for one, reply in zip(inputs, self.client.ask_all(requests)):
             if not isinstance(reply, Refused):
                 self.counts["changed"] += 1
-            elif reply.refusal == Refusal.NO_CHANGE:
+            elif reply.refusal in SAME:
                 self.counts["same"] += 1
             else:
                 self.counts["refused"] += 1
-                say(f"{tag},{value}: {reply}")
+                say(f"{one}: {reply}")
+
+
+def run(plant: Plant, file: int) -> collections.Counter[str]:
+    """Sends the lines of a file; how many there were of each kind."""
+    feed = Feed(plant)
+    for lines in feed.chunks(file):
+        feed.send(list(feed.inputs(lines)))
+    return feed.counts
 
 
 def main() -> None:
-    words = argparse.ArgumentParser(description="A feed of process values.")
-    words.add_argument("--port", type=int, required=True, help="the port of slot 0")
-    words.add_argument("table", help="the plant's table file")
-    words.add_argument("file", nargs="?", help="lines tag,value; else standard input")
+    words = new_parser(__doc__)
+    add_port(words)
+    words.add_argument("table", metavar="TABLE.toml", help="the plant's table file")
+    words.add_argument("file", metavar="FILE", nargs="?", help="the lines; else they come from standard input")
     chosen = words.parse_args()
-    feed = Feed(chosen.port, table_or_exit("feed", chosen.table).numbers())
-    file = os.open(chosen.file, os.O_RDONLY) if chosen.file else sys.stdin.fileno()
-    for lines in feed.chunks(file):
-        feed.send(list(feed.values(lines)))
-    counts = feed.counts
+    try:
+        file = os.open(chosen.file, os.O_RDONLY) if chosen.file else sys.stdin.fileno()
+        counts = run(Plant(chosen.port, FEED, chosen.table), file)
+    except (OtherPlant, NoTable, OSError) as error:
+        sys.exit(f"feed: {error}")
+    except KeyboardInterrupt:
+        sys.exit(130)
     print(f"{counts['changed']} changed a condition, {counts['same']} didn't, {counts['refused']} refused, {counts['bad']} bad lines")
     sys.exit(1 if counts["refused"] or counts["bad"] else 0)
 

@@ -6,6 +6,10 @@
 Each area has its units' instruments, tagged as ISA-5.1 has it: the measured variable, I for indication, S for a switch,
 then the loop. Values are in tenths of the unit that the text names.
 """
+from typing import Iterator
+
+from arguments import new_parser
+from table_file import written
 
 AREAS = ["Crude unit", "Vacuum unit", "Hydrotreater", "Reformer", "Cracker", "Sulfur recovery", "Tank farm", "Utilities"]
 
@@ -38,23 +42,26 @@ LOOPS = [
     ("high", "VI", 71, 5, 2, 3600, False, "Compressor vibration high, 0.1 mm/s"),
 ]
 
-print("# A refinery: 200 alarms in 8 areas. Made by make_refinery.py.")
-print("size = 16777216")
-print(f"areas = {len(AREAS)}")
-for area, name in enumerate(AREAS):
-    for loop, (kind, letters, setpoint, deadband, priority, shelve, latching, text) in enumerate(LOOPS):
-        print()
-        print(f"# {name}")
-        print("[[alarm]]")
-        print(f'kind = "{kind}"')
-        print(f"setpoint = {setpoint}")
-        print(f"priority = {priority}")
-        print(f"area = {area}")
-        if deadband:
-            print(f"deadband = {deadband}")
-        if shelve:
-            print(f"max_shelve = {shelve}")
-        if latching:
-            print("latching = true")
-        print(f'tag = "{letters}-{area + 1}{loop + 1:02}"')
-        print(f'text = "{text}"')
+
+def alarm_lines(area: int, loop: int) -> Iterator[str]:
+    """The lines of an alarm. A key that has its default is left out."""
+    kind, letters, setpoint, deadband, priority, shelve, latching, text = LOOPS[loop]
+    keys = {"kind": kind, "setpoint": setpoint, "priority": priority, "area": area}
+    optional = {"deadband": deadband, "max_shelve": shelve, "latching": latching}
+    keys |= {key: value for key, value in optional.items() if value}
+    keys |= {"tag": f"{letters}-{area + 1}{loop + 1:02}", "text": text}
+    yield from ("", f"# {AREAS[area]}", "[[alarm]]")
+    yield from (f"{key} = {written(value)}" for key, value in keys.items())
+
+
+def main() -> None:
+    new_parser(__doc__).parse_args()
+    print(f"# A refinery: {len(AREAS) * len(LOOPS)} alarms in {len(AREAS)} areas. Made by make_refinery.py.")
+    print(f"size = 16777216\nareas = {len(AREAS)}")
+    for area in range(len(AREAS)):
+        for loop in range(len(LOOPS)):
+            print("\n".join(alarm_lines(area, loop)))
+
+
+if __name__ == "__main__":
+    main()

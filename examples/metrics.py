@@ -1,27 +1,36 @@
 #!/usr/bin/env python3
 """An exporter of what a server shows, in the text format that Prometheus reads.
 
-    examples/metrics.py --port P [--listen 9464] [--slot 15] [--device DEVICE]
+    examples/metrics.py --port P [--listen 9464] [--slot 15] [--device DEVICE] [--table TABLE.toml]
 
-It listens on loopback alone, at http://127.0.0.1:9464/metrics. Each time that it is read it asks the server at a console's slot, by queries
-alone, and lets the slot go. Where the server doesn't answer, `alarms_up` is 0 and nothing else is told of the plant. With --device it also tells, from the
-file, how full the journal is and the epoch, which grows by one with each checkpoint.
+It listens on loopback alone, at http://127.0.0.1:9464/metrics. Each time that it is read it asks the server at a console's slot, by
+queries alone, and lets the slot go. Where the server doesn't answer, `alarms_up` is 0 and nothing else of the plant is there.
+
+With --device it also reads, from the file, how full the journal is, and the epoch, which grows by one with each checkpoint.
+
+It ends with status 1 where the plant has fewer actions than before, since then it is another device. With --table it reads the table
+file each time, and also ends where the plant has another number of alarms or areas.
 """
-import argparse
 import collections
 import http.server
+import sys
+import threading
 import time
 from typing import Iterable, Iterator, Optional
 
-from alarm_client import HOST, PRIORITIES, Client, Lost, Refused
+from alarm_client import HOST, PRIORITIES, Client, Lost, OtherPlant, Plant, Refused
+from arguments import add_port, add_slot, new_parser
 from device_file import DeviceFile, NoDevice
+from table_file import NoTable
 
+# Seconds after which a client that says nothing is left.
+SILENCE = 10
 STATES = ("UNACK", "ACKED", "RTNUN", "LATUN", "LATAK")
 
 
-def metric(name: str, kind: str, told: str, samples: dict[str, float]) -> Iterator[str]:
+def metric(name: str, kind: str, page: str, samples: dict[str, float]) -> Iterator[str]:
     """The lines of a metric: its samples by their labels."""
-    yield f"# HELP {name} {told}"
+    yield f"# HELP {name} {page}"
     yield f"# TYPE {name} {kind}"
     for labels, value in samples.items():
         yield f"{name}{labels} {value:g}" if isinstance(value, float) else f"{name}{labels} {value}"
@@ -43,7 +52,7 @@ def by_area(values: Iterable[int]) -> dict[str, float]:
     return {f'{{area="{area}"}}': value for area, value in enumerate(values)}
 
 
-def plant(client: Client) -> Iterator[str]:
+def shown(client: Client) -> Iterator[str]:
     """What the plant shows. Between two queries it may go on."""
     began = time.perf_counter()
     count = client.stale().count
@@ -69,55 +78,84 @@ def journal(path: str) -> Iterator[str]:
         device.close()
     yield from metric("alarms_journal_bytes", "gauge", "Used bytes of the journal.", {"": used})
     yield from metric("alarms_journal_size_bytes", "gauge", "Bytes of the journal.", {"": device.segment})
-    yield from metric("alarms_epoch", "counter", "Epoch of the device: checkpoints and the formatting.", {"": head.epoch})
+    yield from metric("alarms_epoch", "gauge", "Epoch of the device: checkpoints and the formatting.", {"": head.epoch})
 
 
-def page(port: int, slot: int, device: Optional[str]) -> str:
-    """All metrics, as they are at the moment."""
-    lines: list[str] = []
-    up = 0
-    try:
-        with Client.connect(port, slot) as client:
-            lines, up = list(plant(client)), 1
-    except (Lost, Refused):
-        pass
-    if device:
+class Exporter(http.server.ThreadingHTTPServer):
+    """Answers /metrics. Each client has a thread, and the plant is asked for one after the other."""
+
+    def __init__(self, listen: int, plant: Plant, device: Optional[str]):
+        super().__init__((HOST, listen), Handler)
+        self.plant, self.device = plant, device
+        self.asking = threading.Lock()
+        self.fault: Optional[Exception] = None
+
+    def page(self) -> str:
+        """All metrics, as they are at the moment."""
+        lines: list[str] = []
+        up = 0
         try:
-            lines += journal(device)
-        except (NoDevice, OSError):
+            with self.asking, self.plant.connect() as client:
+                lines, up = list(shown(client)), 1
+        except (Lost, Refused):
             pass
-    return "\n".join([*metric("alarms_up", "gauge", "Whether the server answers.", {"": up}), *lines]) + "\n"
+        if self.device:
+            try:
+                lines += journal(self.device)
+            except (NoDevice, OSError):
+                pass
+        return "\n".join([*metric("alarms_up", "gauge", "Whether the server answers.", {"": up}), *lines]) + "\n"
+
+    def stop(self, fault: Exception) -> None:
+        """Ends the exporter, since what it would say is of another plant."""
+        self.fault = fault
+        self.shutdown()
 
 
-def serve(port: int, slot: int, listen: int, device: Optional[str]) -> None:
-    """Answers /metrics without end."""
+class Handler(http.server.BaseHTTPRequestHandler):
+    """A client of the exporter."""
 
-    class Handler(http.server.BaseHTTPRequestHandler):
-        def do_GET(self) -> None:
-            if self.path != "/metrics":
-                self.send_error(404)
-                return
-            body = page(port, slot, device).encode("ascii")
-            self.send_response(200)
-            self.send_header("Content-Type", "text/plain; version=0.0.4; charset=utf-8")
-            self.send_header("Content-Length", str(len(body)))
-            self.end_headers()
-            self.wfile.write(body)
+    server: Exporter
+    timeout = SILENCE
 
-        def log_message(self, *_: object) -> None:
-            pass
+    def do_GET(self) -> None:
+        if self.path != "/metrics":
+            self.send_error(404)
+            return
+        try:
+            body = self.server.page().encode("ascii")
+        except (OtherPlant, NoTable) as fault:
+            self.send_error(503)
+            self.server.stop(fault)
+            return
+        self.send_response(200)
+        self.send_header("Content-Type", "text/plain; version=0.0.4; charset=utf-8")
+        self.send_header("Content-Length", str(len(body)))
+        self.end_headers()
+        self.wfile.write(body)
 
-    http.server.HTTPServer((HOST, listen), Handler).serve_forever()
+    def log_message(self, *_: object) -> None:
+        pass
 
 
 def main() -> None:
-    words = argparse.ArgumentParser(description="An exporter in the text format that Prometheus reads.")
-    words.add_argument("--port", type=int, required=True, help="the port of slot 0")
-    words.add_argument("--listen", type=int, default=9464, help="the port of this exporter, on loopback")
-    words.add_argument("--slot", type=int, default=15, help="the console's slot that it asks at")
+    words = new_parser(__doc__)
+    add_port(words)
+    words.add_argument("--listen", type=int, default=9464, metavar="PORT", help="the port of this exporter, on loopback; 0 for any that is free")
+    add_slot(words, 15)
     words.add_argument("--device", help="the device file, for the journal")
+    words.add_argument("--table", metavar="TABLE.toml", help="the plant's table file, which the plant has to fit")
     chosen = words.parse_args()
-    serve(chosen.port, chosen.slot, chosen.listen, chosen.device)
+    try:
+        exporter = Exporter(chosen.listen, Plant(chosen.port, chosen.slot, chosen.table), chosen.device)
+    except (NoTable, OSError) as error:
+        sys.exit(f"metrics: {error}")
+    print(f"metrics: http://{HOST}:{exporter.server_port}/metrics", file=sys.stderr, flush=True)
+    try:
+        exporter.serve_forever()
+    except KeyboardInterrupt:
+        pass
+    sys.exit(exporter.fault and f"metrics: {exporter.fault}")
 
 
 if __name__ == "__main__":

@@ -79,14 +79,32 @@ def load_table(path: str) -> Table:
         return read_table(file.read())
 
 
-def table_or_exit(tool: str, path: str) -> Table:
-    """The table of a file whose tags each stand once; without one the tool ends, and says why."""
-    try:
-        table = load_table(path)
-        table.numbers()
-        return table
-    except (OSError, KeyError, TypeError, ValueError) as error:
-        raise SystemExit(f"{tool}: {path} is no table file: {error}") from None
+class NoTable(Exception):
+    """A file isn't a table file whose tags each stand once."""
+
+
+class TableFile:
+    """A table file whose tags each stand once. It can be read again, and is parsed only where its bytes are others."""
+
+    def __init__(self, path: str):
+        self.path = path
+        self.text = b""
+        self.read()
+
+    def read(self) -> Table:
+        """The table as the file has it now; `NoTable` says why there is none."""
+        try:
+            with open(self.path, "rb") as file:
+                text = file.read()
+            if text != self.text:
+                table = read_table(text.decode("utf-8"))
+                table.numbers()
+                self.text, self.table = text, table
+        except OSError as error:
+            raise NoTable(f"{self.path}: {error.strerror}") from None
+        except (KeyError, TypeError, ValueError) as error:
+            raise NoTable(f"{self.path} is no table file: {error}") from None
+        return self.table
 
 
 def quoted(text: str) -> str:
