@@ -2,10 +2,11 @@
 """The built program over each example: what it prints, and its status.
 
 Each folder of examples/ with a `stdin` has a `stdout` beside it: what the desk prints for it, over a copy of `plant.device` where the
-folder has one. Without words the program tells of its usage.
+folder has one. Without words the program says `fault usage`. `refinery.toml` is what `make_refinery.py` prints.
 """
 import os
 import shutil
+import subprocess
 import sys
 
 from program import TESTS, Wrong, begin, check, finish, run_words
@@ -42,6 +43,11 @@ def run_without_words(program):
     check((run.returncode, run.stdout, run.stderr) == (1, b"", b"fault usage\n"), "no words", run)
 
 
+def run_maker():
+    run = subprocess.run([sys.executable, os.path.join(EXAMPLES, "make_refinery.py")], capture_output=True, timeout=60)
+    check(run.returncode == 0 and run.stdout == read(EXAMPLES, "refinery.toml"), "make_refinery.py prints another table", run.stderr)
+
+
 def main():
     program, _, folder = begin("examples", sys.argv, 1, 1)
     found = names()
@@ -50,9 +56,10 @@ def main():
         for name in found:
             run_example(program, name, folder)
         run_without_words(program)
+        run_maker()
     except Wrong as wrong:
         sys.exit(f"examples: {wrong}")
-    finish("examples", folder, f"{len(found)} examples, and no words")
+    finish("examples", folder, f"{len(found)} examples, no words, and the refinery")
 
 
 if __name__ == "__main__":

@@ -4,8 +4,9 @@
     tests/lines.py PROGRAM [--short]
 
 A drawn line follows the grammar, with numbers at their limits, and then often not: a bit flipped, a field doubled, dropped or
-lengthened, a space, a zero or a carriage return too many. The reading here is a page of regular expressions; it says which lines
-are bad or too long and with which id they are refused, which roles may ask what, and what a reply to a good line may look like.
+lengthened, a space, a zero or a carriage return too many. The reading here is a page of regular expressions. It says which lines are
+bad or too long, and with which id they are refused; which roles may ask what; what a reply to a good line may look like. Where
+the line alone decides the refusal, it has to be that one. Each action has to be accepted in a run, and refused in each of its ways.
 """
 import multiprocessing
 import os
@@ -19,9 +20,16 @@ from program import Wrong, begin, check, finish, run_words
 CHUNK = 20_000
 
 NUMBERS = [0, 1, 2, 3, 4, 9, 10, 99, 255, 256, 3600, 3601, 65535, 2**31, 2**32 - 1, 2**32, 2**40 - 1, 2**40, 10**12, 10**12 + 1, 2**64, 2**64 + 1]
-CONSOLE = {b"ACK": b"2", b"RESET": b"3", b"SHELVE": b"4 6", b"UNSHELVE": b"5", b"OOS": b"7 8"}
+# The actions of each role, and the refusals that an alarm's state brings about.
+CONSOLE = {b"ACK": b"2", b"RESET": b"3", b"SHELVE": b"4 6", b"UNSHELVE": b"5", b"OOS": b"7 8", b"PRIO": b"20", b"SETP": b"20"}
 FEED = {b"VAL": b"9", b"DESIGN": b"7 8"}
 CLOCK = {b"CLOCK": b"10"}
+ROLES = [*[CONSOLE] * 16, FEED, CLOCK]
+ACTIONS = {**CONSOLE, **FEED, **CLOCK}
+# Refusals that a line decides alone.
+BESIDES = {b"PRIO": b"19"}
+# Of the worked table: priorities, the alarm that latches, those that may be shelved, and for how long.
+RANKS, LATCHING, SHELVABLE, SECONDS = range(1, 5), (2,), (0, 1), range(1, 3601)
 
 SLOT = re.compile(rb"(0|[1-9]\d?) ")
 LEADING = re.compile(rb"(0|[1-9]\d{0,9})(?: |$)", re.DOTALL)
@@ -30,16 +38,17 @@ REQUEST = re.compile(
     rb"(?P<id>NUM) (?:"
     rb"(?P<one>ACK|RESET|UNSHELVE|STATE) (?P<alarm>NUM)"
     rb"|(?P<shelve>SHELVE) (?P<shelved>NUM) (?P<secs>NUM)"
-    rb"|(?P<flag>OOS|DESIGN) (?P<flagged>NUM) (?:ON|OFF)"
-    rb"|(?P<val>VAL) (?P<valued>NUM) (?P<value>NUM|-[1-9]\d*)"
+    rb"|(?P<flag>OOS|DESIGN) (?P<flagged>NUM) (?P<how>ON|OFF)"
+    rb"|(?P<prio>PRIO) (?P<ranked>NUM) (?P<rank>NUM)"
+    rb"|(?P<val>VAL|SETP) (?P<valued>NUM) (?P<value>NUM|-[1-9]\d*)"
     rb"|(?P<clock>CLOCK) (?P<moment>NUM)"
     rb"|(?P<list>LIST) (?P<which>[PAS]) (?P<number>NUM)"
     rb"|(?P<flood>FLOOD) (?P<area>NUM)"
     rb"|(?P<all>STALE|CHATTER))".replace(b"NUM", rb"(?:0|[1-9]\d*)"))
-WORDS = ("one", "shelve", "flag", "val", "clock", "list", "flood", "all")
-ALARMS = ("alarm", "shelved", "flagged", "valued")
-LIMITS = [("id", 2**32), ("alarm", 2**32), ("shelved", 2**32), ("secs", 2**32), ("flagged", 2**32), ("valued", 2**32),
-          ("number", 2**32), ("area", 2**32), ("moment", 2**40)]
+WORDS = ("one", "shelve", "flag", "prio", "val", "clock", "list", "flood", "all")
+ALARMS = ("alarm", "shelved", "flagged", "ranked", "valued")
+LIMITS = [("id", 2**32), ("alarm", 2**32), ("shelved", 2**32), ("secs", 2**32), ("flagged", 2**32), ("ranked", 2**32), ("rank", 2**32),
+          ("valued", 2**32), ("number", 2**32), ("area", 2**32), ("moment", 2**40)]
 
 
 def read(line):
@@ -71,15 +80,48 @@ def leading_id(rest):
 
 
 def read_word(slot, word, found):
-    may = CONSOLE if slot < 16 else FEED if slot == 16 else CLOCK
-    is_action = word in CONSOLE or word in FEED or word in CLOCK
-    if is_action and word not in may:
+    if word in ACTIONS and word not in ROLES[slot]:
         return b"NO 11"
     if any(found[name] and int(found[name]) > 3 for name in ALARMS):
         return b"NO 1"
-    if is_action:
-        return b"(?:OK [1-9]\\d*|NO (?:" + may[word].replace(b" ", b"|") + b"))"
+    if word in ACTIONS:
+        return read_action(word, found)
     return read_query(word, found)
+
+
+def read_action(word, found):
+    """An action of an alarm that there is: accepted, or refused in one of its ways, as far as the line alone decides that."""
+    alarm = next((int(found[name]) for name in ALARMS if found[name]), None)
+    refusals = ACTIONS[word]
+    if found["rank"] and int(found["rank"]) not in RANKS:
+        return b"NO 19"
+    if word == b"RESET" and alarm not in LATCHING:
+        return b"NO 3"
+    if word in (b"SHELVE", b"UNSHELVE") and alarm not in SHELVABLE:
+        return refusals_of(refusals.split()[-1:])
+    if word == b"SHELVE":
+        if int(found["secs"]) not in SECONDS:
+            return refusals_of(refusals.split())
+        refusals = b"4"
+    if found["how"]:
+        refusals = b"7" if found["how"] == b"ON" else b"8"
+    return b"(?:OK [1-9]\\d*|" + refusals_of(refusals.split()) + b")"
+
+
+def refusals_of(numbers):
+    return b"NO (?:" + b"|".join(numbers) + b")"
+
+
+def outcomes(word):
+    """In which ways an action has to be answered in a run."""
+    own = (ACTIONS[word] + b" " + BESIDES.get(word, b"")).split()
+    return {b"OK", b"NO 11", *(b"NO " + number for number in own)} | (set() if word == b"CLOCK" else {b"NO 1"})
+
+
+def outcome(line, reply):
+    """An action's word, and OK or its refusal."""
+    words = reply.split(b" ")[2:]
+    return line.split(b" ")[2], words[0] if words[0] == b"OK" else b" ".join(words)
 
 
 def read_query(word, found):
@@ -103,15 +145,16 @@ def draw_number(dice):
 
 
 def draw_request(dice):
-    word = dice.choice(["ACK", "RESET", "SHELVE", "UNSHELVE", "OOS", "DESIGN", "VAL", "VAL", "CLOCK", "STATE", "LIST", "FLOOD", "STALE", "CHATTER"])
+    word = dice.choice(["ACK", "RESET", "SHELVE", "UNSHELVE", "OOS", "DESIGN", "PRIO", "SETP", "VAL", "VAL", "CLOCK", "STATE", "LIST", "FLOOD",
+                        "STALE", "CHATTER"])
     fields = [word]
     if word == "LIST":
         fields.append(dice.choice("PAS"))
     if word not in ("STALE", "CHATTER"):
+        fields.append(str(2 if word == "RESET" and dice.randrange(2) else draw_number(dice)))
+    if word in ("SHELVE", "PRIO"):
         fields.append(str(draw_number(dice)))
-    if word == "SHELVE":
-        fields.append(str(draw_number(dice)))
-    if word == "VAL":
+    if word in ("VAL", "SETP"):
         fields.append(dice.choice(["", "", "-"]) + str(draw_number(dice)))
     if word in ("OOS", "DESIGN"):
         fields.append(dice.choice(["ON", "OFF"]))
@@ -159,7 +202,7 @@ def draw_line(dice):
 
 
 def try_chunk(job):
-    """How many of a chunk's lines were good, or what is wrong."""
+    """How many of a chunk's lines were good and how actions were answered, or what is wrong."""
     program, seed = job
     dice = random.Random(seed)
     lines = [draw_line(dice) for _ in range(CHUNK)]
@@ -168,12 +211,14 @@ def try_chunk(job):
         check(run.returncode == 0 and run.stderr == b"", seed, run.returncode, run.stderr)
         replies = run.stdout.split(b"\n")
         check(len(replies) == CHUNK + 1, seed, len(replies))
-        good = 0
+        good, seen = 0, set()
         for line, reply in zip(lines, replies):
             wanted = read(line)
             check(re.fullmatch(wanted, reply), seed, line, "was answered", reply, "and not", wanted)
-            good += not wanted.endswith((b"NO 13", b"NO 14"))
-        return good
+            if not wanted.endswith((b"NO 13", b"NO 14")):
+                good += 1
+                seen.add(outcome(line, reply))
+        return good, seen
     except Wrong as wrong:
         return str(wrong)
 
@@ -181,12 +226,15 @@ def try_chunk(job):
 def main():
     program, lines, folder = begin("lines", sys.argv, 10_000_000, 200_000)
     started = time.monotonic()
-    good = 0
+    good, seen = 0, set()
     with multiprocessing.Pool(os.cpu_count()) as pool:
         for answer in pool.imap_unordered(try_chunk, [(program, seed) for seed in range(lines // CHUNK)]):
             if isinstance(answer, str):
                 sys.exit(f"lines: {answer}")
-            good += answer
+            good, seen = good + answer[0], seen | answer[1]
+    missing = {(word, how) for word in ACTIONS for how in outcomes(word)} - seen
+    if missing:
+        sys.exit(f"lines: never seen: {sorted(missing)}")
     finish("lines", folder, f"{lines} lines, {good} of them good, none read in another way, {time.monotonic() - started:.0f} s")
 
 

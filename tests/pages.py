@@ -105,7 +105,8 @@ def claims(found):
         if not line.startswith("| alm_"):
             continue
         crates, by = line.split("|")[1].replace(",", " ").split(), line.split("|")[-2]
-        below = set().union(*(crates_below(crate) for crate in crates))
+        named = [*crates, *re.findall(r"in (alm_\w+)", by)]
+        below = set().union(*(crates_below(crate) for crate in named))
         source = "".join(text_of(path) for crate in below for path in TOP.glob(f"crates/{crate}/src/**/*.rt"))
         for word in {word for name in QUOTED.findall(by) for word in name.split("::")}:
             found.check(re.search(rf"\b{word}\b", source), "docs/PROVED.md:", ", ".join(crates), "has no", word)

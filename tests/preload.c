@@ -1,12 +1,17 @@
 /* Makes one call of a program fail, or ends the program at it. Loaded before the C library (LD_PRELOAD).
  *
  *     ALM_FAULT=CALL:N:KIND[:SEED]   at the N-th CALL, from 1
+ *     ALM_MET=FILE                   is made as that call comes
  *     ALM_COUNTS=FILE                at the end of the program: how often each call was made, a line each
+ *     ALM_CALLS=FILE                 the calls on files in their order, a line each: name and path, or name, place and length
+ *     ALM_BODY=ignores               stands for a program that ignores failed writes and syncs: to it they succeed
+ *     ALM_BODY=keeps                 stands for a program that never lets the kernel forget: posix_fadvise does nothing
  *
- * CALL is pwrite, pread, fdatasync, fsync, ftruncate, openat, memory (each request for it), thread (each that is started), or
- * device: any of pwrite, pread, fdatasync. KIND is
+ * CALL is pwrite, pread, fdatasync, fsync, fadvise, ftruncate, openat, statx, memory (each request for it), thread (each that is
+ * started), or device: any of pwrite, pread, fdatasync. KIND is
  *
  *     eio, enospc   the call does nothing and fails so (of memory or a thread: it is refused)
+ *     disk          while the call runs the file ALM_DISK exists, which makes the disk below fail (badfs.c)
  *     from          this request for memory and all behind it are refused
  *     short         a write or read of half the bytes, where it has more than one
  *     kill          the process is killed before the call
@@ -28,13 +33,15 @@
 #include <stdio.h>
 #include <stdlib.h>
 #include <string.h>
+#include <sys/stat.h>
 #include <sys/syscall.h>
 #include <sys/types.h>
 #include <unistd.h>
 
-enum call { PWRITE, PREAD, FDATASYNC, FSYNC, FTRUNCATE, OPENAT, MEMORY, THREAD, DEVICE, CALLS };
+enum call { PWRITE, PREAD, FDATASYNC, FSYNC, FADVISE, FTRUNCATE, OPENAT, STATX, MEMORY, THREAD, DEVICE, CALLS };
 
-static const char *const names[CALLS] = {"pwrite", "pread", "fdatasync", "fsync", "ftruncate", "openat", "memory", "thread", "device"};
+static const char *const names[CALLS] = {"pwrite", "pread", "fdatasync", "fsync", "fadvise", "ftruncate",
+                                         "openat", "statx", "memory",    "thread", "device"};
 
 struct pending {
     struct pending *next;
@@ -49,7 +56,9 @@ static enum call wanted = CALLS;
 static unsigned long wanted_at;
 static char kind[16];
 static uint64_t seed;
-static const char *counts;
+static const char *counts, *met, *disk;
+static int calls = -1;
+static bool ignores, keeps;
 static bool ready;
 static struct pending *pending;
 static int pending_lock;
@@ -72,6 +81,13 @@ static void begin(void) {
     if (ready) return;
     ready = true;
     counts = getenv("ALM_COUNTS");
+    met = getenv("ALM_MET");
+    disk = getenv("ALM_DISK");
+    const char *body = getenv("ALM_BODY");
+    ignores = body && !strcmp(body, "ignores");
+    keeps = body && !strcmp(body, "keeps");
+    const char *listed = getenv("ALM_CALLS");
+    if (listed) calls = syscall(SYS_openat, AT_FDCWD, listed, O_WRONLY | O_CREAT | O_APPEND, 0644);
     const char *fault = getenv("ALM_FAULT");
     if (!fault) return;
     char call[16] = "";
@@ -96,6 +112,22 @@ __attribute__((destructor)) static void end(void) {
 void _exit(int status) {
     end();
     for (;;) syscall(SYS_exit_group, status);
+}
+
+/* Writes a call to the list: with its place and length, or with its file's path if it has none. */
+static void list(enum call call, int file, const char *path, off_t at, size_t length) {
+    begin();
+    if (calls < 0) return;
+    char link[64], target[256] = "", line[400];
+    if (!path && length == 0) {
+        snprintf(link, sizeof link, "/proc/self/fd/%d", file);
+        ssize_t got = syscall(SYS_readlink, link, target, sizeof target - 1);
+        target[got < 0 ? 0 : got] = 0;
+        path = target;
+    }
+    int wrote = path ? snprintf(line, sizeof line, "%s %s\n", names[call], path)
+                     : snprintf(line, sizeof line, "%s %lld %zu\n", names[call], (long long)at, length);
+    syscall(SYS_write, calls, line, wrote);
 }
 
 /* Whether this call, which is counted, is the one that shall fail. */
@@ -175,28 +207,36 @@ static void fail_power(void) {
     die();
 }
 
+/* Notes that the call that shall fail was made. */
+static void tell_met(void) {
+    if (met) syscall(SYS_close, syscall(SYS_openat, AT_FDCWD, met, O_WRONLY | O_CREAT, 0644));
+}
+
 /* Does what shall be done at this call, and says whether it fails. */
 static bool fails(void) {
+    tell_met();
     if (!strcmp(kind, "kill")) die();
     if (!strcmp(kind, "eio") || !strcmp(kind, "enospc")) {
         errno = kind[1] == 'i' ? EIO : ENOSPC;
         return true;
     }
-    if (strcmp(kind, "short")) fail_power();
+    if (strcmp(kind, "short") && strcmp(kind, "disk")) fail_power();
     return false;
 }
 
 static ssize_t write_at(int file, const void *bytes, size_t length, off_t at) {
     bool hit = is_wanted(PWRITE);
+    list(PWRITE, file, NULL, at, length);
     if (!hit || (strcmp(kind, "eio") && strcmp(kind, "enospc") && strcmp(kind, "kill"))) note(file, bytes, length, at);
     if (hit) {
-        if (fails()) return -1;
+        if (fails()) return ignores ? (ssize_t)length : -1;
         if (length > 1) length /= 2;
     }
     return syscall(SYS_pwrite64, file, bytes, length, at);
 }
 
 static ssize_t read_at(int file, void *into, size_t length, off_t at) {
+    list(PREAD, file, NULL, at, length);
     if (is_wanted(PREAD)) {
         if (fails()) return -1;
         if (length > 1) length /= 2;
@@ -204,21 +244,48 @@ static ssize_t read_at(int file, void *into, size_t length, off_t at) {
     return syscall(SYS_pread64, file, into, length, at);
 }
 
+/* The disk fails from now on, or works again. */
+static void break_disk(bool fails) {
+    if (fails) syscall(SYS_close, syscall(SYS_openat, AT_FDCWD, disk, O_WRONLY | O_CREAT, 0644));
+    else syscall(SYS_unlink, disk);
+}
+
 static int sync_by(enum call call, long number, int file) {
-    if (is_wanted(call) && fails()) return -1;
-    int answer = syscall(number, file);
+    list(call, file, NULL, 0, 0);
+    bool hit = is_wanted(call);
+    if (hit && fails()) return ignores ? 0 : -1;
+    if (hit && disk) break_disk(true);
+    int answer = syscall(number, file), error = errno;
+    if (hit && disk) break_disk(false);
     if (answer == 0) forget(file);
-    return answer;
+    errno = error;
+    return ignores ? 0 : answer;
+}
+
+/* It gives the number of its error. */
+static int advise(int file, off_t at, off_t length, int advice) {
+    list(FADVISE, file, NULL, 0, 0);
+    if (is_wanted(FADVISE) && fails()) return errno;
+    if (keeps) return 0;
+    return syscall(SYS_fadvise64, file, at, length, advice) ? errno : 0;
 }
 
 static int truncate_to(int file, off_t length) {
+    list(FTRUNCATE, file, NULL, 0, length);
     if (is_wanted(FTRUNCATE) && fails()) return -1;
     return syscall(SYS_ftruncate, file, length);
 }
 
 static int open_at(int folder, const char *path, int flags, mode_t mode) {
+    list(OPENAT, -1, path, 0, 0);
     if (is_wanted(OPENAT) && fails()) return -1;
     return syscall(SYS_openat, folder, path, flags, mode);
+}
+
+int statx(int folder, const char *path, int flags, unsigned mask, struct statx *into) {
+    list(STATX, folder, *path ? path : NULL, 0, 0);
+    if (is_wanted(STATX) && fails()) return -1;
+    return syscall(SYS_statx, folder, path, flags, mask, into);
 }
 
 ssize_t pwrite(int file, const void *bytes, size_t length, off_t at) { return write_at(file, bytes, length, at); }
@@ -227,6 +294,8 @@ ssize_t pread(int file, void *into, size_t length, off_t at) { return read_at(fi
 ssize_t pread64(int file, void *into, size_t length, off_t at) { return read_at(file, into, length, at); }
 int fdatasync(int file) { return sync_by(FDATASYNC, SYS_fdatasync, file); }
 int fsync(int file) { return sync_by(FSYNC, SYS_fsync, file); }
+int posix_fadvise(int file, off_t at, off_t length, int advice) { return advise(file, at, length, advice); }
+int posix_fadvise64(int file, off_t at, off_t length, int advice) { return advise(file, at, length, advice); }
 int ftruncate(int file, off_t length) { return truncate_to(file, length); }
 int ftruncate64(int file, off_t length) { return truncate_to(file, length); }
 

@@ -7,6 +7,7 @@ import os
 import random
 import re
 import shutil
+import socket
 import subprocess
 import sys
 import tempfile
@@ -20,6 +21,19 @@ PORTS = (10_000, 32_000)
 # The lines that `fault` may end with, and their statuses.
 FAULT = re.compile(rb"fault (usage|toml|table (\d+|-) .*|rows|too-small|unformatted|damaged [012] \d+|disk|stopped|memory|net|io)\n")
 STATUS = {b"usage": 1, b"toml": 2, b"table": 2, b"rows": 2, b"too-small": 2, b"unformatted": 2, b"damaged": 2}
+
+
+def free_ports():
+    """The first of 18 ports that are free, found at a drawn place, so that two scripts rarely meet."""
+    while True:
+        first = random.randrange(*PORTS)
+        try:
+            for port in range(first, first + 18):
+                with socket.socket() as one:
+                    one.bind(("127.0.0.1", port))
+            return first
+        except OSError:
+            pass
 
 
 class Wrong(Exception):
@@ -51,9 +65,20 @@ class Fault:
     """A call that shall fail."""
 
     def __init__(self, library, call, at, kind, seed=0):
-        self.text, self.kind = f"{call}:{at}:{kind}:{seed}", kind
-        self.kills = kind not in ("eio", "enospc", "short", "from")
-        self.loaded = {"LD_PRELOAD": library, "ALM_FAULT": self.text}
+        self.text, self.call, self.at, self.kind = f"{call}:{at}:{kind}:{seed}", call, at, kind
+        self.kills = kind not in ("eio", "enospc", "short", "from", "disk")
+        self.met = os.path.join(os.path.dirname(library), "met")
+        self.loaded = {"LD_PRELOAD": library, "ALM_FAULT": self.text, "ALM_MET": self.met}
+        self.forget()
+
+    def forget(self):
+        """Before a run: the call didn't come."""
+        if os.path.exists(self.met):
+            os.remove(self.met)
+
+    def was_met(self):
+        """Whether the call came."""
+        return os.path.exists(self.met)
 
 
 def ends(run, fault, *words):
@@ -123,12 +148,15 @@ def stopped_reply(line, reply):
 class Course:
     """A device, lines for a desk over it, their replies, and what the device stands for after each."""
 
-    def __init__(self, program, folder, seed, count, table=PLANT):
+    def __init__(self, program, folder, seed, count, table=PLANT, lines=None, start=None):
         self.program, self.folder = program, folder
-        self.lines = draw_lines(seed, count)
+        self.lines = lines or draw_lines(seed, count)
         self.fresh = os.path.join(folder, f"fresh{seed}")
-        run = run_words(program, ["format", self.fresh, table])
-        check(run.returncode == 0, "format", run.stderr)
+        if start:
+            shutil.copyfile(start, self.fresh)
+        else:
+            run = run_words(program, ["format", self.fresh, table])
+            check(run.returncode == 0, "format", run.stderr)
         self.states, self.replies = [state(program, self.fresh)], []
         device, copy = os.path.join(folder, "course"), os.path.join(folder, "copy")
         shutil.copyfile(self.fresh, device)

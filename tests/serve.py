@@ -4,13 +4,16 @@
     tests/serve.py PROGRAM [--short]
 
 Clients on all ports ask one request after another, each behind the answer to its last; the device then stands for the accepted
-actions in the order of their numbers. Then some do so while at each call on the device's file in turn the call fails, the process is killed
-or the power fails, or while from a request on there is no more memory: the server has ended with the status of its fault line, and
-the device holds each action that was answered, at the number that the answer named, and of those without an answer what may have come
-before or behind. Clients with all the requests out that they may have get all replies in order. Of two clients that are answered
-together one asks a little later than the other: both go by one commit. A server that nobody asks ends its checkpoint. Each request for memory,
-and each thread, is refused in turn. Lines of a grammar that breaks itself (lines.py) are sent to a port in pieces that end anywhere; the replies
-fit the second reading of the lines. Connections that end their sending while replies are owed get these, and their end.
+actions in the order of their numbers. Then each call on the device's file in turn fails, or the process is killed or
+the power fails in it, or from a request on there is no more memory. The server ends by itself within ten seconds, with the fault line that is
+due and its status. The device holds each action that was answered, at the number that the answer named, and of those without an answer what
+may have come before or after.
+
+Clients with all the requests out that they may have get all replies in order. Of two clients that are answered together one asks a little
+later than the other: both go by one commit. A server that nobody asks ends its checkpoint. Each request for memory, and each thread, is
+refused in turn. Lines of a grammar that breaks itself (lines.py) are sent to a port in pieces that end anywhere; the replies fit the second
+reading of the lines. Connections that end their sending while replies are owed get these, and their end. The calls of an opening, and of
+the commits and checkpoints after it, are those that calls.py lists. Servers that ignore a failure are refused.
 """
 import itertools
 import os
@@ -25,14 +28,18 @@ import threading
 import time
 
 import lines as grammar
+from calls import Layout, check_list, commits, on_device, opening, read_calls, split_opening
 from program import PLANT, PORTS, Fault, Wrong, begin, check, ends, finish, preload, run_words, state
 
 SLOTS = (0, 5, 16, 17)
+LAYOUT = Layout(28_997, 4, 2)  # of the worked plant
 OUT = 64  # so many requests of a connection may be unanswered
 SLOW = os.path.join(os.path.dirname(os.path.abspath(__file__)), "..", "bench", "serve", "sync.c")  # syncs that take their time
 FEW = [(b"1 SHELVE 0 60", b"1 OK 1\n"), (b"2 LIST P 1", b"2 LIST 1 0\n"), (b"3 OOS 1 ON", b"3 OK 2\n"), (b"4 LIST A 0", b"4 LIST 2 0\n"),
        (b"5 CHATTER", b"5 CHATTER 2 0\n")]
-STOPS = (b"fault stopped\n", b"fault disk\n", b"fault io\n")
+DISK, STOPPED, MEMORY = b"fault disk\n", b"fault stopped\n", b"fault memory\n"
+END_WITHIN = 10  # seconds, after a failed call
+KILLED = -9  # the status of a server that this script ended
 KINDS = ["eio", "enospc", "kill", "old", "new", "zeros", "a5", "ff", "alternating", "mixed"]
 
 
@@ -54,10 +61,18 @@ class Server:
 
     def end(self):
         """What it said at its end; it is killed where it runs."""
-        if self.serves:
+        if self.serves and self.process.returncode is None:
             self.process.kill()
             self.errors = self.process.communicate()[1]
         return self.errors
+
+    def ends_by_itself(self, within):
+        """Whether it ends by itself in this number of seconds."""
+        try:
+            self.errors += self.process.communicate(timeout=within)[1] if self.serves else b""
+        except subprocess.TimeoutExpired:
+            return False
+        return True
 
     def wait(self):
         """What it printed behind its first line, once it has ended."""
@@ -176,20 +191,23 @@ class Serving:
         check(run.returncode == 0, "desk", run.stderr)
         return state(self.program, device)
 
-    def one_fault(self, fault, seed, count, told=STOPS):
+    def one_fault(self, fault, seed, count, told=None, body=None, within=END_WITHIN):
+        """Clients of a server in which a call fails. What it said at its end. If the call came, it ended by itself, with the line that is due."""
         device = os.path.join(self.folder, "device")
         shutil.copyfile(self.fresh, device)
-        server = self.start(device, fault.loaded)
+        server = self.start(device, {**fault.loaded, **(body or {})})
         clients = [Client(server, slot, seed * 100 + slot, count) for slot in SLOTS] if server.serves else []
         for client in clients:
             client.start()
         for client in clients:
             client.join()
-        if server.process.poll() is None:
-            time.sleep(0.05)
+        has_failed = fault.was_met() and not fault.kills
+        ended = not has_failed or server.ends_by_itself(within)
         said = server.end()
-        if not fault.kills and server.process.returncode != -9:
-            check(said in told and server.process.returncode == 3, fault.text, server.process.returncode, said)
+        check(ended, fault.text, "failed, and the server goes on")
+        if has_failed or server.process.returncode != KILLED:
+            due = told or ((STOPPED,) if server.serves else (DISK,))
+            check(said in due and server.process.returncode == 3, fault.text, server.process.returncode, said)
         self.judge(device, fault, clients)
         return said
 
@@ -208,11 +226,40 @@ class Serving:
         raise Wrong(f"{fault.text}: the device stands for something else")
 
     def faults(self, step):
-        """A fault, a kill or a power cut at each call on the device's file. How many there were."""
-        cases = [(at, kind) for at in range(3, 261) for kind in KINDS][::step]
-        for seed, (at, kind) in enumerate(cases):
-            self.one_fault(Fault(self.library, "device", at, kind, seed), seed, 40)
+        """A fault, a kill or a power cut at each call on the device's file, and at the opening's syncs of file and folder. Some of the questions
+        whether the file is still there fail too. How many there were."""
+        cases = [("device", at, kind) for at in range(1, 261) for kind in KINDS][::step]
+        cases += [("fsync", at, kind) for at in (1, 2) for kind in KINDS[:3]]
+        cases += [("statx", at, "eio") for at in range(20, 60, 9)]
+        for seed, (call, at, kind) in enumerate(cases):
+            self.one_fault(Fault(self.library, call, at, kind, seed), seed, 40)
         return len(cases)
+
+    def ignored(self):
+        """The script's own test: a server that ignores a failed write or sync is refused. How many were."""
+        cases = [("fsync", 1), ("fsync", 2), ("fdatasync", 1), ("fdatasync", 2), ("fdatasync", 31), ("pwrite", 31)]
+        for call, at in cases:
+            fault = Fault(self.library, call, at, "eio")
+            try:
+                self.one_fault(fault, at, 40, body={"ALM_BODY": "ignores"}, within=1)
+            except Wrong:
+                continue
+            raise Wrong(f"a server that ignores {fault.text} isn't refused")
+        return len(cases)
+
+    def listed(self, count):
+        """One client that asks one action after another, and the calls on the device meanwhile. How many there were."""
+        device, path = os.path.join(self.folder, "device"), os.path.join(self.folder, "calls")
+        shutil.copyfile(self.fresh, device)
+        server = self.start(device, {"LD_PRELOAD": self.library, "ALM_CALLS": path})
+        with server.connect(17) as one, one.makefile("rb") as replies:
+            for moment in range(1, count + 1):
+                one.sendall(b"%d CLOCK %d\n" % (moment, moment))
+                check(replies.readline() == b"%d OK %d\n" % (moment, moment), "CLOCK", moment)
+        server.end()
+        wanted = commits(LAYOUT, count)
+        check_list(split_opening(on_device(read_calls(path, device)), opening(), "serve"), wanted, "serve")
+        return len(wanted)
 
     def scarcity(self, step):
         """From one of the last requests of a served connection on there is no more memory: what is stored can't be shown, and the server
@@ -220,7 +267,7 @@ class Serving:
         made, stopped = self.one_refusal(None)["memory"], 0
         for at in range(made - 40, made + 1, step):
             fault = Fault(self.library, "memory", at, "from")
-            stopped += self.one_fault(fault, at, 60, (b"fault memory\n", b"fault stopped\n")) == b"fault stopped\n"
+            stopped += self.one_fault(fault, at, 60, (MEMORY, STOPPED)) == STOPPED
         return stopped
 
     def whole(self, count):
@@ -339,7 +386,7 @@ class Serving:
             check(status == 0 and errors == b"" and len(said) == len(FEW), status, errors, said)
             with open(counts, encoding="ascii") as file:
                 return {name: int(number) for name, number in (line.split() for line in file)}
-        check((status, errors) in ((0, b""), (3, b"fault memory\n"), (3, b"fault stopped\n")), fault.text, status, errors)
+        check((status, errors) in ((0, b""), (3, MEMORY), (3, STOPPED)), fault.text, status, errors)
         check(status != 0 or (out == b"stopped 2\n" and len(said) == len(FEW)), fault.text, out, said)
         for (line, wanted), reply in zip(FEW, said):
             check(reply == wanted or reply == line.split()[0] + b" NO 16\n", fault.text, line, reply)
@@ -426,7 +473,9 @@ def main():
         crowded = serving.crowd(1500)
         together = serving.together(20)
         serving.idle()
+        listed = serving.listed(220)
         faults = serving.faults(step)
+        ignored = serving.ignored()
         stopped = serving.scarcity(step // 17 + 1)
         refused = serving.refusals("memory", step // 17 + 1)
         threads = serving.refusals("thread", step // 17 + 1)
@@ -435,7 +484,7 @@ def main():
     except Wrong as wrong:
         sys.exit(f"serve: {wrong}; devices are in {folder}")
     finish("serve", folder, f"{accepted} actions of 18 slots, {crowded} requests with {OUT} out, {together} commits for 20 rounds of two clients,"
-           f" {faults} faults, kills and power cuts,"
+           f" {listed} calls as listed, {faults} faults, kills and power cuts, {ignored} servers that ignore a failure refused,"
            f" {refused} requests for memory and {threads} threads refused, {stopped} stops for want of it, {lines} lines in pieces,"
            f" {halves} connections half closed, none wrong, {time.monotonic() - started:.0f} s")
 

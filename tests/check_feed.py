@@ -1,0 +1,225 @@
+"""feed.py, metrics.py and client.py against the built program. tests/clients.py runs these checks."""
+import os
+import re
+import shutil
+import socket
+import subprocess
+import sys
+import time
+import urllib.error
+import urllib.request
+
+from alarm_client import CLOCK, FEED, PRIORITIES, Client
+from program import check
+from table_file import image_length, load_table
+from tools import EXAMPLES, Yard, await_said, await_true, ended, start, stop, tool
+
+PLANT, REFINERY = str(EXAMPLES / "plant.toml"), str(EXAMPLES / "refinery.toml")
+LINES = """# a remark
+TI-101,3800
+TI-101, 3801
+NO-999,1
+TI-102,hot
+TI-102
+TI-103,4000
+TI-104,design,up
+PI-104,design,on
+PI-104,Design,ON
+PI-104,185
+"""
+DAY = 86_400
+SNIPPET = re.compile(r"```python\n(.*?)```", re.DOTALL)
+
+
+def demonstration(yard: Yard) -> str:
+    """client.py prints what its page says, over a server and over a desk, whose status it prints too."""
+    server = yard.serve(yard.format("client.device", PLANT))
+    run = tool("client.py", "--port", server.port)
+    server.end()
+    page = (EXAMPLES / "README.md").read_text(encoding="utf-8")
+    check(run.returncode == 0 and run.stdout in page, "client.py printed", run.stdout, run.stderr)
+    desk = tool("client.py", "--program", yard.program)
+    check(desk.returncode == 0 and desk.stdout == run.stdout + "status 0\n", desk.stdout, desk.stderr)
+    failing = yard.write("failing", f'#!/bin/sh\n{yard.program} "$@"\nexit 3\n')
+    os.chmod(failing, 0o700)
+    desk = tool("client.py", "--program", failing)
+    check(desk.stdout == run.stdout + "status 3\n", "of a desk with status 3 client.py printed", desk.stdout, desk.stderr)
+    return "client.py"
+
+
+def snippets(yard: Yard) -> str:
+    """The clients that the page of examples/ shows run as they stand, one after the other at a new plant."""
+    server = yard.serve(yard.format("snippets.device", PLANT))
+    printed = []
+    for code in SNIPPET.findall((EXAMPLES / "README.md").read_text(encoding="utf-8")):
+        code = code.replace("(5000,", f"({server.port},")
+        run = subprocess.run([sys.executable, "-c", code], cwd=EXAMPLES, capture_output=True, text=True, timeout=60)
+        check(run.returncode == 0 and not run.stderr, code, run.stderr)
+        printed.append(run.stdout)
+    server.end()
+    check(printed == ["0 UNACK\n", "UNACK\n"], "the clients of the page print", printed)
+    return "the page's clients"
+
+
+def methods(yard: Yard) -> str:
+    """Each method of alarm_client.py asks what its name says: the plant shows it."""
+    device = yard.format("methods.device", PLANT)
+    server = yard.serve(device)
+    with Client.connect(server.port, CLOCK) as clock, Client.connect(server.port, FEED) as feed, Client.connect(server.port, 7) as console:
+        clock.clock(1000)
+        feed.value(1, 100)
+        feed.value(3, 50)
+        feed.value(0, 800)
+        feed.value(2, 1)
+        check(console.area_list(0).alarms == [1, 0] and console.area_list(1).alarms == [3, 2], "the lists of the areas are others")
+        check(console.priority_list(2).alarms == [1] and console.priority_list(1).alarms == [0, 2], "the lists of the priorities are others")
+        feed.value(2, 0)
+        console.acknowledge(2)
+        check((console.state(2).shown, console.reset(2), console.state(2).shown) == ("LATAK", 7 + 1, "NORM"), "RESET")
+        console.oos(0, True)
+        feed.design(0, True)
+        console.shelve(0, 300)
+        check((console.state(0).flags, console.state(0).shown, console.state(0).deadline) == ("ODS", "OOSRV", 1300), console.state(0))
+        check(console.wheel_list(1300 % 256).alarms == [0] == console.shelved() and console.wheel_list(0).alarms == [], "LIST S")
+        console.oos(0, False)
+        console.unshelve(0)
+        feed.design(0, False)
+        check(console.state(0).flags == "", console.state(0))
+        console.priority(3, 4)
+        console.setpoint(3, -7)
+        check(console.priority_list(4).alarms == [3] and console.action_count() == 16, console.action_count())
+        check(console.flood(0).window == 3 and [flood.window for flood in console.floods()] == [3, 2], console.floods())
+    server.end()
+    exported = yard.run("export", device)
+    check("priority = 4\nsetpoint = -7\n" in exported, exported)
+    return "alarm_client.py"
+
+
+def feed(yard: Yard) -> str:
+    """Values go by their tags; what is wrong is said; the last of each tag is sent again to a server that comes back."""
+    device = yard.format("feed.device", REFINERY)
+    fresh = shutil.copyfile(device, yard.path("fresh.device"))
+    server = yard.serve(device)
+    run = tool("feed.py", "--port", server.port, REFINERY, text=LINES)
+    check(run.returncode == 1 and run.stdout == "3 changed a condition, 3 didn't, 0 refused, 4 bad lines\n", run.stdout, run.stderr)
+    for said in ("NO-999,1: the table has no such tag", "TI-102,hot: the value is no whole number", "TI-104,design,up: the table has no such tag"):
+        check(said in run.stderr, said, "isn't in", run.stderr)
+    with Client.connect(server.port, 0) as console:
+        check((console.state(0).shown, console.state(3).shown) == ("UNACK", "DSUPR"), console.state(0), console.state(3))
+    values = yard.write("values", "".join(f"{alarm.tag},{alarm.setpoint}\n" for alarm in load_table(REFINERY).alarms))
+    run = tool("feed.py", "--port", server.port, REFINERY, values)
+    check(run.returncode == 0 and run.stdout == "198 changed a condition, 2 didn't, 0 refused, 0 bad lines\n", run.stdout, run.stderr)
+    server.end()
+    sends_again(yard, shutil.copyfile(fresh, device))
+    return "feed.py"
+
+
+def sends_again(yard: Yard, device: str) -> None:
+    """The values that a dead server may have lost are sent again: the last of each tag, and suppressions before them."""
+    lost = shutil.copyfile(device, yard.path("lost.device"))
+    server = yard.serve(device)
+    running = start("feed.py", "--port", server.port, REFINERY)
+    running.stdin.write("TI-101,3800\nTI-102,4100\n")
+    running.stdin.flush()
+    await_true("the first values", lambda: yard.annunciated(server.port) == {0, 1})
+    running.stdin.write("TI-101,3700\nPI-104,185\nPI-105,design,on\nPI-105,210\nLI-107,design,on\nLI-107,850\nLI-107,design,off\n")
+    running.stdin.flush()
+    await_true("the last values", lambda: yard.annunciated(server.port) == {0, 1, 3, 6})
+    server.end()
+    count = int(yard.summary(device)["count"])
+    yard.run("desk", lost, lines="".join(f"17 1 CLOCK {moment}\n" for moment in range(1, count + 1)))
+    shutil.copyfile(lost, device)
+    server = yard.serve(device, server.port)
+    await_true("the values that are sent again", lambda: yard.annunciated(server.port) == {1, 3, 6})
+    with Client.connect(server.port, 0) as console:
+        check(console.state(4).shown == "DSUPR" and console.state(4).condition and not console.state(0).condition, console.states(range(8)))
+        check(console.action_count() == count + 5, "what is sent again are", console.action_count() - count, "actions")
+        check(console.flood(0).window == 3, "what is to be suppressed was annunciated before:", console.flood(0))
+    printed, said = running.communicate(timeout=60)
+    server.end()
+    check(running.returncode == 0 and "7 values are sent again" in said, printed, said)
+
+
+def metrics(yard: Yard) -> str:
+    """What the exporter shows is what the server shows."""
+    device = yard.format("metrics.device", REFINERY)
+    server = yard.serve(device)
+    running = start("metrics.py", "--port", server.port, "--listen", 0, "--device", device, "--table", REFINERY)
+    address = await_said(running, "/metrics").split()[1]
+    with Client.connect(server.port, CLOCK) as clock, Client.connect(server.port, FEED) as feed, Client.connect(server.port, 0) as console:
+        clock.clock(1000)
+        came = load_table(REFINERY).alarms[:12]
+        for alarm, entry in enumerate(came):
+            feed.value(alarm, entry.setpoint)
+        console.acknowledge(1)
+        console.shelve(5, 60)
+        for priority in PRIORITIES:
+            number = sum(entry.priority == priority for entry in came) - (priority in (came[1].priority, came[5].priority))
+            holds(address, f'alarms_annunciated{{priority="{priority}",state="UNACK"}} {number}')
+        size = (16_777_216 - 23) // 2 - 25 - image_length(200, 8)
+        holds(address, 'alarms_annunciated{priority="1",state="ACKED"} 1', "alarms_up 1", "alarms_shelved 1", "alarms_stale 0",
+              "alarms_actions_total 15", "alarms_chattering 0", 'alarms_area_annunciations{area="0"} 12', 'alarms_area_flooded{area="0"} 1',
+              'alarms_area_flooded{area="7"} 0', f"alarms_journal_size_bytes {size}", "alarms_epoch 1", f"alarms_journal_bytes {15 * 35}")
+        for value in (0, 5000, 0, 5000):
+            feed.value(0, value)
+        holds(address, "alarms_chattering 1", "alarms_stale 0")
+        clock.clock(1000 + DAY)
+        holds(address, "alarms_chattering 0", "alarms_stale 11")
+    checked = lint(address)
+    silent(address)
+    server.end()
+    holds(address, "alarms_up 0")
+    stop(running)
+    stops_at_another(yard, device)
+    return f"metrics.py, {checked}"
+
+
+def holds(address: str, *lines: str) -> None:
+    text = scrape(address)
+    for line in lines:
+        check(line in text.splitlines(), line, "isn't in", text)
+
+
+def scrape(address: str) -> str:
+    """What an exporter says."""
+    return urllib.request.urlopen(address, timeout=60).read().decode()
+
+
+def lint(address: str) -> str:
+    """Prometheus' own tool takes it, where that is there."""
+    if not shutil.which("promtool"):
+        return "no promtool"
+    run = subprocess.run(["promtool", "check", "metrics"], input=scrape(address), capture_output=True, text=True, timeout=60)
+    check(run.returncode == 0 and not run.stdout + run.stderr, run.stdout, run.stderr)
+    return "promtool"
+
+
+def silent(address: str) -> None:
+    """Clients that connect and say nothing hold nobody up."""
+    port = int(address.split(":")[2].partition("/")[0])
+    silent_ones = [socket.create_connection(("127.0.0.1", port)) for _ in range(4)]
+    began = time.monotonic()
+    scrape(address)
+    check(time.monotonic() - began < 25, "silent clients held the exporter up")
+    for one in silent_ones:
+        one.close()
+
+
+def stops_at_another(yard: Yard, device: str) -> None:
+    """The exporter ends, with one line, where the plant has fewer actions than before, or doesn't fit the table."""
+    for path, table, why in ((yard.format("fewer.device", REFINERY), REFINERY, "its count of actions is 0, and it was "),
+                             (None, PLANT, f"{PLANT}: the plant has more alarms than the table's 4")):
+        server = yard.serve(device)
+        running = start("metrics.py", "--port", server.port, "--listen", 0, "--table", table)
+        address = await_said(running, "/metrics").split()[1]
+        if path:
+            holds(address, "alarms_up 1")
+            server.end()
+            server = yard.serve(path, server.port)
+        try:
+            check(False, "of another plant the exporter says", scrape(address))
+        except urllib.error.HTTPError as error:
+            check(error.code == 503, error)
+        status, _, said = ended(running)
+        server.end()
+        check(status == 1 and said.count("\n") == 1 and why in said, said)
