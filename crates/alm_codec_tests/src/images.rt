@@ -80,6 +80,8 @@ fn each_byte_changed(rt: HostRuntime) -> Result<(), Fail> {
         for byte in [0u8, 1, 0xa5, 0xff] {
             bytes[place] = byte;
             all = is_read_back::<PlainPlant>(alloc, &bytes)? && all;
+            // The image as it was is no damage.
+            all = (byte != was || read_image(alloc, &bytes, 4, 2, 4).is_ok()) && all;
         }
         bytes[place] = was;
     }

@@ -38,9 +38,11 @@ fn replies(alloc: Global, slots: (Slot, Slot)) -> Option<Vec<u8>> {
 fn a_list_without_memory_is_told_when_it_is_asked_for_again(rt: HostRuntime) -> Result<(), Fail> {
     let feed = Slot::new(16).ok_or("slot")?;
     let console = Slot::new(0).ok_or("slot")?;
-    if let Some(replies) = replies(rt.alloc(), (feed, console)) {
-        let told = replies.as_slice();
-        assert!(rt; told == TOLD || told == TOLD_LATER);
-    }
+    let told = match replies(rt.alloc(), (feed, console)) {
+        Some(told) => told,
+        None => replies(rt.alloc(), (feed, console)).ok_or("refused twice")?,
+    };
+    let told = told.as_slice();
+    assert!(rt; told == TOLD || told == TOLD_LATER);
     Ok(())
 }

@@ -5,8 +5,6 @@
 #![tactic(auto)]
 
 #[cfg(test)]
-mod bare;
-#[cfg(test)]
 mod choosers;
 #[cfg(test)]
 mod counted;

@@ -1,4 +1,5 @@
-//! Want of memory: run with each allocation refused in turn (`rt try --test --fail-alloc N`), the test of this module passes.
+//! Want of memory: run with each allocation refused in turn (`rt try --test --fail-alloc N`), the test of this module passes. One is refused at
+//! most, so what was refused is made the second time: a maker that always gives up doesn't pass.
 
 use alm_disk::MemDisk;
 use std::alloc::{AllocError, Global};
@@ -14,8 +15,9 @@ pub fn large(alloc: Global) -> Result<MemDisk, AllocError> {
 
 #[test]
 fn a_large_device_is_made_whole_or_not_at_all(rt: HostRuntime) -> Result<(), Fail> {
-    let Ok(disk) = large(rt.alloc()) else {
-        return Ok(());
+    let disk = match large(rt.alloc()) {
+        Ok(disk) => disk,
+        Err(_) => large(rt.alloc())?,
     };
     assert_eq!(rt; disk.bytes().len(), LARGE);
     assert_eq!(rt; disk.bytes().last(), Some(&7));

@@ -137,20 +137,9 @@ fn each_second_of_an_hour_forgets_one_second(rt: HostRuntime) -> Result<(), Fail
     Ok(())
 }
 
-/// Whether calls out of their conditions weren't made.
-fn refuses(measure: &mut Watched) -> bool {
-    !measure.annunciated(6)
-        && !measure.advance(Moment::start())
-        && measure.window(3).is_none()
-        && measure.age(0, 600).is_none()
-        && measure.moments(6).is_empty()
-}
-
 #[test]
-fn calls_out_of_their_conditions_were_not_made(rt: HostRuntime) -> Result<(), Fail> {
-    let mut measure = new_measure(rt.alloc())?;
-    let refused = refuses(&mut measure);
-    drop(measure);
-    assert!(rt; refused);
+fn an_alarm_beyond_the_table_has_no_moments(rt: HostRuntime) -> Result<(), Fail> {
+    let measure = new_measure(rt.alloc())?;
+    assert!(rt; measure.moments(6).is_empty());
     Ok(())
 }
