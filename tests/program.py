@@ -118,7 +118,7 @@ def draw_lines(seed, count):
     lines, clock = [], 0
     for number in range(1, count + 1):
         alarm, console, clock = dice.randrange(4), dice.randrange(16), clock + dice.randrange(1, 90)
-        kind = dice.randrange(16)
+        kind = dice.randrange(20)
         if kind < 7:
             line = f"16 {number} VAL {alarm} {dice.choice([0, 1, 49, 50, 90, 110, 789, 790, 800, 900])}"
         elif kind < 10:
@@ -131,6 +131,14 @@ def draw_lines(seed, count):
             line = f"{console} {number} RESET {alarm}"
         elif kind == 13:
             line = f"{console} {number} {dice.choice(['LIST P 1', 'LIST A 0', 'STATE 0', 'CHATTER', 'NOTHING', 'FLOOD 1'])}"
+        elif kind == 14:
+            line = f"{console} {number} UNSHELVE {alarm}"
+        elif kind == 15:
+            line = f"16 {number} DESIGN {alarm} {dice.choice(['ON', 'OFF'])}"
+        elif kind == 16:
+            line = f"{console} {number} PRIO {alarm} {dice.randrange(1, 5)}"
+        elif kind == 17:
+            line = f"{console} {number} SETP {alarm} {dice.choice([1, 49, 100, 800])}"
         else:
             line = f"17 {number} CLOCK {clock}"
         lines.append(line.encode() + b"\n")

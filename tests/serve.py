@@ -92,13 +92,16 @@ class Client(threading.Thread):
 
     def draw(self, number):
         alarm = self.dice.randrange(4)
+        if self.slot == 16 and self.dice.randrange(6) == 0:
+            return f"{number} DESIGN {alarm} {self.dice.choice(['ON', 'OFF'])}"
         if self.slot == 16:
             return f"{number} VAL {alarm} {self.dice.choice([0, 1, 49, 50, 90, 110, 790, 800, 900])}"
         if self.slot == 17:
             return f"{number} CLOCK {int(time.monotonic() * 1000) + number}"
-        kind = self.dice.randrange(4)
-        words = [f"ACK {alarm}", f"SHELVE {alarm} {self.dice.randrange(1, 3000)}", f"OOS {alarm} {self.dice.choice(['ON', 'OFF'])}", f"STATE {alarm}"]
-        return f"{number} {words[kind]}"
+        words = [
+            f"ACK {alarm}", f"SHELVE {alarm} {self.dice.randrange(1, 3000)}", f"OOS {alarm} {self.dice.choice(['ON', 'OFF'])}", f"STATE {alarm}",
+            f"UNSHELVE {alarm}", f"PRIO {alarm} {self.dice.randrange(1, 5)}", f"SETP {alarm} {self.dice.choice([1, 49, 100, 800])}"]
+        return f"{number} {self.dice.choice(words)}"
 
     def run(self):
         try:
