@@ -1,5 +1,7 @@
-//! A device's file beside the standard streams, in a process whose standard input is closed.
+//! A device's file: beside the standard streams in a process whose standard input is closed, taken away, and locked.
 #![tactic(auto)]
 
 #[cfg(test)]
 mod closed_input;
+#[cfg(test)]
+mod places;
