@@ -11,7 +11,7 @@ use Rattle.alm_state.specs.Suits.{suits}
 use Rattle.alm_state.specs.Table.{next_core}
 use Rattle.alm_state.specs.Detection.{detection_of, comes, goes}
 use Rattle.alm_state.specs.Outcome.{outcome, row_refusal, after_flags, after_condition, after_transition, without_shelving, flag_refusal, unless, or_else}
-use Rattle.alm_laws.specs.Alarm.{Takes, row_left, is_unacknowledged, is_latched, acknowledges, resets, suppresses, condition_comes, last_flag_falls, LeavesUnacknowledgedOnlyByAckOrFlag, LeavesLatchOnlyByResetOrFlag, IsAnnunciatedJustThen, WaitsWithStamp, EndsShelvingJustByUnshelve, BeginsShelvingOnlyByShelve}
+use Rattle.alm_laws.specs.Alarm.{TakesAction, row_left, is_unacknowledged, is_latched, acknowledges, resets, suppresses, condition_comes, last_flag_falls, LeavesUnacknowledgedOnlyByAckOrFlag, LeavesLatchOnlyByResetOrFlag, IsAnnunciatedJustThen, WaitsWithStamp, EndsShelvingJustByUnshelve, BeginsShelvingOnlyByShelve}
 use Rattle.alm_state.specs.declared.core_state.Core.{Core}
 use Rattle.alm_state.specs.declared.core_state.Core.TheVariants.{Normal, Unack, Acked, RtnUnack, LatchUnack, LatchAcked}
 use Rattle.alm_state.specs.declared.happening.Happening.{Happening}
@@ -123,7 +123,7 @@ value-unacknowledged stamp a s (Some active) e =
     ]
 
 -- nobody acknowledges for the operator
-pub acknowledged-only : (now stamp : ℕ) (action : Action) (a : Attr) (s : State) → Takes action a s → LeavesUnacknowledgedOnlyByAckOrFlag action s (row_left (outcome now stamp action a s))
+pub acknowledged-only : (now stamp : ℕ) (action : Action) (a : Attr) (s : State) → TakesAction action a s → LeavesUnacknowledgedOnlyByAckOrFlag action s (row_left (outcome now stamp action a s))
 acknowledged-only now stamp (Clock t) a s h e f = not-both _ e f
 acknowledged-only now stamp (Value i v) a s h e f = not-both _ (value-unacknowledged stamp a s (detection_of a s.active v) e) f
 acknowledged-only now stamp (Ack i) a s h e f = refl
@@ -188,7 +188,7 @@ value-latched stamp a s (Some active) e =
 loud-normal : {A : Type 0} (c : Core) → is_annunciated c ≡ true → c ≡ Normal → A
 loud-normal c loud e = absurd (true≢false (sym loud ∙ ap is_annunciated e))
 
-pub latched-until : (now stamp : ℕ) (action : Action) (a : Attr) (s : State) → Takes action a s → LeavesLatchOnlyByResetOrFlag action s (row_left (outcome now stamp action a s))
+pub latched-until : (now stamp : ℕ) (action : Action) (a : Attr) (s : State) → TakesAction action a s → LeavesLatchOnlyByResetOrFlag action s (row_left (outcome now stamp action a s))
 latched-until now stamp (Clock t) a s h e f = loud-normal _ (latched-loud s.core e) f
 latched-until now stamp (Value i v) a s h e f = loud-normal _ (value-latched stamp a s (detection_of a s.active v) e) f
 latched-until now stamp (Ack i) a s h e f = loud-normal _ (left-latched stamp a.latching happening.Ack s s.active refl e) f
@@ -327,7 +327,7 @@ shelve-quiet true x = refl
 shelve-quiet false true = refl
 shelve-quiet false false = refl
 
-pub annunciated-then : (now stamp : ℕ) (action : Action) (a : Attr) (s : State) → Takes action a s → IsAnnunciatedJustThen s (outcome now stamp action a s)
+pub annunciated-then : (now stamp : ℕ) (action : Action) (a : Attr) (s : State) → TakesAction action a s → IsAnnunciatedJustThen s (outcome now stamp action a s)
 annunciated-then now stamp (Clock t) a s h = quiet (is_suppressed s) s.active s.active (same-active s.active)
 annunciated-then now stamp (Value i v) a s h = value-then stamp a s v (detection_of a s.active v) h.state refl
 annunciated-then now stamp (Ack i) a s h = led-quiet stamp s (next_core a.latching happening.Ack s.core) s.active (ack-quiet a.latching s.core) (same-active s.active)
@@ -431,7 +431,7 @@ shelve-free : (o : Option ℕ) (p : Option Refusal) → or_else (unless (is_none
 shelve-free None p e = refl
 shelve-free (Some d) p e = absurd (none-some _ (sym e))
 
-pub shelving-ends : (now stamp : ℕ) (action : Action) (a : Attr) (s : State) → Takes action a s → EndsShelvingJustByUnshelve action s (row_left (outcome now stamp action a s))
+pub shelving-ends : (now stamp : ℕ) (action : Action) (a : Attr) (s : State) → TakesAction action a s → EndsShelvingJustByUnshelve action s (row_left (outcome now stamp action a s))
 shelving-ends now stamp (Clock t) a s h e = inr (refl, refl)
 shelving-ends now stamp (Value i v) a s h e = inr (refl, value-shelving stamp a s (detection_of a s.active v))
 shelving-ends now stamp (Ack i) a s h e = inr (refl, led-shelving stamp (next_core a.latching happening.Ack s.core) s)
@@ -552,12 +552,12 @@ pub resets-taken : (action : Action) (a : Attr) (s : State) → resets action �
 resets-taken (Reset i) a s e fits = taken _ NotResettable ∙ reset-taken a.latching s.core fits
 resets-taken action a s e fits = absurd (true≢false (sym e))
 
-pub acknowledge-done : (now stamp : ℕ) (action : Action) (a : Attr) (s : State) → acknowledges action ≡ true → Takes action a s → is_unacknowledged (row_left (outcome now stamp action a s)).core ≡ false
+pub acknowledge-done : (now stamp : ℕ) (action : Action) (a : Attr) (s : State) → acknowledges action ≡ true → TakesAction action a s → is_unacknowledged (row_left (outcome now stamp action a s)).core ≡ false
 acknowledge-done now stamp (Ack i) a s e h =
     ap is_unacknowledged (led-core stamp (next_core a.latching happening.Ack s.core) s) ∙ ack-acked a.latching s.core (unless-none (is_some (next_core a.latching happening.Ack s.core)) NotUnacknowledged h.admitted)
 acknowledge-done now stamp action a s e h = absurd (true≢false (sym e))
 
-pub reset-done : (now stamp : ℕ) (action : Action) (a : Attr) (s : State) → resets action ≡ true → Takes action a s → (row_left (outcome now stamp action a s)).core ≡ Normal
+pub reset-done : (now stamp : ℕ) (action : Action) (a : Attr) (s : State) → resets action ≡ true → TakesAction action a s → (row_left (outcome now stamp action a s)).core ≡ Normal
 reset-done now stamp (Reset i) a s e h =
     led-core stamp (next_core a.latching happening.Reset s.core) s ∙ reset-ended a.latching s.core (unless-none (is_some (next_core a.latching happening.Reset s.core)) NotResettable h.admitted)
 reset-done now stamp action a s e h = absurd (true≢false (sym e))

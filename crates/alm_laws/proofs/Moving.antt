@@ -12,7 +12,7 @@ use Rattle.alm_state.specs.Rows.{State}
 use Rattle.alm_state.specs.Outcome.{outcome, row_refusal, without_shelving, or_else}
 use Rattle.alm_state.specs.declared.outcome.Outcome.{Outcome}
 use Rattle.alm_state.specs.declared.outcome.Outcome.TheVariants.{Changed, Annunciated, Shelved}
-use Rattle.alm_laws.specs.Alarm.{Takes, row_left}
+use Rattle.alm_laws.specs.Alarm.{TakesAction, row_left}
 use Rattle.alm_lists.specs.Orders.{Precedes, RisesByRecursion}
 use Rattle.alm_lists.proofs.Sorted.{rises-filter}
 use Rattle.alm_model.specs.Plant.{Condensed}
@@ -127,7 +127,7 @@ pub record IsNamed (q : Condensed) (action : Action) (i : ℕ) (s t : State) : T
   pub timeless : is_clock action ≡ false
   pub attr : Attr
   pub has : slice_get q.panel.attrs i ≡ Some attr
-  pub takes : Takes action attr s
+  pub takes : TakesAction action attr s
   pub left : t ≡ row_left (outcome q.panel.now q.panel.next_stamp action attr s)
 
 -- its shelving ends by the clock

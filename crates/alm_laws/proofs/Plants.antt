@@ -23,7 +23,7 @@ use Rattle.alm_laws.specs.Alarm.{row_left, is_annunciation, is_unacknowledged, i
 use Rattle.alm_laws.proofs.AlarmLaws.{acknowledged-only, latched-until, shelving-ends, annunciated-then, annunciated-waits, unshelved-then, flags-waits, flags-shelving, calm, not-both, under-shelving, unless-none}
 use Rattle.alm_model.specs.Plant.{Panel, Condensed}
 use Rattle.alm_model.specs.Accept.{accept, answer, may_ask, refusal}
-use Rattle.alm_laws.specs.Plant.{Becomes, LeavesUnacknowledgedOnlyByAckOrFlag, LeavesLatchOnlyByResetOrFlag, ShelvingEndsOnlyByUnshelveOrClock, ClockEndsTheShelving, FreedIsAnnunciatedAnew, AnnunciatedOnlyThen, OthersStay, asker_of}
+use Rattle.alm_laws.specs.Plant.{Becomes, IsAcknowledgedByConsoleOrFlag, IsResetByConsoleOrFlag, ShelvingEndsOnlyByUnshelveOrClock, ClockEndsTheShelving, FreedIsAnnunciatedAnew, AnnunciatedOnlyThen, OthersStay, asker_of}
 use Rattle.alm_laws.proofs.Moving.{Moves, IsNamed, IsEnded, is_clock, alarm-at, step-moves}
 
 -- ---- what is accepted
@@ -121,7 +121,7 @@ module _ (q : Condensed) (r : Request) (i : ℕ) (s t : State) (b : Becomes q r 
   ended-good : (h : IsEnded q r.want s t) → IsOutcome (alarm-at q i s b.rules b.before).attr q.panel.now h.stamp s (without_shelving h.stamp s)
   ended-good h = unshelved-good (alarm-at q i s b.rules b.before).attr q.panel.now h.stamp s (let f = b.rules.first_stamp in let n = h.new in omega arith) state
 
-  pub acknowledged-by : LeavesUnacknowledgedOnlyByAckOrFlag r i s t
+  pub acknowledged-by : IsAcknowledgedByConsoleOrFlag r i s t
   acknowledged-by e f = elim moves [
     | inl h ↦ elim (or-either (acknowledges r.want) (suppresses r.want) (acknowledged-only q.panel.now q.panel.next_stamp r.want h.attr s h.takes e (sym (ap (λ x. is_unacknowledged x.core) h.left) ∙ f))) [
       | inl ack ↦ inl (asked ∙ acknowledges-console r.want ack, ack, h.named)
@@ -133,7 +133,7 @@ module _ (q : Condensed) (r : Request) (i : ℕ) (s t : State) (b : Becomes q r 
     ]
   ]
 
-  pub reset-by : LeavesLatchOnlyByResetOrFlag r i s t
+  pub reset-by : IsResetByConsoleOrFlag r i s t
   reset-by e f = elim moves [
     | inl h ↦ elim (or-either (resets r.want) (suppresses r.want) (latched-until q.panel.now q.panel.next_stamp r.want h.attr s h.takes e (sym (ap (λ x. x.core) h.left) ∙ f))) [
       | inl reset ↦ inl (asked ∙ resets-console r.want reset, reset, h.named)

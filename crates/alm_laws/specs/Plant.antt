@@ -48,13 +48,13 @@ abbrev pub ClockReaches : Request → ℕ → Type 0
 ClockReaches r deadline = (t : ℕ) × (r.want ≡ Clock t) × (role_of r.slot ≡ role.Clock) × (deadline ≤ t)
 
 -- nobody acknowledges for the operator
-abbrev pub LeavesUnacknowledgedOnlyByAckOrFlag : Request → ℕ → State → State → Type 0
-LeavesUnacknowledgedOnlyByAckOrFlag r i s t =
+abbrev pub IsAcknowledgedByConsoleOrFlag : Request → ℕ → State → State → Type 0
+IsAcknowledgedByConsoleOrFlag r i s t =
     is_unacknowledged s.core ≡ true → is_unacknowledged t.core ≡ false → ConsoleAsks acknowledges r i ⊎ FlagIsSet r i
 
 -- what is latched stays until it is reset
-abbrev pub LeavesLatchOnlyByResetOrFlag : Request → ℕ → State → State → Type 0
-LeavesLatchOnlyByResetOrFlag r i s t = is_latched s.core ≡ true → t.core ≡ Normal → ConsoleAsks resets r i ⊎ FlagIsSet r i
+abbrev pub IsResetByConsoleOrFlag : Request → ℕ → State → State → Type 0
+IsResetByConsoleOrFlag r i s t = is_latched s.core ≡ true → t.core ≡ Normal → ConsoleAsks resets r i ⊎ FlagIsSet r i
 
 -- a shelving ends by a console's UNSHELVE, or by the clock at its deadline
 abbrev pub ShelvingEndsOnlyByUnshelveOrClock : Request → ℕ → State → State → Type 0

@@ -9,7 +9,7 @@ ghost use Rattle.alm_state.specs.Suits.{suits};
 ghost use Rattle.alm_state.specs.Showing.{shown_of};
 ghost use Rattle.alm_state.specs.declared.core_state.Core.TheVariants.{Normal};
 ghost use Rattle.alm_laws.specs.Alarm.{
-  Takes,
+  TakesAction,
   acknowledges,
   resets,
   is_unacknowledged,
@@ -27,7 +27,7 @@ ghost use Rattle.alm_laws.specs.Alarm.{
 
 /// Nobody acknowledges for the operator.
 pub fn nobody_acknowledges_for_the_operator()
-    ensures { (now stamp : ℕ) (action : Action) (a : Attr) (s : State) → Takes action a s →
+    ensures { (now stamp : ℕ) (action : Action) (a : Attr) (s : State) → TakesAction action a s →
         LeavesUnacknowledgedOnlyByAckOrFlag action s (row_left (outcome now stamp action a s)) }
 {}
 
@@ -38,23 +38,23 @@ pub fn the_operator_is_heard()
         is_none (row_refusal action a s) ≡ is_unacknowledged s.core }
     ensures reset { (action : Action) (a : Attr) (s : State) → resets action ≡ true → IsTrue (suits a.latching s.core) →
         is_none (row_refusal action a s) ≡ (is_latched s.core && not (is_unacknowledged s.core)) }
-    ensures acknowledged { (now stamp : ℕ) (action : Action) (a : Attr) (s : State) → acknowledges action ≡ true → Takes action a s →
+    ensures acknowledged { (now stamp : ℕ) (action : Action) (a : Attr) (s : State) → acknowledges action ≡ true → TakesAction action a s →
         is_unacknowledged (row_left (outcome now stamp action a s)).core ≡ false }
-    ensures ended { (now stamp : ℕ) (action : Action) (a : Attr) (s : State) → resets action ≡ true → Takes action a s →
+    ensures ended { (now stamp : ℕ) (action : Action) (a : Attr) (s : State) → resets action ≡ true → TakesAction action a s →
         (row_left (outcome now stamp action a s)).core ≡ Normal }
 {}
 
 /// What is latched stays until it is reset.
 pub fn latched_stays_until_reset()
-    ensures { (now stamp : ℕ) (action : Action) (a : Attr) (s : State) → Takes action a s →
+    ensures { (now stamp : ℕ) (action : Action) (a : Attr) (s : State) → TakesAction action a s →
         LeavesLatchOnlyByResetOrFlag action s (row_left (outcome now stamp action a s)) }
 {}
 
 /// An alarm is annunciated anew just where its condition comes, or where its last flag falls while the condition holds.
 pub fn annunciated_just_then()
-    ensures then { (now stamp : ℕ) (action : Action) (a : Attr) (s : State) → Takes action a s →
+    ensures then { (now stamp : ℕ) (action : Action) (a : Attr) (s : State) → TakesAction action a s →
         IsAnnunciatedJustThen s (outcome now stamp action a s) }
-    ensures waits { (now stamp : ℕ) (action : Action) (a : Attr) (s : State) → Takes action a s →
+    ensures waits { (now stamp : ℕ) (action : Action) (a : Attr) (s : State) → TakesAction action a s →
         WaitsWithStamp stamp (outcome now stamp action a s) }
 {}
 
@@ -68,8 +68,8 @@ pub fn suppressed_asks_for_nobody()
 
 /// Among the actions that name an alarm, SHELVE alone begins its shelving, and UNSHELVE alone ends it.
 pub fn shelving_is_the_operators()
-    ensures ends { (now stamp : ℕ) (action : Action) (a : Attr) (s : State) → Takes action a s →
+    ensures ends { (now stamp : ℕ) (action : Action) (a : Attr) (s : State) → TakesAction action a s →
         EndsShelvingJustByUnshelve action s (row_left (outcome now stamp action a s)) }
-    ensures begins { (now stamp : ℕ) (action : Action) (a : Attr) (s : State) → Takes action a s →
+    ensures begins { (now stamp : ℕ) (action : Action) (a : Attr) (s : State) → TakesAction action a s →
         BeginsShelvingOnlyByShelve action s (row_left (outcome now stamp action a s)) }
 {}

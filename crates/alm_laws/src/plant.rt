@@ -9,16 +9,16 @@ ghost use Rattle.alm_model.specs.declared.list.List.TheVariants.{Priority};
 ghost use Rattle.alm_types.specs.declared.request.Request.{Request};
 ghost use Rattle.alm_state.specs.Rows.{State};
 ghost use Rattle.alm_model.specs.Plant.{Condensed};
-ghost use Rattle.alm_laws.specs.Plant.{Becomes, LeavesUnacknowledgedOnlyByAckOrFlag, LeavesLatchOnlyByResetOrFlag, ShelvingEndsOnlyByUnshelveOrClock, ClockEndsTheShelving, FreedIsAnnunciatedAnew, AnnunciatedOnlyThen, OthersStay};
+ghost use Rattle.alm_laws.specs.Plant.{Becomes, IsAcknowledgedByConsoleOrFlag, IsResetByConsoleOrFlag, ShelvingEndsOnlyByUnshelveOrClock, ClockEndsTheShelving, FreedIsAnnunciatedAnew, AnnunciatedOnlyThen, OthersStay};
 
 /// Nobody acknowledges for the operator.
 pub fn nobody_acknowledges_for_the_operator()
-    ensures { (q : Condensed) (r : Request) (i : ℕ) (s t : State) → Becomes q r i s t → LeavesUnacknowledgedOnlyByAckOrFlag r i s t }
+    ensures { (q : Condensed) (r : Request) (i : ℕ) (s t : State) → Becomes q r i s t → IsAcknowledgedByConsoleOrFlag r i s t }
 {}
 
 /// What is latched stays until it is reset.
 pub fn latched_stays_until_reset()
-    ensures { (q : Condensed) (r : Request) (i : ℕ) (s t : State) → Becomes q r i s t → LeavesLatchOnlyByResetOrFlag r i s t }
+    ensures { (q : Condensed) (r : Request) (i : ℕ) (s t : State) → Becomes q r i s t → IsResetByConsoleOrFlag r i s t }
 {}
 
 /// A shelving ends by a console's UNSHELVE or by the clock, which ends each whose deadline has come.

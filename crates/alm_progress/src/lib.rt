@@ -30,8 +30,8 @@ ghost use Rattle.alm_pipeline.specs.declared.event.Event.TheVariants.{Sent};
 ghost use Rattle.alm_pipeline.specs.World.{World, Answers, Possible, after_step, closed_world, first, new_world};
 ghost use Rattle.alm_pipeline.specs.Headline.{after_steps};
 ghost use Rattle.alm_types.specs.Sizes.{most_entries};
-ghost use Rattle.alm_progress.specs.Schedule.{IsSettled, DrivesInOrder};
-ghost use Rattle.alm_progress.specs.Progress.{AllServe, AnswersAll, Drives, LosesNothing, Serves, Paces, GoesOn, DrivesRounds, IsAtRest, AreReceived, left_to_do};
+ghost use Rattle.alm_progress.specs.Schedule.{HasNothingUnderWay, DrivesInOrder};
+ghost use Rattle.alm_progress.specs.Progress.{AllServe, AnswersAll, Drives, LosesNothing, Serves, Paces, StepsPossibly, DrivesRounds, IsAtRest, AreReceived, left_to_do};
 
 /// Each step of sequencer, flusher or a receiver that is possible leaves less to do, whatever it is answered.
 pub fn each_step_leaves_less()
@@ -80,7 +80,7 @@ pub fn nothing_is_stuck()
 /// made as were left, each request is received.
 pub fn all_is_answered_in_time()
     ensures { (slots calls more last : ℕ) (w : World) (steps : List Step) (trace : List Event) →
-        LosesNothing w → GoesOn slots calls w more steps trace last →
+        LosesNothing w → StepsPossibly slots calls w more steps trace last →
         (length steps + left_to_do slots calls (after_steps w steps trace) last ≤
         left_to_do slots calls w more) ×
         (IsAtRest slots calls (after_steps w steps trace) ⊎
@@ -97,7 +97,7 @@ pub fn a_way_leads_to_the_end()
         Drives slots calls w more steps trace end last }
     ensures way { (slots calls more : ℕ) (w : World) → LosesNothing w →
         (steps : List Step) × (trace : List Event) × (last : ℕ) ×
-        GoesOn slots calls w more steps trace last ×
+        StepsPossibly slots calls w more steps trace last ×
         AreReceived slots calls w (after_steps w steps trace) }
 {}
 
@@ -114,7 +114,7 @@ pub fn every_fair_schedule_answers_all()
 /// all slots fit a batch: of 18 slots with 64 requests each, five rounds with shares of 14.
 pub fn rounds_in_order_answer_all()
     ensures { (slots calls share rounds more last : ℕ) (w end : World) →
-        slots * share ≤ most_entries → LosesNothing w → IsSettled slots w →
+        slots * share ≤ most_entries → LosesNothing w → HasNothingUnderWay slots w →
         ((slot : ℕ) → slot < slots →
         length (w.sent slot) ≤ w.taken slot + share * rounds) →
         DrivesInOrder slots calls share w more rounds end last → AreReceived slots calls w end }
