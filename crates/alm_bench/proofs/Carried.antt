@@ -1,4 +1,4 @@
--- Steps that leave the device alone, and what holds of a bench, carried over.
+-- Steps that leave the device alone, and what is true of a bench, carried over.
 use Rattle.std.proofs.Common.{◌≡◌, true, false, ℕ, List, refl, sym, ap, ◌∙◌, subst, inl}
 use Rattle.std.proofs.lemmas.Bool.{true≢false}
 use Rattle.alm_disk.specs.Device.{DeviceState}
@@ -45,7 +45,7 @@ module _ {D : Type 0} {g : Ghosts (Keeper D) D} {d : Disk.Ghosts D} where
   reopened_between event s s' t t' from to reopens =
       subst (λ (x : T.Setup D D g d). Reopens x event t') from (subst (λ (y : T.Setup D D g d). Reopens s event y) to reopens)
 
-  -- a bench that stands for a world has an honest device
+  -- a bench that has the state of a world has an honest device
   pub stands_honest : (w : World) (s : T.Setup D D g d) → IsSetup w s → serves_well s
   stands_honest w (Open pipeline) is = is.1
   stands_honest w (Shut disk) is = is.1
@@ -54,7 +54,7 @@ module _ {D : Type 0} {g : Ghosts (Keeper D) D} {d : Disk.Ghosts D} where
 pub same_count : (a b c : Answer) → c ≡ b → b ≡ a → a.refused ≡ c.refused
 same_count a b c put took = ap (λ (x : Answer). x.refused) (sym (put ∙ took))
 
--- what a call that failed did to the device is said of its state and its failures alone
+-- what a call that failed did to the device is said only of its state and its failures
 pub failed_alike : (w : World) (d m e : Sight) → m.state ≡ e.state → m.failures ≡ e.failures → m.refused ≡ e.refused → Moves StandsFor IsLastEpoch w Call Failed d m → Moves StandsFor IsLastEpoch w Call Failed d e
 failed_alike w d m e state failures refused moves = (
   moves.0,
@@ -67,7 +67,7 @@ failed_alike w d m e state failures refused moves = (
 pub shut_not_open : (closed : _) → closed ≡ true → closed ≡ false → ⊥
 shut_not_open closed shut opened = true≢false (sym shut ∙ opened)
 
--- a step that leaves the device alone is skipped where the bench is closed
+-- a step that leaves the device alone is skipped if the bench is closed
 pub inner_skips : (w : World) (step : Step) → IsInner step → w.closed ≡ true → Answers w step Skipped
 inner_skips w (Send slot a) inner shut = λ possible. shut_not_open w.closed shut possible
 inner_skips w (Take slot) inner shut = λ possible. shut_not_open w.closed shut possible.0

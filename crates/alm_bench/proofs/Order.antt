@@ -1,5 +1,5 @@
--- In the worlds of a run the published list is a front of the stored one, and that of the accepted one; what comes between stands in the
--- batches.
+-- In the worlds of a run the published list is a prefix of the stored one, and that of the accepted one; what comes between is in
+-- the batches.
 use Rattle.std.proofs.Common.{◌≡◌, ◌+◌, ◌-◌, List, [], ◌∷◌, ◌++◌, refl, sym, ◌∙◌, ap, append_assoc, slice_get, take}
 use Rattle.std.proofs.lemmas.List.{append-nil}
 use Rattle.alm_types.specs.declared.action.Action.{Action}
@@ -11,17 +11,17 @@ use Rattle.alm_pipeline.specs.declared.step.Step.{Step}
 use Rattle.alm_pipeline.specs.declared.step.Step.TheVariants.{Send, Take, Seal, Fetch, Call, Publish, Release, GiveBack, Receive, Look, Crash, Reopen}
 use Rattle.alm_pipeline.specs.declared.event.Event.{Event}
 use Rattle.alm_pipeline.specs.declared.event.Event.TheVariants.{Sent, Took, Sealed, Fetched, Committed, Failed, Published, Released, GaveBack, Received, Looked, Crashed, Opened}
-use Rattle.alm_pipeline.specs.World.{World, Stage, Nothing, Held, Stored, Shown, Answers, IsReleased, after_step, entry_for, fetches, new_world, next_notes, after_publish, closed_world, stores, tells, told_more, with_entry}
+use Rattle.alm_pipeline.specs.World.{World, BatchStage, Nothing, Held, Stored, Shown, Answers, IsReleased, after_step, entry_for, fetches, new_world, next_notes, after_publish, closed_world, stores, tells, told_more, with_entry}
 
-abbrev pub waiting_at : Stage → List Entry
+abbrev pub waiting_at : BatchStage → List Entry
 waiting_at (Held entries) = entries
 waiting_at stage = []
 
-abbrev pub ready_at : Stage → List Entry
+abbrev pub ready_at : BatchStage → List Entry
 ready_at (Stored entries) = entries
 ready_at stage = []
 
-abbrev pub shown_at : Stage → List Entry
+abbrev pub shown_at : BatchStage → List Entry
 shown_at (Shown entries n) = entries
 shown_at stage = []
 
@@ -58,7 +58,7 @@ fetched_order w (entries ∷ sealed) is idle i = record {
   shown = sym (append-nil w.published);
 }
 
-stored_order : (w : World) (stage : Stage) → w.stage ≡ stage → InOrder w → InOrder (stores w stage)
+stored_order : (w : World) (stage : BatchStage) → w.stage ≡ stage → InOrder w → InOrder (stores w stage)
 stored_order w Nothing is i = i
 stored_order w (Stored entries) is i = i
 stored_order w (Shown entries n) is i = i
@@ -70,7 +70,7 @@ stored_order w (Held entries) is i = record {
   shown = sym (append-nil w.published);
 }
 
-shown_order : (w : World) (stage : Stage) → w.stage ≡ stage → InOrder w → InOrder (after_publish w stage)
+shown_order : (w : World) (stage : BatchStage) → w.stage ≡ stage → InOrder w → InOrder (after_publish w stage)
 shown_order w Nothing is i = i
 shown_order w (Held entries) is i = i
 shown_order w (Shown entries n) is i = i
@@ -81,31 +81,31 @@ shown_order w (Stored entries) is i = record {
   shown = refl;
 }
 
-waiting_more : (s : Stage) → waiting_at s ≡ waiting_at (told_more s)
+waiting_more : (s : BatchStage) → waiting_at s ≡ waiting_at (told_more s)
 waiting_more Nothing = refl
 waiting_more (Held entries) = refl
 waiting_more (Stored entries) = refl
 waiting_more (Shown entries n) = refl
 
-ready_more : (s : Stage) → ready_at s ≡ ready_at (told_more s)
+ready_more : (s : BatchStage) → ready_at s ≡ ready_at (told_more s)
 ready_more Nothing = refl
 ready_more (Held entries) = refl
 ready_more (Stored entries) = refl
 ready_more (Shown entries n) = refl
 
-shown_more : (s : Stage) → shown_at s ≡ shown_at (told_more s)
+shown_more : (s : BatchStage) → shown_at s ≡ shown_at (told_more s)
 shown_more Nothing = refl
 shown_more (Held entries) = refl
 shown_more (Stored entries) = refl
 shown_more (Shown entries n) = refl
 
-spent_waits : (s : Stage) → IsReleased s → waiting_at s ≡ []
+spent_waits : (s : BatchStage) → IsReleased s → waiting_at s ≡ []
 spent_waits Nothing spent = refl
 spent_waits (Held entries) spent = absurd spent
 spent_waits (Stored entries) spent = refl
 spent_waits (Shown entries n) spent = refl
 
-spent_ready : (s : Stage) → IsReleased s → ready_at s ≡ []
+spent_ready : (s : BatchStage) → IsReleased s → ready_at s ≡ []
 spent_ready Nothing spent = refl
 spent_ready (Held entries) spent = refl
 spent_ready (Stored entries) spent = absurd spent

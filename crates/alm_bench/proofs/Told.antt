@@ -1,4 +1,4 @@
--- What was told or shown stays, and is recovered.
+-- What was reported or shown stays, and is recovered.
 use Rattle.std.proofs.Common.{◌≡◌, ◌≤◌, ◌+◌, ◌-◌, ℕ, suc, List, [], ◌∷◌, ◌++◌, length, take, drop, Option, Some, None, slice_get, refl, sym, ◌∙◌, ap, subst, arith, append_assoc, length-append}
 use Rattle.std.proofs.lemmas.List.{take-append-drop, length-take-le}
 use Rattle.alm_types.specs.declared.action.Action.{Action}
@@ -17,7 +17,7 @@ use Rattle.alm_pipeline.specs.declared.step.Step.{Step}
 use Rattle.alm_pipeline.specs.declared.step.Step.TheVariants.{Send, Take, Seal, Fetch, Call, Publish, Release, GiveBack, Receive, Look, Crash, Reopen}
 use Rattle.alm_pipeline.specs.declared.event.Event.{Event}
 use Rattle.alm_pipeline.specs.declared.event.Event.TheVariants.{Sent, Took, Sealed, Fetched, Committed, Failed, Published, Released, GaveBack, Received, Looked, Crashed, Opened}
-use Rattle.alm_pipeline.specs.World.{World, Note, Stage, Nothing, Held, Stored, Shown, Answers, after_step, entry_for, fetches, goes_to, next_entry, next_notes, note_of, raise, after_publish, stores}
+use Rattle.alm_pipeline.specs.World.{World, Note, BatchStage, Nothing, Held, Stored, Shown, Answers, after_step, entry_for, fetches, goes_to, next_entry, next_notes, note_of, raise, after_publish, stores}
 use Rattle.alm_pipeline.specs.Headline.{Sight, Headline, IsRun, after_steps}
 use Rattle.alm_bench.specs.Told.{EndsWith, Tells, TellsUpTo}
 use Rattle.alm_bench.proofs.Order.{InOrder, in_order, shown_at, ready_at, waiting_at, flat_of}
@@ -34,13 +34,13 @@ fetched_base : (w : World) (sealed : List (List Entry)) → (fetches w sealed).b
 fetched_base w [] = refl
 fetched_base w (entries ∷ sealed) = refl
 
-stored_base : (w : World) (stage : Stage) → (stores w stage).base ≡ w.base
+stored_base : (w : World) (stage : BatchStage) → (stores w stage).base ≡ w.base
 stored_base w Nothing = refl
 stored_base w (Held entries) = refl
 stored_base w (Stored entries) = refl
 stored_base w (Shown entries n) = refl
 
-shown_base : (w : World) (stage : Stage) → (after_publish w stage).base ≡ w.base
+shown_base : (w : World) (stage : BatchStage) → (after_publish w stage).base ≡ w.base
 shown_base w Nothing = refl
 shown_base w (Held entries) = refl
 shown_base w (Stored entries) = refl
@@ -81,13 +81,13 @@ fetched_holds : (w : World) (sealed : List (List Entry)) (list : List Action) �
 fetched_holds w [] list h = h
 fetched_holds w (entries ∷ sealed) list h = record { reaches = h.reaches; front = h.front }
 
-stored_holds : (w : World) (stage : Stage) (list : List Action) → Holds w list → Holds (stores w stage) list
+stored_holds : (w : World) (stage : BatchStage) (list : List Action) → Holds w list → Holds (stores w stage) list
 stored_holds w Nothing list h = h
 stored_holds w (Held entries) list h = record { reaches = h.reaches; front = h.front }
 stored_holds w (Stored entries) list h = h
 stored_holds w (Shown entries n) list h = h
 
-shown_holds : (w : World) (stage : Stage) (list : List Action) → Holds w list → Holds (after_publish w stage) list
+shown_holds : (w : World) (stage : BatchStage) (list : List Action) → Holds w list → Holds (after_publish w stage) list
 shown_holds w Nothing list h = h
 shown_holds w (Held entries) list h = h
 shown_holds w (Stored entries) list h = record { reaches = h.reaches; front = h.front }
@@ -112,7 +112,7 @@ holds_on w Reopen (Opened n) list answers h =
     record { reaches = h.reaches; front = front_taken list w.accepted (n - w.base.panel.count) (omega (arith, h.reaches, answers.1)) (omega (arith, answers.2)) h.front }
 holds_on w step event list answers h = h
 
--- ---- what is told is held
+-- ---- what is reported is held
 
 published_front : (w : World) (list : List Action) → InOrder w → IsFront list w.published → IsFront list w.accepted
 published_front w list i front =
@@ -125,7 +125,7 @@ ends_with : (v : Verdict) (before taken : List Action) → EndsWith v (before ++
 ends_with (Accepted a) before taken = (before ++ taken, sym (append_assoc before taken (a ∷ [])))
 ends_with (Refused r k) before taken = tt
 
--- a list that is told up to an entry of the batch that is shown
+-- a list that is reported up to an entry of the batch that is shown
 told_at : (w : World) (entries : List Entry) (n : ℕ) (e : Entry) → w.stage ≡ Shown entries n → slice_get entries n ≡ Some e → InOrder w
     → (list : List Action) × TellsUpTo w (note_of w entries n (Some e)) list
 told_at w entries n e stage next i =
@@ -142,7 +142,7 @@ entry_tells : (w : World) (slot : ℕ) (entries : List Entry) (n : ℕ) (o : Opt
 entry_tells w slot entries n None stage next goes i = absurd goes
 entry_tells w slot entries n (Some e) stage next goes i = told_at w entries n e stage next i
 
-release_tells_at : (w : World) (slot : ℕ) (stage : Stage) → w.stage ≡ stage → goes_to (next_entry stage) slot → InOrder w → (list : List Action) × TellsUpTo w (next_notes w stage) list
+release_tells_at : (w : World) (slot : ℕ) (stage : BatchStage) → w.stage ≡ stage → goes_to (next_entry stage) slot → InOrder w → (list : List Action) × TellsUpTo w (next_notes w stage) list
 release_tells_at w slot Nothing is goes i = absurd goes
 release_tells_at w slot (Held entries) is goes i = absurd goes
 release_tells_at w slot (Stored entries) is goes i = absurd goes

@@ -1,4 +1,4 @@
--- A trace tells of the world of its run: the accepted actions, and a part of the floor.
+-- A trace says of the world of its run: the accepted actions, and a part of the floor.
 use Rattle.std.proofs.Common.{◌+◌, ◌≡◌, ◌≤◌, ◌==◌, if◌then◌else◌, ℕ, zero, suc, Bool, true, false, List, [], ◌∷◌, ◌++◌, length, Option, Some, None, slice_get, refl, sym, ◌∙◌, ap, subst, arith, length-append, ◌-◌}
 use Rattle.std.proofs.lemmas.Bool.{true≢false}
 use Rattle.std.proofs.lemmas.List.{append-nil, length-take-le}
@@ -14,7 +14,7 @@ use Rattle.alm_pipeline.specs.declared.step.Step.{Step}
 use Rattle.alm_pipeline.specs.declared.step.Step.TheVariants.{Send, Take, Seal, Fetch, Call, Publish, Release, GiveBack, Receive, Look, Crash, Reopen}
 use Rattle.alm_pipeline.specs.declared.event.Event.{Event}
 use Rattle.alm_pipeline.specs.declared.event.Event.TheVariants.{Sent, Busy, Took, Sealed, Fetched, More, Committed, Failed, Published, Released, GaveBack, Received, Looked, Crashed, Opened, Unopened, Skipped}
-use Rattle.alm_pipeline.specs.World.{World, Note, Stage, Nothing, Held, Stored, Shown, Answers, after_step, entry_for, fetches, judges, next_notes, note_of, raise, says, after_publish, stores, tells}
+use Rattle.alm_pipeline.specs.World.{World, Note, BatchStage, Nothing, Held, Stored, Shown, Answers, after_step, entry_for, fetches, judges, next_notes, note_of, raise, says, after_publish, stores, tells}
 use Rattle.alm_store.specs.Recovery.{IsFrontPlant, IsSafe}
 use Rattle.alm_pipeline.specs.Headline.{Sight, IsRun, after_steps}
 use Rattle.alm_pipeline.proofs.Runs.{at_end}
@@ -27,13 +27,13 @@ fetched_all : (w : World) (sealed : List (List Entry)) → (fetches w sealed).ac
 fetched_all w [] = refl
 fetched_all w (entries ∷ sealed) = refl
 
-stored_all : (w : World) (stage : Stage) → (stores w stage).accepted ≡ w.accepted
+stored_all : (w : World) (stage : BatchStage) → (stores w stage).accepted ≡ w.accepted
 stored_all w Nothing = refl
 stored_all w (Held entries) = refl
 stored_all w (Stored entries) = refl
 stored_all w (Shown entries n) = refl
 
-shown_all : (w : World) (stage : Stage) → (after_publish w stage).accepted ≡ w.accepted
+shown_all : (w : World) (stage : BatchStage) → (after_publish w stage).accepted ≡ w.accepted
 shown_all w Nothing = refl
 shown_all w (Held entries) = refl
 shown_all w (Stored entries) = refl
@@ -69,13 +69,13 @@ fetched_floor : (w : World) (sealed : List (List Entry)) → w.floor ≤ (fetche
 fetched_floor w [] = omega arith
 fetched_floor w (entries ∷ sealed) = omega arith
 
-stored_floor : (w : World) (stage : Stage) → w.floor ≤ (stores w stage).floor
+stored_floor : (w : World) (stage : BatchStage) → w.floor ≤ (stores w stage).floor
 stored_floor w Nothing = omega arith
 stored_floor w (Held entries) = omega arith
 stored_floor w (Stored entries) = omega arith
 stored_floor w (Shown entries n) = omega arith
 
-shown_floor : (w : World) (stage : Stage) → w.floor ≤ (after_publish w stage).floor
+shown_floor : (w : World) (stage : BatchStage) → w.floor ≤ (after_publish w stage).floor
 shown_floor w Nothing = omega arith
 shown_floor w (Held entries) = omega arith
 shown_floor w (Stored entries) = omega arith
@@ -111,7 +111,7 @@ within_append : (floor : ℕ) (notes more : List Note) → AreWithin floor notes
 within_append floor [] more within then' = then'
 within_append floor (note ∷ notes) more within then' = (within.0, within_append floor notes more within.1 then')
 
--- a receipt that is said
+-- a receipt that is reported
 within_said : (floor k serial number : ℕ) (verdict : Verdict) (notes : List Note) → AreWithin floor notes → says (slice_get notes k) serial verdict number → number ≤ floor
 within_said floor k serial number verdict [] within said = absurd said
 within_said floor zero serial number verdict (note ∷ notes) within said = omega (arith, said.2, within.0)
@@ -133,7 +133,7 @@ one_note : (w : World) (entries : List Entry) (n : ℕ) (o : Option Entry) → l
 one_note w entries n None = omega arith
 one_note w entries n (Some e) = omega arith
 
-one_next : (w : World) (stage : Stage) → length (next_notes w stage) ≤ 1
+one_next : (w : World) (stage : BatchStage) → length (next_notes w stage) ≤ 1
 one_next w Nothing = omega arith
 one_next w (Held entries) = omega arith
 one_next w (Stored entries) = omega arith
@@ -143,13 +143,13 @@ fetched_tells : (w : World) (sealed : List (List Entry)) → TellsWithin w → T
 fetched_tells w [] t = t
 fetched_tells w (entries ∷ sealed) t = t
 
-stored_tells : (w : World) (stage : Stage) → TellsWithin w → TellsWithin (stores w stage)
+stored_tells : (w : World) (stage : BatchStage) → TellsWithin w → TellsWithin (stores w stage)
 stored_tells w Nothing t = t
 stored_tells w (Held entries) t = t
 stored_tells w (Stored entries) t = t
 stored_tells w (Shown entries n) t = t
 
-shown_tells : (w : World) (stage : Stage) → TellsWithin w → TellsWithin (after_publish w stage)
+shown_tells : (w : World) (stage : BatchStage) → TellsWithin w → TellsWithin (after_publish w stage)
 shown_tells w Nothing t = t
 shown_tells w (Held entries) t = t
 shown_tells w (Stored entries) t = t
@@ -177,7 +177,7 @@ tells_after w (Crash bytes) Crashed t = λ s. tt
 tells_after w Reopen (Opened n) t = λ s. tt
 tells_after w step event t = t
 
--- what an event tells is within the floor behind it
+-- what an event reports is within the floor after it
 told_after : (w : World) (step : Step) (event : Event) → Answers w step event → TellsWithin w → told_by event ≤ (after_step w step event).floor
 told_after w (Receive slot) (Received serial verdict number) answers t = within_said w.floor (w.received slot) serial number verdict (w.released slot) (t slot) answers.1
 told_after w (Look slot query) (Looked count) answers t = omega arith
@@ -237,7 +237,7 @@ module _ (recovers : List ℕ → Condensed → Type 0) (spent : DeviceState →
       subst (λ (b : Condensed). IsSafe recovers b (accepted_from w.base.panel.count w.accepted trace) (told_in trace) image) (run_base w steps trace)
       (subst (λ (l : List Action). IsSafe recovers end.base l (told_in trace) image) f.accepted safe)
 
--- ---- a look shows all that was told before it
+-- ---- a look shows all that was reported before it
 
 -- what is shown reaches the floor
 abbrev ShowsFloor : World → Type 0
@@ -247,13 +247,13 @@ fetched_shows : (w : World) (sealed : List (List Entry)) → ShowsFloor w → Sh
 fetched_shows w [] h = h
 fetched_shows w (entries ∷ sealed) h = h
 
-stored_shows : (w : World) (stage : Stage) → ShowsFloor w → ShowsFloor (stores w stage)
+stored_shows : (w : World) (stage : BatchStage) → ShowsFloor w → ShowsFloor (stores w stage)
 stored_shows w Nothing h = h
 stored_shows w (Held entries) h = h
 stored_shows w (Stored entries) h = h
 stored_shows w (Shown entries n) h = h
 
-shown_shows : (w : World) (stage : Stage) → ShowsFloor w → ShowsFloor (after_publish w stage)
+shown_shows : (w : World) (stage : BatchStage) → ShowsFloor w → ShowsFloor (after_publish w stage)
 shown_shows w Nothing h = h
 shown_shows w (Held entries) h = h
 shown_shows w (Stored entries) h = λ open'. omega (arith, h open', length-append w.published (accepted_of entries))
@@ -267,7 +267,7 @@ note_within : (w : World) (entries : List Entry) (n : ℕ) (o : Option Entry) �
 note_within w entries n None = tt
 note_within w entries n (Some e) = (omega arith, tt)
 
-notes_within : (w : World) (stage : Stage) → AreWithin (w.base.panel.count + length w.published) (next_notes w stage)
+notes_within : (w : World) (stage : BatchStage) → AreWithin (w.base.panel.count + length w.published) (next_notes w stage)
 notes_within w Nothing = tt
 notes_within w (Held entries) = tt
 notes_within w (Stored entries) = tt

@@ -1,4 +1,4 @@
--- A bench stands for a world.
+-- A bench that has the state of a world.
 use Rattle.std.specs.Prelude.{◌≡◌, ℕ, true, false, []}
 use Rattle.alm_disk.specs.declared.disk.Disk
 use Rattle.alm_keeper.specs.declared.keeper.Keeper.{Keeper}
@@ -12,17 +12,17 @@ use Rattle.alm_pipeline.specs.declared.event.Event.{Event}
 use Rattle.alm_pipeline.specs.declared.event.Event.TheVariants.{Opened, Unopened}
 use Rattle.alm_pipeline.specs.World.{World}
 use Rattle.alm_pipeline.specs.Headline.{Headline, Sight, device_alone}
-use Rattle.alm_pipeline.specs.Matches.{CallsSurely, IsOpen, sight_in}
+use Rattle.alm_pipeline.specs.Matches.{CallsSurely, MatchesOpenWorld, sight_in}
 
 module _ {D : Type 0} {g : Ghosts (Keeper D) D} {d : Disk.Ghosts D} where
-  -- its device is honest: an open bench has the world's pipeline; of a closed one each image stands for what the world has
+  -- its device is honest: an open bench has the world's pipeline; of a closed one each image encodes what the world has
   abbrev pub IsSetup : World → T.Setup D D g d → Type 0
-  IsSetup w (Open pipeline) = IsOpen w pipeline × d.honest (g.disk pipeline.flusher.store)
+  IsSetup w (Open pipeline) = MatchesOpenWorld w pipeline × d.honest (g.disk pipeline.flusher.store)
   IsSetup w (Shut disk) = (w.closed ≡ true) × d.honest disk × Headline StandsFor IsLastEpoch w (d.state disk)
   IsSetup w Gone = ⊥
 
-  abbrev pub Stands : World → Bench D D g d → Type 0
-  Stands w bench = IsSetup w bench.setup
+  abbrev pub MatchesBench : World → Bench D D g d → Type 0
+  MatchesBench w bench = IsSetup w bench.setup
 
   -- its device
   abbrev pub sight : (refused : ℕ) → T.Setup D D g d → Sight
@@ -30,8 +30,8 @@ module _ {D : Type 0} {g : Ghosts (Keeper D) D} {d : Disk.Ghosts D} where
   sight refused (Shut disk) = device_alone (d.state disk) (d.failures disk) refused
   sight refused Gone = device_alone (record { bytes = []; pending = λ _. false; faulted = false }) 0 refused
 
-  abbrev pub sight_of : Bench D D g d → Sight
-  sight_of bench = sight bench.answer.refused bench.setup
+  abbrev pub bench_sight : Bench D D g d → Sight
+  bench_sight bench = sight bench.answer.refused bench.setup
 
   -- it has its device: it isn't in the middle of a step
   abbrev pub IsThere : T.Setup D D g d → Type 0
@@ -60,7 +60,7 @@ module _ {D : Type 0} {g : Ghosts (Keeper D) D} {d : Disk.Ghosts D} where
   abbrev pub NextIsSure : Bench D D g d → Type 0
   NextIsSure bench = is_sure bench.setup
 
-  -- it was opened over this device by a sync and reads, and nothing else was done to it
+  -- it was opened over this device by a sync and reads, and no other calls were made on it
   abbrev pub OpensFrom : D → T.Setup D D g d → Type 0
   OpensFrom from (Open pipeline) = OpensBy d.serves from (g.disk pipeline.flusher.store)
   OpensFrom from (Shut disk) = ⊥
@@ -69,7 +69,8 @@ module _ {D : Type 0} {g : Ghosts (Keeper D) D} {d : Disk.Ghosts D} where
   abbrev pub IsOpenedFrom : D → Bench D D g d → Type 0
   IsOpenedFrom from bench = OpensFrom from bench.setup
 
-  -- a reopening: so too, or its sync and reads end in the fault that is told; a bench that isn't closed stays as it is
+  -- a reopening: so too, or its sync and reads end in the fault that is returned; a bench that isn't closed stays as it
+  -- is
   abbrev pub Reopens : T.Setup D D g d → Event → T.Setup D D g d → Type 0
   Reopens (Shut disk) (Opened count) new = OpensFrom disk new
   Reopens (Shut disk) (Unopened fault) (Shut back) = IsRefusedBy fault d.serves disk back

@@ -1,4 +1,4 @@
--- What replies and looks tell of the accepted actions.
+-- What replies and looks report of the accepted actions.
 use Rattle.std.specs.Prelude.{◌≡◌, ◌+◌, List, [], ◌∷◌, ◌++◌, length}
 use Rattle.alm_types.specs.declared.action.Action.{Action}
 use Rattle.alm_types.specs.declared.verdict.Verdict.{Verdict}
@@ -15,12 +15,14 @@ abbrev pub EndsWith : Verdict → List Action → Type 0
 EndsWith (Accepted a) list = (before : List Action) × (list ≡ before ++ a ∷ [])
 EndsWith (Refused r n) list = Unit {0}
 
--- a reply tells the accepted actions up to its request, and with it where it was accepted; they are as many as its number says
+-- a reply reports the accepted actions up to its request, and that one too if it was accepted; they are as many as its number
+-- says
 abbrev pub TellsUpTo : World → List Note → List Action → Type 0
 TellsUpTo w [] list = ⊥
 TellsUpTo w (note ∷ notes) list = (w.base.panel.count + length list ≡ note.number) × IsFront list w.accepted × EndsWith note.verdict list
 
--- this step, answered so, tells these actions: a reply that is released, those up to its request; a look, those that it shows
+-- this step, with this answer, reports these actions: a reply that is released, those up to its request; a look, those that it
+-- shows
 abbrev pub Tells : World → Step → Event → List Action → Type 0
 Tells w Release (Released slot) list = TellsUpTo w (next_notes w w.stage) list
 Tells w (Look slot query) (Looked count) list = list ≡ w.published

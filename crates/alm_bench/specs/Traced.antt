@@ -1,4 +1,4 @@
--- What a trace alone tells of a run: which actions it accepted, and how far it told of them.
+-- What a trace alone says of a run: which actions it accepted, and how many of them it reported.
 use Rattle.std.specs.Prelude.{◌-◌, ◌++◌, ℕ, max, List, [], ◌∷◌, take}
 use Rattle.alm_types.specs.declared.action.Action.{Action}
 use Rattle.alm_model.specs.Plant.{Condensed}
@@ -8,14 +8,14 @@ use Rattle.alm_pipeline.specs.declared.event.Event.{Event}
 use Rattle.alm_pipeline.specs.declared.event.Event.TheVariants.{Took, Received, Looked, Opened}
 use Rattle.alm_store.specs.Recovery.{IsSafe}
 
--- what is accepted behind an event, where `first` is the count of the plant at the very first: an action that was taken so joins the
--- list; an opening leaves the first so many
+-- what is accepted after an event, if `first` is the count of the plant at the very first. An action that was taken as accepted
+-- joins the list, and an opening leaves a prefix
 abbrev pub with_event : (first : ℕ) → List Action → Event → List Action
 with_event first list (Took verdict) = list ++ when_accepted verdict
 with_event first list (Opened count) = take (count - first) list
 with_event first list event = list
 
--- .. and behind a trace
+-- .. and after a trace
 abbrev pub accepted_from : (first : ℕ) → List Action → List Event → List Action
 accepted_from first list [] = list
 accepted_from first list (event ∷ trace) = accepted_from first (with_event first list event) trace
@@ -35,6 +35,7 @@ abbrev pub told_in : List Event → ℕ
 told_in [] = 0
 told_in (event ∷ trace) = max (told_by event) (told_in trace)
 
--- the image stands for the plant of the first so many actions that the trace accepted, and for no other; they reach all that it told
+-- the image encodes the plant of a prefix of the actions that the trace accepted, and no other; the prefix reaches all that the
+-- trace reported
 abbrev pub KeepsTold : Condensed → List Event → List ℕ → Type 0
 KeepsTold plant trace image = IsSafe StandsFor plant (accepted_in plant trace) (told_in trace) image

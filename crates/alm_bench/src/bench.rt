@@ -19,14 +19,14 @@ use alm_types::Answer;
 use std::alloc::{AllocError, Global};
 use std::mem::replace;
 
-/// All parts over a device, in one thread; or the device alone, where it is closed.
+/// All parts over a device, in one thread; or the device alone, if it is closed.
 #[derive(Drop)]
 pub struct Bench<D: Crashable + Drop>
 where
     Keeper<D>: Store,
 {
     setup: Setup<D>,
-    /// What looks are put in. It counts the growths that were refused.
+    /// The answer that looks fill in. It counts the growths that were refused.
     answer: Answer,
 }
 
@@ -34,7 +34,7 @@ impl<D: Crashable + Drop> Bench<D> {
     ghost use Rattle.alm_pipeline.specs.Matches.{IsInner};
     ghost use Rattle.alm_disk.specs.Failures.{HasFailed};
     ghost use Rattle.alm_store.specs.Calls.{IsRefusedBy};
-    ghost use Rattle.alm_bench.specs.Stands.{Stands, sight_of, HasDevice, IsHonest, NextIsSure, IsOpenedFrom, IsReopened};
+    ghost use Rattle.alm_bench.specs.Stands.{MatchesBench, bench_sight, HasDevice, IsHonest, NextIsSure, IsOpenedFrom, IsReopened};
     ghost use Rattle.alm_pipeline.specs.Headline.{Headline, Moves, IsRun, after_steps, device_alone};
     ghost use Rattle.alm_bench.specs.StandOnly.{StandOnly};
     ghost use Rattle.alm_pipeline.specs.declared.step.Step.TheVariants as S;
@@ -43,8 +43,8 @@ impl<D: Crashable + Drop> Bench<D> {
     /// A closed bench.
     pub fn closed(alloc: Global, disk: D) -> Bench<D>
         ensures stands { D.honest disk → (plant : Condensed) → StandOnly (D.state disk) plant →
-            Stands (closed_world (first plant)) result }
-        ensures device { sight_of result ≡ device_alone (D.state disk) (D.failures disk) 0 }
+            MatchesBench (closed_world (first plant)) result }
+        ensures device { bench_sight result ≡ device_alone (D.state disk) (D.failures disk) 0 }
         ensures honest { D.honest disk ↔ IsHonest result }
         ensures there { HasDevice result }
     {
@@ -54,20 +54,20 @@ impl<D: Crashable + Drop> Bench<D> {
         }
     }
 
-    /// Opens what a device stands for: a sync comes first, and nothing is written.
+    /// Opens the plant that a device encodes: a sync comes first, and no byte is written.
     ///
-    /// Refused, and the device is given back, where it stands for nothing, where it failed, or for want of memory.
+    /// Refused, and the device is returned, if it encodes no plant, if it failed, or if out of memory.
     pub fn new(alloc: Global, disk: D) -> Result<Bench<D>, (OpenFault, D)>
         ensures stands { D.honest disk → (plant : Condensed) → StandOnly (D.state disk) plant →
-            IfOk result (λ bench. Stands (first plant) bench) }
-        /// Of this device a sync and reads were made, and nothing else; where it is refused, up to its fault.
+            IfOk result (λ bench. MatchesBench (first plant) bench) }
+        /// The calls made on this device are a sync and reads, and no others; if it is refused, up to its fault.
         ensures made { MatchResult result (IsOpenedFrom disk)
             (λ e. IsRefusedBy e.0 D.serves disk e.1) }
-        /// What it reads is one of the images before, and nothing is pending.
+        /// What it reads is one of the images before, and no place is pending.
         ensures device { D.honest disk →
             IfOk result
-            (λ bench. IsImage (D.state disk) (sight_of bench).state.bytes ×
-            ((place : ℕ) → (sight_of bench).state.pending place ≡ false)) }
+            (λ bench. IsImage (D.state disk) (bench_sight bench).state.bytes ×
+            ((place : ℕ) → (bench_sight bench).state.pending place ≡ false)) }
         ensures there { IfOk result (λ bench. HasDevice bench) }
         ensures honest { IfErr result (λ e. D.honest disk ↔ D.honest e.1) }
         ensures no_new_image { D.honest disk →
@@ -90,8 +90,8 @@ impl<D: Crashable + Drop> Bench<D> {
     pub fn into_disk(self) -> D
         requires { HasDevice self }
         ensures honest { IsHonest self ↔ D.honest result }
-        ensures state { D.state result ≡ (sight_of self).state }
-        ensures failures { D.failures result ≡ (sight_of self).failures }
+        ensures state { D.state result ≡ (bench_sight self).state }
+        ensures failures { D.failures result ≡ (bench_sight self).failures }
     {
         let Bench { setup, answer: _ } = self;
         match setup {
@@ -103,8 +103,8 @@ impl<D: Crashable + Drop> Bench<D> {
 
     // Does nothing: it says what a crash leaves.
     fn images(&self)
-        ensures headline { (w : World) → Stands w self.now →
-            Headline StandsFor IsLastEpoch w (sight_of self.now).state }
+        ensures headline { (w : World) → MatchesBench w self.now →
+            Headline StandsFor IsLastEpoch w (bench_sight self.now).state }
     {
         match &self.setup {
             Setup::Open(pipeline) => pipeline.images(),
@@ -131,12 +131,12 @@ impl<D: Crashable + Drop> Bench<D> {
 
     // The power fails.
     fn crash(&mut self, bytes: &Vec<(u64, u8)>) -> Event
-        ensures answer { (w : World) → Stands w self.old → Answers w (S.Crash bytes.now) result }
-        ensures stands { (w : World) → Stands w self.old →
-            Stands (after_step w (S.Crash bytes.now) result) self.new }
-        ensures moves { (w : World) → Stands w self.old →
-            Moves StandsFor IsLastEpoch w (S.Crash bytes.now) result (sight_of self.old)
-            (sight_of self.new) }
+        ensures answer { (w : World) → MatchesBench w self.old → Answers w (S.Crash bytes.now) result }
+        ensures stands { (w : World) → MatchesBench w self.old →
+            MatchesBench (after_step w (S.Crash bytes.now) result) self.new }
+        ensures moves { (w : World) → MatchesBench w self.old →
+            Moves StandsFor IsLastEpoch w (S.Crash bytes.now) result (bench_sight self.old)
+            (bench_sight self.new) }
         ensures there { HasDevice self.old → HasDevice self.new }
     {
         match self.take() {
@@ -154,13 +154,13 @@ impl<D: Crashable + Drop> Bench<D> {
         }
     }
 
-    // The device is opened again, and all else begins anew.
+    // The device is opened again, and all else starts again.
     fn reopen(&mut self, alloc: Global) -> Event
-        ensures answer { (w : World) → Stands w self.old → Answers w S.Reopen result }
-        ensures stands { (w : World) → Stands w self.old →
-            Stands (after_step w S.Reopen result) self.new }
-        ensures moves { (w : World) → Stands w self.old →
-            Moves StandsFor IsLastEpoch w S.Reopen result (sight_of self.old) (sight_of self.new) }
+        ensures answer { (w : World) → MatchesBench w self.old → Answers w S.Reopen result }
+        ensures stands { (w : World) → MatchesBench w self.old →
+            MatchesBench (after_step w S.Reopen result) self.new }
+        ensures moves { (w : World) → MatchesBench w self.old →
+            Moves StandsFor IsLastEpoch w S.Reopen result (bench_sight self.old) (bench_sight self.new) }
         ensures reopened { IsReopened self.old result self.new }
         ensures there { HasDevice self.old → HasDevice self.new }
     {
@@ -186,13 +186,13 @@ impl<D: Crashable + Drop> Bench<D> {
 
     // The one device call that is next. A failure closes the bench.
     fn call(&mut self) -> Event
-        ensures answer { (w : World) → Stands w self.old → Answers w S.Call result }
-        ensures stands { (w : World) → Stands w self.old →
-            Stands (after_step w S.Call result) self.new }
-        ensures moves { (w : World) → Stands w self.old →
-            Moves StandsFor IsLastEpoch w S.Call result (sight_of self.old) (sight_of self.new) }
-        ensures sure { result ≡ E.Failed → NextIsSure self.old → (w : World) → Stands w self.old →
-            HasFailed (sight_of self.old).failures (sight_of self.new).failures }
+        ensures answer { (w : World) → MatchesBench w self.old → Answers w S.Call result }
+        ensures stands { (w : World) → MatchesBench w self.old →
+            MatchesBench (after_step w S.Call result) self.new }
+        ensures moves { (w : World) → MatchesBench w self.old →
+            Moves StandsFor IsLastEpoch w S.Call result (bench_sight self.old) (bench_sight self.new) }
+        ensures sure { result ≡ E.Failed → NextIsSure self.old → (w : World) → MatchesBench w self.old →
+            HasFailed (bench_sight self.old).failures (bench_sight self.new).failures }
         ensures there { HasDevice self.old → HasDevice self.new }
     {
         match self.take() {
@@ -226,11 +226,11 @@ impl<D: Crashable + Drop> Bench<D> {
     // A step that leaves the device alone.
     fn go(&mut self, step: &Step) -> Event
         requires { IsInner step.now }
-        ensures answer { (w : World) → Stands w self.old → Answers w step.now result }
-        ensures stands { (w : World) → Stands w self.old →
-            Stands (after_step w step.now result) self.new }
-        ensures moves { (w : World) → Stands w self.old →
-            Moves StandsFor IsLastEpoch w step.now result (sight_of self.old) (sight_of self.new) }
+        ensures answer { (w : World) → MatchesBench w self.old → Answers w step.now result }
+        ensures stands { (w : World) → MatchesBench w self.old →
+            MatchesBench (after_step w step.now result) self.new }
+        ensures moves { (w : World) → MatchesBench w self.old →
+            Moves StandsFor IsLastEpoch w step.now result (bench_sight self.old) (bench_sight self.new) }
         ensures there { HasDevice self.old → HasDevice self.new }
     {
         match self.take() {
@@ -249,14 +249,14 @@ impl<D: Crashable + Drop> Bench<D> {
 
     // One step.
     fn act(&mut self, alloc: Global, step: &Step) -> Event
-        ensures answer { (w : World) → Stands w self.old → Answers w step.now result }
-        ensures stands { (w : World) → Stands w self.old →
-            Stands (after_step w step.now result) self.new }
-        ensures moves { (w : World) → Stands w self.old →
-            Moves StandsFor IsLastEpoch w step.now result (sight_of self.old) (sight_of self.new) }
+        ensures answer { (w : World) → MatchesBench w self.old → Answers w step.now result }
+        ensures stands { (w : World) → MatchesBench w self.old →
+            MatchesBench (after_step w step.now result) self.new }
+        ensures moves { (w : World) → MatchesBench w self.old →
+            Moves StandsFor IsLastEpoch w step.now result (bench_sight self.old) (bench_sight self.new) }
         ensures sure { step.now ≡ S.Call → result ≡ E.Failed → NextIsSure self.old → (w : World) →
-            Stands w self.old →
-            HasFailed (sight_of self.old).failures (sight_of self.new).failures }
+            MatchesBench w self.old →
+            HasFailed (bench_sight self.old).failures (bench_sight self.new).failures }
         ensures reopened { step.now ≡ S.Reopen → IsReopened self.old result self.new }
         ensures there { HasDevice self.old → HasDevice self.new }
     {
@@ -278,44 +278,47 @@ impl<D: Crashable + Drop> Bench<D> {
 
     /// One step, before and after which the headline holds.
     pub fn step(&mut self, alloc: Global, step: &Step) -> Event
-        ensures answer { (w : World) → Stands w self.old → Answers w step.now result }
-        ensures stands { (w : World) → Stands w self.old →
-            Stands (after_step w step.now result) self.new }
-        ensures moves { (w : World) → Stands w self.old →
-            Moves StandsFor IsLastEpoch w step.now result (sight_of self.old) (sight_of self.new) }
-        // A call of the device fails only where the device failed in it, or where the last epoch has no room for the held batch.
+        ensures answer { (w : World) → MatchesBench w self.old → Answers w step.now result }
+        ensures stands { (w : World) → MatchesBench w self.old →
+            MatchesBench (after_step w step.now result) self.new }
+        ensures moves { (w : World) → MatchesBench w self.old →
+            Moves StandsFor IsLastEpoch w step.now result (bench_sight self.old) (bench_sight self.new) }
+        // A call of the device fails only if the device failed in it, or if the last epoch has no room for the held batch.
         ensures sure { step.now ≡ S.Call → result ≡ E.Failed → NextIsSure self.old → (w : World) →
-            Stands w self.old →
-            HasFailed (sight_of self.old).failures (sight_of self.new).failures }
+            MatchesBench w self.old →
+            HasFailed (bench_sight self.old).failures (bench_sight self.new).failures }
         // A reopening calls the device as opening its store does.
         ensures reopened { step.now ≡ S.Reopen → IsReopened self.old result self.new }
         ensures there { HasDevice self.old → HasDevice self.new }
-        ensures before { (w : World) → Stands w self.old →
-            Headline StandsFor IsLastEpoch w (sight_of self.old).state }
-        ensures headline { (w : World) → Stands w self.old →
+        ensures before { (w : World) → MatchesBench w self.old →
+            Headline StandsFor IsLastEpoch w (bench_sight self.old).state }
+        ensures headline { (w : World) → MatchesBench w self.old →
             Headline StandsFor IsLastEpoch (after_step w step.now result)
-            (sight_of self.new).state }
+            (bench_sight self.new).state }
     {
+        // for the proof: what a crash leaves before the step
         self.images();
         let event = self.act(alloc, step);
+        // for the proof: what a crash leaves after it
         self.images();
         event
     }
 
-    /// The world's run of exactly these steps, before the first of which and after each the headline holds. Room for the trace is
-    /// taken before the first step.
+    /// The world's run of exactly these steps; the headline holds before the first of them and after each. Room for the trace was
+    /// taken by then.
     pub fn run(&mut self, alloc: Global, steps: &[Step]) -> Result<Vec<Event>, AllocError>
         ensures run { IfOk result
-            (λ trace. (w : World) → Stands w self.old →
-            IsRun StandsFor IsLastEpoch w (sight_of self.old) steps.now trace.items
-            (sight_of self.new)) }
+            (λ trace. (w : World) → MatchesBench w self.old →
+            IsRun StandsFor IsLastEpoch w (bench_sight self.old) steps.now trace.items
+            (bench_sight self.new)) }
         ensures stands { IfOk result
-            (λ trace. (w : World) → Stands w self.old →
-            Stands (after_steps w steps.now trace.items) self.new) }
+            (λ trace. (w : World) → MatchesBench w self.old →
+            MatchesBench (after_steps w steps.now trace.items) self.new) }
         ensures there { HasDevice self.old → HasDevice self.new }
         ensures memory { OnErr result (self.new ≡ self.old) }
     {
         let mut trace = Vec::with_capacity(alloc, steps.len())?;
+        // for the proof: what a crash leaves before the first step
         self.images();
         for step in steps {
             let event = self.step(alloc, step);

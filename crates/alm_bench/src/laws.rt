@@ -17,16 +17,17 @@ ghost use Rattle.alm_pipeline.specs.declared.step.Step.TheVariants.{Look, Releas
 ghost use Rattle.alm_pipeline.specs.declared.event.Event.{Event};
 ghost use Rattle.alm_pipeline.specs.declared.event.Event.TheVariants.{Looked, Released};
 
-/// The headline by a run's trace alone: whatever a crash leaves at its end stands for the plant of the first so many actions that the trace accepted,
-/// and they reach each number of a receipt and each count of a look in it.
+/// The headline by a run's trace alone: whatever a crash leaves at its end encodes the plant of a prefix of the actions that the
+/// trace accepted. The prefix reaches each number of a receipt and each count of a look in it.
 pub fn the_trace_tells_enough()
     ensures { (plant : Condensed) (d last : Sight) (steps : List Step) (trace : List Event) →
         IsRun StandsFor IsLastEpoch (closed_world (first plant)) d steps trace last →
         (image : List ℕ) → IsImage last.state image → KeepsTold plant trace image }
 {}
 
-/// In any run, what a step told of the accepted actions is recovered ever after: whatever a crash leaves at the end of the run, it stands for
-/// the plant of a list of actions that begins with those. A reply that is released tells the actions up to its own, a look those that it shows.
+/// In any run, what a step reported of the accepted actions is recovered ever after. Whatever a crash leaves at the end of the
+/// run, it encodes the plant of a list of actions that begins with those. A reply that is released reports the actions up to its
+/// own, a look those that it shows.
 pub fn what_was_told_is_recovered()
     ensures { (plant : Condensed) (d last : Sight) (steps behind : List Step)
         (trace rest : List Event) (step : Step) (event : Event) (told : List Action) →
@@ -39,8 +40,8 @@ pub fn what_was_told_is_recovered()
         (actions : List Action) × (recovered ≡ run plant actions) × IsFront told actions }
 {}
 
-/// Each reply that is released in a run tells such a list: as many actions as its number says beyond the first plant's, and where its action was
-/// accepted, that action is the last of them.
+/// Each reply that is released in a run reports such a list: as many actions as its number says beyond the first plant's. If its
+/// action was accepted, that action is the last of them.
 pub fn each_reply_tells_its_action()
     ensures { (plant : Condensed) (d last : Sight) (steps behind : List Step)
         (trace rest : List Event) (slot : ℕ) → length steps ≡ length trace →
@@ -50,8 +51,8 @@ pub fn each_reply_tells_its_action()
         Tells (after_steps (closed_world (first plant)) steps trace) Release (Released slot) told }
 {}
 
-/// A look shows all that was told before it: its count reaches each number of a receipt that was received and each count of a look, over
-/// all slots and reopenings.
+/// A look shows all that was reported before it. Its count reaches each number of a receipt that was received and each count of a
+/// look, over all slots and reopenings.
 pub fn looks_never_go_back()
     ensures { (plant : Condensed) (d last : Sight) (steps behind : List Step)
         (trace rest : List Event) (slot : ℕ) (query : Query) (count : ℕ) →

@@ -10,20 +10,21 @@
 //! | name | is |
 //! |---|---|
 //! | [`Bench`] | all parts over a device, or a closed device alone |
-//! | [`Step`] | what happens next: one slot sends or receives, one part goes on, the power fails, the device is opened again |
+//! | [`Step`] | what happens next: a slot sends or receives, a part makes a step, the power fails, the device is opened again |
 //! | [`Event`] | what came of it; the events of a run are its trace |
-//! | [`life`] | a run from a formatted device, which is given back |
-//! | [`whole_life`] | a run from a device that is formatted first, and given back |
-//! | [`laws`] | what was told or shown in a run is recovered ever after |
+//! | [`life`] | a run from a formatted device, which is returned |
+//! | [`whole_life`] | a run from a device that is formatted first, and returned |
+//! | [`laws`] | what was reported or shown in a run is recovered ever after |
 //!
-//! The one contract that is used above is that of [`Bench::run`], and [`life`] says it in one call. The trace is that of a world
-//! of plain lists (alm_pipeline, specs/World.antt): each event is the answer of its step, and Skipped stands only where the step isn't possible or
-//! a look is refused. Before the first step and after each, every image that a crash may leave of the device stands for the plant of
-//! a front of the accepted actions, which holds every action whose reply was released or that a look showed; and each of its lists
-//! is the filter of its alarms, in the order of their stamps (alm_pipeline, specs/Headline.antt).
+//! The one contract that is used above is that of [`Bench::run`], and [`life`] says it in one call. The trace is that
+//! of a world of plain lists (alm_pipeline, specs/World.antt): each event is the answer of its step. Skipped means that
+//! the step isn't possible or a look is refused. Before the first step and after each, every image that a crash may
+//! leave of the device encodes the plant that a prefix of the accepted actions makes. The prefix contains each action
+//! that a look showed or whose reply was released. Each list of that plant consists of the alarms that belong to it,
+//! sorted by stamp (alm_pipeline, specs/Headline.antt).
 //!
-//! The premise is that the device does what its trait says of it, and that it was formatted. Not promised: that any step is possible
-//! again after a failure, that memory suffices, and anything of threads that run beside each other.
+//! The premise is that the device does what its trait says of it, and that it was formatted. Not covered: that any step is
+//! possible again after a failure, that memory suffices, and threads that run concurrently.
 #![tactic(auto)]
 
 mod bench;

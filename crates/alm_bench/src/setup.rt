@@ -13,6 +13,6 @@ where
 {
     Open(Pipeline<Keeper<D>>),
     Shut(D),
-    /// In the middle of a step alone.
+    /// Only in the middle of a step.
     Gone,
 }

@@ -20,10 +20,10 @@ use alm_pipeline::{Event, Step};
 use alm_types::Table;
 use std::alloc::{AllocError, Global};
 
-/// The headline: a device that is honest, and that stands for a plant whatever a crash leaves of it, goes through these steps, and is
-/// given back beside their trace. The first of them that is possible is a crash or a reopening.
+/// The headline: an honest device encodes a plant, whatever a crash leaves of it. It goes through these steps, and is returned
+/// with their trace. The first of them that is possible is a crash or a reopening.
 ///
-/// Refused for want of memory, before the first step: the device is given back as it was.
+/// Refused if out of memory, before the first step: the device is returned unchanged.
 pub fn life<D: Crashable + Drop>(
     alloc: Global,
     disk: D,
@@ -36,8 +36,8 @@ pub fn life<D: Crashable + Drop>(
         (device_alone (D.state disk) (D.failures disk) 0) steps.now lived.0.items
         (record
         { state = D.state lived.1; failures = D.failures lived.1; phase = at; refused = n })) }
-    // By the trace alone: whatever a crash leaves of it stands for the plant of the first so many actions that the trace accepted,
-    // and they reach all that it told.
+    // By the trace alone: whatever a crash leaves of it encodes the plant of a prefix of the actions that the trace accepted. The
+    // prefix reaches all that it reported.
     ensures told { D.honest disk → (plant : Condensed) → StandOnly (D.state disk) plant →
         IfOk result
         (λ lived.
@@ -53,10 +53,10 @@ pub fn life<D: Crashable + Drop>(
     }
 }
 
-/// The headline from the first byte on: an honest device is formatted for a table, goes through these steps, and is given back beside
-/// their trace. At first it stands for the table's new plant.
+/// The headline from the first byte on: an honest device is formatted for a table, goes through these steps, and is returned with
+/// their trace. At first it encodes the table's new plant.
 ///
-/// Refused, and the device is given back, where `format` refuses, and for want of memory.
+/// Refused, and the device is returned, if `format` refuses, or if out of memory.
 pub fn whole_life<D: Crashable + Drop>(
     alloc: Global,
     disk: D,
@@ -77,7 +77,7 @@ pub fn whole_life<D: Crashable + Drop>(
         IfOk result
         (λ lived. (image : List ℕ) → IsImage (D.state lived.1) image →
         KeepsTold (new_plant table.now) lived.0.items image) }
-    // The formatting was refused, or memory was short as soon as the device was formatted.
+    // The formatting was refused, or memory ran out when the device was formatted.
     ensures refused { IfErr result
         (λ e. IsLeftBy e.0 D.serves D.state D.honest D.size D.failures table.now disk e.1 ⊎
         ((e.0 ≡ FormatFault.OutOfMemory) × (formatted : D) ×

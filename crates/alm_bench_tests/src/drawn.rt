@@ -5,8 +5,8 @@ ghost use Rattle.std.specs.Prelude.{◌<◌};
 use crate::traces::trace;
 use crate::world::World;
 use alm_bench::{Event, Step};
+use alm_desk::worked_table;
 use alm_model::{Alarms, PlainPlant};
-use alm_service::worked_table;
 use alm_types::{Action, AlarmId, Moment, Query, Reading, Slot};
 use std::alloc::Global;
 use std::test::Fail;
@@ -72,18 +72,20 @@ fn sender(drawn: u64, action: &Action) -> Result<Slot, Fail> {
 }
 
 fn query(drawn: u64) -> Query {
-    match below(drawn, 20, 7) {
+    match below(drawn, 20, 9) {
         0 => Query::State(AlarmId(below(drawn, 8, 5))),
         1 => Query::Priority(below(drawn, 8, 6)),
         2 => Query::Flood(below(drawn, 8, 3)),
         3 => Query::Area(below(drawn, 8, 3)),
         4 => Query::Stale,
         5 => Query::Chatter,
+        6 => Query::Plant,
+        7 => Query::Attributes(AlarmId(below(drawn, 8, 5))),
         _ => Query::Wheel(below(drawn, 8, 300)),
     }
 }
 
-/// Where the frames begin of the half that stands at first.
+/// The start of the frames of the half that stands at first.
 const FRAMES: u64 = 10_394;
 
 /// A closed gate, an open one, or another byte.
@@ -105,7 +107,7 @@ fn bytes(alloc: Global, drawn: u64) -> Result<Vec<(u64, u8)>, Fail> {
     Ok(bytes)
 }
 
-/// A request of the slot whose it is.
+/// A request from a slot that may ask for it.
 fn send(drawn: u64, now: u64) -> Result<Step, Fail> {
     let action = action(drawn, now)?;
     let slot = sender(drawn, &action)?;
@@ -144,7 +146,7 @@ fn steps(alloc: Global, seed: u64, count: u32) -> Result<Vec<Step>, Fail> {
     Ok(steps)
 }
 
-/// The first place where a trace isn't the world's.
+/// The first place at which a trace isn't the world's.
 pub fn differs_at<P: Alarms + Drop>(
     world: &mut World<P>,
     steps: &[Step],
@@ -165,7 +167,7 @@ pub fn differs_at<P: Alarms + Drop>(
     Ok(None)
 }
 
-/// The first place where the trace of so many drawn steps isn't the world's.
+/// The first place at which the trace of a number of drawn steps isn't the world's.
 fn run_differs_at(alloc: Global, seed: u64, count: u32) -> Result<Option<usize>, Fail> {
     let steps = steps(alloc, seed, count)?;
     let found = steps_differ_at(alloc, &steps);
@@ -173,7 +175,7 @@ fn run_differs_at(alloc: Global, seed: u64, count: u32) -> Result<Option<usize>,
     found
 }
 
-/// The first place where the trace of these steps isn't that of a new world with a plain plant.
+/// The first place at which the trace of these steps isn't that of a new world with a plain plant.
 fn steps_differ_at(alloc: Global, steps: &[Step]) -> Result<Option<usize>, Fail> {
     let trace = trace(alloc, CALLS, steps)?;
     let found = trace_differs_at::<PlainPlant>(alloc, steps, &trace);
@@ -193,7 +195,7 @@ fn trace_differs_at<P: Alarms + Drop>(
     found
 }
 
-/// The first of so many runs that differs, and where.
+/// The first of a number of runs that differs, and its place.
 fn runs_differ_at(alloc: Global, (runs, count): (u32, u32)) -> Result<Option<(u32, usize)>, Fail> {
     let mut seed = 88_172_645_463_325_252;
     for run in 0..runs {

@@ -11,7 +11,7 @@ const ALARMS: usize = 1000;
 /// How long the device is, and more calls than a run makes on it.
 const DEVICE: (usize, usize) = (391_541, 1000);
 
-/// One action of the clock from its request to its receipt, with so many device calls.
+/// One action of the clock from its request to its receipt, with `calls` device calls.
 fn tick(steps: &mut Vec<Step>, clock: Slot, turn: u64, calls: u32) -> Result<(), Fail> {
     let now = Action::Clock(Moment::new(turn).ok_or("moment")?);
     steps.push(Step::Send(clock, now))?;
@@ -28,7 +28,8 @@ fn tick(steps: &mut Vec<Step>, clock: Slot, turn: u64, calls: u32) -> Result<(),
     Ok(())
 }
 
-/// 59 commits of one action, of which the last opens a checkpoint; the next three as far as so many device calls take them, and a crash.
+/// 59 commits of one action, of which the last opens a checkpoint; the next three as far as `calls` device calls take them, and a
+/// crash.
 fn steps(alloc: Global, clock: Slot, calls: u32) -> Result<Vec<Step>, Fail> {
     let mut steps = Vec::new(alloc);
     let mut left = calls;
@@ -46,14 +47,14 @@ fn steps(alloc: Global, clock: Slot, calls: u32) -> Result<Vec<Step>, Fail> {
     Ok(steps)
 }
 
-/// What is opened after it, where the pending bytes stay as they read.
+/// What is opened after it, if the pending bytes stay as they read.
 fn opened_after(alloc: Global, table: &Table, calls: u32) -> Result<Option<Event>, Fail> {
     let steps = steps(alloc, Slot::new(17).ok_or("slot")?, calls)?;
     Ok(trace_on(alloc, table, DEVICE, &steps)?.last().copied())
 }
 
-/// A commit's frame is there from its third call on. Before the first two commits goes a piece each, and before the third one the last
-/// piece, a sync, the gate and its sync.
+/// A commit's frame is there from its third call on. Each of the first two commits comes after one piece. The third comes after
+/// the last piece, a sync, the gate and its sync.
 #[test]
 fn a_crash_after_each_call_of_commits_between_pieces(rt: HostRuntime) -> Result<(), Fail> {
     let alloc = rt.alloc();

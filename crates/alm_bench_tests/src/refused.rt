@@ -1,9 +1,9 @@
-//! Want of memory: run with each allocation refused in turn (`rt try --test --fail-alloc N`), the test of this module passes.
+//! Out of memory: run with each allocation refused in turn (`rt try --test --fail-alloc N`), the test of this module passes.
 
 use alm_bench::{Bench, Event, Step};
+use alm_desk::worked_table;
 use alm_disk::MemDisk;
 use alm_keeper::{OpenFault, format};
-use alm_service::worked_table;
 use alm_types::{Action, Moment, Slot};
 use std::alloc::{AllocError, Global};
 use std::test::Fail;
@@ -21,7 +21,7 @@ fn made(alloc: Global) -> Option<MemDisk> {
     format(alloc, disk, &table).ok()
 }
 
-/// The first event of a run of these steps, which is tried once more where it is refused.
+/// The first event of a run of these steps, which is tried once more if it is refused.
 fn first_event(alloc: Global, bench: &mut Bench<MemDisk>, steps: &[Step]) -> Option<Event> {
     let trace = match bench.run(alloc, steps) {
         Ok(trace) => trace,

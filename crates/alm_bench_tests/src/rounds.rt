@@ -1,5 +1,5 @@
-//! Drawn rounds of four consoles: each seals one large batch, of which two or three fill half a segment, so that a checkpoint is open
-//! before many of the commits.
+//! Drawn rounds of four consoles: each seals one large batch, of which two or three fill half a segment, so that a
+//! checkpoint is open before many of the commits.
 
 use crate::drawn::{below, differs_at, random};
 use crate::traces::{alike, trace_on};
@@ -34,7 +34,7 @@ const RUNS: u32 = 40;
 
 const SEED: u64 = 88_172_645_463_325_252;
 
-/// Where the bytes may be pending that a crash changes: the segment of half 0 and its end, half 1 and its run, and its segment.
+/// The places of the pending bytes that a crash changes: the segment of half 0 and its end, half 1 and its run, and its segment.
 const PLACES: [u64; 4] = [75_186, 79_302, 79_310, 154_465];
 
 /// What is drawn of a run, and how many setpoints were sent.
@@ -55,7 +55,8 @@ fn setpoint(number: u32) -> Result<Action, Fail> {
     Ok(Action::SetSetpoint(AlarmId(number % ALARMS), setpoint))
 }
 
-/// A drawn number of setpoints, sealed as one batch; a batch is fetched, so many device calls are made, and its replies go out.
+/// A drawn number of setpoints, sealed as one batch; a batch is fetched, `calls` device calls are made, and its replies are
+/// released.
 fn round(steps: &mut Vec<Step>, course: Course, calls: u32) -> Result<Course, Fail> {
     let actions = FEWEST.wrapping_add(below(course.drawn, 7, MOST - FEWEST));
     for number in 0..actions {
@@ -99,7 +100,7 @@ fn bytes(alloc: Global, drawn: u64) -> Result<Vec<(u64, u8)>, Fail> {
     Ok(bytes)
 }
 
-/// Rounds of a drawn number of calls, no more than so many in all; a crash, and two rounds on what it left.
+/// Rounds of a drawn number of calls, no more than `calls` in all; a crash, and two rounds on what it left.
 fn steps(alloc: Global, seed: u64, calls: u32) -> Result<Vec<Step>, Fail> {
     let mut steps = Vec::new(alloc);
     let mut course = Course {
@@ -124,7 +125,7 @@ fn steps(alloc: Global, seed: u64, calls: u32) -> Result<Vec<Step>, Fail> {
     Ok(steps)
 }
 
-/// The first place where the trace of a run with so many calls before its crash isn't the world's.
+/// The first place at which the trace of a run with `calls` calls before its crash isn't the world's.
 fn run_differs_at(alloc: Global, seed: u64, calls: u32) -> Result<Option<usize>, Fail> {
     let steps = steps(alloc, seed, calls)?;
     let found = steps_differ_at(alloc, &steps);
@@ -132,7 +133,7 @@ fn run_differs_at(alloc: Global, seed: u64, calls: u32) -> Result<Option<usize>,
     found
 }
 
-/// The first place where the trace of these steps isn't that of a new world with a plain plant.
+/// The first place at which the trace of these steps isn't that of a new world with a plain plant.
 fn steps_differ_at(alloc: Global, steps: &[Step]) -> Result<Option<usize>, Fail> {
     let trace = trace_on(alloc, &alike(alloc, ALARMS as usize)?, DEVICE, steps)?;
     let found = trace_differs_at::<PlainPlant>(alloc, steps, &trace);
@@ -172,6 +173,28 @@ fn commits(trace: &[Event]) -> (u32, u32) {
     (commits, behind_pieces)
 }
 
+/// How many calls continued a checkpoint while no batch was held. `None` if a call did after one before it found none open: only
+/// another commit opens one.
+fn calls_alone(steps: &[Step], trace: &[Event]) -> Option<u32> {
+    let mut is_held = false;
+    let mut is_open = true;
+    let mut alone = 0u32;
+    for (step, event) in steps.iter().zip(trace) {
+        match (step, event) {
+            (Step::Fetch, Event::Fetched) => is_held = true,
+            (Step::Call, Event::Committed) => {
+                is_held = false;
+                is_open = true;
+            }
+            (Step::Call, Event::More) if !is_held && !is_open => return None,
+            (Step::Call, Event::More) if !is_held => alone = alone.wrapping_add(1),
+            (Step::Call, Event::Skipped) => is_open = false,
+            _ => {}
+        }
+    }
+    Some(alone)
+}
+
 #[test]
 fn a_crash_after_each_call(rt: HostRuntime) -> Result<(), Fail> {
     for calls in 0..MOST_CALLS {
@@ -209,5 +232,15 @@ fn many_commits_stand_behind_pieces(rt: HostRuntime) -> Result<(), Fail> {
         behind_pieces >= commits / 3,
         "{behind_pieces} of {commits}"
     );
+    Ok(())
+}
+
+#[test]
+fn a_checkpoint_continues_without_a_batch(rt: HostRuntime) -> Result<(), Fail> {
+    let alloc = rt.alloc();
+    let steps = steps(alloc, SEED, MOST_CALLS)?;
+    let trace = trace_on(alloc, &alike(alloc, ALARMS as usize)?, DEVICE, &steps)?;
+    let alone = calls_alone(&steps, &trace).ok_or("a call after the end of a checkpoint")?;
+    assert!(rt; alone >= BEFORE, "{alone}");
     Ok(())
 }

@@ -13,7 +13,7 @@ const CALLS: usize = 1000;
 
 const LOOK: Query = Query::State(AlarmId(0));
 
-/// The first place where the trace of these steps, on a device of which so many calls go well, isn't the one that is wanted.
+/// The first place at which the trace of these steps, on a device of which a number of calls succeed, isn't the expected one.
 fn goes_so(
     alloc: Global,
     calls: usize,
@@ -26,7 +26,7 @@ fn goes_so(
     Ok(found)
 }
 
-/// One action from its request to its receipt, and a crash behind it.
+/// One action from its request to its receipt, and a crash after it.
 fn steps_of_one_action(alloc: Global, clock: Slot, console: Slot, now: Action) -> [Step; 18] {
     [
         Step::Reopen,
@@ -88,7 +88,7 @@ fn one_action_goes_its_way(rt: HostRuntime) -> Result<(), Fail> {
     Ok(())
 }
 
-/// What is opened after a crash behind so many calls of a commit of one action, where the pending bytes stay as they read.
+/// What is opened after a crash after `calls` calls of a commit of one action, if the pending bytes stay as they read.
 fn opened_after(alloc: Global, calls: usize) -> Result<Option<Event>, Fail> {
     let clock = Slot::new(17).ok_or("slot")?;
     let now = Action::Clock(Moment::new(1000).ok_or("moment")?);
@@ -188,7 +188,7 @@ fn steps_of_a_refusal(feed: Slot, console: Slot, value: &Action) -> [Step; 22] {
     ]
 }
 
-/// What they are answered, where the console's request is refused so.
+/// Their answers, if the console's request is refused so.
 fn events_of_a_refusal(feed: Slot, console: Slot, value: Action, refused: &Verdict) -> [Event; 22] {
     [
         Event::Opened(0),
@@ -231,7 +231,7 @@ fn a_refusal_waits_for_the_actions_before_it(rt: HostRuntime) -> Result<(), Fail
     Ok(())
 }
 
-/// Why a device of so many zeros isn't opened.
+/// Why a device of `size` zeros isn't opened.
 fn fault_of_zeros(alloc: Global, size: usize) -> Result<Option<OpenFault>, Fail> {
     let disk = MemDisk::new(alloc, vec![in alloc; 0u8; size]?, CALLS)?;
     Ok(match Bench::new(alloc, disk) {
@@ -257,7 +257,7 @@ fn goes(bench: &mut Bench<MemDisk>, alloc: Global, steps: &[Step], wanted: &[Eve
     }
 }
 
-/// Whether a bench that is opened goes on in a second run where the first one ended.
+/// Whether a bench that is opened continues in a second run from the end of the first one.
 fn goes_on(alloc: Global, disk: MemDisk, slot: Slot) -> bool {
     let ack = Action::Ack(AlarmId(0));
     let refused = Verdict::Refused(Refusal::NotUnacknowledged, 0);
@@ -294,7 +294,7 @@ fn a_bench_goes_on_where_it_was(rt: HostRuntime) -> Result<(), Fail> {
     Ok(())
 }
 
-/// One action of the clock from its request to its receipt, with so many device calls.
+/// One action of the clock from its request to its receipt, with a number of device calls.
 fn tick(
     steps: &mut Vec<Step>,
     wanted: &mut Vec<Event>,
@@ -340,9 +340,9 @@ fn calls_of(turn: u64) -> u32 {
     }
 }
 
-/// A segment of 4,116 bytes is more than half full behind 59 frames of one action, each of 35 bytes: the 59th commit opens a checkpoint,
-/// and so does the 59th of the next half. The whole body is one piece, which no commit follows, so the checkpoint ends before the next
-/// commit: four calls, and two more to close the gate of a half that stood before.
+/// A segment of 4,116 bytes is more than half full after 59 frames of one action, each of 35 bytes. The 59th commit opens a
+/// checkpoint, and so does the 59th of the next half. The whole body is one piece, which no commit follows, so the checkpoint
+/// ends before the next commit. It has four calls, and two more to close the gate of a half that stood before.
 #[test]
 fn a_segment_half_full_makes_a_checkpoint(rt: HostRuntime) -> Result<(), Fail> {
     let alloc = rt.alloc();
@@ -362,7 +362,7 @@ fn a_segment_half_full_makes_a_checkpoint(rt: HostRuntime) -> Result<(), Fail> {
     Ok(())
 }
 
-/// Four slots send 64 requests each, and one more slot one: the batch takes 256 of them, and the last one once it is sealed.
+/// Four slots send 64 requests each, and one more slot one: the batch takes 256 of them, and the last one after it is sealed.
 #[test]
 fn a_batch_has_256_entries(rt: HostRuntime) -> Result<(), Fail> {
     let alloc = rt.alloc();
@@ -396,10 +396,10 @@ fn a_batch_has_256_entries(rt: HostRuntime) -> Result<(), Fail> {
     Ok(())
 }
 
-/// Where the epoch stands of the half that stands at first, and what follows it.
+/// The place of the epoch in the half that stands at first, and what follows it.
 const EPOCH: (usize, usize) = (24, 32);
 
-/// A device that is formatted for the worked table, and stands in the last epoch.
+/// A device that is formatted for the worked table, in the last epoch.
 fn in_the_last_epoch(alloc: Global) -> Result<MemDisk, Fail> {
     let mut bytes = formatted(alloc, CALLS)?.into_bytes();
     for place in EPOCH.0..EPOCH.1 {
@@ -408,7 +408,7 @@ fn in_the_last_epoch(alloc: Global) -> Result<MemDisk, Fail> {
     Ok(MemDisk::new(alloc, bytes, CALLS)?)
 }
 
-/// The first place where the trace of these steps over a device isn't the one that is wanted.
+/// The first place at which the trace of these steps over a device isn't the expected one.
 fn lives_so(
     alloc: Global,
     disk: MemDisk,
@@ -419,8 +419,8 @@ fn lives_so(
     Ok(differs_at(&trace, wanted))
 }
 
-/// In the last epoch no checkpoint makes room: a segment of 4,116 bytes takes 117 frames of one action, each of 35 bytes, and a closed
-/// gate. Then the device is closed, and opens with those.
+/// In the last epoch no checkpoint makes room: a segment of 4,116 bytes takes 117 frames of one action, each of 35
+/// bytes, and a closed gate. Then the device is closed, and opens with those.
 #[test]
 fn the_last_epoch_has_room_for_one_segment(rt: HostRuntime) -> Result<(), Fail> {
     let alloc = rt.alloc();

@@ -1,9 +1,9 @@
 //! Traces of runs on newly formatted devices.
 
 use alm_bench::{Event, Step, whole_life};
+use alm_desk::worked_table;
 use alm_disk::MemDisk;
 use alm_keeper::format;
-use alm_service::worked_table;
 use alm_types::Table;
 use std::alloc::Global;
 use std::test::Fail;
@@ -21,7 +21,7 @@ pub fn formatted(alloc: Global, calls: usize) -> Result<MemDisk, Fail> {
     }
 }
 
-/// A table of so many alarms in 2 areas, each like the worked table's first.
+/// A table of `alarms` alarms in 2 areas, each like the worked table's first.
 pub fn alike(alloc: Global, alarms: usize) -> Result<Table, Fail> {
     let first = *worked_table(alloc)?.alarms().first().ok_or("an alarm")?;
     match Table::new(vec![in alloc; first; alarms]?, 2) {
@@ -30,12 +30,12 @@ pub fn alike(alloc: Global, alarms: usize) -> Result<Table, Fail> {
     }
 }
 
-/// The trace of these steps on a device that is formatted for the worked table, and of which so many calls go well.
+/// The trace of these steps on a device that is formatted for the worked table, and of which `calls` calls succeed.
 pub fn trace(alloc: Global, calls: usize, steps: &[Step]) -> Result<Vec<Event>, Fail> {
     trace_on(alloc, &worked_table(alloc)?, (SIZE, calls), steps)
 }
 
-/// The same on a device of so many bytes that is formatted for a table.
+/// The same on a device of a number of bytes that is formatted for a table.
 pub fn trace_on(
     alloc: Global,
     table: &Table,
@@ -47,7 +47,7 @@ pub fn trace_on(
     Ok(trace)
 }
 
-/// The first place where a trace isn't the one that is wanted.
+/// The first place at which a trace isn't the expected one.
 pub fn differs_at(trace: &[Event], wanted: &[Event]) -> Option<usize> {
     if trace.len() != wanted.len() {
         return Some(trace.len());

@@ -1,4 +1,4 @@
-//! The world beside a bench: plain vectors, and the plant of all accepted actions.
+//! The world that a bench is compared with: plain vectors, and the plant of all accepted actions.
 
 use alm_bench::{Event, Step};
 use alm_model::{Alarms, judge};
@@ -27,10 +27,10 @@ struct Judged {
 #[derive(Clone, Copy, PartialEq, Eq)]
 enum Stage {
     Nothing,
-    /// So many device calls of its commit were made.
+    /// The number of device calls of its commit so far.
     Held(u32),
     Stored,
-    /// So many of its verdicts are released.
+    /// The number of its verdicts that are released.
     Shown(usize),
 }
 
@@ -43,7 +43,7 @@ pub struct World<P: Alarms + Drop> {
     accepted: Vec<Action>,
     lines: Vec<Line>,
     entries: Vec<Judged>,
-    /// Where each sealed batch ends among the entries, and how many of them were fetched and given back.
+    /// The end of each sealed batch among the entries, and how many of them were fetched and returned.
     ends: Vec<usize>,
     fetched: usize,
     given: usize,
@@ -52,14 +52,14 @@ pub struct World<P: Alarms + Drop> {
     published: u64,
     floor: u64,
     closed: bool,
-    /// How many calls of a checkpoint may go before the calls of a commit.
+    /// How many calls of a checkpoint may precede the calls of a commit.
     before: u32,
-    /// Counts that a closed device may stand for.
+    /// Counts that a closed device may have.
     sure: u64,
     may: u64,
 }
 
-/// How many device calls a commit takes, beside those of a checkpoint before it.
+/// How many device calls a commit takes, without those of a checkpoint before it.
 const COMMIT: u32 = 4;
 
 /// The lines of all slots, on which nothing was sent.
@@ -79,13 +79,12 @@ fn lines(alloc: Global) -> Result<Vec<Line>, AllocError> {
 /// Whether the worked table has what a query asks for.
 fn exists(query: &Query) -> bool {
     match query {
-        Query::State(AlarmId(alarm)) => *alarm < 4,
+        Query::State(AlarmId(alarm)) | Query::Attributes(AlarmId(alarm)) => *alarm < 4,
         Query::Priority(priority) => *priority >= 1 && *priority <= 4,
         Query::Area(area) => *area < 2,
         Query::Flood(area) => *area < 2,
         Query::Wheel(slot) => *slot < 256,
-        Query::Stale => true,
-        Query::Chatter => true,
+        Query::Stale | Query::Chatter | Query::Plant => true,
     }
 }
 
@@ -95,7 +94,7 @@ impl<P: Alarms + Drop> World<P> {
         Self::with_checkpoints(alloc, table, 0)
     }
 
-    /// The same, in which so many calls of a checkpoint may go before the calls of a commit.
+    /// The same, in which `before` calls of a checkpoint may precede the calls of a commit.
     pub fn with_checkpoints(alloc: Global, table: Table, before: u32) -> Result<Self, AllocError> {
         Ok(World {
             alloc,
@@ -118,7 +117,7 @@ impl<P: Alarms + Drop> World<P> {
         })
     }
 
-    /// What a step answers, where this was seen: it decides which image a crash left, where there are two, and how many calls of a
+    /// What a step answers, if this was seen: it decides which image a crash left, if there are two, and how many calls of a
     /// checkpoint there were.
     pub fn answers(&mut self, step: &Step, seen: Event) -> Result<Event, AllocError> {
         match step {
@@ -162,7 +161,7 @@ impl<P: Alarms + Drop> World<P> {
         Ok(Event::Sent(line.sent.len() as u64))
     }
 
-    /// Where the open batch begins.
+    /// The start of the open batch.
     fn open(&self) -> usize {
         self.ends.last().copied().unwrap_or(0)
     }
@@ -243,7 +242,7 @@ impl<P: Alarms + Drop> World<P> {
         Event::More
     }
 
-    /// A checkpoint may go on.
+    /// A checkpoint may continue.
     fn call_without_a_batch(&self, seen: Event) -> Event {
         if self.before > 0 && seen == Event::More {
             Event::More
@@ -341,7 +340,7 @@ impl<P: Alarms + Drop> World<P> {
         Event::Crashed
     }
 
-    /// All but the accepted actions that were recovered is gone.
+    /// All except the accepted actions that were recovered is lost.
     fn reopen(&mut self, seen: Event) -> Result<Event, AllocError> {
         if !self.closed {
             return Ok(Event::Skipped);

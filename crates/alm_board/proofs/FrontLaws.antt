@@ -17,7 +17,7 @@ front_of xs rest ys is = subst (λ (l : List _). take (length xs) l ≡ xs) is (
 pub front_of_prefix : {A : Type 0} (xs ys : List A) → IsPrefix xs ys → IsFront xs ys
 front_of_prefix xs ys p = front_of xs p.0 ys p.1
 
--- what stands behind a beginning
+-- what follows a prefix
 pub rest_of : {A : Type 0} (xs ys : List A) → IsFront xs ys → xs ++ drop (length xs) ys ≡ ys
 rest_of xs ys front = ap (λ l. l ++ drop (length xs) ys) (sym front) ∙ take-append-drop (length xs) ys
 
@@ -30,6 +30,6 @@ front_more xs ys zs front = take-append-le (length xs) ys zs (front_length xs ys
 pub front_trans : {A : Type 0} (xs ys zs : List A) → IsFront xs ys → IsFront ys zs → IsFront xs zs
 front_trans xs ys zs p q = subst (λ (l : List _). take (length xs) l ≡ xs) (rest_of ys zs q) (front_more xs ys (drop (length ys) zs) p)
 
--- of two beginnings of one list the shorter begins the longer
+-- of two prefixes of one list the shorter is a prefix of the longer
 pub front_shorter : {A : Type 0} (xs ys zs : List A) → IsFront xs zs → IsFront ys zs → length xs ≤ length ys → IsFront xs ys
 front_shorter xs ys zs p q le = sym (take-append-le (length xs) ys (drop (length ys) zs) le) ∙ (ap (λ l. take (length xs) l) (rest_of ys zs q) ∙ p)

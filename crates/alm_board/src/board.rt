@@ -1,5 +1,6 @@
 //! What shows the published plant.
 
+use crate::voucher::Voucher;
 use alm_rings::Told;
 use alm_types::Batch;
 use std::alloc::AllocError;
@@ -27,8 +28,8 @@ pub trait Board {
         ensures list { Self.Told.list result ≡ published self.now };
 }
 
-/// A board that shows a batch more by `C`.
-pub trait Publish<C>: Board {
+/// A board that shows one more batch: `C` is what it waits by, and `V` vouches for the list.
+pub trait Publish<C, V: Voucher>: Board {
     ghost use Rattle.std.specs.Prelude.{◌≡◌, ◌++◌, [], IsOk, OnOk, OnErr};
     ghost use Rattle.alm_model.specs.Judging.{accepted_of};
     ghost use Rattle.alm_model.specs.Rules.{AllAdmitted};
@@ -38,12 +39,14 @@ pub trait Publish<C>: Board {
     /// It takes no memory.
     ghost sure: { Type 0 };
 
-    /// Shows the accepted actions of a batch: the next ones, and after a refusal those of the same batch. An error only for want
-    /// of memory: nothing new is shown, and the next call goes on where it stopped.
-    fn publish(&mut self, by: &C, batch: &Batch) -> Result<(), AllocError>
+    /// Shows the accepted actions of a batch: the next ones, and after a refusal those of the same batch. An error only if out of
+    /// memory: the shown list stays, and the next call continues from there.
+    fn publish(&mut self, by: &C, voucher: &V, batch: &Batch) -> Result<(), AllocError>
         requires admitted { AllAdmitted (run (Self.base self.old) (Self.published self.old))
             (accepted_of batch.now.entries) }
         requires same { IsFront (Self.pending self.old) (accepted_of batch.now.entries) }
+        requires vouched { V.vouches voucher.now
+            (Self.published self.old ++ accepted_of batch.now.entries) }
         ensures base { Self.base self.new ≡ Self.base self.old }
         ensures ok { OnOk result
             ((Self.published self.new ≡ Self.published self.old ++ accepted_of batch.now.entries) ×

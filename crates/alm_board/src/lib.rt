@@ -1,23 +1,23 @@
-//! The published plant: what lookers see.
+//! The published plant: what readers see.
 //!
 //! ```text
 //! let mut board = PlainBoard::new(plant); let mut look = board.looker(seen);
-//! board.publish(rt, &batch)?; look.learn(receipt);
+//! board.publish(&(), &(), &batch)?; look.learn(receipt);
 //! let count = look.look(query, &mut answer)?;
 //! ```
 //!
 //! | name | is |
 //! |---|---|
-//! | [`Board`] | what is published: it tells its list to receipts |
-//! | [`Publish`] | shows one batch more, or nothing new |
-//! | [`Look`] | one slot's sight of it: it sees, is told and learns |
+//! | [`Board`] | what is published: its list goes into receipts |
+//! | [`Publish`], [`Voucher`] | shows one more batch, or the same as before; what vouches for the list that is shown |
+//! | [`Look`] | one slot's view of it: it asks queries, and learns the lists of receipts |
 //! | [`FreeLook`] | one that may learn any receipt of its type |
 //! | [`PlainBoard`], [`PlainLook`], [`PlainTold`] | the board within one thread |
 //!
-//! What is used above: a look shows the plant of a list of published actions, with its count. The list begins with all that
-//! this looker saw before, and with the list told in every receipt that it learnt.
+//! What is used above: a look shows the plant of a list of published actions, with its count. Earlier looks by the same reader
+//! saw prefixes of that list, and each receipt that it learnt reported a prefix.
 //!
-//! Not promised: that a look sees the newest of what is published by another thread, and any time.
+//! Not covered: that a look sees the newest of what another thread has published, and time.
 #![tactic(auto)]
 
 mod board;
@@ -28,6 +28,7 @@ mod plain_board;
 mod plain_look;
 mod plain_told;
 mod seen;
+mod voucher;
 
 pub use board::{Board, Publish};
 pub use free_look::FreeLook;
@@ -37,3 +38,4 @@ pub use plain_board::PlainBoard;
 pub use plain_look::PlainLook;
 pub use plain_told::PlainTold;
 pub use seen::Seen;
+pub use voucher::Voucher;

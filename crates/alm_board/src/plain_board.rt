@@ -28,12 +28,12 @@ pub struct PlainBoard<P: Alarms + Drop> {
 impl<P: Alarms + Drop> PlainBoard<P> {
     ghost use Rattle.std.specs.Prelude.{◌≡◌, ◌++◌, [], ◌∷◌, None};
     ghost use Rattle.alm_model.specs.Accept.{refusal};
-    ghost use Rattle.alm_board.specs.Boards.{base_of, published_of, saw_of};
+    ghost use Rattle.alm_board.specs.Boards.{board_base, published_of, saw_of};
     ghost use Rattle.alm_board.specs.Fronts.{IsFront};
 
-    /// A board on which nothing was published yet.
+    /// A board with no published actions yet.
     pub fn new(plant: P) -> Self
-        ensures base { base_of result ≡ P.plant plant }
+        ensures base { board_base result ≡ P.plant plant }
         ensures published { published_of result ≡ [] }
     {
         PlainBoard {
@@ -56,7 +56,7 @@ impl<P: Alarms + Drop> PlainBoard<P> {
     // The next action.
     fn add(&mut self, action: &Action)
         requires { refusal (P.plant self.old.plant).panel action.now ≡ None }
-        ensures base { base_of self.new ≡ base_of self.old }
+        ensures base { board_base self.new ≡ board_base self.old }
         ensures published { published_of self.new ≡ published_of self.old ++ action.now ∷ [] }
     {
         self.plant.apply(action);
@@ -85,10 +85,10 @@ impl<P: Alarms + Drop> Board for PlainBoard<P> {
     }
 }
 
-impl<P: Alarms + Drop> Publish<()> for PlainBoard<P> {
+impl<P: Alarms + Drop> Publish<(), ()> for PlainBoard<P> {
     ghost sure = { Unit {0} };
 
-    fn publish(&mut self, _by: &(), batch: &Batch) -> Result<(), AllocError> {
+    fn publish(&mut self, _by: &(), _voucher: &(), batch: &Batch) -> Result<(), AllocError> {
         for entry in batch.entries() {
             match &entry.verdict {
                 Verdict::Accepted(action) => self.add(action),

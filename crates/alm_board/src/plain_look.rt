@@ -1,4 +1,4 @@
-//! A slot's sight of a plain board.
+//! A slot's view of a plain board.
 
 ghost use Rattle.alm_board.specs.Logs.{actions_of};
 ghost use Rattle.alm_board.specs.Fronts.{IsFront};
@@ -11,7 +11,7 @@ use crate::seen::Seen;
 use alm_model::{Alarms, look};
 use alm_types::{Answer, Query, Refusal};
 
-/// A slot's sight of a plain board.
+/// A slot's view of a plain board.
 #[derive(Drop)]
 pub struct PlainLook<'a, P: Alarms + Drop> {
     pub(crate) board: &'a PlainBoard<P>,

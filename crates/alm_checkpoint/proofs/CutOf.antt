@@ -1,4 +1,4 @@
--- A device that stands for a plant is cut into fields that say so.
+-- A device that encodes a plant is cut into fields that say so.
 use Rattle.std.proofs.Common.{◌≡◌, ◌⊎◌, ⊎_elim, inl, inr, ℕ, ◌+◌, ◌^◌, ◌<◌, ◌≤◌, Bool, true, false, eqb, ltb, leb, cond, List, [], ◌∷◌, ◌++◌, length, take, drop, Result, Ok, Err, refl, sym, ap, subst, ◌∙◌, append_assoc, arith, length-append, length-drop}
 use Rattle.std.proofs.Math.Seq.{take-add}
 use Rattle.std.proofs.lemmas.Bool.{eqb-true, leb-true, ltb-true, ltb-false, eqb-false, and_parts}
@@ -15,8 +15,8 @@ use Rattle.alm_segment.specs.Texts.{frames_text}
 use Rattle.alm_segment.proofs.Found.{found}
 use Rattle.alm_checkpoint.specs.declared.layout.Layout.{Layout}
 use Rattle.alm_checkpoint.specs.declared.half_head.HalfHead.{HalfHead}
-use Rattle.alm_checkpoint.specs.declared.fault.Fault.{Fault}
-use Rattle.alm_checkpoint.specs.declared.fault.Fault.TheVariants.{Unformatted}
+use Rattle.alm_checkpoint.specs.declared.device_fault.DeviceFault.{DeviceFault}
+use Rattle.alm_checkpoint.specs.declared.device_fault.DeviceFault.TheVariants.{Unformatted}
 use Rattle.alm_checkpoint.specs.declared.no_choice.NoChoice.TheVariants.{EqualEpochs}
 use Rattle.alm_checkpoint.specs.declared.half.Half.{Half}
 use Rattle.alm_checkpoint.specs.declared.half.Half.TheVariants.{First, Second}
@@ -29,17 +29,17 @@ use Rattle.alm_checkpoint.proofs.HeaderLaws.{header_is, head_is}
 use Rattle.alm_checkpoint.proofs.Grown.{gate_at}
 use Rattle.alm_checkpoint.proofs.Pieces.{gate_short, epoch_short}
 
--- ---- what a step that went well had
+-- ---- what a step that succeeded had
 
-bind_ok : {A B : Type 0} (r : Result A Fault) (f : A → Result B Fault) (y : B) → (r >>= f) ≡ Ok y → (x : A) × (r ≡ Ok x) × (f x ≡ Ok y)
+bind_ok : {A B : Type 0} (r : Result A DeviceFault) (f : A → Result B DeviceFault) (y : B) → (r >>= f) ≡ Ok y → (x : A) × (r ≡ Ok x) × (f x ≡ Ok y)
 bind_ok (Ok x) f y e = (x, refl, e)
 bind_ok (Err d) f y e = absurd cc
 
-rule_ok : (b : Bool) (fault : Fault) (x : Unit {0}) → rule b fault ≡ Ok x → b ≡ true
+rule_ok : (b : Bool) (fault : DeviceFault) (x : Unit {0}) → rule b fault ≡ Ok x → b ≡ true
 rule_ok true fault x e = refl
 rule_ok false fault x e = absurd cc
 
-abbrev fine : {A : Type 0} → A → Result A Fault
+abbrev fine : {A : Type 0} → A → Result A DeviceFault
 fine x = Ok x
 
 fine_is : {A : Type 0} (x y : A) → fine x ≡ fine y → x ≡ y
@@ -269,7 +269,7 @@ cut_at device l h t base plant left fits e_layout e_half e_told spells folds =
       of_other = ap gate_in (head_short l (other h) device) ∙ gate_short (half_bytes l (other h) device);
     }
 
--- what stands is cut so
+-- what a device encodes is cut so
 pub cut_of : (device : List ℕ) (epoch : ℕ) (plant : Condensed) (s : Stands device epoch plant) → IsBytes device → CutOf device epoch plant s.opened s.base s.left
 unfolding opened_in
 cut_of device epoch plant s fits =

@@ -1,4 +1,4 @@
--- The bytes of a device stand for a plant, or have a fault.
+-- The bytes of a device encode a plant, or have a fault.
 use Rattle.std.proofs.Common.{◌≡◌, inl, inr, ℕ, ◌+◌, ◌-◌, leb, List, Option, Some, None, Result, Ok, Err, refl}
 use Rattle.std.proofs.lemmas.Bool.{leb-true, and_parts}
 use Rattle.alm_model.specs.Plant.{Condensed}
@@ -10,8 +10,8 @@ use Rattle.alm_segment.specs.Folding.{stored_in}
 use Rattle.alm_checkpoint.specs.declared.layout.Layout.{Layout}
 use Rattle.alm_checkpoint.specs.declared.half_head.HalfHead.{HalfHead}
 use Rattle.alm_checkpoint.specs.declared.half.Half.{Half}
-use Rattle.alm_checkpoint.specs.declared.fault.Fault.{Fault}
-use Rattle.alm_checkpoint.specs.declared.fault.Fault.TheVariants.{Damaged}
+use Rattle.alm_checkpoint.specs.declared.device_fault.DeviceFault.{DeviceFault}
+use Rattle.alm_checkpoint.specs.declared.device_fault.DeviceFault.TheVariants.{Damaged}
 use Rattle.alm_checkpoint.specs.Layouts.{part, image_at, image_size, half_number}
 use Rattle.alm_checkpoint.specs.Opening.{Opened, opened_half, layout_in, chosen_in, half_head_from, head_of, opened_in}
 use Rattle.alm_checkpoint.specs.Standing.{Spells, Meaning, end_of}
@@ -31,17 +31,17 @@ by_image device o None e limits fits f =
     let q = image_there o.layout.rows o.layout.areas o.head.count o.image (leb-true 1 o.layout.rows rows.0, leb-true o.layout.rows 16384 rows.1) (leb-true 1 o.layout.areas areas.0, leb-true o.layout.areas 64 areas.1) fits f in
     by_fold device o q.0 (stored_in o.head.version o.head.epoch q.0 o.segment) e (record { sizes = q.1; image = q.2 }) refl
 
-by_told : (device : List ℕ) (l : Layout) (h : Half) (r : Result HalfHead Fault) → IsBytes device → layout_in device ≡ Ok l → chosen_in l device ≡ Ok h → half_head_from l h (head_of l h device) ≡ r → Meaning device
+by_told : (device : List ℕ) (l : Layout) (h : Half) (r : Result HalfHead DeviceFault) → IsBytes device → layout_in device ≡ Ok l → chosen_in l device ≡ Ok h → half_head_from l h (head_of l h device) ≡ r → Meaning device
 by_told device l h (Err fault) fits e f g = inr (fault, not_told device l h fault e f g)
 by_told device l h (Ok t) fits e f g =
     by_image device (opened_half l h t device) (damage_in l.rows l.areas t.count (part (image_at l h) (image_size l) device)) (opens device l h t e f g) (layout_is device l fits e).limits
     (IsBytes-take (image_size l) _ (IsBytes-drop (image_at l h) device fits)) refl
 
-by_half : (device : List ℕ) (l : Layout) (r : Result Half Fault) → IsBytes device → layout_in device ≡ Ok l → chosen_in l device ≡ r → Meaning device
+by_half : (device : List ℕ) (l : Layout) (r : Result Half DeviceFault) → IsBytes device → layout_in device ≡ Ok l → chosen_in l device ≡ r → Meaning device
 by_half device l (Err fault) fits e f = inr (fault, no_half_stands device l fault e f)
 by_half device l (Ok h) fits e f = by_told device l h (half_head_from l h (head_of l h device)) fits e f refl
 
-by_layout : (device : List ℕ) (r : Result Layout Fault) → IsBytes device → layout_in device ≡ r → Meaning device
+by_layout : (device : List ℕ) (r : Result Layout DeviceFault) → IsBytes device → layout_in device ≡ r → Meaning device
 by_layout device (Err fault) fits e = inr (fault, no_layout device fault e)
 by_layout device (Ok l) fits e = by_half device l (chosen_in l device) fits e refl
 

@@ -1,4 +1,4 @@
--- A cut with one frame more, and where its first closed gate stands.
+-- A cut with one frame more, and the place of its first closed gate.
 use Rattle.std.proofs.Common.{◌≡◌, ℕ, ◌+◌, List, [], ◌∷◌, ◌++◌, length, refl, sym, ap, subst, ◌∙◌, append_assoc, arith, length-append}
 use Rattle.alm_types.specs.declared.action.Action.{Action}
 use Rattle.alm_model.specs.Plant.{Condensed}
@@ -22,7 +22,7 @@ use Rattle.alm_checkpoint.proofs.Shown.{image_is_long}
 pub count_is : (c : Cut) (plant : Condensed) → Stores c plant → plant.panel.count ≡ c.base.panel.count + length (actions_in c.frames)
 count_is c plant s = ap (λ (q : Condensed). q.panel.count) (sym s.runs) ∙ run_count c.base (actions_in c.frames)
 
--- the frame's text behind an open gate is a frame more
+-- the frame's text after an open gate is a frame more
 pub pushed_text : (c : Cut) (plant : Condensed) (list : List Action) → Stores c plant
     → frames_text c.epoch c.base.panel.count c.frames ++ 165 ∷ frame_text c.epoch (plant.panel.count + 1) list ≡ frames_text c.epoch c.base.panel.count (with_frame c list).frames
 pushed_text c plant list s =
@@ -73,7 +73,7 @@ front_length l First m i f o long by_image by_other =
 front_length l Second m i f o long by_image by_other =
     omega (arith, length-append ((165 ∷ header_text l) ++ o) (m ++ i ++ f), length-append (165 ∷ header_text l) o, length-append (m ++ i) f, length-append m i, long, by_image, by_other)
 
--- where the gate stands, counted from the half's end
+-- the place of the gate, counted from the half's end
 pub gate_at : (c : Cut) (plant : Condensed) (tail : List ℕ) → Stores c plant → Reaches c tail → length (front c) + length tail ≡ half_at c.layout c.half + half_len c.layout
 gate_at c plant tail s reaches =
     omega (

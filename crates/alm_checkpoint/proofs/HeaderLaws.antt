@@ -1,4 +1,4 @@
--- The texts of headers and heads are read as what was written, and what is read is spelled so.
+-- The texts of headers and heads are read as what was written, and what is read is encoded so.
 use Rattle.std.proofs.Common.{◌≡◌, ℕ, ◌-◌, ◌^◌, ◌<◌, ◌≤◌, Bool, true, false, ◌&&◌, cond, eqb, leb, List, [], ◌++◌, Some, None, Ok, inl, inr, refl, sym, ap, subst, ◌∙◌, arith}
 use Rattle.std.specs.Prelude.{bytes_eq}
 use Rattle.std.specs.Int.{w16, w32, w64}
@@ -128,7 +128,7 @@ header_is size bytes x fits e =
 
 -- ---- the head of a half
 
--- what a field of mark and count stands for
+-- what a field of mark and count encodes
 pub record IsMark (header : Version) (n : ℕ) (m : Version × ℕ) : Type 0 where
   pub is : n ≡ mark_of m.0 m.1
   pub allowed : allows header m.0 ≡ true

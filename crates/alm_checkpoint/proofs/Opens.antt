@@ -6,7 +6,7 @@ use Rattle.alm_checkpoint.specs.declared.half_head.HalfHead.{HalfHead}
 use Rattle.alm_checkpoint.specs.declared.half.Half.{Half}
 use Rattle.alm_checkpoint.specs.declared.half.Half.TheVariants.{First, Second}
 use Rattle.alm_checkpoint.specs.declared.no_choice.NoChoice.{NoChoice}
-use Rattle.alm_checkpoint.specs.declared.fault.Fault.{Fault}
+use Rattle.alm_checkpoint.specs.declared.device_fault.DeviceFault.{DeviceFault}
 use Rattle.std.proofs.lemmas.List.{take_min}
 use Rattle.alm_checkpoint.specs.declared.restore_fault.RestoreFault.{RestoreFault}
 use Rattle.alm_checkpoint.specs.declared.restore_fault.RestoreFault.TheVariants as restore
@@ -22,24 +22,24 @@ opens device l h t e f g =
     ∙ ap (λ r. r >>= λ h. half_head_from l h (head_of l h device) >>= λ t. Ok (opened_half l h t device)) f
     ∙ ap (λ r. r >>= λ t. Ok (opened_half l h t device)) g
 
-pub no_layout : (device : List ℕ) (fault : Fault) → layout_in device ≡ Err fault → HasFault device fault
+pub no_layout : (device : List ℕ) (fault : DeviceFault) → layout_in device ≡ Err fault → HasFault device fault
 unfolding opened_in
 no_layout device fault e = inl (ap (λ r. r >>= λ l. chosen_in l device >>= λ h. half_head_from l h (head_of l h device) >>= λ t. Ok (opened_half l h t device)) e)
 
-pub no_half_stands : (device : List ℕ) (l : Layout) (fault : Fault) → layout_in device ≡ Ok l → chosen_in l device ≡ Err fault → HasFault device fault
+pub no_half_stands : (device : List ℕ) (l : Layout) (fault : DeviceFault) → layout_in device ≡ Ok l → chosen_in l device ≡ Err fault → HasFault device fault
 unfolding opened_in
 no_half_stands device l fault e f =
     inl (ap (λ r. r >>= λ l. chosen_in l device >>= λ h. half_head_from l h (head_of l h device) >>= λ t. Ok (opened_half l h t device)) e
     ∙ ap (λ r. r >>= λ h. half_head_from l h (head_of l h device) >>= λ t. Ok (opened_half l h t device)) f)
 
-pub not_told : (device : List ℕ) (l : Layout) (h : Half) (fault : Fault) → layout_in device ≡ Ok l → chosen_in l device ≡ Ok h → half_head_from l h (head_of l h device) ≡ Err fault → HasFault device fault
+pub not_told : (device : List ℕ) (l : Layout) (h : Half) (fault : DeviceFault) → layout_in device ≡ Ok l → chosen_in l device ≡ Ok h → half_head_from l h (head_of l h device) ≡ Err fault → HasFault device fault
 unfolding opened_in
 not_told device l h fault e f g =
     inl (ap (λ r. r >>= λ l. chosen_in l device >>= λ h. half_head_from l h (head_of l h device) >>= λ t. Ok (opened_half l h t device)) e
     ∙ ap (λ r. r >>= λ h. half_head_from l h (head_of l h device) >>= λ t. Ok (opened_half l h t device)) f
     ∙ ap (λ r. r >>= λ t. Ok (opened_half l h t device)) g)
 
--- what the half holds, the device stands for
+-- what the half holds, the device encodes
 abbrev pub stands_by : (device : List ℕ) (o : Opened) (plant : Condensed) (gate : ℕ) → opened_in device ≡ Ok o → Holds o plant gate → Stands device o.head.epoch plant
 stands_by device o plant gate e h = record { opened = o; opens = e; in_epoch = refl; base = h.base; spells = h.spells; left = h.left; folds = h.folds }
 
@@ -53,7 +53,7 @@ fault_by device o (restore.Damaged fault) e (inr h) = inr (inr (record { opened 
 pub start_is : (device text : List ℕ) (n : ℕ) → n ≡ min 23 (length device) → text ≡ part 0 n device → text ≡ part 0 header_len device
 start_is device text n e f = f ∙ ap (λ (k : ℕ). part 0 k device) e ∙ take_min 23 device
 
-pub layout_by : (device start : List ℕ) (result : Result Layout Fault) → result ≡ layout_from (length device) start → start ≡ part 0 header_len device → layout_in device ≡ result
+pub layout_by : (device start : List ℕ) (result : Result Layout DeviceFault) → result ≡ layout_from (length device) start → start ≡ part 0 header_len device → layout_in device ≡ result
 layout_by device start result e f = sym (e ∙ ap (layout_from (length device)) f)
 
 pub head_by : (device text : List ℕ) (l : Layout) (h : Half) (at : ℕ) → at ≡ half_at l h → text ≡ part at head_len device → text ≡ head_of l h device
@@ -66,7 +66,7 @@ chosen_by device l a b x y e f r p q xa yb ea fb h =
     ap (or_fault l) (h ∙ (λ i. choice (xa i) (yb i) (ea i) (fb i)) ∙ (λ i. choice (gate_in (p i)) (gate_in (q i)) (epoch_in (p i)) (epoch_in (q i))))
     )
 
-pub told_by : (device text : List ℕ) (l : Layout) (h : Half) (result : Result HalfHead Fault) → result ≡ half_head_from l h text → text ≡ head_of l h device → half_head_from l h (head_of l h device) ≡ result
+pub told_by : (device text : List ℕ) (l : Layout) (h : Half) (result : Result HalfHead DeviceFault) → result ≡ half_head_from l h text → text ≡ head_of l h device → half_head_from l h (head_of l h device) ≡ result
 told_by device text l h result e f = sym (e ∙ ap (half_head_from l h) f)
 
 -- what was read of the half

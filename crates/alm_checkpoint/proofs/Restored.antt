@@ -1,11 +1,11 @@
--- What a replay of the segment tells of the half.
+-- What a replay of the segment says of the half.
 use Rattle.std.proofs.Common.{◌≡◌, ℕ, ◌+◌, ◌-◌, ◌≤◌, length, Result, Ok, Err, sym, ap, subst, ◌∙◌, arith}
 use Rattle.alm_model.specs.Plant.{Condensed}
 use Rattle.alm_codec.specs.declared.damage.Damage.{Damage}
 use Rattle.alm_segment.specs.Folding.{stored_in, Replays}
 use Rattle.alm_segment.proofs.Replays.{replay_done, replay_failed}
 use Rattle.alm_segment.proofs.Within.{EndsWithin, ends_within}
-use Rattle.alm_checkpoint.specs.declared.fault.Fault.TheVariants.{Damaged}
+use Rattle.alm_checkpoint.specs.declared.device_fault.DeviceFault.TheVariants.{Damaged}
 use Rattle.alm_checkpoint.specs.Layouts.{segment_at, half_number}
 use Rattle.alm_checkpoint.specs.Opening.{Opened}
 use Rattle.alm_checkpoint.specs.Standing.{Spells, end_of}

@@ -1,4 +1,4 @@
--- A device that is cut into its fields stands for what they say.
+-- A device that is cut into its fields encodes what they say.
 use Rattle.std.proofs.Common.{◌≡◌, ℕ, suc, ◌+◌, ◌^◌, ◌<◌, ◌≤◌, Bool, true, false, leb, List, [], ◌∷◌, ◌++◌, length, take, Ok, refl, ap, ◌∙◌, append_assoc, arith, length-append}
 use Rattle.std.proofs.lemmas.Bool.{leb-true, le-leb, and_parts, and_from}
 use Rattle.std.proofs.lemmas.Nat.{from_be_bytes-to_be_bytes_8}
@@ -50,7 +50,7 @@ flat h m i f t b o r = simp append_assoc
 pub image_is_long : (l : Layout) (q : Condensed) → IsOf l.rows l.areas q.panel.count q → IsImageText q (image_text q) → length (image_text q) ≡ image_size l
 image_is_long l q of h = image_length q h.rules ∙ (λ i. image_len (of.by_rows i) (of.by_areas i))
 
--- where the fields lie on a device
+-- the places of the fields on a device
 pub record Laid (device : List ℕ) (l : Layout) (h : Half) (version : Version) (epoch count : ℕ) (image segment beside : List ℕ) : Type 0 where
   pub size : device_len l ≤ length device
   pub start : part 0 header_len device ≡ start_text l
@@ -187,7 +187,7 @@ opened device l h t image segment beside d limits e a c below =
     ∙ ap (λ (i : List ℕ). Ok (record { layout = l; half = h; head = t; image = i; segment = part (segment_at l h) l.segment device })) d.image_there
     ∙ ap (λ (s : List ℕ). Ok (record { layout = l; half = h; head = t; image = image; segment = s })) d.segment_there
 
--- ---- what is shown stands
+-- ---- the half that is shown stands
 
 pub shown_opens : (c : Cut) (plant : Condensed) (tail : List ℕ) → Stores c plant → Reaches c tail → opened_in (device_of c tail) ≡ Ok (shown c tail)
 shown_opens c plant tail s reaches =

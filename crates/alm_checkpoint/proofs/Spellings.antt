@@ -1,4 +1,5 @@
--- No text of a header begins another's, no text of a half's head another's of the same layout, and a header is read as what it spells.
+-- No text of a header is a prefix of another's, nor a text of a half's head of another's of the same layout. A header
+-- is read as what it encodes.
 use Rattle.std.proofs.Common.{◌≡◌, ℕ, ◌+◌, ◌≤◌, List, ◌∷◌, ◌++◌, Ok, sym, ap, ◌∙◌, arith}
 use Rattle.alm_codec.proofs.Numbers.{ok_is}
 use Rattle.alm_checkpoint.specs.declared.layout.Layout.{Layout}

@@ -1,4 +1,4 @@
--- A cut with another half beside the one that stands, and one where the other half stands.
+-- A cut with another half next to the one that stands, and one of which the other half stands.
 use Rattle.std.proofs.Common.{◌≡◌, inr, ℕ, ◌+◌, ◌^◌, ◌<◌, ◌≤◌, List, [], ◌∷◌, ◌++◌, length, refl, sym, ap, subst, ◌∙◌, append_assoc, arith, length-append}
 use Rattle.std.proofs.lemmas.List.{append-nil}
 use Rattle.std.proofs.lemmas.Nat.{from_be_bytes-to_be_bytes_8}
@@ -43,7 +43,7 @@ image_stored c plant s =
     let rules = rules_stored c plant s in
     record { rules = rules; fits = omega (arith, rules.stamps, within_stored c plant s); text = refl }
 
--- another half beside it, that doesn't stand
+-- another half next to it, that doesn't stand
 pub stores_other : (c : Cut) (plant : Condensed) (bytes : List ℕ) → Stores c plant → length bytes ≡ half_len c.layout → IsBelow c.epoch bytes → Stores (with_other c bytes) plant
 stores_other c plant bytes s size below = record {
   layout = s.layout;
@@ -105,7 +105,7 @@ stores_turned c plant tail s reaches more = record {
 side_second : (s m o t r : List ℕ) → (s ++ o) ++ m ++ t ++ r ≡ s ++ o ++ (m ++ t ++ r)
 side_second s m o t r = simp append_assoc
 
--- the front without the other half is the same where that half comes behind
+-- what precedes the other half is the same without it, if that half comes second
 side_first : (s m o t r : List ℕ) → (s ++ []) ++ m ++ t ++ (o ++ r) ≡ ((s ++ []) ++ m) ++ t ++ o ++ r
 side_first s m o t r = simp append_assoc
 

@@ -1,4 +1,4 @@
--- The bytes of a device stand for one plant in one epoch, or have one fault.
+-- The bytes of a device encode one plant in one epoch, or have one fault.
 use Rattle.std.proofs.Common.{◌≡◌, inl, inr, ℕ, ◌+◌, ◌-◌, List, [], length, Some, None, Result, Ok, Err, refl, sym, ap, subst, ◌∙◌}
 use Rattle.std.specs.Prelude.{option_map}
 use Rattle.alm_model.specs.Plant.{Condensed}
@@ -6,8 +6,8 @@ use Rattle.alm_codec.specs.Image.{IsOf}
 use Rattle.alm_codec.specs.ImageFields.{damage_in, left_at}
 use Rattle.alm_codec.proofs.SameImage.{no_image_begins, image_whole}
 use Rattle.alm_segment.specs.Folding.{stored_in}
-use Rattle.alm_checkpoint.specs.declared.fault.Fault.{Fault}
-use Rattle.alm_checkpoint.specs.declared.fault.Fault.TheVariants.{Damaged}
+use Rattle.alm_checkpoint.specs.declared.device_fault.DeviceFault.{DeviceFault}
+use Rattle.alm_checkpoint.specs.declared.device_fault.DeviceFault.TheVariants.{Damaged}
 use Rattle.alm_checkpoint.specs.Layouts.{image_at, half_number}
 use Rattle.alm_checkpoint.specs.Opening.{Opened, opened_in}
 use Rattle.alm_checkpoint.specs.Standing.{Stands, Spells, HasFault, end_of}
@@ -59,7 +59,7 @@ stands_once device e f q r s t =
     let ends = well_is {A = Condensed × ℕ} {B = ℕ} (pair q s.left) (pair r t.left) (sym s.folds ∙ one ∙ t.folds) in
     (epochs, ap (λ (x : Condensed × ℕ). x.0) ends)
 
-pub stands_or_fault : (device : List ℕ) (e : ℕ) (q : Condensed) (fault : Fault) → Stands device e q → HasFault device fault → ⊥
+pub stands_or_fault : (device : List ℕ) (e : ℕ) (q : Condensed) (fault : DeviceFault) → Stands device e q → HasFault device fault → ⊥
 stands_or_fault device e q fault s (inl f) = well_not (opened_in device) s.opened fault s.opens f
 stands_or_fault device e q fault s (inr (inl f)) =
     let same = same_opened device s.opened f.opened s.opens f.opens in
@@ -74,7 +74,7 @@ stands_or_fault device e q fault s (inr (inr f)) =
 same_places : (a b : ℕ) → Some a ≡ Some b → a ≡ b
 same_places a b e = cc
 
-pub fault_once : (device : List ℕ) (x y : Fault) → HasFault device x → HasFault device y → x ≡ y
+pub fault_once : (device : List ℕ) (x y : DeviceFault) → HasFault device x → HasFault device y → x ≡ y
 fault_once device x y (inl f) (inl g) = ill_is x y (sym f ∙ g)
 fault_once device x y (inl f) (inr (inl g)) = absurd (well_not (opened_in device) g.opened x g.opens f)
 fault_once device x y (inl f) (inr (inr g)) = absurd (well_not (opened_in device) g.opened x g.opens f)

@@ -24,7 +24,7 @@ pub record IsLayout (l : Layout) : Type 0 where
   pub areas : is_areas l.areas ≡ true
   pub segment : is_segment l.segment ≡ true
 
--- A device whose half stands, but for the bytes of its segment from the first closed gate on.
+-- A device whose half stands, without the bytes of its segment from the first closed gate on.
 pub record Cut : Type 0 where
   pub layout : Layout
   -- the half that stands, its version, its epoch, the plant of its image and the actions of its frames
@@ -33,7 +33,7 @@ pub record Cut : Type 0 where
   pub epoch : ℕ
   pub base : Condensed
   pub frames : List (List Action)
-  -- the bytes of the other half, and those behind both
+  -- the bytes of the other half, and those after both
   pub other : List ℕ
   pub rest : List ℕ
 
@@ -42,7 +42,7 @@ abbrev pub half_text : Layout → Version → (epoch : ℕ) → Condensed → Li
 half_text l version epoch base frames =
     165 ∷ half_head_text l version epoch base.panel.count ++ image_text base ++ frames_text epoch base.panel.count frames
 
--- what stands before the half that stands, and behind it
+-- what is before the half that stands, and after it
 abbrev pub before : Half → List ℕ → List ℕ
 before First other = []
 before Second other = other
@@ -61,11 +61,11 @@ back c = behind c.half c.other c.rest
 abbrev pub device_of : Cut → List ℕ → List ℕ
 device_of c tail = front c ++ tail ++ back c
 
--- the bytes of the segment that are left behind the frames
+-- the bytes of the segment that are left after the frames
 abbrev pub Reaches : Cut → List ℕ → Type 0
 Reaches c tail = length (frames_text c.epoch c.base.panel.count c.frames) + length tail ≡ c.layout.segment
 
--- the other half does not stand beside one of this epoch
+-- the other half does not stand next to one of this epoch
 abbrev pub IsBelow : ℕ → List ℕ → Type 0
 IsBelow epoch other = (gate_in other ≡ false) ⊎ (epoch_in other < epoch)
 
@@ -86,15 +86,16 @@ pub record Stores (c : Cut) (plant : Condensed) : Type 0 where
 
 -- ---- the same device, changed
 
--- one frame more behind the others
+-- one frame more after the others
 abbrev pub with_frame : Cut → List Action → Cut
 with_frame c actions = record c { frames = c.frames ++ actions ∷ [] }
 
--- another half beside the one that stands
+-- another half next to the one that stands
 abbrev pub with_other : Cut → List ℕ → Cut
 with_other c bytes = record c { other = bytes }
 
--- the other half stands, in version 02 and the next epoch: with the image of this plant and no frames; these bytes end the half that stood before
+-- the other half stands, in version 02 and the next epoch: with the image of this plant and no frames; these bytes end
+-- the half that stood before
 abbrev pub turned_cut : Cut → Condensed → List ℕ → Cut
 turned_cut c plant tail = record {
   layout = c.layout;
@@ -119,7 +120,7 @@ pub record IsCut (device : List ℕ) (epoch : ℕ) (plant : Condensed) (place : 
   pub of_epoch : cut.epoch ≡ epoch
   pub gate_is : length (front cut) ≡ place
 
--- what stands before the other half on the device, and behind it
+-- what is before the other half on the device, and after it
 abbrev pub side_front : Cut → Half → List ℕ → List ℕ
 side_front c First tail = front c ++ tail
 side_front c Second tail = 165 ∷ header_text c.layout
@@ -128,6 +129,6 @@ abbrev pub side_back : Cut → Half → List ℕ → List ℕ
 side_back c First tail = c.rest
 side_back c Second tail = half_text c.layout c.version c.epoch c.base c.frames ++ tail ++ c.rest
 
--- the same, where the other half also has frames behind its image
+-- the same, if the other half also has frames after its image
 abbrev pub turned_with : Cut → Condensed → List (List Action) → List ℕ → Cut
 turned_with c base frames tail = record (turned_cut c base tail) { frames = frames }

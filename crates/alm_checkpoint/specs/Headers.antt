@@ -1,4 +1,4 @@
--- The fields of the header and of the head of a half, each behind its gate.
+-- The fields of the header and of the head of a half, each after its gate.
 use Rattle.std.specs.Prelude.{◌≡◌, ℕ, ◌+◌, ◌-◌, ◌*◌, ◌^◌, ◌<◌, ◌≤◌, ◌&&◌, Bool, true, false, List, [], ◌∷◌, ◌++◌, Option, Some, None, bytes_eq, nat_le, ◌==◌, if◌then◌else◌}
 use Rattle.std.specs.Int.{w16, w32, w64, to_be_bytes}
 use Rattle.alm_codec.specs.declared.version.Version.{Version}
@@ -18,7 +18,7 @@ version_digit V02 = 50
 abbrev pub device_name : Version → List ℕ
 device_name version = 65 ∷ 76 ∷ 77 ∷ 83 ∷ 82 ∷ 86 ∷ 48 ∷ version_digit version ∷ []
 
--- the version that a name tells
+-- the version with a name
 abbrev pub version_named : List ℕ → Option Version
 version_named text = if bytes_eq text (device_name V01) then Some V01 else if bytes_eq text (device_name V02) then Some V02 else None
 
@@ -28,7 +28,7 @@ name = coded_field (raw 8) version_named device_name
 abbrev pub of_rows : ℕ → ℕ → ℕ → Version → Layout
 of_rows rows areas segment version = record { rows = rows; areas = areas; segment = segment; version = version }
 
--- a segment in its limits, where two halves fit the device
+-- a segment within its limits, if two halves fit the device
 abbrev pub segment_fits : (size rows areas : ℕ) → ℕ → Bool
 segment_fits size rows areas n = is_segment n && nat_le (device_len (of_rows rows areas n V02)) size
 
@@ -36,7 +36,7 @@ segment_fits size rows areas n = is_segment n && nat_le (device_len (of_rows row
 abbrev pub header_text : Layout → List ℕ
 header_text l = device_name l.version ++ (to_be_bytes w32 l.rows ++ (to_be_bytes w16 l.areas ++ to_be_bytes w64 l.segment))
 
--- the header of a device of so many bytes
+-- the header of a device of this number of bytes
 abbrev pub header : (size : ℕ) → Format Layout
 header size =
     coded_field (both name (λ _. both (tested_field (number_field w32 (2 ^ 32)) is_rows) (λ rows.
@@ -52,7 +52,7 @@ mark_weight V02 = 2 * 2 ^ 56
 abbrev pub mark_of : Version → (count : ℕ) → ℕ
 mark_of version count = mark_weight version + count
 
--- whether a half of a version may stand under a header: under version 02 none of version 01
+-- whether a half of a version may be under a header: under version 02 none of version 01
 abbrev pub is_first : Version → Bool
 is_first V01 = true
 is_first V02 = false
@@ -64,7 +64,7 @@ allows header V02 = true
 abbrev pub is_count : ℕ → Bool
 is_count n = nat_le n most_actions
 
--- the version and the count that the field stands for
+-- the version and the count that the field encodes
 abbrev pub mark_read : (header : Version) → ℕ → Option (Version × ℕ)
 mark_read header n =
     if is_count n && is_first header then Some (V01, n)
@@ -84,7 +84,7 @@ pub record IsHeadOf (l : Layout) (t : HalfHead) : Type 0 where
   pub allowed : allows l.version t.version ≡ true
   pub count : t.count ≤ most_actions
 
--- the head of a half under a header, whose image has so many bytes
+-- the head of a half under a header, whose image has this number of bytes
 abbrev pub half_head : (header : Version) (image : ℕ) → Format HalfHead
 half_head header image =
     coded_field (both (number_field w64 (2 ^ 64)) (λ epoch.

@@ -1,15 +1,15 @@
--- What the bytes of a device stand for, or their first fault.
+-- What the bytes of a device encode, or their first fault.
 use Rattle.std.specs.Prelude.{◌≡◌, ◌⊎◌, ℕ, ◌+◌, ◌-◌, List, Some, Ok, Err}
 use Rattle.alm_model.specs.Plant.{Condensed}
 use Rattle.alm_codec.specs.Image.{IsImageText, IsOf}
 use Rattle.alm_codec.specs.ImageFields.{damage_in}
 use Rattle.alm_segment.specs.Folding.{stored_in}
-use Rattle.alm_checkpoint.specs.declared.fault.Fault.{Fault}
-use Rattle.alm_checkpoint.specs.declared.fault.Fault.TheVariants.{Damaged}
+use Rattle.alm_checkpoint.specs.declared.device_fault.DeviceFault.{DeviceFault}
+use Rattle.alm_checkpoint.specs.declared.device_fault.DeviceFault.TheVariants.{Damaged}
 use Rattle.alm_checkpoint.specs.Layouts.{half_at, half_len, image_at, half_number}
 use Rattle.alm_checkpoint.specs.Opening.{Opened, opened_in}
 
--- where the half that stands ends
+-- the end of the half that stands
 abbrev pub end_of : Opened → ℕ
 end_of o = half_at o.layout o.half + half_len o.layout
 
@@ -18,8 +18,9 @@ pub record Spells (o : Opened) (plant : Condensed) : Type 0 where
   pub sizes : IsOf o.layout.rows o.layout.areas o.head.count plant
   pub image : IsImageText plant o.image
 
--- The bytes stand for a plant in an epoch: of the halves with open gates the one of greater epoch has that epoch; its image
--- is that of a plant, and the frames behind it up to the first closed gate make of it this plant. The count is the plant's.
+-- The bytes encode a plant in an epoch. The half that stands has that epoch: it is the one with an open gate, and if both gates
+-- are open, the one with the greater epoch. Its image is that of a plant, and the frames after the image, up to the first closed
+-- gate, make of it this plant. The count is the plant's.
 pub record Stands (device : List ℕ) (epoch : ℕ) (plant : Condensed) : Type 0 where
   pub opened : Opened
   pub opens : opened_in device ≡ Ok opened
@@ -35,7 +36,7 @@ abbrev pub gate_place : {device : List ℕ} {epoch : ℕ} {plant : Condensed} �
 gate_place s = end_of s.opened - s.left
 
 -- the half that stands has a damaged image
-pub record ImageFault (device : List ℕ) (fault : Fault) : Type 0 where
+pub record HasImageFault (device : List ℕ) (fault : DeviceFault) : Type 0 where
   pub opened : Opened
   pub opens : opened_in device ≡ Ok opened
   pub at : ℕ
@@ -43,7 +44,7 @@ pub record ImageFault (device : List ℕ) (fault : Fault) : Type 0 where
   pub is : fault ≡ Damaged (half_number opened.half) (image_at opened.layout opened.half + at)
 
 -- .. or a damaged frame, or one with an action that isn't admitted there
-pub record FrameFault (device : List ℕ) (fault : Fault) : Type 0 where
+pub record FrameFault (device : List ℕ) (fault : DeviceFault) : Type 0 where
   pub opened : Opened
   pub opens : opened_in device ≡ Ok opened
   pub base : Condensed
@@ -53,9 +54,9 @@ pub record FrameFault (device : List ℕ) (fault : Fault) : Type 0 where
   pub is : fault ≡ Damaged (half_number opened.half) (end_of opened - left)
 
 -- the first fault of the bytes
-abbrev pub HasFault : List ℕ → Fault → Type 0
-HasFault device fault = (opened_in device ≡ Err fault) ⊎ ImageFault device fault ⊎ FrameFault device fault
+abbrev pub HasFault : List ℕ → DeviceFault → Type 0
+HasFault device fault = (opened_in device ≡ Err fault) ⊎ HasImageFault device fault ⊎ FrameFault device fault
 
--- the bytes stand for a plant in an epoch, or have a fault
+-- the bytes encode a plant in an epoch, or have a fault
 abbrev pub Meaning : List ℕ → Type 0
-Meaning device = ((epoch : ℕ) × (plant : Condensed) × Stands device epoch plant) ⊎ ((fault : Fault) × HasFault device fault)
+Meaning device = ((epoch : ℕ) × (plant : Condensed) × Stands device epoch plant) ⊎ ((fault : DeviceFault) × HasFault device fault)

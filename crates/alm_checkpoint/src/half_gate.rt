@@ -14,7 +14,7 @@ pub struct HalfGate {
     pub epoch: u64,
 }
 
-/// The gate of a half and its epoch, by the 25 bytes of its head. The other fields are not looked at.
+/// The gate of a half and its epoch, by the 25 bytes of its head. The other fields are not read.
 pub fn read_half_gate(bytes: &[u8]) -> HalfGate
     requires { length bytes.now ≡ 25 }
     ensures gate { result.open ≡ gate_in bytes.now }
@@ -28,7 +28,7 @@ pub fn read_half_gate(bytes: &[u8]) -> HalfGate
     }
 }
 
-/// The half that stands: of those with open gates the one of greater epoch.
+/// The half that stands: the one with an open gate; if both gates are open, the one with the greater epoch.
 pub fn choose(first: &HalfGate, second: &HalfGate) -> Result<Half, NoChoice>
     ensures { result ≡ choice first.now.open second.now.open first.now.epoch second.now.epoch }
 {

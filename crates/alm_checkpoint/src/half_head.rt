@@ -8,11 +8,11 @@ ghost use Rattle.alm_checkpoint.specs.Headers.{half_head, mark, mark_weight, all
 ghost use Rattle.alm_checkpoint.specs.Opening.{half_head_from};
 ghost use Rattle.alm_types.specs.Sizes.{most_actions};
 
-use crate::fault::Fault;
+use crate::device_fault::DeviceFault;
 use crate::half::Half;
 use crate::layout::Layout;
 use alm_codec::fields::u64_at;
-use alm_codec::{Left, Version};
+use alm_codec::{BytesLeft, Version};
 use alm_types::MOST_ACTIONS;
 
 /// What the head of a half says.
@@ -20,7 +20,7 @@ use alm_types::MOST_ACTIONS;
 pub struct HalfHead {
     /// A checkpoint writes the epoch of the half that stood before plus 1.
     pub epoch: u64,
-    /// Its mark tells it; a checkpoint writes version 02.
+    /// Given by its mark; a checkpoint writes version 02.
     pub version: Version,
     /// How many actions made the plant of its image, at most 2^48.
     pub count: u64,
@@ -40,7 +40,7 @@ pub(crate) fn mark_weight(version: Version) -> u64
 }
 
 /// The version of a half under a header of a version, and its count of actions.
-fn mark_of(bytes: &[u8], header: Version) -> Result<((Version, u64), &[u8]), Left>
+fn mark_of(bytes: &[u8], header: Version) -> Result<((Version, u64), &[u8]), BytesLeft>
     ensures limit { IfOk result (λ x. x.0.1 ≤ most_actions) }
     ensures allowed { IfOk result (λ x. allows header x.0.0 ≡ true) }
     ensures mark { Gives (λ x. (x.0, x.1.now)) result ((mark header).read bytes.now) }
@@ -52,11 +52,11 @@ fn mark_of(bytes: &[u8], header: Version) -> Result<((Version, u64), &[u8]), Lef
     if field >= SECOND_MARK && field - SECOND_MARK <= MOST_ACTIONS {
         return Ok(((Version::V02, field - SECOND_MARK), rest));
     }
-    Err(Left(bytes.len()))
+    Err(BytesLeft(bytes.len()))
 }
 
 /// The length of the image, which is known beforehand.
-fn image_of(bytes: &[u8], image: usize) -> Result<(u64, &[u8]), Left>
+fn image_of(bytes: &[u8], image: usize) -> Result<(u64, &[u8]), BytesLeft>
     ensures { Gives (λ x. (x.0, x.1.now)) result
         ((tested_field (number_field w64 (2 ^ 64)) (λ n. n == image)).read bytes.now) }
 {
@@ -64,12 +64,12 @@ fn image_of(bytes: &[u8], image: usize) -> Result<(u64, &[u8]), Left>
     if found == image as u64 {
         Ok((found, rest))
     } else {
-        Err(Left(bytes.len()))
+        Err(BytesLeft(bytes.len()))
     }
 }
 
-/// All fields behind the gate.
-fn fields_of(bytes: &[u8], header: Version, image: usize) -> Result<(HalfHead, &[u8]), Left>
+/// All fields after the gate.
+fn fields_of(bytes: &[u8], header: Version, image: usize) -> Result<(HalfHead, &[u8]), BytesLeft>
     ensures count { IfOk result (λ x. x.0.count ≤ most_actions) }
     ensures allowed { IfOk result (λ x. allows header x.0.version ≡ true) }
     ensures fields { Gives (λ x. (x.0, x.1.now)) result ((half_head header image).read bytes.now) }
@@ -88,11 +88,11 @@ fn fields_of(bytes: &[u8], header: Version, image: usize) -> Result<(HalfHead, &
 }
 
 impl Layout {
-    /// What the head of a half says, by its 25 bytes. Damage is at mark and count, which are one field, where the
-    /// count is above 2^48 or the mark is none, or that of version 01 under a header of version 02; else at an image length
-    /// that isn't this layout's. Any epoch is one.
+    /// What the head of a half says, by its 25 bytes. Damage is at mark and count, which are one field, or else at an
+    /// image length that isn't this layout's. Mark and count are damaged if the count is above 2^48, or the mark isn't
+    /// one, or is that of version 01 under a header of version 02. Any epoch is valid.
     #[tactic(auto, unfolding(crate::specs::Opening::half_head_from))]
-    pub fn read_half_head(&self, half: Half, bytes: &[u8]) -> Result<HalfHead, Fault>
+    pub fn read_half_head(&self, half: Half, bytes: &[u8]) -> Result<HalfHead, DeviceFault>
         requires { length bytes.now ≡ 25 }
         ensures head { result ≡ half_head_from self.now half bytes.now }
         ensures count { IfOk result (λ h. h.count ≤ most_actions) }
@@ -100,7 +100,7 @@ impl Layout {
     {
         match fields_of(&bytes[1..], self.version, self.image_len()) {
             Ok((head, _)) => Ok(head),
-            Err(left) => Err(Fault::Damaged {
+            Err(left) => Err(DeviceFault::Damaged {
                 half: half.number(),
                 at: self.image_at(half).saturating_sub(left.0 as u64),
             }),

@@ -1,4 +1,4 @@
-//! Laws of what a device stands for: each function does nothing, and its contract is the law.
+//! Laws of what a device encodes: each function does nothing, and its contract is the law.
 
 ghost use Rattle.std.specs.Prelude.{◌≡◌, ◌+◌, ◌<◌, ◌≤◌, ◌^◌, ℕ, false, List, [], ◌∷◌, ◌++◌, length, Ok};
 ghost use Rattle.alm_types.specs.declared.action.Action.{Action};
@@ -10,7 +10,7 @@ ghost use Rattle.alm_codec.specs.Reading.{IsBytes};
 ghost use Rattle.alm_codec.specs.declared.version.Version.TheVariants.{V02};
 ghost use Rattle.alm_codec.specs.Versions.{AreBorne};
 ghost use Rattle.alm_segment.specs.Course.{is_gate_open};
-ghost use Rattle.alm_checkpoint.specs.declared.fault.Fault.{Fault};
+ghost use Rattle.alm_checkpoint.specs.declared.device_fault.DeviceFault.{DeviceFault};
 ghost use Rattle.alm_checkpoint.specs.declared.half_head.HalfHead.{HalfHead};
 ghost use Rattle.alm_checkpoint.specs.declared.layout.Layout.{Layout};
 ghost use Rattle.alm_checkpoint.specs.Layouts.{device_len, half_len};
@@ -19,13 +19,13 @@ ghost use Rattle.alm_checkpoint.specs.Opening.{layout_from};
 ghost use Rattle.alm_checkpoint.specs.Standing.{Stands, HasFault, Meaning, gate_place};
 ghost use Rattle.alm_checkpoint.specs.Cut.{Cut, IsLayout, Stores, Reaches, IsBelow, IsCut, half_text, device_of, with_frame, with_other, turned_cut};
 
-/// No text of a header begins another's.
+/// No text of a header is a prefix of another's.
 pub fn no_header_begins_another()
     ensures { (a b : Layout) (x y : List ℕ) → IsLayout a → IsLayout b →
         header_text a ++ x ≡ header_text b ++ y → a ≡ b }
 {}
 
-/// No text of a half's head begins another's of the same layout.
+/// No text of a half's head is a prefix of another's of the same layout.
 pub fn no_head_begins_another()
     ensures { (l : Layout) (a b : HalfHead) (x y : List ℕ) → IsLayout l → IsHeadOf l a →
         IsHeadOf l b →
@@ -33,27 +33,27 @@ pub fn no_head_begins_another()
         half_head_text l b.version b.epoch b.count ++ y → a ≡ b }
 {}
 
-/// What a header spells behind its open gate is read as its layout, on a device that holds both halves.
+/// The text of a header, after its open gate, is read as its layout, on a device that holds both halves.
 pub fn a_header_is_read()
     ensures { (size : ℕ) (l : Layout) → IsLayout l → device_len l ≤ size →
         layout_from size (165 ∷ header_text l) ≡ Ok l }
 {}
 
-/// A device of these fields stands for the plant that they store, whatever lies behind the first closed gate.
+/// A device of these fields encodes the plant that they store, whatever follows the first closed gate.
 pub fn a_cut_stands()
     ensures { (c : Cut) (plant : Condensed) (gate : ℕ) (tail : List ℕ) → Stores c plant →
         is_gate_open gate ≡ false → Reaches c (gate ∷ tail) →
         Stands (device_of c (gate ∷ tail)) c.epoch plant }
 {}
 
-/// A device that stands for a plant has such fields, and its first closed gate is where they end.
+/// A device that encodes a plant has such fields, and its first closed gate is at their end.
 pub fn what_stands_is_cut()
     ensures { (device : List ℕ) (epoch : ℕ) (plant : Condensed) (s : Stands device epoch plant) →
         IsBytes device → IsCut device epoch plant (gate_place s) }
 {}
 
-/// Where the gate behind the frames is open and a frame follows whose actions the half's version has, they are the fields with that frame, and store the plant after
-/// its actions.
+/// If the gate after the frames is open and a frame follows whose actions the half's version has, they are the fields with that
+/// frame. They store the plant after its actions.
 pub fn a_frame_more()
     ensures { (c : Cut) (plant : Condensed) (actions : List Action) (tail : List ℕ) →
         Stores c plant → IsFrame c.epoch (plant.panel.count + 1) actions →
@@ -70,8 +70,8 @@ pub fn another_half()
         Stores (with_other c bytes) plant }
 {}
 
-/// Where the other half has an open gate, version 02, the next epoch and an image of the stored plant, that half stands, and the same plant
-/// is stored.
+/// If the other half has an open gate, version 02, the next epoch and an image of the stored plant, that half stands, and the
+/// same plant is stored.
 pub fn a_turn()
     ensures { (c : Cut) (plant : Condensed) (tail new_tail : List ℕ) → Stores c plant →
         Reaches c tail → c.epoch + 1 < 2 ^ 64 →
@@ -80,24 +80,24 @@ pub fn a_turn()
         device_of (turned_cut c plant tail) new_tail) }
 {}
 
-/// Bytes stand for at most one plant, in one epoch.
+/// Bytes encode at most one plant, in one epoch.
 pub fn one_plant()
     ensures { (device : List ℕ) (e f : ℕ) (q r : Condensed) → Stands device e q →
         Stands device f r → (e ≡ f) × (q ≡ r) }
 {}
 
-/// Bytes that stand for a plant have no fault.
+/// Bytes that encode a plant have no fault.
 pub fn no_fault_beside()
-    ensures { (device : List ℕ) (e : ℕ) (q : Condensed) (fault : Fault) → Stands device e q →
+    ensures { (device : List ℕ) (e : ℕ) (q : Condensed) (fault : DeviceFault) → Stands device e q →
         HasFault device fault → ⊥ }
 {}
 
 /// Bytes have at most one fault.
 pub fn one_fault()
-    ensures { (device : List ℕ) (x y : Fault) → HasFault device x → HasFault device y → x ≡ y }
+    ensures { (device : List ℕ) (x y : DeviceFault) → HasFault device x → HasFault device y → x ≡ y }
 {}
 
-/// Every list of bytes stands for a plant or has a fault.
+/// Every list of bytes encodes a plant or has a fault.
 pub fn stands_or_has_a_fault()
     ensures { (device : List ℕ) → IsBytes device → Meaning device }
 {}

@@ -1,4 +1,4 @@
-//! Where everything lies on a device.
+//! The places of everything on a device.
 
 ghost use Rattle.std.specs.Prelude.{◌≡◌};
 ghost use Rattle.alm_checkpoint.specs.Layouts.{image_size, half_len, half_at, image_at, segment_at, device_len};
@@ -29,7 +29,7 @@ pub fn device_name(version: Version) -> [u8; 8]
     }
 }
 
-/// Where everything lies on a device: the header, then two halves, each a head, an image and a segment.
+/// The places of everything on a device: the header, then two halves, each a head, an image and a segment.
 #[derive(Clone, Copy, Debug, PartialEq, Eq)]
 pub struct Layout {
     /// How many alarms there are, 1 to 16,384 on a formatted device.
@@ -38,12 +38,12 @@ pub struct Layout {
     pub areas: u8,
     /// How many bytes a segment has, 4,116 to 16,777,216.
     pub segment: u32,
-    /// The version of the header. A half has its own, which is version 02 where this one is.
+    /// The version of the header. A half has its own, which is version 02 if this one is.
     pub version: Version,
 }
 
 impl Layout {
-    /// The layout of so many rows and areas with segments of a length, under a header of a version.
+    /// The layout of these rows and areas with segments of a length, under a header of a version.
     pub fn of(rows: u32, areas: u8, segment: u32, version: Version) -> Layout
         ensures { result ≡
             record { rows = rows; areas = areas; segment = segment; version = version } }
@@ -77,7 +77,7 @@ impl Layout {
         HEAD_LEN + self.image_len() + self.segment()
     }
 
-    /// Where a half begins: its gate.
+    /// The start of a half: its gate.
     pub fn half_at(&self, half: Half) -> u64
         ensures { result ≡ half_at self.now half }
     {
@@ -87,14 +87,14 @@ impl Layout {
         }
     }
 
-    /// Where the image of a half begins.
+    /// The start of the image of a half.
     pub fn image_at(&self, half: Half) -> u64
         ensures { result ≡ image_at self.now half }
     {
         self.half_at(half) + HEAD_LEN as u64
     }
 
-    /// Where the segment of a half begins.
+    /// The start of the segment of a half.
     pub fn segment_at(&self, half: Half) -> u64
         ensures { result ≡ segment_at self.now half }
     {

@@ -18,38 +18,39 @@
 //! |---|---|---|
 //! | 0 | 1 | gate |
 //! | 1 | 8 | epoch |
-//! | 9 | 8 | mark and count: the mark of the half's version in the first byte, 0 or 2, and behind it how many actions made the plant of the image, at most 2^48 |
+//! | 9 | 8 | mark and count: the mark of the half's version in the first byte, 0 or 2, then how many actions made the plant of the image, at most 2^48 |
 //! | 17 | 8 | length of the image, I |
 //! | 25 | I | image |
 //! | 25 + I | L | segment |
 //!
-//! A half of version 01 holds actions of kinds 1 to 8 alone. Under a header of version 01 a half may be of either version, under
+//! A half of version 01 holds only actions of kinds 1 to 8. Under a header of version 01 a half may be of either version, under
 //! one of version 02 it is of version 02.
 //!
-//! The first half begins at 23, the second behind it. Of the halves with open gates the one of greater epoch stands: its image
-//! is that of a plant, and the frames of its segment up to the first closed gate make of it the plant that the device
-//! stands for. Nothing else is read. docs/FORMAT.md tells each field's rule, and where its fault is told.
+//! The first half begins at 23, the second after it. The half that stands is the one with an open gate; if both gates are open,
+//! the one with the greater epoch. Its image is that of a plant, and the frames of its segment up to the first closed gate make
+//! of it the plant that the device encodes. No other bytes are read. docs/FORMAT.md gives each field's rule, and the place at
+//! which its fault is reported.
 //!
-//! The definitions stand in specs/:
+//! The definitions are in specs/:
 //!
 //! | file | what it defines |
 //! |---|---|
-//! | Layouts | where everything lies, and the limits |
+//! | Layouts | the places of everything, and the limits |
 //! | Headers | the texts of header and head, field by field |
 //! | Opening | which half stands, and the faults of header and heads, in their order |
 //! | Standing | the relations `Stands device epoch plant` and `HasFault device fault` |
 //! | Cut | a device cut into its fields, and what a frame, another half or a checkpoint make of it |
 //! | Restoring | what a half holds, for the contracts of the calls |
 //!
-//! What is used above: [`recover`] gives the plant, epoch and half for which the bytes of a device stand, or their first
-//! fault. By the [`laws`] every list of bytes stands for exactly one plant in one epoch or has exactly one fault, and whatever
-//! lies behind the first closed gate, or in a half that doesn't stand, changes nothing.
+//! What is used above: [`recover`] returns the plant, epoch and half that the bytes of a device encode, or their first fault. By
+//! the [`laws`] every list of bytes encodes exactly one plant in one epoch or has exactly one fault. Whatever follows the first
+//! closed gate, or is in a half that doesn't stand, changes nothing.
 //!
-//! Only [`recover`] and [`Layout::restore`] take memory, and a fault `OutOfMemory` says nothing of the bytes. No contract says
-//! that memory suffices: tests do. There is no checksum: damage that leaves every rule standing is not found.
+//! Only [`recover`] and [`Layout::restore`] take memory, and a fault `OutOfMemory` says nothing about the bytes. Not covered:
+//! that memory suffices, which tests show. There is no checksum: damage that breaks no rule is not found.
 #![tactic(auto)]
 
-mod fault;
+mod device_fault;
 mod half;
 mod half_gate;
 mod half_head;
@@ -63,7 +64,7 @@ mod restore_fault;
 mod restoring;
 mod writing;
 
-pub use fault::Fault;
+pub use device_fault::DeviceFault;
 pub use half::Half;
 pub use half_gate::{HalfGate, choose, read_half_gate};
 pub use half_head::HalfHead;

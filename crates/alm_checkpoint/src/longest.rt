@@ -7,8 +7,8 @@ use crate::layout::{HEADER_LEN, LONGEST_SEGMENT, Layout, SHORTEST_SEGMENT};
 use alm_codec::Version;
 
 impl Layout {
-    /// The layout of a version for a device of so many bytes, with the longest segment that fits twice, at most 16,777,216 bytes; `None`
-    /// where none of 4,116 bytes or more fits.
+    /// The layout of a version for a device of `size` bytes, with the longest segment that fits twice, at most 16,777,216 bytes.
+    /// `None` if none of 4,116 bytes or more fits.
     pub fn longest(rows: u32, areas: u8, size: u64, version: Version) -> Option<Layout>
         ensures of { IfSome result
             (λ l. (l.rows ≡ rows) × (l.areas ≡ areas) × (l.version ≡ version)) }

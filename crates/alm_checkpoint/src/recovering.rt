@@ -1,4 +1,4 @@
-//! What the bytes of a device stand for.
+//! What the bytes of a device encode.
 
 ghost use Rattle.std.specs.Prelude.{◌≡◌, ◌≤◌, ◌+◌, length, IfOk, IfErr};
 ghost use Rattle.alm_checkpoint.specs.Layouts.{part};
@@ -13,7 +13,7 @@ use alm_codec::Version;
 use alm_model::Alarms;
 use std::alloc::Global;
 
-/// What the bytes of a device stand for.
+/// What the bytes of a device encode.
 #[derive(Drop)]
 pub struct Recovered<P: Drop> {
     pub layout: Layout,
@@ -21,13 +21,13 @@ pub struct Recovered<P: Drop> {
     pub half: Half,
     pub version: Version,
     pub epoch: u64,
-    /// Where on the device the first closed gate of its segment is: the next frame goes behind it.
+    /// The place of the first closed gate of its segment on the device: the next frame goes after it.
     pub gate: u64,
     /// The plant, with the count of actions that made it.
     pub plant: P,
 }
 
-/// So many bytes from a place on.
+/// `n` bytes from a place on.
 fn part(bytes: &[u8], at: u64, n: usize) -> &[u8]
     requires { at + n ≤ length bytes.now }
     ensures bytes { result.now ≡ part at n bytes.now }
@@ -38,8 +38,8 @@ fn part(bytes: &[u8], at: u64, n: usize) -> &[u8]
     text
 }
 
-/// What the bytes of a whole device stand for, or their first fault: of the header, of the choice between the halves, of the
-/// head, the image and the frames of the half that stands, in this order.
+/// What the bytes of a whole device encode, or their first fault. Faults are checked in this order: the header, the choice
+/// between the halves, then the head, the image and the frames of the half that stands.
 pub fn recover<P: Alarms + Drop>(alloc: Global, device: &[u8]) -> Result<Recovered<P>, RestoreFault>
     ensures stands { IfOk result
         (λ r. StandsIn device.now r.layout r.half r.version r.epoch (P.plant r.plant) r.gate) }

@@ -7,7 +7,7 @@ ghost use Rattle.alm_checkpoint.specs.Opening.{opened_with};
 ghost use Rattle.alm_checkpoint.specs.Restoring.{Holds, IsUnrestored};
 ghost use Rattle.alm_types.specs.Sizes.{most_actions};
 
-use crate::fault::Fault;
+use crate::device_fault::DeviceFault;
 use crate::half::Half;
 use crate::half_head::HalfHead;
 use crate::layout::Layout;
@@ -18,10 +18,10 @@ use alm_segment::replay;
 use std::alloc::Global;
 
 impl Layout {
-    /// The plant that a half holds, by its head, its image and its segment, and where its first closed gate is on the device.
+    /// The plant that a half holds, by its head, its image and its segment, and the place of its first closed gate on the device.
     ///
-    /// Damage is at the first damaged field of the image, else at the first of the frames, an action that isn't admitted where
-    /// it stands among them. Want of memory says nothing of the bytes.
+    /// Damage is at the first damaged field of the image, else at the first of the frames, or an action that isn't admitted at
+    /// its turn. Out of memory says nothing about the bytes.
     pub fn restore<P: Alarms + Drop>(
         &self,
         alloc: Global,
@@ -45,7 +45,7 @@ impl Layout {
             Ok(parts) => parts,
             Err(ImageFault::OutOfMemory) => return Err(RestoreFault::OutOfMemory),
             Err(ImageFault::Damaged(damage)) => {
-                return Err(RestoreFault::Damaged(Fault::Damaged {
+                return Err(RestoreFault::Damaged(DeviceFault::Damaged {
                     half: half.number(),
                     at: self.image_at(half) + damage.at as u64,
                 }));
@@ -56,7 +56,7 @@ impl Layout {
         };
         match replay(&mut plant, segment, head.epoch, head.version) {
             Ok(at) => Ok((plant, self.segment_at(half) + at as u64)),
-            Err(damage) => Err(RestoreFault::Damaged(Fault::Damaged {
+            Err(damage) => Err(RestoreFault::Damaged(DeviceFault::Damaged {
                 half: half.number(),
                 at: self.segment_at(half) + damage.at as u64,
             })),

@@ -1,4 +1,4 @@
-//! Writing the header and the heads of the halves, from behind their gates.
+//! Writing the header and the heads of the halves, without their gates.
 
 ghost use Rattle.std.specs.Prelude.{◌≡◌, ◌≤◌, ◌++◌, length, drop};
 ghost use Rattle.alm_checkpoint.specs.Headers.{header_text, half_head_text};
@@ -9,7 +9,7 @@ use crate::layout::{Layout, device_name};
 use alm_codec::fields::{put, put_word};
 
 impl Layout {
-    /// Writes the header from behind its gate, 22 bytes; what follows stays.
+    /// Writes the header without its gate, 22 bytes; what follows stays.
     pub fn write_header(&self, out: &mut [u8])
         requires { 22 ≤ length out.old }
         ensures { out.new ≡ header_text self.now ++ drop 22 out.old }
@@ -20,7 +20,7 @@ impl Layout {
         put_word(out, segment_at, self.segment as u64);
     }
 
-    /// Writes the head of a half from behind its gate, 24 bytes; what follows stays.
+    /// Writes the head of a half without its gate, 24 bytes; what follows stays.
     pub fn write_half_head(&self, head: &HalfHead, out: &mut [u8])
         requires room { 24 ≤ length out.old }
         requires count { head.now.count ≤ most_actions }

@@ -1,4 +1,4 @@
-//! Every byte of the worked device set in turn to 00, 01, 02, A5 and FF: opening tells what the second judge tells.
+//! Every byte of the worked device set in turn to 00, 01, 02, A5 and FF: opening reports what the second judge reports.
 
 use crate::judge::judged;
 use crate::worked::{device_of, open, set};
@@ -7,7 +7,7 @@ use std::alloc::Global;
 use std::ops::Range;
 use std::test::Fail;
 
-/// The first place in a range where opening and the judge don't agree on a changed byte of the device of a version.
+/// The first place in a range at which opening and the judge don't agree on a changed byte of the device of a version.
 fn dispute_in(
     alloc: Global,
     version: Version,

@@ -1,5 +1,5 @@
-//! A second judge of a device: what its bytes stand for, by the tables of the format. It takes numbers at fixed places
-//! and lists each field's rule in order; nothing of the crates under test is called.
+//! A second judge of a device: what its bytes encode, by the tables of the format. It takes numbers at fixed places and
+//! lists each field's rule in order; it calls no function of the crates under test.
 //!
 //! Of actions it follows `CLOCK` and `VALUE` for alarms without flags, which the worked device has; another action counts
 //! as not admitted.
@@ -8,7 +8,7 @@ use crate::judge_image::image;
 use crate::judge_journal::Journal;
 use crate::numbers::{byte, number, part, tail};
 use crate::worked::Opened;
-use alm_checkpoint::{Fault, Half};
+use alm_checkpoint::{DeviceFault, Half};
 
 /// Rows, areas, and the length of a segment.
 #[derive(Clone, Copy)]
@@ -30,16 +30,16 @@ impl Sizes {
     }
 }
 
-fn damaged(half: u8, at: usize) -> Fault {
-    Fault::Damaged {
+fn damaged(half: u8, at: usize) -> DeviceFault {
+    DeviceFault::Damaged {
         half,
         at: at as u64,
     }
 }
 
-fn sizes_of(device: &[u8]) -> Result<Sizes, Fault> {
+fn sizes_of(device: &[u8]) -> Result<Sizes, DeviceFault> {
     if device.len() < 23 || byte(device, 0) != 0xA5 {
-        return Err(Fault::Unformatted);
+        return Err(DeviceFault::Unformatted);
     }
     let second = part(device, 1, 8) == b"ALMSRV02".as_slice();
     if !second && part(device, 1, 8) != b"ALMSRV01".as_slice() {
@@ -69,8 +69,8 @@ fn sizes_of(device: &[u8]) -> Result<Sizes, Fault> {
     Ok(sizes)
 }
 
-/// The half that stands, and where it begins.
-fn standing(device: &[u8], sizes: Sizes) -> Result<(Half, usize), Fault> {
+/// The half that stands, and its start.
+fn standing(device: &[u8], sizes: Sizes) -> Result<(Half, usize), DeviceFault> {
     let second = sizes.half().saturating_add(23);
     let epochs = (number(device, 24, 8), number(tail(device, second), 1, 8));
     match (byte(device, 23) == 0xA5, byte(device, second) == 0xA5) {
@@ -89,7 +89,8 @@ fn standing(device: &[u8], sizes: Sizes) -> Result<(Half, usize), Fault> {
     }
 }
 
-/// The count after the journal of a half, and where its first closed gate is in the half; or where its first fault is.
+/// The count after the journal of a half, and the place of its first closed gate in the half; or the place of its first
+/// fault.
 fn counted(bytes: &[u8], sizes: Sizes) -> Result<(u64, usize), usize> {
     let count = number(bytes, 10, 7);
     let mark = byte(bytes, 9);
@@ -111,7 +112,7 @@ fn counted(bytes: &[u8], sizes: Sizes) -> Result<(u64, usize), usize> {
     }
 }
 
-fn found(device: &[u8]) -> Result<Opened, Fault> {
+fn found(device: &[u8]) -> Result<Opened, DeviceFault> {
     let sizes = sizes_of(device)?;
     let (which, start) = standing(device, sizes)?;
     let bytes = tail(device, start);
@@ -129,10 +130,10 @@ fn found(device: &[u8]) -> Result<Opened, Fault> {
     }
 }
 
-/// What a device stands for, or its first fault.
+/// What a device encodes, or its first fault.
 pub fn judged(device: &[u8]) -> Opened {
     match found(device) {
         Ok(stands) => stands,
-        Err(fault) => Opened::Fault(fault),
+        Err(fault) => Opened::DeviceFault(fault),
     }
 }

@@ -178,7 +178,7 @@ fn alarm(alarms: &[u8], row: u16, sizes: Sizes, now: u64, next_stamp: u64) -> Re
     moments(alarm, now)
 }
 
-/// Whether the bytes are an image after so many actions, or where its first damaged field is.
+/// Whether the bytes are an image after `count` actions, or the place of its first damaged field.
 pub fn image(image: &[u8], sizes: Sizes, count: u64) -> Result<(), usize> {
     let now = number(image, 0, 8);
     if now >= 1 << 40 {

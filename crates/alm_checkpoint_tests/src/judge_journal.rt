@@ -50,7 +50,7 @@ impl<'a> Journal<'a> {
         }
     }
 
-    /// Does `VALUE` where it changes the condition of an alarm.
+    /// Does `VALUE` if it changes the condition of an alarm.
     fn value(&mut self, row: u64, argument: u64) -> bool {
         if row >= self.rows as u64 || row >= 64 {
             return false;
@@ -70,7 +70,7 @@ impl<'a> Journal<'a> {
         is != was
     }
 
-    /// Does an action, or tells that it isn't admitted.
+    /// Does an action, or says that it isn't admitted.
     fn admits(&mut self, text: &[u8]) -> bool {
         let argument = number(text, 8, 8);
         if self.count >= 1 << 48 {
@@ -87,7 +87,7 @@ impl<'a> Journal<'a> {
         }
     }
 
-    /// How many actions a frame has, whose fields stand behind its gate.
+    /// How many actions a frame has, whose fields follow its gate.
     fn head(&self, frame: &[u8]) -> Result<u16, usize> {
         let actions = number(frame, 17, 2);
         let len = actions.saturating_mul(16).saturating_add(20);
@@ -119,7 +119,7 @@ impl<'a> Journal<'a> {
         Ok(19 + 16 * actions as usize)
     }
 
-    /// The count after all frames, and where the first closed gate is; or where the first fault is.
+    /// The count after all frames, and the place of the first closed gate; or the place of the first fault.
     pub fn follow(mut self, segment: &[u8]) -> Result<(u64, usize), usize> {
         let mut at = 0usize;
         for _ in 0..segment.len() {

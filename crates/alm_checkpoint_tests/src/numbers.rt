@@ -1,11 +1,11 @@
-//! Bytes and numbers at places; behind the end there are zeros.
+//! Bytes and numbers at places; zeros after the end.
 
 /// The bytes from a place on.
 pub fn tail(bytes: &[u8], at: usize) -> &[u8] {
     bytes.get(at..).unwrap_or(&[])
 }
 
-/// So many bytes from a place on.
+/// `len` bytes from a place on.
 pub fn part(bytes: &[u8], at: usize, len: usize) -> &[u8] {
     let rest = tail(bytes, at);
     rest.get(..len).unwrap_or(rest)
@@ -27,7 +27,7 @@ pub fn number(bytes: &[u8], at: usize, len: usize) -> u64 {
     number
 }
 
-/// Whether a number in two's complement lies between -10^12 and 10^12.
+/// Whether a number in two's complement is between -10^12 and 10^12.
 pub fn is_value(number: u64) -> bool {
     number <= 1_000_000_000_000 || 0u64.wrapping_sub(number) <= 1_000_000_000_000
 }

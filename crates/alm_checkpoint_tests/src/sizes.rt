@@ -1,7 +1,7 @@
 //! The layout at its limits, and devices of each size.
 
 use crate::worked::{Opened, damaged, device, open};
-use alm_checkpoint::{Fault, Half, Layout};
+use alm_checkpoint::{DeviceFault, Half, Layout};
 use alm_codec::Version;
 use std::test::Fail;
 
@@ -56,7 +56,7 @@ fn short_devices(rt: HostRuntime) -> Result<(), Fail> {
     for size in 0..31usize {
         let short = bytes.get(..size).ok_or("front")?;
         let expected = if size < 23 {
-            Opened::Fault(Fault::Unformatted)
+            Opened::DeviceFault(DeviceFault::Unformatted)
         } else {
             damaged(2, 15)
         };

@@ -1,6 +1,6 @@
 //! The worked device.
 
-use alm_checkpoint::{Fault, Half, HalfHead, Layout, RestoreFault, recover};
+use alm_checkpoint::{DeviceFault, Half, HalfHead, Layout, RestoreFault, recover};
 use alm_codec::{Version, image_len, write_frame_body, write_image};
 use alm_model::{Alarms, PlainPlant};
 use alm_segment::OPEN_GATE;
@@ -91,7 +91,7 @@ pub fn value(alarm: u32, value: i64) -> Result<Action, Fail> {
     Ok(Action::Value(AlarmId(alarm), Reading::new(value).ok_or("reading")?))
 }
 
-/// Puts a frame of one action behind the others, and opens its gate.
+/// Puts a frame of one action after the others, and opens its gate.
 fn commit(device: &mut Vec<u8>, epoch: u64, first: u64, action: Action) -> Result<(), Fail> {
     let mut body = [0; 35];
     write_frame_body(epoch, first, &[action], &mut body);
@@ -100,7 +100,7 @@ fn commit(device: &mut Vec<u8>, epoch: u64, first: u64, action: Action) -> Resul
     Ok(())
 }
 
-/// The worked device of version 01 after so many of the commits of CLOCK 1000 and of VAL 0 to a value.
+/// The worked device of version 01 after `commits` of the commits of CLOCK 1000 and of VAL 0 to a value.
 pub fn device(alloc: Global, commits: u32, reading: i64) -> Result<Vec<u8>, Fail> {
     device_of(alloc, Version::V01, commits, reading)
 }
@@ -126,7 +126,7 @@ fn put_front(alloc: Global, device: &mut Vec<u8>, version: Version) -> Result<()
     Ok(())
 }
 
-/// The commits, and zeros behind them.
+/// The commits, and zeros after them.
 fn put_commits(device: &mut Vec<u8>, commits: u32, reading: i64) -> Result<(), Fail> {
     if commits > 0 {
         commit(device, 1, 1, clock(1000)?)?;
@@ -158,11 +158,11 @@ pub fn set(device: &mut Vec<u8>, at: usize, byte: u8) -> Result<(), Fail> {
     Ok(())
 }
 
-/// What opening tells.
+/// What opening reports.
 #[derive(Clone, Copy, Debug, PartialEq, Eq)]
 pub enum Opened {
     OutOfMemory,
-    Fault(Fault),
+    DeviceFault(DeviceFault),
     Stands {
         half: Half,
         epoch: u64,
@@ -180,10 +180,10 @@ pub fn open(alloc: Global, device: &[u8]) -> Opened {
             gate: found.gate,
         },
         Err(RestoreFault::OutOfMemory) => Opened::OutOfMemory,
-        Err(RestoreFault::Damaged(fault)) => Opened::Fault(fault),
+        Err(RestoreFault::Damaged(fault)) => Opened::DeviceFault(fault),
     }
 }
 
 pub fn damaged(half: u8, at: u64) -> Opened {
-    Opened::Fault(Fault::Damaged { half, at })
+    Opened::DeviceFault(DeviceFault::Damaged { half, at })
 }

@@ -19,7 +19,7 @@ use Rattle.alm_codec.specs.Versions.{bears, IsBorne, borne}
 use Rattle.alm_codec.specs.Reading.{IsBytes}
 use Rattle.alm_codec.proofs.Bytes.{IsBytes-drop, IsBytes-take, chosen}
 
--- ---- what is spelled so is read
+-- ---- what is encoded so is read
 
 pub text_again : (kind alarm argument : ℕ) → alarm < 2 ^ 32 → argument < 2 ^ 64 → action_at (fields_text kind alarm argument) ≡ action_meant kind alarm argument
 text_again kind alarm argument small fits =
@@ -76,9 +76,9 @@ no_action_begins a b x y p q e =
     let same : action_text a ≡ action_text b = ap (take 16) e in
     same_Some a b (sym (action_again a p) ∙ ap action_at same ∙ action_again b q)
 
--- ---- what is read is spelled so
+-- ---- what is read is encoded so
 
--- an action is what a kind, an alarm and an argument stand for
+-- an action is what a kind, an alarm and an argument encode
 pub record Means (kind alarm argument : ℕ) (a : Action) : Type 0 where
   pub limits : IsAction a
   pub kind_is : kind ≡ kind_of a
@@ -128,7 +128,7 @@ small_takes kind alarm argument f a m e =
       | inr (t, s) ↦ absurd (none-some a s)
     ]
 
--- the kinds behind 8
+-- the kinds above 8
 later_takes : (kind alarm argument : ℕ) (a : Action) → alarm < 2 ^ 32 → argument < 2 ^ 64
     → cond (eqb kind 9) (cond (ltb argument (2 ^ 32)) (Some (SetPriority (record { 0 = alarm }) argument)) None) (cond (eqb kind 10) (option_map (SetSetpoint (record { 0 = alarm })) (reading_at argument)) None) ≡ Some a → Means kind alarm argument a
 later_takes kind alarm argument a small fits e =
@@ -209,7 +209,7 @@ borne_takes version (Some b) a e =
       | inr (t, s) ↦ absurd (none-some a s)
     ]
 
--- what is read in a version is spelled so, and the version has it
+-- what is read in a version is encoded so, and the version has it
 pub borne_action_takes : (version : Version) (bytes : List ℕ) (a : Action) → IsBytes bytes → action_in version bytes ≡ Some a → IsAction a × (bytes ≡ action_text a) × IsBorne version a
 borne_action_takes version bytes a fits e =
     let b = borne_takes version (action_at bytes) a e in
@@ -223,7 +223,7 @@ pub found_if_ok : (version : Version) (bytes : List ℕ) (o : Option Action) (d 
 found_if_ok version bytes None d fits e = tt
 found_if_ok version bytes (Some a) d fits e = borne_action_takes version bytes a fits (sym e)
 
--- the parts of a text, written one behind the other
+-- the parts of a text, written one after the other
 pub text_parts : (kind : ℕ) (p q : List ℕ) (k n m alarm argument : ℕ) → kind ≡ k → p ≡ to_be_bytes w32 n → n ≡ alarm → q ≡ to_be_bytes w64 m → m ≡ argument → kind ∷ 0 ∷ 0 ∷ 0 ∷ (p ++ q) ≡ fields_text k alarm argument
 text_parts kind p q k n m alarm argument a b c d e =
     ap (λ (x : ℕ). x ∷ 0 ∷ 0 ∷ 0 ∷ (p ++ q)) a

@@ -14,7 +14,7 @@ use Rattle.alm_state.specs.declared.core_state.Core.{Core}
 use Rattle.alm_state.specs.declared.core_state.Core.TheVariants.{Normal, Unack, Acked, RtnUnack, LatchUnack, LatchAcked}
 use Rattle.alm_state.specs.Rows.{is_annunciated}
 use Rattle.alm_codec.specs.declared.fixed.Fixed.{Fixed}
-use Rattle.alm_codec.specs.declared.flags.Flags.{Flags}
+use Rattle.alm_codec.specs.declared.alarm_flags.AlarmFlags.{AlarmFlags}
 use Rattle.alm_codec.specs.Actions.{switch_number, reading_at}
 use Rattle.alm_codec.specs.Format.{Format, byte, raw, coded_field, tested_field, ruled_field, both, each, KeepEach}
 use Rattle.alm_codec.specs.ImageFields.{Alarm, Area, Image, u32, u64, flag_at, flag, kind_at, kind_field, is_deadband, setpoint, zeros, padded_at, text_in, fixed_fields, core_at, core, flags_code, flags_in, is_flagged, flags, deadline_at, deadline_field, is_stamp, is_moment, moment_fields, moments, alarm_field, ages, is_flooded, area, all_ages, seen_then, areas_of, image}
@@ -31,7 +31,7 @@ table_row code n k v w rest e is more =
       | inr (t, s) ↦ more s
     ]
 
--- a code that stands for nothing
+-- a code that encodes no value
 table_gap : {A : Type 0} (code : A → ℕ) (n k : ℕ) (w : A) (rest : Option A) → cond (eqb n k) None rest ≡ Some w → (rest ≡ Some w → n ≡ code w) → n ≡ code w
 table_gap code n k w rest e more =
     elim (chosen (eqb n k) None rest (Some w) e) [
@@ -65,7 +65,7 @@ core_back false n c e =
 core_lawful : (latching : Bool) → Lawful (core latching)
 core_lawful latching = coded_lawful byte (core_at latching) core_code byte_lawful (λ n c h e. core_back latching n c e)
 
-flags_back : (n : ℕ) (f : Flags) → flags_in n ≡ Some f → n ≡ flags_code f
+flags_back : (n : ℕ) (f : AlarmFlags) → flags_in n ≡ Some f → n ≡ flags_code f
 flags_back n f e =
     table_row flags_code n 0 _ f _ e refl (λ e. table_row flags_code n 1 _ f _ e refl (λ e. table_row flags_code n 2 _ f _ e refl (λ e. table_row flags_code n 3 _ f _ e refl
     (λ e. table_row flags_code n 4 _ f _ e refl (λ e. table_row flags_code n 5 _ f _ e refl (λ e. table_row flags_code n 6 _ f _ e refl (λ e. table_row flags_code n 7 _ f _ e refl (table_end flags_code n f))))))))
@@ -156,7 +156,7 @@ moment_fields_lawful kept now = each_lawful (λ s. tested_field u64 (is_moment s
 abbrev kept_moment : ℕ × ℕ → ℕ → Type 0
 kept_moment s n = (tested_field u64 (is_moment s)).Keeps n
 
--- behind the moments that are kept all is zero
+-- after the moments that are kept all is zero
 moment_zero : (bound n : ℕ) → kept_moment (0, bound) n → n ≡ 0
 moment_zero bound n h = eqb-true n 0 (cond_some (eqb n 0) n n h.1).0
 
@@ -201,11 +201,11 @@ shelved_is now max_shelve false n d e = ap (λ (x : Option ℕ). is_some x) (con
 abbrev kept_field : Core → Format ℕ
 kept_field c = tested_field byte (λ n. leb n 3 && (not (is_annunciated c) || ltb 0 n))
 
-abbrev stamp_field : ℕ → List ℕ → Core → Flags → Format ℕ
+abbrev stamp_field : ℕ → List ℕ → Core → AlarmFlags → Format ℕ
 stamp_field next seen c f = tested_field u64 (is_stamp next seen (is_annunciated c || f.shelved))
 
 abbrev Parts : Type 0
-Parts = Fixed × (Bool × (Core × (Flags × (ℕ × (Option ℕ × (ℕ × List ℕ))))))
+Parts = Fixed × (Bool × (Core × (AlarmFlags × (ℕ × (Option ℕ × (ℕ × List ℕ))))))
 
 abbrev fields_of_alarm : ℕ → ℕ → ℕ → List ℕ → Format Parts
 fields_of_alarm now next areas seen = both (fixed_fields areas) (λ a. both flag (λ active. both (core a.latching) (λ c. both (flags active c) (λ f. both (kept_field c) (λ kept. both (deadline_field now a.max_shelve f.shelved) (λ _. both (stamp_field next seen c f) (λ _. moments kept now)))))))
@@ -227,7 +227,7 @@ alarm_of p = record {
 
 parts_back : (now next areas : ℕ) (seen : List ℕ) (p : Parts) → (fields_of_alarm now next areas seen).Keeps p → p ≡ parts_of (alarm_of p)
 parts_back now next areas seen p h =
-    let f : Flags = p.1.1.1.0 in
+    let f : AlarmFlags = p.1.1.1.0 in
     let kept : ℕ = p.1.1.1.1.0 in
     let d : Option ℕ = p.1.1.1.1.1.0 in
     let more : ℕ × List ℕ = p.1.1.1.1.1.1 in

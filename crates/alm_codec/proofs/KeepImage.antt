@@ -18,7 +18,7 @@ use Rattle.alm_state.specs.Suits.{suits, IsAhead}
 use Rattle.alm_model.specs.Plant.{Condensed}
 use Rattle.alm_model.specs.Rules.{IsAges, IsAlarm, IsFalling}
 use Rattle.alm_model.specs.Step.{is_flood, settled_floods}
-use Rattle.alm_codec.specs.declared.flags.Flags.{Flags}
+use Rattle.alm_codec.specs.declared.alarm_flags.AlarmFlags.{AlarmFlags}
 use Rattle.alm_codec.specs.Format.{Format, byte, coded_field, tested_field, KeepEach}
 use Rattle.alm_codec.specs.Image.{IsImageText, IsOf}
 use Rattle.alm_codec.specs.ImageFields.{Area, u32, u64, flag, kind_field, zeros, padded_at, text_in, is_deadband, fixed_fields, fixed_in, core, flags_in, flags_code, same_bool, is_flagged, deadline_field, is_among, seen_then, is_stamp, is_moment, moments, alarm_field, age_field, ages, is_flooded, area, all_ages, image, areas_in, alarms_in, image_in}
@@ -75,7 +75,7 @@ core_keeps false LatchUnack e = absurd cc
 core_keeps true LatchAcked e = (omega arith, refl)
 core_keeps false LatchAcked e = absurd cc
 
-abbrev flags_from : Bool → Bool → Bool → Flags
+abbrev flags_from : Bool → Bool → Bool → AlarmFlags
 flags_from a b c = record { shelved = a; by_design = b; out_of_service = c }
 
 flags_byte : (a b c : Bool) → (coded_field byte flags_in flags_code).Keeps (flags_from a b c)
@@ -181,7 +181,7 @@ keep_one : (now next areas : ℕ) (seen : List ℕ) (a : Attr) (s : State) (ms :
     → (alarm_field now next areas seen).Keeps (alarm_from a s ms)
 keep_one now next areas seen a s ms small fits few there h fresh =
     let stamped : Bool = is_annunciated s.core || is_some s.shelved_until in
-    let set : Flags = flags_from (is_some s.shelved_until) s.by_design s.out_of_service in
+    let set : AlarmFlags = flags_from (is_some s.shelved_until) s.by_design s.out_of_service in
     let n : ℕ = length ms in (
       (
         fixed_keeps areas a few there,

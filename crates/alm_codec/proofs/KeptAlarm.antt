@@ -9,12 +9,12 @@ use Rattle.alm_state.specs.declared.core_state.Core.TheVariants.{Normal, Unack, 
 use Rattle.alm_state.specs.Rows.{State, IsState, is_annunciated, is_active_core, is_suppressed}
 use Rattle.alm_state.specs.Suits.{suits, IsAhead}
 use Rattle.alm_model.specs.Rules.{IsFalling}
-use Rattle.alm_codec.specs.declared.flags.Flags.{Flags}
+use Rattle.alm_codec.specs.declared.alarm_flags.AlarmFlags.{AlarmFlags}
 use Rattle.alm_codec.specs.Format.{Format, byte, coded_field, tested_field}
 use Rattle.alm_codec.specs.Image.{core_code}
 use Rattle.alm_codec.specs.ImageFields.{Alarm, u32, u64, is_deadband, core_at, flags_in, flags_code, same_bool, is_flagged, deadline_at, is_among, is_stamp, is_moment, moments, alarm_field}
 
--- what is known of an alarm behind others whose stamps were seen
+-- what is known of an alarm after others whose stamps were seen
 pub record Facts (now next areas : ℕ) (seen : List ℕ) (x : Alarm) : Type 0 where
   pub deadband : x.fixed.deadband ≤ deadband_limit x.fixed.kind
   pub priority : (1 ≤ x.fixed.priority) × (x.fixed.priority ≤ 4)
@@ -43,7 +43,7 @@ core_suits false LatchUnack e = absurd (none-some LatchUnack e)
 core_suits true LatchAcked e = refl
 core_suits false LatchAcked e = absurd (none-some LatchAcked e)
 
-abbrev flag_byte : Format Flags
+abbrev flag_byte : Format AlarmFlags
 flag_byte = coded_field byte flags_in flags_code
 
 -- a rule of the flags, by whether one is set

@@ -104,7 +104,7 @@ fresh_cons : (seen : List ℕ) (s : State) (rows : List State) → (0 < s.stamp 
 fresh_cons seen s rows one rest zero lt = one lt
 fresh_cons seen s rows one rest (suc i) lt = then-before (stamp_at rows i) s.stamp seen (rest i lt)
 
--- no alarm behind the first has its stamp
+-- no alarm after the first has its stamp
 apart : (seen : List ℕ) (n m : ℕ) → 0 < n → n ≡ m → is_among m (seen_then seen n) ≡ false → ⊥
 apart seen n m lt same f = clash (sym (then-comes n seen lt) ∙ subst (λ (k : ℕ). is_among k (seen_then seen n) ≡ false) (sym same) f)
 

@@ -132,7 +132,7 @@ same_plant p q hp hq rows count e =
 
 -- ---- reading
 
--- what is spelled is read
+-- what is encoded is read
 pub image_again : (rows areas count : ℕ) (q : Condensed) (bytes rest : List ℕ) → IsOf rows areas count q → IsImageText q bytes → (image rows areas count).read (bytes ++ rest) ≡ Ok (image_in q, rest)
 image_again rows areas count q bytes rest of h =
     ap (λ (t : List ℕ). (image rows areas count).read (t ++ rest)) (h.text ∙ sym (image_spells rows areas count q))
@@ -159,7 +159,7 @@ image_found rows areas count q bytes r a of attrs moments ages fits read =
 err_ok : (left : ℕ) (x : Image × List ℕ) → ◌≡◌ {A = Result (Image × List ℕ) ℕ} (Err left) (Ok x) → ⊥
 err_ok left x e = cc
 
--- an image is read with nothing behind it
+-- an image is read with no bytes after it
 pub image_whole : (rows areas count : ℕ) (q : Condensed) (bytes : List ℕ) → IsOf rows areas count q → IsImageText q bytes → (image rows areas count).read bytes ≡ Ok (image_in q, [])
 image_whole rows areas count q bytes of h = ap (λ (t : List ℕ). (image rows areas count).read t) (sym (append-nil bytes)) ∙ image_again rows areas count q bytes [] of h
 

@@ -30,7 +30,7 @@ clash e = cc
 above : (m : ℕ) → eqb m 0 ≡ false → 0 < m
 above m f = omega (arith, λ (e : m ≡ 0). eqb-false m 0 f e)
 
--- what was there stays, behind whatever is inserted
+-- what was there stays, after whatever is inserted
 keeps-at : (o : Ordering) (n m x : ℕ) (xs more : List ℕ) → (is_among n xs ≡ true → is_among n more ≡ true) → is_among n (x ∷ xs) ≡ true → is_among n (match_ordering o (m ∷ x ∷ xs) (x ∷ xs) (x ∷ more)) ≡ true
 keeps-at Less n m x xs more ih h = elim (true_or_not (is_eq (nat_cmp n m))) [ inl t ↦ rw t refl | inr f ↦ rw f h ]
 keeps-at Equal n m x xs more ih h = h

@@ -1,4 +1,4 @@
--- The fields of an image spell its text, which has a length.
+-- The fields of an image encode its text, which has a length.
 use Rattle.std.proofs.Common.{◌≡◌, ℕ, zero, suc, ◌+◌, ◌-◌, ◌*◌, ◌<◌, ◌≤◌, Bool, ◌||◌, leb, eqb, Some, subst, List, [], ◌∷◌, ◌++◌, length, replicate, refl, ap, ◌∙◌, arith}
 use Rattle.std.specs.Prelude.{slice_get}
 use Rattle.std.proofs.lemmas.Option.{get_or_from_slice_get, slice_get_within}

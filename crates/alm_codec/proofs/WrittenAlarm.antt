@@ -1,4 +1,4 @@
--- The parts of an alarm's text, written one behind the other.
+-- The parts of an alarm's text, written one after the other.
 use Rattle.std.proofs.Common.{◌≡◌, ℕ, ◌-◌, ◌≤◌, List, [], ◌∷◌, ◌++◌, length, replicate, refl, ap, ◌∙◌, arith}
 use Rattle.std.specs.Prelude.{slice_index_or}
 use Rattle.std.specs.Int.{w32, w64, to_be_bytes, cast_unsigned}

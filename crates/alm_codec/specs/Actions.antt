@@ -9,7 +9,7 @@ use Rattle.alm_types.specs.Readings.{is_reading}
 use Rattle.alm_codec.specs.declared.version.Version.{Version}
 use Rattle.alm_codec.specs.Versions.{borne}
 
--- ---- the spelling
+-- ---- the encoding
 
 abbrev pub kind_of : Action → ℕ
 kind_of (Clock t) = 1
@@ -49,14 +49,14 @@ action_text a = fields_text (kind_of a) (alarm_of a) (argument_of a)
 
 -- ---- reading
 
--- the value of a 64-bit word, where it is within its limits
+-- the value of a 64-bit word, if it is within its limits
 abbrev pub if_reading : ℤ → Option ℤ
 if_reading v = if is_reading v then Some v else None
 
 abbrev pub reading_at : ℕ → Option ℤ
 reading_at word = if_reading (cast_signed w64 word)
 
--- an action that wants no argument
+-- an action that needs no argument
 abbrev pub without_argument : ℕ → Action → Option Action
 without_argument argument a = if argument == 0 then Some a else None
 
@@ -81,7 +81,7 @@ meaning_for kind i argument =
 abbrev pub action_meant : ℕ → ℕ → ℕ → Option Action
 action_meant kind alarm argument = meaning_for kind (record { 0 = alarm }) argument
 
--- the action of any version that bytes are the text of, all of the bytes
+-- the action of any version whose text is all of these bytes
 abbrev pub action_at : List ℕ → Option Action
 action_at (kind ∷ zero ∷ zero ∷ zero ∷ a ∷ b ∷ c ∷ d ∷ rest) = if length rest == 8 then action_meant kind (from_be_bytes w32 (a ∷ b ∷ c ∷ d ∷ [])) (from_be_bytes w64 rest) else None
 action_at _ = None

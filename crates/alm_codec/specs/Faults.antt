@@ -6,7 +6,7 @@ use Rattle.alm_model.specs.Parts.{plant_of}
 use Rattle.alm_codec.specs.declared.image_fault.ImageFault.{ImageFault}
 use Rattle.alm_codec.specs.declared.image_fault.ImageFault.TheVariants.{OutOfMemory, Damaged}
 
--- the first damaged field, none where a plant was read; want of memory says nothing
+-- the first damaged field, none if a plant was read; out of memory says nothing
 abbrev pub IsDamagedAt : Result PlantParts ImageFault → Option ℕ → Type 0
 IsDamagedAt (Ok parts) place = place ≡ None
 IsDamagedAt (Err OutOfMemory) place = Unit {0}

@@ -28,7 +28,7 @@ core_code RtnUnack = 3
 core_code LatchUnack = 4
 core_code LatchAcked = 5
 
--- numbers of 64 bits, one behind the other
+-- numbers of 64 bits, one after the other
 abbrev pub words : List ℕ → List ℕ
 words numbers = flat_map (to_be_bytes w64) numbers
 
@@ -36,7 +36,7 @@ words numbers = flat_map (to_be_bytes w64) numbers
 abbrev pub area_text : Bool → List ℕ → List ℕ
 area_text flood ages = switch_number flood ∷ words ages
 
--- a text behind its length, in a place of a size
+-- a text after its length, in a field of a size
 abbrev pub placed_text : ℕ → List ℕ → List ℕ
 placed_text size text = length text ∷ with_padding size text
 
@@ -81,7 +81,7 @@ pub record IsImageText (q : Condensed) (bytes : List ℕ) : Type 0 where
   pub fits : q.panel.next_stamp < 2 ^ 64
   pub text : bytes ≡ image_text q
 
--- a plant of so many rows and areas after so many actions
+-- a plant of this number of rows and areas after this number of actions
 pub record IsOf (rows areas count : ℕ) (q : Condensed) : Type 0 where
   pub by_rows : length q.panel.rows ≡ rows
   pub by_areas : length q.floods ≡ areas

@@ -1,4 +1,4 @@
--- The fields of an image in their order, each with its rules: which one is damaged is the first that breaks a rule.
+-- The fields of an image in their order, each with its rules: the damaged one is the first that breaks a rule.
 use Rattle.std.specs.Prelude.{ℕ, ◌+◌, ◌-◌, ◌*◌, ◌^◌, List, [], ◌∷◌, length, take, drop, sum, sum_by, Bool, true, false, not, ◌&&◌, ◌||◌, Option, Some, None, is_some, unwrap_or, option_map, Result, Ok, Err, ℤ, nat_lt, nat_le, ◌==◌, if◌then◌else◌}
 use Rattle.std.specs.List.{list_all, list_any}
 use Rattle.std.specs.Ordering.{nat_cmp}
@@ -14,7 +14,7 @@ use Rattle.alm_state.specs.declared.core_state.Core.{Core}
 use Rattle.alm_state.specs.declared.core_state.Core.TheVariants.{Normal, Unack, Acked, RtnUnack, LatchUnack, LatchAcked}
 use Rattle.alm_state.specs.Rows.{State, is_annunciated, is_active_core}
 use Rattle.alm_codec.specs.declared.fixed.Fixed.{Fixed}
-use Rattle.alm_codec.specs.declared.flags.Flags.{Flags}
+use Rattle.alm_codec.specs.declared.alarm_flags.AlarmFlags.{AlarmFlags}
 use Rattle.alm_state.specs.Showing.{weight}
 use Rattle.alm_model.specs.Plant.{Condensed}
 use Rattle.alm_codec.specs.Actions.{switch_number, reading_at}
@@ -22,7 +22,7 @@ use Rattle.alm_codec.specs.Image.{kind_code, core_code}
 use Rattle.alm_codec.specs.Format.{Format, byte, number_field, raw, coded_field, tested_field, ruled_field, both, each}
 use Rattle.alm_types.specs.Sizes.{most_alarms}
 
--- ---- what an image spells
+-- ---- what an image encodes
 
 -- an alarm and its last moments, the newest first
 pub record Alarm : Type 0 where
@@ -67,7 +67,7 @@ setpoint = coded_field u64 reading_at (cast_unsigned w64)
 abbrev pub zeros : List ℕ → Bool
 zeros bytes = list_all (λ b. b == 0) bytes
 
--- a text of a length that passes a test, where the rest of its field is zero
+-- a text of a length that passes a test, if the rest of its field is zero
 abbrev pub padded_at : (List ℕ → Bool) → ℕ → List ℕ → Option (List ℕ)
 padded_at test n field = if test (take n field) && zeros (drop n field) then Some (take n field) else None
 
@@ -104,10 +104,10 @@ core_at latching n =
 abbrev pub core : Bool → Format Core
 core latching = coded_field byte (core_at latching) core_code
 
-abbrev pub flags_code : Flags → ℕ
+abbrev pub flags_code : AlarmFlags → ℕ
 flags_code f = weight 1 f.shelved + weight 2 f.by_design + weight 4 f.out_of_service
 
-abbrev pub flags_in : ℕ → Option Flags
+abbrev pub flags_in : ℕ → Option AlarmFlags
 flags_in n =
     if n == 0 then Some (record { shelved = false; by_design = false; out_of_service = false })
     else if n == 1 then Some (record { shelved = true; by_design = false; out_of_service = false })
@@ -124,13 +124,13 @@ same_bool true b = b
 same_bool false b = not b
 
 -- with a flag set the alarm is Normal, without one it is active exactly in Unack and Acked
-abbrev pub is_flagged : Bool → Core → Flags → Bool
+abbrev pub is_flagged : Bool → Core → AlarmFlags → Bool
 is_flagged active c f = if f.shelved || f.by_design || f.out_of_service then not (is_annunciated c) else same_bool active (is_active_core c)
 
-abbrev pub flags : Bool → Core → Format Flags
+abbrev pub flags : Bool → Core → Format AlarmFlags
 flags active c = tested_field (coded_field byte flags_in flags_code) (is_flagged active c)
 
--- a deadline is zero where the alarm is not shelved, else later than now and not too late
+-- a deadline is zero if the alarm is not shelved, else later than now and not too late
 abbrev pub deadline_at : ℕ → ℕ → Bool → ℕ → Option (Option ℕ)
 deadline_at now max_shelve true n = if nat_lt now n && nat_le n (now + max_shelve) then Some (Some n) else None
 deadline_at now max_shelve false n = if n == 0 then Some None else None
@@ -145,12 +145,13 @@ is_among n seen = list_any (is_at (nat_cmp n)) seen
 abbrev pub seen_then : List ℕ → ℕ → List ℕ
 seen_then seen n = if n == 0 then seen else insert_key nat_cmp seen n
 
--- a stamp stands where the alarm is annunciated or shelved, was given before, and is none of those seen so far
+-- a stamp is above 0 exactly if the alarm is annunciated or shelved; it was given before, and is none of those seen so
+-- far
 abbrev pub is_stamp : ℕ → List ℕ → Bool → ℕ → Bool
 is_stamp next seen true n = nat_lt 0 n && nat_lt n next && not (is_among n seen)
 is_stamp next seen false n = n == 0
 
--- so many moments, none above the one before it, and then zeros
+-- a number of moments, none above the one before it, and then zeros
 abbrev pub is_moment : ℕ × ℕ → ℕ → Bool
 is_moment s n = if s.0 == 0 then n == 0 else nat_le n s.1
 
@@ -181,7 +182,7 @@ age_field now j = tested_field u64 (λ n. nat_le j now || (n == 0))
 abbrev pub ages : ℕ → Format (List ℕ)
 ages now = each (age_field now) (λ j _. j + 1) 0 600
 
--- a flood where the window is above 10, and none where it is below 5
+-- a flood if the window is above 10, and none if it is below 5
 abbrev pub is_flooded : Bool → ℕ → Bool
 is_flooded true window = nat_le 5 window
 is_flooded false window = nat_le window 10
@@ -209,18 +210,18 @@ alarms_of now next areas rows = each (alarm_field now next areas) (λ seen a. se
 abbrev pub moment_field : Format ℕ
 moment_field = tested_field u64 (λ n. nat_lt n (2 ^ 40))
 
--- the next stamp after so many actions
+-- the next stamp after a number of actions
 abbrev pub next_stamp : ℕ → Format ℕ
 next_stamp count = tested_field u64 (λ n. nat_le 1 n && nat_le n (1 + most_alarms * count))
 
--- the image of a plant of so many rows and areas after `count` actions
+-- the image of a plant of these rows and areas after `count` actions
 abbrev pub image : ℕ → ℕ → ℕ → Format Image
 image rows areas count =
     coded_field (both moment_field (λ now. both (next_stamp count) (λ next. both (areas_of now next areas) (λ _. alarms_of now next areas rows))))
     (λ p. Some (record { now = p.0; next_stamp = p.1.0; areas = p.1.1.0; alarms = p.1.1.1 }))
     (λ i. (i.now, (i.next_stamp, (i.areas, i.alarms))))
 
--- ---- what an image spells of a plant
+-- ---- what an image encodes of a plant
 
 abbrev pub fixed_in : Attr → Fixed
 fixed_in a = record { kind = a.kind; priority = a.priority; area = a.area; latching = a.latching; setpoint = a.setpoint; deadband = a.deadband; max_shelve = a.max_shelve; tag = a.tag; text = a.text }
@@ -238,7 +239,7 @@ image_in q = record { now = q.panel.now; next_stamp = q.panel.next_stamp; areas 
 
 -- ---- damage
 
--- how many bytes are left at the first damaged field, and none where the bytes are an image; bytes behind it are damage
+-- how many bytes are left at the first damaged field, and none if the bytes are an image; bytes after it are damage
 abbrev pub left_at : Result (Image × List ℕ) ℕ → Option ℕ
 left_at (Ok (i, [])) = None
 left_at (Ok (i, rest)) = Some (length rest)

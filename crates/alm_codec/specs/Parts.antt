@@ -1,4 +1,5 @@
--- What the parts that a reader fills stand for.
+-- For the proofs.
+-- The values that the parts filled by a reader hold.
 use Rattle.std.specs.Prelude.{◌≤◌, ◌<◌, take}
 use Rattle.alm_types.specs.Attributes.{deadband_limit}
 use Rattle.alm_state.specs.Rows.{IsState}

@@ -22,7 +22,7 @@ IsBorne version a = bears version a ≡ true
 abbrev pub AreBorne : Version → List Action → Type 0
 AreBorne version actions = All (IsBorne version) actions
 
--- an action that is read, where the version has it
+-- an action that is read, if the version has it
 abbrev pub borne : Version → Option Action → Option Action
 borne version None = None
 borne version (Some a) = if bears version a then Some a else None

@@ -15,14 +15,14 @@ use alm_types::{Action, AlarmId, Moment, Reading};
 /// How many bytes the text of an action has.
 pub const ACTION_LEN: usize = 16;
 
-/// The value that a word stands for, where it is within its limits.
+/// The value that a word encodes, if it is within its limits.
 fn reading(word: u64) -> Option<Reading>
     ensures { result ≡ reading_at word }
 {
     Reading::new(word.cast_signed())
 }
 
-/// The action that a kind, an alarm and an argument stand for.
+/// The action that a kind, an alarm and an argument encode.
 fn meaning(kind: u8, alarm: u32, argument: u64) -> Option<Action>
     ensures { result ≡ action_meant kind alarm argument }
 {
@@ -46,7 +46,7 @@ fn meaning(kind: u8, alarm: u32, argument: u64) -> Option<Action>
     }
 }
 
-/// The action of any version that the bytes are the text of, all of the bytes.
+/// The action of any version whose text is all of these bytes.
 fn any_action_of(text: &[u8]) -> Option<Action>
     ensures { result ≡ action_at text.now }
 {
@@ -61,7 +61,7 @@ fn any_action_of(text: &[u8]) -> Option<Action>
     }
 }
 
-/// The action of a version that the bytes are the text of, all of the bytes.
+/// The action of a version whose text is all of these bytes.
 pub fn action_of(text: &[u8], version: Version) -> Option<Action>
     ensures { result ≡ action_in version text.now }
 {
@@ -73,14 +73,14 @@ pub fn action_of(text: &[u8], version: Version) -> Option<Action>
     }
 }
 
-/// The action of a version that the bytes are the text of, all of the bytes.
+/// The action of a version whose text is all of these bytes.
 pub fn read_action(text: &[u8], version: Version) -> Result<Action, Damage>
-    // What is read is spelled so.
+    // What is read is encoded so.
     ensures found { IfOk result (λ a. IsAction a × (text.now ≡ action_text a) × IsBorne version a) }
-    // What is spelled so is read.
+    // What is encoded so is read.
     ensures only { (a : AnAction) → IsAction a → IsBorne version a → text.now ≡ action_text a →
         result ≡ Ok a }
-    // Where no action of the version has that text, it is damaged at its first byte.
+    // If no action of the version has that text, it is damaged at its first byte.
     ensures damaged { IfErr result (λ damage. damage.at ≡ 0) }
 {
     action_of(text, version).ok_or(Damage { at: 0 })
@@ -90,6 +90,7 @@ pub fn read_action(text: &[u8], version: Version) -> Result<Action, Damage>
 fn know_limits(action: &Action)
     ensures { IsAction action.now }
 {
+    // for the proof: each number is read once, so that it is known to be within its type
     alarm_of(action);
     match action {
         Action::Clock(moment) => {
@@ -157,7 +158,7 @@ fn argument_of(action: &Action) -> u64
     }
 }
 
-/// Writes the text of an action at a place, and says where it ends.
+/// Writes the text of an action at a place, and returns its end.
 pub fn put_action(out: &mut [u8], at: usize, action: &Action) -> usize
     requires { at + 16 ≤ length out.old }
     ensures end { result ≡ at + 16 }

@@ -74,7 +74,7 @@ impl AlarmLists {
     }
 }
 
-/// So many alarms, no two of them with one stamp.
+/// `rows` alarms, no two of them with the same stamp.
 pub fn alarms_of(
     alloc: Global,
     bytes: &[u8],

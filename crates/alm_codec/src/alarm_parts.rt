@@ -7,9 +7,9 @@ ghost use Rattle.alm_codec.specs.ImageFields.{alarm_field, fixed_in};
 ghost use Rattle.alm_codec.specs.Parts.{alarm_in, InLimits};
 ghost use Rattle.alm_types.specs.Sizes.{most_areas};
 
+use crate::alarm_flags::{AlarmFlags, flags_of};
+use crate::bytes_left::BytesLeft;
 use crate::fixed::{Fixed, fixed_of, flag_of};
-use crate::flags::{Flags, flags_of};
-use crate::left::Left;
 use crate::state::{core_of, deadline_of, kept_of, moments_of, stamp_of};
 use alm_model::Recent;
 use alm_state::{Core, Row};
@@ -22,7 +22,7 @@ pub struct AlarmParts {
     pub fixed: Fixed,
     pub active: bool,
     pub core: Core,
-    pub flags: Flags,
+    pub flags: AlarmFlags,
     /// When the shelving ends.
     pub deadline: Option<u64>,
     pub stamp: u64,
@@ -76,20 +76,20 @@ impl AlarmParts {
 }
 
 /// Whether an alarm has a stamp.
-fn is_stamped(core: Core, flags: Flags) -> bool
+fn is_stamped(core: Core, flags: AlarmFlags) -> bool
     ensures { result ≡ (is_annunciated core || flags.shelved) }
 {
     core.is_annunciated() || flags.shelved
 }
 
-/// The fields of an alarm behind others whose stamps were seen.
+/// The fields of an alarm, after others whose stamps were seen.
 fn fields_of<'a>(
     bytes: &'a [u8],
     clock: Moment,
     next_stamp: u64,
     areas: u8,
     seen: &BTreeSet<u64>,
-) -> Result<(AlarmParts, &'a [u8]), Left>
+) -> Result<(AlarmParts, &'a [u8]), BytesLeft>
     ensures alarm { Gives (λ x. (alarm_in x.0, x.1.now)) result
         ((alarm_field clock next_stamp areas seen.now.keys).read bytes.now) }
     ensures few { IfOk result (λ x. x.0.kept ≤ 3) }
@@ -122,14 +122,14 @@ fn fields_of<'a>(
     Ok((parts, rest))
 }
 
-/// An alarm behind others whose stamps were seen.
+/// An alarm, after others whose stamps were seen.
 pub fn alarm_of<'a>(
     bytes: &'a [u8],
     clock: Moment,
     next_stamp: u64,
     areas: u8,
     seen: &BTreeSet<u64>,
-) -> Result<(AlarmParts, &'a [u8]), Left>
+) -> Result<(AlarmParts, &'a [u8]), BytesLeft>
     requires { areas ≤ most_areas }
     ensures alarm { Gives (λ x. (alarm_in x.0, x.1.now)) result
         ((alarm_field clock next_stamp areas seen.now.keys).read bytes.now) }

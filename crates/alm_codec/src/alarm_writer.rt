@@ -41,7 +41,7 @@ pub fn flag_code(flag: bool) -> u8
     flag as u8
 }
 
-/// Writes a text behind its length, with zeros up to a size.
+/// Writes a text after its length, with zeros up to a size.
 fn put_placed(out: &mut [u8], at: usize, text: &[u8], size: usize) -> usize
     requires fits { length text.now ≤ size }
     requires small { size < 256 }
@@ -95,7 +95,7 @@ fn put_attr(out: &mut [u8], at: usize, attr: &Attr) -> usize
     put_placed(out, text_at, attr.text.as_bytes(), 80)
 }
 
-/// The seconds of a moment, zero where there is none.
+/// The seconds of a moment, zero if there is none.
 fn seconds_of(moments: &[Moment], index: usize) -> u64
     ensures { result ≡ slice_index_or moments.now index 0 }
 {
@@ -105,7 +105,7 @@ fn seconds_of(moments: &[Moment], index: usize) -> u64
     }
 }
 
-/// Writes at most three moments, with zeros behind them.
+/// Writes at most three moments, with zeros after them.
 fn put_moments(out: &mut [u8], at: usize, moments: &[Moment]) -> usize
     requires few { length moments.now ≤ 3 }
     requires room { at + 24 ≤ length out.old }

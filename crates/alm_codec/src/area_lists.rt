@@ -7,7 +7,7 @@ ghost use Rattle.alm_codec.specs.Reading.{GivesOr};
 ghost use Rattle.alm_codec.specs.ImageFields.{all_ages, areas_in, each_area, areas_of};
 
 use crate::area_parts::{AreaParts, area_of, left_of};
-use crate::left::Left;
+use crate::bytes_left::BytesLeft;
 use crate::stop::Stop;
 use alm_model::Ages;
 use alm_types::Moment;
@@ -18,11 +18,11 @@ use std::alloc::{AllocError, Global};
 pub struct AreaLists {
     pub floods: Vec<bool>,
     pub ages: Vec<Ages>,
-    /// What is left of a bound after all annunciations; `None` where there are more of these.
+    /// What remains of a bound after all annunciations; `None` if there are more of these.
     left: Option<u64>,
 }
 
-/// What is left of a bound after all the counts.
+/// What remains of a bound after all the counts.
 fn less(left: Option<u64>, counts: &[u64]) -> Option<u64>
     ensures { result ≡ option_and_then (λ bound. under bound (sum counts.now)) left }
 {
@@ -61,7 +61,7 @@ impl AreaLists {
     }
 }
 
-/// So many areas.
+/// `areas` areas.
 fn each_area(
     alloc: Global,
     bytes: &[u8],
@@ -89,7 +89,7 @@ fn each_area(
     Ok((lists, rest))
 }
 
-/// So many areas, whose annunciations all have stamps below the next.
+/// `areas` areas, whose annunciations all have stamps below the next.
 pub fn areas_of(
     alloc: Global,
     bytes: &[u8],
@@ -105,6 +105,6 @@ pub fn areas_of(
     let (lists, rest) = each_area(alloc, bytes, clock, next_stamp, areas)?;
     match lists.left {
         Some(left) if left > 0 => Ok((lists, rest)),
-        _ => Err(Stop::Field(Left(rest.len() + 8))),
+        _ => Err(Stop::Field(BytesLeft(rest.len() + 8))),
     }
 }

@@ -6,9 +6,9 @@ ghost use Rattle.alm_codec.specs.ImageFields.{ages, age_field, is_flooded, area}
 ghost use Rattle.alm_codec.specs.Parts.{area_from};
 ghost use Rattle.alm_codec.specs.Bounds.{under};
 
+use crate::bytes_left::BytesLeft;
 use crate::fields::u64_at;
 use crate::fixed::flag_of;
-use crate::left::Left;
 use alm_types::Moment;
 
 /// The fields of an area in an image.
@@ -19,20 +19,20 @@ pub struct AreaParts {
     pub ages: [u64; 600],
 }
 
-/// How many annunciations are of an age: none where the plant is younger.
-fn age_of(bytes: &[u8], clock: u64, age: u64) -> Result<(u64, &[u8]), Left>
+/// How many annunciations are of an age: none if the plant is younger.
+fn age_of(bytes: &[u8], clock: u64, age: u64) -> Result<(u64, &[u8]), BytesLeft>
     ensures { Gives (λ x. (x.0, x.1.now)) result ((age_field clock age).read bytes.now) }
 {
     let (count, rest) = u64_at(bytes)?;
     if age <= clock || count == 0 {
         Ok((count, rest))
     } else {
-        Err(Left(bytes.len()))
+        Err(BytesLeft(bytes.len()))
     }
 }
 
 /// The counts of all ages.
-fn ages_of(bytes: &[u8], clock: u64) -> Result<([u64; 600], &[u8]), Left>
+fn ages_of(bytes: &[u8], clock: u64) -> Result<([u64; 600], &[u8]), BytesLeft>
     ensures { Gives (λ x. (x.0, x.1.now)) result ((ages clock).read bytes.now) }
 {
     let mut counts = [0; 600];
@@ -48,7 +48,7 @@ fn ages_of(bytes: &[u8], clock: u64) -> Result<([u64; 600], &[u8]), Left>
     Ok((counts, rest))
 }
 
-/// What is left of a bound after all the counts; none where they are above it.
+/// What remains of a bound after all the counts; none if they are above it.
 pub fn left_of(counts: &[u64], bound: u64) -> Option<u64>
     ensures { result ≡ under bound (sum counts.now) }
 {
@@ -62,7 +62,7 @@ pub fn left_of(counts: &[u64], bound: u64) -> Option<u64>
     Some(left)
 }
 
-/// A flood where the window is above 10, none where it is below 5.
+/// A flood if the window is above 10, none if it is below 5.
 fn is_flooded(flood: bool, counts: &[u64]) -> bool
     ensures { result ≡ is_flooded flood (sum counts.now) }
 {
@@ -74,7 +74,7 @@ fn is_flooded(flood: bool, counts: &[u64]) -> bool
 }
 
 /// An area.
-pub fn area_of(bytes: &[u8], clock: Moment) -> Result<(AreaParts, &[u8]), Left>
+pub fn area_of(bytes: &[u8], clock: Moment) -> Result<(AreaParts, &[u8]), BytesLeft>
     ensures { Gives (λ x. (area_from x.0, x.1.now)) result ((area clock).read bytes.now) }
 {
     let (flood, rest) = flag_of(bytes)?;
@@ -82,6 +82,6 @@ pub fn area_of(bytes: &[u8], clock: Moment) -> Result<(AreaParts, &[u8]), Left>
     if is_flooded(flood, &ages) {
         Ok((AreaParts { flood, ages }, rest))
     } else {
-        Err(Left(rest.len() + 8))
+        Err(BytesLeft(rest.len() + 8))
     }
 }

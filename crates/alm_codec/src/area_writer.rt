@@ -40,7 +40,7 @@ fn put_area<P: Alarms>(out: &mut [u8], at: usize, plant: &P, area: u32) -> usize
     put_ages(out, ages_at, plant, area)
 }
 
-/// Writes the areas, of which there are so many.
+/// Writes the areas, `areas` in number.
 pub fn put_areas<P: Alarms>(out: &mut [u8], at: usize, plant: &P, areas: u8) -> usize
     requires rules { KeepsRules (P.plant plant.now) }
     requires areas { length (P.plant plant.now).floods ≡ areas }

@@ -1,4 +1,4 @@
-//! The text of a frame, from behind its gate.
+//! The text of a frame, after its gate.
 
 ghost use Rattle.std.specs.Prelude.{◌≡◌, ◌+◌, ◌*◌, ◌<◌, ◌≤◌, ◌++◌, ◌∷◌, [], ℕ, List, length, drop, IfOk, OnErr, Ok, vec_len, vec_capacity};
 ghost use Rattle.alm_types.specs.declared.action.Action.{Action as AnAction};
@@ -8,18 +8,18 @@ ghost use Rattle.alm_codec.specs.Versions.{AreBorne};
 ghost use Rattle.alm_types.specs.Sizes.{most_entries};
 
 use crate::action::{ACTION_LEN, action_of, put_action};
+use crate::bytes_left::BytesLeft;
 use crate::damage::Damage;
 use crate::fields::{put, u16_at, u64_at};
-use crate::left::Left;
 use crate::version::Version;
 use alm_types::{Action, MOST_ENTRIES};
 
-/// How many bytes of a frame stand between its gate and its first action.
+/// How many bytes of a frame there are between its gate and its first action.
 const HEAD_LEN: usize = 18;
 
 /// How many actions the frame has, and the bytes from its first action on.
 #[tactic(auto, unfolding(crate::specs::Frames::head_at))]
-fn head_of(bytes: &[u8], epoch: u64, count: u64) -> Result<(u16, &[u8]), Left>
+fn head_of(bytes: &[u8], epoch: u64, count: u64) -> Result<(u16, &[u8]), BytesLeft>
     ensures head { Gives (λ x. (x.0, x.1.now)) result (head_at epoch count bytes.now) }
     ensures few { IfOk result (λ x. x.0 ≤ most_entries) }
     ensures inside { IfOk result (λ x. 16 * x.0 < length x.1.now) }
@@ -27,28 +27,28 @@ fn head_of(bytes: &[u8], epoch: u64, count: u64) -> Result<(u16, &[u8]), Left>
 {
     let (found_epoch, rest) = u64_at(bytes)?;
     if found_epoch != epoch {
-        return Err(Left(bytes.len()));
+        return Err(BytesLeft(bytes.len()));
     }
     let left = rest.len();
     let (first, rest) = u64_at(rest)?;
     if first == 0 || first - 1 != count {
-        return Err(Left(left));
+        return Err(BytesLeft(left));
     }
     let left = rest.len();
     let (actions, rest) = u16_at(rest)?;
     if actions < 1 || actions as usize > MOST_ENTRIES || rest.len() <= 16 * actions as usize {
-        return Err(Left(left));
+        return Err(BytesLeft(left));
     }
     Ok((actions, rest))
 }
 
-/// Reads so many actions behind the others, and gives the bytes after them.
+/// Reads `count` actions after the others, and returns the bytes after them.
 fn actions_of<'a>(
     count: u16,
     bytes: &'a [u8],
     actions: &mut Vec<Action>,
     version: Version,
-) -> Result<&'a [u8], Left>
+) -> Result<&'a [u8], BytesLeft>
     requires inside { 16 * count ≤ length bytes.now }
     requires room { vec_len actions.old + count ≤ vec_capacity actions.old }
     ensures actions { Gives (λ rest. (actions.new.items, rest.now)) result
@@ -60,7 +60,7 @@ fn actions_of<'a>(
     for _ in 0..count {
         let (text, after) = rest.split_at(ACTION_LEN);
         let Some(action) = action_of(text, version) else {
-            return Err(Left(rest.len()));
+            return Err(BytesLeft(rest.len()));
         };
         actions.push_reserved(action);
         rest = after;
@@ -68,7 +68,7 @@ fn actions_of<'a>(
     Ok(rest)
 }
 
-/// Reads a frame: the vector then holds its actions. Gives the bytes from the next gate on.
+/// Reads a frame: the vector then holds its actions. Returns the bytes from the next gate on.
 #[tactic(auto, unfolding(crate::specs::Frames::frame_at))]
 fn frame_of<'a>(
     bytes: &'a [u8],
@@ -76,7 +76,7 @@ fn frame_of<'a>(
     count: u64,
     actions: &mut Vec<Action>,
     version: Version,
-) -> Result<&'a [u8], Left>
+) -> Result<&'a [u8], BytesLeft>
     requires { most_entries ≤ vec_capacity actions.old }
     ensures actions { Gives (λ rest. (actions.new.items, rest.now)) result
         (frame_at version epoch count bytes.now) }
@@ -88,8 +88,8 @@ fn frame_of<'a>(
     actions_of(number, rest, actions, version)
 }
 
-/// Reads the frame of an epoch behind `count` actions, from behind its gate on, in a half of a version. The vector then
-/// holds its actions, or none where the frame is damaged. Gives the place of the next gate.
+/// Reads the frame of an epoch after `count` actions, starting after its gate, in a half of a version. The vector then
+/// holds its actions, or none if the frame is damaged. Returns the place of the next gate.
 pub fn read_frame(
     bytes: &[u8],
     epoch: u64,
@@ -98,11 +98,11 @@ pub fn read_frame(
     version: Version,
 ) -> Result<usize, Damage>
     requires { most_entries ≤ vec_capacity actions.old }
-    // What is read is spelled so, and the next gate lies behind it.
+    // These bytes are the text of what is read, and the next gate is after it.
     ensures found { IfOk result
         (λ end. IsFrame epoch (count + 1) actions.new.items × AreBorne version actions.new.items ×
         IsBefore (frame_text epoch (count + 1) actions.new.items) end bytes.now) }
-    // What is spelled so is read.
+    // What is encoded so is read.
     ensures only { (list : List AnAction) (gate : ℕ) (rest : List ℕ) →
         IsFrame epoch (count + 1) list → AreBorne version list →
         bytes.now ≡ frame_text epoch (count + 1) list ++ gate ∷ rest →
@@ -110,7 +110,7 @@ pub fn read_frame(
     // Which field is damaged.
     ensures exact { FindsOrDamage bytes.now (λ end. (actions.new.items, drop end bytes.now)) result
         (frame_at version epoch count bytes.now) }
-    // Nothing of a damaged frame is left.
+    // The vector keeps no action of a damaged frame.
     ensures none { OnErr result (actions.new.items ≡ []) }
     ensures room { vec_capacity actions.new ≡ vec_capacity actions.old }
 {
@@ -123,7 +123,7 @@ pub fn read_frame(
     }
 }
 
-/// Writes a frame's body from behind its gate: the next gate is closed.
+/// Writes a frame's body, without its gate: the next gate is closed.
 pub fn write_frame_body(epoch: u64, first: u64, actions: &[Action], out: &mut [u8])
     requires some { 1 ≤ length actions.now }
     requires few { length actions.now ≤ most_entries }

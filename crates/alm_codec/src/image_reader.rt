@@ -11,44 +11,44 @@ ghost use Rattle.alm_types.specs.Sizes.{most_alarms, most_areas};
 
 use crate::alarm_lists::alarms_of;
 use crate::area_lists::areas_of;
+use crate::bytes_left::BytesLeft;
 use crate::fields::u64_at;
 use crate::image_fault::ImageFault;
-use crate::left::Left;
 use crate::stop::Stop;
 use alm_model::PlantParts;
 use alm_types::{MOST_ALARMS, Moment};
 use std::alloc::Global;
 
-fn clock_of(bytes: &[u8]) -> Result<(Moment, &[u8]), Left>
+fn clock_of(bytes: &[u8]) -> Result<(Moment, &[u8]), BytesLeft>
     ensures { Gives (λ x. (x.0, x.1.now)) result (moment_field.read bytes.now) }
 {
     let (seconds, rest) = u64_at(bytes)?;
     match Moment::new(seconds) {
         Some(clock) => Ok((clock, rest)),
-        None => Err(Left(bytes.len())),
+        None => Err(BytesLeft(bytes.len())),
     }
 }
 
-/// Whether a plant can have a next stamp after so many actions: each takes at most one a row, and the first is 1.
+/// Whether a plant can have a next stamp after `count` actions: each takes at most one a row, and the first is 1.
 fn is_next(next_stamp: u64, count: u64) -> bool
     ensures { result ≡ (nat_le 1 next_stamp && nat_le next_stamp (1 + most_alarms * count)) }
 {
     next_stamp >= 1 && next_stamp - 1 <= count.saturating_mul(MOST_ALARMS as u64)
 }
 
-/// The next stamp of a plant after so many actions.
-fn next_stamp_of(bytes: &[u8], count: u64) -> Result<(u64, &[u8]), Left>
+/// The next stamp of a plant after `count` actions.
+fn next_stamp_of(bytes: &[u8], count: u64) -> Result<(u64, &[u8]), BytesLeft>
     ensures { Gives (λ x. (x.0, x.1.now)) result ((next_stamp count).read bytes.now) }
 {
     let (next_stamp, rest) = u64_at(bytes)?;
     if is_next(next_stamp, count) {
         Ok((next_stamp, rest))
     } else {
-        Err(Left(bytes.len()))
+        Err(BytesLeft(bytes.len()))
     }
 }
 
-/// The image of a plant of so many rows and areas after so many actions, and the bytes behind it.
+/// The image of a plant of these rows and areas after `count` actions, and the bytes after it.
 fn image_of(
     alloc: Global,
     bytes: &[u8],
@@ -86,7 +86,7 @@ fn image_of(
     Ok((parts, rest))
 }
 
-/// Reads the image of a plant of so many rows and areas after so many actions, all of the bytes.
+/// Reads the image of a plant of these rows and areas after `count` actions, all of the bytes.
 pub fn read_image(
     alloc: Global,
     bytes: &[u8],
@@ -102,12 +102,12 @@ pub fn read_image(
     // The image of a plant is read as that plant, unless memory runs out.
     ensures only { (q : Condensed) → IsOf rows areas count q → IsImageText q bytes.now →
         IsReadAs result q }
-    // Damage is told at the first field that breaks a rule, and only there.
+    // Damage is reported at the first field that breaks a rule, and only there.
     ensures damage { IsDamagedAt result (damage_in rows areas count bytes.now) }
 {
     match image_of(alloc, bytes, rows, areas, count) {
         Ok((parts, [])) => Ok(parts),
-        Ok((_, rest)) => Err(ImageFault::Damaged(Left(rest.len()).of(bytes))),
+        Ok((_, rest)) => Err(ImageFault::Damaged(BytesLeft(rest.len()).of(bytes))),
         Err(Stop::Memory) => Err(ImageFault::OutOfMemory),
         Err(Stop::Field(left)) => Err(ImageFault::Damaged(left.of(bytes))),
     }

@@ -27,7 +27,7 @@ fn put_numbered<P: Alarms>(out: &mut [u8], at: usize, plant: &P, id: AlarmId) ->
     put_alarm(out, at, &attr, &row, plant.moments(id))
 }
 
-/// Writes the alarms, of which there are so many.
+/// Writes the alarms, `alarms` in number.
 fn put_alarms<P: Alarms>(out: &mut [u8], at: usize, plant: &P, alarms: u32)
     requires rules { KeepsRules (P.plant plant.now) }
     requires alarms { length (P.plant plant.now).panel.rows ≡ alarms }
@@ -42,14 +42,14 @@ fn put_alarms<P: Alarms>(out: &mut [u8], at: usize, plant: &P, alarms: u32)
     }
 }
 
-/// How many bytes the image of a plant of so many rows and areas has.
+/// How many bytes the image of a plant of these rows and areas has.
 pub fn image_len(rows: u32, areas: u8) -> u64
     ensures { result ≡ image_len rows areas }
 {
     16 + areas as u64 * 4801 + rows as u64 * 182
 }
 
-/// Writes the image of a plant at the front of the bytes; the bytes behind it stay.
+/// Writes the image of a plant at the start of the bytes; the bytes after it stay.
 pub fn write_image<P: Alarms>(plant: &P, out: &mut [u8])
     requires { image_len (length (P.plant plant.now).panel.rows)
         (length (P.plant plant.now).floods) ≤ length out.old }

@@ -14,7 +14,7 @@ ghost use Rattle.alm_codec.specs.ImageFields.{damage_in};
 ghost use Rattle.alm_codec.specs.Image.{IsImageText, IsOf, image_text, image_len};
 ghost use Rattle.alm_types.specs.Sizes.{most_alarms, most_areas};
 
-/// Bytes are undamaged exactly where they are the image of a plant of so many rows, areas and actions.
+/// Bytes are undamaged exactly if they are the image of a plant of these rows, areas and actions.
 pub fn undamaged_is_an_image()
     ensures some { (rows areas count : ℕ) (bytes : List ℕ) → (1 ≤ rows) × (rows ≤ most_alarms) →
         (1 ≤ areas) × (areas ≤ most_areas) → IsBytes bytes →
@@ -24,7 +24,7 @@ pub fn undamaged_is_an_image()
         IsOf rows areas count q → IsImageText q bytes → damage_in rows areas count bytes ≡ None }
 {}
 
-/// Bytes are undamaged exactly where they begin with a frame of the version and its next gate.
+/// Bytes are undamaged exactly if they begin with a frame of the version and its next gate.
 pub fn undamaged_is_a_frame()
     ensures some { (version : Version) (epoch count : ℕ) (bytes : List ℕ) (list : List Action)
         (rest : List ℕ) → IsBytes bytes → frame_at version epoch count bytes ≡ Ok (list, rest) →
@@ -42,13 +42,13 @@ pub fn frame_has_its_length()
         length (frame_text epoch first list) ≡ 18 + 16 * length list }
 {}
 
-/// No text of an action begins another's.
+/// No text of an action is a prefix of another's.
 pub fn no_action_begins_another()
     ensures { (a b : Action) (x y : List ℕ) → IsAction a → IsAction b →
         action_text a ++ x ≡ action_text b ++ y → a ≡ b }
 {}
 
-/// No text of a frame begins another's.
+/// No text of a frame is a prefix of another's.
 pub fn no_frame_begins_another()
     ensures { (e f d g : ℕ) (a b : List Action) (x y : List ℕ) → IsFrame e f a → IsFrame d g b →
         frame_text e f a ++ x ≡ frame_text d g b ++ y → (e ≡ d) × (f ≡ g) × (a ≡ b) }
@@ -60,7 +60,7 @@ pub fn image_has_its_length()
         length (image_text q) ≡ image_len (length q.panel.rows) (length q.floods) }
 {}
 
-/// No image of a plant begins another's of as many rows, areas and actions.
+/// No image of a plant is a prefix of another's of the same rows, areas and actions.
 pub fn no_image_begins_another()
     ensures { (q r : Condensed) (a b x y : List ℕ) → IsImageText q a → IsImageText r b →
         IsOf (length r.panel.rows) (length r.floods) r.panel.count q → a ++ x ≡ b ++ y → q ≡ r }

@@ -6,14 +6,14 @@ ghost use Rattle.alm_codec.specs.Reading.{Gives};
 ghost use Rattle.alm_codec.specs.Format.{byte, tested_field};
 ghost use Rattle.alm_codec.specs.ImageFields.{u64, core, deadline_field, is_stamp, is_moment, moment_fields};
 
+use crate::bytes_left::BytesLeft;
 use crate::fields::{u8_at, u64_at};
-use crate::left::Left;
 use alm_state::Core;
 use alm_types::Moment;
 use std::collections::BTreeSet;
 
-/// A core state that an alarm that latches or doesn't can be in.
-pub fn core_of(bytes: &[u8], latching: bool) -> Result<(Core, &[u8]), Left>
+/// A core state that an alarm can be in, by whether it latches.
+pub fn core_of(bytes: &[u8], latching: bool) -> Result<(Core, &[u8]), BytesLeft>
     ensures { Gives (λ x. (x.0, x.1.now)) result ((core latching).read bytes.now) }
 {
     let (code, rest) = u8_at(bytes)?;
@@ -24,12 +24,12 @@ pub fn core_of(bytes: &[u8], latching: bool) -> Result<(Core, &[u8]), Left>
         3 if !latching => Ok((Core::RtnUnack, rest)),
         4 if latching => Ok((Core::LatchUnack, rest)),
         5 if latching => Ok((Core::LatchAcked, rest)),
-        _ => Err(Left(bytes.len())),
+        _ => Err(BytesLeft(bytes.len())),
     }
 }
 
 /// How many moments are kept of an alarm in a core state.
-pub fn kept_of(bytes: &[u8], core: Core) -> Result<(u8, &[u8]), Left>
+pub fn kept_of(bytes: &[u8], core: Core) -> Result<(u8, &[u8]), BytesLeft>
     ensures kept { Gives (λ x. (x.0, x.1.now)) result
         ((tested_field byte (λ n. nat_le n 3 && (not (is_annunciated core) || nat_lt 0 n))).read
         bytes.now) }
@@ -37,18 +37,18 @@ pub fn kept_of(bytes: &[u8], core: Core) -> Result<(u8, &[u8]), Left>
 {
     let (kept, rest) = u8_at(bytes)?;
     if kept > 3 || (core.is_annunciated() && kept == 0) {
-        return Err(Left(bytes.len()));
+        return Err(BytesLeft(bytes.len()));
     }
     Ok((kept, rest))
 }
 
-/// When the shelving of an alarm ends; none where it isn't shelved.
+/// When the shelving of an alarm ends; none if it isn't shelved.
 pub fn deadline_of(
     bytes: &[u8],
     clock: Moment,
     max_shelve: u32,
     shelved: bool,
-) -> Result<(Option<u64>, &[u8]), Left>
+) -> Result<(Option<u64>, &[u8]), BytesLeft>
     ensures { Gives (λ x. (x.0, x.1.now)) result
         ((deadline_field clock max_shelve shelved).read bytes.now) }
 {
@@ -61,16 +61,16 @@ pub fn deadline_of(
     } else if moment == 0 {
         return Ok((None, rest));
     }
-    Err(Left(bytes.len()))
+    Err(BytesLeft(bytes.len()))
 }
 
-/// The stamp of an alarm: one that was given and not seen before, or zero where it has none.
+/// The stamp of an alarm: one that was given and not seen before, or zero if it has none.
 pub fn stamp_of<'a>(
     bytes: &'a [u8],
     next_stamp: u64,
     stamped: bool,
     seen: &BTreeSet<u64>,
-) -> Result<(u64, &'a [u8]), Left>
+) -> Result<(u64, &'a [u8]), BytesLeft>
     ensures { Gives (λ x. (x.0, x.1.now)) result
         ((tested_field u64 (is_stamp next_stamp seen.now.keys stamped)).read bytes.now) }
 {
@@ -83,12 +83,12 @@ pub fn stamp_of<'a>(
     if right {
         Ok((stamp, rest))
     } else {
-        Err(Left(bytes.len()))
+        Err(BytesLeft(bytes.len()))
     }
 }
 
-/// A moment at most a bound where one is left, else zero.
-fn moment_of(bytes: &[u8], left: u8, bound: Moment) -> Result<(Moment, &[u8]), Left>
+/// A moment of at most a bound if one is left, else zero.
+fn moment_of(bytes: &[u8], left: u8, bound: Moment) -> Result<(Moment, &[u8]), BytesLeft>
     ensures { Gives (λ x. (x.0, x.1.now)) result
         ((tested_field u64 (is_moment (left, bound))).read bytes.now) }
 {
@@ -96,13 +96,13 @@ fn moment_of(bytes: &[u8], left: u8, bound: Moment) -> Result<(Moment, &[u8]), L
     let bound = if left == 0 { 0 } else { bound.seconds() };
     match Moment::new(seconds) {
         Some(moment) if seconds <= bound => Ok((moment, rest)),
-        _ => Err(Left(bytes.len())),
+        _ => Err(BytesLeft(bytes.len())),
     }
 }
 
 /// The moments that are kept, the newest first, and zeros.
 #[tactic(auto, unfolding(crate::specs::Format::read_each))]
-pub fn moments_of(bytes: &[u8], kept: u8, clock: Moment) -> Result<([Moment; 3], &[u8]), Left>
+pub fn moments_of(bytes: &[u8], kept: u8, clock: Moment) -> Result<([Moment; 3], &[u8]), BytesLeft>
     ensures { Gives (λ x. (x.0, x.1.now)) result ((moment_fields kept clock).read bytes.now) }
 {
     let (first, rest) = match moment_of(bytes, kept, clock) {

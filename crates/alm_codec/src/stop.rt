@@ -3,14 +3,14 @@
 ghost use Rattle.std.specs.Prelude.{◌≡◌};
 ghost use Rattle.alm_codec.specs.declared.stop.Stop.TheVariants.{Memory, Field};
 
-use crate::left::Left;
+use crate::bytes_left::BytesLeft;
 use std::alloc::{AllocError, AllocFailed};
 
 /// Why the reading of an image stopped.
 #[derive(Debug, Drop)]
 pub enum Stop {
     Memory,
-    Field(Left),
+    Field(BytesLeft),
 }
 
 impl From<AllocError> for Stop {
@@ -29,10 +29,10 @@ impl<T: Drop> From<AllocFailed<T>> for Stop {
     }
 }
 
-impl From<Left> for Stop {
+impl From<BytesLeft> for Stop {
     ghost from_gives = { λ left e. e ≡ Field left };
 
-    fn from(left: Left) -> Stop {
+    fn from(left: BytesLeft) -> Stop {
         Stop::Field(left)
     }
 }

@@ -5,7 +5,7 @@ ghost use Rattle.alm_codec.specs.Versions.{bears};
 
 use alm_types::Action;
 
-/// The version of a half's texts. Each reads and writes an action alike; they differ in which actions there are.
+/// The version of a half's texts. Both read and write an action alike; they differ in which actions there are.
 #[derive(Clone, Copy, Debug, PartialEq, Eq)]
 pub enum Version {
     /// Without priorities and setpoints from consoles.

@@ -1,7 +1,7 @@
 //! Each field of an image at its limits and beyond, with the place of the damage.
 //!
-//! The plant: at moment 1000 alarm 0 is annunciated (stamp 1), alarm 1 shelved up to 1060 (stamp 2), alarm 2 latching and
-//! annunciated (stamp 3), alarm 3 at rest; four actions, next stamp 4.
+//! The plant at moment 1000. Alarm 0 is annunciated (stamp 1), alarm 1 shelved up to 1060 (stamp 2), alarm 2 latching and
+//! annunciated (stamp 3), alarm 3 at rest. It has done four actions, and the next stamp is 4.
 
 use crate::worked::{clock, image_after, value};
 use alm_codec::{Damage, ImageFault, read_image};
@@ -10,7 +10,7 @@ use alm_types::{Action, AlarmId};
 use std::alloc::Global;
 use std::test::Fail;
 
-/// Where the alarms begin.
+/// The start of the alarms.
 const A: usize = 9618;
 
 const B: usize = 9800;
@@ -19,7 +19,7 @@ const C: usize = 9982;
 
 const D: usize = 10_164;
 
-/// How many bytes, at which place, the number that goes there, and where the damage is.
+/// How many bytes, at which place, the number that is put there, and the place of the damage.
 type Case = (usize, usize, u64, Option<usize>);
 
 fn stands(alloc: Global) -> Result<Vec<u8>, Fail> {
@@ -32,7 +32,7 @@ fn stands(alloc: Global) -> Result<Vec<u8>, Fail> {
     image_after::<PlainPlant>(alloc, &actions)
 }
 
-/// Puts a number of so many bytes at a place.
+/// Puts a number of `width` bytes at a place.
 fn put(bytes: &mut [u8], width: usize, at: usize, number: u64) {
     let word = number.to_be_bytes();
     for (index, byte) in word.iter().enumerate() {
@@ -44,7 +44,7 @@ fn put(bytes: &mut [u8], width: usize, at: usize, number: u64) {
     }
 }
 
-/// Whether an image with one field changed is damaged where it should be.
+/// Whether an image with one field changed is damaged at the expected place.
 fn is_told(alloc: Global, bytes: &[u8], case: &Case, count: u64) -> Result<bool, Fail> {
     let (width, at, number, expected) = *case;
     let mut changed = bytes.to_vec(alloc)?;
@@ -57,7 +57,7 @@ fn is_told(alloc: Global, bytes: &[u8], case: &Case, count: u64) -> Result<bool,
     Ok(found == expected)
 }
 
-/// The number of the first case that isn't told.
+/// The number of the first case that isn't reported.
 fn first_wrong(
     alloc: Global,
     bytes: &[u8],

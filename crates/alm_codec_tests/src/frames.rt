@@ -4,7 +4,7 @@ use alm_codec::{Damage, Version, read_frame, write_frame_body};
 use alm_types::{Action, AlarmId, MOST_ENTRIES, Moment, Reading};
 use std::test::Fail;
 
-/// A frame of one action from behind its gate, with the next gate closed.
+/// A frame of one action without its gate, with the next gate closed.
 const CLOCK_FRAME: [u8; 35] = [
     0, 0, 0, 0, 0, 0, 0, 1, 0, 0, 0, 0, 0, 0, 0, 1, 0, 1, 1, 0, 0, 0, 0, 0, 0, 0, 0, 0, 0, 0, 0, 0,
     3, 0xe8, 0,
@@ -41,8 +41,8 @@ fn frames_are_written_and_read(rt: HostRuntime) -> Result<(), Fail> {
 /// A byte of a frame that is another, and its place.
 type Change = Option<(usize, u8)>;
 
-/// Damaged frames of an epoch behind a count: the epoch, the count, how many bytes there are, what is changed in them, and the place of the
-/// damage.
+/// Damaged frames of an epoch after a count: the epoch, the count, how many bytes there are, what is changed in them, and the
+/// place of the damage.
 const DAMAGED: [(u64, u64, usize, Change, usize); 9] = [
     (2, 0, 35, None, 0),
     (1, 1, 35, None, 8),
@@ -73,7 +73,7 @@ fn damaged_frames(rt: HostRuntime) -> Result<(), Fail> {
     Ok(())
 }
 
-/// A frame of PRIO 0 3, from behind its gate.
+/// A frame of PRIO 0 3, without its gate.
 const PRIORITY_FRAME: [u8; 35] = [
     0, 0, 0, 0, 0, 0, 0, 2, 0, 0, 0, 0, 0, 0, 0, 3, 0, 1, 9, 0, 0, 0, 0, 0, 0, 0, 0, 0, 0, 0, 0, 0,
     0, 3, 0,

@@ -3,6 +3,7 @@
 use crate::worked::{clock, image, image_after, value};
 use alm_codec::{Damage, ImageFault, read_image};
 use alm_model::{Alarms, PlainPlant};
+use alm_types::AlarmId;
 use std::alloc::Global;
 use std::test::Fail;
 
@@ -86,5 +87,34 @@ fn each_byte_changed(rt: HostRuntime) -> Result<(), Fail> {
         bytes[place] = was;
     }
     assert!(rt; all);
+    Ok(())
+}
+
+/// Sets a byte of the image after an annunciation: the clock of the plant that is read, and the first letter of its first tag.
+fn read_with(alloc: Global, place: usize, byte: u8) -> Result<(u64, Option<u8>), Fail> {
+    let mut bytes = image_after::<PlainPlant>(alloc, &[clock(1000)?, value(0, 800)?])?;
+    if place < bytes.len() {
+        bytes[place] = byte;
+    }
+    match read_image(alloc, &bytes, 4, 2, 4) {
+        Ok(parts) => {
+            let plant = PlainPlant::build(alloc, parts)?;
+            let letter = match plant.attr(AlarmId(0)) {
+                Some(attr) => attr.tag.as_bytes().first().copied(),
+                None => None,
+            };
+            Ok((plant.now().seconds(), letter))
+        }
+        Err(_) => Err(Fail::new("damaged")),
+    }
+}
+
+#[test]
+fn a_changed_byte_is_read_where_it_may_stand(rt: HostRuntime) -> Result<(), Fail> {
+    let alloc = rt.alloc();
+    assert_eq!(rt; read_with(alloc, 7, 0xe8)?, (1000, Some(b'T')));
+    assert_eq!(rt; read_with(alloc, 7, 0xff)?, (1023, Some(b'T')));
+    assert_eq!(rt; read_with(alloc, 3, 1)?, (4_294_968_296, Some(b'T')));
+    assert_eq!(rt; read_with(alloc, 9_643, b'A')?, (1000, Some(b'A')));
     Ok(())
 }

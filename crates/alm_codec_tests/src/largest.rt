@@ -9,7 +9,7 @@ use alm_types::{Attr, Kind, Settings, Table};
 use std::alloc::Global;
 use std::test::Fail;
 
-/// A table of so many alarms, spread over so many areas.
+/// A table of `rows` alarms, spread over `areas` areas.
 fn table(alloc: Global, rows: u32, areas: u8) -> Result<Table, Fail>
     requires { 1 ≤ areas }
 {
@@ -29,7 +29,7 @@ fn table(alloc: Global, rows: u32, areas: u8) -> Result<Table, Fail>
     Ok(Table::new(alarms, areas)?)
 }
 
-/// So many alarms are annunciated.
+/// The first `rows` alarms are annunciated.
 fn annunciate<P: Alarms>(plant: &mut P, rows: u32) -> Result<(), Fail> {
     for number in 0..rows {
         let high = value(number, 1)?;

@@ -2,13 +2,13 @@
 //!
 //! | module | what it tries |
 //! |---|---|
-//! | `actions` | the texts of actions, and bytes that are none |
+//! | `actions` | the texts of actions, and bytes that are no action's text |
 //! | `frames` | written frames, and the place of each damage |
 //! | `images` | worked images, and bytes of one changed |
 //! | `largest` | the image of 16,384 alarms in 64 areas |
 //! | `damages` | each field of an image at its limits and beyond, with the place of the damage |
 //!
-//! They stand in a crate of their own, since a crate with tests is proved twice.
+//! They are in a crate of their own: a crate with tests is proved twice.
 #![tactic(auto)]
 
 #[cfg(test)]

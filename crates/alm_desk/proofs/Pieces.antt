@@ -15,7 +15,7 @@ use Rattle.alm_lines.specs.Stream.{is_end, held_after, held_behind, bytes_used, 
 use Rattle.alm_desk.specs.Answers.{DeskState, SlotLine, AnsweredLine, replies, after_lines, after_line, reply, reply_on, plant_after, kept_after, failures_after, refused_after, standing_of}
 use Rattle.alm_lines.specs.Written.{IsCutShort}
 use Rattle.alm_desk.specs.Failing.{answered_line, IsCutLine, BreaksOff}
-use Rattle.alm_desk.specs.Feeding.{lines_at, line_asked, Progress, IsFedAt}
+use Rattle.alm_desk.specs.Feeding.{lines_at, line_asked, FeedsOn, IsFedAt}
 use Rattle.alm_desk.specs.declared.hindrance.Hindrance.{Hindrance}
 
 -- what is answered to lines is answered to the first ones and then to the others
@@ -33,7 +33,7 @@ said_at slot line = record { slot = slot; line = line_of line }
 one_then : (b : Bool) (n : ℕ) → b ≡ false → cond b 1 (1 + n) ≡ suc n
 one_then b n e = rw e (omega arith)
 
--- the first line, where there is one, and then the lines of the rest
+-- the first line, if there is one, and then the lines of the rest
 split_end : (slot : ℕ) (held bytes : List ℕ) (b : ℕ) → is_end b ≡ true → lines_at slot held (b ∷ bytes) ≡ cons_option (option_map (said_at slot) (line_ended held (b ∷ bytes))) (lines_at slot (held_behind held (take (bytes_used (b ∷ bytes)) (b ∷ bytes))) (drop (bytes_used (b ∷ bytes)) (b ∷ bytes)))
 unfolding said_at
 split_end slot held bytes b e = rw e (rw e refl)
@@ -82,7 +82,7 @@ pub cut_line : (plant plant' : Option Condensed) (kept kept' : List Condensed) (
 cut_line plant plant' kept kept' failures failures' refused refused' s hindrance o n pi ei ci fi wi = record { hindrance = hindrance; written = wi; standing = standing_is pi ei ci fi }
 
 -- nothing was answered yet
-pub progress_none : (slot : ℕ) (before : DeskState) (held bytes : List ℕ) (old : Option (List ℕ)) → Progress slot before held bytes old before held bytes old
+pub progress_none : (slot : ℕ) (before : DeskState) (held bytes : List ℕ) (old : Option (List ℕ)) → FeedsOn slot before held bytes old before held bytes old
 progress_none slot before held bytes old = record {
   answered = [];
   lines = refl;
@@ -100,13 +100,13 @@ next_line slot line holds rest n holds' rest' ni li hi ri =
 
 -- one line more
 pub progress_line : {slot : ℕ} {before : DeskState} {held bytes : List ℕ} {old : Option (List ℕ)} {later : DeskState} {holds rest : List ℕ} {new : Option (List ℕ)}
-    → Progress slot before held bytes old later holds rest new
+    → FeedsOn slot before held bytes old later holds rest new
     → (n : ℕ) (line : Line) (hindrance : Hindrance) (plant' : Option Condensed) (kept' : List Condensed) (failures' refused' : ℕ) (holds' rest' : List ℕ) (new' : Option (List ℕ))
     → n ≡ bytes_used rest → Some line ≡ option_map line_of (line_ended holds rest) → holds' ≡ held_behind holds (take n rest) → rest' ≡ drop n rest
     → plant' ≡ plant_after later.plant (record { slot = slot; line = line }) hindrance → kept' ≡ kept_after later.plant later.kept (record { slot = slot; line = line }) hindrance → failures' ≡ failures_after later.plant later.failures (record { slot = slot; line = line }) hindrance
     → refused' ≡ refused_after later.plant later.refused (record { slot = slot; line = line }) hindrance
     → Appends new new' (reply later (answered_line (record { slot = slot; line = line }) hindrance))
-    → Progress slot before held bytes old (standing_of plant' kept' failures' refused') holds' rest' new'
+    → FeedsOn slot before held bytes old (standing_of plant' kept' failures' refused') holds' rest' new'
 progress_line {slot} {before} {held} {bytes} {old} {later} {holds} {rest} {new} p n line hindrance plant' kept' failures' refused' holds' rest' new' ni li hi ri pi ei ci fi wi =
     let s : SlotLine = record { slot = slot; line = line } in
     let m = answered_line s hindrance in
@@ -121,7 +121,7 @@ progress_line {slot} {before} {held} {bytes} {old} {later} {holds} {rest} {new} 
 
 -- the reply to the next line is cut short
 pub progress_broken : {slot : ℕ} {before : DeskState} {held bytes : List ℕ} {old : Option (List ℕ)} {later : DeskState} {holds rest : List ℕ} {new : Option (List ℕ)}
-    → Progress slot before held bytes old later holds rest new
+    → FeedsOn slot before held bytes old later holds rest new
     → (n : ℕ) (line : Line) (hindrance : Hindrance) (plant' : Option Condensed) (kept' : List Condensed) (failures' refused' : ℕ) (holds' rest' : List ℕ) (new' : Option (List ℕ))
     → n ≡ bytes_used rest → Some line ≡ option_map line_of (line_ended holds rest) → holds' ≡ held_behind holds (take n rest) → rest' ≡ drop n rest
     → plant' ≡ plant_after later.plant (record { slot = slot; line = line }) hindrance → kept' ≡ kept_after later.plant later.kept (record { slot = slot; line = line }) hindrance → failures' ≡ failures_after later.plant later.failures (record { slot = slot; line = line }) hindrance
@@ -142,10 +142,10 @@ progress_broken {slot} {before} {held} {bytes} {old} {later} {holds} {rest} {new
 
 -- bytes that end no line
 pub progress_bytes : {slot : ℕ} {before : DeskState} {held bytes : List ℕ} {old : Option (List ℕ)} {later : DeskState} {holds rest : List ℕ} {new : Option (List ℕ)}
-    → Progress slot before held bytes old later holds rest new
+    → FeedsOn slot before held bytes old later holds rest new
     → (n : ℕ) (holds' rest' : List ℕ)
     → n ≡ bytes_used rest → option_map line_of (line_ended holds rest) ≡ None → holds' ≡ held_behind holds (take n rest) → rest' ≡ drop n rest
-    → Progress slot before held bytes old later holds' rest' new
+    → FeedsOn slot before held bytes old later holds' rest' new
 progress_bytes {slot} {before} {held} {bytes} {old} {later} {holds} {rest} {new} p n holds' rest' ni li hi ri =
     let lines : lines_at slot holds rest ≡ lines_at slot holds' rest' = rw (hi, ri, ni) (lines_split slot holds rest ∙ ap (λ (f : Option SlotLine). cons_option f (lines_at slot (held_behind holds (take (bytes_used rest) rest)) (drop (bytes_used rest) rest))) (found_none slot (line_ended holds rest) li)) in
     record {
@@ -158,7 +158,7 @@ progress_bytes {slot} {before} {held} {bytes} {old} {later} {holds} {rest} {new}
 
 -- no bytes are left
 pub progress_all : {slot : ℕ} {before : DeskState} {held bytes : List ℕ} {old : Option (List ℕ)} {later : DeskState} {holds rest : List ℕ} {new : Option (List ℕ)}
-    → Progress slot before held bytes old later holds rest new → rest ≡ [] → IsFedAt slot before held bytes old later holds new
+    → FeedsOn slot before held bytes old later holds rest new → rest ≡ [] → IsFedAt slot before held bytes old later holds new
 progress_all {slot} {before} {held} {bytes} {old} {later} {holds} {rest} {new} p e = record {
   answered = p.answered;
   lines = sym (append-nil (map line_asked p.answered)) ∙ (rw e at p.lines);

@@ -18,7 +18,7 @@ use Rattle.alm_lines.specs.declared.ask.Ask.{Ask}
 use Rattle.alm_lines.specs.declared.ask.Ask.TheVariants.{Act, Look, Bad}
 use Rattle.alm_lines.specs.Reply.{ok_text, no_text, told_text}
 use Rattle.alm_desk.specs.Backends.{if_accepted, judged_on}
-use Rattle.alm_desk.specs.declared.judged.Judged.{Judged}
+use Rattle.alm_desk.specs.declared.judged_request.JudgedRequest.{JudgedRequest}
 use Rattle.alm_desk.specs.declared.hindrance.Hindrance.{Hindrance}
 use Rattle.alm_desk.specs.declared.hindrance.Hindrance.TheVariants as hindrance
 
@@ -38,7 +38,7 @@ pub record SlotLine : Type 0 where
   pub slot : ℕ
   pub line : Line
 
--- a line, with what came in its way
+-- a line, with what hindered it
 pub record AnsweredLine : Type 0 where
   pub asked : SlotLine
   pub hindrance : Hindrance
@@ -54,7 +54,7 @@ abbrev pub verdict_reply : ℕ → ℕ → Verdict → List ℕ
 verdict_reply id number (Accepted action) = ok_text id number
 verdict_reply id number (Refused refusal count) = no_text id refusal
 
-abbrev pub judged_reply : ℕ → Judged → List ℕ
+abbrev pub judged_reply : ℕ → JudgedRequest → List ℕ
 judged_reply id j = verdict_reply id j.number j.verdict
 
 abbrev pub action_reply : Condensed → ℕ → ℕ → Action → Hindrance → List ℕ
@@ -76,7 +76,7 @@ ask_reply q slot id (Act want) c = action_reply q slot id want c
 ask_reply q slot id (Look query) c = look_reply q id query c
 ask_reply q slot id (Bad refusal) c = no_text id refusal
 
--- once the storage has stopped, each line that asks something is told so
+-- once the storage has stopped, each request is answered so
 abbrev pub stopped_reply : ℕ → Ask → List ℕ
 stopped_reply id (Act want) = no_text id Stopped
 stopped_reply id (Look query) = no_text id Stopped
@@ -104,7 +104,7 @@ abbrev pub plant_after : Option Condensed → SlotLine → Hindrance → Option 
 plant_after None s c = None
 plant_after (Some q) s c = ask_after q s.slot s.line.ask c
 
--- the storage stands for the plant alone; where it stopped at an action, for the plant before, without that action or with it
+-- the storage holds the plant alone; if it stopped at an action, the plant before, without that action or with it
 abbrev pub kept_on : Condensed → List Condensed → ℕ → Ask → Hindrance → List Condensed
 kept_on q kept slot (Act want) hindrance.Stopped = q ∷ if_accepted q (accept q.panel (request slot want)) ∷ []
 kept_on q kept slot (Act want) _ = if_accepted q (accept q.panel (request slot want)) ∷ []
@@ -114,7 +114,7 @@ abbrev pub kept_after : Option Condensed → List Condensed → SlotLine → Hin
 kept_after None kept s c = kept
 kept_after (Some q) kept s c = kept_on q kept s.slot s.line.ask c
 
--- the storage failed where it stopped at an action
+-- the storage failed if it stopped at an action
 abbrev pub failed_by : ℕ → Ask → Hindrance → ℕ
 failed_by n (Act want) hindrance.Stopped = one_more n
 failed_by n _ _ = n
@@ -123,7 +123,7 @@ abbrev pub failures_after : Option Condensed → ℕ → SlotLine → Hindrance 
 failures_after None n s c = n
 failures_after (Some q) n s c = failed_by n s.line.ask c
 
--- a growth was refused where a list that is there had no memory
+-- a growth was refused if a list that exists had no memory
 abbrev pub refused_by : Condensed → ℕ → Ask → Hindrance → ℕ
 refused_by q n (Look query) hindrance.NoMemory = if asks_for q (asks_list query) then one_more n else n
 refused_by q n _ _ = n
@@ -132,13 +132,13 @@ abbrev pub refused_after : Option Condensed → ℕ → SlotLine → Hindrance �
 refused_after None n s c = n
 refused_after (Some q) n s c = refused_by q n s.line.ask c
 
--- what stands after a line
+-- the state after a line
 abbrev pub after_line : DeskState → AnsweredLine → DeskState
 after_line s m =
     standing_of (plant_after s.plant m.asked m.hindrance) (kept_after s.plant s.kept m.asked m.hindrance) (failures_after s.plant s.failures m.asked m.hindrance) (refused_after s.plant
     s.refused m.asked m.hindrance)
 
--- the replies to lines, and what stands after them
+-- the replies to lines, and the state after them
 abbrev pub replies : DeskState → List AnsweredLine → List ℕ
 replies s [] = []
 replies s (m ∷ ms) = reply s m ++ replies (after_line s m) ms

@@ -9,7 +9,7 @@ use Rattle.alm_desk.specs.Feeding.{line_asked}
 use Rattle.alm_desk.specs.declared.desk_fault.DeskFault.{DeskFault}
 use Rattle.alm_desk.specs.declared.desk_fault.DeskFault.TheVariants.{Write, Closed}
 
--- what a desk stands on, what it holds of the next line of each slot, and whether its writer has failed
+-- the state of a backend, what a desk holds of the next line of each slot, and whether its writer has failed
 pub record Desk : Type 0 where
   pub standing : DeskState
   pub helds : List (List ℕ)
@@ -55,7 +55,7 @@ pub record IsFed (before : Desk) (bytes : List Tagged) (old : Option (List ℕ))
   pub open_before : before.closed ≡ false
   pub open_later : later.closed ≡ false
 
--- a desk closes where its writer failed, and is closed from then on
+-- a desk closes if its writer failed, and stays closed
 abbrev pub ClosesAfter : DeskFault → Bool → Bool → ℕ → ℕ → Type 0
 ClosesAfter Write was is old new = (was ≡ false) × (is ≡ true) × (new ≡ one_more old)
 ClosesAfter Closed was is old new = (was ≡ true) × (is ≡ true) × (new ≡ old)

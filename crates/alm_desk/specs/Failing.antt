@@ -6,7 +6,7 @@ use Rattle.alm_desk.specs.Answers.{DeskState, SlotLine, AnsweredLine, reply, aft
 use Rattle.alm_desk.specs.Feeding.{line_asked}
 use Rattle.alm_desk.specs.declared.hindrance.Hindrance.{Hindrance}
 
--- a line, with what came in its way
+-- a line, with what hindered it
 abbrev pub answered_line : SlotLine → Hindrance → AnsweredLine
 answered_line s c = record { asked = s; hindrance = c }
 

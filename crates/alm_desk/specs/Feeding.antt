@@ -5,7 +5,7 @@ use Rattle.alm_lines.specs.Line.{line_of}
 use Rattle.alm_lines.specs.Stream.{is_end, held_after, held_behind}
 use Rattle.alm_desk.specs.Answers.{DeskState, SlotLine, AnsweredLine, replies, after_lines}
 
--- the lines that bytes end at a slot, where some of the first one is held
+-- the lines that bytes end at a slot, if some of the first one is held
 abbrev pub lines_at : ℕ → List ℕ → List ℕ → List SlotLine
 lines_at slot held [] = []
 lines_at slot held (b ∷ bytes) =
@@ -25,7 +25,7 @@ pub record IsFedAt (slot : ℕ) (before : DeskState) (held bytes : List ℕ) (ol
   pub left : holds ≡ held_behind held bytes
 
 -- on the way: what was answered, and the lines of the rest
-pub record Progress (slot : ℕ) (before : DeskState) (held bytes : List ℕ) (old : Option (List ℕ)) (later : DeskState) (holds rest : List ℕ)
+pub record FeedsOn (slot : ℕ) (before : DeskState) (held bytes : List ℕ) (old : Option (List ℕ)) (later : DeskState) (holds rest : List ℕ)
     (new : Option (List ℕ)) : Type 0 where
   pub answered : List AnsweredLine
   pub lines : map line_asked answered ++ lines_at slot holds rest ≡ lines_at slot held bytes

@@ -5,3 +5,7 @@ pub mod Failing
 pub mod Feeding
 pub mod Pieces
 pub mod Whole
+pub mod DeskLines
+pub mod Reads
+pub mod Turns
+pub mod Worked

@@ -1,4 +1,4 @@
--- The lines of the slots' streams, where all that came of each next line is held.
+-- The lines of the slots' streams, if all that came of each next line is held.
 use Rattle.std.specs.Prelude.{ℕ, List, [], ◌∷◌, ◌++◌, slice_set, if◌then◌else◌}
 use Rattle.alm_lines.specs.Line.{line_of}
 use Rattle.alm_lines.specs.Stream.{is_end}

@@ -10,7 +10,7 @@ ghost use Rattle.alm_lines.specs.declared.ask.Ask.TheVariants.{Act, Look};
 use crate::backend::Backend;
 use crate::counted_writer::CountedWriter;
 use crate::hindrance::Hindrance;
-use crate::judged::Judged;
+use crate::judged_request::JudgedRequest;
 use crate::stopped::Stopped;
 use crate::write_failed::WriteFailed;
 use alm_lines::{Ask, Line, Reply};
@@ -18,7 +18,7 @@ use alm_types::{Action, Answer, Query, Refusal, Request, Slot, Verdict};
 use std::io::Write;
 
 /// The reply to what became of a request.
-fn reply_of(id: u32, judged: Judged) -> Reply<'static>
+fn reply_of(id: u32, judged: JudgedRequest) -> Reply<'static>
     ensures { text_of result ≡ judged_reply id judged }
 {
     match judged.verdict {
@@ -30,7 +30,7 @@ fn reply_of(id: u32, judged: Judged) -> Reply<'static>
     }
 }
 
-/// Submits an action: the reply, and what came in the way.
+/// Submits an action: the reply, and what hindered it.
 fn act<B: Backend>(
     backend: &mut B,
     slot: Slot,
@@ -60,7 +60,7 @@ fn act<B: Backend>(
     }
 }
 
-/// Answers a query and writes the reply: what came in the way, and how the writing went.
+/// Answers a query and writes the reply: what hindered it, and how the writing ended.
 fn answer_query<B: Backend, W: Write + Drop>(
     backend: &mut B,
     answer: &mut Answer,
@@ -108,7 +108,7 @@ fn answer_query<B: Backend, W: Write + Drop>(
     }
 }
 
-/// Does what a line asks and writes the reply: what came in the way, and how the writing went.
+/// Does what a line asks and writes the reply: what hindered it, and how the writing ended.
 pub fn answer_line<B: Backend, W: Write + Drop>(
     backend: &mut B,
     answer: &mut Answer,

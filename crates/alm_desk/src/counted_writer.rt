@@ -67,7 +67,7 @@ impl<W: Write + Drop> CountedWriter<W> {
         }
     }
 
-    /// Writes what an answer tells, between words.
+    /// Writes what an answer reports, between words.
     pub fn told(
         &mut self,
         front: &[Part<'_>],
@@ -89,7 +89,7 @@ impl<W: Write + Drop> CountedWriter<W> {
         }
     }
 
-    /// Hands on what is written.
+    /// Flushes what is written.
     pub fn flush(&mut self) -> Result<(), WriteFailed>
         ensures bytes { Keeps (W.contents self.old.inner) (W.contents self.new.inner) }
         ensures whole { OnOk result (self.new.failed ≡ self.old.failed) }

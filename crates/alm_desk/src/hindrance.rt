@@ -1,6 +1,6 @@
 //! What hinders an answer.
 
-/// What came in the way of a line.
+/// What hindered the answer to a line.
 #[derive(Clone, Copy, Debug, PartialEq, Eq)]
 pub enum Hindrance {
     Nothing,

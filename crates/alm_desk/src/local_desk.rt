@@ -84,7 +84,7 @@ impl<B: Backend + Drop> LocalDesk<B> {
         self.backend.is_stopped()
     }
 
-    /// How often the storage has failed, up to 2^64 - 1: it stops only where it fails.
+    /// How often the storage has failed, up to 2^64 - 1: it stops only if it fails.
     pub fn failures(&self) -> u64
         ensures { result ≡ self.now.standing.failures }
     {
@@ -98,7 +98,7 @@ impl<B: Backend + Drop> LocalDesk<B> {
         self.closed
     }
 
-    /// What the desk stands on.
+    /// The backend that the desk runs over.
     pub fn backend(&self) -> &B
         ensures stands { B.stands result.now ≡ self.now.standing.plant }
         ensures kept { B.kept result.now ≡ self.now.standing.kept }
@@ -122,7 +122,7 @@ impl<B: Backend + Drop> LocalDesk<B> {
         backend
     }
 
-    /// Closes the desk, where something else that was written to the same writer failed.
+    /// Closes the desk, after something else that was written to the same writer failed.
     pub fn close(&mut self)
         ensures { self.new ≡ record self.old { closed = true } }
     {
@@ -169,7 +169,7 @@ impl<B: Backend + Drop> LocalDesk<B> {
         }
     }
 
-    /// Answers a whole line at a slot, whatever is held there: what came in its way.
+    /// Answers a whole line at a slot, whatever is held there, and returns what hindered it.
     pub fn answer<W: Write + Drop>(
         &mut self,
         slot: Slot,

@@ -1,7 +1,7 @@
-//! A plant in memory as what a desk stands on.
+//! A plant in memory as the backend of a desk.
 
 use crate::backend::Backend;
-use crate::judged::Judged;
+use crate::judged_request::JudgedRequest;
 use crate::stopped::Stopped;
 use alm_model::{Alarms, look};
 use alm_types::{Answer, Query, Refusal, Request, Verdict};
@@ -16,17 +16,17 @@ impl<P: Alarms> Backend for P {
 
     ghost failures = { λ _. 0 };
 
-    fn submit(&mut self, request: &Request) -> Result<Judged, Stopped> {
+    fn submit(&mut self, request: &Request) -> Result<JudgedRequest, Stopped> {
         let count = self.count();
         match self.check(request) {
             Ok(action) => {
                 self.apply(&action);
-                Ok(Judged {
+                Ok(JudgedRequest {
                     verdict: Verdict::Accepted(action),
                     number: count + 1,
                 })
             }
-            Err(refusal) => Ok(Judged {
+            Err(refusal) => Ok(JudgedRequest {
                 verdict: Verdict::Refused(refusal, count),
                 number: count,
             }),

@@ -12,9 +12,9 @@ use crate::local_desk::LocalDesk;
 use crate::piece::Piece;
 use std::io::Write;
 
-/// Feeds pieces of the slots' streams, one after the other. What is written hangs on the
-/// bytes alone, in the order in which they came, and not on how they were cut. `Write` where the writer fails: what was
-/// answered before stands, and a front of the next reply may be written. `Closed` on a desk that met that before.
+/// Feeds pieces of the slots' streams, one after the other. What is written depends on the bytes alone, in the order in which
+/// they came, and not on how they were cut. `Write` if the writer fails: what was answered before stays, and a prefix of the
+/// next reply may be written. `Closed` if the writer failed before.
 pub fn feed_all<B: Backend + Drop, W: Write + Drop>(
     desk: &mut LocalDesk<B>,
     pieces: &[Piece<'_>],

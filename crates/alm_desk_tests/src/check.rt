@@ -24,7 +24,7 @@ fn texts(alloc: Global, row: Row) -> Result<(String, String), Fail> {
     Ok((input, output))
 }
 
-/// Whether a desk prints this for what a reader gives.
+/// Whether a desk prints this for what a reader returns.
 pub fn prints<B: Backend + Drop, I: Read + Drop>(
     alloc: Global,
     desk: &mut LocalDesk<B>,
@@ -61,7 +61,7 @@ fn first_wrong_of_new<P: Alarms + Drop>(alloc: Global, row: Row) -> Result<Optio
     found
 }
 
-/// Whether a new desk prints this for what a reader gives.
+/// Whether a new desk prints this for what a reader returns.
 pub fn prints_anew<I: Read + Drop>(alloc: Global, reader: I, wanted: &[u8]) -> bool {
     match new_desk(alloc) {
         Ok(mut desk) => {
@@ -73,8 +73,8 @@ pub fn prints_anew<I: Read + Drop>(alloc: Global, reader: I, wanted: &[u8]) -> b
     }
 }
 
-/// Checks the replies of a new desk to the lines of a row, each a slot, a line and its reply, over either plant, however they are cut;
-/// and the same over a device.
+/// Checks the replies of a new desk to the lines of a row, each a slot, a line and its reply. It does so over either plant,
+/// however the lines are cut, and over a device.
 pub fn check<R: Abort + AllocGlobal>(rt: &R, name: &str, row: Row) -> Result<(), Fail> {
     let alloc = rt.alloc();
     let wrong = first_wrong_of_new::<Plant>(alloc, row)?;

@@ -1,9 +1,10 @@
 //! A desk over the worked table, and what it prints.
 
-use alm_desk::{Backend, CountedWriter, LocalDesk, desk_of};
+use alm_desk::{
+    Backend, CountedReader, CountedWriter, LocalDesk, RunFault, desk_of, desk_run, worked_table,
+};
 use alm_model::Alarms;
 use alm_plant::Plant;
-use alm_service::{CountedReader, RunFault, desk_run, worked_table};
 use std::alloc::{AllocError, Global};
 use std::io::Read;
 
@@ -18,7 +19,7 @@ pub fn new_desk(alloc: Global) -> Result<LocalDesk<Plant>, AllocError> {
     new_desk_over::<Plant>(alloc)
 }
 
-/// What a desk prints for what a reader gives.
+/// What a desk prints for what a reader returns.
 pub fn printed<B: Backend + Drop, R: Read + Drop>(
     alloc: Global,
     desk: &mut LocalDesk<B>,

@@ -1,10 +1,9 @@
 //! A desk over a device in memory.
 
 use crate::desk::printed;
-use alm_desk::{Backend, Judged, LocalDesk, Stopped};
+use alm_desk::{Backend, JudgedRequest, LocalDesk, Stopped, worked_table};
 use alm_disk::{Disk, MemDisk};
 use alm_keeper::{OpenFault, format};
-use alm_service::worked_table;
 use alm_stack::Stack;
 use alm_types::{Answer, Query, Refusal, Request};
 use std::alloc::{AllocError, Global};
@@ -28,7 +27,7 @@ impl Backend for DeviceStack {
 
     ghost failures = { λ s. ⟦<Stack<MemDisk> as Backend>⟧.failures s.stack };
 
-    fn submit(&mut self, request: &Request) -> Result<Judged, Stopped> {
+    fn submit(&mut self, request: &Request) -> Result<JudgedRequest, Stopped> {
         self.stack.submit(request)
     }
 
@@ -45,7 +44,7 @@ impl Backend for DeviceStack {
     }
 }
 
-/// A device in memory, formatted for the worked table, that fails behind so many calls, those of the format included.
+/// A device in memory, formatted for the worked table, that fails after `calls` calls, those of the format included.
 fn formatted(alloc: Global, calls: usize) -> Result<MemDisk, AllocError> {
     let table = worked_table(alloc)?;
     let disk = MemDisk::new(alloc, vec![in alloc; 0u8; SIZE]?, calls)?;
@@ -63,7 +62,7 @@ fn stack_over(alloc: Global, disk: MemDisk) -> Result<DeviceStack, OpenFault> {
     }
 }
 
-/// The stack over a device that fails behind so many calls, those of its format included. An error, too, where it isn't opened.
+/// The stack over a device that fails after `calls` calls, those of its format included. Also an error if it isn't opened.
 fn open_stack(alloc: Global, calls: usize) -> Result<DeviceStack, AllocError> {
     let disk = formatted(alloc, calls)?;
     match stack_over(alloc, disk) {
@@ -72,7 +71,7 @@ fn open_stack(alloc: Global, calls: usize) -> Result<DeviceStack, AllocError> {
     }
 }
 
-/// Why the stack isn't opened over a device of which one byte is set; nothing where it is.
+/// Why the stack isn't opened over a device of which one byte is set; `None` if it is.
 pub fn fault_with(alloc: Global, at: u64, byte: u8) -> Result<Option<OpenFault>, AllocError> {
     let mut disk = formatted(alloc, MANY)?;
     if at < disk.size() {
@@ -88,7 +87,7 @@ pub fn fault_with(alloc: Global, at: u64, byte: u8) -> Result<Option<OpenFault>,
     }
 }
 
-/// Whether the stack is opened over a device that fails behind so many calls.
+/// Whether the stack is opened over a device that fails after `calls` calls.
 pub fn opens(alloc: Global, calls: usize) -> bool {
     match open_stack(alloc, calls) {
         Ok(stack) => {
@@ -117,7 +116,7 @@ fn answers_by<B: Backend + Drop>(
     same && desk.stopped() == stops && desk.failures() == u64::from(stops)
 }
 
-/// Whether a desk over a device that fails behind so many calls prints this for these lines, and has stopped then or not.
+/// Whether a desk over a device that fails after `calls` calls prints this for these lines, and has stopped then or not.
 pub fn answers(alloc: Global, calls: usize, lines: &[u8], wanted: &[u8], stops: bool) -> bool {
     match open_stack(alloc, calls) {
         Ok(stack) => answers_by(alloc, stack, lines, wanted, stops),

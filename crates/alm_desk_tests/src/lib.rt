@@ -1,8 +1,8 @@
 //! The worked rows of the alarm server, run through its public calls.
 //!
 //! Each row of `rows` begins with a new plant of the worked table: a line at a slot, and its one reply. A row is fed line by
-//! line, over the linked plant and the plain one, and again in two pieces cut at each of its bytes, and once over a formatted
-//! device in memory.
+//! line, over the linked plant and the plain one. It is fed again in two pieces cut at each of its bytes, and once over a
+//! formatted device in memory.
 #![tactic(auto)]
 
 #[cfg(test)]

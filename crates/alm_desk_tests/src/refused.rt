@@ -1,5 +1,5 @@
-//! Want of memory: run with each allocation refused in turn (`rt try --test --fail-alloc N`), the test of this module passes. One is
-//! refused at most, so the list that was refused is told the second time.
+//! Out of memory: run with each allocation refused in turn (`rt try --test --fail-alloc N`), the test of this module passes. One
+//! is refused at most, so the list that was refused is answered the second time.
 
 use crate::desk::new_desk;
 use alm_desk::{Backend, CountedWriter, LocalDesk};
@@ -10,10 +10,10 @@ use std::test::Fail;
 /// What is answered to an alarm that comes, and then to two questions for the list that it is in.
 const TOLD: &[u8] = b"1 OK 1\n2 LIST 1 1 0\n3 LIST 1 1 0\n";
 
-/// The same where there was no memory for the first list.
+/// The same if there was no memory for the first list.
 const TOLD_LATER: &[u8] = b"1 OK 1\n2 NO 16\n3 LIST 1 1 0\n";
 
-/// What a desk answers to them, put behind what is written.
+/// What a desk answers to them, appended to what is written.
 fn replies_of<B: Backend + Drop>(
     desk: &mut LocalDesk<B>,
     (feed, console): (Slot, Slot),

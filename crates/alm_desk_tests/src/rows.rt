@@ -4,7 +4,7 @@ use crate::check::{Row, check};
 use std::test::Fail;
 
 /// Each row by its name.
-const ROWS: [(&str, Row); 26] = [
+const ROWS: [(&str, Row); 28] = [
     (
         "The clock moves strictly forward, below 2^40",
         &[
@@ -394,6 +394,47 @@ const ROWS: [(&str, Row); 26] = [
             (0, "18 setp 0 5", "18 NO 13"),
             (0, "19 SETP 0", "19 NO 13"),
             (0, "20 PRIO 0 4", "20 OK 3"),
+        ],
+    ),
+    (
+        "The plant and the attributes in force, before and after a priority and a setpoint are set",
+        &[
+            (3, "1 PLANT", "1 PLANT 0 0 4 2"),
+            (3, "2 ATTR 0", "2 ATTR 0 HIGH 800 10 1 0 3600 OFF TI-101"),
+            (3, "3 ATTR 1", "3 ATTR 0 LOW 100 5 2 0 3600 OFF PI-102"),
+            (3, "4 ATTR 2", "4 ATTR 0 DISCRETE 1 0 1 1 0 ON XS-201"),
+            (17, "1 CLOCK 1000", "1 OK 1"),
+            (0, "2 PRIO 1 4", "2 OK 2"),
+            (0, "3 SETP 0 900", "3 OK 3"),
+            (3, "5 ATTR 0", "5 ATTR 3 HIGH 900 10 1 0 3600 OFF TI-101"),
+            (16, "6 ATTR 1", "6 ATTR 3 LOW 100 5 4 0 3600 OFF PI-102"),
+            (17, "7 PLANT", "7 PLANT 3 1000 4 2"),
+            (0, "8 SETP 0 -1000000000000", "8 OK 4"),
+            (
+                15,
+                "9 ATTR 0",
+                "9 ATTR 4 HIGH -1000000000000 10 1 0 3600 OFF TI-101",
+            ),
+            (17, "10 CLOCK 1099511627775", "10 OK 5"),
+            (0, "11 PLANT", "11 PLANT 5 1099511627775 4 2"),
+        ],
+    ),
+    (
+        "The lines of PLANT and ATTR",
+        &[
+            (0, "1 ATTR 4", "1 NO 1"),
+            (0, "2 ATTR 4294967295", "2 NO 1"),
+            (0, "3 ATTR 4294967296", "3 NO 13"),
+            (0, "4 ATTR", "4 NO 13"),
+            (0, "5 ATTR ", "5 NO 13"),
+            (0, "6 ATTR 00", "6 NO 13"),
+            (0, "7 ATTR 0 ", "7 NO 13"),
+            (0, "8 ATTR 0 0", "8 NO 13"),
+            (0, "9 attr 0", "9 NO 13"),
+            (0, "10 PLANT ", "10 NO 13"),
+            (0, "11 PLANT 0", "11 NO 13"),
+            (0, "12 plant", "12 NO 13"),
+            (16, "13 ATTR 3", "13 ATTR 0 HIGH 50 0 3 1 0 OFF LI-202"),
         ],
     ),
 ];

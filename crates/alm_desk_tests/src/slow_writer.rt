@@ -3,7 +3,7 @@
 use std::alloc::Global;
 use std::io::{self, Error, ErrorKind, Write};
 
-/// A writer that takes a byte at every other call, is interrupted at the others, and fails once it is full.
+/// A writer that takes a byte at every other call, is interrupted at the others, and fails when it is full.
 #[derive(Drop)]
 pub struct SlowWriter {
     taken: Vec<u8>,
@@ -13,7 +13,7 @@ pub struct SlowWriter {
 }
 
 impl SlowWriter {
-    /// A writer that takes so many bytes.
+    /// A writer that takes `room` bytes.
     pub fn new(alloc: Global, room: usize) -> Self {
         SlowWriter {
             taken: Vec::new(alloc),
@@ -28,7 +28,7 @@ impl SlowWriter {
         &self.taken
     }
 
-    /// How many of them were handed on.
+    /// How many of them were passed on.
     pub fn flushed(&self) -> usize {
         self.flushed
     }

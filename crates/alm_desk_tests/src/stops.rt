@@ -3,10 +3,10 @@
 use crate::device_desk::{answers, opens};
 use std::test::Fail;
 
-/// Three actions, four device calls each, a query and a line that is none.
+/// Three actions, four device calls each, a query and a line that isn't valid.
 const LINES: &[u8] = b"17 1 CLOCK 1000\n16 2 VAL 0 800\n0 3 ACK 0\n0 4 STATE 0\n0 5 ACK\n";
 
-/// What is printed where the device stops within an action.
+/// What is printed if the device stops within an action.
 const PRINTS: [&[u8]; 4] = [
     b"17 1 NO 15\n16 2 NO 15\n0 3 NO 15\n0 4 NO 15\n0 5 NO 13\n",
     b"17 1 OK 1\n16 2 NO 15\n0 3 NO 15\n0 4 NO 15\n0 5 NO 13\n",

@@ -1,18 +1,19 @@
-//! Lines that are none, streams beside each other, and writers that fail.
+//! Lines that aren't valid, several streams, and writers that fail.
 
 use crate::check::{prints, prints_anew};
 use crate::desk::{new_desk, printed};
 use crate::device_desk::prints_over_a_device;
 use crate::slow_writer::SlowWriter;
-use alm_desk::{Backend, CountedWriter, DeskFault, LocalDesk, desk_of};
+use alm_desk::{
+    Backend, CountedReader, CountedWriter, DeskFault, LocalDesk, RunFault, desk_of, desk_run,
+};
 use alm_plant::Plant;
-use alm_service::{CountedReader, RunFault, desk_run};
 use alm_types::{Attr, Kind, Settings, Slot, Table};
 use std::alloc::Global;
 use std::io::Read;
 use std::test::Fail;
 
-/// What a slot's stream brings: at once, or byte by byte.
+/// What a slot's stream brings: in one piece, or byte by byte.
 #[derive(Clone, Copy)]
 enum Piece<'a> {
     Whole(u8, &'a [u8]),
@@ -106,7 +107,7 @@ fn what_has_no_end_is_dropped(rt: HostRuntime) -> Result<(), Fail> {
     Ok(())
 }
 
-/// Whether a desk drops a thousand pieces of a thousand bytes, and as many at once from a reader.
+/// Whether a desk drops a thousand pieces of a thousand bytes, and as many in one piece from a reader.
 fn drops_a_million<B: Backend + Drop>(
     alloc: Global,
     desk: &mut LocalDesk<B>,
@@ -136,7 +137,7 @@ fn a_million_bytes_without_an_end(rt: HostRuntime) -> Result<(), Fail> {
     Ok(())
 }
 
-/// A line that begins so and has so many bytes with its end.
+/// A line that begins so and has `len` bytes with its end.
 fn line_of(alloc: Global, front: &str, len: usize) -> Result<Vec<u8>, Fail> {
     let mut line = Vec::new(alloc);
     line.extend_from_slice(front.as_bytes())?;
@@ -147,7 +148,7 @@ fn line_of(alloc: Global, front: &str, len: usize) -> Result<Vec<u8>, Fail> {
     Ok(line)
 }
 
-/// Lines of a slot, the shortest and about the longest that there are: how they begin, their lengths and what they are answered.
+/// Lines of a slot, the shortest and about the longest: how they begin, their lengths and their replies.
 const SLOT_LINES: [(&str, usize, &str); 6] = [
     ("", 1, "0 NO 13\n"),
     ("7", 2, "7 NO 13\n"),
@@ -190,7 +191,7 @@ fn the_longest_lines_of_a_desk(rt: HostRuntime) -> Result<(), Fail> {
     Ok(())
 }
 
-/// What a desk answers whose writer fails once it is full, and then again.
+/// What a desk answers whose writer fails when it is full, and then again.
 fn fed_twice<B: Backend + Drop>(
     desk: &mut LocalDesk<B>,
     console: Slot,
@@ -224,7 +225,7 @@ fn a_failed_write_closes_the_desk(rt: HostRuntime) -> Result<(), Fail> {
     Ok(())
 }
 
-/// How a run ends whose writer fails once it is full, and the next run of its desk.
+/// How a run ends whose writer fails when it is full, and the next run of its desk.
 fn run_twice<B: Backend + Drop>(
     alloc: Global,
     desk: &mut LocalDesk<B>,
@@ -302,7 +303,7 @@ fn replies_to_all(alloc: Global) -> Result<String, Fail> {
     Ok(replies)
 }
 
-/// What the desk of so many alarms prints.
+/// What the desk of `alarms` alarms prints.
 fn printed_by_all(alloc: Global, lines: &str) -> Result<Vec<u8>, Fail> {
     let alarms = vec![in alloc; Attr::new(ALARM, b"T", b"")?; ALARMS as usize]?;
     let table = Table::new(alarms, 1)?;

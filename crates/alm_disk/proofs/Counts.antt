@@ -3,7 +3,7 @@ use Rattle.std.proofs.Common.{inl, inr, ⊎_elim, ◌<◌, ◌≤◌, ℕ, Resul
 use Rattle.std.proofs.lemmas.Bool.{cases_lt}
 use Rattle.alm_disk.specs.Failures.{CountsFault, HasFailed, last_count}
 
--- a fault is answered only where the device failed
+-- a fault is returned only if the device failed
 pub has_failed : {E : Type 0} (result : Result Unit E) (before now : ℕ) → CountsFault result before now → OnErr result (HasFailed before now)
 has_failed (Ok _) before now counts = tt
 has_failed (Err e) before now counts = ⊎_elim (λ (under : before < last_count). inl (omega (arith, counts.fault))) (λ (at : last_count ≤ before). inr (omega (arith, counts.limit))) (cases_lt before last_count)

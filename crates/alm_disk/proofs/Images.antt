@@ -11,7 +11,7 @@ pub settled_image : (state : DeviceState) (bytes image : List ℕ) → IsSettled
 settled_image state bytes image settled left =
     ext_get_or 0 image state.bytes left.size (λ place _. left.stable place (settled.nothing_pending place)) ∙ settled.reads
 
--- a list that differs in the middle alone
+-- a list that differs only in the middle
 pub middle : (front old back list : List ℕ) → length list ≡ length (front ++ old ++ back)
     → ((place : ℕ) → is_within (length front) (length old) place ≡ false → byte_at list place ≡ byte_at (front ++ old ++ back) place)
     → (mid : List ℕ) × (length mid ≡ length old) × (list ≡ front ++ mid ++ back)
@@ -49,7 +49,7 @@ written_image result state new at bytes front old back image settled writes plac
     (λ i out. let here : is_within at (length bytes) i ≡ false = (λ j. is_within (place j) (long j) i) ∙ out in
     left.stable i (writes.pending i ∙ (λ j. here j || state.pending i) ∙ settled.nothing_pending i) ∙ writes.outside i here ∙ ap (λ (l : List ℕ). byte_at l i) settled.reads)
 
--- two lists that differ in the middle alone read the same outside it
+-- two lists that differ only in the middle read the same outside it
 same_outside : (front old mid back : List ℕ) → length mid ≡ length old → (place : ℕ) → is_within (length front) (length old) place ≡ false → byte_at (front ++ mid ++ back) place ≡ byte_at (front ++ old ++ back) place
 same_outside front old mid back long place out = ⊎_elim before behind (outside_cases (length front) (length old) place out)
   where
@@ -112,7 +112,7 @@ kept_image result state new at bytes image writes left = record {
       left.stable i out.1 ∙ sym (writes.outside i out.0);
 }
 
--- after a sync that was done, where nothing had failed, the device is settled as it read
+-- after a successful sync, if no call had failed, the device is settled as it read
 pub synced : {E : Type 0} (state new : DeviceState) (at n : ℕ) (bytes : List ℕ) → AwaitsSync at n state bytes → Syncs {E = E} (Ok tt) state new → IsSettled new bytes
 synced state new at n bytes awaits syncs = record { reads = syncs.read_stays awaits.sound ∙ awaits.reads; nothing_pending = syncs.nothing_pending; sound = syncs.done }
 

@@ -1,4 +1,4 @@
--- Calls of a device: one that was made, and those that it may be told to fail.
+-- Calls of a device: one that was made, and those that it may be made to fail.
 use Rattle.std.specs.Prelude.{◌≡◌, ◌≤◌, ◌+◌, ℕ, Bool, true, false, ◌||◌, Result}
 use Rattle.alm_disk.specs.Device.{DeviceState, is_within}
 use Rattle.alm_disk.specs.declared.call.Call.{Call}
@@ -9,7 +9,7 @@ use Rattle.alm_disk.specs.declared.disk_fault.DiskFault.{DiskFault}
 abbrev pub IsOneCall : {D : Type 0} → (D → Call → Result Unit DiskFault → D → Type 0) → Result Unit DiskFault → D → D → Type 0
 IsOneCall serves result old new = (call : Call) × serves old call result new
 
--- its range lies inside a device of this size
+-- its range is inside a device of this size
 abbrev pub IsInside : Call → ℕ → Type 0
 IsInside (Read at n) size = at + n ≤ size
 IsInside (Write at n) size = at + n ≤ size

@@ -1,12 +1,12 @@
--- A device: what a read gives, what a crash may leave, and what each call does to both.
+-- A device: what a read returns, what a crash may leave, and what each call does to both.
 use Rattle.std.specs.Prelude.{◌≡◌, ◌<◌, ◌+◌, ℕ, Bool, true, false, ◌||◌, ◌&&◌, nat_lt, nat_le, List, ◌++◌, length, get_or, take, drop, Result, OnOk, OnErr}
 
 pub record DeviceState : Type 0 where
   -- the bytes as they read
   pub bytes : List ℕ
-  -- the places that a write has touched since the last sync that was done
+  -- the places that a write has touched since the last successful sync
   pub pending : ℕ → Bool
-  -- a write or a sync has failed since the last sync that was done
+  -- a write or a sync has failed since the last successful sync
   pub faulted : Bool
 
 -- the byte at a place
@@ -21,7 +21,7 @@ AreBytes bytes = (place : ℕ) → byte_at bytes place < 256
 abbrev pub is_within : ℕ → ℕ → ℕ → Bool
 is_within at n place = nat_le at place && nat_lt place (at + n)
 
--- a crash may leave these bytes: as many as there are, and those that read outside the pending places
+-- a crash may leave these bytes: of the same length, and outside the pending places those that read
 pub record IsImage (state : DeviceState) (image : List ℕ) : Type 0 where
   pub size : length image ≡ length state.bytes
   pub bytes : AreBytes image
@@ -52,7 +52,7 @@ pub record Syncs {E : Type 0} (result : Result Unit E) (old new : DeviceState) :
   pub no_new_image : OnErr result ((image : List ℕ) → IsImage new image → IsImage old image)
   pub failed : OnErr result (new.faulted ≡ true)
 
--- a crash, where `names place read byte` says that this byte may be named for this pending place
+-- a crash, if `names place read byte` says that this byte may be named for this pending place
 pub record Crashes (names : ℕ → ℕ → ℕ → Type 0) (old new : DeviceState) : Type 0 where
   pub image : IsImage old new.bytes
   pub named : (place : ℕ) → place < length old.bytes → old.pending place ≡ true

@@ -5,7 +5,7 @@ use Rattle.std.specs.Prelude.{◌≡◌, ◌⊎◌, ◌<◌, ◌≤◌, ◌+◌,
 abbrev pub last_count : ℕ
 last_count = 2 ^ 64 - 1
 
--- the device failed between: its count rose, or it stood at its last value
+-- the device failed between: its count rose, or was at its last value
 abbrev pub HasFailed : ℕ → ℕ → Type 0
 HasFailed before now = (before < now) ⊎ (before ≡ last_count)
 

@@ -20,18 +20,18 @@ abbrev pub calls_of : MemDisk → List Call
 calls_of disk = disk.calls.items
 
 -- how many calls its record has room for
-abbrev pub room_of : MemDisk → ℕ
-room_of disk = disk.room
+abbrev pub record_room : MemDisk → ℕ
+record_room disk = disk.room
 
 -- a call that failed is not noted, and wrote nothing
 pub record GivesUp (call : Call) (old new : MemDisk) : Type 0 where
-  pub room : room_of new ≡ room_of old
+  pub room : record_room new ≡ record_room old
   pub calls : calls_of new ≡ calls_of old
   pub fails : Fails call (state_of old) (state_of new)
 
 -- a call for which the record has room is done and noted, and a sync leaves what reads; any other fails
-pub record Serves {E : Type 0} (call : Call) (result : Result Unit E) (old new : MemDisk) : Type 0 where
-  pub room : room_of new ≡ room_of old
-  pub done : OnOk result ((length (calls_of old) < room_of old) × (calls_of new ≡ calls_of old ++ call ∷ []))
+pub record MemServes {E : Type 0} (call : Call) (result : Result Unit E) (old new : MemDisk) : Type 0 where
+  pub room : record_room new ≡ record_room old
+  pub done : OnOk result ((length (calls_of old) < record_room old) × (calls_of new ≡ calls_of old ++ call ∷ []))
   pub settled : OnOk result (call ≡ Sync → (state_of new).bytes ≡ (state_of old).bytes)
-  pub failed : OnErr result ((length (calls_of old) ≡ room_of old) × GivesUp call old new)
+  pub failed : OnErr result ((length (calls_of old) ≡ record_room old) × GivesUp call old new)

@@ -25,7 +25,7 @@ fn mark_in(pending: &mut [bool], at: usize, count: usize)
     pending[at..at + count].fill(true);
 }
 
-// Nothing is pending.
+// Makes no place pending.
 pub fn settle(pending: &mut Vec<bool>)
     ensures size { length pending.new.items ≡ length pending.old.items }
     ensures settled { (place : ℕ) → is_marked pending.new.items place ≡ false }
@@ -33,7 +33,7 @@ pub fn settle(pending: &mut Vec<bool>)
     pending.as_mut_slice().fill(false);
 }
 
-// These bytes stand from `at` on.
+// The bytes from `at` on become these.
 pub fn put(all: &mut Vec<u8>, at: usize, bytes: &[u8])
     requires { at + length bytes.now ≤ length all.old.items }
     ensures size { length all.new.items ≡ length all.old.items }
@@ -51,7 +51,7 @@ fn put_in(all: &mut [u8], at: usize, bytes: &[u8])
     all[at..at + bytes.len()].copy_from_slice(bytes);
 }
 
-// At each pending place stands the byte that the chooser names.
+// Each pending place gets the byte that the chooser names.
 pub fn tear<C: Chooser>(bytes: &mut Vec<u8>, pending: &[bool], chooser: &mut C)
     requires { length pending.now ≡ length bytes.old.items }
     ensures size { length bytes.new.items ≡ length bytes.old.items }

@@ -1,4 +1,4 @@
-//! Devices that can crash and be told to fail.
+//! Devices that can crash and be made to fail.
 
 ghost use Rattle.std.specs.Prelude.{◌≡◌, ◌↔◌, Result, Err};
 ghost use Rattle.alm_disk.specs.Calls.{IsInside, Fails};
@@ -17,10 +17,10 @@ pub trait Crashable: Disk {
     /// What this device says of a crash beyond the model.
     ghost restarts: { Self → Self → Type 0 };
 
-    /// What it says of a call that it was told to fail.
+    /// What it says of a call that it was made to fail.
     ghost gives_up: { Self → Call → Self → Type 0 };
 
-    /// Power fails: what is left is one image, each pending byte as `chooser` names it, and nothing is pending.
+    /// Power fails: the device becomes one image, each pending byte as `chooser` names it, and no place is pending.
     /// Takes no memory.
     fn crash<C: Chooser>(self, chooser: &mut C) -> Self
         ensures honest { Self.honest self ↔ Self.honest result }

@@ -9,7 +9,7 @@ ghost use Rattle.alm_disk.specs.declared.disk_fault.DiskFault.{DiskFault};
 
 use crate::disk_fault::DiskFault;
 
-/// A device of a fixed size in bytes. The range of a read or a write lies inside it.
+/// A device of a fixed size in bytes. The range of a read or a write is inside it.
 pub trait Disk {
     /// The device keeps to the model. Every clause but those on size, count and `serves` has this premise.
     ghost honest: { Self → Type 0 };
@@ -40,7 +40,7 @@ pub trait Disk {
         ensures count { CountsFault result (failures self.old) (failures self.new) }
         ensures serves { serves self.old (Call.Read at (length into.old)) result self.new };
 
-    /// Writes these bytes from place `at` on. They are pending until a sync is done, also after a fault.
+    /// Writes these bytes from place `at` on. They are pending until a sync succeeds, also after a fault.
     fn write_at(&mut self, at: u64, bytes: &[u8]) -> Result<(), DiskFault>
         requires { at + length bytes.now ≤ size self.old }
         ensures honest { honest self.old ↔ honest self.new }
@@ -50,7 +50,7 @@ pub trait Disk {
         ensures count { CountsFault result (failures self.old) (failures self.new) }
         ensures serves { serves self.old (Call.Write at (length bytes.now)) result self.new };
 
-    /// Makes sure of what was written.
+    /// Makes what was written stable.
     fn sync(&mut self) -> Result<(), DiskFault>
         ensures honest { honest self.old ↔ honest self.new }
         ensures syncs { honest self.old → Syncs result (state self.old) (state self.new) }

@@ -9,13 +9,13 @@ use crate::crashable::Crashable;
 use crate::disk::Disk;
 use crate::disk_fault::DiskFault;
 
-/// A device that serves so many calls, and fails each after them until it crashes. From then on it fails none of
-/// itself. A read, a write and a sync are a call each.
+/// A device that serves a number of calls, and fails each after them until it crashes. From then on it causes no
+/// failures. A read, a write and a sync are a call each.
 #[derive(Drop)]
 pub struct FuseDisk<D> {
     /// The device that serves the calls.
     pub disk: D,
-    /// How many calls are left; `None` where it fails none of itself.
+    /// How many calls are left; `None` if it causes no failures.
     pub left: Option<u64>,
 }
 

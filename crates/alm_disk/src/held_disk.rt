@@ -7,7 +7,7 @@ use crate::disk::Disk;
 use crate::disk_fault::DiskFault;
 use crate::hold::Hold;
 
-/// A device whose syncs begin only where its hold lets them. One that it doesn't let begin fails.
+/// A device whose syncs begin only if its hold lets them. One that it doesn't let begin fails.
 #[derive(Drop)]
 pub struct HeldDisk<D, H> {
     /// The device that serves the calls.

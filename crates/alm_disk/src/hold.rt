@@ -5,7 +5,7 @@ ghost use Rattle.std.specs.Prelude.{Bool};
 use alm_types::Slot;
 use std::sync::Arc;
 
-/// Is asked before each sync, and told what the parts of a running server do. It may wait before it answers.
+/// Is asked before each sync, and informed of what the parts of a running server do. It may wait before it answers.
 pub trait Hold {
     /// It may answer so.
     ghost answers: { Self → Bool → Type 0 };
@@ -17,7 +17,7 @@ pub trait Hold {
     /// A request of this slot was taken.
     fn taken(&self, slot: Slot);
 
-    /// This slot has looked.
+    /// This slot has looked at the published plant.
     fn looked(&self, slot: Slot);
 }
 

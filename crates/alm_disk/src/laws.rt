@@ -28,7 +28,7 @@ pub fn read_image()
         (IsImage old image → IsImage new image) × (IsImage new image → IsImage old image) }
 {}
 
-/// A write into a settled device, done or failed, leaves what stood in front and behind, and some bytes between.
+/// A write into a settled device, done or failed, leaves what was before and after its range, and some bytes between.
 pub fn written_image()
     ensures { (result : Result Unit DiskFault) (old new : DeviceState)
         (bytes front range back image : List ℕ) → IsSettled old (front ++ range ++ back) →
@@ -61,8 +61,8 @@ pub fn written()
         AwaitsSync (length front) (length bytes) new (front ++ bytes ++ back) }
 {}
 
-/// After a sync that was done the device is settled: as it read where nothing had failed, and else at one of the
-/// images before.
+/// After a successful sync the device is settled: as it read if no call had failed, and else at one of the images
+/// before.
 pub fn synced()
     ensures { (done : Result Unit DiskFault) (old new : DeviceState) → done ≡ Ok tt →
         Syncs done old new →
@@ -82,13 +82,13 @@ pub fn crashed<C: Chooser>()
         Crashes (C.names chooser) old new → IsSettled new new.bytes × IsImage old new.bytes }
 {}
 
-/// The count of failures never falls, and a fault is answered only where it rose or stood at its last value.
+/// The count of failures never falls, and a fault is returned only if it rose or was at its last value.
 pub fn has_failed()
     ensures { (result : Result Unit DiskFault) (before now : ℕ) →
         CountsFault result before now → (before ≤ now) × OnErr result (HasFailed before now) }
 {}
 
-/// One call of a device in memory is one more in its record where it was done, and none where it failed.
+/// A call of a device in memory adds one entry to its record if it was done, and none if it failed.
 pub fn one_call()
     ensures { (result : Result Unit DiskFault) (old new : MemDisk) →
         IsOneCall ⟦<MemDisk as Disk>⟧.serves result old new →

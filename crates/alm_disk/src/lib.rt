@@ -7,31 +7,32 @@
 //! ```
 //!
 //! A device has a fixed size in bytes. Each place holds the byte that reads there, and is stable or *pending*: pending
-//! from the write that touched it until the next sync that is done. What a crash may leave is an *image*: the bytes as
+//! from the write that touched it until the next successful sync. What a crash may leave is an *image*: the bytes as
 //! they read at every stable place, and any bytes at the pending ones.
 //!
 //! | call | done | failed |
 //! |---|---|---|
-//! | read | gives the bytes | the device is as it was |
+//! | read | returns the bytes | the device is unchanged |
 //! | write | its bytes read from then on, its range is pending | its range is pending, and may read as anything |
-//! | sync | nothing is pending; reads as before, after a failed write or sync as one of the images before | no image is new |
-//! | crash | one image, nothing is pending | |
+//! | sync | no place is pending; reads as before, after a failed write or sync as one of the images before | no image is new |
+//! | crash | one image, no place is pending | |
 //!
 //! A crash within a write is one after it, and a crash within a sync one before it.
 //!
 //! | device | fails |
 //! |---|---|
 //! | [`MemDisk`] | a call for which its record has no room |
-//! | [`FuseDisk`] | every call after so many, until it crashes |
+//! | [`FuseDisk`] | every call after a number of calls, until it crashes |
 //! | [`OnceDisk`] | one call |
 //! | [`HeldDisk`] | a sync that its [`Hold`] doesn't let begin |
 //!
 //! What is used above: the clauses of [`Disk`], and what follows from them of every device. Each of these [`laws`] is
 //! the contract of a function that does nothing, and a lemma in `proofs/Images.antt`.
 //!
-//! The clauses hold of an *honest* device. That a file is honest is a premise that no proof about a file can meet: of it
-//! only the size, and the count of its failures are claimed. Nothing here finds out that a device was damaged, and no
-//! checksum is kept. How often a hold is asked no contract sees, since asking leaves it as it was: a test counts.
+//! The clauses hold for an *honest* device. That a file is honest is a premise that no proof about a file can
+//! establish: for a file, the only claims are its size and its count of failures. Not covered: finding out that a
+//! device was damaged, and checksums. Also not covered is how often a hold is asked, since asking leaves it unchanged:
+//! a test counts.
 #![tactic(auto)]
 
 mod as_read;

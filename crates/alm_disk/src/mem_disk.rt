@@ -13,8 +13,8 @@ use crate::disk::Disk;
 use crate::disk_fault::DiskFault;
 use std::alloc::{AllocError, Global};
 
-/// A device in memory, with a record of its calls. A write reads at once, and is pending until the next sync.
-/// A call that finds the record full fails.
+/// A device in memory, with a record of its calls. A write reads immediately, and is pending until the next sync. A
+/// call that finds the record full fails.
 #[derive(Drop)]
 pub struct MemDisk {
     bytes: Vec<u8>,
@@ -31,13 +31,13 @@ pub struct MemDisk {
 }
 
 impl MemDisk {
-    ghost use Rattle.alm_disk.specs.Memory.{calls_of, room_of, state_of};
+    ghost use Rattle.alm_disk.specs.Memory.{calls_of, record_room, state_of};
 
-    /// A device with these bytes, settled, and room for a record of so many calls; an error only for want of memory.
+    /// A device with these bytes, settled, and room for a record of `calls` calls; an error only if out of memory.
     pub fn new(alloc: Global, bytes: Vec<u8>, calls: usize) -> Result<Self, AllocError>
         ensures settled { IfOk result (λ disk. IsSettled (state_of disk) bytes.items) }
         ensures count { IfOk result (λ disk. ⟦<MemDisk as Disk>⟧.failures disk ≡ 0) }
-        ensures record { IfOk result (λ disk. (calls_of disk ≡ []) × (room_of disk ≡ calls)) }
+        ensures record { IfOk result (λ disk. (calls_of disk ≡ []) × (record_room disk ≡ calls)) }
     {
         let pending = vec![in alloc; false; bytes.len()]?;
         let record = Vec::with_capacity(alloc, calls)?;
@@ -51,11 +51,11 @@ impl MemDisk {
         })
     }
 
-    /// The same device after so many failures.
+    /// The same device after this number of failures.
     pub fn with_failures(mut self, failures: u64) -> Self
         ensures state { state_of result ≡ state_of self }
         ensures count { ⟦<MemDisk as Disk>⟧.failures result ≡ failures }
-        ensures record { (calls_of result ≡ calls_of self) × (room_of result ≡ room_of self) }
+        ensures record { (calls_of result ≡ calls_of self) × (record_room result ≡ record_room self) }
     {
         self.failures = failures;
         self
@@ -82,7 +82,7 @@ impl MemDisk {
         &self.calls
     }
 
-    /// Its bytes, when the device is no longer wanted.
+    /// Its bytes, if the device is no longer needed.
     pub fn into_bytes(self) -> Vec<u8>
         ensures { result.items ≡ (state_of self).bytes }
     {
@@ -90,7 +90,7 @@ impl MemDisk {
     }
 }
 
-// Notes a call where there is room.
+// Notes a call if there is room.
 fn note(calls: &mut Vec<Call>, call: Call)
     requires { length calls.old.items < vec_capacity calls.old }
     ensures noted { calls.new.items ≡ calls.old.items ++ call ∷ [] }
@@ -101,7 +101,7 @@ fn note(calls: &mut Vec<Call>, call: Call)
 
 impl Disk for MemDisk {
     ghost use Rattle.std.specs.Prelude.{length, refl};
-    ghost use Rattle.alm_disk.specs.Memory.{Serves, state_of};
+    ghost use Rattle.alm_disk.specs.Memory.{MemServes, state_of};
 
     ghost honest = { λ _. Unit {0} };
 
@@ -111,7 +111,7 @@ impl Disk for MemDisk {
 
     ghost failures = { λ d. d.failures };
 
-    ghost serves = { λ old call result new. Serves call result old new };
+    ghost serves = { λ old call result new. MemServes call result old new };
 
     ghost whole = { λ disk _. refl };
 
@@ -162,9 +162,9 @@ impl Disk for MemDisk {
 }
 
 impl Crashable for MemDisk {
-    ghost use Rattle.alm_disk.specs.Memory.{GivesUp, calls_of, room_of};
+    ghost use Rattle.alm_disk.specs.Memory.{GivesUp, calls_of, record_room};
 
-    ghost restarts = { λ old new. (calls_of new ≡ calls_of old) × (room_of new ≡ room_of old) };
+    ghost restarts = { λ old new. (calls_of new ≡ calls_of old) × (record_room new ≡ record_room old) };
 
     ghost gives_up = { λ old call new. GivesUp call old new };
 

@@ -18,7 +18,7 @@ pub struct OnceDisk<D> {
 }
 
 impl<D: Crashable> OnceDisk<D> {
-    /// The device whose call number `call` fails, where 1 is the first; with 0 none does.
+    /// The device whose call number `call` fails, counted from 1; with 0 no call fails.
     pub fn new(disk: D, call: u64) -> Self
         ensures disk { result.disk ≡ disk }
         ensures turn { result.turn ≡ call }

@@ -2,7 +2,7 @@
 
 use alm_disk::Chooser;
 
-/// Names at each place what stood there.
+/// Names at each place the byte that was there before, one of `bytes`.
 #[derive(Drop)]
 pub struct Stood<'a> {
     pub bytes: &'a [u8],

@@ -4,7 +4,7 @@ use alm_disk::Hold;
 use alm_types::Slot;
 use std::sync::atomic::{AtomicU64, Ordering};
 
-/// Lets each sync begin, or none, and counts how often it is asked, and told of slot 5.
+/// Lets each sync begin, or none, and counts how often it is asked, and informed of slot 5.
 #[derive(Drop)]
 pub struct Counted {
     begins: bool,
@@ -14,7 +14,7 @@ pub struct Counted {
 }
 
 impl Counted {
-    /// One that has counted nothing.
+    /// One with all counts 0.
     pub fn new(begins: bool) -> Self {
         Counted {
             begins,
@@ -25,7 +25,7 @@ impl Counted {
     }
 }
 
-/// One more, where it is the slot that is counted.
+/// One more, if it is the slot that is counted.
 fn count(slot: Slot, times: &AtomicU64) {
     if slot.number() == 5 {
         times.fetch_add(1, Ordering::SeqCst);

@@ -1,7 +1,7 @@
-//! Tests of the devices in memory: what no clause says, and each call once with ample memory.
+//! Tests of the devices in memory: what the contracts don't cover, and each call once with ample memory.
 //!
-//! One run of ten calls on a device of eight bytes serves them all. [`run`] has its calls, and by hand what reads,
-//! what stood at the last sync and what is pending after each.
+//! One run of ten calls on a device of eight bytes serves them all. [`run`] has its calls, and, worked out by hand for
+//! each, what reads, what was there at the last sync and what is pending after it.
 #![tactic(auto)]
 
 #[cfg(test)]

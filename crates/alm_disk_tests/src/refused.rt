@@ -1,5 +1,5 @@
-//! Want of memory: run with each allocation refused in turn (`rt try --test --fail-alloc N`), the test of this module passes. One is refused at
-//! most, so what was refused is made the second time: a maker that always gives up doesn't pass.
+//! Out of memory: run with each allocation refused in turn (`rt try --test --fail-alloc N`), the test of this module passes. One
+//! is refused at most, so what was refused is made the second time: a maker that always gives up doesn't pass.
 
 use alm_disk::MemDisk;
 use std::alloc::{AllocError, Global};
@@ -8,7 +8,7 @@ use std::test::Fail;
 /// More bytes than two of the largest images take.
 pub const LARGE: usize = 8 * 1024 * 1024;
 
-/// A device of so many bytes, with room for a record of a million calls.
+/// A device of [`LARGE`] bytes, with room for a record of a million calls.
 pub fn large(alloc: Global) -> Result<MemDisk, AllocError> {
     MemDisk::new(alloc, vec![in alloc; 7; LARGE]?, 1_000_000)
 }

@@ -13,7 +13,7 @@ pub enum Step {
     Sync,
 }
 
-/// A call, and after it: what reads, what stood at the last sync, and which places are pending.
+/// A call, and after it: what reads, what was there at the last sync, and which places are pending.
 #[derive(Clone, Copy)]
 pub struct Row {
     pub step: Step,
@@ -56,12 +56,12 @@ pub fn row_of(number: u64) -> Row {
     }
 }
 
-/// A new device in memory that reads as at first, with room for so many calls.
+/// A new device in memory that reads as at first, with room for `calls` calls.
 pub fn device(alloc: Global, calls: usize) -> Result<MemDisk, AllocError> {
     MemDisk::new(alloc, Vec::from_slice(alloc, START)?, calls)
 }
 
-// Whether this range lies inside the device.
+// Whether this range is inside the device.
 fn fits<D: Disk>(disk: &D, at: u64, length: usize) -> bool
     ensures { IsTrue result → at + length ≤ D.size disk.now }
 {

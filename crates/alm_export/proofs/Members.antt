@@ -1,4 +1,4 @@
--- Entries of a map beside the members that they stand for.
+-- Entries of a map, and the members that they are.
 use Rattle.std.proofs.Common.{◌≡◌, ◌∙◌, ℕ, zero, suc, ◌+◌, List, [], ◌∷◌, take, slice_get, Some, String, Global, Ordering, Less, Equal, Greater, string_bytes, string_cmp, refl, ap, arith}
 use Rattle.std.proofs.lemmas.Option.{same_Some}
 use Rattle.std.specs.Ordering.{match_ordering}

@@ -6,8 +6,8 @@ use Rattle.alm_types.specs.Counts.{one_more}
 use Rattle.alm_model.specs.Plant.{Condensed}
 use Rattle.alm_lines.specs.Written.{IsCutShort}
 use Rattle.alm_table.specs.Faults.{ReadsAs, device_table}
-use Rattle.alm_service.specs.declared.show_fault.ShowFault.{ShowFault}
-use Rattle.alm_service.specs.declared.show_fault.ShowFault.TheVariants.{Write, OutOfMemory}
+use Rattle.alm_export.specs.declared.show_fault.ShowFault.{ShowFault}
+use Rattle.alm_export.specs.declared.show_fault.ShowFault.TheVariants.{Write, OutOfMemory}
 use Rattle.alm_export.specs.Tree.{named_size}
 
 -- the table of a plant, with the priorities and setpoints in force
@@ -18,7 +18,7 @@ table_in q = record { alarms = q.panel.attrs; areas = length q.floods }
 abbrev pub IsTableText : ℕ → Condensed → List ℕ → Type 0
 IsTableText size q text = ReadsAs text (Ok (device_table (named_size size) (table_in q)))
 
--- such a text was written, or a front of one where the writer failed, or nothing for want of memory
+-- such a text was written, or a prefix of one if the writer failed, or nothing if out of memory
 abbrev pub Exports : ℕ → Condensed → Option (List ℕ) → Option (List ℕ) → Result ⊤ ShowFault → Type 0
 Exports size q old new (Ok _) = (text : List ℕ) × IsTableText size q text × Appends old new text
 Exports size q old new (Err Write) = (text : List ℕ) × IsTableText size q text × IsCutShort old new text

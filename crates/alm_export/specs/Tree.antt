@@ -1,4 +1,4 @@
--- What a table file says of a plant's table, as the tree that TOML reads in it. Keys stand in the order of their bytes.
+-- What a table file says of a plant's table, as the tree that TOML reads in it. Keys are in the order of their bytes.
 use Rattle.std.specs.Prelude.{ℕ, List, map, codes, pos, min, max}
 use Rattle.std.specs.Ordering.{nat_cmp, match_ordering}
 use Rattle.std.specs.Cmp.Lexicographic.{slice_cmp}

@@ -5,10 +5,10 @@ ghost use Rattle.alm_export.specs.Tree.{named_size};
 ghost use Rattle.alm_export.specs.Exported.{IsTableText, Exports, CountsExport};
 
 use crate::plant_tree::plant_table;
+use crate::show_fault::ShowFault;
 use alm_desk::CountedWriter;
 use alm_lines::Part;
 use alm_model::Alarms;
-use alm_service::ShowFault;
 use std::alloc::{AllocError, Global};
 use std::io::Write;
 

@@ -1,4 +1,4 @@
-//! What brings a file to the disk, and what lets the kernel forget what it keeps of it.
+//! What writes a file to the disk, and what makes the kernel drop its cache of it.
 
 use crate::file_fault::FileFault;
 use std::fs::{self, File, Files};
@@ -7,16 +7,17 @@ use std::os::fd::AsRawFd;
 use std::os::unix::fs::FileExt;
 use std::path::Path;
 
-/// How many bytes are read and written at once.
+/// How many bytes are read and written in one call.
 const PIECE: usize = 16_384;
 
-/// Lets the kernel forget what it keeps of a file, but for what is still to be written: what is read next comes from the disk.
-/// After a failed sync the kernel keeps bytes that the disk never took, returns them to readers, and reports the next sync as well done.
+/// Makes the kernel drop its cache of a file, except for what isn't written yet: what is read next comes from the disk. After a
+/// failed sync the kernel keeps bytes that the disk never took, returns them to readers, and reports the next sync as successful.
 pub fn forget(file: &File) {
     let _advised = libc::posix_fadvise(file.as_raw_fd(), 0, 0, libc::POSIX_FADV_DONTNEED);
 }
 
-/// Whether there is no sync to be had: a file system that is read-only has nothing unwritten, and one of the kernel's own no disk.
+/// Whether the file can't be synced at all: a read-only file system has no unwritten bytes, and one of the kernel's own has no
+/// disk.
 pub fn has_no_sync(error: &io::Error) -> bool {
     matches!(
         error.kind(),
@@ -24,7 +25,7 @@ pub fn has_no_sync(error: &io::Error) -> bool {
     )
 }
 
-/// Waits until the folder that a path leads through last is on the disk.
+/// Waits until the folder that contains a path's last name is on the disk.
 fn sync_folder<R: Files<File = File>>(rt: &R, path: &str) -> Result<(), FileFault> {
     let folder = match Path::new(path).parent() {
         Some(folder) if !folder.as_str().is_empty() => folder,
@@ -36,8 +37,8 @@ fn sync_folder<R: Files<File = File>>(rt: &R, path: &str) -> Result<(), FileFaul
     }
 }
 
-/// Waits until a file is on the disk, with its name: a rename reaches the disk with its folder alone. Of a symbolic link both are, its own
-/// name and that of the file that it leads to.
+/// Waits until a file is on the disk, with its name: a rename reaches the disk only with its folder. For a symbolic link both
+/// names are written, its own and that of the file that it leads to.
 pub fn sync_with_name<R: Files<File = File> + AllocGlobal>(
     rt: &R,
     file: &File,
@@ -52,8 +53,8 @@ pub fn sync_with_name<R: Files<File = File> + AllocGlobal>(
     Ok(())
 }
 
-/// Writes the bytes of a file up to a place anew, as they read: so each of them has its place on the disk, and a later write can't meet
-/// a full one.
+/// Rewrites the bytes of a file up to a place, as they read. So each of them has its place on the disk, and a later write can't
+/// meet a full one.
 pub fn take_room(file: &File, used: u64) -> io::Result<()> {
     let mut piece = [0u8; PIECE];
     for at in (0..used).step_by(PIECE) {

@@ -15,11 +15,11 @@ use std::fs::{self, File, Files, OpenOptions};
 use std::io::{self, ErrorKind};
 use std::os::unix::fs::{FileExt, MetadataExt, OpenOptionsExt};
 
-/// The mode of a new device: its owner alone reads and writes it.
+/// The mode of a new device: only its owner reads and writes it.
 const MODE: u32 = 0o600;
 
-/// A regular file, whether it is read alone, its size in bytes when it was opened, and how often a call of it failed. Its descriptor is
-/// none of a standard stream's.
+/// A regular file, whether it is read-only, its size in bytes when it was opened, and how often a call of it failed. Its
+/// descriptor isn't one of the standard streams'.
 #[derive(Drop)]
 pub struct FileDisk {
     pub(crate) file: File,
@@ -30,7 +30,7 @@ pub struct FileDisk {
     ghost counted: { failures ≤ last_count },
 }
 
-/// Refuses what is there and no regular file, before it is opened: a pipe would be waited for.
+/// Refuses anything but a regular file before it is opened: opening a pipe would wait.
 fn refuse_special<R: Files<File = File>>(rt: &R, path: &str) -> io::Result<()> {
     match fs::metadata(rt, path) {
         Ok(found) if !found.is_file() => Err(no_regular_file()),
@@ -44,7 +44,7 @@ fn no_regular_file() -> io::Error {
     io::Error::new(ErrorKind::InvalidInput, "no regular file")
 }
 
-/// Opens a regular file that is none of the standard streams'.
+/// Opens a regular file that isn't one of the standard streams'.
 fn open_apart<R: Files<File = File>>(
     rt: &R,
     options: &OpenOptions,
@@ -66,8 +66,8 @@ fn open_apart<R: Files<File = File>>(
 }
 
 impl FileDisk {
-    /// The file at a path, as long as it is, once its bytes and its name are on the disk. It is refused where there is none, where
-    /// another process has it open, and where the process may not write to its end.
+    /// The existing file at a path, with its present length, once its bytes and its name are on the disk. It is refused if there
+    /// is none, if another process has it open, or if the process may not write to its end.
     pub fn open<R: Files<File = File> + AllocGlobal>(
         rt: &R,
         path: &str,
@@ -88,8 +88,8 @@ impl FileDisk {
         })
     }
 
-    /// The same file to be read alone: each write to it fails. It is refused where there is none, or another process has it open to
-    /// write. Several may read it at once.
+    /// The same file, read-only: each write to it fails. It is refused if there is none, or another process has it open to write.
+    /// Several processes may read it simultaneously.
     pub fn open_to_read<R: Files<File = File>>(rt: &R, path: &str) -> Result<FileDisk, FileFault>
         ensures count { IfOk result (λ d. ⟦<FileDisk as Disk>⟧.failures d ≡ 0) }
     {
@@ -105,8 +105,8 @@ impl FileDisk {
         })
     }
 
-    /// The file at a path, made where there is none, for its owner alone, and cut or lengthened with zeros to a size, with room on the
-    /// disk for the bytes that are used. Where there is no such room it is refused, and has its new size.
+    /// The file at a path, created if there is none, with access only for its owner, and cut or lengthened with zeros to a size.
+    /// The bytes that are used get their room on the disk. If there is no such room it is refused, and has its new size.
     pub fn make<R: Files<File = File> + AllocGlobal>(
         rt: &R,
         path: &str,
@@ -144,7 +144,7 @@ impl FileDisk {
         Ok(FileLock { file })
     }
 
-    /// Fails where no path names the file any more, or its size is another than it was.
+    /// Fails if no path names the file any more, or its size has changed.
     fn look(&self) -> io::Result<()> {
         let found = self.file.metadata()?;
         if found.nlink() > 0 && found.len() == self.size {
@@ -154,7 +154,7 @@ impl FileDisk {
         }
     }
 
-    /// Waits until the file's bytes are on the disk, and looks at the file. Where that fails nothing is read from then on but what the disk
+    /// Waits until the file's bytes are on the disk, and checks the file. If that fails, later reads return only what the disk
     /// has.
     fn sync_and_look(&self) -> io::Result<()> {
         match self.file.sync_data() {
@@ -185,7 +185,7 @@ impl FileDisk {
 impl Disk for FileDisk {
     ghost use Rattle.std.specs.Prelude.{[], false, ⊤};
 
-    // No proof says what a file does.
+    // Not covered by a proof: what a file does.
     ghost honest = { λ _. ⊥ };
 
     ghost state = { λ _. record { bytes = []; pending = λ _. false; faulted = false } };

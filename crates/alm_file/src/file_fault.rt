@@ -2,7 +2,7 @@
 
 use std::io;
 
-/// Why a device's file isn't opened. Its bytes are as they were; one that is made may have its new size by then.
+/// Why a device's file isn't opened. Its bytes are unchanged; one that is created may have its new size already.
 #[derive(Debug, thiserror::Error, Drop)]
 pub enum FileFault {
     /// Standard input, output or error is this very file.
@@ -11,7 +11,7 @@ pub enum FileFault {
     /// A sync of its bytes or of its name failed.
     #[error("{0}")]
     Sync(io::Error),
-    /// There is none, it is no regular file, or a call of the system was refused.
+    /// There is none, it isn't a regular file, or a system call failed.
     #[error("{0}")]
     Io(io::Error),
 }

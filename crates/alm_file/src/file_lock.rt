@@ -2,14 +2,14 @@
 
 use std::fs::File;
 
-/// The lock on a device's file. It ends with the device, or before that, once it is released.
+/// The lock on a device's file. It ends with the device, or earlier if it is released.
 #[derive(Drop)]
 pub struct FileLock {
     pub(crate) file: File,
 }
 
 impl FileLock {
-    /// Lets other processes have the file. Where the system refuses that, the lock ends with the process.
+    /// Lets other processes have the file. If the system refuses that, the lock ends with the process.
     pub fn release(self) {
         let _ = self.file.unlock();
     }

@@ -4,12 +4,12 @@ use std::fs::{self, File, Files};
 use std::io::{self, ErrorKind};
 use std::os::unix::fs::MetadataExt;
 
-/// The error of a file that is no longer at its place, or has another size.
+/// The error of a file that is no longer at its path, or has another size.
 pub fn replaced() -> io::Error {
     io::Error::new(ErrorKind::NotFound, "another file")
 }
 
-/// The path that a file was opened by, and what tells that file from all others: its file system, and its number there.
+/// The path that a file was opened by, and what identifies that file: its file system, and its number there.
 #[derive(Drop)]
 pub struct Place<'r, R: Files<File = File>> {
     rt: &'r R,

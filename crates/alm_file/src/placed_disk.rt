@@ -1,4 +1,4 @@
-//! A file as a device that has to stay at its path.
+//! A file as a device that must stay at its path.
 
 ghost use Rattle.std.specs.Prelude.{◌≡◌, IfOk};
 
@@ -8,8 +8,8 @@ use crate::place::Place;
 use alm_disk::{Disk, DiskFault};
 use std::fs::{File, Files};
 
-/// A file as a device, and the path that it was opened by. A sync fails where the path names another file by then, or none: so nothing is
-/// answered into a file that whoever opens the path next doesn't find.
+/// A file as a device, and the path that it was opened by. A sync fails if the path names another file, or none: so no reply is
+/// sent for a file that the next process to open the path wouldn't find.
 #[derive(Drop)]
 pub struct PlacedDisk<'r, R: Files<File = File>> {
     disk: FileDisk,
@@ -30,7 +30,7 @@ impl<'r, R: Files<File = File> + AllocGlobal> PlacedDisk<'r, R> {
 impl<'r, R: Files<File = File>> Disk for PlacedDisk<'r, R> {
     ghost use Rattle.std.specs.Prelude.{[], false, ⊤};
 
-    // No proof says what a file does.
+    // Not covered by a proof: what a file does.
     ghost honest = { λ _. ⊥ };
 
     ghost state = { λ _. record { bytes = []; pending = λ _. false; faulted = false } };

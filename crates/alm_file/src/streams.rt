@@ -16,16 +16,16 @@ const ERRORS: RawFd = 2;
 /// The files of standard input, output and error, by their descriptors.
 const STREAMS: [&str; 3] = ["/proc/self/fd/0", "/proc/self/fd/1", "/proc/self/fd/2"];
 
-/// Whether a file's descriptor is none of a standard stream's.
+/// Whether a file's descriptor isn't one of the standard streams'.
 pub fn is_apart(file: &File) -> bool
     ensures { result ≡ true → pos 2 <ℤ file_raw_fd file.now }
 {
     file.as_raw_fd() > ERRORS
 }
 
-/// Opens the null device at each descriptor of a standard stream that is closed, to the end of the process: a new file gets the lowest
-/// one that is free, so none gets a stream's from then on. It is opened to be read: standard input then ends at once, and what is
-/// printed to the others fails. An error of the null device is handed on.
+/// Opens the null device at each descriptor of a standard stream that is closed, to the end of the process. A new file gets the
+/// lowest free descriptor, so from then on none gets a stream's. It is opened for reading: standard input then ends immediately,
+/// and what is printed to the others fails. An error of the null device is returned.
 pub fn fill_streams<R: Files<File = File>>(rt: &R) -> io::Result<()> {
     for _ in STREAMS {
         let null = File::open(rt, "/dev/null")?;
@@ -37,20 +37,21 @@ pub fn fill_streams<R: Files<File = File>>(rt: &R) -> io::Result<()> {
     Ok(())
 }
 
-/// Closes standard error for good: what is printed there fails.
+/// Closes standard error permanently: what is printed there fails.
 fn close_errors<R: Files<File = File>>(rt: &R) -> io::Result<()> {
-    // SAFETY: it is open, since the system has told of its file, and whoever prints there names it by its number.
+    // SAFETY: it is open, since the system has reported its file, and code that prints there names it by its number.
     drop(unsafe { OwnedFd::from_raw_fd(ERRORS) });
     fill_streams(rt)
 }
 
-/// Whether a standard stream is this file. An error comes where the stream is closed, or the system doesn't tell.
+/// Whether a standard stream is this file. An error is returned if the stream is closed, or the system can't say.
 fn is_stream<R: Files<File = File>>(rt: &R, stream: &str, file: &Metadata) -> io::Result<bool> {
     let stream = fs::metadata(rt, stream)?;
     Ok(stream.dev() == file.dev() && stream.ino() == file.ino())
 }
 
-/// Refuses a file that is a standard stream's. Where standard error is the one, it is closed, since the line of a fault would go there.
+/// Refuses a file that is a standard stream's. If it is standard error's, that is closed, since the line of a fault would be
+/// written into the file.
 pub fn refuse_streams<R: Files<File = File>>(rt: &R, file: &Metadata) -> Result<(), FileFault> {
     let [input, output, errors] = STREAMS;
     let is_errors = is_stream(rt, errors, file)?;

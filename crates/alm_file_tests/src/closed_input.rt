@@ -6,7 +6,7 @@ use os::FromRawFd;
 use std::io::Read;
 use std::os::fd::OwnedFd;
 
-/// Where the device is made.
+/// The path of the device.
 const PATH: &str = "closed_input.device";
 
 /// How many bytes it has.
@@ -22,15 +22,15 @@ fn opens(rt: &HostRuntime) -> (bool, bool) {
 /// A folder, a system's device and the program's own streams, which are no devices.
 const NO_DEVICES: [&str; 4] = [".", "/dev/null", "/dev/stdin", "/proc/self/fd/1"];
 
-/// What is no regular file is refused. So is the device where it would be standard input; once the null device is there it is
-/// opened, and standard input ends at once.
+/// Anything but a regular file is refused. So is the device if it would be standard input. With the null device there it is
+/// opened, and standard input ends immediately.
 #[test]
 fn no_device_becomes_standard_input(rt: HostRuntime) -> Result<()> {
     for path in NO_DEVICES {
         assert!(rt; FileDisk::open(&rt, path).is_err(), "{path}");
     }
     drop(FileDisk::make(&rt, PATH, SIZE, SIZE)?);
-    // SAFETY: nobody else closes standard input, and nothing reads it before it is open again.
+    // SAFETY: no other code closes standard input, and none reads it before it is open again.
     drop(unsafe { OwnedFd::from_raw_fd(0) });
     assert_eq!(rt; opens(&rt), (false, false));
     fill_streams(&rt)?;

@@ -1,4 +1,4 @@
-//! A device's file: beside the standard streams in a process whose standard input is closed, taken away, and locked.
+//! A device's file: with the standard streams in a process whose standard input is closed, taken away, and locked.
 #![tactic(auto)]
 
 #[cfg(test)]

@@ -31,7 +31,7 @@ fn a_sync_asks_for_the_file_at_its_path(rt: HostRuntime) -> Result<()> {
     Ok(())
 }
 
-/// A sync fails once the file has another size, or no name.
+/// A sync fails after the file gets another size, or has no name any more.
 #[test]
 fn a_sync_asks_for_a_file_with_its_size_and_a_name(rt: HostRuntime) -> Result<()> {
     make(&rt, "sized.device")?;
@@ -61,7 +61,7 @@ fn what_is_written_is_read(rt: HostRuntime) -> Result<()> {
     Ok(())
 }
 
-/// Whoever reads a device keeps others from writing it, until its lock is released.
+/// A process that reads a device keeps others from writing it, until its lock is released.
 #[test]
 fn a_lock_is_released_before_its_device_ends(rt: HostRuntime) -> Result<()> {
     make(&rt, "locked.device")?;

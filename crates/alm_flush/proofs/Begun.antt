@@ -1,4 +1,4 @@
--- A device call behind a beginning, which leaves the device alone.
+-- A device call after a beginning, which leaves the device alone.
 use Rattle.std.proofs.Common.{◌≡◌, ◌≢◌, ◌⊎◌, ◌↔◌, ◌<◌, ◌≤◌, ◌∙◌, List, length, subst}
 use Rattle.alm_types.specs.declared.action.Action.{Action}
 use Rattle.alm_disk.specs.declared.disk.Disk

@@ -1,4 +1,4 @@
--- Laws of the held batch, and of the entries up to where a flusher stands.
+-- Laws of the held batch, and of the entries that a flusher has passed.
 use Rattle.std.proofs.Common.{◌≡◌, ◌+◌, ◌≤◌, ◌<◌, ℕ, zero, suc, List, [], ◌∷◌, ◌++◌, length, take, drop, slice_get, Option, Some, None, refl, sym, ◌∙◌, ap, arith, append_assoc, length-append, add-one}
 use Rattle.std.proofs.lemmas.List.{append-nil, take-append-drop}
 use Rattle.std.proofs.lemmas.Option.{same_Some}
@@ -19,19 +19,19 @@ use Rattle.alm_rings.proofs.Slots.{set_cases}
 use Rattle.std.specs.Prelude.{slice_set}
 use Rattle.alm_board.specs.Fronts.{IsFront}
 use Rattle.alm_board.proofs.FrontLaws.{front_self, front_of}
-use Rattle.alm_flush.specs.Replies.{Reply, replies_to, replies_in}
+use Rattle.alm_flush.specs.Replies.{SerialVerdict, replies_to, replies_in}
 use Rattle.alm_flush.specs.HeldBatch.{batches_of, waiting_of, ready_of, stored_of, published_entries, released_entries, next_entry_of, after_release, left_of}
 use Rattle.alm_flush.specs.declared.held.Held.{Held}
 use Rattle.alm_flush.specs.declared.held.Held.TheVariants.{Nothing, Fetched, Failed, Committed, Published}
 
--- the accepted actions of a batch behind those of the batches before it
+-- the accepted actions of a batch after those of the batches before it
 pub accepted_more : (before items : List Entry) → accepted_of (before ++ []) ++ accepted_of items ≡ accepted_of (before ++ items)
 accepted_more before items = ap (λ l. accepted_of l ++ accepted_of items) (append-nil before) ∙ sym (accepted_append before items)
 
 pub run_more : (base : Condensed) (before items : List Entry) → run (run base (accepted_of (before ++ []))) (accepted_of items) ≡ run base (accepted_of (before ++ items))
 run_more base before items = sym (run_append base (accepted_of (before ++ [])) (accepted_of items)) ∙ ap (run base) (accepted_more before items)
 
--- no item stands behind the last
+-- no item is after the last
 pub none_past : (xs : List Entry) (n : ℕ) → slice_get xs n ≡ None → length xs ≤ n
 none_past [] n is = omega arith
 none_past (x ∷ xs) zero is = absurd cc
@@ -131,7 +131,7 @@ ready_pass (Failed b) = refl
 ready_pass (Committed b) = refl
 ready_pass (Published b n) = refl
 
--- what is shown is a front of what is stored
+-- what is shown is a prefix of what is stored
 pub shown_front : (before : List Entry) (h : Held) → IsFront (accepted_of (before ++ published_entries h)) (accepted_of (before ++ stored_of h))
 shown_front before Nothing = front_self (accepted_of (before ++ []))
 shown_front before (Fetched b) = front_self (accepted_of (before ++ []))
@@ -170,7 +170,7 @@ nothing_free n none = omega (arith, none)
 
 pub replies_snoc : (xs : List Entry) (e : Entry) → replies_to (xs ++ e ∷ []) ≡ replies_to xs ++ record { serial = e.serial; verdict = e.verdict } ∷ []
 replies_snoc [] e = refl
-replies_snoc (x ∷ xs) e = ap (λ (l : List Reply). record { serial = x.serial; verdict = x.verdict } ∷ l) (replies_snoc xs e)
+replies_snoc (x ∷ xs) e = ap (λ (l : List SerialVerdict). record { serial = x.serial; verdict = x.verdict } ∷ l) (replies_snoc xs e)
 
 -- what is nothing begins with nothing, which begins everything
 pub front_nothing : (xs ys : List Action) → IsFront xs [] → IsFront xs ys
@@ -180,7 +180,7 @@ front_nothing (x ∷ xs) ys front = absurd cc
 module _ {T : Type 0} {g : Ghosts T} where
   pub replied_snoc : (rs : List (Receipt T g)) (r : Receipt T g) → replies_in (rs ++ r ∷ []) ≡ replies_in rs ++ record { serial = r.serial; verdict = r.verdict } ∷ []
   replied_snoc [] r = refl
-  replied_snoc (x ∷ rs) r = ap (λ (l : List Reply). record { serial = x.serial; verdict = x.verdict } ∷ l) (replied_snoc rs r)
+  replied_snoc (x ∷ rs) r = ap (λ (l : List SerialVerdict). record { serial = x.serial; verdict = x.verdict } ∷ l) (replied_snoc rs r)
 
   pub gave_at : (from to : Option (Outbox T g)) (o new : Outbox T g) (r : Receipt T g) → from ≡ Some o → to ≡ Some new → released_of new ≡ released_of o ++ r ∷ [] → released_in to ≡ released_in from ++ r ∷ []
   gave_at from to o new r here now gave = ap released_in now ∙ (gave ∙ ap (λ x. released_in x ++ r ∷ []) (sym here))
@@ -191,7 +191,7 @@ module _ {T : Type 0} {g : Ghosts T} where
       → ((s : ℕ) → replies_in (released_by s outboxes) ≡ replies_to (of_slot s es)) → (s : ℕ) → replies_in (released_by s (slice_set outboxes k new)) ≡ replies_to (of_slot s (es ++ e ∷ []))
   released_more outboxes k o new es e r apart at same slot gave serial verdict were s = elim (set_cases (λ (o : Outbox T g). o.slot) outboxes k o new apart at same s) [
     | inl h ↦ ap (λ x. replies_in (released_in x)) h.2 ∙ (ap replies_in gave ∙ (replied_snoc (released_of o) r
-        ∙ (ap (λ (l : List Reply). l ++ record { serial = r.serial; verdict = r.verdict } ∷ []) (sym (ap (λ x. replies_in (released_in x)) h.1) ∙ were s)
+        ∙ (ap (λ (l : List SerialVerdict). l ++ record { serial = r.serial; verdict = r.verdict } ∷ []) (sym (ap (λ x. replies_in (released_in x)) h.1) ∙ were s)
         ∙ (ap (λ (n : ℕ). replies_to (of_slot s es) ++ record { serial = n; verdict = r.verdict } ∷ []) serial
         ∙ (ap (λ v. replies_to (of_slot s es) ++ record { serial = e.serial; verdict = v } ∷ []) verdict
         ∙ (sym (replies_snoc (of_slot s es) e) ∙ ap replies_to (sym (of_slot_here s es e (sym slot ∙ sym h.0)))))))))

@@ -9,7 +9,7 @@ use Rattle.alm_store.specs.declared.phase.Phase.{Phase}
 use Rattle.alm_store.specs.declared.phase.Phase.TheVariants.{Idle, Committing, Copying, Paused, Stopped}
 use Rattle.alm_store.specs.declared.progress.Progress.{Progress}
 use Rattle.alm_store.specs.declared.progress.Progress.TheVariants.{More, Done, Failed}
-use Rattle.alm_store.specs.Advancing.{IsOpen}
+use Rattle.alm_store.specs.Advancing.{IsCheckpointing}
 use Rattle.alm_store.specs.Pacing.{IsJustOpened, Grows, SendsOnePiece, EndsCopy, PaceAfter}
 use Rattle.alm_flush.specs.Pacing.{IsNearPace}
 
@@ -102,15 +102,15 @@ commits l u u' w w' p p' (Some g) (Some h) is other more none goes keeps =
       whole = omega (arith, goes.0, goes.3, ahead);
     }
 
--- a call of a work that goes on
-pub goes_on : (result : Progress) (l l' u u' w w' : ℕ) (p p' : Phase) (o o' : Option Going) → 452651 ≤ l → l' ≡ l → result ≢ Failed → (result ≡ Done → IsOpen p) → (p' ≡ Committing → p ≡ Committing) → (p ≢ Paused → w' ≤ w)
+-- a call of a work that continues
+pub goes_on : (result : Progress) (l l' u u' w w' : ℕ) (p p' : Phase) (o o' : Option Going) → 452651 ≤ l → l' ≡ l → result ≢ Failed → (result ≡ Done → IsCheckpointing p) → (p' ≡ Committing → p ≡ Committing) → (p ≢ Paused → w' ≤ w)
     → PaceAfter result p u u' w' o o' → IsInPace l p u w o → IsInPace l' p' u' w' o'
 goes_on result l l' u u' w w' p p' o o' long same not done to less goes keeps = subst (λ (x : ℕ). IsInPace x p' u' w' o') (sym same) (by_case result p not done to less goes keeps)
   where
     ahead : (p : Phase) → (p' ≡ Committing → p ≡ Committing) → w' ≤ w → IsPieceAhead p' w' → IsPieceAhead p w
     ahead p to less a = ⊎_elim (λ e. inl (to e)) (λ x. inr (omega (arith, x, less))) a
 
-    by_case : (result : Progress) (p : Phase) → result ≢ Failed → (result ≡ Done → IsOpen p) → (p' ≡ Committing → p ≡ Committing) → (p ≢ Paused → w' ≤ w) → PaceAfter result p u u' w' o o' → IsInPace l p u w o → IsInPace l p' u' w' o'
+    by_case : (result : Progress) (p : Phase) → result ≢ Failed → (result ≡ Done → IsCheckpointing p) → (p' ≡ Committing → p ≡ Committing) → (p ≢ Paused → w' ≤ w) → PaceAfter result p u u' w' o o' → IsInPace l p u w o → IsInPace l p' u' w' o'
     by_case Failed p not done to less goes keeps = absurd (not refl)
     by_case More Paused not done to less goes keeps = sends l u u' w w' Paused p' o o' (λ e. absurd (cc (to e))) goes.0 goes.1 keeps
     by_case More Idle not done to less goes keeps = stays l u u' w w' Idle p' o o' goes (ahead Idle to (less (λ e. absurd cc))) keeps
@@ -129,14 +129,14 @@ commit_ends l l' u u' w w' p p' o o' same is other goes keeps =
     let here : PaceAfter Done Committing u u' w' o o' = subst (λ (x : Phase). PaceAfter Done x u u' w' o o') is goes in
     subst (λ (x : ℕ). IsNearPace x p' u' w' o') (sym same) (commits l u u' w w' p p' o o' is other here.0 here.1 here.2 keeps)
 
--- ---- behind a commit
+-- ---- after a commit
 
 -- without one
 pub near : (l u w : ℕ) (p : Phase) (o : Option Going) → IsInPace l p u w o → IsNearPace l p u w o
 near l u w p None keeps = inl keeps
 near l u w p (Some g) keeps = keeps
 
--- an open checkpoint goes on
+-- an open checkpoint continues
 pub keeps_open : (l u w : ℕ) (p : Phase) (o : Option Going) → IsSome o → IsNearPace l p u w o → IsInPace l p u w o
 keeps_open l u w p None is near = absurd cc
 keeps_open l u w p (Some g) is near = near

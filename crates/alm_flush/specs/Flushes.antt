@@ -15,7 +15,7 @@ use Rattle.alm_rings.specs.declared.fetch_ends.FetchEnds.{FetchEnds}
 use Rattle.alm_rings.specs.Batches.{fetched_of, coming_in}
 use Rattle.alm_store.specs.declared.phase.Phase.{Phase}
 use Rattle.alm_store.specs.declared.phase.Phase.TheVariants.{Idle, Stopped}
-use Rattle.alm_store.specs.Advancing.{IsOpen}
+use Rattle.alm_store.specs.Advancing.{IsCheckpointing}
 use Rattle.alm_flush.specs.HeldBatch.{next_entry_of, after_release, left_of}
 use Rattle.alm_flush.specs.declared.advance.Advance.{Advance}
 use Rattle.alm_flush.specs.declared.advance.Advance.TheVariants as A
@@ -39,8 +39,8 @@ FetchAnswers Got old new from to = (old ≡ Nothing) × Gets new from to
 FetchAnswers Empty old new from to = (old ≡ Nothing) × (new ≡ Nothing) × (fetched_of to ≡ fetched_of from) × (coming_in to ≡ coming_in from) × ¬ (0 < length (coming_in from))
 FetchAnswers F.TheVariants.Held old new from to = (old ≢ Nothing) × (new ≡ old) × (to ≡ from)
 
--- where the store was in this phase: once a commit has failed, it fails for good, and it fails at first only with actions or where the store
--- has stopped. Without a batch to commit an open checkpoint goes on
+-- for a store that was in this phase: after a commit has failed, it fails permanently, and it fails at first only with actions or
+-- if the store has stopped. Without a batch to commit an open checkpoint continues
 abbrev pub AdvanceAnswers : Advance → Phase → Held → Held → Type 0
 AdvanceAnswers A.Committed p (Fetched b) new = (new ≡ Committed b) × (p ≢ Stopped)
 AdvanceAnswers A.More p (Fetched b) new = (new ≡ Fetched b) × (p ≢ Stopped) × (0 < length (accepted_of b.entries))
@@ -48,7 +48,7 @@ AdvanceAnswers A.Failed p (Fetched b) new = (new ≡ Failed b) × (p ≢ Stopped
 AdvanceAnswers A.Nothing p (Fetched b) new = ⊥
 AdvanceAnswers A.Failed p (Failed b) new = new ≡ Failed b
 AdvanceAnswers answer p (Failed b) new = ⊥
-AdvanceAnswers A.More p old new = (new ≡ old) × IsOpen p
+AdvanceAnswers A.More p old new = (new ≡ old) × IsCheckpointing p
 AdvanceAnswers A.Failed p old new = (new ≡ old) × (p ≢ Idle)
 AdvanceAnswers A.Nothing p old new = (new ≡ old) × (p ≡ Idle)
 AdvanceAnswers A.Committed p old new = ⊥
@@ -71,7 +71,7 @@ IsFree (Fetched b) = ⊥
 IsFree (Failed b) = ⊥
 IsFree held = Unit {0}
 
--- its commit was given up
+-- its commit has failed permanently
 abbrev pub IsGivenUp : Held → Type 0
 IsGivenUp (Failed b) = Unit {0}
 IsGivenUp held = ⊥
@@ -87,7 +87,8 @@ pub record GivesBack (old new : Held) (given given' : List Judged) : Type 0 wher
   pub more : length given' ≡ length given + 1
 
 module _ {T : Type 0} {g : Ghosts T} where
-  -- the next verdict is released to its slot, with the published list as told; the stored and the published list hold its number
+  -- the next verdict is released to its slot, and the receipt reports the published list; the stored and the published list hold
+  -- its number
   pub record Releases (slot : ℕ) (old new : Held) (from to : List (Outbox T g)) (base stored : Condensed) (published : List Action) : Type 0 where
     pub entry : Entry
     pub of : entry.slot ≡ slot

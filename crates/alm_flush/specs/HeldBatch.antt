@@ -14,23 +14,23 @@ batches_of (Failed b) = b ∷ []
 batches_of (Committed b) = b ∷ []
 batches_of (Published b n) = b ∷ []
 
--- its entries, where its commit isn't done
+-- its entries, if its commit isn't done
 abbrev pub waiting_of : Held → List Entry
 waiting_of (Fetched b) = b.entries
 waiting_of (Failed b) = b.entries
 waiting_of held = []
 
--- the actions whose commit goes on
+-- the actions whose commit continues
 abbrev pub to_commit : Held → List Action
 to_commit (Fetched b) = accepted_of b.entries
 to_commit held = []
 
--- where it is done, and they are not published
+-- if it is done, and they are not published
 abbrev pub ready_of : Held → List Entry
 ready_of (Committed b) = b.entries
 ready_of held = []
 
--- where it is done
+-- if it is done
 abbrev pub stored_of : Held → List Entry
 stored_of Nothing = []
 stored_of (Fetched b) = []
@@ -38,7 +38,7 @@ stored_of (Failed b) = []
 stored_of (Committed b) = b.entries
 stored_of (Published b n) = b.entries
 
--- where they are published
+-- if they are published
 abbrev pub published_entries : Held → List Entry
 published_entries Nothing = []
 published_entries (Fetched b) = []
@@ -66,7 +66,7 @@ abbrev pub after_release : Held → Held
 after_release (Published b n) = Published b (n + 1)
 after_release held = held
 
--- the accepted actions behind the next one
+-- the accepted actions after the next one
 abbrev pub left_of : Held → List Action
 left_of (Published b n) = accepted_of (drop (suc n) b.entries)
 left_of held = []

@@ -1,11 +1,12 @@
--- What a step of a flusher makes of its store: of the device, of the batch under way, in which order, at which pace, and why it fails.
+-- What a step of a flusher makes of its store: of the device, of the batch under way, in which order, at which pace,
+-- and why it fails.
 use Rattle.std.specs.Prelude.{◌≡◌, ◌≢◌, ◌↔◌, ◌⊎◌, ◌*◌, ◌<◌, ◌≤◌, ℕ, List, [], length, None, true}
 use Rattle.alm_types.specs.declared.action.Action.{Action}
 use Rattle.alm_disk.specs.Failures.{HasFailed}
 use Rattle.alm_disk.specs.declared.disk.Disk
 use Rattle.alm_model.specs.Rules.{admits_all}
 use Rattle.alm_model.specs.Step.{run}
-use Rattle.alm_store.specs.Advancing.{IsCalls, IsOpen}
+use Rattle.alm_store.specs.Advancing.{IsCalls, IsCheckpointing}
 use Rattle.alm_store.specs.Calls.{CallDone, CallFailed, IsCall}
 use Rattle.alm_store.specs.Pace.{least_segment, most}
 use Rattle.alm_store.specs.Pacing.{KeepsPace, SamePace}
@@ -26,20 +27,20 @@ pub record CommitsOnly (actions : List Action) (s : StoreState) : Type 0 where
 abbrev pub IsEither : List Action → StoreState → Type 0
 IsEither actions s = ∥ (s.next ≡ s.stored) ⊎ (s.next ≡ run s.stored actions) ∥₁
 
--- the batch is stored just where its commit is done
+-- the batch is stored exactly if its commit is done
 pub record StoresBatch (result : Advance) (actions : List Action) (old new : StoreState) : Type 0 where
   pub answer : Advances result old.phase new.phase old.stored new.stored actions
   pub going : result ≢ Failed → new.phase ≢ Stopped
   pub passed : result ≡ Committed → admits_all old.stored actions ≡ true
   pub either : result ≢ Committed → IsEither actions new
 
--- a call leaves a commit a commit until it is done
+-- a commit stays under way until it is done
 pub record KeepsPhase (result : Advance) (old new : StoreState) : Type 0 where
   pub more : old.phase ≡ Committing → result ≡ More → new.phase ≡ Committing
-  pub copies : IsOpen old.phase → new.phase ≢ Committing
+  pub copies : IsCheckpointing old.phase → new.phase ≢ Committing
   pub commits : result ≡ Committed → old.phase ≡ Committing
 
--- what was begun where nothing was under way: a commit, which leaves use and open checkpoint, or a checkpoint
+-- what was begun if no work was under way: a commit, which leaves use and open checkpoint, or a checkpoint
 pub record StartsInPace (takes : Type 0) (old new : StoreState) : Type 0 where
   pub pace : takes → SamePace old new
   pub alone : new.phase ≡ Committing → new.going ≡ old.going
@@ -54,7 +55,7 @@ module _ {S D : Type 0} (g : Ghosts S D) where
     pub written : (g.state new).written ≡ (g.state old).written
     pub segment : (g.state new).segment ≡ (g.state old).segment
 
-  -- but for the count of a checkpoint's bytes it is as before
+  -- except for the count of a checkpoint's bytes it is as before
   pub record IsAsBefore (old new : S) : Type 0 where
     pub disk : g.disk new ≡ g.disk old
     pub state : g.state new ≡ record (g.state old) { written = (g.state new).written }
@@ -64,7 +65,7 @@ module _ {S D : Type 0} (g : Ghosts S D) where
   -- what is begun for a batch before the next call
   pub record BeginsInOrder (actions : List Action) (old new : S) : Type 0 where
     pub taken : (g.state old).phase ≡ Idle → g.takes old actions → (g.state new).phase ≡ Committing
-    pub takes : g.takes old actions → IsOpen (g.state new).phase → g.takes new actions
+    pub takes : g.takes old actions → IsCheckpointing (g.state new).phase → g.takes new actions
     pub between : (g.state old).phase ≡ Paused → (g.state new).phase ≡ Committing → 0 < (g.state old).written
     pub waits : g.takes old actions → (g.state new).phase ≡ Paused → (g.state old).written ≡ 0
 
@@ -74,17 +75,17 @@ module _ {S D : Type 0} (g : Ghosts S D) where
 
   -- pieces of a checkpoint and commits, one after the other
   pub record IsInOrder (result : Advance) (actions : List Action) (old new : S) : Type 0 where
-    -- a checkpoint only where the store doesn't take the batch
+    -- a checkpoint only if the store doesn't take the batch
     pub taken : (g.state old).phase ≡ Idle → g.takes old actions → result ≡ More → (g.state new).phase ≡ Committing
     -- a piece goes out before each commit within a checkpoint,
     pub between : (g.state old).phase ≡ Paused → (g.state new).phase ≡ Committing → 0 < (g.state old).written
     -- and no more than one while a batch waits that was taken as it was fetched
     pub waits : result ≡ More → g.takes old actions → 0 < length actions → (g.state old).written ≤ most → (g.state new).written ≤ most
     pub still : result ≡ More → g.takes old actions → 0 < length actions → (g.state new).phase ≢ Committing → g.takes new actions
-    -- of which the count isn't set back
+    -- and its count isn't reset
     pub counted : result ≡ More → 0 < length actions → (g.state old).written ≤ most → (g.state old).written ≤ (g.state new).written
 
-  -- the same between a commit's end and the checkpoint that is opened behind it
+  -- the same between a commit's end and the checkpoint that is opened after it
   pub record NearsPace (result : Advance) (old new : S) : Type 0 where
     pub segment : (g.state new).segment ≡ (g.state old).segment
     pub newest : g.newest old → g.newest new
@@ -92,9 +93,10 @@ module _ {S D : Type 0} (g : Ghosts S D) where
     pub near : result ≡ Committed → g.newest old → least_segment ≤ (g.state old).segment → KeepsPace (g.state old) → NearPace (g.state new)
     pub alone : result ≡ Committed → (g.state old).going ≡ None → (g.state new).going ≡ None
 
-  -- behind a commit a checkpoint is open where more than half of the segment is used, but for the last epoch, and none is opened where that isn't so
+  -- after a commit a checkpoint is open if more than half of the segment is used, except in the last epoch, and none is opened
+  -- otherwise
   pub record OpensBehind (result : Advance) (old new : S) : Type 0 where
-    pub opens : result ≡ Committed → ¬ (g.exhausted new) → (g.state new).segment < 2 * (g.state new).used → IsOpen (g.state new).phase
+    pub opens : result ≡ Committed → ¬ (g.exhausted new) → (g.state new).segment < 2 * (g.state new).used → IsCheckpointing (g.state new).phase
     pub only : result ≡ Committed → (g.state old).going ≡ None → 2 * (g.state new).used ≤ (g.state new).segment → (g.state new).going ≡ None
 
   -- the store keeps its pace, and so takes every batch, as long as epochs are left
@@ -111,8 +113,8 @@ module _ {S D : Type 0} (g : Ghosts S D) where
     -- at most one call of the device, whatever it does
     pub record CallsDevice (result : Advance) (actions : List Action) (old new : S) : Type 0 where
       pub honest : d.honest (g.disk old) ↔ d.honest (g.disk new)
-      -- one that was done where it goes on with a batch that has actions, or with a checkpoint; none for a batch without actions; and where
-      -- it fails one that failed, or none
+      -- the call was done if there is more to do for a batch that has actions, or for a checkpoint. There was no call for a batch
+      -- without actions. If the step fails, a call failed, or none was made
       pub done : 0 < length actions → result ≢ Failed → CallDone d.serves (g.disk old) (g.disk new)
       pub goes : result ≡ More → CallDone d.serves (g.disk old) (g.disk new)
       pub none : actions ≡ [] → result ≡ Committed → g.disk new ≡ g.disk old
@@ -125,7 +127,8 @@ module _ {S D : Type 0} (g : Ghosts S D) where
       pub one : d.honest (g.disk old) → 0 < length actions → result ≢ Failed → IsCall (d.state (g.disk old)) (d.state (g.disk new))
       pub more : d.honest (g.disk old) → result ≡ More → IsCall (d.state (g.disk old)) (d.state (g.disk new))
 
-    -- the batch is the next one, and its step failed: the device did where no checkpoint is to be begun, and else but for the last epoch
+    -- the batch is the next one, and its step failed: because of the device if no checkpoint is to begin, and otherwise too,
+    -- except in the last epoch
     pub record HasCauses (result : Advance) (actions : List Action) (is_next : Type 0) (old new : S) : Type 0 where
       pub sure : result ≡ Failed → IsSure (g.state old).phase (g.takes old actions) → is_next → HasFailed (d.failures (g.disk old)) (d.failures (g.disk new))
       pub cause : result ≡ Failed → (g.state old).phase ≢ Stopped → ¬ (g.exhausted old) → is_next → HasFailed (d.failures (g.disk old)) (d.failures (g.disk new))

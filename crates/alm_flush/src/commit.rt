@@ -5,7 +5,7 @@ ghost use Rattle.alm_disk.specs.Failures.{HasFailed};
 ghost use Rattle.alm_model.specs.Judging.{accepted_of};
 ghost use Rattle.alm_store.specs.Pace.{most, most_calls};
 ghost use Rattle.alm_types.specs.Sizes.{most_entries};
-ghost use Rattle.alm_store.specs.Advancing.{CommitIsNotBegun, IsOpen};
+ghost use Rattle.alm_store.specs.Advancing.{CommitIsNotBegun, IsCheckpointing};
 ghost use Rattle.alm_store.specs.Pacing.{KeepsPace, SamePace};
 ghost use Rattle.alm_flush.specs.Advances.{Behind, GoesOn, IsNextOne, IsSure};
 ghost use Rattle.alm_flush.specs.Pacing.{NearPace};
@@ -19,25 +19,26 @@ use alm_types::{Batch, Verdict};
 pub fn few(batch: &Batch)
     ensures { length (accepted_of batch.now.entries) ≤ most_entries }
 {
+    // for the proof: the contract of `entries` says that there are at most 256
     let _entries = batch.entries();
 }
 
-// Begins what comes first for this batch where nothing is under way: its commit, or a checkpoint where the batch isn't taken.
-// Whether that was begun.
+// Begins what comes first for this batch if no work is under way: its commit, or a checkpoint if the batch isn't taken. Whether
+// that was begun.
 fn start<K: Store>(store: &mut K, batch: &Batch) -> bool
     requires idle { (K.state store.old).phase ≡ Phase.Idle }
     requires some { 0 < length (accepted_of batch.now.entries) }
     ensures kept { IsUntouched K.Store store.old store.new }
     ensures refused { result ≡ false → CommitIsNotBegun (K.state store.old) (K.state store.new) }
     ensures begun { IsTrue result →
-        ((K.state store.new).phase ≡ Phase.Committing) ⊎ IsOpen (K.state store.new).phase }
+        ((K.state store.new).phase ≡ Phase.Committing) ⊎ IsCheckpointing (K.state store.new).phase }
     ensures taken { IsTrue result → K.takes store.old (accepted_of batch.now.entries) →
         (K.state store.new).phase ≡ Phase.Committing }
     ensures commit { IsTrue result →
         CommitsOnly (accepted_of batch.now.entries) (K.state store.new) }
     ensures calls { IsTrue result → (K.state store.new).phase ≡ Phase.Committing →
         (K.state store.new).left ≤ 4 }
-    ensures copy { IsTrue result → IsOpen (K.state store.new).phase →
+    ensures copy { IsTrue result → IsCheckpointing (K.state store.new).phase →
         ((K.state store.new).left ≤ most_calls) ×
         (length (accepted_of batch.now.entries) ≤ most_entries →
         K.will_take store.new (accepted_of batch.now.entries)) }
@@ -56,7 +57,7 @@ fn start<K: Store>(store: &mut K, batch: &Batch) -> bool
     }
 }
 
-// Begins the commit of this batch between two pieces of a checkpoint, where it is taken and a piece went out since the last one.
+// Begins the commit of this batch between two pieces of a checkpoint, if it is taken and a piece went out since the last one.
 // Whether it wasn't refused.
 fn interrupt<K: Store>(store: &mut K, batch: &Batch) -> bool
     requires paused { (K.state store.old).phase ≡ Phase.Paused }
@@ -90,7 +91,7 @@ fn prepare<K: Store>(store: &mut K, batch: &Batch) -> bool
     ensures kept { IsUntouched K.Store store.old store.new }
     ensures refused { result ≡ false → CommitIsNotBegun (K.state store.old) (K.state store.new) }
     ensures begun { IsTrue result →
-        ((K.state store.new).phase ≡ Phase.Committing) ⊎ IsOpen (K.state store.new).phase }
+        ((K.state store.new).phase ≡ Phase.Committing) ⊎ IsCheckpointing (K.state store.new).phase }
     ensures commit { IsTrue result →
         CommitsOnly (accepted_of batch.now.entries) (K.state store.new) }
     ensures order { IsTrue result →
@@ -118,7 +119,7 @@ fn prepare<K: Store>(store: &mut K, batch: &Batch) -> bool
 // One device call of what was begun for a batch.
 fn call<K: Store>(store: &mut K, batch: &Batch) -> Advance
     requires working { ((K.state store.old).phase ≡ Phase.Committing) ⊎
-        IsOpen (K.state store.old).phase }
+        IsCheckpointing (K.state store.old).phase }
     requires some { 0 < length (accepted_of batch.now.entries) }
     requires commit { CommitsOnly (accepted_of batch.now.entries) (K.state store.old) }
     ensures device { CallsDevice K.Store K.Device.Disk result (accepted_of batch.now.entries)
@@ -127,7 +128,7 @@ fn call<K: Store>(store: &mut K, batch: &Batch) -> Advance
         (K.state store.new) }
     ensures commit { CommitsOnly (accepted_of batch.now.entries) (K.state store.new) }
     ensures phase { KeepsPhase result (K.state store.old) (K.state store.new) }
-    ensures takes { IsOpen (K.state store.old).phase → result ≢ Advance.Failed →
+    ensures takes { IsCheckpointing (K.state store.old).phase → result ≢ Advance.Failed →
         K.takes store.old (accepted_of batch.now.entries) →
         K.takes store.new (accepted_of batch.now.entries) }
     ensures written { ((K.state store.new).written ≤ (K.state store.old).written + most) ×
@@ -155,7 +156,7 @@ fn call<K: Store>(store: &mut K, batch: &Batch) -> Advance
     }
 }
 
-// Opens a checkpoint where none is open and more than half of the segment is used; not in the last epoch.
+// Opens a checkpoint if none is open and more than half of the segment is used; not in the last epoch.
 fn open_checkpoint<K: Store>(store: &mut K)
     requires other { ((K.state store.old).phase ≢ Phase.Committing) ×
         ((K.state store.old).phase ≢ Phase.Stopped) }
@@ -164,7 +165,7 @@ fn open_checkpoint<K: Store>(store: &mut K)
         ((K.state store.new).phase ≢ Phase.Stopped) }
     ensures opens { ¬ (K.exhausted store.old) →
         (K.state store.new).segment < 2 * (K.state store.new).used →
-        IsOpen (K.state store.new).phase }
+        IsCheckpointing (K.state store.new).phase }
     ensures pace { ¬ (K.exhausted store.new) → NearPace (K.state store.old) →
         KeepsPace (K.state store.new) }
     ensures only { 2 * (K.state store.new).used ≤ (K.state store.new).segment →
@@ -216,7 +217,7 @@ fn has_accepted(batch: &Batch) -> bool
     false
 }
 
-// Whether a batch has actions. While one is committed it isn't looked at again.
+// Whether a batch has actions. During its commit this isn't checked again.
 fn has_actions<K: Store>(store: &K, batch: &Batch) -> bool
     requires idle { accepted_of batch.now.entries ≡ [] →
         (K.state store.now).phase ≢ Phase.Committing }
@@ -225,8 +226,8 @@ fn has_actions<K: Store>(store: &K, batch: &Batch) -> bool
     store.phase() == Phase::Committing || has_accepted(batch)
 }
 
-/// At most one device call. A batch without actions needs none; one that isn't taken needs a checkpoint first. Once a batch is
-/// committed a checkpoint is opened where more than half of the segment is used.
+/// At most one device call. A batch without actions needs none; one that isn't taken needs a checkpoint first. After a batch is
+/// committed a checkpoint is opened if more than half of the segment is used.
 pub fn advance_by<K: Store>(store: &mut K, batch: &Batch) -> Advance
     requires idle { accepted_of batch.now.entries ≡ [] →
         (K.state store.old).phase ≢ Phase.Committing }
@@ -263,7 +264,7 @@ pub fn advance_by<K: Store>(store: &mut K, batch: &Batch) -> Advance
     advanced
 }
 
-/// Without a batch to commit an open checkpoint goes on by one device call.
+/// Without a batch to commit an open checkpoint continues by one device call.
 pub fn go_on<K: Store>(store: &mut K) -> Advance
     requires other { (K.state store.old).phase ≢ Phase.Committing }
     ensures device { CallsDevice K.Store K.Device.Disk result [] store.old store.new }

@@ -20,7 +20,7 @@ use crate::fetch::Fetch;
 use crate::held::Held;
 use crate::publishes::Publishes;
 use crate::release::Release;
-use alm_board::{Board, Publish};
+use alm_board::{Board, Publish, Voucher};
 use alm_rings::{
     Console, FetchEnds, Outbox, Receipt, SealEnds, Told, batches_beside, replies_beside,
 };
@@ -35,13 +35,13 @@ pub struct Flusher<K: Store, T: Told + Drop, B: Board<Told = T>> {
     store: K,
     board: B,
     outboxes: Vec<Outbox<T>>,
-    // Where the outbox of each slot stands; not below their number where it has none.
+    // The index of each slot's outbox; not below their number if it has none.
     places: [usize; SLOTS],
     fetch: FetchEnds,
     held: Held,
     // The number of the last action whose verdict is released.
     number: u64,
-    // The ends when nothing was held.
+    // The ends before the first batch was held.
     before: Snapshot<FetchEnds>,
     pub ghost placed: { (k : ℕ) (o : Outbox _ _) → slice_get outboxes.items k ≡ Some o →
         slice_get places o.slot ≡ Some k },
@@ -51,7 +51,7 @@ pub struct Flusher<K: Store, T: Told + Drop, B: Board<Told = T>> {
     /// What is stored,
     pub ghost stored: { (K.state store).stored ≡
         run (B.base board) (accepted_of (entries_in (fetched_of before.value) ++ stored_of held)) },
-    /// what is published: a front of it,
+    /// what is published: a prefix of it,
     pub ghost published: { B.published board ≡
         accepted_of (entries_in (fetched_of before.value) ++ published_entries held) },
     pub ghost pending: { IsFront (B.pending board) (accepted_of (ready_of held)) },
@@ -78,13 +78,14 @@ pub struct Flusher<K: Store, T: Told + Drop, B: Board<Told = T>> {
         ((K.state store).next ≡ run (K.state store).stored (accepted_of (waiting_of held))) ∥₁ },
 }
 
-// The number that a receipt has with this verdict, behind the number before it.
+// The number that a receipt has with this verdict, after the number before it.
 fn number_of(verdict: Verdict, before: u64, count: u64) -> u64
     requires { before + length (when_accepted verdict) ≤ count }
     ensures { result ≡ before + length (when_accepted verdict) }
 {
     match verdict {
         Verdict::Accepted(_) => {
+            // for the proof: `count` is a number of 64 bits, so `before + 1` is one too
             let _most = count;
             before + 1
         }
@@ -95,6 +96,7 @@ fn number_of(verdict: Verdict, before: u64, count: u64) -> u64
 impl<K: Store, T: Told + Drop, B: Board<Told = T>> Flusher<K, T, B> {
     ghost use Rattle.std.specs.Prelude.{◌≡◌, ◌≢◌, ◌↔◌, ◌⊎◌, ◌+◌, ◌<◌, ◌≤◌, ◌++◌, [], ℕ, List, length, MatchBool, false, slice_get, Some, None, IsSome, IsTrue};
     ghost use Rattle.alm_disk.specs.Failures.{HasFailed};
+    ghost use Rattle.alm_model.specs.Judging.{accepted_of};
     ghost use Rattle.alm_types.specs.declared.action.Action.{Action};
     ghost use Rattle.alm_store.specs.Pace.{least_segment};
     ghost use Rattle.alm_store.specs.Pacing.{KeepsPace};
@@ -104,11 +106,11 @@ impl<K: Store, T: Told + Drop, B: Board<Told = T>> Flusher<K, T, B> {
     ghost use Rattle.rtrb.specs.Ring.{IsPair};
     ghost use Rattle.alm_rings.specs.declared.outbox.Outbox.{Outbox};
     ghost use Rattle.alm_flush.specs.Flushes.{FetchAnswers, AdvanceAnswers, PublishAnswers, ReleaseAnswers, GivesBack, AreAllReleased, IsFree, IsGivenUp, IsNext};
-    ghost use Rattle.alm_flush.specs.HeldBatch.{next_entry_of, to_commit};
+    ghost use Rattle.alm_flush.specs.HeldBatch.{next_entry_of, ready_of, to_commit};
     ghost use Rattle.alm_flush.specs.Steps.{CallsDevice, EndsWithin, HasCauses, IsAsBefore, IsInOrder, OpensBehind, StaysInPace};
     ghost use Rattle.alm_rings.specs.declared.receipt.Receipt.{Receipt};
 
-    /// Nothing is held at first. The store has no work begun, and the board shows the plant that is stored.
+    /// No batch is held at first. The store has no work begun, and the board shows the plant that is stored.
     pub fn new(store: K, board: B, outboxes: Vec<Outbox<T>>, fetch: FetchEnds) -> Self
         requires apart { AreApart (λ o. o.slot) outboxes.items }
         requires released { (s : ℕ) → released_by s outboxes.items ≡ [] }
@@ -162,7 +164,8 @@ impl<K: Store, T: Told + Drop, B: Board<Told = T>> Flusher<K, T, B> {
         // The store counts what a checkpoint writes from here on; else it is as before.
         ensures marked { result ≡ Fetch.Got → (K.state self.new.store).written ≡ 0 }
         ensures store { IsAsBefore K.Store self.old.store self.new.store }
-        // A store that keeps its pace does so, and takes the batch where the half that stands is of the newest version.
+        // A store that keeps its pace still does so, and takes the batch if the half that stands is of the newest
+        // version.
         ensures pace { KeepsPace (K.state self.old.store) →
             KeepsPace (K.state self.new.store) }
         ensures taken { result ≡ Fetch.Got → K.newest self.new.store →
@@ -187,16 +190,16 @@ impl<K: Store, T: Told + Drop, B: Board<Told = T>> Flusher<K, T, B> {
     }
 
     /// One step of the held batch's commit: at most one device call, and none for a batch without actions. A checkpoint comes
-    /// first where the store doesn't take the batch. Once a commit has failed it fails for good.
+    /// first if the store doesn't take the batch. After a commit has failed it fails permanently.
     ///
-    /// Where more than half of the segment is used behind a commit, a checkpoint is opened. It goes out in pieces: one before
-    /// each commit of a batch that is taken, and as long as no batch is to be committed one after the other.
+    /// If more than half of the segment is used after a commit, a checkpoint is opened. It goes out in pieces: one before each
+    /// commit of a batch that is taken, and one after the other as long as no batch is to be committed.
     pub fn advance(&mut self) -> Advance
         ensures same { (self.new.board ≡ self.old.board) × (self.new.outboxes ≡ self.old.outboxes) ×
             (self.new.before.value ≡ self.old.before.value) × (self.new.fetch ≡ self.old.fetch) }
         ensures device { CallsDevice K.Store K.Device.Disk result (to_commit self.old.held)
             self.old.store self.new.store }
-        // Nothing is called where nothing is to be done, nor behind a commit that was given up.
+        // No call is made if there is no work, nor after a commit has failed permanently.
         ensures nothing { (result ≡ Advance.Nothing → self.new.store ≡ self.old.store) ×
             (IsGivenUp self.old.held → self.new.store ≡ self.old.store) }
         ensures held { AdvanceAnswers result (K.state self.old.store).phase self.old.held
@@ -209,11 +212,11 @@ impl<K: Store, T: Told + Drop, B: Board<Told = T>> Flusher<K, T, B> {
             self.new.store }
         ensures behind { OpensBehind K.Store result self.old.store self.new.store }
         ensures pace { StaysInPace K.Store result self.old.store self.new.store }
-        // A batch is committed in a bounded number of steps: 326 where the store is idle.
+        // A batch is committed in a bounded number of steps: 326 if the store is idle.
         ensures ends { (m : ℕ) → result ≡ Advance.More → 0 < length (to_commit self.old.held) →
             EndsWithin K.Store (m + 1) (to_commit self.old.held) self.old.store →
             EndsWithin K.Store m (to_commit self.new.held) self.new.store }
-        // The first failure has a cause, and once no checkpoint is to be begun any more only the device fails.
+        // The first failure has a cause, and if no checkpoint can begin any more only the device fails.
         ensures causes { HasCauses K.Store K.Device.Disk result (to_commit self.old.held)
             (IsNext self.old.held (K.state self.old.store).stored) self.old.store self.new.store }
         ensures broken { result ≡ Advance.Failed → (K.state self.old.store).phase ≢ Phase.Stopped →
@@ -244,9 +247,11 @@ impl<K: Store, T: Told + Drop, B: Board<Told = T>> Flusher<K, T, B> {
     }
 
     /// Shows the committed batch.
-    pub fn publish<C>(&mut self, by: &C) -> Publishes
+    pub fn publish<C, V: Voucher>(&mut self, by: &C, voucher: &V) -> Publishes
     where
-        B: Publish<C>,
+        B: Publish<C, V>,
+        requires vouched { V.vouches voucher.now
+            (B.Board.published self.old.board ++ accepted_of (ready_of self.old.held)) }
         ensures same { (self.new.store ≡ self.old.store) × (self.new.outboxes ≡ self.old.outboxes) ×
             (self.new.before.value ≡ self.old.before.value) × (self.new.fetch ≡ self.old.fetch) }
         ensures base { B.Board.base self.new.board ≡ B.Board.base self.old.board }
@@ -254,7 +259,7 @@ impl<K: Store, T: Told + Drop, B: Board<Told = T>> Flusher<K, T, B> {
         ensures sure { B.Publish.sure → result ≢ Publishes.OutOfMemory }
     {
         match replace(&mut self.held, Held::Nothing) {
-            Held::Committed(batch) => match self.board.publish(by, &batch) {
+            Held::Committed(batch) => match self.board.publish(by, voucher, &batch) {
                 Ok(()) => {
                     self.held = Held::Published(batch, 0);
                     Publishes::Published
@@ -271,7 +276,7 @@ impl<K: Store, T: Told + Drop, B: Board<Told = T>> Flusher<K, T, B> {
         }
     }
 
-    /// Gives the batch back once all its verdicts are released.
+    /// Returns the batch after all its verdicts are released.
     pub fn give_back(&mut self) -> bool
         ensures ends { SameFetchEnds self.old.fetch self.new.fetch ×
             (fetched_of self.new.fetch ≡ fetched_of self.old.fetch) ×
@@ -308,7 +313,7 @@ impl<K: Store, T: Told + Drop, B: Board<Told = T>> Flusher<K, T, B> {
         }
     }
 
-    // Where the outbox of a slot stands; not below their number where it has none.
+    // The index of a slot's outbox; not below their number if it has none.
     fn place(&self, slot: Slot) -> usize
         ensures slot { (o : Outbox _ _) → slice_get self.now.outboxes.items result ≡ Some o →
             o.slot ≡ slot }
@@ -318,7 +323,7 @@ impl<K: Store, T: Told + Drop, B: Board<Told = T>> Flusher<K, T, B> {
         self.places[slot.number() as usize]
     }
 
-    /// Releases the next verdict to its slot, with the published list as told.
+    /// Releases the next verdict to its slot; the receipt reports the published list.
     pub fn release(&mut self) -> Release
         ensures ends { (s : ℕ) →
             SameOutboxAt (outbox_at s self.old.outboxes.items)
@@ -360,7 +365,8 @@ impl<K: Store, T: Told + Drop, B: Board<Told = T>> Flusher<K, T, B> {
         }
     }
 
-    /// Tells the two ends of each batch ring, in one thread, what the other did. Takes no memory.
+    /// Synchronises the ends of both batch rings, which must be in the same thread: each learns what the other did.
+    /// Takes no memory.
     pub fn batches_beside(&mut self, seal: &mut SealEnds)
         requires { AreBatchEnds seal.old self.old.fetch }
         ensures same { (self.new.store ≡ self.old.store) × (self.new.board ≡ self.old.board) ×
@@ -383,7 +389,8 @@ impl<K: Store, T: Told + Drop, B: Board<Told = T>> Flusher<K, T, B> {
         batches_beside(seal, &mut self.fetch);
     }
 
-    /// Tells a slot's outbox and the console at its other end, in one thread, what the other did. Takes no memory.
+    /// Synchronises a slot's outbox and the console at its other end, in one thread: each learns what the other did.
+    /// Takes no memory.
     pub fn replies_beside(&mut self, slot: Slot, console: &mut Console<T>)
         requires slot { IsSome (outbox_at slot self.old.outboxes.items) }
         requires ends { (o : Outbox _ _) → outbox_at slot self.old.outboxes.items ≡ Some o →
@@ -443,8 +450,8 @@ impl<K: Store, T: Told + Drop, B: Board<Told = T>> Flusher<K, T, B> {
         self.store
     }
 
-    /// The board. What was released to each slot are, in order, the verdicts of its entries in the fetched batches up to
-    /// where the flusher stands.
+    /// The board. The receipts released to a slot have, in order, the verdicts of that slot's entries in the batches
+    /// fetched, as far as the flusher has got.
     pub fn board(&self) -> &B
         ensures board { result.now ≡ self.now.board }
         ensures stands { fetched_of self.now.fetch ≡
@@ -458,7 +465,15 @@ impl<K: Store, T: Told + Drop, B: Board<Told = T>> Flusher<K, T, B> {
         &self.board
     }
 
-    /// The store. The published list is a front of the one that is stored, and each number that was released is stored.
+    /// The ends of both rings of batches.
+    pub fn fetch_ends(&self) -> &FetchEnds
+        ensures { result.now ≡ self.now.fetch }
+    {
+        &self.fetch
+    }
+
+    /// The store. The published list is a prefix of the one that is stored, and each number that was released is
+    /// stored.
     pub fn keeper(&self) -> &K
         ensures keeper { result.now ≡ self.now.store }
         ensures front { (list : List Action) ×

@@ -7,7 +7,7 @@ use alm_types::{Batch, Entry};
 pub enum Held {
     Nothing,
     Fetched(Batch),
-    /// Its commit was given up, for good.
+    /// Its commit has failed permanently.
     Failed(Batch),
     Committed(Batch),
     /// And how many of its verdicts are released.
@@ -37,6 +37,7 @@ impl Held {
         ensures { self.new ≡ after_release self.old }
     {
         if let Held::Published(batch, released) = self {
+            // for the proof: a batch has at most 256 entries, so `released` has room for one more
             let _entries = batch.entries();
             *released += 1;
         }

@@ -6,44 +6,43 @@
 //! flusher.publish(rt); while let Release::Released(_) = flusher.release() {}
 //! ```
 //!
-//! The flusher holds one sealed batch at a time: it stores it, shows it on the board, and releases the verdicts of its entries
-//! to their slots, in order.
+//! The flusher holds one sealed batch: it stores it, shows it on the board, and releases the verdicts of its entries to their
+//! slots, in order. Then it fetches the next one.
 //!
 //! | held | call | then |
 //! |---|---|---|
-//! | nothing | [`Flusher::fetch`] | fetched |
-//! | fetched | [`Flusher::advance`], once for each device call | committed, or failed for good |
+//! | no batch | [`Flusher::fetch`] | fetched |
+//! | fetched | [`Flusher::advance`], once for each device call | committed, or failed permanently |
 //! | committed | [`Flusher::publish`] | published, and no verdict released |
 //! | published | [`Flusher::release`], once for each verdict | published, and one verdict more released |
-//! | published, all verdicts released | [`Flusher::give_back`] | nothing |
+//! | published, all verdicts released | [`Flusher::give_back`] | no batch |
 //!
-//! A batch without actions is committed without a device call. Where more than half of the segment is used behind a commit a
-//! checkpoint is opened. It goes out in pieces of at most 65,536 bytes: one before each commit of a batch that the store takes, and
-//! without a batch one after the other. A batch that isn't taken waits for the checkpoint's end, and one is opened where none is
-//! open.
+//! A batch without actions is committed without a device call. If more than half of the segment is used after a commit a
+//! checkpoint is opened. It goes out in pieces of at most 65,536 bytes: one before each commit of a batch that the store takes,
+//! and without a batch one after the other. For a batch that isn't taken, a checkpoint is opened unless one is open already, and
+//! the batch is committed after it.
 //!
-//! What is used above: a verdict is released only where the stored and the published list both hold its number; the published
-//! list is at all times a front of the stored one; what was released to a slot are, in order, the verdicts of its entries up to
-//! where the flusher stands. No call but `publish` takes memory or waits.
+//! What is used above: a verdict is released only if the stored and the published list both hold its number. The published list
+//! is always a prefix of the stored one. The receipts released to a slot have, in order, the verdicts of that slot's entries, as
+//! far as the flusher has got. No call but `publish` takes memory or waits.
 //!
-//! While a batch waits that was taken as it was fetched, no more than one piece goes out (`waits` of [`Flusher::advance`]; nor is
-//! the count of its bytes set back, `counted`). A store
-//! that keeps its pace takes each batch as it is fetched, where the half that stands is of version 02 (`taken` of
-//! [`Flusher::fetch`]): at its opening one does where at most half of the segment is used, and it goes on so with each call, as long
-//! as the segment has 452,651 bytes or more and epochs are left (`pace` and `newest` of both calls; alm_store's Pace says what that
-//! is).
+//! While a batch waits that was taken as it was fetched, no more than one piece goes out (`waits` of
+//! [`Flusher::advance`]), and the count of its bytes isn't reset (`counted`). A store that keeps its pace takes each
+//! batch as it is fetched, if the half that stands is of version 02 (`taken` of [`Flusher::fetch`]). After its opening
+//! a store keeps its pace if at most half of the segment is used. Each call preserves this, as long as the segment has
+//! 452,651 bytes or more and epochs are left (`pace` and `newest` of both calls; alm_store's Pace says what that is).
 //!
-//! It is not promised that a reply is ever released: a ring may stay full, and a store may stop.
+//! Not covered: that a reply is ever released. A ring may stay full, and a store may stop.
 //!
 //! | call | answers |
 //! |---|---|
-//! | `fetch` | Got; Empty only where the ring knew no batch; Held while one is held |
+//! | `fetch` | Got; Empty only if the ring knew no batch; Held while one is held |
 //! | `advance` | at most one device call: More, Committed, Failed, or Nothing without a batch to commit and an open checkpoint |
-//! | `publish` | Published; OutOfMemory, and nothing new is shown; NotYet without a committed batch |
-//! | `release` | Released to a slot; Full where that slot's ring knew no place, and the reply stays; Nothing where none is left |
-//! | `give_back` | whether the batch went back, all its replies released |
+//! | `publish` | Published; OutOfMemory, with the shown list as before; NotYet without a committed batch |
+//! | `release` | Released to a slot; Full if that slot's ring knew no place, and the reply stays; Nothing if none is left |
+//! | `give_back` | whether the batch was returned, all its replies released |
 //!
-//! Not promised: that a batch is ever fetched or a reply ever released, and any time.
+//! Not covered: that a batch is ever fetched or a reply ever released, and time.
 #![tactic(auto)]
 
 mod advance;

@@ -6,12 +6,12 @@ ghost use Rattle.alm_types.specs.Sizes.{most_actions};
 use crate::opened::open_formatted;
 use crate::parts::Parts;
 use alm_board::{Board, Look, Seen};
+use alm_desk::worked_table;
 use alm_disk::MemDisk;
 use alm_flush::{Advance, Fetch, Publishes, Release};
 use alm_keeper::{Keeper, Stage};
 use alm_rings::open_slots;
 use alm_seq::{Seal, Take};
-use alm_service::worked_table;
 use alm_store::Store;
 use alm_types::{Action, AlarmId, Answer, Query, Refusal, Shown, Slot, Verdict};
 use std::alloc::{AllocError, Global};
@@ -28,16 +28,16 @@ pub enum Call {
     Release,
     GiveBack,
     Receive(Slot),
-    /// Fetches, commits in at most so many steps, and publishes.
+    /// Fetches, commits in at most a number of steps, and publishes.
     Store(u64),
-    /// A new looker asks for the state of an alarm.
+    /// A new reader asks for the state of an alarm.
     Look(AlarmId),
 }
 
 /// What a call answers.
 #[derive(Clone, Copy, Debug, PartialEq, Eq)]
 pub enum Outcome {
-    /// A serial; `None` where the slot is busy.
+    /// A serial; `None` if the slot is busy.
     Sent(Option<u64>),
     Took(Take),
     Sealed(Seal),
@@ -56,7 +56,7 @@ pub enum Outcome {
 }
 
 impl<K: Store> Parts<K> {
-    /// What a new looker sees of an alarm.
+    /// What a new reader sees of an alarm.
     fn look(&self, id: AlarmId, answer: &mut Answer) -> Outcome {
         let mut looker = self.flusher.board().looker(Seen::new());
         match looker.look(Query::State(id), answer) {
@@ -72,7 +72,7 @@ impl<K: Store> Parts<K> {
             Call::Seal => Outcome::Sealed(self.seal()),
             Call::Fetch => Outcome::Fetched(self.flusher.fetch()),
             Call::Advance => Outcome::Advanced(self.flusher.advance()),
-            Call::Publish => Outcome::Published(self.flusher.publish(&())),
+            Call::Publish => Outcome::Published(self.flusher.publish(&(), &())),
             Call::Release => Outcome::Released(self.flusher.release()),
             Call::GiveBack => Outcome::GaveBack(self.flusher.give_back()),
             Call::Receive(slot) => Outcome::Received(match self.receive(slot) {
@@ -105,7 +105,8 @@ pub struct Played {
     pub disk: MemDisk,
 }
 
-/// A keeper of a device in memory of a size that is formatted for the worked table, and that may be called so often.
+/// A keeper of a device in memory of a size that is formatted for the worked table, and that may be called a number of
+/// times.
 pub fn open_worked(alloc: Global, size: usize, calls: usize) -> Result<Keeper<MemDisk>, AllocError>
     ensures idle { IfOk result (λ keeper. keeper.stage ≡ Stage.Idle) }
     ensures limit { IfOk result (λ keeper. keeper.stored.plant.panel.count ≤ most_actions) }
@@ -114,7 +115,7 @@ pub fn open_worked(alloc: Global, size: usize, calls: usize) -> Result<Keeper<Me
     open_formatted(alloc, &worked_table(alloc)?, disk)
 }
 
-/// Makes these calls on new parts over a device of a size that may be called so often.
+/// Makes these calls on new parts over a device of a size that may be called a number of times.
 pub fn play(
     alloc: Global,
     size: usize,

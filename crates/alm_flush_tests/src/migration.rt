@@ -3,10 +3,10 @@
 use crate::course::{Call, Outcome, Played, play_over};
 use crate::opened::{Standing, open_formatted_as, stands_as};
 use alm_codec::Version;
+use alm_desk::worked_table;
 use alm_disk::MemDisk;
 use alm_flush::{Advance, Fetch, Release};
 use alm_seq::{Seal, Take};
-use alm_service::worked_table;
 use alm_types::{Action, AlarmId, Moment, Reading, Slot, Verdict};
 use std::alloc::Global;
 use std::test::Fail;
@@ -43,7 +43,7 @@ fn stored(slot: Slot, action: Action, number: u64) -> [(Call, Outcome); 4] {
     ]
 }
 
-/// After two early actions on a device of version 01, so many of the eight steps that store a priority.
+/// After two early actions on a device of version 01, the first `steps` of the eight steps that store a priority.
 fn played(alloc: Global, steps: u32) -> Result<Played, Fail> {
     let clock = Slot::new(17).ok_or("slot")?;
     let feed = Slot::new(16).ok_or("slot")?;
@@ -75,7 +75,7 @@ fn has(disk: &MemDisk, at: usize, bytes: &[u8]) -> bool {
     disk.bytes().get(at..at.saturating_add(bytes.len())) == Some(bytes)
 }
 
-/// After the fourth call the checkpoint stands, of version 02.
+/// After the fourth call the checkpoint is done: the half that stands is of version 02.
 #[test]
 fn a_checkpoint_comes_before_the_first_new_action(rt: HostRuntime) -> Result<(), Fail> {
     let alloc = rt.alloc();
@@ -94,7 +94,7 @@ fn a_checkpoint_comes_before_the_first_new_action(rt: HostRuntime) -> Result<(),
     Ok(())
 }
 
-/// After the eighth the priority stands behind it.
+/// After the eighth the priority is stored after the checkpoint.
 #[test]
 fn the_first_new_action_is_stored_behind_it(rt: HostRuntime) -> Result<(), Fail> {
     let alloc = rt.alloc();

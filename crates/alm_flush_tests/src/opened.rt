@@ -9,7 +9,7 @@ use alm_keeper::{Keeper, Stage, format_as, open_store};
 use alm_types::Table;
 use std::alloc::{AllocError, Global};
 
-/// A keeper of a device that is formatted for a table. An error for want of memory, or where it isn't formatted and opened.
+/// A keeper of a device that is formatted for a table. An error if out of memory, or if it isn't formatted and opened.
 pub fn open_formatted<D: Disk + Drop>(
     alloc: Global,
     table: &Table,
@@ -37,7 +37,7 @@ pub fn open_formatted_as<D: Disk + Drop>(
     }
 }
 
-/// A keeper of a device. An error for want of memory, or where it isn't opened.
+/// A keeper of a device. An error if out of memory, or if it isn't opened.
 pub fn reopen<D: Disk + Drop>(alloc: Global, disk: D) -> Result<Keeper<D>, AllocError>
     ensures idle { IfOk result (λ keeper. keeper.stage ≡ Stage.Idle) }
     ensures limit { IfOk result (λ keeper. keeper.stored.plant.panel.count ≤ most_actions) }
@@ -57,7 +57,7 @@ pub struct Standing {
     pub used: u64,
 }
 
-/// The same of a device, which is let go.
+/// The same of a device, which is dropped.
 pub fn stands_as<D: Disk + Drop>(alloc: Global, disk: D) -> Result<Standing, AllocError> {
     let keeper = reopen(alloc, disk)?;
     let found = Standing {

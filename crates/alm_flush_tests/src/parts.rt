@@ -54,7 +54,7 @@ impl<K: Store> Parts<K> {
         })
     }
 
-    /// Sends an action, and gives its serial; `None` where it is busy.
+    /// Sends an action, and returns its serial; `None` if it is busy.
     pub fn send(&mut self, slot: Slot, action: Action) -> Option<u64> {
         let console = self.consoles.get_mut(slot.number() as usize)?;
         console.send(action).ok()
@@ -76,7 +76,7 @@ impl<K: Store> Parts<K> {
         self.sequencer.seal()
     }
 
-    /// Fetches a batch, commits it and publishes it: how many steps the commit took, or `None` where one of these didn't go.
+    /// Fetches a batch, commits it and publishes it: how many steps the commit took, or `None` if one of these failed.
     pub fn store(&mut self, most: u64) -> Option<u64> {
         match self.flusher.fetch() {
             Fetch::Got => {}
@@ -86,7 +86,7 @@ impl<K: Store> Parts<K> {
             match self.flusher.advance() {
                 Advance::More => {}
                 Advance::Committed => {
-                    return match self.flusher.publish(&()) {
+                    return match self.flusher.publish(&(), &()) {
                         Publishes::Published => Some(step),
                         _ => None,
                     };
@@ -97,7 +97,7 @@ impl<K: Store> Parts<K> {
         None
     }
 
-    /// Releases so many verdicts: whether each went to its slot.
+    /// Releases a verdict to each of these slots: whether all were released so.
     pub fn release(&mut self, slots: &[Slot]) -> bool {
         for slot in slots {
             match self.flusher.release() {

@@ -9,7 +9,7 @@ use alm_types::{Action, Attr, Kind, Moment, Settings, Slot, Table, Verdict};
 use std::alloc::Global;
 use std::test::Fail;
 
-/// How long the device is, where half 1 begins, and where its third frame stands.
+/// How long the device is, and the places of half 1 and of its third frame.
 const SIZE: usize = 391_541;
 
 const HALF: u64 = 195_782;
@@ -52,7 +52,7 @@ fn played(alloc: Global, course: &[(Call, Outcome)]) -> Result<Played, Fail> {
     Ok(play_over(alloc, store, course)?)
 }
 
-/// A batch of one action, the first of its number: it is stored in so many steps.
+/// A batch of one action, the first of its number: it is stored in `steps` steps.
 fn stored_in(slot: Slot, number: u64, steps: u64) -> Result<[(Call, Outcome); 7], Fail> {
     let action = Action::Clock(Moment::new(number).ok_or("moment")?);
     let verdict = Verdict::Accepted(action);
@@ -79,7 +79,8 @@ fn opening(alloc: Global, slot: Slot) -> Result<Vec<(Call, Outcome)>, Fail> {
     Ok(course)
 }
 
-/// Which calls on the device are writes of more bytes than a frame of one action has, to the run of half 1: where and how long.
+/// Which calls on the device are writes of more bytes than a frame of one action has, to the run of half 1: their places and
+/// lengths.
 fn pieces_in(alloc: Global, calls: &[DiskCall]) -> Result<Vec<(u64, u64)>, Fail> {
     let mut pieces = Vec::new(alloc);
     for call in calls {
@@ -108,7 +109,7 @@ fn a_piece_goes_out_before_each_commit(rt: HostRuntime) -> Result<(), Fail> {
         ..
     } = played(alloc, &course)?;
     assert_eq!(rt; differs_at, None);
-    // The run ends with the closed gate behind two frames.
+    // The run ends with the closed gate after two frames.
     assert_eq!(rt;
         pieces_in(alloc, disk.calls())?.as_slice(),
         [

@@ -1,9 +1,10 @@
 //! The worked rows.
 
-use crate::course::{Call, Outcome, differs_at};
+use crate::course::{Call, Outcome, differs_at, open_worked, play};
 use alm_flush::{Advance, Fetch, Publishes, Release};
 use alm_seq::{Seal, Take};
 use alm_types::{Action, AlarmId, Reading, Refusal, Shown, Slot, Verdict};
+use std::alloc::Global;
 use std::test::Fail;
 
 const DEVICE: usize = 65_536;
@@ -48,6 +49,44 @@ fn a_refusal_goes_its_way(rt: HostRuntime) -> Result<(), Fail> {
     Ok(())
 }
 
+/// How many calls a device has noted after a request, if its batch is committed in `steps` steps.
+fn calls_of(alloc: Global, want: Action, verdict: Verdict, steps: usize) -> Result<usize, Fail> {
+    let slot = Slot::new(16).ok_or("slot")?;
+    let mut course = Vec::from_array(
+        alloc,
+        [
+            (Call::Send(slot, want), Outcome::Sent(Some(1))),
+            (Call::Take(slot), Outcome::Took(Take::Taken(verdict))),
+            (Call::Seal, Outcome::Sealed(Seal::Sealed)),
+            (Call::Fetch, Outcome::Fetched(Fetch::Got)),
+        ],
+    )?;
+    for _step in 1..steps {
+        course.push((Call::Advance, Outcome::Advanced(Advance::More)))?;
+    }
+    course.push((Call::Advance, Outcome::Advanced(Advance::Committed)))?;
+    let played = play(alloc, DEVICE, 64, &course)?;
+    match played.differs_at {
+        None => Ok(played.disk.calls().len()),
+        Some(_) => Err(Fail::new("another outcome")),
+    }
+}
+
+#[test]
+fn a_batch_of_refusals_makes_no_device_call(rt: HostRuntime) -> Result<(), Fail> {
+    let alloc = rt.alloc();
+    let opened = open_worked(alloc, DEVICE, 64)?.into_disk().calls().len();
+    let vain = Action::Value(AlarmId(9), Reading::new(0).ok_or("reading")?);
+    let good = Action::Value(AlarmId(0), Reading::new(800).ok_or("reading")?);
+    let refused = Verdict::Refused(Refusal::NoSuchAlarm, 0);
+    assert_eq!(rt; calls_of(alloc, vain, refused, 1)?, opened);
+    assert_eq!(rt;
+        calls_of(alloc, good, Verdict::Accepted(good), 4)?,
+        opened.saturating_add(4)
+    );
+    Ok(())
+}
+
 /// A slot's request of a serial, taken and refused.
 fn refused(slot: Slot, serial: u64) -> [(Call, Outcome); 2] {
     [
@@ -59,7 +98,7 @@ fn refused(slot: Slot, serial: u64) -> [(Call, Outcome); 2] {
     ]
 }
 
-/// Its batch is stored without a device call, its reply goes, and the batch comes back.
+/// Its batch is stored without a device call, its reply is released, and the batch is returned.
 fn answered(slot: Slot, serial: u64) -> [(Call, Outcome); 4] {
     [
         (Call::Store(1), Outcome::Stored(Some(1))),
@@ -82,7 +121,7 @@ fn the_eighth_seal_finds_no_room(rt: HostRuntime) -> Result<(), Fail> {
     }
     course.extend_from_slice(&refused(slot, 8))?;
     course.push((Call::Seal, Outcome::Sealed(Seal::NoRoom)))?;
-    // When the first comes back, the eighth is sealed.
+    // When the first is returned, the eighth is sealed.
     course.extend_from_slice(&answered(slot, 1))?;
     course.push((Call::Seal, Outcome::Sealed(Seal::Sealed)))?;
     for serial in 2..=8 {
@@ -112,7 +151,7 @@ fn a_look_shows_what_is_published(rt: HostRuntime) -> Result<(), Fail> {
             Call::Look(AlarmId(4)),
             Outcome::NotShown(Refusal::NoSuchAlarm),
         ),
-        // It is seen once it is published, before its receipt is released.
+        // It is seen after it is published, before its receipt is released.
         (Call::Store(8), Outcome::Stored(Some(4))),
         (Call::Look(AlarmId(0)), Outcome::Looked(1, Shown::Unack)),
         (Call::Release, Outcome::Released(Release::Released(feed))),

@@ -1,4 +1,4 @@
-//! All slots at once.
+//! All slots together.
 
 ghost use Rattle.std.specs.Prelude.{◌≡◌, ◌<◌, ℕ, [], IfOk, IsSome};
 ghost use Rattle.alm_rings.specs.Placed.{AreApart, inbox_at, taken_by, released_by};
@@ -196,7 +196,7 @@ fn full(alloc: Global, slot: Slot) -> Result<Vec<(Call, Outcome)>, AllocError> {
     Ok(course)
 }
 
-/// It goes once a receipt was received.
+/// The reply that is released after a receipt was received.
 fn going(slot: Slot) -> [(Call, Outcome); 2] {
     [
         (Call::Release, Outcome::Released(Release::Released(slot))),
@@ -231,7 +231,8 @@ fn hears(consoles: &mut Vec<Console<PlainTold>>, first: u64, last: u64) -> bool 
     same
 }
 
-/// The ends of a ring that fills: replies go to consoles that receive none, so that requests may go on.
+/// The ends of a ring that fills: replies are released to consoles that receive none, so that more requests can be
+/// sent.
 #[derive(Drop)]
 struct Crossed {
     ends: SlotEnds<PlainTold>,
@@ -260,7 +261,7 @@ fn cross_ends(alloc: Global) -> Result<Crossed, AllocError>
     })
 }
 
-/// The courses of a ring that fills, is full and goes on.
+/// The courses of a ring that fills, is full and continues.
 #[derive(Drop)]
 struct Courses {
     filling: Vec<(Call, Outcome)>,
@@ -268,7 +269,7 @@ struct Courses {
     going: [(Call, Outcome); 2],
 }
 
-/// 64 receipts wait, the 65th reply stays, and all come in order once one is received.
+/// 64 receipts wait, the 65th reply stays, and all come in order after one is received.
 fn fills_the_ring<K: Store>(
     parts: &mut Parts<K>,
     answers: &mut Vec<Outbox<PlainTold>>,

@@ -31,7 +31,7 @@ fn sealed(slot: Slot, moment: &Moment) -> [(Call, Outcome); 3] {
     ]
 }
 
-/// It is stored in so many steps, and its receipt comes.
+/// It is stored in `steps` steps, and its receipt comes.
 fn stored(slot: Slot, moment: &Moment, steps: u64) -> [(Call, Outcome); 4] {
     let number = moment.seconds();
     let verdict = Verdict::Accepted(Action::Clock(*moment));
@@ -52,7 +52,7 @@ fn a_checkpoint_is_opened_where_more_than_half_is_used(rt: HostRuntime) -> Resul
     let mut course = Vec::new(rt.alloc());
     for second in 1..=120 {
         let moment = Moment::new(second).ok_or("moment")?;
-        // The 59th commit opens a checkpoint of four calls, and the 59th behind that one another, which closes a gate first.
+        // The 59th commit opens a checkpoint of four calls, and the 59th after that one another, which closes a gate first.
         let steps = match second {
             60 => 8,
             119 => 10,

@@ -21,7 +21,7 @@ idle_commits a actions state is r =
 pub paused_commits : (a : Account) (k : Copy) (actions : List Action) (state : DeviceState) → a.gate + 1 ≤ end_of_half a → Commits a actions → KeptIn (Pause k) a state → KeptIn (Frame (Some k) Body actions) a state
 paused_commits a k actions state gate is kept = (is, (kept.0, kept.1.wrote), between a k actions state kept.0 gate kept.1 is.0 is.1 is.2)
 
--- a checkpoint: the stored plant is copied; the other half's gate is closed first where it reads open
+-- a checkpoint: the stored plant is copied; the other half's gate is closed first if it reads open
 abbrev pub first_work : Bool → Copy → UnderWay
 first_work true k = Shut k
 first_work false k = Pause k

@@ -13,7 +13,7 @@ use Rattle.alm_checkpoint.specs.Layouts.{half_len}
 use Rattle.alm_checkpoint.specs.Cut.{Cut, Stores, Reaches, front, back}
 use Rattle.alm_checkpoint.specs.Cut.{device_of}
 use Rattle.alm_keeper.specs.Stand.{Account, account_of, Ready, end_of_half, other_at, TakesFrame, with_commit}
-use Rattle.alm_keeper.specs.Resting.{Rests, Blind, Guarded, Kept}
+use Rattle.alm_keeper.specs.Resting.{RestsBut, Blind, Guarded, Kept}
 use Rattle.alm_keeper.specs.declared.stage.Stage.TheVariants.{Body}
 use Rattle.alm_keeper.specs.Piecewise.{Copy, open_text, IsCopy, is_sent, Paused}
 use Rattle.alm_keeper.proofs.Commit.{n, room_long, left_long, parts, ready, body_long}
@@ -21,7 +21,7 @@ use Rattle.alm_keeper.proofs.Sides.{regroup}
 use Rattle.alm_keeper.proofs.Piecewise.{ready_blind}
 use Rattle.alm_keeper.proofs.Sending.{run_fits}
 
--- no place is loose, or those behind the other half's closed gate
+-- no place is loose, or those after the other half's closed gate
 abbrev pub Loosely : Account → ℕ → Type 0
 Loosely a n = (n ≡ 0) ⊎ ((a.other_open ≡ false) × (n + 1 ≤ half_len a.layout))
 
@@ -73,22 +73,22 @@ module _ (c : Cut) (plant : Condensed) (actions : List Action) (gate : ℕ) (tai
     blind_after = loose_blind (with_commit (account_of c plant) actions) loose is;
   }
 
-  pub begun : (loose : ℕ) → Loosely (account_of c plant) loose → (state : DeviceState) (b : List ℕ) → b ≡ device_of c (gate ∷ tail) → ((x : List ℕ) → IsLeft state x → Ready (account_of c plant) x) → Rests (is_sent (account_of c plant) loose) state b
+  pub begun : (loose : ℕ) → Loosely (account_of c plant) loose → (state : DeviceState) (b : List ℕ) → b ≡ device_of c (gate ∷ tail) → ((x : List ℕ) → IsLeft state x → Ready (account_of c plant) x) → RestsBut (is_sent (account_of c plant) loose) state b
       → Kept (is_sent (account_of c plant) loose) (Ready (account_of c plant)) (Ready (with_commit (account_of c plant) actions)) Body state (length (front c)) (frame_body c.epoch (plant.panel.count + 1) actions)
   unfolding guarded
   begun loose is state b shown images rests =
       let here : b ≡ front c ++ (gate ∷ take size tail) ++ (drop size tail ++ back c) =
       shown ∙ ap (λ (t : List ℕ). front c ++ (gate ∷ t) ++ back c) (sym (parts c plant actions gate tail stores frame admitted closed reaches takes)) ∙ sym (regroup (front c) (take size tail) (drop size tail) (back c) gate) in
-      record { images = images; stands = (guarded loose is, gate, eqb-false gate 165 closed, subst (Rests (is_sent (account_of c plant) loose) state) here rests) }
+      record { images = images; stands = (guarded loose is, gate, eqb-false gate 165 closed, subst (RestsBut (is_sent (account_of c plant) loose) state) here rests) }
 
 -- a commit is begun, with or without an open checkpoint
 pub begins : (a : Account) (actions : List Action) (loose : ℕ) (state : DeviceState) (b : List ℕ) → Loosely a loose → IsFrame a.epoch (a.plant.panel.count + 1) actions → AreAdmitted a.plant actions → TakesFrame a actions
-    → ((x : List ℕ) → IsLeft state x → Ready a x) → Ready a b → Rests (is_sent a loose) state b
+    → ((x : List ℕ) → IsLeft state x → Ready a x) → Ready a b → RestsBut (is_sent a loose) state b
     → Kept (is_sent a loose) (Ready a) (Ready (with_commit a actions)) Body state a.gate (frame_body a.epoch (a.plant.panel.count + 1) actions)
 begins a actions loose state b is frame admitted takes images r rests =
     subst (λ (y : Account). Kept (is_sent y loose) (Ready y) (Ready (with_commit y actions)) Body state y.gate (frame_body y.epoch (y.plant.panel.count + 1) actions)) (sym r.is)
     (begun r.cut a.plant actions r.gate r.tail r.stores (subst (λ (y : Account). IsFrame y.epoch (y.plant.panel.count + 1) actions) r.is frame) admitted r.closed r.reaches (subst (λ (y : Account). TakesFrame y actions) r.is takes)
-    loose (subst (λ (y : Account). Loosely y loose) r.is is) state b r.text (subst (λ (y : Account). (x : List ℕ) → IsLeft state x → Ready y x) r.is images) (subst (λ (y : Account). Rests (is_sent y loose) state b) r.is rests))
+    loose (subst (λ (y : Account). Loosely y loose) r.is is) state b r.text (subst (λ (y : Account). (x : List ℕ) → IsLeft state x → Ready y x) r.is images) (subst (λ (y : Account). RestsBut (is_sent y loose) state b) r.is rests))
 
 -- in a pause
 pub between : (a : Account) (k : Copy) (actions : List Action) (state : DeviceState) → IsCopy a k → a.gate + 1 ≤ end_of_half a → Paused a k state → IsFrame a.epoch (a.plant.panel.count + 1) actions → AreAdmitted a.plant actions → TakesFrame a actions

@@ -15,12 +15,12 @@ use Rattle.alm_codec.specs.declared.version.Version.{Version}
 use Rattle.alm_codec.specs.declared.version.Version.TheVariants.{V02}
 use Rattle.alm_codec.specs.Versions.{AreBorne}
 use Rattle.alm_codec.proofs.Frames.{all_borne}
-use Rattle.alm_keeper.specs.Keeper.{KeeperView, Standing, Takes, next, next_by, begun_by, first_run, piece, sends, after_call, after_by, BeginsCommit, BeginsCheckpoint, Progresses}
-use Rattle.alm_store.specs.Advancing.{IsOpen, TakesOn}
+use Rattle.alm_keeper.specs.Keeper.{KeeperView, Standing, HasRoomFor, next, next_by, begun_by, first_run, piece, sends, after_call, after_by, BeginsCommit, BeginsCheckpoint, Progresses}
+use Rattle.alm_store.specs.Advancing.{IsCheckpointing, TakesOn}
 use Rattle.alm_keeper.specs.AsStore.{pieces, body_calls, calls_left}
 
 -- a call is next of a work that is under way
-pub works : (s : Stage) (w : Work) → (phase_of s w ≡ at.Committing) ⊎ IsOpen (phase_of s w) → IsWorking s
+pub works : (s : Stage) (w : Work) → (phase_of s w ≡ at.Committing) ⊎ IsCheckpointing (phase_of s w) → IsWorking s
 works Idle w (inl e) = absurd cc
 works Idle w (inr e) = absurd e
 works Stopped w (inl e) = absurd cc
@@ -163,7 +163,7 @@ module _ {D : Type 0} (k : KeeperView D) where
   counted_by GateSync Commit (inr not) few = absurd (not refl)
   counted_by GateSync Checkpoint not few = omega (arith, few)
 
--- another device changes nothing of it
+-- it doesn't depend on the device
 pub same_next : {D : Type 0} (k : KeeperView D) (disk : D) → next (record k { disk = disk }) ≡ next k
 same_next k disk = ap (next_by k.stage k.stored) (by_work k.work)
   where
@@ -172,7 +172,7 @@ same_next k disk = ap (next_by k.stage k.stored) (by_work k.work)
     by_work Checkpoint = refl
 
 -- an open checkpoint's stage is of a checkpoint
-pub open_work : (s : Stage) (w : Work) → IsOpen (phase_of s w) → w ≡ Checkpoint
+pub open_work : (s : Stage) (w : Work) → IsCheckpointing (phase_of s w) → w ≡ Checkpoint
 open_work Idle w e = absurd e
 open_work Stopped w e = absurd e
 open_work s Checkpoint e = refl
@@ -197,7 +197,7 @@ module _ {D : Type 0} where
 
   -- a checkpoint makes room for a whole batch
   pub checkpoint_room : (result : Result Unit Refused) (old new : KeeperView D) → 4116 ≤ old.segment → BeginsCheckpoint result old new
-      → OnOk result ((actions : List Action) → length actions ≤ 256 → Takes (next new) actions)
+      → OnOk result ((actions : List Action) → length actions ≤ 256 → HasRoomFor (next new) actions)
   checkpoint_room (Ok u) old new least begins = λ actions few.
       let is = ap next begins ∙ first_next old.other_open old.stored _ in
       let room : (next new).room ≡ old.segment = ap (λ (s : Standing). s.room) is ∙ omega arith in
@@ -212,32 +212,32 @@ module _ {D : Type 0} where
       omega (arith, left, less)
 
   -- a checkpoint is done
-  turned : (old new : KeeperView D) → IsOpen (phase_of old.stage old.work) → Progresses Done old new → (new.stage ≡ Idle) × (new.stored ≡ begun_by Checkpoint old)
+  turned : (old new : KeeperView D) → IsCheckpointing (phase_of old.stage old.work) → Progresses Done old new → (new.stage ≡ Idle) × (new.stored ≡ begun_by Checkpoint old)
   turned old new goes_on goes =
       let work = open_work old.stage old.work goes_on in
       let is : after_call old ≡ after_by GateSync Checkpoint old = λ i. after_by (goes.0 i) (work i) old in
       (ap (λ (k : KeeperView D). k.stage) (goes.1) ∙ ap (λ (k : KeeperView D). k.stage) is, ap (λ (k : KeeperView D). k.stored) (goes.1) ∙ ap (λ (k : KeeperView D). k.stored) is)
 
-  pub idle_then : (old new : KeeperView D) → Progresses Done old new → IsOpen (phase_of old.stage old.work) → phase_of new.stage new.work ≡ at.Idle
+  pub idle_then : (old new : KeeperView D) → Progresses Done old new → IsCheckpointing (phase_of old.stage old.work) → phase_of new.stage new.work ≡ at.Idle
   idle_then old new goes goes_on = ap (λ (s : Stage). phase_of s new.work) (turned old new goes_on goes).0
 
   -- what will be taken is taken then, and will be until then
   pub will_take_on : (result : Progress) (old new : KeeperView D) → IsWorking old.stage → Progresses result old new
-      → (actions : List Action) → Takes (next old) actions → TakesOn result (phase_of old.stage old.work) (Takes (next new) actions) (Takes new.stored actions)
+      → (actions : List Action) → HasRoomFor (next old) actions → TakesOn result (phase_of old.stage old.work) (HasRoomFor (next new) actions) (HasRoomFor new.stored actions)
   will_take_on More old new works goes actions room =
       let same : next new ≡ next old = ap next goes.1 ∙ same_next (after_call old) new.disk ∙ next_kept old old.stage old.work refl goes.0 works in
-      subst (λ (s : Standing). Takes s actions) (sym same) room
+      subst (λ (s : Standing). HasRoomFor s actions) (sym same) room
   will_take_on Done old new works goes actions room = λ goes_on.
       let work = open_work old.stage old.work goes_on in
       let same : next old ≡ new.stored = (λ i. next_by (goes.0 i) old.stored (begun_by (work i) old)) ∙ sym (turned old new goes_on goes).1 in
-      subst (λ (s : Standing). Takes s actions) same room
+      subst (λ (s : Standing). HasRoomFor s actions) same room
   will_take_on Failed old new works goes actions room = tt
 
-  -- what was taken is taken behind a checkpoint's call
-  pub takes_kept : (result : Progress) (old new : KeeperView D) → IsOpen (phase_of old.stage old.work) → old.run + old.stored.room ≤ 25 + old.image + old.segment → Progresses result old new → result ≢ Failed
-      → (actions : List Action) → Takes old.stored actions → Takes new.stored actions
+  -- what was taken is taken after a checkpoint's call
+  pub takes_kept : (result : Progress) (old new : KeeperView D) → IsCheckpointing (phase_of old.stage old.work) → old.run + old.stored.room ≤ 25 + old.image + old.segment → Progresses result old new → result ≢ Failed
+      → (actions : List Action) → HasRoomFor old.stored actions → HasRoomFor new.stored actions
   takes_kept More old new goes_on runs goes not actions room =
-      subst (λ (s : Standing). Takes s actions) (sym (ap (λ (k : KeeperView D). k.stored) goes.1 ∙ stored_kept old old.stage old.work goes.0)) room
+      subst (λ (s : Standing). HasRoomFor s actions) (sym (ap (λ (k : KeeperView D). k.stored) goes.1 ∙ stored_kept old old.stage old.work goes.0)) room
   takes_kept Done old new goes_on runs goes not actions room =
       let turns = (turned old new goes_on goes).1 in
       let left : new.stored.room ≡ 25 + old.image + old.segment - old.run = ap (λ (s : Standing). s.room) turns in
@@ -255,7 +255,7 @@ module _ {D : Type 0} where
   unwritten Done old new goes not = let is = ap (λ (k : KeeperView D). k.written) goes.1 in omega (arith, is, unwritten_by old old.stage old.work not)
   unwritten Failed old new goes not = let is = ap (λ (k : KeeperView D). k.written) goes in omega (arith, is)
 
-  -- no call but a commit's last one sets the count back
+  -- only the last call of a commit resets the count
   pub counted : (result : Progress) (old new : KeeperView D) → Progresses result old new → (phase_of old.stage old.work ≢ at.Committing) ⊎ (result ≢ Done) → old.written ≤ 65536
       → old.written ≤ new.written
   counted More old new goes not few = let is = ap (λ (k : KeeperView D). k.written) goes.1 in omega (arith, is, counted_by old old.stage old.work (inl goes.0) few)

@@ -19,7 +19,7 @@ use Rattle.alm_checkpoint.specs.declared.layout.Layout.{Layout}
 use Rattle.alm_checkpoint.specs.Layouts.{part, half_at, half_len, other}
 use Rattle.alm_checkpoint.specs.Headers.{half_head_text}
 use Rattle.alm_keeper.specs.Stand.{Account, Ready, end_of_half, other_at, with_commit}
-use Rattle.alm_keeper.specs.Resting.{Rests, Kept}
+use Rattle.alm_keeper.specs.Resting.{RestsBut, Kept}
 use Rattle.alm_keeper.specs.declared.stage.Stage.TheVariants.{Idle}
 use Rattle.alm_keeper.specs.Piecewise.{Copy, since_text, open_text, run_text, IsCopy, is_sent, WrotePart, Paused, with_copied_frame}
 use Rattle.alm_keeper.proofs.Devices.{frame_long}
@@ -46,7 +46,7 @@ wrote_write result a text state new at bytes short long from to writes wrote =
     part_same (other_at a + 1) (length text) state.bytes new.bytes writes.size (omega (arith, short, long))
     (λ place ge lt. writes.outside place (outside a.layout a.half at (length bytes) place from to (omega (arith, ge)) (omega (arith, lt, short)))) ∙ wrote
 
-pub wrote_sync : {E : Type 0} (loose : ℕ → Bool) (a : Account) (text : List ℕ) (state new : DeviceState) (b : List ℕ) → Rests loose state b → Syncs {E = E} (Ok tt) state new → WrotePart a text state → WrotePart a text new
+pub wrote_sync : {E : Type 0} (loose : ℕ → Bool) (a : Account) (text : List ℕ) (state new : DeviceState) (b : List ℕ) → RestsBut loose state b → Syncs {E = E} (Ok tt) state new → WrotePart a text state → WrotePart a text new
 wrote_sync loose a text state new b rests syncs wrote = ap (part (other_at a + 1) (length text)) (syncs.read_stays rests.sound) ∙ wrote
 
 -- ---- the copy
@@ -77,7 +77,7 @@ module _ (a : Account) (k : Copy) (actions : List Action) (copy : IsCopy a k) wh
   pub open_grows : open_text (with_commit a actions) (with_copied_frame k actions) ≡ open_text a k ++ frame
   open_grows = ap (λ (t : List ℕ). start ++ t) since_grows ∙ sym (append_assoc start (since_text a k) frame)
 
-  -- what went out is the front of the longer run as well
+  -- what went out is a prefix of the longer run as well
   pub same_front : take k.out (run_text a k) ≡ take k.out (run_text (with_commit a actions) (with_copied_frame k actions))
   same_front =
       take-append-le k.out (open_text a k) (0 ∷ []) copy.left

@@ -9,7 +9,7 @@ use Rattle.alm_checkpoint.specs.Layouts.{layout_byte, half_at, half_len, other}
 use Rattle.alm_checkpoint.specs.Cut.{Cut, Stores, Reaches, IsBelow, front, with_other, side_front, side_back}
 use Rattle.alm_checkpoint.specs.Cut.{device_of}
 use Rattle.alm_keeper.specs.Stand.{HoldsPlant, Account, account_of, Ready, other_at}
-use Rattle.alm_keeper.specs.Resting.{Rests, or_within}
+use Rattle.alm_keeper.specs.Resting.{RestsBut, or_within}
 use Rattle.alm_keeper.specs.Phases.{with_other_shut, ClosesOther, Rested}
 use Rattle.alm_checkpoint.proofs.Grown.{gate_at}
 use Rattle.alm_checkpoint.proofs.Turned.{stores_other}
@@ -67,14 +67,14 @@ module _ (c : Cut) (plant : Condensed) (gate : ℕ) (tail : List ℕ) (stores : 
         text = sym (there c plant gate tail stores closed reaches (0 ∷ body));
       }
 
-  shown : (state : DeviceState) (b : List ℕ) → b ≡ device_of c (gate ∷ tail) → Rests none state b → Rests none state (ahead ++ (layout_byte c.other 0 ∷ body) ++ rear)
-  shown state b is rests = subst (Rests none state) (is ∙ there c plant gate tail stores closed reaches c.other ∙ ap (λ (o : List ℕ). ahead ++ o ++ rear) other_is) rests
+  shown : (state : DeviceState) (b : List ℕ) → b ≡ device_of c (gate ∷ tail) → RestsBut none state b → RestsBut none state (ahead ++ (layout_byte c.other 0 ∷ body) ++ rear)
+  shown state b is rests = subst (RestsBut none state) (is ∙ there c plant gate tail stores closed reaches c.other ∙ ap (λ (o : List ℕ). ahead ++ o ++ rear) other_is) rests
 
-  pub close_images : {E : Type 0} (result : Result Unit E) (state new : DeviceState) (b : List ℕ) → b ≡ device_of c (gate ∷ tail) → Rests none state b → Writes (half_at c.layout (other c.half)) (0 ∷ []) result state new → (x : List ℕ) → IsLeft new x → HoldsPlant c.epoch plant x
+  pub close_images : {E : Type 0} (result : Result Unit E) (state new : DeviceState) (b : List ℕ) → b ≡ device_of c (gate ∷ tail) → RestsBut none state b → Writes (half_at c.layout (other c.half)) (0 ∷ []) result state new → (x : List ℕ) → IsLeft new x → HoldsPlant c.epoch plant x
   close_images result state new b is rests writes x image =
       any_gate result none state new (half_at c.layout (other c.half)) (layout_byte c.other 0) 0 ahead body rear (HoldsPlant c.epoch plant) (blind_none (HoldsPlant c.epoch plant)) (shown state b is rests) writes (sym (ahead_long c plant gate tail stores closed reaches)) holds x image
 
-  pub close_rests : (E : Type 0) (state new : DeviceState) (b : List ℕ) → b ≡ device_of c (gate ∷ tail) → Rests none state b → Writes {E = E} (half_at c.layout (other c.half)) (0 ∷ []) (Ok tt) state new → Rests (or_within (half_at c.layout (other c.half)) 1 none) new (ahead ++ (0 ∷ body) ++ rear)
+  pub close_rests : (E : Type 0) (state new : DeviceState) (b : List ℕ) → b ≡ device_of c (gate ∷ tail) → RestsBut none state b → Writes {E = E} (half_at c.layout (other c.half)) (0 ∷ []) (Ok tt) state new → RestsBut (or_within (half_at c.layout (other c.half)) 1 none) new (ahead ++ (0 ∷ body) ++ rear)
   close_rests E state new b is rests writes =
       gate_rests none state new (half_at c.layout (other c.half)) (layout_byte c.other 0) 0 ahead body rear (shown state b is rests) writes (sym (ahead_long c plant gate tail stores closed reaches))
 
@@ -99,7 +99,7 @@ closes E a state new opened p writes =
 -- its sync: the other half is free
 pub closed_rests : (E : Type 0) (a : Account) (state new : DeviceState) → ClosesOther a state → Syncs {E = E} (Ok tt) state new → Rested (with_other_shut a) new
 closed_rests E a state new p syncs =
-    let rests : Rests none new p.bytes = syncs_rest (or_within (other_at a) 1 none) none state new p.bytes p.rests syncs in
+    let rests : RestsBut none new p.bytes = syncs_rest (or_within (other_at a) 1 none) none state new p.bytes p.rests syncs in
     record { images = λ b image. resting none new p.bytes b (Ready (with_other_shut a)) (blind_none (Ready (with_other_shut a))) rests p.ready image; bytes = p.bytes; ready = p.ready; rests = rests }
 
 pub sync_images : {E : Type 0} (result : Result Unit E) (a : Account) (state new : DeviceState) → ClosesOther a state → Syncs result state new → (b : List ℕ) → IsLeft new b → HoldsPlant a.epoch a.plant b

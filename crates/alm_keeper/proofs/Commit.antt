@@ -1,4 +1,4 @@
--- The bytes of a commit: its frame behind the gate of the half that stands.
+-- The bytes of a commit: its frame after the gate of the half that stands.
 use Rattle.std.proofs.Common.{◌≡◌, ℕ, ◌+◌, ◌*◌, ◌≤◌, false, List, [], ◌∷◌, ◌++◌, length, take, drop, refl, sym, ◌∙◌, ap, arith, append_assoc, length-append, length-drop, take-append-drop}
 use Rattle.std.proofs.lemmas.List.{length-take-le}
 use Rattle.alm_types.specs.declared.action.Action.{Action}

@@ -14,7 +14,7 @@ use Rattle.alm_checkpoint.specs.Cut.{Cut, Stores, Reaches, half_text, front, tur
 use Rattle.alm_checkpoint.specs.Cut.{device_of}
 use Rattle.alm_checkpoint.proofs.Pieces.{part_is}
 use Rattle.alm_keeper.specs.Stand.{Account, account_of, Ready, end_of_half, other_at}
-use Rattle.alm_keeper.specs.Resting.{Rests, Blind, Guarded, Kept}
+use Rattle.alm_keeper.specs.Resting.{RestsBut, Blind, Guarded, Kept}
 use Rattle.alm_keeper.specs.declared.stage.Stage.TheVariants.{BodySync}
 use Rattle.alm_keeper.specs.Piecewise.{Copy, since_text, open_text, run_text, IsCopy, is_sent, Paused, turned_by}
 use Rattle.alm_checkpoint.proofs.Grown.{gate_at}
@@ -95,7 +95,7 @@ module _ (c : Cut) (plant : Condensed) (gate : ℕ) (tail : List ℕ) (stores : 
     blind_after = blind_none (Ready (turned_by (account_of c plant) k));
   }
 
-  pub ending : (state : DeviceState) (b : List ℕ) → b ≡ device_of c (gate ∷ tail) → ((x : List ℕ) → IsLeft state x → Ready (account_of c plant) x) → Rests (is_sent (account_of c plant) n) state b → part (half_at c.layout (other c.half) + 1) n b ≡ run
+  pub ending : (state : DeviceState) (b : List ℕ) → b ≡ device_of c (gate ∷ tail) → ((x : List ℕ) → IsLeft state x → Ready (account_of c plant) x) → RestsBut (is_sent (account_of c plant) n) state b → part (half_at c.layout (other c.half) + 1) n b ≡ run
       → Kept none (Ready (account_of c plant)) (Ready (turned_by (account_of c plant) k)) BodySync state (half_at c.layout (other c.half)) run
   unfolding guarded
   ending state b is images rests wrote =
@@ -126,7 +126,7 @@ ends a k state copy gate p = go r.cut r.is
     go : (x : Cut) → a ≡ account_of r.cut a.plant → Kept none (Ready a) (Ready (turned_by a k)) BodySync state (other_at a) (run_text a k)
     go x is = subst (λ (y : Account). Kept none (Ready y) (Ready (turned_by y k)) BodySync state (other_at y) (run_text y k)) (sym is)
         (ending r.cut a.plant r.gate r.tail r.stores r.closed r.reaches k (subst (λ (y : Account). IsCopy y k) is copy) (subst (λ (y : Account). length (run_text y k) + 1 ≤ half_len y.layout) is (run_fits a k copy gate)) state p.bytes r.text
-        (subst (λ (y : Account). (x : List ℕ) → IsLeft state x → Ready y x) is p.images) (subst (λ (y : Account). Rests (is_sent y (length (run_text y k))) state p.bytes) is p.rests)
+        (subst (λ (y : Account). (x : List ℕ) → IsLeft state x → Ready y x) is p.images) (subst (λ (y : Account). RestsBut (is_sent y (length (run_text y k))) state p.bytes) is p.rests)
         (subst (λ (y : Account). part (other_at y + 1) (length (run_text y k)) p.bytes ≡ run_text y k) is wrote))
       where
         whole : take (length (run_text a k)) (run_text a k) ≡ run_text a k

@@ -1,4 +1,4 @@
--- A device on which all is written stands for the new plant.
+-- A device on which all is written encodes the new plant.
 use Rattle.std.proofs.Common.{◌≡◌, inl, inr, ⊎_elim, ℕ, suc, ◌+◌, ◌-◌, ◌≤◌, true, false, leb, List, [], ◌∷◌, ◌++◌, length, take, drop, refl, sym, ◌∙◌, ap, subst, arith, append_assoc, length-append, length-drop, take-append-drop}
 use Rattle.std.proofs.lemmas.Bool.{leb-true, le-leb, and_parts, and_from}
 use Rattle.std.proofs.lemmas.List.{append-nil, length-take-le, take_at, drop_at, length-replicate}
@@ -33,7 +33,7 @@ put_mid at bytes front old back place long = (λ i. take (place i) (front ++ old
     drop_back : drop (length front + length old) (front ++ old ++ back) ≡ back
     drop_back = drop_at (front ++ old) back (length front + length old) (length-append front old)
 
--- the same, where the list is regrouped before and behind
+-- the same, with the list regrouped before and after
 put_in : (at : ℕ) (bytes front old back all after : List ℕ) → all ≡ front ++ old ++ back → front ++ bytes ++ back ≡ after → at ≡ length front → length bytes ≡ length old → overwritten at bytes all ≡ after
 put_in at bytes front old back all after is to place long = ap (overwritten at bytes) is ∙ put_mid at bytes front old back place long ∙ to
 
@@ -152,7 +152,7 @@ regroup header head image s o r = simp append_assoc
 nils : (p q t b : List ℕ) → (p ++ q) ++ t ++ b ≡ ((p ++ []) ++ (q ++ [])) ++ t ++ b
 nils p q t b = λ i. (sym (append-nil p) i ++ sym (append-nil q) i) ++ t ++ b
 
--- a half of the header's version stands under it
+-- a half of the header's version is under it
 own_version : (v : Version) → allows v v ≡ true
 own_version V01 = refl
 own_version V02 = refl

@@ -20,13 +20,13 @@ use Rattle.alm_keeper.specs.Stages.{IsWorking, rest_stage, rest_work, During}
 use Rattle.alm_keeper.specs.Stand.{HoldsPlant, Ready, Account, other_at, with_commit, turned_half}
 use Rattle.alm_keeper.specs.Piecewise.{Copy, IsCopy, open_text, run_text, turned_by, with_copied_frame, with_sent_bytes}
 use Rattle.alm_keeper.specs.Phases.{Rest, Pause, End, KeptIn, StageCall, MakesCall, DuringIn, next_work, next_account}
-use Rattle.alm_keeper.specs.Keeping.{account, run_in, piece_of, done_by, account_next_at, account_next, InOrder, ClosesBook, TurnsBook, GrowsBook, GrowsWhere, IsBookAfter, sent_by, work_alone, work_beside, at_out, KeptBy, Keeps, PassesBy, PassesOn, MayLeave, Ends}
+use Rattle.alm_keeper.specs.Keeping.{account, run_in, piece_of, done_by, account_next_at, account_next, InOrder, ClosesBook, TurnsBook, GrowsBook, GrowsWhere, IsBookAfter, sent_by, work_alone, work_beside, at_out, KeptBy, Keeps, PassesBy, PassesOn, MayLeave, EndsStep}
 use Rattle.alm_keeper.proofs.Carried.{open_grows, frame_is}
 use Rattle.alm_keeper.proofs.Commit.{ready_holds}
 use Rattle.alm_keeper.proofs.Order.{Possible, possible, opened}
 use Rattle.alm_keeper.proofs.Phases.{advances}
 
--- both halves lie on the device
+-- both halves are on the device
 pub half_within : (l : Layout) (h : Half) (size : ℕ) → device_len l ≤ size → half_at l h + half_len l ≤ size
 half_within l First size fits = omega (arith, fits)
 half_within l Second size fits = omega (arith, fits)
@@ -80,7 +80,7 @@ module _ (result : Result Unit DiskFault) (a : Account) (actions : List Action) 
   commit_call k GateSync may call = call
   commit_call k Stopped may call = absurd may
 
-  -- of a checkpoint, but for its pieces
+  -- of a checkpoint, except for its pieces
   pub checkpoint_call : (k : Copy) (stage : Stage) → (stage ≡ Body → ⊥) → StageCall stage (other_at a) [] result old new → MakesCall (work_beside stage Checkpoint k actions) a n result old new
   checkpoint_call k Idle pieces call = absurd call
   checkpoint_call k Close pieces call = call
@@ -320,7 +320,7 @@ module _ (step : Progress) (old new : Book) (state : DeviceState) (i : InOrder o
   goes_alone GateSync off is may goes kept = commit_closes goes.1 off kept
   goes_alone Stopped off is may goes kept = absurd may
 
-  -- beside one
+  -- with an open checkpoint
   module _ (k : Copy) (run : run_text (account old) k ≡ run_in old) (on : old.copying ≡ true) where
     abbrev here : Copy
     here = at_out k old.out
@@ -394,7 +394,7 @@ module _ (step : Progress) (old new : Book) (state : DeviceState) (i : InOrder o
       by_copying true Commit on is may g p = goes_commit p.0 p.1 on was old.stage is may g p.2 (p.3.kept done)
       by_copying true Checkpoint on is may g p = goes_checkpoint p.0 p.1 on old.stage is may g (p.3.kept done)
 
--- a call that was done isn't told as failed
+-- a call that was done isn't reported as failed
 abbrev IsFailed : Progress → Type 0
 IsFailed Failed = Unit {0}
 IsFailed step = ⊥
@@ -413,7 +413,7 @@ not_failed Gate work step old new goes = told step More goes.0 (λ f. f)
 not_failed GateSync work step old new goes = told step Done goes.0 (λ f. f)
 not_failed Stopped work step old new goes = told step More goes.0 (λ f. f)
 
-pub ends_by : (step : Progress) (old new : Book) → IsBookAfter old.stage old.work step old new → Ends step old new
+pub ends_by : (step : Progress) (old new : Book) → IsBookAfter old.stage old.work step old new → EndsStep step old new
 ends_by More old new goes = goes
 ends_by Done old new goes = goes
 ends_by Failed old new goes = absurd (not_failed old.stage old.work Failed old new goes refl)

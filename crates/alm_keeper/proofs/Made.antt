@@ -18,11 +18,11 @@ use Rattle.alm_store.specs.declared.open_fault.OpenFault.TheVariants.{Unformatte
 use Rattle.alm_keeper.specs.Opening.{Restores}
 use Rattle.alm_keeper.specs.Stand.{Account}
 
--- the reads up to a fault are the first ones of some layout and half: those of any do where the header alone was read
+-- the reads up to a fault are the first ones of some layout and half: those of any do if only the header was read
 any_layout : Layout
 any_layout = record { rows = 0; areas = 0; segment = 0; version = V02 }
 
--- the reads behind that of the header
+-- the reads after that of the header
 pub behind_header : Layout → Half → List Call
 behind_header l h = Read (half_at l First) 25 ∷ Read (half_at l Second) 25 ∷ Read (image_at l h) (image_size l) ∷ Read (segment_at l h) l.segment ∷ []
 
@@ -39,12 +39,12 @@ module _ {D : Type 0} (serves : D → Call → Result Unit DiskFault → D → T
   done_by l m image segment old new (Ok book) r made = subst (λ (a : Account). AreDone serves (reads_of a.layout a.half) old new) (sym r.1) made
   done_by l m image segment old new (Err f) r made = tt
 
-  -- .. behind a sync
+  -- .. after a sync
   pub done_behind : (old between new : D) (result : Result Book OpenFault) → serves old Sync (Ok tt) between → IfOk result (λ book. AreDone serves (reads_of book.layout book.half) between new) → IfOk result (λ book. AreDone serves (Sync ∷ reads_of book.layout book.half) old new)
   done_behind old between new (Ok book) served made = (between, served, made)
   done_behind old between new (Err f) served made = tt
 
-  -- ---- where a fault came of them
+  -- ---- if they end in a fault
 
   none_done : (calls : List Call) (a b : D) → b ≡ a → SomeAreDone serves calls a b
   none_done [] a b is = is
@@ -84,7 +84,7 @@ module _ {D : Type 0} (serves : D → Call → Result Unit DiskFault → D → T
   pub ends_failed : (call : Call) (a b : D) (why : DiskFault) → serves a call (Err why) b → EndIn Disk serves (call ∷ []) a b
   ends_failed call a b why s = inl (why, s)
 
-  -- a fault that is not the device's comes behind calls that were done, or before the first
+  -- a fault that is not the device's comes after calls that were done, or before the first
   all_done : (calls : List Call) (a b : D) → AreDone serves calls a b → SomeAreDone serves calls a b
   all_done [] a b is = is
   all_done (x ∷ xs) a b is = inr (is.0, is.1, all_done xs is.0 b is.2)
@@ -112,7 +112,7 @@ module _ {D : Type 0} (serves : D → Call → Result Unit DiskFault → D → T
   ends_restored l m image segment old new (Err Unformatted) r made = (l, m.half, all_done (reads_of l m.half) old new made)
   ends_restored l m image segment old new (Err (Damaged half at)) r made = (l, m.half, all_done (reads_of l m.half) old new made)
 
-  -- .. behind a sync
+  -- .. after a sync
   abbrev pub Refused : OpenFault → D → D → Type 0
   Refused f old new = (layout : Layout) × (half : Half) × SyncsAndEndsIn f serves (reads_of layout half) old new
 

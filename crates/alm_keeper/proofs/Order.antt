@@ -23,9 +23,9 @@ use Rattle.alm_checkpoint.specs.declared.layout.Layout.{Layout}
 use Rattle.alm_checkpoint.specs.Cut.{IsLayout}
 use Rattle.alm_store.specs.declared.phase.Phase.TheVariants as at
 use Rattle.alm_keeper.specs.Stand.{Account, end_of_half, with_commit}
-use Rattle.alm_keeper.specs.Keeping.{account, run_in, Committing, DoesWork, Does, OpenedBook, Sent, IsCopying, GrowsBook, GrowsWhere, ClosesBook, InOrder}
+use Rattle.alm_keeper.specs.Keeping.{account, run_in, Committing, DoesWork, Does, OpenedBook, HasSent, IsCopying, GrowsBook, GrowsWhere, ClosesBook, InOrder}
 
--- what may be under way: a gate is closed by a checkpoint alone, and a checkpoint is open as long as it is under way
+-- what may be under way: only a checkpoint closes a gate, and a checkpoint is open as long as it is under way
 abbrev pub Possible : Stage → Bool → Work → Type 0
 Possible Idle copying work = ⊥
 Possible Stopped copying work = ⊥
@@ -100,10 +100,10 @@ opened b i works on = by_stage b.stage works (subst (λ (o : Bool). IsCopying o 
     by_stage Gate works o = o
     by_stage GateSync works o = o
 
-pub sent_at : (b : Book) (stage : Stage) (work : Work) → InOrder b → IsWorking stage → b.stage ≡ stage → b.work ≡ work → b.copying ≡ true → Sent stage work b.out b.run
+pub sent_at : (b : Book) (stage : Stage) (work : Work) → InOrder b → IsWorking stage → b.stage ≡ stage → b.work ≡ work → b.copying ≡ true → HasSent stage work b.out b.run
 sent_at b stage work i works at is on =
     let here : IsWorking b.stage = subst IsWorking (sym at) works in
-    subst (λ (s : Stage). Sent s work b.out b.run) at (subst (λ (w : Work). Sent b.stage w b.out b.run) is (opened b i here on).sent)
+    subst (λ (s : Stage). HasSent s work b.out b.run) at (subst (λ (w : Work). HasSent b.stage w b.out b.run) is (opened b i here on).sent)
 
 -- the plant after a commit
 pub rules_after : (b : Book) → InOrder b → Committing (account b) b.actions.items b.frame.items b.ahead → KeepsRules (run b.stored b.actions.items)
@@ -117,7 +117,7 @@ sizes_after b i c =
 pub count_after : (b : Book) → InOrder b → Committing (account b) b.actions.items b.frame.items b.ahead → (run b.stored b.actions.items).panel.count ≤ 2 ^ 48
 count_after b i c = run_within b.stored b.actions.items i.count c.admitted
 
--- nothing is under way: nothing is begun
+-- no work is under way: none is begun
 pub rests : (b : Book) → IsResting (phase_of b.stage b.work) → InOrder b → b.ahead ≡ b.stored
 rests b idle i = by_stage b.stage b.work idle i.does
   where
@@ -171,7 +171,7 @@ opens_copy new false is more run first out within = record {
   least = omega (arith, run);
   room = omega (arith, run, first);
   within = within;
-  sent = subst (λ (w : Work). Sent Body w new.out new.run) (sym is) (let lt : new.out < new.run = omega (arith, run, out) in lt);
+  sent = subst (λ (w : Work). HasSent Body w new.out new.run) (sym is) (let lt : new.out < new.run = omega (arith, run, out) in lt);
 }
 
 -- a commit that is done
@@ -211,7 +211,7 @@ module _ (old new : Book) (i : InOrder old) (last : old.stage ≡ GateSync) (is 
         least = omega (arith, o.least, g.run, size);
         room = omega (arith, o.room, g.run, size, at, gate);
         within = within on;
-        sent = subst (λ (x : Work). Sent Body x new.out new.run) (sym (c.work ∙ ap rest_work on)) (let lt : new.out < new.run = omega (arith, sent, c.out, g.run) in lt);
+        sent = subst (λ (x : Work). HasSent Body x new.out new.run) (sym (c.work ∙ ap rest_work on)) (let lt : new.out < new.run = omega (arith, sent, c.out, g.run) in lt);
       }
 
   copy : (o : Bool) → old.copying ≡ o → IsCopying o (rest_stage o) new
@@ -271,7 +271,7 @@ resumed_by old mid new on s stage work same g = record {
   written = ap (λ (b : Book). b.written) same ∙ ap (λ (b : Book). b.written) s.1;
 }
 
--- what stays of a book where a commit is stored
+-- what stays of a book if a commit is stored
 pub ordered_by : (old mid new : Book) → InOrder old → old.stage ≡ GateSync → old.work ≡ Commit → Stores old mid → ClosesBook old new → new.ahead ≡ mid.ahead → new.frame ≡ mid.frame → new.actions ≡ mid.actions → vec_capacity new.buffer ≡ vec_capacity mid.buffer → (old.copying ≡ true → new.run ≤ length new.buffer.items) → InOrder new
 ordered_by old mid new i last is s c ahead frame actions buffer within =
     closes_order old new i last is c (ahead ∙ ap (λ (b : Book). b.ahead) s.1) (ap (λ f. length f.items) frame ∙ ap (λ (b : Book). length b.frame.items) s.1 ∙ i.frame)
@@ -322,7 +322,7 @@ runs_by b i works is = (by_stage b.stage refl, omega (arith, o.room, i.first, i.
     o : OpenedBook b.stage b
     o = opened b i works on
 
-    sent : (s : Stage) → b.stage ≡ s → IsWorking s → Sent s Checkpoint b.out b.run
+    sent : (s : Stage) → b.stage ≡ s → IsWorking s → HasSent s Checkpoint b.out b.run
     sent s at here = sent_at b s Checkpoint i here at is on
 
     by_stage : (s : Stage) → b.stage ≡ s → b.out ≤ b.run
@@ -339,7 +339,7 @@ runs_by b i works is = (by_stage b.stage refl, omega (arith, o.room, i.first, i.
 pub frames_by : (b : Book) → InOrder b → IsWorking b.stage → b.work ≡ Commit → (length b.actions.items ≤ 256) × (b.copying ≡ true → b.out + 1 ≤ b.run)
 frames_by b i works is = ((commits b i works is).spells.few, λ on. by_stage b.stage refl on)
   where
-    sent : (s : Stage) → b.stage ≡ s → IsWorking s → b.copying ≡ true → Sent s Commit b.out b.run
+    sent : (s : Stage) → b.stage ≡ s → IsWorking s → b.copying ≡ true → HasSent s Commit b.out b.run
     sent s at here on = sent_at b s Commit i here at is on
 
     by_stage : (s : Stage) → b.stage ≡ s → b.copying ≡ true → b.out + 1 ≤ b.run
@@ -352,7 +352,7 @@ frames_by b i works is = ((commits b i works is).spells.few, λ on. by_stage b.s
     by_stage Gate at on = omega (arith, sent Gate at tt on)
     by_stage GateSync at on = omega (arith, sent GateSync at tt on)
 
--- where nothing is under way no checkpoint is open, and one is where it is
+-- if no work is under way no checkpoint is open, and one is if it is the work
 pub copies_by : (b : Book) → InOrder b → (b.stage ≡ Idle → b.copying ≡ false) × (IsWorking b.stage → b.work ≡ Checkpoint → b.copying ≡ true)
 copies_by b i = (λ at. (subst (λ (s : Stage). Does s b.work b) at i.does).0, λ works is. (copies b i works is).0)
 

@@ -39,7 +39,7 @@ module _ (a : Account) (k : Copy) (n : ℕ) (state : DeviceState) (c : IsCopy a 
       let differs : k.out + n ≢ length (run_text a k) = eqb-false (k.out + n) (length (run_text a k)) is in
       (record { more = c.more; image = c.image; sizes = c.sizes; count = c.count; frames = c.frames; admitted = c.admitted; runs = c.runs; room = c.room; shut = c.shut; left = omega (arith, within, differs, length-append (open_text a k) (0 ∷ [])) }, p)
 
--- ---- a step of a write behind a gate
+-- ---- a step of a write after a gate
 
 module _ {E : Type 0} (result : Result Unit E) (loose : ℕ → Bool) (Before After : List ℕ → Type 0) (old new : DeviceState) (at : ℕ) (text : List ℕ) where
   pub moments : (step : Stage) → StageCall step at text result old new → Kept loose Before After step old at text → (b : List ℕ) → IsLeft old b ⊎ IsLeft new b → During Before After step b

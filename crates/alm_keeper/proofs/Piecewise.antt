@@ -31,7 +31,7 @@ module _ (c : Cut) (plant : Condensed) (gate : ℕ) (tail : List ℕ) (stores : 
   pub ahead_long : length ahead ≡ half_at c.layout (other c.half)
   ahead_long = side_long c plant (gate ∷ tail) stores reaches c.half refl
 
-  -- any other half behind its closed gate
+  -- any other half after its closed gate
   pub ready_with : is_gate_open (layout_byte c.other 0) ≡ false → (o : List ℕ) → length o ≡ half_len c.layout → is_gate_open (layout_byte o 0) ≡ false → Ready (account_of c plant) (ahead ++ o ++ rear)
   ready_with old o long shut =
       let kept : Stores (with_other c o) plant = stores_other c plant o stores long (inl shut) in
@@ -47,7 +47,7 @@ module _ (c : Cut) (plant : Condensed) (gate : ℕ) (tail : List ℕ) (stores : 
         text = sym (there o);
       }
 
-  -- the same with the bytes behind that gate set apart
+  -- the same with the bytes after that gate set apart
   module _ (n : ℕ) (within : n + 1 ≤ half_len c.layout) (shut : is_gate_open (layout_byte c.other 0) ≡ false) where
     abbrev room : List ℕ
     room = take n (drop 1 c.other)
@@ -77,7 +77,7 @@ module _ (c : Cut) (plant : Condensed) (gate : ℕ) (tail : List ℕ) (stores : 
     ready_mid mid long = subst (Ready (account_of c plant)) (sym (apart ahead mid left rear (layout_byte c.other 0)))
         (ready_with shut (layout_byte c.other 0 ∷ (mid ++ left)) (omega (arith, long, left_long, length-append mid left)) shut)
 
-    -- what is known of the device doesn't hang on them
+    -- what is known of the device doesn't depend on them
     pub blind : (b : List ℕ) → IsBeside (is_within (half_at c.layout (other c.half) + 1) n) (device_of c (gate ∷ tail)) b → Ready (account_of c plant) b
     blind b beside =
         let at = ahead ++ layout_byte c.other 0 ∷ [] in
@@ -85,7 +85,7 @@ module _ (c : Cut) (plant : Condensed) (gate : ℕ) (tail : List ℕ) (stores : 
         (λ place out. beside.same place ((λ i. is_within (front_is i) (sym room_long i) place) ∙ out) ∙ ap (λ (l : List ℕ). byte_of l place) here) in
         subst (Ready (account_of c plant)) (sym found.2) (ready_mid found.0 (found.1 ∙ room_long))
 
--- the places behind the other half's closed gate
+-- the places after the other half's closed gate
 pub ready_blind : (a : Account) (n : ℕ) → a.other_open ≡ false → n + 1 ≤ half_len a.layout → Blind (is_sent a n) (Ready a)
 ready_blind a n shut within b c r beside =
     let shut_here : is_gate_open (layout_byte r.cut.other 0) ≡ false = ap (λ (y : Account). y.other_open) (sym r.is) ∙ shut in

@@ -2,7 +2,7 @@
 use Rattle.std.proofs.Common.{◌≡◌, ℕ, ◌<◌, List, length, take, drop, Err, refl, arith, length-drop}
 use Rattle.std.proofs.lemmas.List.{length-take}
 use Rattle.std.proofs.lemmas.Bool.{lt-leb}
-use Rattle.alm_checkpoint.specs.declared.fault.Fault.TheVariants.{Unformatted}
+use Rattle.alm_checkpoint.specs.declared.device_fault.DeviceFault.TheVariants.{Unformatted}
 use Rattle.alm_checkpoint.specs.Opening.{layout_in, layout_from}
 
 -- a device shorter than a header is not formatted

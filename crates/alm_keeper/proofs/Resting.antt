@@ -5,7 +5,7 @@ use Rattle.std.proofs.lemmas.List.{get_or_append_left, get_or-append_right, get_
 use Rattle.alm_disk.specs.Device.{DeviceState, IsImage, Writes, Syncs, byte_at, is_within}
 use Rattle.alm_disk.proofs.Images.{synced_image}
 use Rattle.alm_disk.proofs.Places.{outside_cases}
-use Rattle.alm_keeper.specs.Resting.{Rests, or_within, IsBeside, Blind, Guarded, with_gate, Kept, Passes}
+use Rattle.alm_keeper.specs.Resting.{RestsBut, or_within, IsBeside, Blind, Guarded, with_gate, Kept, Passes}
 use Rattle.alm_keeper.specs.Stages.{stage_after}
 use Rattle.alm_keeper.specs.declared.stage.Stage.TheVariants.{Body, BodySync, Gate, GateSync}
 
@@ -58,30 +58,32 @@ module _ (loose : ℕ → Bool) (front old back list : List ℕ) (long : length 
     | inr out ↦ outside place out free ∙ sym (same_outside front old mid back mid_long place out)
   ]
 
-  -- a list that differs in the middle and in the loose places: put the middle in, and it differs in the loose places alone
+  -- a list that differs in the middle and in the loose places: with the middle put in, it differs only in the loose
+  -- places
   pub over : (mid : List ℕ) × (length mid ≡ length old) × IsBeside loose (front ++ mid ++ back) list
   over = (mid, mid_long, record { size = same_long; same = same })
 
 -- ---- what a crash leaves
 
--- a range was written that is awaited: what holds with any bytes there, and doesn't hang on the loose places, holds of each image
+-- a range was written that is awaited: what is true with any bytes there, and doesn't depend on the loose places, is true of each
+-- image
 pub left_over : (loose : ℕ → Bool) (state : DeviceState) (at n : ℕ) (front old back c : List ℕ) (P : List ℕ → Type 0) → Blind loose P
-    → Rests (or_within at n loose) state (front ++ old ++ back) → at ≡ length front → n ≡ length old
+    → RestsBut (or_within at n loose) state (front ++ old ++ back) → at ≡ length front → n ≡ length old
     → ((mid : List ℕ) → length mid ≡ length old → P (front ++ mid ++ back)) → IsImage state c → P c
 left_over loose state at n front old back c P blind rests place long any image =
     let found = over loose front old back c (image.size ∙ ap length rests.reads)
     (λ i out free. image.stable i (rests.within i ((λ j. is_within (place j) (long j) i || loose i) ∙ (λ j. out j || loose i) ∙ free)) ∙ ap (λ (l : List ℕ). byte_at l i) rests.reads) in
     blind (front ++ found.0 ++ back) c (any found.0 found.1) found.2
 
--- nothing but loose places is pending
-pub resting : (loose : ℕ → Bool) (state : DeviceState) (b c : List ℕ) (P : List ℕ → Type 0) → Blind loose P → Rests loose state b → P b → IsImage state c → P c
+-- only loose places are pending
+pub resting : (loose : ℕ → Bool) (state : DeviceState) (b c : List ℕ) (P : List ℕ → Type 0) → Blind loose P → RestsBut loose state b → P b → IsImage state c → P c
 resting loose state b c P blind rests is image =
     blind b c is (record { size = image.size ∙ ap length rests.reads; same = λ i free. image.stable i (rests.within i free) ∙ ap (λ (l : List ℕ). byte_at l i) rests.reads })
 
 -- a write: what was pending and its range are
 pub writes_rest : {E : Type 0} (loose : ℕ → Bool) (state new : DeviceState) (at : ℕ) (bytes front old back : List ℕ)
-    → Rests loose state (front ++ old ++ back) → Writes {E = E} at bytes (Ok tt) state new → at ≡ length front → length bytes ≡ length old
-    → Rests (or_within at (length bytes) loose) new (front ++ bytes ++ back)
+    → RestsBut loose state (front ++ old ++ back) → Writes {E = E} at bytes (Ok tt) state new → at ≡ length front → length bytes ≡ length old
+    → RestsBut (or_within at (length bytes) loose) new (front ++ bytes ++ back)
 writes_rest loose state new at bytes front old back rests writes place long = record {
   reads = writes.written ∙ (λ i. take (place i) (rests.reads i) ++ bytes ++ drop (place i + long i) (rests.reads i)) ∙ (λ i. take_front i ++ bytes ++ drop_back i);
   within = λ i out.
@@ -98,7 +100,7 @@ writes_rest loose state new at bytes front old back rests writes place long = re
 
 -- after a write, done or failed, what a crash leaves reads outside its range and the loose places as before
 pub write_over : {E : Type 0} (result : Result Unit E) (loose : ℕ → Bool) (state new : DeviceState) (at : ℕ) (bytes front old back c : List ℕ) (P : List ℕ → Type 0) → Blind loose P
-    → Rests loose state (front ++ old ++ back) → Writes at bytes result state new → at ≡ length front → length bytes ≡ length old
+    → RestsBut loose state (front ++ old ++ back) → Writes at bytes result state new → at ≡ length front → length bytes ≡ length old
     → ((mid : List ℕ) → length mid ≡ length old → P (front ++ mid ++ back)) → IsImage new c → P c
 write_over result loose state new at bytes front old back c P blind rests writes place long any image =
     let found = over loose front old back c (image.size ∙ writes.size ∙ ap length rests.reads)
@@ -107,8 +109,8 @@ write_over result loose state new at bytes front old back c P blind rests writes
     image.stable i (writes.pending i ∙ (λ j. here j || state.pending i) ∙ rests.within i free) ∙ writes.outside i here ∙ ap (λ (l : List ℕ). byte_at l i) rests.reads) in
     blind (front ++ found.0 ++ back) c (any found.0 found.1) found.2
 
--- after a sync nothing is pending, what was awaited and what was loose
-pub syncs_rest : {E : Type 0} (loose any : ℕ → Bool) (state new : DeviceState) (b : List ℕ) → Rests loose state b → Syncs {E = E} (Ok tt) state new → Rests any new b
+-- after a sync no place is pending, neither what was awaited nor what was loose
+pub syncs_rest : {E : Type 0} (loose any : ℕ → Bool) (state new : DeviceState) (b : List ℕ) → RestsBut loose state b → Syncs {E = E} (Ok tt) state new → RestsBut any new b
 syncs_rest loose any state new b rests syncs = record { reads = syncs.read_stays rests.sound ∙ rests.reads; within = λ i free. syncs.nothing_pending i; sound = syncs.done }
 
 -- ---- the four calls
@@ -121,10 +123,10 @@ at_gate a b d g = simp append_assoc
 
 -- one byte was written: what holds with each gate holds of each image
 pub any_gate : {E : Type 0} (result : Result Unit E) (loose : ℕ → Bool) (state new : DeviceState) (at g g' : ℕ) (front left back : List ℕ) (P : List ℕ → Type 0) → Blind loose P
-    → Rests loose state (front ++ (g ∷ left) ++ back) → Writes at (g' ∷ []) result state new → at ≡ length front
+    → RestsBut loose state (front ++ (g ∷ left) ++ back) → Writes at (g' ∷ []) result state new → at ≡ length front
     → ((gate : ℕ) → P (front ++ (gate ∷ left) ++ back)) → (c : List ℕ) → IsImage new c → P c
 any_gate result loose state new at g g' front left back P blind rests writes place any c image =
-    write_over result loose state new at (g' ∷ []) front (g ∷ []) (left ++ back) c P blind (subst (Rests loose state) (at_gate front left back g) rests) writes place refl one image
+    write_over result loose state new at (g' ∷ []) front (g ∷ []) (left ++ back) c P blind (subst (RestsBut loose state) (at_gate front left back g) rests) writes place refl one image
   where
     one : (mid : List ℕ) → length mid ≡ 1 → P (front ++ mid ++ (left ++ back))
     one [] short = absurd (omega arith)
@@ -132,11 +134,11 @@ any_gate result loose state new at g g' front left back P blind rests writes pla
     one (h ∷ i ∷ mid) short = absurd (omega arith)
 
 pub gate_rests : {E : Type 0} (loose : ℕ → Bool) (state new : DeviceState) (at g g' : ℕ) (front left back : List ℕ)
-    → Rests loose state (front ++ (g ∷ left) ++ back) → Writes {E = E} at (g' ∷ []) (Ok tt) state new → at ≡ length front
-    → Rests (or_within at 1 loose) new (front ++ (g' ∷ left) ++ back)
+    → RestsBut loose state (front ++ (g ∷ left) ++ back) → Writes {E = E} at (g' ∷ []) (Ok tt) state new → at ≡ length front
+    → RestsBut (or_within at 1 loose) new (front ++ (g' ∷ left) ++ back)
 gate_rests loose state new at g g' front left back rests writes place =
-    subst (Rests (or_within at 1 loose) new) (sym (at_gate front left back g'))
-    (writes_rest loose state new at (g' ∷ []) front (g ∷ []) (left ++ back) (subst (Rests loose state) (at_gate front left back g) rests) writes place refl)
+    subst (RestsBut (or_within at 1 loose) new) (sym (at_gate front left back g'))
+    (writes_rest loose state new at (g' ∷ []) front (g ∷ []) (left ++ back) (subst (RestsBut loose state) (at_gate front left back g) rests) writes place refl)
 
 module _ (loose : ℕ → Bool) (Before After : List ℕ → Type 0) (at : ℕ) (text : List ℕ) where
   blind_either : Blind loose Before → Blind loose After → Blind loose (λ b. Before b ⊎ After b)
@@ -156,7 +158,7 @@ module _ {E : Type 0} (loose : ℕ → Bool) (Before After : List ℕ → Type 0
   body_images result kept writes c image =
       let k = kept.stands.0 in
       let g = kept.stands.1 in
-      write_over result loose state new (at + 1) text (k.front ++ g ∷ []) k.room k.back c Before k.blind_before (subst (Rests loose state) (at_body k.front k.room k.back g) kept.stands.3) writes (behind loose Before After at text k g) (sym k.fits)
+      write_over result loose state new (at + 1) text (k.front ++ g ∷ []) k.room k.back c Before k.blind_before (subst (RestsBut loose state) (at_body k.front k.room k.back g) kept.stands.3) writes (behind loose Before After at text k g) (sym k.fits)
       (λ left long. subst Before (at_body k.front left k.back g) (k.closed g kept.stands.2 left long)) image
 
   pub body_goes : (result : Result Unit E) → Kept loose Before After Body state at text → Writes (at + 1) text result state new → Kept loose Before After (stage_after Body result) new at text
@@ -170,8 +172,8 @@ module _ {E : Type 0} (loose : ℕ → Bool) (Before After : List ℕ → Type 0
           k,
           g,
           kept.stands.2,
-          subst (Rests (or_within (at + 1) (length text) loose) new) (sym (at_body k.front text k.back g))
-              (writes_rest loose state new (at + 1) text (k.front ++ g ∷ []) k.room k.back (subst (Rests loose state) (at_body k.front k.room k.back g) kept.stands.3) writes (behind loose Before After at text k g) (sym k.fits)),
+          subst (RestsBut (or_within (at + 1) (length text) loose) new) (sym (at_body k.front text k.back g))
+              (writes_rest loose state new (at + 1) text (k.front ++ g ∷ []) k.room k.back (subst (RestsBut loose state) (at_body k.front k.room k.back g) kept.stands.3) writes (behind loose Before After at text k g) (sym k.fits)),
         );
       }
   body_goes (Err e) kept writes = record { images = λ c image. inl (body_images (Err e) kept writes c image); stands = tt }
@@ -199,7 +201,7 @@ module _ {E : Type 0} (loose : ℕ → Bool) (Before After : List ℕ → Type 0
   pub gate_sync_goes : (result : Result Unit E) → Kept loose Before After GateSync state at text → Syncs result state new → Kept loose Before After (stage_after GateSync result) new at text
   gate_sync_goes (Ok _) kept syncs =
       let k = kept.stands.0 in
-      let rests : Rests loose new (with_gate k 165 text) = syncs_rest (or_within at 1 loose) loose state new (with_gate k 165 text) kept.stands.1 syncs in
+      let rests : RestsBut loose new (with_gate k 165 text) = syncs_rest (or_within at 1 loose) loose state new (with_gate k 165 text) kept.stands.1 syncs in
       record { images = λ c image. resting loose new (with_gate k 165 text) c After k.blind_after rests k.whole image; stands = (with_gate k 165 text, k.whole, rests) }
   gate_sync_goes (Err e) kept syncs = record { images = λ c image. kept.images c (synced_image (Err e) state new c syncs image); stands = tt }
 

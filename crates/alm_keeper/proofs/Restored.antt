@@ -11,8 +11,8 @@ use Rattle.alm_segment.proofs.Found.{found as found_in}
 use Rattle.alm_checkpoint.specs.Layouts.{half_at, half_len, segment_at}
 use Rattle.alm_checkpoint.specs.Opening.{Opened}
 use Rattle.alm_checkpoint.specs.Restoring.{Holds, IsUnrestored}
-use Rattle.alm_checkpoint.specs.declared.fault.Fault.{Fault}
-use Rattle.alm_checkpoint.specs.declared.fault.Fault.TheVariants as found
+use Rattle.alm_checkpoint.specs.declared.device_fault.DeviceFault.{DeviceFault}
+use Rattle.alm_checkpoint.specs.declared.device_fault.DeviceFault.TheVariants as found
 use Rattle.alm_checkpoint.specs.declared.layout.Layout.{Layout}
 use Rattle.alm_checkpoint.specs.declared.restore_fault.RestoreFault.TheVariants as unrestored
 use Rattle.alm_store.specs.declared.open_fault.OpenFault.{OpenFault}
@@ -40,6 +40,6 @@ restored o plant gate h bytes long few =
     }
 
 -- why a half holds nothing, by the fault of its bytes
-pub unrestored_is : (l : Layout) (m : Marks) (image segment : List ℕ) (f : Fault) (result : OpenFault) → result ≡ open_fault f → IsUnrestored (opened_by l m image segment) (unrestored.Damaged f) → Restores l m image segment (Err result)
+pub unrestored_is : (l : Layout) (m : Marks) (image segment : List ℕ) (f : DeviceFault) (result : OpenFault) → result ≡ open_fault f → IsUnrestored (opened_by l m image segment) (unrestored.Damaged f) → Restores l m image segment (Err result)
 unrestored_is l m image segment found.Unformatted result is damage = subst (λ (r : OpenFault). Restores l m image segment (Err r)) (sym is) damage
 unrestored_is l m image segment (found.Damaged half at) result is damage = subst (λ (r : OpenFault). Restores l m image segment (Err r)) (sym is) damage

@@ -15,8 +15,8 @@ use Rattle.alm_keeper.specs.declared.stage.Stage.TheVariants.{Idle, Close, Close
 use Rattle.alm_keeper.specs.declared.stage.Work.{Work}
 use Rattle.alm_keeper.specs.declared.stage.Work.TheVariants.{Commit, Checkpoint}
 use Rattle.alm_keeper.specs.Stand.{Account, FitsFrame, TakesFrame, with_commit, turned_half, end_of_half}
-use Rattle.alm_keeper.specs.Keeper.{HasRoom, Takes as StandingTakes, with_actions, with_checkpoint, begun_standing, begun_by, next_by, after_frame, after_call, after_by, BeginsCommit, BeginsCheckpoint, Progresses}
-use Rattle.alm_keeper.specs.Keeping.{account, done_by, account_next_at, standing_by, keeper_of, Begins, Copies, ClosesBook, TurnsBook, GrowsWhere, IsBookAfter, Ends}
+use Rattle.alm_keeper.specs.Keeper.{HasRoom, HasRoomFor as StandingTakes, with_actions, with_checkpoint, begun_standing, begun_by, next_by, after_frame, after_call, after_by, BeginsCommit, BeginsCheckpoint, Progresses}
+use Rattle.alm_keeper.specs.Keeping.{account, done_by, account_next_at, standing_by, keeper_of, Begins, Copies, ClosesBook, TurnsBook, GrowsWhere, IsBookAfter, EndsStep}
 
 -- a commit, a checkpoint
 pub after_commit : (a : Account) (actions : List Action) → standing_by (with_commit a actions) ≡ with_actions (standing_by a) actions
@@ -141,7 +141,7 @@ module _ {D : Type 0} (disk to : D) (old new : Book) where
   goes_seen : (step : Progress) → IsBookAfter old.stage old.work step old new → keeper_of to new ≡ record (after_call (keeper_of disk old)) { disk = to }
   goes_seen step g = by_stage old.stage old.work step refl refl g
 
-  -- Done is told at the end alone
+  -- Done is returned only at the end
   abbrev IsMore : Progress → Type 0
   IsMore More = Unit {0}
   IsMore step = ⊥
@@ -160,7 +160,7 @@ module _ {D : Type 0} (disk to : D) (old new : Book) where
   not_more : (work : Work) → IsBookAfter GateSync work More old new → ⊥
   not_more work g = absurd (subst IsMore g.0 tt)
 
-  pub ends_seen : (result : Progress) → Ends result old new → Progresses result (keeper_of disk old) (keeper_of to new)
+  pub ends_seen : (result : Progress) → EndsStep result old new → Progresses result (keeper_of disk old) (keeper_of to new)
   ends_seen More e = (λ at. not_more old.work (subst (λ (s : Stage). IsBookAfter s old.work More old new) at e), goes_seen More e)
   ends_seen Done e = (is_done old.stage old.work e, goes_seen Done e)
   ends_seen Failed e = ap (keeper_of to) e

@@ -17,7 +17,7 @@ all_gone : (xs : List ℕ) → drop (length xs) xs ≡ []
 all_gone [] = refl
 all_gone (x ∷ xs) = all_gone xs
 
--- the first byte is set, and then all behind it
+-- the first byte is set, and then all after it
 pub set_before : (out new : List ℕ) (y : ℕ) → 1 ≤ length out → put_mid 1 (length (slice_set out 0 y) - 1) (slice_set out 0 y) new ≡ y ∷ new
 set_before [] new y long = absurd (omega arith)
 set_before (x ∷ out) new y long = ap (λ (k : ℕ). put_mid 1 k (y ∷ out) new) less ∙ ap (λ (l : List ℕ). y ∷ (new ++ l)) (all_gone out) ∙ ap (λ (l : List ℕ). y ∷ l) (append-nil new)
@@ -28,7 +28,7 @@ set_before (x ∷ out) new y long = ap (λ (k : ℕ). put_mid 1 k (y ∷ out) ne
 regroup : (f b d : List ℕ) (g : ℕ) → (f ++ g ∷ []) ++ (b ++ d) ≡ f ++ (g ∷ b) ++ d
 regroup f b d g = simp append_assoc
 
--- the last byte of a front is set, and what stands behind it
+-- the last byte of a prefix is set, and what follows it
 pub set_between : (out front back new body : List ℕ) (run m y : ℕ) → front ≡ take run out → back ≡ drop run out → new ≡ body ++ drop m back → 1 ≤ run → run ≤ length out
     → slice_set front (run - 1) y ++ new ≡ take (run - 1) out ++ (y ∷ body) ++ drop (run + m) out
 set_between out front back new body run m y front_is back_is new_is some within =

@@ -4,15 +4,15 @@ use Rattle.alm_disk.specs.Device.{DeviceState, IsImage, Writes, Syncs, is_within
 use Rattle.alm_disk.proofs.Images.{synced_image}
 use Rattle.alm_disk.proofs.Places.{below}
 use Rattle.alm_segment.specs.Course.{is_gate_open}
-use Rattle.alm_checkpoint.specs.declared.fault.Fault.{Fault}
-use Rattle.alm_checkpoint.specs.declared.fault.Fault.TheVariants.{Unformatted}
+use Rattle.alm_checkpoint.specs.declared.device_fault.DeviceFault.{DeviceFault}
+use Rattle.alm_checkpoint.specs.declared.device_fault.DeviceFault.TheVariants.{Unformatted}
 use Rattle.alm_checkpoint.specs.declared.layout.Layout.{Layout}
 use Rattle.alm_checkpoint.specs.Layouts.{layout_byte}
 use Rattle.alm_checkpoint.specs.Opening.{◌>>=◌, rule, opened_half, layout_from, layout_in, chosen_in, half_head_from, head_of, opened_in}
 use Rattle.alm_checkpoint.specs.Standing.{HasFault}
 use Rattle.alm_keeper.specs.Formatting.{IsShut, StaysUnformatted}
 
-two_rules : {A : Type 0} (a b : Bool) (f : Fault) (k : Unit → Result A Fault) → b ≡ false → (rule a f >>= λ _. rule b f >>= k) ≡ Err f
+two_rules : {A : Type 0} (a b : Bool) (f : DeviceFault) (k : Unit → Result A DeviceFault) → b ≡ false → (rule a f >>= λ _. rule b f >>= k) ≡ Err f
 two_rules true true f k e = absurd (cc)
 two_rules true false f k e = refl
 two_rules false b f k e = refl
@@ -27,7 +27,7 @@ closed_header c e = two_rules _ (is_gate_open (layout_byte (take 23 (drop 0 c)) 
 
 pub unformatted : (c : List ℕ) → is_gate_open (layout_byte c 0) ≡ false → HasFault c Unformatted
 unfolding opened_in
-unformatted c e = inl (ap (λ (r : Result Layout Fault). r >>= λ l. chosen_in l c >>= λ h. half_head_from l h (head_of l h c) >>= λ t. Ok (opened_half l h t c)) (closed_header c e))
+unformatted c e = inl (ap (λ (r : Result Layout DeviceFault). r >>= λ l. chosen_in l c >>= λ h. half_head_from l h (head_of l h c) >>= λ t. Ok (opened_half l h t c)) (closed_header c e))
 
 pub shut_image : (state : DeviceState) (c : List ℕ) → IsShut state → IsImage state c → HasFault c Unformatted
 shut_image state c s image = unformatted c (ap is_gate_open (image.stable 0 s.stable) ∙ s.closed)

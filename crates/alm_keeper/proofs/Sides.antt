@@ -7,7 +7,7 @@ use Rattle.alm_checkpoint.specs.Layouts.{layout_byte, half_at, other}
 use Rattle.alm_checkpoint.specs.Cut.{Cut, Stores, Reaches, front, side_front}
 use Rattle.alm_checkpoint.proofs.Grown.{gate_at}
 
--- where it begins
+-- its start
 pub side_long : (c : Cut) (plant : Condensed) (tail : List ℕ) → Stores c plant → Reaches c tail → (h : Half) → c.half ≡ h → length (side_front c h tail) ≡ half_at c.layout (other h)
 side_long c plant tail s reaches First is = omega (arith, gate_at c plant tail s reaches, ap (half_at c.layout) is, length-append (front c) tail)
 side_long c plant tail s reaches Second is = refl
@@ -19,6 +19,6 @@ by_gate (g ∷ o) long = refl
 pub regroup : (f m l b : List ℕ) (g : ℕ) → f ++ (g ∷ m) ++ (l ++ b) ≡ f ++ (g ∷ (m ++ l)) ++ b
 regroup f m l b g = simp append_assoc
 
--- a new half's text in front of what is left there
+-- a new half's text before what is left there
 pub regroup_half : (f h i s l b : List ℕ) → f ++ (165 ∷ (((h ++ i) ++ s) ++ 0 ∷ [])) ++ (l ++ b) ≡ f ++ ((((165 ∷ h) ++ i) ++ s) ++ (0 ∷ l)) ++ b
 regroup_half f h i s l b = simp append_assoc

@@ -1,4 +1,4 @@
--- What a device stands for, by what it holds.
+-- What a device encodes, by what it holds.
 use Rattle.std.proofs.Common.{◌≡◌, ◌⊎◌, inl, inr, ⊎_elim, ℕ, ◌+◌, ◌≤◌, suc, Bool, true, false, List, ◌∷◌, length, Ok, refl, sym, ◌∙◌, ap, subst, arith}
 use Rattle.std.proofs.Math.Logic.{∥∥₁_map}
 use Rattle.alm_model.specs.Plant.{Condensed}
@@ -27,14 +27,14 @@ use Rattle.alm_keeper.specs.Keeper.{Standing, KeeperView, IsStoredIn, StandsWith
 use Rattle.alm_keeper.specs.Keeper.{next as next_seen_of}
 use Rattle.alm_keeper.specs.Keeper.{Progresses as AdvancesSeen}
 use Rattle.alm_store.specs.declared.progress.Progress.{Progress}
-use Rattle.alm_keeper.specs.Keeping.{account, done_by, account_next_at, account_next, work_alone, work_beside, at_out, standing_by, keeper_of, InOrder, KeptBy, Keeps, MayLeave, Ends}
+use Rattle.alm_keeper.specs.Keeping.{account, done_by, account_next_at, account_next, work_alone, work_beside, at_out, standing_by, keeper_of, InOrder, KeptBy, Keeps, MayLeave, EndsStep}
 use Rattle.alm_keeper.proofs.Commit.{ready_holds}
 use Rattle.alm_keeper.proofs.Order.{Possible, possible, layout_limits, runs_by, frames_by, piece_by, copies_by}
 use Rattle.alm_keeper.proofs.Going.{turned_is, kept_alone, kept_beside, never_alone, next_is, run_size, rested}
 use Rattle.alm_keeper.proofs.Starting.{AtRest, Idles, Pauses, at_rest, rest_ready}
 use Rattle.alm_keeper.proofs.Seen.{next_seen, ends_seen}
 
--- ---- what a device stands for, by what it holds
+-- ---- what a device encodes, by what it holds
 
 pub holds_stands : (epoch : ℕ) (plant : Condensed) (b : List ℕ) → HoldsPlant epoch plant b → Stands b epoch plant
 holds_stands epoch plant b h =
@@ -84,7 +84,7 @@ during_map B A B' A' Gate b f g d = ⊎_elim (λ x. inl (f x)) (λ x. inr (g x))
 during_map B A B' A' GateSync b f g d = ⊎_elim (λ x. inl (f x)) (λ x. inr (g x)) d
 during_map B A B' A' Stopped b f g d = ⊎_elim (λ x. inl (f x)) (λ x. inr (g x)) d
 
--- what stands, by the book
+-- what the device encodes, by the book
 abbrev After : Book → List ℕ → Type 0
 After book b = Stands b (account_next book).epoch (account_next book).plant
 
@@ -222,7 +222,7 @@ module _ {D : Type 0} (honest : D → Type 0) (state : D → DeviceState) (disk 
       (λ is b moment. ∥∥₁_map (leaves is b moment) (λ m. leaves_stands disk book b m))
 
 -- a call, as callers see it
-pub advances_of : (D : Type 0) (disk to : D) (old new : Book) (k : KeeperView D) (result : Progress) → keeper_of disk old ≡ k → Ends result old new → AdvancesSeen result k (keeper_of to new)
+pub advances_of : (D : Type 0) (disk to : D) (old new : Book) (k : KeeperView D) (result : Progress) → keeper_of disk old ≡ k → EndsStep result old new → AdvancesSeen result k (keeper_of to new)
 advances_of D disk to old new k result same e = subst (λ (h : KeeperView D). AdvancesSeen result h (keeper_of to new)) same (ends_seen disk to old new result e)
 
 -- a device that was opened is kept

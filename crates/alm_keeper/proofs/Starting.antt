@@ -25,7 +25,7 @@ use Rattle.alm_keeper.proofs.Commit.{ready_holds}
 use Rattle.alm_keeper.proofs.Order.{commits, opened}
 use Rattle.alm_keeper.proofs.Begun.{idle_commits, paused_commits, idle_copies, first_work}
 
--- what is known where nothing is under way
+-- what is known if no work is under way
 pub data AtRest (b : Book) (state : DeviceState) : Type 0 where
   Idles : b.copying ≡ false → KeptIn Rest (account b) state → AtRest b state
   Pauses : (k : Copy) → b.copying ≡ true → run_text (account b) k ≡ run_in b → KeptIn (Pause (at_out k b.out)) (account b) state → AtRest b state
@@ -51,7 +51,7 @@ at_rest b state i rests kept = by_stage b.stage b.work rests i.does b.copying re
     by_stage GateSync Commit r d o is k = absurd r
     by_stage GateSync Checkpoint r d o is k = absurd r
 
--- each image is as the account tells
+-- each image is as the account says
 pub rest_ready : (b : Book) (state : DeviceState) → AtRest b state → (x : List ℕ) → IsImage state x → Ready (account b) x
 rest_ready b state (Idles off k) x image = k.images x image
 rest_ready b state (Pauses c on run k) x image = k.1.images x image
@@ -142,7 +142,7 @@ pub copied_layout : (result : Result Unit Refused) (old new : Book) → Copies r
 copied_layout (Ok _) old new b = ap (λ (a : Account). a.layout) b.account
 copied_layout (Err why) old new b = ap (λ (x : Book). x.layout) b
 
--- a mark changes nothing but its count
+-- a mark changes only its count
 pub marked_order : (b : Book) (n : ℕ) → InOrder b → InOrder (record b { written = n })
 marked_order b n i = record {
   layout = i.layout;

@@ -1,4 +1,4 @@
--- What a keeper answers where it is asked to begin.
+-- What a keeper answers to a begin.
 use Rattle.std.proofs.Common.{◌≡◌, ◌≢◌, ◌⊎◌, inl, inr, ℕ, ◌+◌, ◌≤◌, ◌^◌, ◌==◌, List, [], ◌∷◌, ◌++◌, Option, Some, None, Result, Ok, Err, OnOk, IsOk, refl, sym, ◌∙◌, ap, subst, arith, Bool, true, false}
 use Rattle.std.specs.Prelude.{if◌then◌else◌, ◌&&◌}
 use Rattle.std.specs.Option.{is_none}
@@ -24,7 +24,7 @@ use Rattle.alm_keeper.specs.Stages.{phase_of}
 use Rattle.alm_store.specs.Advancing.{IsResting}
 use Rattle.alm_keeper.proofs.Tried.{tried_admitted}
 
--- a batch whose trial went well has admitted actions
+-- a batch whose trial succeeded has admitted actions
 one_tried : (o : Option Refusal) (place : ℕ) (p r : Condensed) (f : Condensed → Result Condensed ℕ) (b : Bool) → ((q : Condensed) → f p ≡ Ok q → b ≡ true) → (or_place o place p >>= f) ≡ Ok r → (is_none o && b) ≡ true
 one_tried None place p r f b rest is = rest r is
 one_tried (Some why) place p r f b rest is = absurd cc

@@ -62,7 +62,7 @@ module _ {D : Type 0} (serves : D → Call → Result Unit DiskFault → D → T
   makes_one Done c = call_done Done (λ e. absurd cc) c
   makes_one Failed c = call_failed Failed refl c
 
--- what is told of a call's failures
+-- what is returned of a call's failures
 pub counts_failures : (result : Progress) (before now : ℕ) → before ≤ now → (result ≢ Failed → now ≡ before) → (result ≡ Failed → HasFailed before now) → CountsFailures result before now
 counts_failures More before now more same failed = same (λ e. absurd cc)
 counts_failures Done before now more same failed = same (λ e. absurd cc)
@@ -116,7 +116,7 @@ stays_exhausted old new More goes is = omega (arith, is, epoch_after old old.sta
 stays_exhausted old new Done goes is = omega (arith, is, epoch_after old old.stage old.work, ap (λ (k : KeeperView _). k.stored.epoch) goes.1)
 stays_exhausted old new Failed goes is = omega (arith, is, ap (λ (k : KeeperView _). k.stored.epoch) goes)
 
--- bytes that stand for a plant in that epoch or behind it stand at the last one
+-- bytes that encode a plant in that epoch or a later one are at the last one
 last_epoch : (bytes : List ℕ) (epoch : ℕ) (plant : Condensed) → AreBytes bytes → 2 ^ 64 ≤ epoch + 1 → Stands bytes epoch plant → Stands bytes (2 ^ 64 - 1) plant
 last_epoch bytes epoch plant are least s =
     let c = stands_cut bytes epoch plant s are in

@@ -2,19 +2,19 @@
 use Rattle.std.proofs.Common.{ℕ, List, Result, Ok, Err, IfErr, MatchResult}
 use Rattle.alm_disk.specs.Device.{DeviceState, IsImage}
 use Rattle.alm_checkpoint.specs.Standing.{HasFault}
-use Rattle.alm_checkpoint.specs.declared.fault.Fault.{Fault}
-use Rattle.alm_checkpoint.specs.declared.fault.Fault.TheVariants as found
+use Rattle.alm_checkpoint.specs.declared.device_fault.DeviceFault.{DeviceFault}
+use Rattle.alm_checkpoint.specs.declared.device_fault.DeviceFault.TheVariants as found
 use Rattle.alm_checkpoint.proofs.Unique.{stands_or_fault}
 use Rattle.alm_store.specs.declared.open_fault.OpenFault.{OpenFault}
 use Rattle.alm_store.specs.declared.open_fault.OpenFault.TheVariants as fault
-use Rattle.alm_keeper.specs.Opening.{Opens, CountsAs}
+use Rattle.alm_keeper.specs.Opening.{OpensAs, CountsAs}
 use Rattle.alm_keeper.specs.AsStore.{StandsFor}
 use Rattle.alm_store.specs.Opening.{IsFaulty, HasCause}
 
-faulty : (state : DeviceState) (bytes : List ℕ) (f : Fault) → IsImage state bytes → HasFault bytes f → ∥ IsFaulty StandsFor state ∥₁
+faulty : (state : DeviceState) (bytes : List ℕ) (f : DeviceFault) → IsImage state bytes → HasFault bytes f → ∥ IsFaulty StandsFor state ∥₁
 faulty state bytes f image has = ∣ record { image = bytes; is_image = image; faulty = λ plant s. stands_or_fault bytes s.0 plant f s.1 has } ∣₁
 
-pub cause_of : (state : DeviceState) (bytes : List ℕ) (f : OpenFault) (before now : ℕ) → IsImage state bytes → Opens bytes (Err f) → CountsAs f before now → HasCause StandsFor state f before now
+pub cause_of : (state : DeviceState) (bytes : List ℕ) (f : OpenFault) (before now : ℕ) → IsImage state bytes → OpensAs bytes (Err f) → CountsAs f before now → HasCause StandsFor state f before now
 cause_of state bytes fault.Unformatted before now image opens counts = faulty state bytes found.Unformatted image opens
 cause_of state bytes (fault.Damaged half at) before now image opens counts = faulty state bytes (found.Damaged half at) image opens
 cause_of state bytes fault.Disk before now image opens counts = counts

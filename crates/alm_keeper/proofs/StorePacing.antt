@@ -41,7 +41,7 @@ module _ {D : Type 0} (k : KeeperView D) where
   abbrev g : Going
   g = run_of k
 
-  -- where a call that isn't the last leads
+  -- the state after a call that isn't the last
   abbrev To : Stage → Work → KeeperView D → Type 0
   To s w h = PaceAfter More (phase_of s w) (used_room k) (used_room h) h.written (going_if (is_checkpoint_open s w k.copying) g) (going_of h)
 

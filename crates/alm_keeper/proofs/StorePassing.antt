@@ -16,13 +16,13 @@ use Rattle.alm_keeper.specs.declared.stage.Work.TheVariants.{Commit, Checkpoint}
 use Rattle.alm_keeper.specs.Stages.{IsWorking, first_stage, sent_stage, rest_stage, rest_work, phase_of}
 use Rattle.alm_keeper.specs.Keeper.{KeeperView, Standing, next, next_by, begun_by, piece, commits, after_call, after_by, begin_answer, checkpoint_answer, BeginsCommit, BeginsCheckpoint, Progresses}
 use Rattle.alm_model.specs.Rules.{admits_all}
-use Rattle.alm_store.specs.Advancing.{Advanced, CheckpointIsNotOpened, CheckpointIsOpened, CommitIsBegun, CommitIsNotBegun, IsOpen, IsResting}
+use Rattle.alm_store.specs.Advancing.{Advanced, CheckpointIsNotOpened, CheckpointIsOpened, CommitIsBegun, CommitIsNotBegun, IsCheckpointing, IsResting}
 use Rattle.alm_store.specs.Pacing.{IsJustOpened}
 use Rattle.alm_keeper.specs.StoreLaws.{rests}
 use Rattle.alm_keeper.specs.AsStore.{store_state_of, going_of}
 use Rattle.alm_keeper.proofs.CallsLeft.{Left, fewer, idle_then, next_kept, same_next, stored_kept, first_next}
 
--- a call that isn't the last leaves a commit a commit, and another work another one
+-- after a call that isn't the last a commit is still under way, and so is any other work
 abbrev Moves : (p p' : Phase) → Type 0
 Moves p p' = ((p' ≡ at.Committing) ↔ (p ≡ at.Committing)) × (p' ≢ at.Stopped) × (p' ≢ at.Idle)
 
@@ -153,7 +153,7 @@ opened s w epoch x is = by_phase (phase_of s w) is
     by_phase at.Copying is = absurd cc
     by_phase at.Stopped is = absurd cc
 
-first_open : (b : Bool) → IsOpen (phase_of (first_stage b) Checkpoint)
+first_open : (b : Bool) → IsCheckpointing (phase_of (first_stage b) Checkpoint)
 first_open true = tt
 first_open false = tt
 
@@ -190,7 +190,7 @@ module _ {D : Type 0} (old new : KeeperView D) where
       → OnOk result (IsJustOpened (going_of new)) → OnOk result (CheckpointIsOpened (store_state_of old) (store_state_of new))
   opened_checkpoint (Ok x) is goes calls fresh = record {
     idle = opened old.stage old.work old.stored.epoch x (sym is);
-    is_open = subst IsOpen (sym (ap (λ (k : KeeperView D). phase_of k.stage k.work) goes)) (first_open old.other_open);
+    is_open = subst IsCheckpointing (sym (ap (λ (k : KeeperView D). phase_of k.stage k.work) goes)) (first_open old.other_open);
     next = ap (λ (k : KeeperView D). (next k).plant) goes ∙ ap (λ (s : Standing). s.plant) (first_next old.other_open old.stored _);
     calls = calls;
     fresh = fresh;

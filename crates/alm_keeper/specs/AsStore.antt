@@ -12,19 +12,19 @@ use Rattle.alm_keeper.specs.declared.stage.Stage.TheVariants.{Idle, Close, Close
 use Rattle.alm_keeper.specs.declared.stage.Work.{Work}
 use Rattle.alm_keeper.specs.declared.stage.Work.TheVariants.{Commit, Checkpoint}
 
--- the bytes stand for the plant, in some epoch
+-- the bytes encode the plant, in some epoch
 abbrev pub StandsFor : List ℕ → Condensed → Type 0
 StandsFor bytes plant = (epoch : ℕ) × Stands bytes epoch plant
 
--- the device stands at the last epoch
+-- the device is at the last epoch
 abbrev pub IsLastEpoch : DeviceState → Type 0
 IsLastEpoch state = ∥ ((plant : Condensed) × Stands state.bytes (2 ^ 64 - 1) plant) ∥₁
 
--- in how many pieces so many bytes go out
+-- in how many pieces `left` bytes go out
 abbrev pub pieces : ℕ → ℕ
 pieces left = (left - 1) / most + 1
 
--- how many device calls write and open what a gate guards, of a run so many bytes
+-- how many device calls write and open what a gate guards; `left` bytes of a run are still to be written
 abbrev pub body_calls : Work → (left : ℕ) → ℕ
 body_calls Commit left = 4
 body_calls Checkpoint left = 3 + pieces left
@@ -61,7 +61,7 @@ run_of k = record { since = k.run - first_run k; pieces = pieces_out k.out k.run
 abbrev pub going_of : {D : Type 0} → KeeperView D → Option Going
 going_of k = going_if (is_checkpoint_open k.stage k.work k.copying) (run_of k)
 
--- ---- what is told of it
+-- ---- its state as a store
 
 abbrev pub store_state_of : {D : Type 0} → KeeperView D → StoreState
 store_state_of k = record {

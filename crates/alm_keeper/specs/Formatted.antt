@@ -1,4 +1,4 @@
--- What a formatting leaves of a device: one that stands for the new plant, or, with its fault, the one that is handed back.
+-- What a formatting leaves of a device: one that encodes the new plant, or, with its fault, the one that is returned.
 use Rattle.std.specs.Prelude.{◌≡◌, ◌≢◌, ◌↔◌, ℕ, false, length, Result}
 use Rattle.alm_types.specs.Tables.{Listing}
 use Rattle.alm_disk.specs.Device.{DeviceState}
@@ -19,13 +19,14 @@ pub record IsSameDevice {Dev : Type 0} (is_honest : Dev → Type 0) (size_of : D
   pub honest : is_honest before ↔ is_honest after
   pub size : size_of after ≡ size_of before
 
--- it was formatted by ten calls: it reads as one that stands for the new plant in epoch 1, in this version, and a crash leaves just that
+-- it was formatted by ten calls: it reads as one that encodes the new plant in epoch 1, in this version, and that is all that a
+-- crash leaves
 pub record IsFormatted {Dev : Type 0} (serves : Dev → Call → Result Unit DiskFault → Dev → Type 0) (state : Dev → DeviceState) (is_honest : Dev → Type 0) (size_of : Dev → ℕ) (of : Version) (t : Listing) (before after : Dev) : Type 0 where
   pub same : IsSameDevice is_honest size_of before after
   pub settled : is_honest before → IsSettled (state after) (state after).bytes
   pub stands : is_honest before → IsNewDevice (size_of before) t (state after).bytes
   pub version : is_honest before → IsOfVersion of (state after).bytes
-  -- what a crash leaves at any moment of each call, where nothing had failed before
+  -- what a crash leaves at any moment of each call, if no call had failed before
   pub moments : Formats IsLedBy serves state (is_honest before × ((state before).faulted ≡ false)) (size_of before) t before after
 
 -- it was not: why, which calls were made, and what a crash leaves

@@ -12,7 +12,7 @@ use Rattle.alm_checkpoint.specs.declared.layout.Layout.{Layout}
 use Rattle.alm_checkpoint.specs.declared.half.Half.TheVariants.{Second}
 use Rattle.alm_checkpoint.specs.Layouts.{layout_byte, half_at}
 use Rattle.alm_checkpoint.specs.Headers.{half_head_text, segment_fits}
-use Rattle.alm_checkpoint.specs.declared.fault.Fault.TheVariants.{Unformatted}
+use Rattle.alm_checkpoint.specs.declared.device_fault.DeviceFault.TheVariants.{Unformatted}
 use Rattle.alm_checkpoint.specs.Standing.{HasFault, Stands}
 use Rattle.alm_checkpoint.specs.Opening.{Opened, opened_in}
 
@@ -27,7 +27,7 @@ pub record IsLongest (size : ℕ) (t : Listing) (l : Layout) : Type 0 where
   pub fits : segment_fits size (length t.alarms) t.areas l.segment ≡ true
   pub most : (n : ℕ) → segment_fits size (length t.alarms) t.areas n ≡ true → n ≤ l.segment
 
--- the bytes stand for the new plant of the table in epoch 1 (its count is 0), with the longest segment that fits twice
+-- the bytes encode the new plant of the table in epoch 1 (its count is 0), with the longest segment that fits twice
 pub record IsNewDevice (size : ℕ) (t : Listing) (bytes : List ℕ) : Type 0 where
   pub stands : Stands bytes 1 (new_plant t)
   pub longest : IsLongest size t stands.opened.layout
@@ -52,15 +52,15 @@ StaysUnformatted old new = (b : List ℕ) → IsImage old b ⊎ IsImage new b �
 abbrev pub gate_pending : DeviceState → DeviceState
 gate_pending state = record { bytes = state.bytes; pending = λ place. is_within 0 1 place || state.pending place; faulted = state.faulted }
 
--- a crash leaves what it could leave before, but for the byte of the header's gate
+-- a crash leaves what it could leave before, except for the byte of the header's gate
 abbrev pub LeavesBefore : (old new : DeviceState) → Type 0
 LeavesBefore old new = (b : List ℕ) → IsImage new b → IsImage (gate_pending old) b
 
--- these bytes in place of what stood from a place on
+-- these bytes in place of those from a place on
 abbrev pub overwritten : ℕ → List ℕ → List ℕ → List ℕ
 overwritten at bytes device = take at device ++ bytes ++ drop (at + length bytes) device
 
--- the device with all that is written behind the header's gate: the header, half 0 up to its segment's first gate, half 1's gate,
+-- the device with all that is written after the header's gate: the header, half 0 up to its segment's first gate, half 1's gate,
 -- and half 0's gate, open
 abbrev pub with_empty_half : Layout → (header half : List ℕ) → List ℕ → List ℕ
 with_empty_half l header half device = overwritten 23 (165 ∷ []) (overwritten (half_at l Second) (0 ∷ []) (overwritten 23 half (overwritten 1 header device)))
@@ -74,8 +74,8 @@ abbrev pub IsGateClosed : DeviceState → Type 0
 IsGateClosed state = IsSettled state state.bytes × (is_gate_open (layout_byte state.bytes 0) ≡ false)
 
 -- these bytes are those of the device with the header's gate open
-abbrev pub IsOpened : DeviceState → List ℕ → Type 0
-IsOpened state b = b ≡ with_open_gate state.bytes
+abbrev pub IsWithGateOpen : DeviceState → List ℕ → Type 0
+IsWithGateOpen state b = b ≡ with_open_gate state.bytes
 
 -- half 0 from its closed gate on, up to its segment's first gate, also closed
 abbrev pub first_half : Layout → Condensed → List ℕ
@@ -91,8 +91,8 @@ pub record IsWritten (size : ℕ) (l : Layout) (header half bytes : List ℕ) : 
 abbrev pub MayBe : (size : ℕ) → Layout → (header half : List ℕ) → List ℕ → Type 0
 MayBe size l header half b = IsUnformatted b ⊎ IsWritten size l header half b
 
--- what a crash leaves of a device whose formatting failed: what it could leave before, but for the header's gate (its first sync
--- was not done), or nothing that is neither unformatted nor all written
+-- what a crash leaves of a device whose formatting failed. Either it is what it could leave before, except for the header's gate
+-- (the first sync failed), or an unformatted device or one that is all written
 abbrev pub Leaves : (size : ℕ) → Layout → (header half : List ℕ) → (old new : DeviceState) → Type 0
 Leaves size l header half old new = LeavesBefore old new ⊎ ((b : List ℕ) → IsImage new b → MayBe size l header half b)
 

@@ -30,7 +30,7 @@ use Rattle.alm_store.specs.Pace.{most}
 use Rattle.alm_keeper.specs.Batch.{tried_batch}
 use Rattle.alm_keeper.specs.Stages.{first_stage, next_stage, sent_stage, rest_stage, rest_work, During}
 
--- what a device stands for: a plant in an epoch, the version of its half, and how many bytes of the segment are left from its first
+-- what a device encodes: a plant in an epoch, the version of its half, and how many bytes of the segment are left from its first
 -- closed gate on
 pub record Standing : Type 0 where
   pub version : Version
@@ -60,7 +60,7 @@ pub record KeeperView (D : Type 0) : Type 0 where
   -- how many bytes of runs went out since the last commit's end or mark, up to the largest number
   pub written : ℕ
 
--- a frame of so many actions and the gate behind it fit
+-- a frame of `actions` actions and the gate after it fit
 abbrev pub HasRoom : Standing → ℕ → Type 0
 HasRoom s actions = frame_len actions + 1 ≤ s.room
 
@@ -68,15 +68,15 @@ HasRoom s actions = frame_len actions + 1 ≤ s.room
 abbrev pub first_run : {D : Type 0} → KeeperView D → ℕ
 first_run k = head_len + k.image
 
--- where the first closed gate stands in the segment
+-- how much of the segment is used: the place of its first closed gate
 abbrev pub used_room : {D : Type 0} → KeeperView D → ℕ
 used_room k = k.segment - k.stored.room
 
 -- a frame of these actions fits, and the half may hold them
-abbrev pub Takes : Standing → List Action → Type 0
-Takes s actions = HasRoom s (length actions) × AreBorne s.version actions
+abbrev pub HasRoomFor : Standing → List Action → Type 0
+HasRoomFor s actions = HasRoom s (length actions) × AreBorne s.version actions
 
--- after a commit, and after a checkpoint with a run that is so long
+-- after a commit, and after a checkpoint with a run of this length
 abbrev pub with_actions : Standing → List Action → Standing
 with_actions s actions = record { version = s.version; epoch = s.epoch; plant = run s.plant actions; room = s.room - frame_len (length actions) }
 
@@ -107,15 +107,15 @@ IsPaused phase k = ⊥
 
 -- ---- bytes
 
--- they stand for the plant in its epoch
+-- they encode the plant in its epoch
 abbrev pub IsStoredIn : Standing → List ℕ → Type 0
 IsStoredIn s bytes = Stands bytes s.epoch s.plant
 
--- .. in a half of that version, with just that room
+-- .. in a half of that version, with exactly that room
 abbrev pub StandsWithRoom : Standing → List ℕ → Type 0
 StandsWithRoom s bytes = (stands : Stands bytes s.epoch s.plant) × (stands.left ≡ s.room) × (stands.opened.head.version ≡ s.version)
 
--- where they lie: of the halves this one stands, with an image and a segment of these lengths
+-- the half that stands is this one, with an image and a segment of these lengths
 pub record LiesIn (half : Half) (image segment : ℕ) (bytes : List ℕ) : Type 0 where
   pub opened : Opened
   pub opens : opened_in bytes ≡ Ok opened
@@ -123,8 +123,8 @@ pub record LiesIn (half : Half) (image segment : ℕ) (bytes : List ℕ) : Type 
   pub image_long : image_size opened.layout ≡ image
   pub segment_long : opened.layout.segment ≡ segment
 
--- at any moment of the call that is next: until the gate's write begins they stand for what is stored, from then on for that or for
--- what is begun
+-- at any moment of the call that is next: until the gate's write begins they encode what is stored, from then on that or what is
+-- begun
 abbrev pub MayStand : {D : Type 0} → KeeperView D → List ℕ → Type 0
 MayStand k bytes = During (IsStoredIn k.stored) (IsStoredIn (next k)) k.stage bytes
 
@@ -134,7 +134,7 @@ abbrev pub trial : Result Condensed ℕ → Result Unit Refused
 trial (Ok q) = Ok tt
 trial (Err place) = Err (no.NotAccepted place)
 
--- to a batch: where nothing is under way and the batch's first number comes next, its actions are tried on the stored plant
+-- to a batch: if no work is under way and the batch's first number comes next, its actions are tried on the stored plant
 abbrev pub begin_answer : Phase → Condensed → Judged → Result Unit Refused
 begin_answer at.Stopped plant batch = Err no.Stopped
 begin_answer at.Committing plant batch = Err no.Working
@@ -149,7 +149,7 @@ checkpoint_answer phase epoch = Err no.Working
 
 -- ---- what a call makes of a keeper
 
--- a batch with these actions: the commit is begun; a batch that isn't accepted stops the keeper, and nothing of it is begun
+-- a batch with these actions: the commit is begun; a batch that isn't accepted stops the keeper, and no commit is begun
 abbrev pub BeginsCommit : {D : Type 0} → Result Unit Refused → List Action → (old new : KeeperView D) → Type 0
 BeginsCommit (Ok _) actions old new = new ≡ record old { stage = Body; work = Commit; actions = actions }
 BeginsCommit (Err (no.NotAccepted place)) actions old new = new ≡ record old { stage = Stopped; work = Commit; actions = [] }
@@ -160,18 +160,18 @@ abbrev pub BeginsCheckpoint : {D : Type 0} → Result Unit Refused → (old new 
 BeginsCheckpoint (Ok _) old new = new ≡ record old { stage = first_stage old.other_open; work = Checkpoint; copying = true; run = first_run old; out = 0 }
 BeginsCheckpoint (Err why) old new = new ≡ old
 
--- the next piece of so many bytes that are left
+-- the next piece if `left` bytes are left
 abbrev pub piece : (left : ℕ) → ℕ
 piece left = min left most
 
--- so many bytes went out
+-- n bytes went out
 abbrev pub written_after : (written n : ℕ) → ℕ
 written_after written n = min (written + n) (2 ^ 64 - 1)
 
 abbrev pub sends : {D : Type 0} → (n : ℕ) → KeeperView D → KeeperView D
 sends n k = record k { stage = sent_stage (k.out + n) k.run; out = k.out + n; written = written_after k.written n }
 
--- a frame of so many actions is copied behind the image
+-- a frame of `actions` actions is copied after the image
 abbrev pub after_frame : (copying : Bool) → (run actions : ℕ) → ℕ
 after_frame true run actions = run + frame_len actions
 after_frame false run actions = run
@@ -195,7 +195,7 @@ after_by stage work k = record k { stage = next_stage stage }
 abbrev pub after_call : {D : Type 0} → KeeperView D → KeeperView D
 after_call k = after_by k.stage k.work k
 
--- one device call of the work: Done is told at its end
+-- one device call of the work: Done is returned at its end
 abbrev pub Progresses : {D : Type 0} → Progress → (old new : KeeperView D) → Type 0
 Progresses More old new = (old.stage ≢ GateSync) × (new ≡ record (after_call old) { disk = new.disk })
 Progresses Done old new = (old.stage ≡ GateSync) × (new ≡ record (after_call old) { disk = new.disk })
@@ -207,7 +207,7 @@ Progresses Failed old new = new ≡ record old { disk = new.disk; stage = Stoppe
 abbrev pub half_size : {D : Type 0} → KeeperView D → ℕ
 half_size k = head_len + k.image + k.segment
 
--- where a half begins, whose length is this: its gate
+-- the start of a half of this length: its gate
 abbrev pub half_from : (size : ℕ) → Half → ℕ
 half_from size First = header_len
 half_from size Second = header_len + size
@@ -217,7 +217,8 @@ abbrev pub gate_by : {D : Type 0} → Work → KeeperView D → ℕ
 gate_by Commit k = half_from (half_size k) k.half + half_size k - k.stored.room
 gate_by Checkpoint k = half_from (half_size k) (other k.half)
 
--- a write at this place of so many bytes, or a sync. Behind the gate goes the body of the frame, or the next piece of the run
+-- a write of a number of bytes at a place, or a sync. What follows the gate is the body of the frame, or the next piece of the
+-- run
 abbrev pub call_by : {D : Type 0} → Stage → Work → KeeperView D → Call
 call_by Close work k = Write (gate_by work k) 1
 call_by Body Commit k = Write (gate_by Commit k + 1) (frame_len (length k.actions))
@@ -235,11 +236,11 @@ bytes_of (Read at n) = 0
 bytes_of (Write at n) = n
 bytes_of Sync = 0
 
--- just the bytes that the call writes went out, and are counted
+-- exactly the bytes that the call writes went out, and are counted
 abbrev pub SendsPiece : {D : Type 0} → (old new : KeeperView D) → Type 0
 SendsPiece old new = (new.out ≡ old.out + bytes_of (call_of old)) × (new.written ≡ written_after old.written (bytes_of (call_of old)))
 
--- this call was made of the device and no other, and it failed where that is told
+-- this call was made on the device and no other, and it failed if the result says so
 pub record CallsOnce {D : Type 0} (serves : D → Call → Result Unit DiskFault → D → Type 0) (call : Call) (told : Progress) (old new : D) : Type 0 where
   pub result : Result Unit DiskFault
   pub served : serves old call result new

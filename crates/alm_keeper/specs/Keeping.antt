@@ -30,7 +30,7 @@ use Rattle.alm_keeper.specs.Phases.{WorkAdvances as AdvancesOn}
 use Rattle.alm_keeper.specs.Stand.{HoldsPlant, Ready, Account, end_of_half, TakesFrame, with_commit, turned_half}
 use Rattle.alm_types.specs.Sizes.{most_actions, most_entries}
 
--- what the book tells of the device
+-- the account of the device that the book holds
 abbrev pub account : Book → Account
 account b = record { layout = b.layout; half = b.half; other_open = b.other_open; version = b.version; epoch = b.epoch; gate = b.gate; plant = b.stored }
 
@@ -74,28 +74,28 @@ Does CloseSync Commit b = ⊥
 Does stage work b = DoesWork work b
 
 -- how much of a run went out: none before the other half's gate is closed, all of it at the end
-abbrev pub Sent : Stage → Work → (out run : ℕ) → Type 0
-Sent Close work out run = out ≡ 0
-Sent CloseSync work out run = out ≡ 0
-Sent stage Commit out run = out < run
-Sent Body Checkpoint out run = out < run
-Sent stage Checkpoint out run = out ≡ run
+abbrev pub HasSent : Stage → Work → (out run : ℕ) → Type 0
+HasSent Close work out run = out ≡ 0
+HasSent CloseSync work out run = out ≡ 0
+HasSent stage Commit out run = out < run
+HasSent Body Checkpoint out run = out < run
+HasSent stage Checkpoint out run = out ≡ run
 
--- a checkpoint is open: its run is in the buffer, and the frames in it stand among the frames of the half that stands, so they fit
+-- a checkpoint is open: its run is in the buffer, and the frames in it are among the frames of the half that stands, so they fit
 -- the other half
 pub record OpenedBook (stage : Stage) (b : Book) : Type 0 where
   pub more : b.epoch + 1 < 2 ^ 64
   pub least : head_len + image_size b.layout ≤ b.run
   pub room : segment_at b.layout b.half + b.run ≤ b.gate + (head_len + image_size b.layout)
   pub within : b.run ≤ length b.buffer.items
-  pub sent : Sent stage b.work b.out b.run
+  pub sent : HasSent stage b.work b.out b.run
 
 abbrev pub IsCopying : Bool → Stage → Book → Type 0
 IsCopying false stage b = Unit {0}
 IsCopying true Stopped b = Unit {0}
 IsCopying true stage b = OpenedBook stage b
 
--- what holds of a book, whatever the device does. The room of its vectors is the same always: no call takes memory
+-- what is true of a book, whatever the device does. The room of its vectors never changes: no call takes memory
 pub record InOrder (b : Book) : Type 0 where
   pub layout : IsLayout b.layout
   pub small : device_len b.layout < 2 ^ 64
@@ -111,12 +111,12 @@ pub record InOrder (b : Book) : Type 0 where
   pub does : Does b.stage b.work b
   pub copy : IsCopying b.copying b.stage b
 
--- its layout fits a device of so many bytes
+-- its layout fits a device of `size` bytes
 pub record FitsDevice (b : Book) (size : ℕ) : Type 0 where
   pub fits : device_len b.layout ≤ size
   pub in_memory : size < 2 ^ 64
 
--- nothing of what is stored or of an open checkpoint changes
+-- what is stored stays the same, and so does an open checkpoint
 pub record SameBeside (old new : Book) : Type 0 where
   pub account : account new ≡ account old
   pub copying : new.copying ≡ old.copying
@@ -125,14 +125,14 @@ pub record SameBeside (old new : Book) : Type 0 where
   pub out : new.out ≡ old.out
   pub written : new.written ≡ old.written
 
--- what is left by what was answered
+-- what is left, by the result
 abbrev pub Begins : Result Unit Refused → List Action → (old new : Book) → Type 0
 Begins (Ok _) actions old new = IsResting (phase_of old.stage old.work) × (new.stage ≡ Body) × (new.work ≡ Commit) × (new.actions.items ≡ actions) × SameBeside old new
 Begins (Err (no.NotAccepted place)) actions old new = IsResting (phase_of old.stage old.work) × (new.stage ≡ Stopped) × (new.work ≡ Commit) × (new.actions.items ≡ []) × SameBeside old new
 Begins (Err why) actions old new = new ≡ old
 
 -- a checkpoint is open: the stored plant is copied
-pub record Opens (old new : Book) : Type 0 where
+pub record OpensCheckpoint (old new : Book) : Type 0 where
   pub idle : old.stage ≡ Idle
   pub stage : new.stage ≡ first_stage old.other_open
   pub work : new.work ≡ Checkpoint
@@ -145,7 +145,7 @@ pub record Opens (old new : Book) : Type 0 where
   pub written : new.written ≡ old.written
 
 abbrev pub Copies : Result Unit Refused → (old new : Book) → Type 0
-Copies (Ok _) old new = Opens old new
+Copies (Ok _) old new = OpensCheckpoint old new
 Copies (Err why) old new = new ≡ old
 
 -- the frame of the commit that is done goes out with an open checkpoint
@@ -182,11 +182,11 @@ abbrev pub Finishes : Work → (old new : Book) → Type 0
 Finishes Commit old new = ClosesBook old new
 Finishes Checkpoint old new = TurnsBook old new
 
--- so many bytes of the run went out
+-- n bytes of the run went out
 abbrev pub sent_by : ℕ → Book → Book
 sent_by n b = record b { stage = sent_stage (b.out + n) b.run; out = b.out + n; written = written_after b.written n }
 
--- the book after a call that was done. Once the other half's gate was synced closed, it reads closed
+-- the book after a call that was done. After the other half's gate was synced closed, it reads closed
 abbrev pub IsBookAfter : Stage → Work → Progress → (old new : Book) → Type 0
 IsBookAfter GateSync work step old new = (step ≡ Done) × Finishes work old new
 IsBookAfter CloseSync work step old new = (step ≡ More) × (new ≡ record old { stage = Body; other_open = false })
@@ -206,11 +206,11 @@ work_beside stage Commit k actions = Frame (Some k) stage actions
 work_beside Body Checkpoint k actions = Pause k
 work_beside stage Checkpoint k actions = End k stage
 
--- the copy, of which so many bytes went out
+-- the copy, of which `out` bytes went out
 abbrev pub at_out : Copy → ℕ → Copy
 at_out k out = record k { out = out }
 
--- what is kept of the device, where the device keeps to its model. The copied plant and the frames since stand in no field: some copy
+-- what is kept of the device, if the device keeps to its model. The copied plant and the frames since are in no field: some copy
 -- has this run
 abbrev pub KeptBy : Stage → Bool → Work → Book → DeviceState → Type 0
 KeptBy Stopped copying work b state = (x : List ℕ) → IsImage state x → HoldsPlant b.epoch b.stored x ⊎ Ready (done_by work b) x
@@ -233,14 +233,14 @@ PassesOn result old new b = PassesBy b.copying b.stage b.work b result old new
 abbrev pub MayLeave : Book → List ℕ → Type 0
 MayLeave b bytes = During (HoldsPlant b.epoch b.stored) (Ready (account_next b)) b.stage bytes
 
--- what a device stands for, by what is known of it
+-- what a device encodes, by what is known of it
 abbrev pub standing_by : Account → Standing
 standing_by a = record { version = a.version; epoch = a.epoch; plant = a.plant; room = end_of_half a - a.gate }
 
 -- how a step ends
-abbrev pub Ends : Progress → (old new : Book) → Type 0
-Ends Failed old new = new ≡ record old { stage = Stopped }
-Ends step old new = IsBookAfter old.stage old.work step old new
+abbrev pub EndsStep : Progress → (old new : Book) → Type 0
+EndsStep Failed old new = new ≡ record old { stage = Stopped }
+EndsStep step old new = IsBookAfter old.stage old.work step old new
 
 -- ---- for callers
 

@@ -11,60 +11,60 @@ use Rattle.alm_checkpoint.specs.declared.half.Half.TheVariants.{Second}
 use Rattle.alm_checkpoint.specs.Layouts.{half_at, image_size}
 use Rattle.alm_keeper.specs.Formatting.{IsUnformatted, IsLongest, IsNewDevice}
 
--- the header's gate is closed; all else is written behind it; the header's gate is opened
-pub data Part : Type 0 where
-  Closing : Part
-  Behind : Part
-  Opening : Part
+-- the header's gate is closed; all else is written after it; the header's gate is opened
+pub data FormatPart : Type 0 where
+  Closing : FormatPart
+  Behind : FormatPart
+  Opening : FormatPart
 
-abbrev pub close_calls : List (Part × Call)
+abbrev pub close_calls : List (FormatPart × Call)
 close_calls = (Closing, Write 0 1) ∷ (Closing, Sync) ∷ []
 
-abbrev pub behind_calls : Layout → List (Part × Call)
+abbrev pub behind_calls : Layout → List (FormatPart × Call)
 behind_calls l =
     (Behind, Write 1 22) ∷ (Behind, Write 23 (26 + image_size l)) ∷ (Behind, Write (half_at l Second) 1) ∷ (Behind, Sync) ∷ (Behind, Write 23 1) ∷ (Behind, Sync) ∷ []
 
-abbrev pub open_calls : List (Part × Call)
+abbrev pub open_calls : List (FormatPart × Call)
 open_calls = (Opening, Write 0 1) ∷ (Opening, Sync) ∷ []
 
 -- the ten calls
-abbrev pub format_calls : Layout → List (Part × Call)
+abbrev pub format_calls : Layout → List (FormatPart × Call)
 format_calls l = close_calls ++ (behind_calls l ++ open_calls)
 
--- what a crash may leave: anything until the header's gate is known to be closed, then an unformatted device, and from the write that
--- opens the gate on an unformatted or a new one
-abbrev pub MayLeaveWhile : (new : List ℕ → Type 0) → Part → List ℕ → Type 0
+-- what a crash may leave: anything until the header's gate is known to be closed, then an unformatted device. From the write that
+-- opens the gate on it is an unformatted or a new one
+abbrev pub MayLeaveWhile : (new : List ℕ → Type 0) → FormatPart → List ℕ → Type 0
 MayLeaveWhile new Closing b = Unit {0}
 MayLeaveWhile new Behind b = IsUnformatted b
 MayLeaveWhile new Opening b = IsUnformatted b ⊎ new b
 
 -- one call, between two devices, and its result; under the premise, what a crash leaves at any moment of it
-pub record FormatMoment {Dev : Type 0} (serves : Dev → Call → Result Unit DiskFault → Dev → Type 0) (state : Dev → DeviceState) (premise : Type 0) (new : List ℕ → Type 0) (result : Result Unit DiskFault) (step : Part × Call) (before after : Dev) : Type 0 where
+pub record FormatMoment {Dev : Type 0} (serves : Dev → Call → Result Unit DiskFault → Dev → Type 0) (state : Dev → DeviceState) (premise : Type 0) (new : List ℕ → Type 0) (result : Result Unit DiskFault) (step : FormatPart × Call) (before after : Dev) : Type 0 where
   pub served : serves before step.1 result after
   pub any_moment : premise → (b : List ℕ) → IsImage (state before) b ⊎ IsImage (state after) b → MayLeaveWhile new step.0 b
 
 -- from one device to another by these calls, in this order; each was done
-abbrev pub IsLedBy : {Dev : Type 0} → (Result Unit DiskFault → Part × Call → Dev → Dev → Type 0) → Dev → List (Part × Call) → Dev → Type 0
+abbrev pub IsLedBy : {Dev : Type 0} → (Result Unit DiskFault → FormatPart × Call → Dev → Dev → Type 0) → Dev → List (FormatPart × Call) → Dev → Type 0
 IsLedBy step first [] last = first ≡ last
 IsLedBy step first (c ∷ calls) last = (d : _) × step (Ok tt) c first d × IsLedBy step d calls last
 
 -- some of them were done, and the next one failed
-pub record FailsIn {Dev : Type 0} (step : Result Unit DiskFault → Part × Call → Dev → Dev → Type 0) (first : Dev) (all : List (Part × Call)) (last : Dev) : Type 0 where
-  pub made : List (Part × Call)
-  pub call : Part × Call
-  pub left : List (Part × Call)
+pub record FailsIn {Dev : Type 0} (step : Result Unit DiskFault → FormatPart × Call → Dev → Dev → Type 0) (first : Dev) (all : List (FormatPart × Call)) (last : Dev) : Type 0 where
+  pub made : List (FormatPart × Call)
+  pub call : FormatPart × Call
+  pub left : List (FormatPart × Call)
   pub are : made ++ call ∷ left ≡ all
   pub middle : Dev
   pub goes : IsLedBy step first made middle
   pub fault : DiskFault
   pub fails : step (Err fault) call middle last
 
--- nothing
+-- no bytes
 abbrev pub Never : List ℕ → Type 0
 Never b = ⊥
 
 -- a formatting of a device of a size for a table: its ten calls, all done (`Goes`) or up to one that failed (`FailsIn`)
-pub record Formats {Dev : Type 0} (course : (Result Unit DiskFault → Part × Call → Dev → Dev → Type 0) → Dev → List (Part × Call) → Dev → Type 0) (serves : Dev → Call → Result Unit DiskFault → Dev → Type 0) (state : Dev → DeviceState) (premise : Type 0) (size : ℕ) (t : Listing) (first last : Dev) : Type 0 where
+pub record Formats {Dev : Type 0} (course : (Result Unit DiskFault → FormatPart × Call → Dev → Dev → Type 0) → Dev → List (FormatPart × Call) → Dev → Type 0) (serves : Dev → Call → Result Unit DiskFault → Dev → Type 0) (state : Dev → DeviceState) (premise : Type 0) (size : ℕ) (t : Listing) (first last : Dev) : Type 0 where
   pub layout : Layout
   pub longest : IsLongest size t layout
   pub calls : course (FormatMoment serves state premise (IsNewDevice size t)) first (format_calls layout) last

@@ -6,8 +6,8 @@ use Rattle.alm_checkpoint.specs.declared.half.Half.{Half}
 use Rattle.alm_checkpoint.specs.declared.half.Half.TheVariants.{First, Second}
 use Rattle.alm_keeper.specs.declared.opening.Marks.{Marks}
 use Rattle.alm_checkpoint.specs.declared.half_head.HalfHead.{HalfHead}
-use Rattle.alm_checkpoint.specs.declared.fault.Fault.{Fault}
-use Rattle.alm_checkpoint.specs.declared.fault.Fault.TheVariants as found
+use Rattle.alm_checkpoint.specs.declared.device_fault.DeviceFault.{DeviceFault}
+use Rattle.alm_checkpoint.specs.declared.device_fault.DeviceFault.TheVariants as found
 use Rattle.alm_checkpoint.specs.Layouts.{other}
 use Rattle.alm_checkpoint.specs.Opening.{◌>>=◌, Opened, chosen_from, half_head_from, head_of, gate_in}
 use Rattle.alm_checkpoint.specs.Standing.{HasFault}
@@ -20,7 +20,7 @@ use Rattle.alm_keeper.specs.declared.book.Book.{Book}
 use Rattle.alm_keeper.specs.Stand.{Ready}
 use Rattle.alm_keeper.specs.Keeping.{account}
 
-abbrev pub open_fault : Fault → OpenFault
+abbrev pub open_fault : DeviceFault → OpenFault
 open_fault found.Unformatted = Unformatted
 open_fault (found.Damaged half at) = Damaged half at
 
@@ -30,13 +30,13 @@ CountsOpening (Ok x) before now = now ≡ before
 CountsOpening (Err Disk) before now = HasFailed before now
 CountsOpening (Err fault) before now = now ≡ before
 
--- a fault of the device is told only where it failed
+-- a fault of the device is returned only if it failed
 abbrev pub CountsAs : OpenFault → (before now : ℕ) → Type 0
 CountsAs Disk before now = HasFailed before now
 CountsAs fault before now = now ≡ before
 
--- a value that is read of the bytes, or their fault; a fault of the device or want of memory says nothing
-abbrev pub IsReadOf : {A : Type 0} → Result A OpenFault → Result A Fault → Type 0
+-- a value that is read of the bytes, or their fault; a fault of the device or out of memory says nothing
+abbrev pub IsReadOf : {A : Type 0} → Result A OpenFault → Result A DeviceFault → Type 0
 IsReadOf (Ok x) read = read ≡ Ok x
 IsReadOf (Err Disk) read = Unit {0}
 IsReadOf (Err OutOfMemory) read = Unit {0}
@@ -44,25 +44,25 @@ IsReadOf (Err Unformatted) read = read ≡ Err found.Unformatted
 IsReadOf (Err (Damaged half at)) read = read ≡ Err (found.Damaged half at)
 
 -- the device was opened: its book is as the bytes are; or the fault is theirs
-abbrev pub Opens : (bytes : List ℕ) → Result Book OpenFault → Type 0
-Opens bytes (Ok book) = Ready (account book) bytes
-Opens bytes (Err Disk) = Unit {0}
-Opens bytes (Err OutOfMemory) = Unit {0}
-Opens bytes (Err Unformatted) = HasFault bytes found.Unformatted
-Opens bytes (Err (Damaged half at)) = HasFault bytes (found.Damaged half at)
+abbrev pub OpensAs : (bytes : List ℕ) → Result Book OpenFault → Type 0
+OpensAs bytes (Ok book) = Ready (account book) bytes
+OpensAs bytes (Err Disk) = Unit {0}
+OpensAs bytes (Err OutOfMemory) = Unit {0}
+OpensAs bytes (Err Unformatted) = HasFault bytes found.Unformatted
+OpensAs bytes (Err (Damaged half at)) = HasFault bytes (found.Damaged half at)
 
--- what the heads tell, by their bytes
+-- what the heads say, by their bytes
 abbrev pub head_by : Half → (first second : List ℕ) → List ℕ
 head_by First first second = first
 head_by Second first second = second
 
-abbrev pub marks_from : Layout → (first second : List ℕ) → Result (Half × HalfHead) Fault
+abbrev pub marks_from : Layout → (first second : List ℕ) → Result (Half × HalfHead) DeviceFault
 marks_from l first second = do
   h ← chosen_from l first second
   t ← half_head_from l h (head_by h first second)
   Ok (h, t)
 
--- the half that stands, what its head tells, and whether the other half's gate is open; or the fault
+-- the half that stands, what its head says, and whether the other half's gate is open; or the fault
 abbrev pub MarksFrom : Layout → (first second : List ℕ) → Result Marks OpenFault → Type 0
 MarksFrom l first second (Ok m) = (chosen_from l first second ≡ Ok m.half) × (half_head_from l m.half (head_by m.half first second) ≡ Ok m.head) × (m.other_open ≡ gate_in (head_by (other m.half) first second))
 MarksFrom l first second (Err Disk) = Unit {0}

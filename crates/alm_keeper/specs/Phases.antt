@@ -6,7 +6,7 @@ use Rattle.alm_codec.specs.Frames.{IsFrame, frame_body}
 use Rattle.alm_disk.specs.Device.{DeviceState, Writes, Syncs}
 use Rattle.alm_disk.specs.Device.{IsImage as IsLeft}
 use Rattle.alm_keeper.specs.Stand.{HoldsPlant, Ready, Account, other_at, TakesFrame, with_commit}
-use Rattle.alm_keeper.specs.Resting.{Rests, or_within, Kept}
+use Rattle.alm_keeper.specs.Resting.{RestsBut, or_within, Kept}
 use Rattle.alm_keeper.specs.Stages.{During, next_stage}
 use Rattle.alm_keeper.specs.declared.stage.Stage.{Stage}
 use Rattle.alm_keeper.specs.declared.stage.Stage.TheVariants.{Close, CloseSync, Body, BodySync, Gate, GateSync}
@@ -21,14 +21,14 @@ pub record ClosesOther (a : Account) (state : DeviceState) : Type 0 where
   pub images : (b : List ℕ) → IsLeft state b → HoldsPlant a.epoch a.plant b
   pub bytes : List ℕ
   pub ready : Ready (with_other_shut a) bytes
-  pub rests : Rests (or_within (other_at a) 1 (λ place. false)) state bytes
+  pub rests : RestsBut (or_within (other_at a) 1 (λ place. false)) state bytes
 
--- nothing is under way
+-- no work is under way
 pub record Rested (a : Account) (state : DeviceState) : Type 0 where
   pub images : (b : List ℕ) → IsLeft state b → Ready a b
   pub bytes : List ℕ
   pub ready : Ready a bytes
-  pub rests : Rests (λ place. false) state bytes
+  pub rests : RestsBut (λ place. false) state bytes
 
 -- what is under way
 pub data UnderWay : Type 0 where
@@ -50,7 +50,7 @@ abbrev pub out_of : Option Copy → ℕ
 out_of None = 0
 out_of (Some k) = k.out
 
--- the open checkpoint beside a commit
+-- the open checkpoint during a commit
 abbrev pub Beside : Option Copy → Account → DeviceState → Type 0
 Beside None a state = Unit {0}
 Beside (Some k) a state = IsCopy a k × WrotePart a (take k.out (run_text a k)) state
@@ -63,7 +63,7 @@ KeptIn (Pause k) a state = IsCopy a k × Paused a k state
 KeptIn (Frame other stage actions) a state = Commits a actions × Beside other a state × Kept (is_sent a (out_of other)) (Ready a) (Ready (with_commit a actions)) stage state a.gate (frame_body a.epoch (a.plant.panel.count + 1) actions)
 KeptIn (End k stage) a state = Kept (λ place. false) (Ready a) (Ready (turned_by a k)) stage state (other_at a) (run_text a k)
 
--- the one call of a stage, for the gate at a place and the text behind it
+-- the one call of a stage, for the gate at a place and the text after it
 abbrev pub StageCall : {E : Type 0} → Stage → (at : ℕ) (text : List ℕ) → Result Unit E → (old new : DeviceState) → Type 0
 StageCall Close at text result old new = Writes at (0 ∷ []) result old new
 StageCall CloseSync at text result old new = Syncs result old new

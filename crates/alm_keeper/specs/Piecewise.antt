@@ -12,7 +12,7 @@ use Rattle.alm_segment.specs.Texts.{frames_text, AreFrames, actions_in}
 use Rattle.alm_checkpoint.specs.Layouts.{part, segment_at, other}
 use Rattle.alm_checkpoint.specs.Headers.{half_head_text}
 use Rattle.alm_keeper.specs.Stand.{Ready, Account, other_at}
-use Rattle.alm_keeper.specs.Resting.{Rests}
+use Rattle.alm_keeper.specs.Resting.{RestsBut}
 use Rattle.alm_types.specs.Sizes.{most_actions}
 
 -- an open checkpoint: the plant that was copied, the frames committed since, and how many bytes of the run went out
@@ -29,7 +29,7 @@ new_copy a = record { base = a.plant; since = []; out = 0 }
 abbrev pub since_text : Account → Copy → List ℕ
 since_text a k = frames_text (a.epoch + 1) k.base.panel.count k.since
 
--- what stands in front of the run's last byte, its closed gate: the head from its offset 1, the image, the frames since
+-- what precedes the run's last byte, its closed gate: the head from its offset 1, the image, the frames since
 abbrev pub open_text : Account → Copy → List ℕ
 open_text a k = half_head_text a.layout V02 (a.epoch + 1) k.base.panel.count ++ image_text k.base ++ since_text a k
 
@@ -46,17 +46,17 @@ pub record IsCopy (a : Account) (k : Copy) : Type 0 where
   pub frames : AreFrames (a.epoch + 1) k.base.panel.count k.since
   pub admitted : AreAdmitted k.base (actions_in k.since)
   pub runs : run k.base (actions_in k.since) ≡ a.plant
-  -- the frames since stand among the frames of the half that stands: so they fit the other one
+  -- the frames since are among the frames of the half that stands: so they fit the other one
   pub room : segment_at a.layout a.half + length (since_text a k) ≤ a.gate
   pub shut : a.other_open ≡ false
   -- the closed gate hasn't gone out
   pub left : k.out ≤ length (open_text a k)
 
--- the places that went out: nothing that is kept hangs on them, they may be pending
+-- the places that went out: they may be pending, and no kept fact depends on them
 abbrev pub is_sent : Account → ℕ → ℕ → Bool
 is_sent a out = is_within (other_at a + 1) out
 
--- the other half reads so from behind its gate
+-- the other half reads so after its gate
 abbrev pub WrotePart : Account → List ℕ → DeviceState → Type 0
 WrotePart a text state = part (other_at a + 1) (length text) state.bytes ≡ text
 
@@ -65,7 +65,7 @@ pub record Paused (a : Account) (k : Copy) (state : DeviceState) : Type 0 where
   pub images : (b : List ℕ) → IsLeft state b → Ready a b
   pub bytes : List ℕ
   pub ready : Ready a bytes
-  pub rests : Rests (is_sent a k.out) state bytes
+  pub rests : RestsBut (is_sent a k.out) state bytes
   pub wrote : WrotePart a (take k.out (run_text a k)) state
 
 -- the device after the checkpoint's end
@@ -76,6 +76,6 @@ turned_by a k = record a { half = other a.half; other_open = true; version = V02
 abbrev pub with_copied_frame : Copy → List Action → Copy
 with_copied_frame k actions = record k { since = k.since ++ actions ∷ [] }
 
--- so many bytes more went out
+-- n bytes more went out
 abbrev pub with_sent_bytes : Copy → ℕ → Copy
 with_sent_bytes k n = record k { out = k.out + n }

@@ -1,30 +1,30 @@
--- A device of which some places are loose: they may be pending, and nothing that is kept hangs on what stands there.
+-- A device of which some places are loose: they may be pending, and no kept fact depends on their bytes.
 use Rattle.std.specs.Prelude.{◌≡◌, ◌≢◌, ◌⊎◌, ℕ, ◌+◌, ◌||◌, Bool, false, List, ◌∷◌, ◌++◌, length}
 use Rattle.alm_disk.specs.Device.{DeviceState, IsImage, byte_at, is_within}
 use Rattle.alm_keeper.specs.Stages.{May, During}
 use Rattle.alm_keeper.specs.declared.stage.Stage.{Stage}
 use Rattle.alm_keeper.specs.declared.stage.Stage.TheVariants.{Idle, Body, BodySync, Gate, GateSync, Stopped}
 
--- these bytes read, at most the loose places are pending, and nothing has failed
-pub record Rests (loose : ℕ → Bool) (state : DeviceState) (bytes : List ℕ) : Type 0 where
+-- these bytes read, at most the loose places are pending, and no call has failed
+pub record RestsBut (loose : ℕ → Bool) (state : DeviceState) (bytes : List ℕ) : Type 0 where
   pub reads : state.bytes ≡ bytes
   pub within : (place : ℕ) → loose place ≡ false → state.pending place ≡ false
   pub sound : state.faulted ≡ false
 
--- so many places from a place on are loose as well
+-- n places from a place on are loose as well
 abbrev pub or_within : (at n : ℕ) → (ℕ → Bool) → ℕ → Bool
 or_within at n loose place = is_within at n place || loose place
 
--- the same bytes but for the loose places
+-- the same bytes except for the loose places
 pub record IsBeside (loose : ℕ → Bool) (bytes other : List ℕ) : Type 0 where
   pub size : length other ≡ length bytes
   pub same : (place : ℕ) → loose place ≡ false → byte_at other place ≡ byte_at bytes place
 
--- it doesn't hang on the loose places
+-- it doesn't depend on the loose places
 abbrev pub Blind : (ℕ → Bool) → (List ℕ → Type 0) → Type 0
 Blind loose P = (bytes other : List ℕ) → P bytes → IsBeside loose bytes other → P other
 
--- a write behind a gate, on a device that is loose elsewhere
+-- a write after a gate, on a device that is loose elsewhere
 pub record Guarded (loose : ℕ → Bool) (Before After : List ℕ → Type 0) (at : ℕ) (text : List ℕ) : Type 0 where
   pub front : List ℕ
   pub room : List ℕ
@@ -39,13 +39,13 @@ pub record Guarded (loose : ℕ → Bool) (Before After : List ℕ → Type 0) (
 abbrev pub with_gate : {loose : ℕ → Bool} {Before After : List ℕ → Type 0} {at : ℕ} {text : List ℕ} → Guarded loose Before After at text → ℕ → List ℕ → List ℕ
 with_gate k gate left = k.front ++ (gate ∷ left) ++ k.back
 
--- the gate is closed before the fourth call: the device is one of those before, whatever stands behind it
+-- the gate is closed before the fourth call: the device is one of those before, whatever follows it
 abbrev pub AtStage : (loose : ℕ → Bool) (Before After : List ℕ → Type 0) → Stage → DeviceState → ℕ → List ℕ → Type 0
-AtStage loose Before After Body state at text = (k : Guarded loose Before After at text) × (gate : ℕ) × (gate ≢ 165) × Rests loose state (with_gate k gate k.room)
-AtStage loose Before After BodySync state at text = (k : Guarded loose Before After at text) × (gate : ℕ) × (gate ≢ 165) × Rests (or_within (at + 1) (length text) loose) state (with_gate k gate text)
-AtStage loose Before After Gate state at text = (k : Guarded loose Before After at text) × (gate : ℕ) × (gate ≢ 165) × Rests loose state (with_gate k gate text)
-AtStage loose Before After GateSync state at text = (k : Guarded loose Before After at text) × Rests (or_within at 1 loose) state (with_gate k 165 text)
-AtStage loose Before After Idle state at text = (b : List ℕ) × After b × Rests loose state b
+AtStage loose Before After Body state at text = (k : Guarded loose Before After at text) × (gate : ℕ) × (gate ≢ 165) × RestsBut loose state (with_gate k gate k.room)
+AtStage loose Before After BodySync state at text = (k : Guarded loose Before After at text) × (gate : ℕ) × (gate ≢ 165) × RestsBut (or_within (at + 1) (length text) loose) state (with_gate k gate text)
+AtStage loose Before After Gate state at text = (k : Guarded loose Before After at text) × (gate : ℕ) × (gate ≢ 165) × RestsBut loose state (with_gate k gate text)
+AtStage loose Before After GateSync state at text = (k : Guarded loose Before After at text) × RestsBut (or_within at 1 loose) state (with_gate k 165 text)
+AtStage loose Before After Idle state at text = (b : List ℕ) × After b × RestsBut loose state b
 AtStage loose Before After Stopped state at text = Unit {0}
 AtStage loose Before After stage state at text = ⊥
 
@@ -53,7 +53,7 @@ pub record Kept (loose : ℕ → Bool) (Before After : List ℕ → Type 0) (sta
   pub images : (b : List ℕ) → IsImage state b → May Before After stage b
   pub stands : AtStage loose Before After stage state at text
 
--- what a call makes of a device: what is kept behind it, and what a crash leaves at any moment of it
+-- what a call makes of a device: what is kept after it, and what a crash leaves at any moment of it
 pub record Passes (loose : ℕ → Bool) (Before After : List ℕ → Type 0) (stage after : Stage) (old new : DeviceState) (at : ℕ) (text : List ℕ) : Type 0 where
   pub kept : Kept loose Before After after new at text
   pub any_moment : (b : List ℕ) → IsImage old b ⊎ IsImage new b → During Before After stage b

@@ -26,12 +26,12 @@ abbrev pub stage_after : {E : Type 0} → Stage → Result Unit E → Stage
 stage_after stage (Ok _) = next_stage stage
 stage_after stage (Err _) = Stopped
 
--- the first stage of a checkpoint: it closes the gate of the half that doesn't stand only where that gate reads open
+-- the first stage of a checkpoint: it closes the gate of the half that doesn't stand only if that gate reads open
 abbrev pub first_stage : Bool → Stage
 first_stage true = Close
 first_stage false = Body
 
--- once all of a checkpoint's run went out its sync is next, else another piece
+-- after all of a checkpoint's run went out its sync is next, else another piece
 abbrev pub sent_stage : (out run : ℕ) → Stage
 sent_stage out run = if out == run then BodySync else Body
 
@@ -60,7 +60,7 @@ abbrev pub During : (Before After : List ℕ → Type 0) → Stage → List ℕ 
 During Before After Gate b = Before b ⊎ After b
 During Before After stage b = May Before After stage b
 
--- where a store stands whose work is at a stage: between the pieces of a checkpoint it is paused
+-- the phase of a store whose work is at a stage: between the pieces of a checkpoint it is paused
 abbrev pub phase_of : Stage → Work → Phase
 phase_of Idle work = at.Idle
 phase_of Stopped work = at.Stopped

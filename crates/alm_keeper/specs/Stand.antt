@@ -12,7 +12,7 @@ use Rattle.alm_checkpoint.specs.declared.half.Half.{Half}
 use Rattle.alm_checkpoint.specs.Layouts.{layout_byte, half_at, half_len, other}
 use Rattle.alm_checkpoint.specs.Cut.{Cut, Stores, Reaches, front, device_of}
 
--- the device holds this plant in this epoch, in front of a closed gate
+-- the device holds this plant in this epoch, before a closed gate
 pub record HoldsPlant (epoch : ℕ) (plant : Condensed) (bytes : List ℕ) : Type 0 where
   pub cut : Cut
   pub in_epoch : cut.epoch ≡ epoch
@@ -41,7 +41,7 @@ pub record Account : Type 0 where
 abbrev pub account_of : Cut → Condensed → Account
 account_of c plant = record { layout = c.layout; half = c.half; other_open = is_gate_open (layout_byte c.other 0); version = c.version; epoch = c.epoch; gate = length (front c); plant = plant }
 
--- the device is as the account tells
+-- the device is as the account says
 pub record Ready (a : Account) (bytes : List ℕ) : Type 0 where
   pub cut : Cut
   pub is : a ≡ account_of cut a.plant
@@ -52,15 +52,15 @@ pub record Ready (a : Account) (bytes : List ℕ) : Type 0 where
   pub reaches : Reaches cut (gate ∷ tail)
   pub text : bytes ≡ device_of cut (gate ∷ tail)
 
--- where the other half begins
+-- the start of the other half
 abbrev pub other_at : Account → ℕ
 other_at a = half_at a.layout (other a.half)
 
--- where the half that stands ends
+-- the end of the half that stands
 abbrev pub end_of_half : Account → ℕ
 end_of_half a = half_at a.layout a.half + half_len a.layout
 
--- a frame of so many actions and the next gate fit
+-- a frame of n actions and the next gate fit
 abbrev pub FitsFrame : Account → ℕ → Type 0
 FitsFrame a n = a.gate + frame_len n + 1 ≤ end_of_half a
 
@@ -72,6 +72,6 @@ TakesFrame a actions = FitsFrame a (length actions) × AreBorne a.version action
 abbrev pub with_commit : Account → List Action → Account
 with_commit a actions = record a { gate = a.gate + frame_len (length actions); plant = run a.plant actions }
 
--- .. whose run is so long
+-- .. whose run has this length
 abbrev pub turned_half : Account → (run : ℕ) → Account
 turned_half a run = record a { half = other a.half; other_open = true; version = V02; epoch = a.epoch + 1; gate = other_at a + run }

@@ -1,3 +1,4 @@
+-- For the proofs.
 -- What a store's laws are of a keeper.
 use Rattle.std.specs.Prelude.{◌≡◌, ◌≢◌, ◌≤◌, List, length, ℕ, None, IsSome}
 use Rattle.std.proofs.Common.{refl, sym, subst}
@@ -17,10 +18,10 @@ use Rattle.alm_codec.specs.declared.version.Version.{Version}
 use Rattle.alm_codec.specs.declared.version.Version.TheVariants.{V02}
 use Rattle.alm_codec.specs.Versions.{AreBorne}
 use Rattle.alm_codec.proofs.Frames.{all_borne}
-use Rattle.alm_keeper.specs.Keeper.{KeeperView, Takes, next, next_by, begun_by}
+use Rattle.alm_keeper.specs.Keeper.{KeeperView, HasRoomFor, next, next_by, begun_by}
 use Rattle.alm_store.specs.Pacing.{TakesAny}
 use Rattle.alm_types.specs.declared.action.Action.{Action}
-use Rattle.alm_store.specs.Advancing.{IsOpen}
+use Rattle.alm_store.specs.Advancing.{IsCheckpointing}
 use Rattle.alm_keeper.specs.AsStore.{StandsFor, store_state_of, run_of, is_checkpoint_open, going_if, going_of}
 use Rattle.alm_store.proofs.Pace.{room_for}
 use Rattle.alm_types.specs.Sizes.{most_entries}
@@ -42,7 +43,7 @@ is_idle Gate Checkpoint e = absurd cc
 is_idle GateSync Commit e = absurd cc
 is_idle GateSync Checkpoint e = absurd cc
 
--- where no commit is under way the next plant is the stored one
+-- if no commit is under way the next plant is the stored one
 rests_by : {D : Type 0} (s : Stage) (w : Work) (k : KeeperView D) → phase_of s w ≢ at.Committing → phase_of s w ≢ at.Stopped → (next_by s k.stored (begun_by w k)).plant ≡ k.stored.plant
 rests_by Idle w k other going = refl
 rests_by Stopped w k other going = absurd (going refl)
@@ -62,15 +63,15 @@ rests_by GateSync Checkpoint k other going = refl
 pub rests : {D : Type 0} (k : KeeperView D) → phase_of k.stage k.work ≢ at.Committing → phase_of k.stage k.work ≢ at.Stopped → (next k).plant ≡ k.stored.plant
 rests k other going = rests_by k.stage k.work k other going
 
--- no bytes stand for two plants
+-- no bytes encode two plants
 pub stands_for_one : (bytes : List ℕ) (p q : Condensed) → StandsFor bytes p → StandsFor bytes q → p ≡ q
 stands_for_one bytes p q x y = (stands_once bytes x.0 y.0 p q x.1 y.1).1
 
--- what bytes stand for keeps the rules of every plant
+-- what bytes encode keeps the rules of every plant
 pub keeps_rules : (bytes : List ℕ) (p : Condensed) → AreBytes bytes → StandsFor bytes p → KeepsRules p
 keeps_rules bytes p are x = let k = stands_cut bytes x.0 p x.1 are in rules_stored k.cut p k.stores
 
--- no checkpoint is open where a keeper is idle, and one is as it goes on
+-- no checkpoint is open if a keeper is idle, and one is open in its stages
 alone_by : {D : Type 0} (k : KeeperView D) (s : Stage) (w : Work) → phase_of s w ≡ at.Idle → going_if (is_checkpoint_open s w k.copying) (run_of k) ≡ None
 alone_by k Idle w e = refl
 alone_by k Stopped w e = absurd cc
@@ -87,7 +88,7 @@ alone_by k Gate Checkpoint e = absurd cc
 alone_by k GateSync Commit e = absurd cc
 alone_by k GateSync Checkpoint e = absurd cc
 
-open_by : {D : Type 0} (k : KeeperView D) (s : Stage) (w : Work) → IsOpen (phase_of s w) → IsSome (going_if (is_checkpoint_open s w k.copying) (run_of k))
+open_by : {D : Type 0} (k : KeeperView D) (s : Stage) (w : Work) → IsCheckpointing (phase_of s w) → IsSome (going_if (is_checkpoint_open s w k.copying) (run_of k))
 open_by k Idle w e = absurd e
 open_by k Stopped w e = absurd e
 open_by k Close Commit e = absurd e
@@ -106,9 +107,9 @@ open_by k GateSync Checkpoint e = refl
 pub goes_alone : {D : Type 0} (k : KeeperView D) → phase_of k.stage k.work ≡ at.Idle → going_of k ≡ None
 goes_alone k is = alone_by k k.stage k.work is
 
-pub goes_open : {D : Type 0} (k : KeeperView D) → IsOpen (phase_of k.stage k.work) → IsSome (going_of k)
+pub goes_open : {D : Type 0} (k : KeeperView D) → IsCheckpointing (phase_of k.stage k.work) → IsSome (going_of k)
 goes_open k is = open_by k k.stage k.work is
 
--- where there is room for the longest frame any batch is taken by a half of version 02
-pub fits_any : {D : Type 0} (k : KeeperView D) (actions : List Action) → k.stored.version ≡ V02 → length actions ≤ most_entries → TakesAny (store_state_of k) → Takes k.stored actions
+-- if there is room for the longest frame any batch is taken by a half of version 02
+pub fits_any : {D : Type 0} (k : KeeperView D) (actions : List Action) → k.stored.version ≡ V02 → length actions ≤ most_entries → TakesAny (store_state_of k) → HasRoomFor k.stored actions
 fits_any k actions newest few any = (room_for k.stored.room k.segment (length actions) few any, subst (λ (v : Version). AreBorne v actions) (sym newest) (all_borne actions))

@@ -6,7 +6,7 @@ ghost use Rattle.alm_disk.specs.Device.{IsImage};
 ghost use Rattle.alm_disk.specs.Failures.{CountsFault, HasFailed};
 ghost use Rattle.alm_store.specs.Calls.{IsCall};
 ghost use Rattle.alm_keeper.specs.Keeper.{call_of, CallsOnce};
-ghost use Rattle.alm_keeper.specs.Keeping.{keeper_of, InOrder, FitsDevice, Keeps, PassesOn, MayLeave, Ends};
+ghost use Rattle.alm_keeper.specs.Keeping.{keeper_of, InOrder, FitsDevice, Keeps, PassesOn, MayLeave, EndsStep};
 
 use crate::book::Book;
 use crate::gated::call;
@@ -49,7 +49,7 @@ pub fn advance<D: Disk>(disk: &mut D, book: &mut Book) -> Progress
     ensures same { (D.honest disk.old ↔ D.honest disk.new) × (D.size disk.new ≡ D.size disk.old) }
     ensures in_order { InOrder book.new }
     ensures fits { FitsDevice book.new (D.size disk.new) }
-    ensures ends { Ends result book.old book.new }
+    ensures ends { EndsStep result book.old book.new }
     ensures counts { (D.failures disk.old ≤ D.failures disk.new) ×
         (result ≢ Progress.Failed → D.failures disk.new ≡ D.failures disk.old) ×
         (result ≡ Progress.Failed → HasFailed (D.failures disk.old) (D.failures disk.new)) }

@@ -10,7 +10,7 @@ use std::alloc::Global;
 impl<D: Disk + Drop> Store for Keeper<D> {
     ghost use Rattle.std.specs.Prelude.{◌≡◌, ◌≤◌, ◌+◌, ◌-◌, ◌^◌};
     ghost use Rattle.alm_codec.specs.declared.version.Version.TheVariants.{V02};
-    ghost use Rattle.alm_keeper.specs.Keeper.{Takes, next};
+    ghost use Rattle.alm_keeper.specs.Keeper.{HasRoomFor, next};
     ghost use Rattle.alm_keeper.specs.AsStore.{StandsFor, IsLastEpoch, store_state_of};
     ghost use Rattle.alm_keeper.specs.StoreLaws.{fits_any, goes_alone, goes_open, keeps_rules, rests, stands_for_one};
 
@@ -22,9 +22,9 @@ impl<D: Disk + Drop> Store for Keeper<D> {
 
     ghost recovers = { StandsFor };
 
-    ghost takes = { λ k actions. Takes k.stored actions };
+    ghost takes = { λ k actions. HasRoomFor k.stored actions };
 
-    ghost will_take = { λ k actions. Takes (next k) actions };
+    ghost will_take = { λ k actions. HasRoomFor (next k) actions };
 
     ghost newest = { λ k. k.stored.version ≡ V02 };
 
@@ -74,17 +74,21 @@ impl<D: Disk + Drop> Store for Keeper<D> {
     }
 
     fn begin(&mut self, batch: &Batch) -> Result<(), Refused> {
+        // for the proof: what is always true of a keeper, by the contract of `images`
         Keeper::images(self);
         Keeper::begin(self, batch)
     }
 
     fn begin_checkpoint(&mut self) -> Result<(), Refused> {
+        // for the proof: what is always true of a keeper, by the contract of `images`
         Keeper::images(self);
+        // for the proof: the least length of a segment, by the contract of `segment`
         let _least = self.segment();
         Keeper::begin_checkpoint(self)
     }
 
     fn advance(&mut self) -> Progress {
+        // for the proof: what is always true of a keeper, by the contract of `images`
         Keeper::images(self);
         Keeper::advance(self)
     }

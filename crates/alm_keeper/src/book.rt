@@ -41,7 +41,7 @@ pub struct Book {
     /// The version of the half that stands, and its epoch.
     pub version: Version,
     pub epoch: u64,
-    /// Where the first closed gate of the half that stands is.
+    /// The place of the first closed gate of the half that stands.
     pub gate: u64,
     pub stored: Plant,
     /// The plant with the actions that are begun.
@@ -51,7 +51,7 @@ pub struct Book {
     pub frame: Vec<u8>,
     /// A checkpoint is open.
     pub copying: bool,
-    /// Its run: the head of a half from behind the gate, the image, the frames committed since, and a closed gate.
+    /// Its run: the head of a half without the gate, the image, the frames committed since, and a closed gate.
     pub buffer: Vec<u8>,
     /// How long the run is.
     pub run: usize,
@@ -61,7 +61,7 @@ pub struct Book {
     pub written: u64,
 }
 
-/// The first call of a checkpoint closes the other half's gate, where it reads open.
+/// The first call of a checkpoint closes the other half's gate, if it reads open.
 fn first_stage(other_open: bool) -> Stage
     ensures { result ≡ first_stage other_open }
 {
@@ -73,10 +73,11 @@ fn first_stage(other_open: bool) -> Stage
 }
 
 impl Book {
-    /// Where the gate of the other half is.
+    /// The place of the gate of the other half.
     pub fn other_at(&self) -> u64
         ensures { result ≡ other_at (account self.now) }
     {
+        // for the proof: each field of the layout is within its type
         let Layout {
             rows: _rows,
             areas: _areas,
@@ -89,10 +90,11 @@ impl Book {
         }
     }
 
-    /// Where the half that stands ends.
+    /// The end of the half that stands.
     pub fn end(&self) -> u64
         ensures { result ≡ end_of_half (account self.now) }
     {
+        // for the proof: each field of the layout is within its type
         let Layout {
             rows: _rows,
             areas: _areas,
@@ -105,7 +107,7 @@ impl Book {
         }
     }
 
-    /// Where the first closed gate stands in the segment.
+    /// How much of the segment is used: the place of its first closed gate.
     pub fn used(&self) -> u64
         requires { InOrder self.now }
         ensures { result + (end_of_half (account self.now) - self.now.gate) ≡
@@ -172,7 +174,7 @@ impl Book {
         self.written = 0;
     }
 
-    /// The frame behind the gate is stored.
+    /// The frame after the gate is stored.
     fn close(&mut self)
         requires commit { self.old.work ≡ Work.Commit }
         requires last { self.old.stage ≡ Stage.GateSync }
@@ -185,7 +187,7 @@ impl Book {
         self.stage = Stage::Idle;
     }
 
-    /// The same beside an open checkpoint, which waits for its next piece.
+    /// The same if a checkpoint is open, which waits for its next piece.
     fn resume(&mut self)
         requires commit { self.old.work ≡ Work.Commit }
         requires last { self.old.stage ≡ Stage.GateSync }
@@ -208,7 +210,7 @@ impl Book {
         self.work = Work::Checkpoint;
     }
 
-    /// The other half stands.
+    /// From now on the other half stands.
     fn turn(&mut self)
         requires last { self.old.stage ≡ Stage.GateSync }
         requires checkpoint { self.old.work ≡ Work.Checkpoint }
@@ -313,7 +315,7 @@ impl Book {
         }
     }
 
-    /// Whether a frame of so many actions fits behind what is stored.
+    /// Whether a frame of `actions` actions fits after what is stored.
     pub fn fits(&self, actions: usize) -> bool
         requires { InOrder self.now }
         ensures { IsTrue result ↔ FitsFrame (account self.now) actions }
@@ -322,8 +324,8 @@ impl Book {
         room > 19 && actions as u64 <= (room - 20) / 16
     }
 
-    /// Whether a frame of a batch's accepted actions fits behind what is stored. They are counted only where one of all its
-    /// entries wouldn't fit.
+    /// Whether a frame of a batch's accepted actions fits after what is stored. They are counted only if one of all its entries
+    /// wouldn't fit.
     fn fits_accepted(&self, batch: &Batch) -> bool
         requires { InOrder self.now }
         ensures { IsTrue result ↔
@@ -332,7 +334,7 @@ impl Book {
         self.fits(batch.entries().len()) || self.fits(accepted_in(batch))
     }
 
-    /// Whether a frame of a batch's accepted actions fits behind what is stored, and the half may hold them.
+    /// Whether a frame of a batch's accepted actions fits after what is stored, and the half may hold them.
     pub fn takes(&self, batch: &Batch) -> bool
         requires { InOrder self.now }
         ensures { IsTrue result ↔ TakesFrame (account self.now) (accepted_of batch.now.entries) }
@@ -340,8 +342,8 @@ impl Book {
         self.fits_accepted(batch) && bears_all(self.version, batch.entries())
     }
 
-    /// Begins a checkpoint, without a device call: the stored plant is copied. The other half's gate is closed first only where
-    /// it reads open.
+    /// Begins a checkpoint, without a device call: the stored plant is copied. The other half's gate is closed first only if it
+    /// reads open.
     pub fn begin_checkpoint(&mut self) -> Result<(), Refused>
         requires in_order { InOrder self.old }
         ensures answer { result ≡

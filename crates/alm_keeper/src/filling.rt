@@ -2,7 +2,7 @@
 
 ghost use Rattle.std.specs.Prelude.{◌≡◌, ◌≤◌, ◌-◌, ◌++◌, length, replicate, vec_capacity};
 
-/// Puts zeros behind what a vector holds, up to a length for which it has room.
+/// Appends zeros to a vector, up to a length for which it has room.
 pub fn fill_to(buffer: &mut Vec<u8>, len: usize)
     requires { len ≤ vec_capacity buffer.old }
     ensures items { buffer.new.items ≡

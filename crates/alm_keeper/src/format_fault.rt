@@ -7,6 +7,6 @@ pub enum FormatFault {
     TooSmall,
     /// The device is unchanged.
     OutOfMemory,
-    /// The device has failed: it is to be formatted again.
+    /// The device has failed: it must be formatted again.
     Disk,
 }

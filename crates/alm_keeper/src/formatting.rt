@@ -1,4 +1,4 @@
-//! The ten device calls that format a device: the header's gate is closed; all else is written behind it, and half 0's gate is
+//! The ten device calls that format a device. The header's gate is closed; all else is written after it, and half 0's gate is
 //! opened; then the header's gate is opened.
 
 ghost use Rattle.std.specs.Prelude.{◌≡◌, ◌≤◌, ◌<◌, ◌+◌, ◌↔◌, ◌⊎◌, ◌∷◌, [], ℕ, List, false, length, OnOk, OnErr};
@@ -7,7 +7,7 @@ ghost use Rattle.alm_disk.specs.Failures.{CountsFault};
 ghost use Rattle.alm_disk.specs.Settled.{IsSettled};
 ghost use Rattle.alm_segment.specs.Course.{is_gate_open};
 ghost use Rattle.alm_checkpoint.specs.Layouts.{layout_byte, device_len, image_size};
-ghost use Rattle.alm_keeper.specs.Formatting.{IsShut, IsUnformatted, StaysUnformatted, LeavesBefore, with_empty_half, with_open_gate, IsGateClosed, IsOpened, IsWritten, Leaves};
+ghost use Rattle.alm_keeper.specs.Formatting.{IsShut, IsUnformatted, StaysUnformatted, LeavesBefore, with_empty_half, with_open_gate, IsGateClosed, IsWithGateOpen, IsWritten, Leaves};
 ghost use Rattle.alm_keeper.specs.Moments.{FormatMoment, Never, IsLedBy, FailsIn, close_calls, behind_calls, open_calls, format_calls};
 ghost use Rattle.alm_disk.specs.declared.call.Call.TheVariants.{Write, Sync};
 
@@ -35,7 +35,7 @@ fn close_header<D: Disk>(disk: &mut D) -> Result<(), DiskFault>
     disk.sync()
 }
 
-/// Writes behind the header's closed gate.
+/// Writes after the header's closed gate.
 fn write_shut<D: Disk>(disk: &mut D, at: u64, bytes: &[u8]) -> Result<(), DiskFault>
     requires behind { 1 ≤ at }
     requires in_range { at + length bytes.now ≤ D.size disk.old }
@@ -67,8 +67,8 @@ fn sync_shut<D: Disk>(disk: &mut D) -> Result<(), DiskFault>
     disk.sync()
 }
 
-/// The header, half 0 up to its segment's first gate, and half 1's gate, all behind the header's closed gate; then half 0's gate
-/// is opened. `half` has the closed gate of half 0 in front. A crash within leaves a device that isn't formatted.
+/// The header, half 0 up to its segment's first gate, and half 1's gate, all after the header's closed gate; then half 0's gate
+/// is opened. `half` begins with the closed gate of half 0. A crash within leaves a device that isn't formatted.
 fn write_behind<D: Disk>(
     disk: &mut D,
     layout: &Layout,
@@ -124,7 +124,7 @@ fn open_gate<D: Disk>(disk: &mut D) -> Result<(), DiskFault>
     disk.write_at(0, &[0xA5])
 }
 
-/// Syncs what was written: a crash within leaves nothing that it didn't leave before.
+/// Syncs what was written: a crash within leaves only what it could leave before.
 fn sync_open<D: Disk>(disk: &mut D) -> Result<(), DiskFault>
     ensures honest { D.honest disk.old ↔ D.honest disk.new }
     ensures size { D.size disk.new ≡ D.size disk.old }
@@ -151,17 +151,17 @@ fn open_header<D: Disk>(disk: &mut D) -> Result<(), DiskFault>
     ensures goes { OnOk result
         (IsLedBy
         (FormatMoment D.serves D.state (D.honest disk.old × IsGateClosed (D.state disk.old))
-        (IsOpened (D.state disk.old))) disk.old open_calls disk.new) }
+        (IsWithGateOpen (D.state disk.old))) disk.old open_calls disk.new) }
     ensures fails { OnErr result
         (FailsIn
         (FormatMoment D.serves D.state (D.honest disk.old × IsGateClosed (D.state disk.old))
-        (IsOpened (D.state disk.old))) disk.old open_calls disk.new) }
+        (IsWithGateOpen (D.state disk.old))) disk.old open_calls disk.new) }
 {
     open_gate(disk)?;
     sync_open(disk)
 }
 
-/// The ten calls. `half` has the closed gate of half 0 in front.
+/// The ten calls. `half` begins with the closed gate of half 0.
 pub fn write_all<D: Disk>(
     disk: &mut D,
     layout: &Layout,

@@ -1,4 +1,4 @@
-//! A write behind a gate, one device call at a time.
+//! A write after a gate, one device call at a time.
 
 ghost use Rattle.std.specs.Prelude.{◌≡◌, ◌↔◌, ◌<◌, ◌≤◌, ◌+◌, ◌^◌, length};
 ghost use Rattle.alm_keeper.specs.Stages.{IsWorking};
@@ -14,7 +14,7 @@ const OPEN: u8 = 0xA5;
 
 const CLOSED: u8 = 0;
 
-/// The one device call of a stage, for the text behind the gate at a place.
+/// The one device call of a stage, for the text after the gate at a place.
 pub fn call<D: Disk>(disk: &mut D, stage: Stage, at: u64, text: &[u8]) -> Result<(), DiskFault>
     requires working { IsWorking stage }
     requires in_range { at + 1 + length text.now ≤ D.size disk.old }

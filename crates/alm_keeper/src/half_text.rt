@@ -12,7 +12,7 @@ use alm_checkpoint::{HEAD_LEN, HalfHead, Layout};
 use alm_codec::write_image;
 use alm_plant::Plant;
 
-/// Writes an image and the closed gate behind it.
+/// Writes an image and the closed gate after it.
 fn put_image(layout: &Layout, plant: &Plant, out: &mut [u8])
     requires rules { KeepsRules plant.now }
     requires sizes { IsOf layout.now.rows layout.now.areas plant.now.panel.count plant.now }
@@ -23,7 +23,7 @@ fn put_image(layout: &Layout, plant: &Plant, out: &mut [u8])
     out[layout.image_len()] = 0;
 }
 
-/// Writes the head of a half from behind its gate, the image of a plant and the closed gate behind it.
+/// Writes the head of a half without its gate, the image of a plant and the closed gate after it.
 pub fn put_half(layout: &Layout, head: &HalfHead, plant: &Plant, out: &mut [u8])
     requires rules { KeepsRules plant.now }
     requires sizes { IsOf layout.now.rows layout.now.areas plant.now.panel.count plant.now }
@@ -37,7 +37,7 @@ pub fn put_half(layout: &Layout, head: &HalfHead, plant: &Plant, out: &mut [u8])
     put_image(layout, plant, &mut out[24..]);
 }
 
-/// Writes the body of a half into the front of a longer slice.
+/// Writes the body of a half to the start of a longer slice.
 fn put_front(layout: &Layout, head: &HalfHead, plant: &Plant, out: &mut [u8])
     requires rules { KeepsRules plant.now }
     requires sizes { IsOf layout.now.rows layout.now.areas plant.now.panel.count plant.now }
@@ -66,7 +66,7 @@ fn put_in_run(layout: &Layout, head: &HalfHead, plant: &Plant, buffer: &mut Vec<
     put_front(layout, head, plant, buffer);
 }
 
-/// Writes the body of a half into the front of the buffer of a run, which has room for it.
+/// Writes the body of a half to the start of the buffer of a run, which has room for it.
 pub fn write_half(layout: &Layout, head: &HalfHead, plant: &Plant, buffer: &mut Vec<u8>)
     requires rules { KeepsRules plant.now }
     requires sizes { IsOf layout.now.rows layout.now.areas plant.now.panel.count plant.now }

@@ -13,8 +13,8 @@ ghost use Rattle.alm_model.specs.Judging.{accepted_of};
 ghost use Rattle.alm_store.specs.Calls.{IsCall, AreDone, SyncsAndEndsIn};
 ghost use Rattle.alm_keeper.specs.Stages.{IsWorking, phase_of};
 ghost use Rattle.alm_store.specs.Advancing.{IsResting};
-ghost use Rattle.alm_keeper.specs.Opening.{Opens, CountsAs};
-ghost use Rattle.alm_keeper.specs.Keeper.{KeeperView, next, HasRoom, Takes, IsPaused, IsStoredIn, StandsWithRoom, LiesIn, MayStand, begin_answer, checkpoint_answer, BeginsCommit, BeginsCheckpoint, Progresses, call_of, SendsPiece, CallsOnce};
+ghost use Rattle.alm_keeper.specs.Opening.{OpensAs, CountsAs};
+ghost use Rattle.alm_keeper.specs.Keeper.{KeeperView, next, HasRoom, HasRoomFor, IsPaused, IsStoredIn, StandsWithRoom, LiesIn, MayStand, begin_answer, checkpoint_answer, BeginsCommit, BeginsCheckpoint, Progresses, call_of, SendsPiece, CallsOnce};
 ghost use Rattle.alm_types.specs.Sizes.{most_actions, most_entries};
 ghost use Rattle.alm_store.specs.Pace.{largest};
 ghost use Rattle.alm_checkpoint.specs.Layouts.{longest_segment};
@@ -51,14 +51,15 @@ impl<D: Disk + Drop> Model for Keeper<D> {
 }
 
 impl<D: Disk + Drop> Keeper<D> {
-    /// Makes the one device call of the work that is begun which is next. Takes no memory.
+    /// Makes the next device call of the work that is begun, exactly one. Takes no memory.
     ///
-    /// Failed is told only where the device failed in that call. The keeper is then stopped until the device is opened again.
+    /// `Failed` means that a call of the device failed, and is returned for no other cause. The keeper is then stopped until the
+    /// device is opened again.
     pub fn advance(&mut self) -> Progress
         requires working { IsWorking self.old.stage }
         ensures honest { D.honest self.old.disk ↔ D.honest self.new.disk }
         ensures advances { Progresses result self.old self.new }
-        // Which call it is: a write at this place of so many bytes, or a sync.
+        // Which call it is: a write of a number of bytes at this place, or a sync.
         ensures call { CallsOnce D.serves (call_of self.old) result self.old.disk self.new.disk }
         ensures piece { self.old.stage ≡ Stage.Body → self.old.work ≡ Work.Checkpoint →
             result ≢ Progress.Failed → SendsPiece self.old self.new }
@@ -77,14 +78,15 @@ impl<D: Disk + Drop> Keeper<D> {
         advance(&mut self.disk, &mut self.book)
     }
 
-    /// Begins a commit of the accepted actions of a batch, also between the pieces of an open checkpoint. Makes no device call, and
-    /// takes no memory.
+    /// Begins a commit of the accepted actions of a batch, also between the pieces of an open checkpoint. Makes no
+    /// device call, and takes no memory.
     ///
-    /// Refused, first of all, where the keeper is stopped; where a commit is under way, or a checkpoint that isn't paused; where
-    /// the batch's first number isn't the next one; else at the first action that isn't admitted where it comes, and that stops the keeper.
+    /// Refused, in this order: if the keeper is stopped; if a commit is under way, or a checkpoint that isn't paused; if the
+    /// batch's first number isn't the next one. Else refused at the first action that isn't admitted at its turn, and that stops
+    /// the keeper.
     pub fn begin(&mut self, batch: &Batch) -> Result<(), Refused>
         requires some { 1 ≤ length (accepted_of batch.now.entries) }
-        requires takes { Takes self.old.stored (accepted_of batch.now.entries) }
+        requires takes { HasRoomFor self.old.stored (accepted_of batch.now.entries) }
         ensures disk { self.new.disk ≡ self.old.disk }
         ensures answer { result ≡
             begin_answer (phase_of self.old.stage self.old.work) self.old.stored.plant batch.now }
@@ -95,8 +97,7 @@ impl<D: Disk + Drop> Keeper<D> {
 
     /// Opens a checkpoint: copies the plant that is stored. Makes no device call, and takes no memory.
     ///
-    /// Refused, first of all, where the keeper is stopped; where a commit or a checkpoint is under way; where the epoch is the
-    /// last.
+    /// Refused, in this order: if the keeper is stopped; if a commit or a checkpoint is under way; if the epoch is the last.
     pub fn begin_checkpoint(&mut self) -> Result<(), Refused>
         ensures disk { self.new.disk ≡ self.old.disk }
         ensures answer { result ≡
@@ -106,8 +107,8 @@ impl<D: Disk + Drop> Keeper<D> {
         self.book.begin_checkpoint()
     }
 
-    /// Does nothing: it says what a crash leaves of the device. Each image stands for what is stored or for what is begun; where
-    /// nothing is under way the device stands for what is stored, with its room.
+    /// Does nothing: it says what a crash leaves of the device. Each image encodes what is stored or what is begun; if no work is
+    /// under way the device encodes what is stored, with its room.
     pub fn images(&self)
         ensures either { D.honest self.now.disk → (b : List ℕ) → IsImage (D.state self.now.disk) b →
             ∥ IsStoredIn self.now.stored b ⊎ IsStoredIn (next self.now) b ∥₁ }
@@ -119,7 +120,7 @@ impl<D: Disk + Drop> Keeper<D> {
             ∥₁ }
         // The largest image, and the longest segment.
         ensures lengths { (self.now.image ≤ largest) × (self.now.segment ≤ longest_segment) }
-        // The frames in the run of a checkpoint stand among those of the segment.
+        // The frames in the run of a checkpoint are among those of the segment.
         ensures runs { IsWorking self.now.stage → self.now.work ≡ Work.Checkpoint →
             (self.now.out ≤ self.now.run) ×
             (self.now.run + self.now.stored.room ≤ head_len + self.now.image + self.now.segment) }
@@ -130,10 +131,11 @@ impl<D: Disk + Drop> Keeper<D> {
         // which has a byte or more.
         ensures pieces { self.now.stage ≡ Stage.Body → self.now.work ≡ Work.Checkpoint →
             self.now.out + 1 ≤ self.now.run }
-        // Where it is idle none is open, and one is where it is under way.
+        // If it is idle none is open, and one is if it is under way.
         ensures copies { (self.now.stage ≡ Stage.Idle → self.now.copying ≡ false) ×
             (IsWorking self.now.stage → self.now.work ≡ Work.Checkpoint → self.now.copying ≡ true) }
     {
+        // for the proof: what is always true of a book
         let _book = &self.book;
     }
 
@@ -176,7 +178,7 @@ impl<D: Disk + Drop> Keeper<D> {
         self.book.written = 0;
     }
 
-    /// Where the first closed gate stands in the segment.
+    /// How much of the segment is used: the place of its first closed gate.
     pub fn used(&self) -> u64
         ensures { result + self.now.stored.room ≡ self.now.segment }
     {
@@ -212,18 +214,18 @@ impl<D: Disk + Drop> Keeper<D> {
         u64::from(self.book.layout.segment)
     }
 
-    /// Whether a frame of so many actions fits behind what is stored.
+    /// Whether a frame of `actions` actions fits after what is stored.
     pub fn fits(&self, actions: usize) -> bool
         ensures { IsTrue result ↔ HasRoom self.now.stored actions }
     {
         self.book.fits(actions)
     }
 
-    /// Whether a frame of a batch's accepted actions fits behind what is stored, and the half that stands may hold them: one of
-    /// version 01 holds no PRIO and no SETP, so a checkpoint comes first.
+    /// Whether a frame of a batch's accepted actions fits after what is stored, and the half that stands may hold them.
+    /// One of version 01 holds no PRIO and no SETP, so a checkpoint comes first.
     #[tactic(auto, using(crate::proofs::Seen::takes_seen, crate::proofs::Seen::takes_of))]
     pub fn takes(&self, batch: &Batch) -> bool
-        ensures { IsTrue result ↔ Takes self.now.stored (accepted_of batch.now.entries) }
+        ensures { IsTrue result ↔ HasRoomFor self.now.stored (accepted_of batch.now.entries) }
     {
         self.book.takes(batch)
     }
@@ -238,14 +240,14 @@ impl<D: Disk + Drop> Keeper<D> {
     }
 }
 
-/// Opens a device: syncs it and reads what it stands for. Nothing is written. All memory that a keeper uses is taken here.
+/// Opens a device: syncs it and reads what it encodes. No byte is written. All memory that a keeper uses is taken here.
 ///
-/// Where that fails the device is handed back: Unformatted or Damaged by its bytes, Disk only where it failed in one of these
-/// calls, OutOfMemory, which says nothing of the bytes.
+/// If that fails the device is returned with the fault: Unformatted or Damaged by its bytes, or Disk only if it failed
+/// in one of these calls. OutOfMemory says nothing about the bytes.
 pub fn open_store<D: Disk + Drop>(alloc: Global, disk: D) -> Result<Keeper<D>, (OpenFault, D)>
     ensures idle { IfOk result
         (λ k. (k.stage ≡ Stage.Idle) × (k.copying ≡ false) × (k.written ≡ 0)) }
-    // The plant and the epoch for which the read stands, and the room that is left.
+    // The plant and the epoch that the bytes read encode, and the room that is left.
     ensures stands { D.honest disk →
         IfOk result (λ k. StandsWithRoom k.stored (D.state k.disk).bytes) }
     ensures limit { IfOk result (λ k. k.stored.plant.panel.count ≤ most_actions) }
@@ -253,13 +255,13 @@ pub fn open_store<D: Disk + Drop>(alloc: Global, disk: D) -> Result<Keeper<D>, (
         IfOk result (λ k. IsSettled (D.state k.disk) (D.state k.disk).bytes) }
     ensures counted { IfOk result (λ k. D.failures k.disk ≡ D.failures disk) }
     // The fault of the read.
-    ensures fault { D.honest disk → IfErr result (λ x. Opens (D.state x.1).bytes (Err x.0)) }
+    ensures fault { D.honest disk → IfErr result (λ x. OpensAs (D.state x.1).bytes (Err x.0)) }
     ensures counts { IfErr result (λ x. CountsAs x.0 (D.failures disk) (D.failures x.1)) }
     ensures honest { IfOk result (λ k. D.honest disk ↔ D.honest k.disk) }
     ensures honest_back { IfErr result (λ x. D.honest disk ↔ D.honest x.1) }
     ensures unwritten { D.honest disk →
         IfOk result (λ k. (b : List ℕ) → IsImage (D.state k.disk) b → IsImage (D.state disk) b) }
-    // Which calls it makes: a sync, and five reads, of each range once; where it is refused, these up to its fault.
+    // Which calls it makes: a sync, and five reads, of each range once; if it is refused, these up to its fault.
     ensures made { MatchResult result
         (λ k. (layout : Layout) × (image_size layout ≡ k.image) × (layout.segment ≡ k.segment) ×
         AreDone D.serves (Call.Sync ∷ reads_of layout k.half) disk k.disk)

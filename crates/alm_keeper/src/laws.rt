@@ -23,15 +23,15 @@ pub fn next_batch_is_begun()
         begin_answer phase plant batch ≡ Ok tt }
 {}
 
-/// What each device call leaves at any moment of it, done or failed, and what is kept once it was done: of a commit, of a checkpoint in any
-/// pieces, and of a commit between its pieces.
+/// What each device call leaves at any moment of it, done or failed, and what is kept after it was done. It covers a commit, a
+/// checkpoint in any pieces, and a commit between its pieces.
 pub fn each_call_keeps_what_is_under_way()
     ensures { (work : UnderWay) (a : Account) (n : ℕ) (result : Result Unit DiskFault)
         (old new : DeviceState) → a.gate + 1 ≤ end_of_half a → KeptIn work a old →
         MakesCall work a n result old new → WorkAdvances work a n result old new }
 {}
 
-/// A store that keeps its pace takes any batch, where the segment has 452,651 bytes or more.
+/// A store that keeps its pace takes any batch, if the segment has 452,651 bytes or more.
 pub fn a_store_that_keeps_its_pace_takes_any_batch()
     ensures takes { (s : StoreState) → least_segment ≤ s.segment → KeepsPace s → TakesAny s }
     // At most 53 commits come into one checkpoint.

@@ -1,5 +1,5 @@
-//! The store of a device: it keeps a plant, one device call at a time, so that a loss of power at any moment leaves what was stored
-//! or what was being stored, whole.
+//! The store of a device: it keeps a plant, one device call at a time. A loss of power at any moment leaves what was stored or
+//! what was being stored, whole.
 //!
 //! ```text
 //! let disk = format(alloc, disk, &table)?;
@@ -7,35 +7,35 @@
 //! while let Progress::More = keeper.advance() {}
 //! ```
 //!
-//! A device is formatted once ([`format`]) and opened as a [`Keeper`] ([`open_store`]). A keeper stores the accepted actions of a
-//! batch ([`Keeper::begin`]: a *commit*), or copies its plant to the other half of the device ([`Keeper::begin_checkpoint`]). Both
-//! only begin a work; each [`Keeper::advance`] then makes the one device call of it that is next.
+//! A device is formatted once ([`format`]) and opened as a [`Keeper`] ([`open_store`]). A keeper stores the accepted
+//! actions of a batch ([`Keeper::begin`]: a *commit*), or copies its plant to the other half of the device
+//! ([`Keeper::begin_checkpoint`]). Both only begin the work; each [`Keeper::advance`] then makes its next device call.
 //!
 //! | stage of a work | its call | at any moment of it a crash leaves |
 //! |---|---|---|
-//! | `Close` (a checkpoint alone, and only where the other half's gate reads open) | writes that gate closed | what is stored |
+//! | `Close` (only in a checkpoint, and only if the other half's gate reads open) | writes that gate closed | what is stored |
 //! | `CloseSync` | sync | what is stored |
 //! | `Body` | writes what the gate guards, the next gate closed: a frame, or one piece of a checkpoint's run | what is stored |
 //! | `BodySync` | sync | what is stored |
 //! | `Gate` | writes the gate open, one byte | what is stored, or what is begun |
 //! | `GateSync` | sync | what is stored, or what is begun |
-//! | then `Idle`, or beside an open checkpoint `Body` of that | | what was begun: now it is stored |
-//! | `Stopped`, where a call failed | none until the device is opened again | what is stored, or what was begun |
+//! | then `Idle`, or `Body` of an open checkpoint | | what was begun: now it is stored |
+//! | `Stopped`, if a call failed | none until the device is opened again | what is stored, or what was begun |
 //!
-//! A checkpoint is open from its begin to its end. What goes out is its *run*: the other half from behind its gate, which are the
+//! A checkpoint is open from its begin to its end. What goes out is its *run*, the other half after its gate. The run has the
 //! head in the next epoch, the image as it was copied, the frames committed since, and a closed gate. It goes out in pieces of at
-//! most 65,536 bytes, and between two of them a commit may be begun ([`Keeper::paused`]); the frame of that commit is copied into
-//! the run as well, with its gate open. The piece that reaches the closed gate is the last one, and no commit comes between it and
+//! most 65,536 bytes, and between two of them a commit may begin ([`Keeper::paused`]). The frame of that commit is copied into
+//! the run as well, with its gate open. The last piece is the one that includes the closed gate. No commit comes between it and
 //! the checkpoint's end.
 //!
-//! A half is of version 01 or 02, and a device has a header of one of them ([`format_as`]). One of version 01 holds neither PRIO nor
-//! SETP; each checkpoint makes a half of version 02, so where [`Keeper::takes`] is false for an action's sake a checkpoint comes
-//! first.
+//! A half is of version 01 or 02, and a device has a header of one of them ([`format_as`]). A half of version 01 holds neither
+//! PRIO nor SETP, and each checkpoint makes a half of version 02. So if [`Keeper::takes`] is false because of an action's kind, a
+//! checkpoint comes first.
 //!
-//! A gate is one byte, open where it is 0xA5. A commit writes the body of a frame behind the first closed gate of the half that
-//! stands; a checkpoint writes its run behind the gate of the other half.
+//! A gate is one byte, open if it is 0xA5. A commit writes the body of a frame after the first closed gate of the half that
+//! stands; a checkpoint writes its run after the gate of the other half.
 //!
-//! The definitions stand in specs/:
+//! The definitions are in specs/:
 //!
 //! | file | what it defines |
 //! |---|---|
@@ -48,14 +48,14 @@
 //! | Calls | which device call is that of a stage, and which are those of an opening |
 //! | Stand, Resting, Piecewise, Phases, Keeping | what a keeper knows of its device: for the proofs |
 //!
-//! What is used above: `any_moment` of [`Keeper::advance`], where "stands for" is the relation `Stands` between bytes, an epoch and
-//! a plant that alm_checkpoint defines for every reader of a device. [`Keeper::images`] says the same between calls. After
-//! `Done` the stored plant is the fold with the batch.
+//! What is used above: `any_moment` of [`Keeper::advance`]. It is stated by the relation `Stands` between bytes, an epoch and a
+//! plant, which alm_checkpoint defines for every reader of a device. [`Keeper::images`] says the same between calls. After `Done`
+//! the stored plant is the fold with the batch.
 //!
-//! What is asked of a device: that it is honest, as alm_disk says it. Safety, the answers of `begin`, and that `Failed` and
-//! `Disk` are told only where the device failed in that call, hold of every device. Only `format` and `open_store` take memory:
-//! the room of each vector of a book stays as it was taken. No contract says that it suffices, tests do. Not promised: any time, and that damaged bytes are found out (there is no
-//! checksum).
+//! What is required of a device: that it is honest, as alm_disk defines it. For every device these hold: safety, the answers of
+//! `begin`, and that `Failed` and `Disk` mean a failure of the device in that very call. Only `format` and `open_store` take
+//! memory: the room of each vector of a book never changes. Not covered: that memory suffices, which tests show; time; and that
+//! damaged bytes are found out (there is no checksum).
 #![tactic(auto)]
 
 mod advancing;

@@ -13,7 +13,7 @@ ghost use Rattle.alm_checkpoint.specs.Cut.{IsLayout};
 ghost use Rattle.alm_checkpoint.specs.Opening.{layout_in};
 ghost use Rattle.alm_store.specs.Calls.{AreDone, EndIn, SyncsAndEndsIn};
 ghost use Rattle.alm_keeper.specs.Calls.{reads_of};
-ghost use Rattle.alm_keeper.specs.Opening.{CountsOpening, IsReadOf, AreMarks, MarksFrom, Opens, Restores};
+ghost use Rattle.alm_keeper.specs.Opening.{CountsOpening, IsReadOf, AreMarks, MarksFrom, OpensAs, Restores};
 ghost use Rattle.alm_keeper.specs.Keeping.{InOrder, FitsDevice};
 ghost use Rattle.alm_types.specs.Sizes.{most_actions};
 
@@ -32,7 +32,7 @@ use alm_store::OpenFault;
 use alm_types::MOST_ENTRIES;
 use std::alloc::Global;
 
-/// Reads so many bytes from a place on.
+/// Fills `into` from a place on.
 fn read<D: Disk>(disk: &mut D, at: u64, into: &mut [u8]) -> Result<(), DiskFault>
     requires { at + length into.old ≤ D.size disk.old }
     ensures honest { D.honest disk.old ↔ D.honest disk.new }
@@ -81,7 +81,7 @@ fn read_layout<D: Disk>(disk: &mut D) -> Result<Layout, OpenFault>
     }
 }
 
-/// What the heads of the halves tell.
+/// What the heads of the halves say.
 #[derive(Clone, Copy)]
 struct Marks {
     /// The half that stands.
@@ -91,7 +91,7 @@ struct Marks {
     head: HalfHead,
 }
 
-/// The half that stands, and what its head tells.
+/// The half that stands, and what its head says.
 fn read_marks<D: Disk>(disk: &mut D, layout: Layout) -> Result<Marks, OpenFault>
     requires fits { device_len layout ≤ D.size disk.old }
     requires small { device_len layout < 2 ^ 64 }
@@ -161,12 +161,12 @@ pub fn open_book<D: Disk>(alloc: Global, disk: &mut D) -> Result<Book, OpenFault
     ensures honest { D.honest disk.old ↔ D.honest disk.new }
     ensures size { D.size disk.new ≡ D.size disk.old }
     ensures counts { CountsOpening result (D.failures disk.old) (D.failures disk.new) }
-    // Nothing is written: what a crash may leave afterwards it could leave before.
+    // No byte is written: what a crash may leave afterwards it could leave before.
     ensures unwritten { D.honest disk.old → (b : List ℕ) → IsImage (D.state disk.new) b →
         IsImage (D.state disk.old) b }
     ensures settled { D.honest disk.old →
         OnOk result (IsSettled (D.state disk.new) (D.state disk.new).bytes) }
-    ensures opens { D.honest disk.old → Opens (D.state disk.new).bytes result }
+    ensures opens { D.honest disk.old → OpensAs (D.state disk.new).bytes result }
     ensures in_order { IfOk result InOrder }
     ensures idle { IfOk result
         (λ book. (book.stage ≡ Stage.Idle) × (book.copying ≡ false) × (book.written ≡ 0)) }
@@ -191,7 +191,7 @@ fn read_book<D: Disk>(alloc: Global, disk: &mut D) -> Result<Book, OpenFault>
     ensures keeps { (b : List ℕ) → D.honest disk.old → IsSettled (D.state disk.old) b →
         IsSettled (D.state disk.new) b }
     ensures opens { (b : List ℕ) → D.honest disk.old → IsSettled (D.state disk.old) b → AreBytes b →
-        length b ≡ D.size disk.old → Opens b result }
+        length b ≡ D.size disk.old → OpensAs b result }
     ensures in_order { IfOk result InOrder }
     ensures idle { IfOk result
         (λ book. (book.stage ≡ Stage.Idle) × (book.copying ≡ false) × (book.written ≡ 0)) }
@@ -221,7 +221,7 @@ fn read_book<D: Disk>(alloc: Global, disk: &mut D) -> Result<Book, OpenFault>
     book_of(alloc, layout, marks, &image, &segment)
 }
 
-/// Reads so many bytes from a place on into a buffer of its own.
+/// Reads a number of bytes from a place on into a buffer of its own.
 fn read_room<D: Disk>(
     alloc: Global,
     disk: &mut D,

@@ -1,4 +1,4 @@
-//! Where the work of a keeper stands.
+//! The stage of a keeper's work.
 
 ghost use Rattle.std.specs.Prelude.{◌≡◌, ◌↔◌, IsTrue};
 ghost use Rattle.alm_keeper.specs.Stages.{IsWorking, phase_of};
@@ -10,7 +10,7 @@ use alm_store::Phase;
 pub enum Stage {
     /// No work is begun.
     Idle,
-    /// A checkpoint writes the other half's gate closed, where it reads open.
+    /// A checkpoint writes the other half's gate closed, if it reads open.
     Close,
     /// .. and syncs.
     CloseSync,
@@ -36,13 +36,13 @@ pub fn is_working(stage: Stage) -> bool
 /// What is begun.
 #[derive(Clone, Copy, Debug, PartialEq, Eq)]
 pub enum Work {
-    /// A frame is stored behind the others.
+    /// A frame is stored after the others.
     Commit,
     /// The other half is written, with the image of the stored plant and the frames committed since, in the next epoch.
     Checkpoint,
 }
 
-/// Where a store stands whose work is at a stage.
+/// The phase of a store whose work is at a stage.
 pub fn phase_of(stage: Stage, work: Work) -> Phase
     ensures { result ≡ phase_of stage work }
 {

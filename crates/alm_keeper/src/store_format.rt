@@ -65,7 +65,8 @@ fn new_half(alloc: Global, layout: &Layout, table: &Table) -> Result<Vec<u8>, Al
     Ok(half)
 }
 
-/// Formats a device for a table in a version: whatever stood there is overwritten. The device is handed back where that fails.
+/// Formats a device for a table in a version: its old content is overwritten. If that fails the device is returned with the
+/// fault.
 pub fn format_as<D: Disk + Drop>(
     alloc: Global,
     disk: D,

@@ -7,7 +7,7 @@ use alm_model::Alarms;
 use alm_plant::Plant;
 use alm_types::{Action, Entry, Verdict};
 
-/// Does the action of an entry, where it is admitted.
+/// Does the action of an entry, if it is admitted.
 fn try_one(plant: &mut Plant, entry: &Entry, actions: &mut Vec<Action>) -> bool
     requires { vec_len actions.old < vec_capacity actions.old }
     ensures tries { MatchBool result

@@ -7,7 +7,7 @@ use alm_disk::Chooser;
 pub enum Left<'a> {
     /// They are as they read.
     AsRead,
-    /// They are as they stood at the last sync.
+    /// They are as at the last sync.
     Stood(&'a [u8]),
     /// Each is this byte.
     Every(u8),
@@ -16,7 +16,7 @@ pub enum Left<'a> {
 }
 
 impl<'a> Left<'a> {
-    /// The byte at a place where this one reads.
+    /// The byte at a place that reads as this one.
     pub fn byte(&self, at: u64, read: u8) -> u8 {
         match self {
             Left::AsRead => read,

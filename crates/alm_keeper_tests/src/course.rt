@@ -1,4 +1,4 @@
-//! A course of works over a device, and a judge of what it stands for after a fault and a crash.
+//! A course of works over a device, and a judge of what it encodes after a fault and a crash.
 
 use crate::choosers::Left;
 use crate::steps::{batch, begin};
@@ -11,7 +11,7 @@ use alm_types::{Action, AlarmId};
 use std::alloc::Global;
 use std::test::Fail;
 
-/// What a device stands for: an epoch and how many actions; `None`: it isn't formatted.
+/// What a device encodes: an epoch and how many actions; `None`: it isn't formatted.
 pub type Stored = Option<(u64, u64)>;
 
 /// A part of the course.
@@ -19,14 +19,14 @@ pub type Stored = Option<(u64, u64)>;
 pub struct Part {
     /// How many device calls it makes.
     pub calls: u64,
-    /// Which of them, from 0, writes the open gate, and where.
+    /// Which of them, from 0, writes the open gate, and its place.
     pub opens: u64,
     pub gate: u64,
     pub before: Stored,
     pub after: Stored,
 }
 
-/// A part that makes so many calls, of which the last but one opens the gate at a place.
+/// A part that makes `calls` calls, of which the last but one opens the gate at a place.
 fn span(calls: u64, gate: u64, before: Stored, after: Stored) -> Part {
     Part {
         calls,
@@ -101,7 +101,7 @@ pub fn play<D: Disk + Drop>(alloc: Global, disk: D) -> Result<(bool, D), Fail> {
     }
 }
 
-/// The part in which the call comes that follows on so many, and how many of its calls came before.
+/// The part to which the call after `calls` calls belongs, and how many of its calls came before.
 pub fn part_of(calls: u64) -> Option<(Part, u64)> {
     let mut before: u64 = 0;
     for part in parts() {
@@ -114,8 +114,8 @@ pub fn part_of(calls: u64) -> Option<(Part, u64)> {
     None
 }
 
-/// What a device stands for after a crash, where the call failed that follows on so many: what was stored before the part; or what
-/// is stored after it, where the gate's write was begun and the crash leaves the gate open.
+/// What a device encodes after a crash, if the call after `calls` calls failed. It is what is stored after the part, if the
+/// gate's write was begun and the crash leaves the gate open, and else what was stored before.
 pub fn judged(calls: u64, disk: &MemDisk, left: &Left) -> Stored {
     match part_of(calls) {
         Some((part, made)) => {

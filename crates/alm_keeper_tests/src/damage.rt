@@ -4,7 +4,7 @@ ghost use Rattle.std.specs.Prelude.{◌<◌};
 
 use crate::steps::{batch, fresh, stores, worked};
 use crate::worked::{clock, value};
-use alm_checkpoint::{Fault, RestoreFault, recover};
+use alm_checkpoint::{DeviceFault, RestoreFault, recover};
 use alm_disk::{Disk, MemDisk};
 use alm_keeper::{OpenFault, open_store};
 use alm_model::Alarms;
@@ -98,20 +98,20 @@ fn two_changed_bytes(rt: HostRuntime) -> Result<(), Fail> {
     Ok(())
 }
 
-/// What recovery of its bytes alone tells of a device: the count and the epoch, or their fault.
+/// What recovery of its bytes alone reports of a device: the count and the epoch, or their fault.
 fn recovered(alloc: Global, bytes: &[u8]) -> Result<(u64, u64), OpenFault> {
     match recover::<Plant>(alloc, bytes) {
         Ok(found) => Ok((found.plant.count(), found.epoch)),
         Err(RestoreFault::OutOfMemory) => Err(OpenFault::OutOfMemory),
-        Err(RestoreFault::Damaged(Fault::Unformatted)) => Err(OpenFault::Unformatted),
-        Err(RestoreFault::Damaged(Fault::Damaged { half, at })) => {
+        Err(RestoreFault::Damaged(DeviceFault::Unformatted)) => Err(OpenFault::Unformatted),
+        Err(RestoreFault::Damaged(DeviceFault::Damaged { half, at })) => {
             Err(OpenFault::Damaged { half, at })
         }
     }
 }
 
-/// The last of these places, each so many behind the one before, at which opening tells of a byte set in turn to 00, 01, A5 and FF what
-/// recovery doesn't.
+/// Sets each byte at these places, `step` apart, in turn to 00, 01, A5 and FF. The last place at which opening reports something
+/// that recovery doesn't.
 fn dispute(alloc: Global, places: Range<u64>, step: usize) -> Result<Option<u64>, Fail>
     requires { 0 < step }
 {
@@ -134,16 +134,29 @@ fn dispute(alloc: Global, places: Range<u64>, step: usize) -> Result<Option<u64>
 }
 
 #[test]
-fn every_byte_of_header_heads_alarms_and_frames(rt: HostRuntime) -> Result<(), Fail> {
+fn every_byte_of_header_head_and_alarms(rt: HostRuntime) -> Result<(), Fail> {
     let alloc = rt.alloc();
-    for (from, to) in [(0, 128), (9_666, 10_465), (14_510, 14_535)] {
+    for (from, to) in [(0, 128), (9_666, 10_394), (14_510, 14_535)] {
         assert_eq!(rt; dispute(alloc, from..to, 1)?, None);
     }
     Ok(())
 }
 
 #[test]
-fn every_eleventh_byte(rt: HostRuntime) -> Result<(), Fail> {
-    assert_eq!(rt; dispute(rt.alloc(), 0..28_997, 11)?, None);
+fn every_byte_of_the_windows(rt: HostRuntime) -> Result<(), Fail> {
+    assert_eq!(rt; dispute(rt.alloc(), 128..9_666, 1)?, None);
+    Ok(())
+}
+
+#[test]
+fn every_byte_of_the_segment(rt: HostRuntime) -> Result<(), Fail> {
+    assert_eq!(rt; dispute(rt.alloc(), 10_394..14_510, 1)?, None);
+    Ok(())
+}
+
+// No reader reads a half that isn't open.
+#[test]
+fn every_eleventh_byte_behind(rt: HostRuntime) -> Result<(), Fail> {
+    assert_eq!(rt; dispute(rt.alloc(), 14_535..28_997, 11)?, None);
     Ok(())
 }

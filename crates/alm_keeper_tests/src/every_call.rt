@@ -8,8 +8,8 @@ use alm_keeper::{OpenFault, open_store};
 use std::alloc::Global;
 use std::test::Fail;
 
-/// What a device opens as, and whether it holds the plant of just those actions. A device that is damaged, or fails, is told
-/// as an epoch that none has.
+/// What a device opens as, and whether it holds the plant of exactly those actions. A device that is damaged, or fails, is
+/// reported as an epoch that none has.
 fn found<D: Crashable + Drop>(alloc: Global, disk: D) -> Result<(Stored, bool), Fail> {
     match open_store(alloc, disk) {
         Ok(keeper) => {
@@ -23,7 +23,7 @@ fn found<D: Crashable + Drop>(alloc: Global, disk: D) -> Result<(Stored, bool), 
     }
 }
 
-/// The bytes of the device at the last sync that was done among so many calls.
+/// The bytes of the device at the last successful sync among the first `calls` calls.
 fn synced(alloc: Global, calls: u64) -> Result<Vec<u8>, Fail> {
     let mut last: u64 = 0;
     for sync in [2, 6, 8, 10, 11, 18, 20, 22, 24, 26, 28, 30, 32, 34, 36, 38] {
@@ -38,7 +38,7 @@ fn synced(alloc: Global, calls: u64) -> Result<Vec<u8>, Fail> {
 /// How many choices there are of what the pending bytes become.
 const CHOICES: u32 = 6;
 
-/// What the pending bytes become by a choice, where these bytes stood at the last sync.
+/// What the pending bytes become by a choice, if these were the bytes at the last sync.
 fn choice<'a>(number: u32, stood: &'a [u8]) -> Left<'a> {
     match number {
         0 => Left::AsRead,
@@ -50,7 +50,7 @@ fn choice<'a>(number: u32, stood: &'a [u8]) -> Left<'a> {
     }
 }
 
-/// Whether a device whose call failed that follows on so many opens after a crash as what the judge says.
+/// Whether a device whose call after a number of calls failed opens after a crash as what the judge says.
 fn opens_as_judged<D: Crashable + Drop>(
     alloc: Global,
     wanted: Stored,
@@ -61,14 +61,14 @@ fn opens_as_judged<D: Crashable + Drop>(
     Ok(stored == wanted && same)
 }
 
-/// The same of the course over a fuse of so many calls.
+/// The same of the course over a fuse of `calls` calls.
 fn fused(alloc: Global, calls: u64, left: Left) -> Result<bool, Fail> {
     let (done, disk) = play(alloc, FuseDisk::new(device(alloc, SIZE)?, calls))?;
     let wanted = judged(calls, &disk.disk, &left);
     Ok(opens_as_judged(alloc, wanted, disk, left)? && done == (calls == CALLS))
 }
 
-/// The same where just the call fails that follows on so many.
+/// The same if only the call after `calls` calls fails.
 fn faulted(alloc: Global, calls: u64, left: Left) -> Result<bool, Fail> {
     let once = OnceDisk::new(device(alloc, SIZE)?, calls.saturating_add(1));
     let (done, disk) = play(alloc, once)?;

@@ -36,7 +36,7 @@ fn epoch<D: Disk + Drop>(alloc: Global, disk: D) -> Result<u64, OpenFault> {
     }
 }
 
-/// A formatting over a fuse of so many calls: what failed, and the device.
+/// A formatting over a fuse of `calls` calls: what failed, and the device.
 fn burnt(alloc: Global, calls: u64) -> Result<(Option<FormatFault>, FuseDisk<MemDisk>), Fail> {
     let fuse = FuseDisk::new(device(alloc, SIZE)?, calls);
     match format(alloc, fuse, &table(alloc)?) {
@@ -142,7 +142,7 @@ fn the_calls_and_the_bytes(rt: HostRuntime) -> Result<(), Fail> {
         0x6a,
     ];
     assert_eq!(rt; disk.bytes().get(..48), Some(start.as_slice()));
-    // The segment's first gate is closed, and all behind it stands as before; so does the other half, but for its gate.
+    // The segment's first gate is closed, and all after it is as before; so is the other half, except for its gate.
     assert_eq!(rt;
         disk.bytes().get(10_394..10_396),
         Some([0, 0xa5].as_slice())

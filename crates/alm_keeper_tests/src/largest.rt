@@ -42,7 +42,7 @@ fn held<D: Disk + Drop>(
     Ok(found)
 }
 
-/// Alarms, areas, and how long the device is: one more than 1,000 alarms, and the largest device that there is.
+/// Alarms, areas, and how long the device is: one more than 1,000 alarms, and the largest plant.
 const DEVICES: [(u32, u8, usize); 2] = [(1_001, 2, 391_905), (16_384, 64, 40_132_841)];
 
 #[test]

@@ -1,6 +1,6 @@
 //! Tests of the keeper: the worked devices, and a fault and a crash at each device call.
 //!
-//! What the keeper's contracts say of every device is proved there. Here stand the bytes and the numbers that come from
+//! What the keeper's contracts say of every device is proved there. Here are the bytes and the numbers that come from
 //! outside, what a body that gives up would miss, and each public call once with ample memory.
 #![tactic(auto)]
 

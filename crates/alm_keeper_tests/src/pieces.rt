@@ -10,14 +10,14 @@ use alm_types::{Attr, Kind, Settings, Table};
 use std::alloc::Global;
 use std::test::Fail;
 
-/// How long a device of 1,000 alarms in 2 areas is, and where half 1 begins and its segment.
+/// How long a device of 1,000 alarms in 2 areas is, and the places of half 1 and of its segment.
 const SIZE: usize = 391_541;
 
 const HALF: usize = 195_782;
 
 const SEGMENT: usize = 387_425;
 
-/// How long one of 360 alarms is, and where the segment of half 0 begins and half 1. Its runs have two pieces.
+/// How long one of 360 alarms is, and the places of the segment of half 0 and of half 1. Its runs have two pieces.
 const SMALL_SIZE: usize = 158_581;
 
 const SMALL_SEGMENT: u64 = 75_186;
@@ -38,7 +38,7 @@ fn alarm(area: u8) -> Option<Attr> {
     Attr::new(settings, b"TI-101", b"").ok()
 }
 
-/// A table of so many alarms in so many areas.
+/// A table of `rows` alarms in `areas` areas.
 pub fn table_in(alloc: Global, rows: u32, areas: u8) -> Result<Table, Fail> {
     let mut alarms = Vec::new(alloc);
     for number in 0..rows {
@@ -53,7 +53,7 @@ pub fn table_in(alloc: Global, rows: u32, areas: u8) -> Result<Table, Fail> {
     }
 }
 
-/// A device of so many bytes.
+/// A device of `size` bytes.
 pub fn zeros(alloc: Global, size: usize) -> Result<MemDisk, Fail> {
     Ok(MemDisk::new(alloc, vec![in alloc; 0u8; size]?, 200)?)
 }
@@ -79,7 +79,7 @@ struct Said {
     done: bool,
     phase: Phase,
     paused: bool,
-    // The bytes of pieces since the last commit's end or mark.
+    // How many bytes its pieces have, counted from the end of the last commit or the last mark on.
     written: u64,
     epoch: u64,
     count: u64,
@@ -98,7 +98,7 @@ fn shown<D: Disk + Drop>(keeper: &Keeper<D>, done: bool) -> Said {
     }
 }
 
-/// A commit, a checkpoint's three pieces with a commit behind the first, and its end.
+/// A commit, a checkpoint's three pieces with a commit after the first, and its end.
 fn between<D: Disk + Drop>(alloc: Global, keeper: &mut Keeper<D>) -> Result<[Said; 7], Fail> {
     let first = stores_next(alloc, keeper)?;
     let first = shown(keeper, first);
@@ -157,6 +157,28 @@ fn a_commit_between_two_pieces(rt: HostRuntime) -> Result<(), Fail> {
     Ok(())
 }
 
+/// Continues to that checkpoint's last write, which opens its gate. Whether all was done.
+fn opens_the_gate(alloc: Global, keeper: &mut Keeper<MemDisk>) -> Result<bool, Fail> {
+    let first = stores_next(alloc, keeper)? && keeper.begin_checkpoint().is_ok();
+    let piece = advance(keeper, 1) == Progress::More;
+    let second = stores_next(alloc, keeper)?;
+    let gate = advance(keeper, 4) == Progress::More;
+    Ok(first && piece && second && gate)
+}
+
+#[test]
+fn a_crash_as_the_gate_is_opened(rt: HostRuntime) -> Result<(), Fail> {
+    let alloc = rt.alloc();
+    for (byte, epoch) in [(0x00, 1), (0x5A, 1), (0xFF, 1), (0xA5, 2)] {
+        let mut keeper = fresh(alloc, zeros(alloc, SIZE)?, 1000)?;
+        let done = opens_the_gate(alloc, &mut keeper);
+        let stood = standing(alloc, keeper.into_disk().crash(&mut Left::Every(byte)));
+        assert!(rt; done?);
+        assert_eq!(rt; stood, Some((epoch, 2)), "{byte}");
+    }
+    Ok(())
+}
+
 #[test]
 fn a_mark_counts_anew(rt: HostRuntime) -> Result<(), Fail> {
     let alloc = rt.alloc();
@@ -193,7 +215,7 @@ fn commit(gate: u64, count: u64) -> Part {
     }
 }
 
-/// A piece, with so many actions stored.
+/// A piece, with `count` actions stored.
 fn piece(count: u64) -> Part {
     Part {
         calls: 1,
@@ -240,7 +262,7 @@ fn works<D: Disk + Drop>(alloc: Global, keeper: &mut Keeper<D>) -> Result<bool, 
     Ok(advance(keeper, 3) == Progress::Done)
 }
 
-/// What a device stands for after a crash, where the call failed that follows on so many.
+/// What a device encodes after a crash, if the call after `calls` calls failed.
 fn judged(calls: u64, disk: &MemDisk, left: &Left) -> Stored {
     let mut before: u64 = BEFORE;
     for part in parts() {
@@ -267,7 +289,7 @@ fn tried<D: Disk + Drop>(alloc: Global, disk: D) -> Result<(bool, D), Fail> {
     Ok((done?, disk))
 }
 
-/// The epoch and the count of a device, where it is opened.
+/// The epoch and the count of a device, if it is opened.
 fn standing<D: Disk + Drop>(alloc: Global, disk: D) -> Stored {
     match open_store(alloc, disk) {
         Ok(keeper) => {
@@ -279,7 +301,7 @@ fn standing<D: Disk + Drop>(alloc: Global, disk: D) -> Stored {
     }
 }
 
-/// Whether a device with a fuse of so many calls opens after a crash as what the judge says.
+/// Whether a device with a fuse of `calls` calls opens after a crash as what the judge says.
 fn fused(alloc: Global, calls: u64, mut left: Left) -> Result<bool, Fail> {
     let (done, disk) = tried(alloc, FuseDisk::new(zeros(alloc, SMALL_SIZE)?, calls))?;
     let wanted = judged(calls, &disk.disk, &left);
@@ -287,7 +309,7 @@ fn fused(alloc: Global, calls: u64, mut left: Left) -> Result<bool, Fail> {
     Ok(stood == wanted && done == (calls == BEFORE + CALLS))
 }
 
-/// Whether one does of which the call behind so many fails and no other one.
+/// The same of one of which only the call after `calls` calls fails.
 fn failed_once(alloc: Global, calls: u64, mut left: Left) -> Result<bool, Fail> {
     let once = OnceDisk::new(zeros(alloc, SMALL_SIZE)?, calls.saturating_add(1));
     let (done, disk) = tried(alloc, once)?;

@@ -1,5 +1,5 @@
-//! Want of memory: run with each allocation refused in turn (`rt try --test --fail-alloc N`), the tests of this module pass. One is refused at
-//! most, so what was refused is made the second time: a maker that always gives up doesn't pass.
+//! Out of memory: run with each allocation refused in turn (`rt try --test --fail-alloc N`), the tests of this module pass. One
+//! is refused at most, so what was refused is made the second time: a maker that always gives up doesn't pass.
 
 use crate::worked::{SIZE, try_device, try_table};
 use alm_disk::{Call, MemDisk};

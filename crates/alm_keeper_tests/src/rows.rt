@@ -88,8 +88,9 @@ fn a_batch_that_does_not_come_next(rt: HostRuntime) -> Result<(), Fail> {
     Ok(())
 }
 
-/// What is answered to a batch, and to a checkpoint, after some calls of a commit.
-fn asked_again(keeper: &mut Keeper<MemDisk>, batch: &Batch, calls: u32) -> (bool, bool) {
+/// What is answered to a batch, and to a checkpoint, after some calls of a commit; and what the commit's other calls return, as
+/// the four that it has.
+fn asked_again(keeper: &mut Keeper<MemDisk>, batch: &Batch, calls: u32) -> (bool, bool, Progress) {
     let _begun = begin(keeper, batch);
     let _made = advance(keeper, calls);
     let begun = begin(keeper, batch);
@@ -97,6 +98,7 @@ fn asked_again(keeper: &mut Keeper<MemDisk>, batch: &Batch, calls: u32) -> (bool
     (
         begun == Some(Err(Refused::Working)),
         copied == Err(Refused::Working),
+        advance(keeper, 4_u32.saturating_sub(calls)),
     )
 }
 
@@ -106,9 +108,11 @@ fn a_batch_while_another_is_committed(rt: HostRuntime) -> Result<(), Fail> {
     for calls in 0..4 {
         let batch = acks(alloc, 4)?;
         let mut keeper = three(alloc)?;
-        let refused = asked_again(&mut keeper, &batch, calls);
+        let told = asked_again(&mut keeper, &batch, calls);
+        let found = (keeper.count(), keeper.phase());
         drop(keeper);
-        assert_eq!(rt; refused, (true, true), "{calls} calls");
+        assert_eq!(rt; told, (true, true, Progress::Done), "{calls} calls");
+        assert_eq!(rt; found, (5, Phase::Idle), "{calls} calls");
     }
     Ok(())
 }
@@ -140,7 +144,8 @@ fn a_batch_that_is_not_accepted(rt: HostRuntime) -> Result<(), Fail> {
     Ok(())
 }
 
-/// A fault in a call of a commit: what the last call told, whether the keeper is stopped, and the count when its device is opened.
+/// A fault in a call of a commit: what the last call returned, whether the keeper is stopped, and the count when its device is
+/// opened.
 fn faulted(alloc: Global, call: u64) -> Result<(Progress, bool, u64), Fail> {
     let batch = acks(alloc, 4)?;
     let disk = three(alloc)?.into_disk();
@@ -222,7 +227,7 @@ fn the_room_for_a_frame(rt: HostRuntime) -> Result<(), Fail> {
     Ok(())
 }
 
-/// Why a device isn't opened, and its bytes' number; `None` where it is opened.
+/// Why a device isn't opened, and its bytes' number; `None` if it is opened.
 fn unopened(alloc: Global, disk: FuseDisk<MemDisk>) -> Option<(OpenFault, usize)> {
     match open_store(alloc, disk) {
         Ok(keeper) => {

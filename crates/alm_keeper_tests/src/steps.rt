@@ -37,7 +37,7 @@ pub fn batch(alloc: Global, first: u64, actions: &[Action]) -> Result<Batch, Fai
     batch_of(alloc, first, &verdicts)
 }
 
-/// Begins the commit of a batch; `None` where it has no action, or isn't taken.
+/// Begins the commit of a batch; `None` if it has no action, or isn't taken.
 pub fn begin<D: Disk + Drop>(keeper: &mut Keeper<D>, batch: &Batch) -> Option<Result<(), Refused>> {
     if accepted_in(batch) >= 1 && keeper.takes(batch) {
         Some(keeper.begin(batch))
@@ -46,7 +46,7 @@ pub fn begin<D: Disk + Drop>(keeper: &mut Keeper<D>, batch: &Batch) -> Option<Re
     }
 }
 
-/// So many device calls of the work that is begun, or as many as it has.
+/// `calls` device calls of the work that is begun, or all that it has.
 pub fn advance<D: Disk + Drop>(keeper: &mut Keeper<D>, calls: u32) -> Progress {
     let mut last = Progress::More;
     for _call in 0..calls {
@@ -67,12 +67,12 @@ pub fn copies<D: Disk + Drop>(keeper: &mut Keeper<D>) -> bool {
     keeper.begin_checkpoint().is_ok() && advance(keeper, 6) == Progress::Done
 }
 
-/// A refusal, told against a count.
+/// A refusal, at a count.
 pub fn refused(count: u64) -> Verdict {
     Verdict::Refused(Refusal::NoSuchAlarm, count)
 }
 
-/// What works were done on, where they were.
+/// What works were done on, if they were done.
 pub fn worked<T: Drop>(on: T, done: bool) -> Result<T, Fail> {
     if done {
         Ok(on)

@@ -1,4 +1,4 @@
-//! A device of version 01 that goes on under this keeper: its bytes before and after its first checkpoint.
+//! A device of version 01 in use by this keeper: its bytes before and after its first checkpoint.
 
 use crate::choosers::Left;
 use crate::damage::{damaged, opened, put};

@@ -47,13 +47,13 @@ pub fn table(alloc: Global) -> Result<Table, Fail> {
     }
 }
 
-/// A device of so many bytes 0xA5, if there is memory for it.
+/// A device of `size` bytes 0xA5, if there is memory for it.
 pub fn try_device(alloc: Global, size: usize) -> Option<MemDisk> {
     let bytes = vec![in alloc; 0xA5u8; size].ok()?;
     MemDisk::new(alloc, bytes, CALLS).ok()
 }
 
-/// A device of so many bytes 0xA5.
+/// A device of `size` bytes 0xA5.
 pub fn device(alloc: Global, size: usize) -> Result<MemDisk, Fail> {
     match try_device(alloc, size) {
         Some(disk) => Ok(disk),
@@ -61,7 +61,7 @@ pub fn device(alloc: Global, size: usize) -> Result<MemDisk, Fail> {
     }
 }
 
-/// The clock goes to a second.
+/// The clock moves to a second.
 pub fn clock(seconds: u64) -> Action {
     Action::Clock(Moment::new(seconds).unwrap_or(Moment::start()))
 }

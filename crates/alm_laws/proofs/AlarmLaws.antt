@@ -36,7 +36,7 @@ detected-new a true v after = elim (goes a.kind a.setpoint a.deadband v) as (λ 
 pub not-both : {A : Type 0} (b : Bool) → b ≡ true → b ≡ false → A
 not-both b t f = absurd (true≢false (sym t ∙ f))
 
--- a flag that an action takes away stood
+-- a flag that an action takes away was set
 cleared : (flag : Bool) → flag_refusal false flag ≡ None → flag ≡ true
 cleared true h = refl
 cleared false h = absurd (none-some _ (sym h))
@@ -59,11 +59,11 @@ under-oos s e = rw e (or-last (is_some s.shelved_until) s.by_design)
 pub under-shelving : (s : State) → is_some s.shelved_until ≡ true → is_suppressed s ≡ true
 under-shelving s e = rw e refl
 
--- who stands under a flag is in no state that asks for the operator
+-- an alarm under a flag is in no state that asks for the operator
 pub calm : {A : Type 0} (asks : Core → Bool) (s : State) → IsState s → asks Normal ≡ false → is_suppressed s ≡ true → asks s.core ≡ true → A
 calm asks s state quiet under h = absurd (true≢false (sym h ∙ ap asks (state.suppressed under) ∙ quiet))
 
--- the core state to which the table leads
+-- the next core state by the table
 led-core : (stamp : ℕ) (o : Option Core) (t : State) → (row_left (after_transition stamp o t)).core ≡ unwrap_or o t.core
 led-core stamp None t = refl
 led-core stamp (Some Normal) t = refl
@@ -106,7 +106,7 @@ left-unacknowledged : (stamp : ℕ) (l : Bool) (h : Happening) (s : State) (acti
     → is_unacknowledged (row_left (after_transition stamp (next_core l h s.core) (record s { active = active }))).core ≡ true
 left-unacknowledged stamp l h s active k e = ap is_unacknowledged (led-core stamp (next_core l h s.core) (record s { active = active })) ∙ led-unacknowledged l h s.core k e
 
--- a value moves by coming and going alone
+-- a value moves an alarm only as its condition comes or goes
 abbrev moved-by : Bool → Happening
 moved-by active = cond active happening.Comes happening.Goes
 
@@ -122,7 +122,7 @@ value-unacknowledged stamp a s (Some active) e =
       | false ↦ left-unacknowledged stamp a.latching (moved-by active) s active (moved-keeps active) e
     ]
 
--- nobody acknowledges for the operator
+-- no action acknowledges for the operator
 pub acknowledged-only : (now stamp : ℕ) (action : Action) (a : Attr) (s : State) → TakesAction action a s → LeavesUnacknowledgedOnlyByAckOrFlag action s (row_left (outcome now stamp action a s))
 acknowledged-only now stamp (Clock t) a s h e f = not-both _ e f
 acknowledged-only now stamp (Value i v) a s h e f = not-both _ (value-unacknowledged stamp a s (detection_of a s.active v) e) f
@@ -202,7 +202,7 @@ latched-until now stamp (Design i false) a s h e f = calm is_latched s h.state r
 latched-until now stamp (SetPriority i priority) a s h e f = loud-normal _ (latched-loud s.core e) f
 latched-until now stamp (SetSetpoint i setpoint) a s h e f = loud-normal _ (latched-loud s.core e) f
 
--- ---- when an alarm is annunciated anew
+-- ---- when an alarm is annunciated again
 
 quiet : (u x y : Bool) → (not x && y) ≡ false → false ≡ (not u && not x && y || (u && not u) && y)
 quiet true x y e = refl
@@ -351,7 +351,7 @@ annunciated-then now stamp (Design i false) a s h =
 annunciated-then now stamp (SetPriority i priority) a s h = quiet (is_suppressed s) s.active s.active (same-active s.active)
 annunciated-then now stamp (SetSetpoint i setpoint) a s h = quiet (is_suppressed s) s.active s.active (same-active s.active)
 
--- the end of a shelving alone, for the clock
+-- only the end of a shelving, for the clock
 pub unshelved-then : (stamp : ℕ) (s : State) → is_some s.shelved_until ≡ true → IsAnnunciatedJustThen s (without_shelving stamp s)
 unshelved-then stamp s e =
     let t : State = record s { shelved_until = None } in
@@ -426,7 +426,7 @@ value-shelving stamp a s (Some active) =
       | false ↦ led-shelving stamp (next_core a.latching (moved-by active) s.core) (record s { active = active })
     ]
 
--- SHELVE wants an alarm that is not shelved
+-- SHELVE needs an alarm that is not shelved
 shelve-free : (o : Option ℕ) (p : Option Refusal) → or_else (unless (is_none o) AlreadyShelved) p ≡ None → is_some o ≡ false
 shelve-free None p e = refl
 shelve-free (Some d) p e = absurd (none-some _ (sym e))

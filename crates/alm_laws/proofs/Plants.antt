@@ -19,7 +19,7 @@ use Rattle.alm_state.specs.declared.outcome.Outcome.{Outcome}
 use Rattle.alm_state.specs.declared.outcome.Outcome.TheVariants.{Changed, Annunciated, Shelved}
 use Rattle.alm_state.specs.declared.core_state.Core.TheVariants.{Unack}
 use Rattle.alm_state.proofs.OutcomeLaws.{IsOutcome, outcome-good, unshelved-good}
-use Rattle.alm_laws.specs.Alarm.{row_left, is_annunciation, is_unacknowledged, is_latched, acknowledges, resets, unshelves, suppresses, condition_comes, last_flag_falls, IsAnnunciatedJustThen, WaitsWithStamp}
+use Rattle.alm_laws.specs.Alarm.{row_left, annunciates, is_unacknowledged, is_latched, acknowledges, resets, unshelves, suppresses, condition_comes, last_flag_falls, IsAnnunciatedJustThen, WaitsWithStamp}
 use Rattle.alm_laws.proofs.AlarmLaws.{acknowledged-only, latched-until, shelving-ends, annunciated-then, annunciated-waits, unshelved-then, flags-waits, flags-shelving, calm, not-both, under-shelving, unless-none}
 use Rattle.alm_model.specs.Plant.{Panel, Condensed}
 use Rattle.alm_model.specs.Accept.{accept, answer, may_ask, refusal}
@@ -81,8 +81,8 @@ or-second : (b c d : Bool) → c ≡ true → d ≡ true → (b || c && d) ≡ t
 or-second true c d e f = refl
 or-second false c d e f = rw (e, f) refl
 
--- a row that asks for the operator without being annunciated anew keeps its stamp
-outcome-stamp : (a : Attr) (now stamp : ℕ) (s : State) (o : Outcome) → IsOutcome a now stamp s o → is_annunciation o ≡ false → is_annunciated (row_left o).core ≡ true → (row_left o).stamp ≡ s.stamp
+-- a row that asks for the operator without being annunciated again keeps its stamp
+outcome-stamp : (a : Attr) (now stamp : ℕ) (s : State) (o : Outcome) → IsOutcome a now stamp s o → annunciates o ≡ false → is_annunciated (row_left o).core ≡ true → (row_left o).stamp ≡ s.stamp
 outcome-stamp a now stamp s (Changed t) good e loud = elim good.stamp [
   | inl same ↦ same
   | inr zero ↦ (let some : 0 < t.stamp = good.state.stamped.0 (rw loud refl) in absurd (omega (arith, some, zero)))
@@ -173,7 +173,7 @@ module _ (q : Condensed) (r : Request) (i : ℕ) (s t : State) (b : Becomes q r 
   annunciated-here : (o : Outcome) (stamp : ℕ) → t ≡ row_left o → IsAnnunciatedJustThen s o → WaitsWithStamp stamp o → q.panel.next_stamp ≤ stamp
       → last_flag_falls s t ≡ true → t.active ≡ true → (t.core ≡ Unack) × (q.panel.next_stamp ≤ t.stamp)
   annunciated-here o stamp left just waits new falls active =
-      let loud : is_annunciation o ≡ true =
+      let loud : annunciates o ≡ true =
       just ∙ sym (ap (λ x. condition_comes s x || last_flag_falls s x && x.active) left) ∙ or-second (condition_comes s t) (last_flag_falls s t) t.active falls active in
       let w = waits loud in
       let same : t.stamp ≡ stamp = ap (λ x. x.stamp) left ∙ w.1 in
@@ -190,7 +190,7 @@ module _ (q : Condensed) (r : Request) (i : ℕ) (s t : State) (b : Becomes q r 
 
   only-here : (o : Outcome) (a : Attr) (stamp : ℕ) → t ≡ row_left o → IsAnnunciatedJustThen s o → IsOutcome a q.panel.now stamp s o
       → is_annunciated t.core ≡ true → t.stamp ≢ s.stamp → (condition_comes s t || last_flag_falls s t && t.active) ≡ true
-  only-here o a stamp left just good loud differs = elim (cases_Bool (is_annunciation o)) [
+  only-here o a stamp left just good loud differs = elim (cases_Bool (annunciates o)) [
     | inl is ↦ ap (λ x. condition_comes s x || last_flag_falls s x && x.active) left ∙ sym just ∙ is
     | inr isnt ↦ absurd (differs (ap (λ x. x.stamp) left ∙ outcome-stamp a q.panel.now stamp s o good isnt (sym (ap (λ x. is_annunciated x.core) left) ∙ loud)))
   ]

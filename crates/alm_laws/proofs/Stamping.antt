@@ -18,7 +18,7 @@ use Rattle.alm_state.specs.declared.outcome.Outcome.TheVariants.{Changed, Annunc
 use Rattle.alm_state.specs.Suits.{suits}
 use Rattle.alm_state.proofs.OutcomeLaws.{outcome-good, unshelved-good}
 use Rattle.alm_laws.specs.Alarm.{row_left, shelves}
-use Rattle.alm_model.specs.Plant.{Panel, Plant, Condensed}
+use Rattle.alm_model.specs.Plant.{Panel, RecordedPlant, Condensed}
 use Rattle.alm_model.specs.Accept.{refusal, own_refusal, alarm_refusal}
 use Rattle.alm_model.specs.Keeping.{in_full}
 use Rattle.alm_model.specs.Lists.{due, key_of, stamp, stands_in, passes, list_of}
@@ -94,7 +94,7 @@ pub run-new : (q : Condensed) (actions : List Action) → KeepsRules q → AreAd
 run-new q [] h all i = inl refl
 run-new q (a ∷ actions) h all i = then-new q.panel (step q a).panel (run (step q a) actions).panel (step-stamp q a) (step-new q a h all.1) (run-new (step q a) actions (step-keeps q a h all.0 all.1) all.2) i
 
--- every stamp lies below the next one
+-- every stamp is below the next one
 below-next : (q : Condensed) (i : ℕ) → KeepsRules q → stamp_of q.panel i < q.panel.next_stamp
 below-next q i h = go (slice_get q.panel.rows i) refl where
   go : (o : Option State) → slice_get q.panel.rows i ≡ o → stamp_of q.panel i < q.panel.next_stamp
@@ -136,10 +136,10 @@ shelved (Changed s) = 0
 shelved (Annunciated s) = 0
 shelved (Shelved s) = 1
 
-abbrev Counts : Plant → Plant → ℕ → Type 0
+abbrev Counts : RecordedPlant → RecordedPlant → ℕ → Type 0
 Counts p q n = q.panel.next_stamp + length p.kept ≡ p.panel.next_stamp + length q.kept + n
 
-put-counts : (q : Plant) (i : ℕ) (o : Outcome) → Counts q (with_outcome in_full q i o) (shelved o)
+put-counts : (q : RecordedPlant) (i : ℕ) (o : Outcome) → Counts q (with_outcome in_full q i o) (shelved o)
 put-counts q i (Changed s) = omega arith
 put-counts q i (Annunciated s) = omega arith
 put-counts q i (Shelved s) = omega arith
@@ -171,8 +171,8 @@ value-never : (n : ℕ) (a : Attr) (s : State) (o : Option Bool) → shelved (af
 value-never n a s None = refl
 value-never n a s (Some active) = value-never-cases n a s active (is_suppressed s)
 
--- of an alarm that there is, or of what shelves nobody
-touched-counts : (q : Plant) (i n : ℕ) (f : Attr → State → Outcome) (oa : Option Attr) (os : Option State) → ((a : Attr) (s : State) → shelved (f a s) ≡ n)
+-- of an alarm that exists, or of an action that shelves none
+touched-counts : (q : RecordedPlant) (i n : ℕ) (f : Attr → State → Outcome) (oa : Option Attr) (os : Option State) → ((a : Attr) (s : State) → shelved (f a s) ≡ n)
     → (n ≡ 0) ⊎ ((is_some oa ≡ true) × (is_some os ≡ true)) → Counts q (with_touched_alarm in_full q i f oa os) n
 touched-counts q i n f (Some a) (Some s) each there = omega (arith, put-counts q i (f a s), each a s)
 touched-counts q i n f (Some a) None each (inl none) = omega (arith, none)
@@ -180,16 +180,16 @@ touched-counts q i n f (Some a) None each (inr h) = absurd (true≢false (sym h.
 touched-counts q i n f None os each (inl none) = omega (arith, none)
 touched-counts q i n f None os each (inr h) = absurd (true≢false (sym h.0))
 
-touch-counts : (q : Plant) (i n : ℕ) (f : Attr → State → Outcome) → ((a : Attr) (s : State) → shelved (f a s) ≡ n)
+touch-counts : (q : RecordedPlant) (i n : ℕ) (f : Attr → State → Outcome) → ((a : Attr) (s : State) → shelved (f a s) ≡ n)
     → (n ≡ 0) ⊎ ((is_some (slice_get q.panel.attrs i) ≡ true) × (is_some (slice_get q.panel.rows i) ≡ true)) → Counts q (touch in_full q i f) n
 touch-counts q i n f each there = touched-counts q i n f (slice_get q.panel.attrs i) (slice_get q.panel.rows i) each there
 
-fold-counts : (list : List ℕ) (q : Plant) → Counts q (fold (unshelve in_full) q list) 0
+fold-counts : (list : List ℕ) (q : RecordedPlant) → Counts q (fold (unshelve in_full) q list) 0
 fold-counts [] q = omega arith
 fold-counts (j ∷ list) q =
     omega (arith, fold-counts list (unshelve in_full q j), touch-counts q j 0 (λ a s. without_shelving q.panel.next_stamp s) (λ a s. flags-never q.panel.next_stamp (record s { shelved_until = None })) (inl refl))
 
--- a shelving that is admitted is of an alarm that there is
+-- a shelving that is admitted is of an existing alarm
 there-alarm : (action : Action) (oa : Option Attr) (os : Option State) → alarm_refusal action oa os ≡ None → (is_some oa ≡ true) × (is_some os ≡ true)
 there-alarm action (Some a) (Some s) e = (refl, refl)
 there-alarm action (Some a) None e = absurd (none-some _ (sym e))
@@ -202,7 +202,7 @@ own-first (Some r) last h = absurd (none-some _ (sym h))
 abbrev one_if : Bool → ℕ
 one_if b = cond b 1 0
 
-effect-counts : (q : Plant) (action : Action) → own_refusal q.panel action ≡ None → Counts q (with_effect in_full q action) (one_if (shelves action))
+effect-counts : (q : RecordedPlant) (action : Action) → own_refusal q.panel action ≡ None → Counts q (with_effect in_full q action) (one_if (shelves action))
 effect-counts q (Clock t) free = omega (arith, fold-counts (due t q.panel) (later in_full t q))
 effect-counts q (Value i v) free = touch-counts q i.0 0 (outcome q.panel.now q.panel.next_stamp (Value i v)) (λ a s. value-never q.panel.next_stamp a s (detection_of a s.active v)) (inl refl)
 effect-counts q (Ack i) free = touch-counts q i.0 0 (outcome q.panel.now q.panel.next_stamp (Ack i)) (λ a s. led-never q.panel.next_stamp (next_core a.latching happening.Ack s.core) s) (inl refl)
@@ -214,7 +214,7 @@ effect-counts q (Design i on) free = touch-counts q i.0 0 (outcome q.panel.now q
 effect-counts q (SetPriority i n) free = omega arith
 effect-counts q (SetSetpoint i v) free = omega arith
 
-own-more : (q : Plant) (action : Action) → own_refusal q.panel action ≡ None → own_refusal (with_one_more q).panel action ≡ None
+own-more : (q : RecordedPlant) (action : Action) → own_refusal q.panel action ≡ None → own_refusal (with_one_more q).panel action ≡ None
 own-more q (Clock t) e = e
 own-more q (Value i v) e = e
 own-more q (Ack i) e = e
@@ -226,10 +226,10 @@ own-more q (Design i on) e = e
 own-more q (SetPriority i n) e = e
 own-more q (SetSetpoint i v) e = e
 
-step-counts : (q : Plant) (action : Action) → refusal q.panel action ≡ None → Counts q (after q action) (one_if (shelves action))
+step-counts : (q : RecordedPlant) (action : Action) → refusal q.panel action ≡ None → Counts q (after q action) (one_if (shelves action))
 step-counts q action free = effect-counts (with_one_more q) action (own-more q action (own-first (own_refusal q.panel action) _ free))
 
-pub run-counts : (p : Plant) (actions : List Action) → AreTaken p actions → StampsAreCounted p actions (run_whole p actions)
+pub run-counts : (p : RecordedPlant) (actions : List Action) → AreTaken p actions → StampsAreCounted p actions (run_whole p actions)
 run-counts p [] all = omega arith
 run-counts p (a ∷ actions) all = omega (arith, step-counts p a all.0, run-counts (after p a) actions all.1)
 

@@ -10,7 +10,7 @@ use Rattle.alm_types.specs.Slots.{role_of}
 use Rattle.alm_state.specs.Rows.{State, is_annunciated}
 use Rattle.alm_state.specs.declared.core_state.Core.TheVariants.{Normal, Unack}
 use Rattle.alm_laws.specs.Alarm.{is_unacknowledged, is_latched, acknowledges, resets, shelves, unshelves, suppresses, condition_comes, last_flag_falls}
-use Rattle.alm_model.specs.Plant.{Panel, Plant, Condensed}
+use Rattle.alm_model.specs.Plant.{Panel, RecordedPlant, Condensed}
 use Rattle.alm_model.specs.Accept.{accept, refusal}
 use Rattle.alm_model.specs.Step.{step, after}
 use Rattle.alm_model.specs.Rules.{KeepsRules, stamp_of}
@@ -47,7 +47,8 @@ FlagIsSet r i = (suppresses r.want ≡ true) × (alarm_of r.want ≡ i)
 abbrev pub ClockReaches : Request → ℕ → Type 0
 ClockReaches r deadline = (t : ℕ) × (r.want ≡ Clock t) × (role_of r.slot ≡ role.Clock) × (deadline ≤ t)
 
--- nobody acknowledges for the operator
+-- only the operator acknowledges: an alarm leaves the unacknowledged states by a console's ACK, or by a flag that is
+-- set
 abbrev pub IsAcknowledgedByConsoleOrFlag : Request → ℕ → State → State → Type 0
 IsAcknowledgedByConsoleOrFlag r i s t =
     is_unacknowledged s.core ≡ true → is_unacknowledged t.core ≡ false → ConsoleAsks acknowledges r i ⊎ FlagIsSet r i
@@ -66,12 +67,12 @@ abbrev pub ClockEndsTheShelving : Request → State → State → Type 0
 ClockEndsTheShelving r s t =
     (deadline : ℕ) → s.shelved_until ≡ Some deadline → ClockReaches r deadline → t.shelved_until ≡ None
 
--- whoever's last flag falls while it is active is annunciated anew
+-- an alarm whose last flag falls while it is active is annunciated again
 abbrev pub FreedIsAnnunciatedAnew : Condensed → State → State → Type 0
 FreedIsAnnunciatedAnew q s t =
     last_flag_falls s t ≡ true → t.active ≡ true → (t.core ≡ Unack) × (q.panel.next_stamp ≤ t.stamp)
 
--- and nobody else but where a condition comes
+-- and no other alarm is, unless its condition comes
 abbrev pub AnnunciatedOnlyThen : State → State → Type 0
 AnnunciatedOnlyThen s t =
     is_annunciated t.core ≡ true → t.stamp ≢ s.stamp → (condition_comes s t || last_flag_falls s t && t.active) ≡ true
@@ -128,12 +129,12 @@ abbrev pub StampsAreNew : Panel → Panel → Type 0
 StampsAreNew before after =
     (i : ℕ) → (stamp_of after i ≡ stamp_of before i) ⊎ (stamp_of after i ≡ 0) ⊎ (before.next_stamp ≤ stamp_of after i)
 
--- a stamp that stands now and later is of one alarm
+-- a stamp that exists now and later is of one alarm
 abbrev pub StampsAreOfOneAlarm : Panel → Panel → Type 0
 StampsAreOfOneAlarm before after = (i j : ℕ) → 0 < stamp_of before i → stamp_of before i ≡ stamp_of after j → i ≡ j
 
--- each action is admitted where it comes
-abbrev pub AreTaken : Plant → List Action → Type 0
+-- each action is admitted at its turn
+abbrev pub AreTaken : RecordedPlant → List Action → Type 0
 AreTaken p [] = Unit {0}
 AreTaken p (a ∷ actions) = (refusal p.panel a ≡ None) × AreTaken (after p a) actions
 
@@ -142,6 +143,6 @@ shelvings [] = 0
 shelvings (a ∷ actions) = (if shelves a then 1 else 0) + shelvings actions
 
 -- as many stamps are given as there are annunciations and shelvings
-abbrev pub StampsAreCounted : Plant → List Action → Plant → Type 0
+abbrev pub StampsAreCounted : RecordedPlant → List Action → RecordedPlant → Type 0
 StampsAreCounted before actions after =
     after.panel.next_stamp + length before.kept ≡ before.panel.next_stamp + length after.kept + shelvings actions

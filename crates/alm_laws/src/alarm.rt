@@ -25,14 +25,14 @@ ghost use Rattle.alm_laws.specs.Alarm.{
   BeginsShelvingOnlyByShelve,
 };
 
-/// Nobody acknowledges for the operator.
+/// Only the operator acknowledges.
 pub fn nobody_acknowledges_for_the_operator()
     ensures { (now stamp : ℕ) (action : Action) (a : Attr) (s : State) → TakesAction action a s →
         LeavesUnacknowledgedOnlyByAckOrFlag action s (row_left (outcome now stamp action a s)) }
 {}
 
-/// The operator's acknowledgement is taken just where the alarm is unacknowledged, and acknowledges it; a reset is taken just
-/// where it is latched and acknowledged, and ends it.
+/// The operator's acknowledgement is taken exactly if the alarm is unacknowledged, and acknowledges it; a reset is taken exactly
+/// if it is latched and acknowledged, and ends it.
 pub fn the_operator_is_heard()
     ensures acknowledge { (action : Action) (a : Attr) (s : State) → acknowledges action ≡ true → IsTrue (suits a.latching s.core) →
         is_none (row_refusal action a s) ≡ is_unacknowledged s.core }
@@ -50,7 +50,7 @@ pub fn latched_stays_until_reset()
         LeavesLatchOnlyByResetOrFlag action s (row_left (outcome now stamp action a s)) }
 {}
 
-/// An alarm is annunciated anew just where its condition comes, or where its last flag falls while the condition holds.
+/// An alarm is annunciated again exactly if its condition comes, or its last flag falls while the condition holds.
 pub fn annunciated_just_then()
     ensures then { (now stamp : ℕ) (action : Action) (a : Attr) (s : State) → TakesAction action a s →
         IsAnnunciatedJustThen s (outcome now stamp action a s) }
@@ -58,7 +58,7 @@ pub fn annunciated_just_then()
         WaitsWithStamp stamp (outcome now stamp action a s) }
 {}
 
-/// What sets a flag leaves the alarm suppressed; a suppressed alarm asks for nobody, and is shown so.
+/// What sets a flag leaves the alarm suppressed; a suppressed alarm asks for no operator, and is shown so.
 pub fn suppressed_asks_for_nobody()
     ensures set { (now stamp : ℕ) (action : Action) (a : Attr) (s : State) →
         suppresses action ≡ true → is_suppressed (row_left (outcome now stamp action a s)) ≡ true }

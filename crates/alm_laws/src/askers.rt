@@ -8,7 +8,7 @@ ghost use Rattle.alm_model.specs.Plant.{Panel, Condensed};
 ghost use Rattle.alm_model.specs.Accept.{accept};
 ghost use Rattle.alm_laws.specs.Plant.{Becomes, asker_of, ShelvedOnlyByAConsole, ServiceOnlyByAConsole, DesignOnlyByTheFeed, ConditionOnlyByTheFeed, TimeOnlyByTheClock, AttributesOnlyByAConsole};
 
-/// Whatever is accepted comes from whoever may ask for it.
+/// Each accepted action comes from a slot that may ask for it.
 pub fn each_action_has_its_asker()
     ensures { (p : Panel) (r : Request) → accept p r ≡ Ok r.want → role_of r.slot ≡ asker_of r.want }
 {}

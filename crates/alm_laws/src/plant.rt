@@ -11,7 +11,7 @@ ghost use Rattle.alm_state.specs.Rows.{State};
 ghost use Rattle.alm_model.specs.Plant.{Condensed};
 ghost use Rattle.alm_laws.specs.Plant.{Becomes, IsAcknowledgedByConsoleOrFlag, IsResetByConsoleOrFlag, ShelvingEndsOnlyByUnshelveOrClock, ClockEndsTheShelving, FreedIsAnnunciatedAnew, AnnunciatedOnlyThen, OthersStay};
 
-/// Nobody acknowledges for the operator.
+/// Only the operator acknowledges.
 pub fn nobody_acknowledges_for_the_operator()
     ensures { (q : Condensed) (r : Request) (i : ℕ) (s t : State) → Becomes q r i s t → IsAcknowledgedByConsoleOrFlag r i s t }
 {}
@@ -27,14 +27,15 @@ pub fn shelvings_end_by_unshelve_or_clock()
     ensures due { (q : Condensed) (r : Request) (i : ℕ) (s t : State) → Becomes q r i s t → ClockEndsTheShelving r s t }
 {}
 
-/// Whoever's last flag falls while it is active is annunciated anew, and nobody else is but where a condition comes.
+/// An alarm whose last flag falls while it is active is annunciated again, and no other alarm is, unless its condition
+/// comes.
 pub fn freed_is_annunciated_anew()
     ensures freed { (q : Condensed) (r : Request) (i : ℕ) (s t : State) → Becomes q r i s t → FreedIsAnnunciatedAnew q s t }
     ensures only { (q : Condensed) (r : Request) (i : ℕ) (s t : State) → Becomes q r i s t → AnnunciatedOnlyThen s t }
     ensures others { (q : Condensed) (r : Request) (i : ℕ) (s t : State) → Becomes q r i s t → OthersStay r i s t }
 {}
 
-/// A suppressed alarm is Normal, and stands in no list by priority.
+/// A suppressed alarm is Normal, and is in no list by priority.
 pub fn suppressed_asks_for_nobody()
     ensures { (q : Condensed) (i priority : ℕ) (s : State) → KeepsRules q → slice_get q.panel.rows i ≡ Some s → is_suppressed s ≡ true →
         (s.core ≡ Normal) × (Contains (list_of (Priority priority) q) i → ⊥) }

@@ -2,7 +2,7 @@
 
 ghost use Rattle.std.specs.Prelude.{ℕ, List, ◌≡◌, ◌≢◌, ◌<◌};
 ghost use Rattle.alm_types.specs.declared.action.Action.{Action};
-ghost use Rattle.alm_model.specs.Plant.{Plant, Condensed};
+ghost use Rattle.alm_model.specs.Plant.{RecordedPlant, Condensed};
 ghost use Rattle.alm_model.specs.Rules.{KeepsRules, AreAdmitted, stamp_of};
 ghost use Rattle.alm_model.specs.Step.{run};
 ghost use Rattle.alm_model.specs.Counted.{run_whole};
@@ -16,7 +16,7 @@ pub fn no_stamp_is_given_twice()
         0 < stamp_of q.panel i → stamp_of (run q first).panel i ≢ stamp_of q.panel i → stamp_of (run (run q first) more).panel j ≢ stamp_of q.panel i }
 {}
 
-/// Each annunciation takes one stamp, each shelving one, and nothing else any.
+/// Each annunciation takes one stamp, each shelving one, and no other change takes any.
 pub fn stamps_are_counted()
-    ensures { (p : Plant) (actions : List Action) → AreTaken p actions → StampsAreCounted p actions (run_whole p actions) }
+    ensures { (p : RecordedPlant) (actions : List Action) → AreTaken p actions → StampsAreCounted p actions (run_whole p actions) }
 {}

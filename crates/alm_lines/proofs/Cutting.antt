@@ -1,4 +1,4 @@
--- What stands before the first space, and behind it.
+-- The bytes before the first space, and those after it.
 use Rattle.std.proofs.Common.{◌≡◌, ◌<◌, ◌+◌, ◌^◌, ℕ, List, [], ◌∷◌, ◌++◌, Option, Some, None, Bool, true, false, refl, arith, nat_lt, nat_eq, get_or, length, take, drop, inl, inr, add-one}
 use Rattle.std.specs.Prelude.{◌&&◌, decimal, ◌==◌, not}
 use Rattle.std.specs.List.{position_or_len}

@@ -1,4 +1,4 @@
--- Fronts of a text.
+-- Prefixes of a text.
 use Rattle.std.proofs.Common.{◌≡◌, ℕ, List, [], ◌++◌, Option, Result, Ok, Err, take, drop, refl, sym, ap, ◌∙◌, append_assoc, append-nil, take-append-drop}
 use Rattle.std.specs.Bool.{⊤}
 use Rattle.std.specs.Prelude.{IsErr, OnErr}
@@ -31,7 +31,7 @@ up_to_all {o} {n} {text} {rest} p e = rw (p.whole, e, append-nil p.front) p.writ
 pub up_to_cut : {o n : Option (List ℕ)} {text rest : List ℕ} → IsUpTo o n text rest → IsCutShort o n text
 up_to_cut {o} {n} {text} {rest} p = record { front = p.front; rest = rest; whole = p.whole; written = p.written }
 
--- nothing was written
+-- no byte was written
 pub cut_at_once : (o : Option (List ℕ)) (text : List ℕ) → IsCutShort o o text
 cut_at_once o text = record { front = []; rest = text; whole = refl; written = Appends-nil o }
 
@@ -70,7 +70,7 @@ prints_same {E} o n {xs} ys r e p = rw e at p
 pub cut_same : {o n : Option (List ℕ)} {xs : List ℕ} (ys : List ℕ) → xs ≡ ys → IsCutShort o n xs → IsCutShort o n ys
 cut_same {o} {n} {xs} ys e p = rw e at p
 
--- what a writing gave
+-- the result of a writing
 pub printed_whole : {E : Type 0} (o n : Option (List ℕ)) (text : List ℕ) (r : Result ⊤ E) (x : ⊤) → r ≡ Ok x → Prints o n text r → Appends o n text
 printed_whole {E} o n text r x e p = rw e at p
 

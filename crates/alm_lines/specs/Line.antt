@@ -4,12 +4,12 @@ use Rattle.std.specs.Cmp.Lexicographic.{pointwise}
 use Rattle.alm_types.specs.declared.alarm_id.AlarmId.{AlarmId}
 use Rattle.alm_types.specs.declared.action.Action.TheVariants.{Clock, Value, Ack, Reset, Shelve, Unshelve, Oos, Design, SetPriority, SetSetpoint}
 use Rattle.alm_types.specs.declared.refusal.Refusal.TheVariants.{BadLine, LineTooLong}
-use Rattle.alm_types.specs.declared.query.Query.TheVariants.{State, Priority, Area, Wheel, Flood, Stale, Chatter}
+use Rattle.alm_types.specs.declared.query.Query.TheVariants.{State, Priority, Area, Wheel, Flood, Stale, Chatter, Plant, Attributes}
 use Rattle.alm_lines.specs.declared.line.Line.{Line}
 use Rattle.alm_lines.specs.declared.ask.Ask.{Ask}
 use Rattle.alm_lines.specs.declared.ask.Ask.TheVariants.{Act, Look, Bad}
 
--- the value of digits behind others
+-- the value of digits after others
 abbrev pub value : ℕ → List ℕ → Option ℕ
 value n [] = Some n
 value n (d ∷ digits) = if nat_le 48 d && nat_le d 57 then value (n * 10 + (d - 48)) digits else None
@@ -53,7 +53,7 @@ same = pointwise nat_eq
 abbrev pub switch : List ℕ → Option Bool
 switch field = if same field (codes "ON") then Some true else if same field (codes "OFF") then Some false else None
 
--- what stands before the first space, and what behind it
+-- the bytes before the first space, and those after it
 abbrev pub cut_at : List ℕ → Option ℕ → List ℕ × Option (List ℕ)
 cut_at bytes None = (bytes, None)
 cut_at bytes (Some at) = (take at bytes, Some (drop (at + 1) bytes))
@@ -66,6 +66,7 @@ abbrev pub of_none : List ℕ → Option Ask
 of_none name =
     if same name (codes "STALE") then Some (Look Stale)
     else if same name (codes "CHATTER") then Some (Look Chatter)
+    else if same name (codes "PLANT") then Some (Look Plant)
     else None
 
 -- and of one field
@@ -77,6 +78,7 @@ of_one name first =
     else if same name (codes "CLOCK") then option_map (λ t. Act (Clock t)) (moment_in first)
     else if same name (codes "STATE") then option_map (λ i. Look (State i)) (alarm first)
     else if same name (codes "FLOOD") then option_map (λ a. Look (Flood a)) (word first)
+    else if same name (codes "ATTR") then option_map (λ i. Look (Attributes i)) (alarm first)
     else None
 
 -- the list that a letter names
@@ -107,12 +109,12 @@ abbrev pub of_rest : List ℕ × Option (List ℕ) → Option Ask
 of_rest (name, None) = of_none name
 of_rest (name, Some fields) = of_fields name (cut_at_space fields)
 
--- what stands behind the id
+-- what follows the id
 abbrev pub ask_in : Option (List ℕ) → Option Ask
 ask_in None = None
 ask_in (Some rest) = of_rest (cut_at_space rest)
 
--- a line whose id is read asks what stands behind it; another, and one that is too long, has id 0
+-- a line whose id is read asks what follows it; another, and one that is too long, has id 0
 abbrev pub line_under : Option ℕ → Option (List ℕ) → Line
 line_under None rest = record { id = 0; ask = Bad BadLine }
 line_under (Some id) rest = record { id = id; ask = unwrap_or (ask_in rest) (Bad BadLine) }

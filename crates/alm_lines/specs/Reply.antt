@@ -1,13 +1,18 @@
 -- Reply lines.
-use Rattle.std.specs.Prelude.{ℕ, List, ◌∷◌, ◌++◌, Bool, Option, Some, None, length, codes, decimal, if◌then◌else◌, ◌==◌}
+use Rattle.std.specs.Prelude.{ℕ, List, [], ◌∷◌, ◌++◌, Bool, Option, Some, None, length, codes, decimal, if◌then◌else◌, ◌==◌}
 use Rattle.std.specs.List.{flat_map}
+use Rattle.alm_types.specs.declared.attr.Attr.{Attr}
+use Rattle.alm_types.specs.declared.kind.Kind.{Kind}
+use Rattle.alm_types.specs.declared.kind.Kind.TheVariants.{High, Low, Discrete}
 use Rattle.alm_types.specs.Refusals.{number_of}
 use Rattle.alm_types.specs.declared.refusal.Refusal.{Refusal}
 use Rattle.alm_types.specs.declared.shown.Shown.{Shown}
 use Rattle.alm_types.specs.declared.shown.Shown.TheVariants.{OutOfService, ByDesign, Shelved, Normal, Unack, Acked, RtnUnack, LatchUnack, LatchAcked}
 use Rattle.alm_types.specs.declared.query.Query.{Query}
-use Rattle.alm_types.specs.declared.query.Query.TheVariants.{State, Priority, Area, Wheel, Flood, Stale, Chatter}
-use Rattle.alm_types.specs.Reports.{Report, alarm, flood, alarms, report}
+use Rattle.alm_types.specs.declared.query.Query.TheVariants.{State, Priority, Area, Wheel, Flood, Stale, Chatter, Plant, Attributes}
+use Rattle.alm_types.specs.Reports.{Report, alarm, flood, alarms, plant, attributes, report}
+use Rattle.std.specs.Fmt.{signed_decimal}
+use Rattle.alm_lines.specs.Texts.{switch_text}
 use Rattle.alm_lines.specs.declared.reply.Reply.{Reply}
 use Rattle.alm_lines.specs.declared.reply.Reply.TheVariants.{Ok, No, Told}
 
@@ -57,6 +62,34 @@ query_word (Wheel n) = codes " LIST "
 query_word (Flood n) = codes " FLOOD "
 query_word Stale = codes " STALE "
 query_word Chatter = codes " CHATTER "
+query_word Plant = codes " PLANT "
+query_word (Attributes i) = codes " ATTR "
+
+-- the word of a kind
+abbrev pub kind_word : Kind → List ℕ
+kind_word High = codes "HIGH"
+kind_word Low = codes "LOW"
+kind_word Discrete = codes "DISCRETE"
+
+-- each field after a space
+abbrev pub fields : List (List ℕ) → List ℕ
+fields = flat_map (λ field. 32 ∷ field)
+
+-- a text that isn't empty is a field
+abbrev pub text_field : List ℕ → List (List ℕ)
+text_field [] = []
+text_field (c ∷ cs) = (c ∷ cs) ∷ []
+
+-- what precedes a text
+abbrev pub gap : List ℕ → List ℕ
+gap [] = []
+gap (c ∷ cs) = codes " "
+
+-- attributes, the text last
+abbrev pub attributes_text : Attr → List ℕ
+attributes_text a =
+    fields (kind_word a.kind ∷ signed_decimal a.setpoint ∷ decimal a.deadband ∷ decimal a.priority ∷ decimal a.area ∷ decimal a.max_shelve
+    ∷ switch_text a.latching ∷ a.tag ∷ text_field a.text)
 
 -- what follows the count, without the line's end
 abbrev pub report_text : Report → List ℕ
@@ -64,6 +97,9 @@ report_text (alarm shown active flags until) =
     codes " " ++ shown_word shown ++ codes " " ++ decimal (digit active) ++ codes " " ++ letters flags ++ codes " " ++ deadline_text until
 report_text (flood window on) = codes " " ++ decimal window ++ codes " " ++ decimal (digit on)
 report_text (alarms list) = codes " " ++ decimal (length list) ++ with_spaces list
+report_text (plant now rows areas) = codes " " ++ decimal now ++ codes " " ++ decimal rows ++ codes " " ++ decimal areas
+report_text (attributes (Some a)) = attributes_text a
+report_text (attributes None) = codes " -"
 
 -- an accepted action, by its number
 abbrev pub ok_text : ℕ → ℕ → List ℕ

@@ -4,7 +4,7 @@ use Rattle.alm_types.specs.Actions.{IsAction}
 use Rattle.alm_types.specs.declared.action.Action.{Action}
 use Rattle.alm_types.specs.declared.action.Action.TheVariants.{Clock, Value, Ack, Reset, Shelve, Unshelve, Oos, Design, SetPriority, SetSetpoint}
 use Rattle.alm_types.specs.declared.query.Query.{Query}
-use Rattle.alm_types.specs.declared.query.Query.TheVariants.{State, Priority, Area, Wheel, Flood, Stale, Chatter}
+use Rattle.alm_types.specs.declared.query.Query.TheVariants.{State, Priority, Area, Wheel, Flood, Stale, Chatter, Plant, Attributes}
 use Rattle.alm_lines.specs.declared.ask.Ask.{Ask}
 use Rattle.alm_lines.specs.declared.ask.Ask.TheVariants.{Act, Look, Bad}
 
@@ -45,8 +45,10 @@ query_text (Wheel n) = with_two (codes "LIST") (codes "S") (decimal n)
 query_text (Flood n) = with_one (codes "FLOOD") (decimal n)
 query_text Stale = codes "STALE"
 query_text Chatter = codes "CHATTER"
+query_text Plant = codes "PLANT"
+query_text (Attributes i) = with_one (codes "ATTR") (decimal i.0)
 
--- what stands behind the id and its space; a line that asks nothing has no such text
+-- what follows the id and its space; a line that asks nothing has no such text
 abbrev pub ask_text : Ask → List ℕ
 ask_text (Act action) = action_words action
 ask_text (Look query) = query_text query
@@ -65,6 +67,8 @@ IsQueryInRange (Wheel n) = n < 2 ^ 32
 IsQueryInRange (Flood n) = n < 2 ^ 32
 IsQueryInRange Stale = Unit {0}
 IsQueryInRange Chatter = Unit {0}
+IsQueryInRange Plant = Unit {0}
+IsQueryInRange (Attributes i) = i.0 < 2 ^ 32
 
 -- a line asks for an action or a query, in range
 abbrev pub IsAskInRange : Ask → Type 0

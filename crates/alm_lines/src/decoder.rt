@@ -9,7 +9,7 @@ use crate::held_line::HeldLine;
 use crate::line::Line;
 use std::marker::Model;
 
-/// What has come of the next line, at most 128 bytes of it: one more than it may have without its LF.
+/// The bytes of the next line so far, at most 128: one more than it may have without its LF.
 #[derive(Drop)]
 pub struct Decoder {
     held: HeldLine<128>,
@@ -49,7 +49,7 @@ impl Decoder {
         line
     }
 
-    /// Takes bytes up to and with the first line end: how many, and the line where it has ended.
+    /// Takes bytes up to the end of the first line, inclusive: how many it took, and the line if it has ended.
     pub fn feed(&mut self, piece: &[u8]) -> (usize, Option<Line>)
         ensures within { result.0 ≤ length piece.now }
         ensures progress { 0 < length piece.now → 0 < result.0 }

@@ -18,7 +18,7 @@ fn space(bytes: &[u8]) -> Option<usize>
     bytes.iter().position(|b| *b == b' ')
 }
 
-/// What stands before the first space, and what behind it.
+/// The bytes before the first space, and those after it.
 pub fn cut(bytes: &[u8]) -> (&[u8], Option<&[u8]>)
     ensures first { result.0.now ≡ (cut_at_space bytes.now).0 }
     ensures rest { option_map (λ rest. rest.now) result.1 ≡ (cut_at_space bytes.now).1 }
@@ -50,7 +50,7 @@ pub fn line_of(bytes: &[u8]) -> Line
     }
 }
 
-/// What stands behind the id.
+/// What follows the id.
 fn asked(rest: Option<&[u8]>) -> Option<Ask>
     ensures { result ≡ ask_in (option_map (λ rest. rest.now) rest.entry) }
 {
@@ -74,6 +74,9 @@ fn of_none(name: &[u8]) -> Option<Ask>
     }
     if name == b"CHATTER".as_slice() {
         return Some(Ask::Look(Query::Chatter));
+    }
+    if name == b"PLANT".as_slice() {
+        return Some(Ask::Look(Query::Plant));
     }
     None
 }
@@ -99,6 +102,9 @@ fn of_one(name: &[u8], first: &[u8]) -> Option<Ask>
     }
     if name == b"FLOOD".as_slice() {
         return Some(Ask::Look(Query::Flood(word(first)?)));
+    }
+    if name == b"ATTR".as_slice() {
+        return Some(Ask::Look(Query::Attributes(alarm(first)?)));
     }
     None
 }

@@ -4,7 +4,7 @@ ghost use Rattle.std.specs.Prelude.{◌≡◌, ◌++◌, ◌∷◌, [], take};
 
 use std::marker::Model;
 
-/// What has come of a line, of which no more than `LIMIT` bytes count.
+/// The bytes of a line so far; no more than `LIMIT` of them count.
 #[derive(Drop)]
 pub struct HeldLine<const LIMIT: usize> {
     bytes: [u8; LIMIT],

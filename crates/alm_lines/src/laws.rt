@@ -5,8 +5,8 @@ ghost use Rattle.alm_lines.specs.Line.{line_of, line_limit};
 ghost use Rattle.alm_lines.specs.Texts.{request_text, IsAskInRange, IsAsking};
 ghost use Rattle.alm_lines.specs.declared.ask.Ask.{Ask};
 
-/// Each request has exactly one text: a line that asks for something is the text of what it asks, that text asks for it,
-/// and with the end of its line it has at most 128 bytes.
+/// Each request has exactly one text: a line that asks for something is the text of what it asks, and that text asks
+/// for it. With the end of its line it has at most 128 bytes.
 pub fn each_request_has_one_text()
     ensures taken { (bytes : List ℕ) → IsAsking (line_of bytes).ask →
         bytes ≡ request_text (line_of bytes).id (line_of bytes).ask }

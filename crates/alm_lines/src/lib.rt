@@ -1,6 +1,6 @@
 //! Request lines and reply lines: the texts that pass between a console and the server.
 //!
-//! A line ends with LF. Its fields are separated by one space, with none before the first or after the last:
+//! A line ends with LF. One space separates two fields; there is none at either end of the line:
 //!
 //! ```text
 //! <id> ACK <alarm>            <id> RESET <alarm>
@@ -10,20 +10,24 @@
 //! <id> VAL <alarm> <value>    <id> CLOCK <moment>
 //! <id> STATE <alarm>          <id> LIST P|A|S <number>
 //! <id> FLOOD <area>           <id> STALE
-//! <id> CHATTER
+//! <id> CHATTER                <id> PLANT
+//! <id> ATTR <alarm>
 //! ```
 //!
-//! `id`, `alarm`, `secs`, `num`, `number` and `area` are decimal digits up to 4294967295 without a leading zero; `moment` is below
-//! 2^40; `value` is from -10^12 to 10^12, never `-0`. Any other line is a `BadLine`, with the line's id where it begins with
-//! an id and a space or its end, else with id 0. A line of more than 128 bytes with its LF is a `LineTooLong` with id 0,
-//! answered at its LF.
+//! `id`, `alarm`, `secs`, `num`, `number` and `area` are decimal digits up to 4294967295 without a leading zero; `moment` is
+//! below 2^40; `value` is from -10^12 to 10^12, never `-0`.
+//!
+//! A line that has more than 128 bytes, its LF included, is a `LineTooLong` with id 0. It is answered when its LF
+//! comes. Every line that is neither too long nor one of the above is a `BadLine`. Its id is the one at its start, if a
+//! space or the end of the line follows, and 0 otherwise.
 //!
 //! What is used above: a [`Decoder`] gives the lines of the stream that it was fed, however the stream was cut, and
-//! [`print_reply`] writes exactly a reply's text. Nothing here takes memory. Whether an action is admitted is no matter of
-//! its line. Lines and texts are this project's own.
+//! [`print_reply`] writes exactly a reply's text. No call here takes memory. Not covered: whether an action is admitted. Lines
+//! and texts are this project's own.
 #![tactic(auto)]
 
 mod ask;
+mod attributes;
 mod decoder;
 mod grammar;
 mod held_line;
@@ -37,6 +41,7 @@ mod short_text;
 mod writing;
 
 pub use ask::Ask;
+pub use attributes::{ATTRIBUTE_PARTS, attribute_parts};
 pub use decoder::Decoder;
 pub use grammar::{LINE_LIMIT, cut, line_of};
 pub use held_line::HeldLine;

@@ -10,12 +10,14 @@ use std::io;
 /// A part of a reply.
 #[derive(Clone, Copy, Debug)]
 pub enum Part<'a> {
-    /// As it stands.
+    /// Unchanged.
     Word(&'a str),
-    /// As they stand.
+    /// Unchanged.
     Bytes(&'a [u8]),
     /// In decimal digits.
     Number(u64),
+    /// In decimal digits, after a minus if below 0.
+    Signed(i64),
 }
 
 /// Writes a part.
@@ -26,6 +28,7 @@ fn put_part<W: io::Write>(part: Part<'_>, writer: &mut W) -> io::Result<()>
         Part::Word(word) => put(word.as_bytes(), writer),
         Part::Bytes(bytes) => put(bytes, writer),
         Part::Number(number) => put(itoa::Buffer::new().format(number).as_bytes(), writer),
+        Part::Signed(number) => put(itoa::Buffer::new().format(number).as_bytes(), writer),
     }
 }
 
@@ -40,7 +43,7 @@ pub fn put_each<W: io::Write>(parts: &[Part<'_>], writer: &mut W) -> io::Result<
     Ok(())
 }
 
-/// Writes parts, one after the other. A short text of them is put together before.
+/// Writes parts, one after the other. A short text is assembled first, then written.
 pub fn put_parts<W: io::Write>(parts: &[Part<'_>], writer: &mut W) -> io::Result<()>
     ensures { Prints (W.contents writer.old) (W.contents writer.new) (text_of_parts parts.now)
         result }

@@ -1,11 +1,12 @@
 //! The texts of replies.
 
 ghost use Rattle.std.specs.Prelude.{◌≡◌, ◌++◌};
-ghost use Rattle.alm_types.specs.Reports.{report, alarms};
+ghost use Rattle.alm_types.specs.Reports.{report, alarms, attributes};
 ghost use Rattle.alm_lines.specs.Parts.{part_text, text_of_parts};
 ghost use Rattle.alm_lines.specs.Reply.{text_of, shown_word, letters, query_word, told_text, report_text, with_spaces, deadline_text};
 ghost use Rattle.alm_lines.specs.Written.{Prints};
 
+use crate::attributes::attribute_parts;
 use crate::part::{Part, put_each, put_parts};
 use crate::reply::Reply;
 use crate::short_text::ShortText;
@@ -30,7 +31,7 @@ pub fn shown_word(shown: Shown) -> &'static str
     }
 }
 
-/// The letters of the flags that are set.
+/// The flags as letters, one for each that is set.
 pub fn letters(flags: u8) -> &'static str
     ensures { result.now ≡ letters flags }
 {
@@ -56,6 +57,8 @@ pub fn query_word(query: Query) -> &'static str
         Query::Flood(_) => " FLOOD ",
         Query::Stale => " STALE ",
         Query::Chatter => " CHATTER ",
+        Query::Plant => " PLANT ",
+        Query::Attributes(_) => " ATTR ",
     }
 }
 
@@ -88,7 +91,20 @@ fn print_list<W: io::Write>(list: &[u32], writer: &mut W) -> io::Result<()>
     print_spaced(list, writer)
 }
 
-/// Prints what an answer tells.
+/// Prints an alarm's attributes. It is a function of its own, since inlined the room for their parts would cost each
+/// other reply time.
+#[inline(never)]
+fn print_attributes<W: io::Write>(answer: &Answer, writer: &mut W) -> io::Result<()>
+    ensures { Prints (W.contents writer.old) (W.contents writer.new)
+        (report_text (attributes answer.now.attr)) result }
+{
+    match &answer.attr {
+        Some(attr) => put_each(&attribute_parts(attr), writer),
+        None => put(b" -", writer),
+    }
+}
+
+/// Prints the contents of an answer.
 fn print_report<W: io::Write>(query: Query, answer: &Answer, writer: &mut W) -> io::Result<()>
     ensures { Prints (W.contents writer.old) (W.contents writer.new)
         (report_text (report query answer.now)) result }
@@ -119,6 +135,18 @@ fn print_report<W: io::Write>(query: Query, answer: &Answer, writer: &mut W) -> 
         Query::Priority(_) | Query::Area(_) | Query::Wheel(_) | Query::Stale | Query::Chatter => {
             print_list(&answer.list, writer)
         }
+        Query::Plant => put_each(
+            &[
+                Part::Word(" "),
+                Part::Number(answer.moment),
+                Part::Word(" "),
+                Part::Number(answer.alarms),
+                Part::Word(" "),
+                Part::Number(answer.areas),
+            ],
+            writer,
+        ),
+        Query::Attributes(_) => print_attributes(answer, writer),
     }
 }
 
@@ -145,7 +173,7 @@ fn print_query<W: io::Write>(
     put(b"\n", writer)
 }
 
-/// Prints the reply to a query, at once where it goes into a short text.
+/// Prints the reply to a query, in one write if it fits into a short text.
 fn print_at_once<W: io::Write>(
     id: u32,
     n: u64,
@@ -163,7 +191,7 @@ fn print_at_once<W: io::Write>(
     }
 }
 
-/// Prints what an answer tells, between words.
+/// Prints the contents of an answer, between words.
 pub fn print_told<W: io::Write>(
     front: &[Part<'_>],
     query: Query,
@@ -179,7 +207,7 @@ pub fn print_told<W: io::Write>(
     put(end.as_bytes(), writer)
 }
 
-/// Prints a reply. Where the writer fails, a front of it is written. What goes into a short text is put together before.
+/// Prints a reply. If the writer fails, a prefix of it is written. A short text is assembled first, then written.
 pub fn print_reply<W: io::Write>(reply: &Reply<'_>, writer: &mut W) -> io::Result<()>
     ensures { Prints (W.contents writer.old) (W.contents writer.new) (text_of reply.now) result }
 {

@@ -1,4 +1,4 @@
-//! Short texts, put together before they are written.
+//! Short texts, assembled before they are written.
 
 ghost use Rattle.std.specs.Prelude.{◌≡◌, ◌++◌, [], true, false};
 ghost use Rattle.alm_lines.specs.Parts.{part_text, text_of_parts};
@@ -7,7 +7,7 @@ use crate::part::Part;
 use std::io::{self, ErrorKind};
 use std::marker::Model;
 
-/// The most bytes of a short text: each reply goes in that tells no list, and short lists.
+/// The most bytes of a short text: each reply without a list fits, and short lists do.
 const ROOM: usize = 128;
 
 /// A text of at most `ROOM` bytes.
@@ -37,7 +37,7 @@ impl ShortText {
         }
     }
 
-    /// Adds bytes at the end: whether they go in. Where they don't, nothing is added.
+    /// Appends bytes: whether they fit. If they don't, none is added.
     fn add(&mut self, bytes: &[u8]) -> bool
         ensures added { result ≡ true → self.new ≡ self.old ++ bytes.now }
         ensures same { result ≡ false → self.new ≡ self.old }
@@ -51,7 +51,7 @@ impl ShortText {
         true
     }
 
-    /// Adds a part: whether it goes in.
+    /// Adds a part: whether it fits.
     fn add_part(&mut self, part: Part<'_>) -> bool
         ensures { result ≡ true → self.new ≡ self.old ++ part_text part.entry }
     {
@@ -59,10 +59,11 @@ impl ShortText {
             Part::Word(word) => self.add(word.as_bytes()),
             Part::Bytes(bytes) => self.add(bytes),
             Part::Number(number) => self.add(itoa::Buffer::new().format(number).as_bytes()),
+            Part::Signed(number) => self.add(itoa::Buffer::new().format(number).as_bytes()),
         }
     }
 
-    /// Adds parts, one after the other: whether they all go in.
+    /// Adds parts, one after the other: whether they all fit.
     pub fn add_parts(&mut self, parts: &[Part<'_>]) -> bool
         ensures { result ≡ true → self.new ≡ self.old ++ text_of_parts parts.now }
     {
@@ -81,7 +82,7 @@ impl ShortText {
     }
 }
 
-/// It takes bytes where all go in, and else fails.
+/// It takes bytes if all fit, and else fails.
 impl io::Write for ShortText {
     ghost use Rattle.std.specs.Prelude.{Some};
 

@@ -6,10 +6,10 @@ ghost use Rattle.alm_lines.specs.Written.{Prints};
 
 use std::io::{self, ErrorKind};
 
-/// How often a writer is called for one piece of text: one that is interrupted for ever has failed.
+/// How often a writer is called for one piece of text: one that is interrupted forever has failed.
 const CALLS: u64 = 1 << 32;
 
-/// Writes some of the bytes: how many the writer took, none where it was interrupted.
+/// Writes some of the bytes: how many the writer took, 0 if it was interrupted.
 fn put_some<W: io::Write>(bytes: &[u8], writer: &mut W) -> io::Result<usize>
     ensures bound { WritesAtMost result bytes.now }
     ensures bytes { WriteAppends (W.contents writer.old) (W.contents writer.new) result bytes.now }
@@ -21,7 +21,7 @@ fn put_some<W: io::Write>(bytes: &[u8], writer: &mut W) -> io::Result<usize>
     }
 }
 
-/// Writes bytes, in as many calls as the writer takes. Where it fails, a front of them is written.
+/// Writes bytes, in as many calls as the writer needs. If it fails, a prefix of them is written.
 pub fn put<W: io::Write>(bytes: &[u8], writer: &mut W) -> io::Result<()>
     ensures { Prints (W.contents writer.old) (W.contents writer.new) bytes.now result }
 {

@@ -1,3 +1,4 @@
+-- For the proofs.
 -- What is left of a list.
 use Rattle.std.specs.Prelude.{ℕ, ◌<◌, ◌^◌, List, length}
 use Rattle.std.specs.List.{AllByRecursion}

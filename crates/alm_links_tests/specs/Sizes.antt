@@ -1,4 +1,5 @@
--- How large chains are: so many families of so many lists over so many nodes.
+-- For the proofs.
+-- The sizes of chains: this number of families of this number of lists over this number of nodes.
 use Rattle.std.specs.Prelude.{ℕ, ◌≡◌, ◌<◌, length}
 use Rattle.alm_links.specs.Lists.{Families, family_at}
 

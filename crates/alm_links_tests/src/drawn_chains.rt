@@ -1,4 +1,4 @@
-//! 100,000 drawn calls on two families, beside a vector for each list.
+//! 100,000 drawn calls on two families, compared with a vector for each list.
 
 ghost use Rattle.std.specs.Prelude.{◌<◌};
 
@@ -61,7 +61,7 @@ fn call(
     Ok(())
 }
 
-/// Whether the lists of a family are those of the vectors, and each node stands where they have it.
+/// Whether the lists of a family are those of the vectors, and each node is in the same place as there.
 fn are_same(chains: &Pair, family: u32, lists: &plain::Lists) -> bool {
     let mut same = true;
     for (list, nodes) in lists.iter().enumerate() {

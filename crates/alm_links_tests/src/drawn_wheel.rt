@@ -1,4 +1,4 @@
-//! Drawn deadlines and questions, beside a filter that is sorted.
+//! Drawn deadlines and queries, compared with a sorted filter.
 
 use crate::drawn_chains::{below, random};
 use crate::shelves::Shelves;

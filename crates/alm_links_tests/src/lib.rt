@@ -1,14 +1,14 @@
-//! Tests of the chains and of the wheel: worked rows, and drawn calls beside plain vectors.
+//! Tests of the chains and of the wheel: worked rows, and drawn calls compared with plain vectors.
 //!
 //! | module | what it tries |
 //! |---|---|
-//! | `rows` | the worked rows, and copies that go ways of their own |
-//! | `drawn_chains` | 100,000 drawn calls on two families beside a vector for each list, every list compared |
-//! | `drawn_wheel` | drawn deadlines and questions beside a filter that is sorted, and jumps over the whole range |
+//! | `rows` | the worked rows, and copies that change independently |
+//! | `drawn_chains` | 100,000 drawn calls on two families and on a vector for each list, every list compared |
+//! | `drawn_wheel` | drawn deadlines and queries compared with a sorted filter, and jumps over the whole range |
 //! | `largest` | chains and a wheel over 16,384 nodes |
-//! | `refused` | want of memory: what can't be copied stays as it is |
+//! | `refused` | out of memory: what can't be copied stays as it is |
 //!
-//! They stand in a crate of their own, since a crate with tests is proved twice.
+//! They are in a crate of their own: a crate with tests is proved twice.
 #![tactic(auto)]
 
 #[cfg(test)]

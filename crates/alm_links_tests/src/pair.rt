@@ -17,7 +17,7 @@ pub struct Pair {
 }
 
 impl Pair {
-    /// Two families of so many lists over so many nodes.
+    /// Two families of `lists` lists over `nodes` nodes.
     pub fn new(alloc: Global, nodes: u32, lists: u32) -> Result<Self, AllocError> {
         Ok(Pair {
             chains: Chains::new(alloc, nodes, &[lists, lists])?,
@@ -99,7 +99,7 @@ impl Pair {
         }
     }
 
-    /// Whether a list is just these nodes, by every call that reads one.
+    /// Whether a list is exactly these nodes, by every call that reads one.
     pub fn is_list(&self, family: u32, list: u32, wanted: &[u32]) -> bool {
         if family >= FAMILIES || list >= self.lists {
             return false;

@@ -50,7 +50,7 @@ pub fn unlink(lists: &mut Lists, node: u32) {
     }
 }
 
-/// The list that a node stands in.
+/// The list that a node is in.
 pub fn list_of(lists: &Lists, node: u32) -> Option<u32> {
     for (list, nodes) in lists.iter().enumerate() {
         if nodes.iter().any(|x| *x == node) {

@@ -1,4 +1,4 @@
-//! Worked rows, and copies that go ways of their own.
+//! Worked rows, and copies that change independently.
 
 use crate::pair::Pair;
 use crate::shelves::Shelves;

@@ -66,7 +66,7 @@ impl Shelves {
         }
     }
 
-    /// Whether a slot has just these nodes, in this order.
+    /// Whether a slot has exactly these nodes, in this order.
     pub fn is_slot(&self, slot: u32, wanted: &[u32]) -> bool {
         let mut same = slot < 256 && self.wheel.first(slot) == wanted.first().copied();
         let mut behind = wanted.iter().skip(1);

@@ -1,4 +1,4 @@
--- How often a node stands in a list that is changed.
+-- How often a node is in a list that is changed.
 use Rattle.std.proofs.Common.{◌≡◌, ℕ, ◌+◌, ◌<◌, ◌≤◌, ◌≢◌, nat_eq, nat_lt, Bool, true, false, List, [], ◌∷◌, ◌++◌, length, cond, refl, sym, arith, subst, inl, inr}
 use Rattle.std.specs.Prelude.{filter}
 use Rattle.std.specs.List.{AllByRecursion, IsDistinct, list_any}

@@ -17,7 +17,7 @@ below-all n areas l = λ k d h. let one = get_or-le-sum_by sum areas k d h in om
 pub window-at : (i : ℕ) (m : Metrics) (ages : List ℕ) → slice_index m.areas i < length m.ages → ages ≡ slice_index_or m.ages (slice_index m.areas i) ages → window_around i m ≡ sum ages
 window-at i m ages h is = get_or-map sum m.ages (slice_index m.areas i) ages 0 h ∙ ap sum (sym is)
 
--- the counts of a full window are put back where they stood
+-- the counts of a full window are put back as they were
 pub full-stays : (i area : ℕ) (m : Metrics) (ages after : List ℕ) → area ≡ slice_index_or m.areas i area → i < length m.areas → All (λ k. k < length m.ages) m.areas → ages ≡ slice_index_or m.ages area ages → (2 ^ 64 ≤ sum ages + 1 → after ≡ ages) → 2 ^ 64 ≤ window_around i m + 1 → slice_set m.ages area after ≡ m.ages
 full-stays i area m ages after at h in_areas is stays full =
     let found : area ≡ slice_index m.areas i = at ∙ get_or_default_zero m.areas i area h in

@@ -30,7 +30,7 @@ aged-all s ages = elim (cases_Bool (nat_lt s 600)) [
   | inr f ↦ let many : 600 ≤ s = ltb-false s 600 f in gone 600 (min s 600) ages (omega arith) ∙ sym (gone 600 s ages many)
 ]
 
--- where nothing was counted, nothing is forgotten
+-- if there were no counts, none are forgotten
 zeros : (ages : List ℕ) → sum ages ≡ 0 → ages ≡ replicate (length ages) 0
 zeros [] e = refl
 zeros (n ∷ ages) e =

@@ -10,7 +10,7 @@ use Rattle.alm_model.specs.Counted.{IsCounted, new_whole, run_whole}
 use Rattle.alm_model.specs.Keeping.{change, in_brief, in_full, one_younger, recent}
 use Rattle.alm_model.specs.Lists.{is_frequent, list_of, moments_in}
 use Rattle.alm_model.specs.New.{new_plant}
-use Rattle.alm_model.specs.Plant.{Condensed, Plant}
+use Rattle.alm_model.specs.Plant.{Condensed, RecordedPlant}
 use Rattle.alm_model.specs.Rules.{AreAdmitted, KeepsRules}
 use Rattle.alm_model.specs.Step.{later, run, settle}
 use Rattle.alm_model.specs.declared.list.List.TheVariants.{Chatter}
@@ -32,23 +32,23 @@ chattering-same q moments attrs = ap (filter (λ i. is_frequent q.panel.now (mom
 pub chattering-along : (q : Condensed) → KeepsRules q → chattering_by_moments (metrics_of q) ≡ list_of Chatter q
 chattering-along q rules = chattering-same q rules.recent rules.attrs
 
--- a call, and the same counted anew
-cond-noted : (p : Plant) (i : ℕ) → condense (with_annunciation i p) ≡ record (condense p) { kept = in_brief.note p.panel i (condense p).kept }
+-- a call, and the same by a new count
+cond-noted : (p : RecordedPlant) (i : ℕ) → condense (with_annunciation i p) ≡ record (condense p) { kept = in_brief.note p.panel i (condense p).kept }
 cond-noted p i =
     let ages = ages-note p.panel p.kept i 599 (length p.floods) in
     let moments = moments-note p.kept i p.panel.now (length p.panel.attrs) in
     λ j. record { panel = p.panel; kept = record { ages = ages j; moments = moments j }; floods = p.floods }
 
-pub annunciated-anew : (p : Plant) (i : ℕ) → after_annunciation i (metrics_of (condense p)) ≡ metrics_of (condense (with_annunciation i p))
+pub annunciated-anew : (p : RecordedPlant) (i : ℕ) → after_annunciation i (metrics_of (condense p)) ≡ metrics_of (condense (with_annunciation i p))
 annunciated-anew p i = sym (ap metrics_of (cond-noted p i) ∙ annunciated-along (condense p) i)
 
-pub advanced-anew : (p : Plant) (t : ℕ) → IsRecorded p.panel.now p.kept → p.panel.now ≤ t → after_clock t (metrics_of (condense p)) ≡ metrics_of (condense (later in_full t p))
+pub advanced-anew : (p : RecordedPlant) (t : ℕ) → IsRecorded p.panel.now p.kept → p.panel.now ≤ t → after_clock t (metrics_of (condense p)) ≡ metrics_of (condense (later in_full t p))
 advanced-anew p t r l = sym (ap metrics_of (cond-later p t (past-recorded p.panel.now p.kept r) l))
 
-pub settled-anew : (p : Plant) → IsRecorded p.panel.now p.kept → settled_by_windows (metrics_of (condense p)) ≡ metrics_of (condense (settle in_full p))
+pub settled-anew : (p : RecordedPlant) → IsRecorded p.panel.now p.kept → settled_by_windows (metrics_of (condense p)) ≡ metrics_of (condense (settle in_full p))
 settled-anew p r = sym (ap metrics_of (cond-settle p (past-recorded p.panel.now p.kept r)))
 
-pub counted-anew : (p : Plant) → IsRecorded p.panel.now p.kept → length p.panel.attrs ≡ length p.panel.rows → AreCounted p (metrics_of (condense p))
+pub counted-anew : (p : RecordedPlant) → IsRecorded p.panel.now p.kept → length p.panel.attrs ≡ length p.panel.rows → AreCounted p (metrics_of (condense p))
 counted-anew p r e = record {
   now = refl;
   ages = refl;
@@ -58,8 +58,8 @@ counted-anew p r e = record {
   chattering = chattering-same (condense p) (length-map-range_with_len _ 0 (length p.panel.attrs) ∙ e) e ∙ chatter-same p r e;
 }
 
--- what goes along with a whole plant is counted from it
-counted-along : (p : Plant) (q : Condensed) → GoesAlong p q → IsCounted p q → AreCounted p (metrics_of q)
+-- what changes along with a whole plant is counted from it
+counted-along : (p : RecordedPlant) (q : Condensed) → GoesAlong p q → IsCounted p q → AreCounted p (metrics_of q)
 counted-along p q g c = record {
   now = sym (ap (λ x. x.panel.now) g.same);
   ages = sym (ap (λ x. x.kept.ages) g.same);

@@ -1,4 +1,5 @@
--- How a ring stands for the counts of the last seconds.
+-- For the proofs.
+-- The counts of the last seconds that a ring holds.
 use Rattle.std.specs.Prelude.{◌≡◌, ℕ, ◌<◌, List, ◌++◌, drop, length, sum, take}
 
 -- the counts from the place of the present second on, round the ring

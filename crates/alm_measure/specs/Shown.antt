@@ -1,4 +1,4 @@
--- What a measure stands for, and what holds of it.
+-- The metrics that a measure holds, and what is true of them.
 use Rattle.std.specs.Prelude.{◌≡◌, ◌<◌, ◌≤◌, All, length, vec_capacity}
 use Rattle.alm_measure.specs.Metrics.{Metrics}
 use Rattle.alm_measure.specs.declared.measure.Measure.TheInside.{Inside}
@@ -7,7 +7,7 @@ use Rattle.alm_types.specs.Sizes.{most_alarms}
 abbrev pub metrics_in : Inside → Metrics
 metrics_in m = record { now = m.clock; areas = m.areas.items; ages = m.rings.items; floods = m.floods.items; moments = m.moments.items }
 
--- no more alarms than a table has, each in an area that there is, and each with moments; a flag for each area
+-- no more alarms than a table has, each in an area that exists, and each with moments; a flag for each area
 pub record IsSoundMeasure (m : Metrics) : Type 0 where
   pub few : length m.areas ≤ most_alarms
   pub moments : length m.moments ≡ length m.areas

@@ -51,7 +51,7 @@ fn areas_of(alloc: Global, alarms: &[Attr]) -> Result<Vec<u8>, AllocError>
 }
 
 impl Measure {
-    /// The measure of a new plant; an error only for want of memory.
+    /// The measure of a new plant; an error only if out of memory.
     pub fn new(alloc: Global, table: &Table) -> Result<Self, AllocError>
         ensures { IfOk result (λ m. m ≡ new_metrics table.now) }
     {
@@ -66,8 +66,8 @@ impl Measure {
         })
     }
 
-    /// The measure at a moment, of ages and flood flags by area and the last moments of each alarm, as many as the table has;
-    /// an error only for want of memory.
+    /// The measure at a moment, of ages and flood flags by area and the last moments of each alarm, for all alarms of the table.
+    /// An error only if out of memory.
     pub fn of(
         alloc: Global,
         table: &Table,
@@ -94,7 +94,7 @@ impl Measure {
         Measure::of_alarms(alloc, table.alarms(), now, ages, floods, moments)
     }
 
-    /// The same of alarms that stand in no table.
+    /// The same for alarms without a table.
     pub fn of_alarms(
         alloc: Global,
         alarms: &[Attr],
@@ -128,7 +128,7 @@ impl Measure {
         })
     }
 
-    /// The same measure; an error only for want of memory.
+    /// The same measure; an error only if out of memory.
     pub fn copy(&self, alloc: Global) -> Result<Self, AllocError>
         ensures { IfOk result (λ m. m ≡ self.now) }
     {
@@ -143,7 +143,7 @@ impl Measure {
 
     /// An alarm of the table is annunciated now: one more in its area, and one more moment of its own.
     ///
-    /// A window counts up to 2^64 - 1: where it is full it stays, and the moment is noted all the same.
+    /// A window counts up to 2^64 - 1: if it is full it stays, and the moment is noted all the same.
     pub fn annunciated(&mut self, id: AlarmId)
         requires { id.0 < length self.old.areas }
         ensures counted { window_around id.0 self.old + 1 < 2 ^ 64 →
@@ -167,7 +167,7 @@ impl Measure {
         self.clock = now;
     }
 
-    /// In each area a flood begins where the window is above 10 and ends where it is below 5; between, it stays as it was.
+    /// Starts the flood of an area whose window is above 10, and ends it if the window is below 5; between these the flag stays.
     pub fn settle(&mut self)
         ensures { self.new ≡ settled_by_windows self.old }
     {
@@ -219,7 +219,7 @@ impl Measure {
         self.rings[area as usize].at(age as usize)
     }
 
-    /// The last three moments of an alarm, the newest first; none where there is no such alarm.
+    /// The last three moments of an alarm, the newest first; empty if there is no such alarm.
     pub fn moments(&self, id: AlarmId) -> &[Moment]
         ensures { result.now ≡ moments_in (slice_get self.now.moments id.0) }
     {
@@ -252,8 +252,8 @@ impl Measure {
         self.floods[area as usize]
     }
 
-    /// The vector then holds the alarms with three annunciations or more within the last minute, by number. It has to have room
-    /// for all alarms.
+    /// The vector then holds the alarms with three annunciations or more within the last minute, by number. It must have room for
+    /// all alarms.
     pub fn chattering(&self, out: &mut Vec<u32>)
         requires room { length self.now.areas ≤ vec_capacity out.old }
         ensures list { out.new.items ≡ chattering_by_moments self.now }

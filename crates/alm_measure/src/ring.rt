@@ -10,8 +10,8 @@ const SECONDS: usize = 600;
 
 /// How many annunciations came in each of the last 600 seconds, and in all of them.
 ///
-/// The second of age `a` stands `a` places behind the present one, round the ring. So a second passes by one step back,
-/// on to the place of the oldest second, which is forgotten.
+/// The second of age `a` is `a` places after the present one, round the ring. So when a second passes, the present
+/// place moves one step back, to that of the oldest second, which is forgotten.
 #[derive(Drop)]
 pub struct Ring {
     counts: [u64; 600],
@@ -85,7 +85,7 @@ impl Ring {
         self.total
     }
 
-    /// One more annunciation of age 0. Where the total is 2^64 - 1, the counts stay.
+    /// One more annunciation of age 0. If the total is 2^64 - 1, the counts stay.
     pub fn note(&mut self)
         ensures counted { sum self.old + 1 < 2 ^ 64 → self.new ≡ one_younger self.old }
         ensures full { 2 ^ 64 ≤ sum self.old + 1 → self.new ≡ self.old }
@@ -111,7 +111,7 @@ impl Ring {
         self.present = oldest;
     }
 
-    /// Some seconds pass. After 600 none is left that was counted, so no more are stepped over.
+    /// Some seconds pass. After 600 none of the counted ones is left, so no more are stepped over.
     pub fn pass(&mut self, seconds: u64)
         ensures { self.new ≡ ages_after seconds self.old }
     {

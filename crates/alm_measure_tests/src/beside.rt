@@ -1,4 +1,4 @@
-//! A plant, and a measure beside it.
+//! A plant, and a measure next to it.
 
 use crate::told;
 use crate::watched::Watched;
@@ -32,12 +32,12 @@ impl<P: Alarms + Drop> Beside<P> {
         })
     }
 
-    /// Goes on with another measure.
+    /// Continues with another measure.
     pub fn go_on_with(&mut self, measure: Watched) {
         self.measure = measure;
     }
 
-    /// A measure that is made of what the plant tells.
+    /// A measure that is made of what the plant reports.
     pub fn made(&self, alloc: Global, table: &Table) -> Option<Watched> {
         let ages = told::ages(alloc, &self.plant, 3).ok()?;
         let floods = told::floods(alloc, &self.plant, 3).ok()?;
@@ -45,7 +45,7 @@ impl<P: Alarms + Drop> Beside<P> {
         Watched::of(alloc, table, self.plant.now(), ages, floods, moments)
     }
 
-    /// Whether an alarm was annunciated with a stamp or one behind it.
+    /// Whether an alarm was annunciated with a stamp or a later one.
     fn is_annunciated_since(&self, number: u32, stamp: u64) -> bool {
         match self.plant.state(AlarmId(number)) {
             Some(row) => row.core != Core::Normal && row.stamp >= stamp,

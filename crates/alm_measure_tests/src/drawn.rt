@@ -60,7 +60,8 @@ fn action(drawn: u64, now: Moment) -> Result<Action, Fail> {
     })
 }
 
-/// What was seen: how many actions were accepted, how often there was a flood in the last area, and how often an alarm that chattered.
+/// What was seen: how many actions were accepted, how often there was a flood in the last area, and how often an alarm
+/// that chattered.
 #[derive(Clone, Copy)]
 struct Seen {
     accepted: u32,
@@ -83,7 +84,7 @@ fn note<P: Alarms + Drop>(
     Ok(())
 }
 
-/// Goes on with a copy of the measure after each 500 actions, and with one that is made of lists after each 700.
+/// Continues with a copy of the measure after each 500 actions, and with one that is made of lists after each 700.
 fn replace<P: Alarms + Drop>(
     alloc: Global,
     table: &Table,
@@ -120,7 +121,7 @@ fn draw<P: Alarms + Drop>(
     Ok(same)
 }
 
-/// Draws until so many actions are accepted: what was seen, or an error where something else is measured.
+/// Draws until a number of actions are accepted: what was seen, or an error if the measures differ.
 fn draw_all<P: Alarms + Drop>(
     alloc: Global,
     table: &Table,

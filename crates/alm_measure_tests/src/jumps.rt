@@ -13,7 +13,7 @@ fn new_measure(alloc: Global) -> Result<Watched, Fail> {
     Ok(Watched::new(alloc, &table(alloc).ok_or("table")?)?)
 }
 
-/// Alarm 0 is annunciated once at 1401, twice at 1941 and four times at 2000, where the clock then stands.
+/// Alarm 0 is annunciated once at 1401, twice at 1941 and four times at 2000, the clock's last moment.
 fn annunciate_seven_times(measure: &mut Watched) -> Result<(), Fail> {
     for (moment, times) in [(1401, 1), (1941, 2), (2000, 4)] {
         measure.advance(Moment::new(moment).ok_or("moment")?);
@@ -37,7 +37,7 @@ fn ages(alloc: Global, measure: &Watched) -> Result<Vec<(u32, u64)>, Fail> {
     Ok(found)
 }
 
-/// A jump behind seven annunciations: where it goes, the ages that it leaves, the window, and whether the alarm still chatters.
+/// A jump after seven annunciations: its moment, the ages that it leaves, the window, and whether the alarm still chatters.
 type Jump<'a> = (u64, &'a [(u32, u64)], u64, bool);
 
 /// The ages before the jump.

@@ -1,5 +1,5 @@
-//! Want of memory: run with each allocation refused in turn (`rt try --test --fail-alloc N`, N from 1 to 12), this passes. One
-//! is refused at most, so what was refused is made the second time: a maker that always gives up doesn't pass.
+//! Out of memory: run with each allocation refused in turn (`rt try --test --fail-alloc N`, N from 1 to 12), this passes. One is
+//! refused at most, so what was refused is made the second time: a maker that always gives up doesn't pass.
 
 use crate::tables::table;
 use crate::watched::Watched;
@@ -31,7 +31,7 @@ fn copy_again(alloc: Global, measure: &Watched) -> Result<Watched, AllocError> {
     }
 }
 
-/// Whether a copy has what the measure has, and goes on without it.
+/// Whether a copy has what the measure has, and changes independently of it.
 fn is_apart(measure: &Watched, copy: &mut Watched) -> bool {
     copy.window(2) == Some((1, false))
         && copy.age(2, 0) == Some(1)

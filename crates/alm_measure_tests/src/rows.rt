@@ -101,7 +101,7 @@ fn are_seconds(moments: &[Moment], wanted: &[u64]) -> bool {
     true
 }
 
-/// Whether a step goes as it should.
+/// Whether a step does what it should.
 fn goes<P: Alarms + Drop>(
     alloc: Global,
     beside: &mut Beside<P>,
@@ -120,7 +120,7 @@ fn goes<P: Alarms + Drop>(
     })
 }
 
-/// The first step of a row that doesn't go as it should.
+/// The first step of a row that doesn't do what it should.
 fn first_wrong<P: Alarms + Drop>(
     alloc: Global,
     beside: &mut Beside<P>,

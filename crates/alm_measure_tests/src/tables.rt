@@ -16,7 +16,7 @@ fn attr(kind: Kind, setpoint: i64, deadband: u64, area: u8, latching: bool) -> O
     Attr::new(settings, b"TI-101", b"").ok()
 }
 
-/// The alarms 0 and 1 in area 0, 2 and 3 in area 1, 4 and 5 in area 2; `None` for want of memory.
+/// The alarms 0 and 1 in area 0, 2 and 3 in area 1, 4 and 5 in area 2; `None` if out of memory.
 pub fn table(alloc: Global) -> Option<Table> {
     let alarms = [
         attr(Kind::High, 800, 10, 0, false)?,

@@ -1,4 +1,4 @@
-//! What a plant tells of its measures, as lists.
+//! What a plant reports of its measures, as lists.
 
 ghost use Rattle.std.specs.Prelude.{◌≤◌, All, IfOk, sum};
 
@@ -6,7 +6,7 @@ use alm_model::{Ages, Alarms, List, Recent};
 use alm_types::AlarmId;
 use std::alloc::{AllocError, Global};
 
-/// How many annunciations are told of an age at most.
+/// How many annunciations are reported of an age at most.
 const MOST: u64 = 1000;
 
 /// The ages of an area.
@@ -22,7 +22,7 @@ fn ages_of<P: Alarms>(plant: &P, area: u32) -> Ages
     Ages::of(counts)
 }
 
-/// The ages of so many areas.
+/// The ages of `areas` areas.
 pub fn ages<P: Alarms>(alloc: Global, plant: &P, areas: u32) -> Result<Vec<Ages>, AllocError>
     ensures { IfOk result (λ told. All (λ ages. sum ages ≤ 600000) told.items) }
 {
@@ -33,7 +33,7 @@ pub fn ages<P: Alarms>(alloc: Global, plant: &P, areas: u32) -> Result<Vec<Ages>
     Ok(told)
 }
 
-/// The flood flags of so many areas.
+/// The flood flags of `areas` areas.
 pub fn floods<P: Alarms>(alloc: Global, plant: &P, areas: u32) -> Result<Vec<bool>, AllocError> {
     let mut told = Vec::with_capacity(alloc, areas as usize)?;
     for area in 0..areas {
@@ -44,7 +44,7 @@ pub fn floods<P: Alarms>(alloc: Global, plant: &P, areas: u32) -> Result<Vec<boo
     Ok(told)
 }
 
-/// The last moments of so many alarms.
+/// The last moments of the first alarms.
 pub fn moments<P: Alarms>(
     alloc: Global,
     plant: &P,

@@ -19,7 +19,7 @@ impl Watched {
         })
     }
 
-    /// The measure of lists, if they are as long as the table says; `None` for want of memory too.
+    /// The measure of lists, if they are as long as the table says; `None` if out of memory too.
     pub fn of(
         alloc: Global,
         table: &Table,

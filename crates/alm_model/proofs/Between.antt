@@ -18,7 +18,7 @@ use Rattle.alm_model.specs.Step.{with_outcome, with_touched_alarm, touch, unshel
 use Rattle.alm_model.proofs.Stamps.{Stamped, stamped-after, get-set-same, get-set-other}
 use Rattle.alm_model.proofs.Measured.{change-all, change-length, change-sum, change-at, change-off, falling-recent, recent-few, recent-some, ages-one_more}
 
--- an alarm, where the deadlines that have passed are those of alarms to come
+-- an alarm, if the deadlines that have passed are those of alarms to come
 pub record IsBetween (rest : List ℕ) (i now : ℕ) (a : Attr) (s : State) (ms : List ℕ) : Type 0 where
   pub state : IsState s
   pub suits : IsTrue (suits a.latching s.core)
@@ -182,7 +182,7 @@ between-put rest q i a s (Shelved t) here there good ending h =
       stamped = stamped-after q.panel.rows i s t q.panel.next_stamp (q.panel.next_stamp + 1) there (omega arith) (inr (inr (good.new, omega arith))) h.stamped;
     }
 
--- where there is no such alarm, nothing was to be done
+-- if there is no such alarm, there was no action to do
 between-none : (rest : List ℕ) (q : Condensed) (i : ℕ) → ((a : Attr) (s : State) → slice_get q.panel.attrs i ≡ Some a → slice_get q.panel.rows i ≡ Some s → ⊥) → Between (i ∷ rest) q → Between rest q
 between-none rest q i none h = record {
   some = h.some;
@@ -224,7 +224,7 @@ moments-there [] i l = absurd (omega arith)
 moments-there (ms ∷ moments) zero l = (ms, refl)
 moments-there (ms ∷ moments) (suc i) l = moments-there moments i (omega arith)
 
--- the state of an alarm that there is
+-- the state of an existing alarm
 pub state-there : (rest : List ℕ) (q : Condensed) (i : ℕ) (a : Attr) (s : State) → Between rest q → slice_get q.panel.attrs i ≡ Some a → slice_get q.panel.rows i ≡ Some s → (ms : List ℕ) × IsBetween rest i q.panel.now a s ms
 state-there rest q i a s h e f =
     let inside = slice_get_within q.panel.rows i s f in

@@ -20,7 +20,7 @@ use Rattle.alm_model.proofs.Between.{IsBetween}
 use Rattle.alm_model.proofs.Measured.{change-at, change-off, change-all, change-length}
 use Rattle.alm_model.proofs.Stamps.{get-set-same}
 
--- what of its attributes an alarm's place and row rest on
+-- the attributes that an alarm's place and row depend on
 pub record KeepsPlace (f : Attr → Attr) : Type 0 where
   pub area : (a : Attr) → (f a).area ≡ a.area
   pub latching : (a : Attr) → (f a).latching ≡ a.latching

@@ -207,7 +207,7 @@ ahead-is : (now longest i : ℕ) (o : Option ℕ) → ((d : ℕ) → o ≡ Some 
 ahead-is now longest i None far ending = tt
 ahead-is now longest i (Some d) far ending = (elim (cases_lt now d) [ inl l ↦ l | inr m ↦ (let none = (ending d refl m).1 in absurd (omega arith)) ], far d refl)
 
--- nothing is left to end
+-- no shelving is left to end
 between-alarm : (i now next : ℕ) (a : Attr) (s : State) (ms : List ℕ) → s.stamp < next → IsBetween [] i now a s ms → IsAlarm now next a s ms
 between-alarm i now next a s ms l h = record {
   state = h.state;

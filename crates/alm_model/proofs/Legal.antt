@@ -97,7 +97,7 @@ admitted_step : (q : Condensed) (r : Request) (v : Verdict) (rest : List Action)
 admitted_step q r (Accepted b) rest is all = ((accepted_is q r b (sym is)).1, all)
 admitted_step q r (Refused e n) rest is all = all
 
--- of a legal history each accepted action is admitted where it comes
+-- each accepted action of a legal history is admitted at its turn
 pub legal_admitted : (base : Condensed) (entries : List Entry) → IsLegal base entries → AllAdmitted base (accepted_of entries)
 legal_admitted base [] legal = tt
 legal_admitted base (x ∷ entries) legal =
@@ -105,11 +105,11 @@ legal_admitted base (x ∷ entries) legal =
     let rest : verdicts_of entries ≡ verdicts_on (after_verdict base x.verdict) (requests_of entries) = cc (legal, first) in
     admitted_step base (request_of x) x.verdict (accepted_of entries) first (legal_admitted (after_verdict base x.verdict) entries rest)
 
--- the actions up to and with entry k
+-- the actions up to entry k, inclusive
 pub accepted_take : (xs : List Entry) (k : ℕ) (d : Entry) → k < length xs → accepted_of (take (k + 1) xs) ≡ accepted_of (take k xs) ++ when_accepted (get_or xs k d).verdict
 accepted_take xs k d less = ap accepted_of (take_more xs k d less) ∙ accepted_snoc (take k xs) (get_or xs k d)
 
--- an accepted action of these entries is admitted where it comes
+-- an accepted action of these entries is admitted at its turn
 pub admitted_at : (p : Condensed) (xs : List Entry) (k : ℕ) (d : Entry) (a : Action) → k < length xs → (get_or xs k d).verdict ≡ Accepted a → AllAdmitted p (accepted_of xs) → refusal (run p (accepted_of (take k xs))).panel a ≡ None
 admitted_at p xs k d a less is all =
     let front : accepted_of (take (k + 1) xs) ≡ accepted_of (take k xs) ++ a ∷ [] = accepted_take xs k d less ∙ ap (λ v. accepted_of (take k xs) ++ when_accepted v) is in
@@ -148,7 +148,7 @@ wants_snoc xs e = map-append (λ (e : Entry). e.want) xs (e ∷ [])
 pub serials_snoc : (xs : List Entry) (e : Entry) → serials_of (xs ++ e ∷ []) ≡ serials_of xs ++ e.serial ∷ []
 serials_snoc xs e = map-append (λ (e : Entry). e.serial) xs (e ∷ [])
 
--- batches that go on from each other
+-- batches that continue each other
 pub firsts_snoc : (n : ℕ) (bs : List Judged) (b : Judged) → firsts_from n (bs ++ b ∷ []) ≡ firsts_from n bs ++ (n + length (accepted_of (entries_in bs))) ∷ []
 firsts_snoc n [] b = let same : n ≡ n + 0 = omega arith in ap (λ (x : ℕ). x ∷ []) same
 firsts_snoc n (x ∷ bs) b =
@@ -160,14 +160,14 @@ pub firsts_more : (bs : List Judged) (b : Judged) → firsts_of (bs ++ b ∷ [])
 firsts_more [] b = refl
 firsts_more (x ∷ bs) b = ap (λ (l : List ℕ). x.first ∷ l) (firsts_more bs b)
 
--- each begins behind all accepted actions before it
+-- each begins after all accepted actions before it
 pub first_at : (n : ℕ) (before : List Judged) (b : Judged) (after : List Judged) → firsts_of (before ++ (b ∷ after)) ≡ firsts_from n (before ++ (b ∷ after)) → b.first ≡ n + length (accepted_of (entries_in before))
 first_at n [] b after same = let is : b.first ≡ n = cc same in omega (arith, is)
 first_at n (x ∷ before) b after same =
     let rest : firsts_of (before ++ (b ∷ after)) ≡ firsts_from (n + length (accepted_of x.entries)) (before ++ (b ∷ after)) = cc same in
     omega (arith, first_at (n + length (accepted_of x.entries)) before b after rest, ap length (accepted_append x.entries (entries_in before)), length-append (accepted_of x.entries) (accepted_of (entries_in before)))
 
--- of a legal history in batches that go on from each other, a batch is the next one for the plant of all before it
+-- of a legal history in batches that continue each other, a batch is the next one for the plant of all before it
 pub next_batch : (base stored : Condensed) (before : List Judged) (b : Judged) (after : List Judged) → firsts_of (before ++ (b ∷ after)) ≡ firsts_from (base.panel.count + 1) (before ++ (b ∷ after))
     → AllAdmitted base (accepted_of (entries_in (before ++ (b ∷ after)))) → stored ≡ run base (accepted_of (entries_in before)) → (b.first ≡ stored.panel.count + 1) × AllAdmitted stored (accepted_of b.entries)
 next_batch base stored before b after same all is =

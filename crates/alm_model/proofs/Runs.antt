@@ -7,6 +7,7 @@ use Rattle.std.proofs.lemmas.Bool.{ltb-true}
 use Rattle.alm_types.specs.declared.attr.Attr.{Attr}
 use Rattle.alm_types.specs.declared.action.Action.{Action}
 use Rattle.alm_types.specs.declared.action.Action.TheVariants.{Clock, Value, Ack, Reset, Shelve, Unshelve, Oos, Design, SetPriority, SetSetpoint}
+use Rattle.alm_types.specs.Changes.{with_priority, with_setpoint}
 use Rattle.alm_types.specs.declared.refusal.Refusal.{Refusal}
 use Rattle.alm_types.specs.declared.refusal.Refusal.TheVariants.{Exhausted}
 use Rattle.alm_state.specs.Rows.{State}
@@ -61,22 +62,23 @@ run_count q (a ∷ actions) = omega (arith, run_count (step q a) actions, step_c
 
 -- ---- the sizes of a plant
 
--- as many rows, areas and lists of ages
+-- as many attributes, rows, areas and lists of ages
 record AsMany (p q : Condensed) : Type 0 where
+  attrs : length p.panel.attrs ≡ length q.panel.attrs
   rows : length p.panel.rows ≡ length q.panel.rows
   floods : length p.floods ≡ length q.floods
   ages : length p.kept.ages ≡ length q.kept.ages
 
 as_many : (q : Condensed) → AsMany q q
-as_many q = record { rows = refl; floods = refl; ages = refl }
+as_many q = record { attrs = refl; rows = refl; floods = refl; ages = refl }
 
 then : (p q r : Condensed) → AsMany p q → AsMany q r → AsMany p r
-then p q r a b = record { rows = a.rows ∙ b.rows; floods = a.floods ∙ b.floods; ages = a.ages ∙ b.ages }
+then p q r a b = record { attrs = a.attrs ∙ b.attrs; rows = a.rows ∙ b.rows; floods = a.floods ∙ b.floods; ages = a.ages ∙ b.ages }
 
 put_sizes : (q : Condensed) (i : ℕ) (o : Outcome) → AsMany (with_outcome in_brief q i o) q
-put_sizes q i (Changed s) = record { rows = length-set q.panel.rows i s; floods = refl; ages = refl }
-put_sizes q i (Annunciated s) = record { rows = length-set q.panel.rows i s; floods = refl; ages = change-length q.kept.ages (area_of q.panel i) one_younger }
-put_sizes q i (Shelved s) = record { rows = length-set q.panel.rows i s; floods = refl; ages = refl }
+put_sizes q i (Changed s) = record { attrs = refl; rows = length-set q.panel.rows i s; floods = refl; ages = refl }
+put_sizes q i (Annunciated s) = record { attrs = refl; rows = length-set q.panel.rows i s; floods = refl; ages = change-length q.kept.ages (area_of q.panel i) one_younger }
+put_sizes q i (Shelved s) = record { attrs = refl; rows = length-set q.panel.rows i s; floods = refl; ages = refl }
 
 touched_sizes : (q : Condensed) (i : ℕ) (f : Attr → State → Outcome) (a : Option Attr) (s : Option State) → AsMany (with_touched_alarm in_brief q i f a s) q
 touched_sizes q i f (Some a) (Some s) = put_sizes q i (f a s)
@@ -91,7 +93,7 @@ unshelves_sizes q [] = as_many q
 unshelves_sizes q (i ∷ list) = then _ _ _ (unshelves_sizes (unshelve in_brief q i) list) (touch_sizes q i (λ a s. without_shelving q.panel.next_stamp s))
 
 later_sizes : (t : ℕ) (q : Condensed) → AsMany (later in_brief t q) q
-later_sizes t q = record { rows = refl; floods = refl; ages = length-map q.kept.ages (ages_after (t - q.panel.now)) }
+later_sizes t q = record { attrs = refl; rows = refl; floods = refl; ages = length-map q.kept.ages (ages_after (t - q.panel.now)) }
 
 acted_sizes : (q : Condensed) (a : Action) → AsMany (with_effect in_brief q a) q
 acted_sizes q (Clock t) = then _ _ _ (unshelves_sizes (later in_brief t q) (due t q.panel)) (later_sizes t q)
@@ -102,8 +104,8 @@ acted_sizes q (Shelve i s) = touch_sizes q i.0 (outcome q.panel.now q.panel.next
 acted_sizes q (Unshelve i) = touch_sizes q i.0 (outcome q.panel.now q.panel.next_stamp (Unshelve i))
 acted_sizes q (Oos i on) = touch_sizes q i.0 (outcome q.panel.now q.panel.next_stamp (Oos i on))
 acted_sizes q (Design i on) = touch_sizes q i.0 (outcome q.panel.now q.panel.next_stamp (Design i on))
-acted_sizes q (SetPriority i priority) = record { rows = refl; floods = refl; ages = refl }
-acted_sizes q (SetSetpoint i setpoint) = record { rows = refl; floods = refl; ages = refl }
+acted_sizes q (SetPriority i priority) = record { attrs = change-length q.panel.attrs i.0 (with_priority priority); rows = refl; floods = refl; ages = refl }
+acted_sizes q (SetSetpoint i setpoint) = record { attrs = change-length q.panel.attrs i.0 (with_setpoint setpoint); rows = refl; floods = refl; ages = refl }
 
 settled_length : (windows : List ℕ) (floods : List Bool) → length windows ≡ length floods → length (settled_floods windows floods) ≡ length floods
 settled_length [] [] e = refl
@@ -115,7 +117,7 @@ step_sizes : (q : Condensed) (a : Action) → length q.kept.ages ≡ length q.fl
 step_sizes q a e =
     let m = acted_sizes (with_one_more q) a in
     let p : Condensed = with_effect in_brief (with_one_more q) a in
-    record { rows = m.rows; floods = settled_length (map sum p.kept.ages) p.floods (omega (arith, length-map p.kept.ages sum, m.ages, m.floods, e)) ∙ m.floods; ages = m.ages }
+    record { attrs = m.attrs; rows = m.rows; floods = settled_length (map sum p.kept.ages) p.floods (omega (arith, length-map p.kept.ages sum, m.ages, m.floods, e)) ∙ m.floods; ages = m.ages }
 
 pub run_sizes : (q : Condensed) (actions : List Action) → length q.kept.ages ≡ length q.floods → (length (run q actions).panel.rows ≡ length q.panel.rows) × (length (run q actions).floods ≡ length q.floods)
 run_sizes q [] e = (refl, refl)
@@ -123,6 +125,12 @@ run_sizes q (a ∷ actions) e =
     let m = step_sizes q a e in
     let more = run_sizes (step q a) actions (omega (arith, m.ages, m.floods, e)) in
     (more.0 ∙ m.rows, more.1 ∙ m.floods)
+
+pub run_attrs : (q : Condensed) (actions : List Action) → length q.kept.ages ≡ length q.floods → length (run q actions).panel.attrs ≡ length q.panel.attrs
+run_attrs q [] e = refl
+run_attrs q (a ∷ actions) e =
+    let m = step_sizes q a e in
+    run_attrs (step q a) actions (omega (arith, m.ages, m.floods, e)) ∙ m.attrs
 
 none_last : (o : Option Refusal) (b : Bool) → or_else o (unless b Exhausted) ≡ None → b ≡ true
 none_last None true e = refl
@@ -136,7 +144,7 @@ run_within q (a ∷ actions) within h =
     let below : q.panel.count < 2 ^ 48 = ltb-true q.panel.count (2 ^ 48) (none_last (own_refusal q.panel a) (ltb q.panel.count (2 ^ 48)) h.1) in
     run_within (step q a) actions (omega (arith, below, step_count q a)) h.2
 
--- ---- one list of actions behind another
+-- ---- one list of actions after another
 
 pub run_append : (q : Condensed) (xs ys : List Action) → run q (xs ++ ys) ≡ run (run q xs) ys
 run_append q [] ys = refl

@@ -11,7 +11,7 @@ use Rattle.alm_types.specs.Tables.{Listing, IsTable}
 use Rattle.alm_types.specs.declared.attr.Attr.{Attr}
 use Rattle.alm_types.specs.declared.action.Action.{Action}
 use Rattle.alm_state.specs.Rows.{State}
-use Rattle.alm_model.specs.Plant.{Panel, Plant, Condensed, History, Annunciation}
+use Rattle.alm_model.specs.Plant.{Panel, RecordedPlant, Condensed, History, Annunciation}
 use Rattle.alm_model.specs.Accept.{refusal}
 use Rattle.alm_model.specs.Condense.{condense, IsRecorded, of_age, moments_of}
 use Rattle.alm_model.specs.Counted.{new_whole, run_whole, last_minute, chattering, stale, IsCounted}
@@ -108,16 +108,16 @@ pub all-alarms : (p : Panel) → length p.attrs ≡ length p.rows → alarms (λ
 all-alarms p e = every (is_one (λ a s. true) p.attrs p.rows) (range_with_len 0 (length p.rows)) (λ x h. (let r = (range-Has x 0 (length p.rows) h).1 in both p.attrs p.rows x (omega arith) (omega arith)))
 
 -- what is measured from the condensed plant is counted
-kept-moments : (p : Plant) (i : ℕ) → i < length p.panel.attrs → moments_in (slice_get (condense p).kept.moments i) ≡ take 3 (moments_of p.kept i)
+kept-moments : (p : RecordedPlant) (i : ℕ) → i < length p.panel.attrs → moments_in (slice_get (condense p).kept.moments i) ≡ take 3 (moments_of p.kept i)
 kept-moments p i l = let e : 0 + i ≡ i = omega arith in ap moments_in (get-map (λ j. take 3 (moments_of p.kept j)) 0 (length p.panel.attrs) i l) ∙ ap (λ k. take 3 (moments_of p.kept k)) e
 
-pub chatter-same : (p : Plant) → IsRecorded p.panel.now p.kept → length p.panel.attrs ≡ length p.panel.rows → list_of Chatter (condense p) ≡ chattering p
+pub chatter-same : (p : RecordedPlant) → IsRecorded p.panel.now p.kept → length p.panel.attrs ≡ length p.panel.rows → list_of Chatter (condense p) ≡ chattering p
 chatter-same p r e =
     ap (filter (λ i. is_frequent p.panel.now (moments_in (slice_get (condense p).kept.moments i)))) (all-alarms p.panel e)
     ∙ filter-same (λ i. is_frequent p.panel.now (moments_in (slice_get (condense p).kept.moments i))) (λ i. nat_le 3 (last_minute p.panel p.kept i)) (range_with_len 0 (length p.panel.rows))
     (λ i h. (let k = (range-Has i 0 (length p.panel.rows) h).1 in ap (is_frequent p.panel.now) (kept-moments p i (omega arith)) ∙ frequent-same p.panel p.kept i r))
 
-pub stale-same : (p : Plant) → length p.panel.attrs ≡ length p.panel.rows → list_of Stale (condense p) ≡ stale p
+pub stale-same : (p : RecordedPlant) → length p.panel.attrs ≡ length p.panel.rows → list_of Stale (condense p) ≡ stale p
 stale-same p e =
     filter-same (λ i. is_old p.panel.now (moments_in (slice_get (condense p).kept.moments i))) (λ i. is_old p.panel.now (moments_of p.kept i)) (alarms (stands_in Stale) p.panel.attrs p.panel.rows)
     (λ i h. (let k = (range-Has i 0 (length p.panel.rows) (filter-Has (is_one (stands_in Stale) p.panel.attrs p.panel.rows) i (range_with_len 0 (length p.panel.rows)) h).0).1 in
@@ -139,12 +139,12 @@ new-cond t =
     λ j. record { panel = (new_plant t).panel; kept = record { ages = ages j; moments = moments j }; floods = (new_plant t).floods }
 
 -- what holds of a whole plant after any actions
-pub record GoesAlong (p : Plant) (q : Condensed) : Type 0 where
+pub record GoesAlong (p : RecordedPlant) (q : Condensed) : Type 0 where
   pub recorded : IsRecorded p.panel.now p.kept
   pub same : condense p ≡ q
   pub rules : KeepsRules q
 
-along-step : (p : Plant) (q : Condensed) (a : Action) → GoesAlong p q → IsTimely a → refusal q.panel a ≡ None → GoesAlong (after p a) (step q a)
+along-step : (p : RecordedPlant) (q : Condensed) (a : Action) → GoesAlong p q → IsTimely a → refusal q.panel a ≡ None → GoesAlong (after p a) (step q a)
 along-step p q a g timely free =
     let panel : p.panel ≡ q.panel = ap (λ c. c.panel) g.same in
     let admitted : refusal p.panel a ≡ None = ap (λ x. refusal x a) panel ∙ free in
@@ -154,14 +154,14 @@ along-step p q a g timely free =
       rules = step-keeps q a g.rules timely free;
     }
 
-along : (p : Plant) (q : Condensed) (actions : List Action) → GoesAlong p q → AreAdmitted q actions → GoesAlong (run_whole p actions) (run q actions)
+along : (p : RecordedPlant) (q : Condensed) (actions : List Action) → GoesAlong p q → AreAdmitted q actions → GoesAlong (run_whole p actions) (run q actions)
 along p q [] g h = g
 along p q (a ∷ actions) g h = along (after p a) (step q a) actions (along-step p q a g h.0 h.1) h.2
 
 pub along-new : (t : Listing) (actions : List Action) → IsTable t → AreAdmitted (new_plant t) actions → GoesAlong (run_whole (new_whole t) actions) (run (new_plant t) actions)
 along-new t actions h all = along (new_whole t) (new_plant t) actions (record { recorded = tt; same = new-cond t; rules = new-keeps t h }) all
 
-pub counted-along : (p : Plant) (q : Condensed) → GoesAlong p q → IsCounted p q
+pub counted-along : (p : RecordedPlant) (q : Condensed) → GoesAlong p q → IsCounted p q
 counted-along p q g =
     let size : length p.panel.attrs ≡ length p.panel.rows = ap (λ c. length c.panel.attrs) g.same ∙ g.rules.attrs ∙ sym (ap (λ c. length c.panel.rows) g.same) in
     record {

@@ -39,7 +39,7 @@ abbrev pub own_refusal : Panel → Action → Option Refusal
 own_refusal p (Clock t) = unless (nat_lt p.now t) ClockBack
 own_refusal p action = alarm_refusal action (slice_get p.attrs (alarm_of action)) (slice_get p.rows (alarm_of action))
 
--- why an action is refused, whoever asks; the last reason is that the actions are spent
+-- why an action is refused, whoever asks; the last possible reason is that no action numbers are left
 abbrev pub refusal : Panel → Action → Option Refusal
 refusal p action = or_else (own_refusal p action) (unless (nat_lt p.count most_actions) Exhausted)
 

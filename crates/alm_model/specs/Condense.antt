@@ -1,7 +1,7 @@
 -- What is condensed of a plant.
 use Rattle.std.specs.Prelude.{ℕ, ◌+◌, ◌≤◌, List, [], ◌∷◌, ◌&&◌, take, map, filter, length, count_by, ◌==◌}
 use Rattle.std.specs.List.{range_with_len, AllByRecursion}
-use Rattle.alm_model.specs.Plant.{Panel, Plant, Condensed, History}
+use Rattle.alm_model.specs.Plant.{Panel, RecordedPlant, Condensed, History}
 use Rattle.alm_model.specs.Keeping.{area_of}
 
 -- how many annunciations of an area are of an age
@@ -13,7 +13,7 @@ abbrev pub moments_of : History → ℕ → List ℕ
 moments_of history i = map (λ a. a.moment) (filter (λ a. a.alarm == i) history)
 
 -- the whole plant, condensed
-abbrev pub condense : Plant → Condensed
+abbrev pub condense : RecordedPlant → Condensed
 condense q = record {
   panel = q.panel;
   kept = record {
@@ -23,7 +23,8 @@ condense q = record {
   floods = q.floods;
 }
 
--- the annunciations as a plant has them, the newest first: none is later than now, and each is no later than the one before it in the list
+-- the annunciations as a plant has them, the newest first: none is later than now, and each is no later than the one
+-- before it in the list
 abbrev pub IsRecorded : ℕ → History → Type 0
 IsRecorded now [] = Unit {0}
 IsRecorded now (a ∷ history) = (a.moment ≤ now) × IsRecorded a.moment history

@@ -1,4 +1,4 @@
--- How requests are judged, one after the other, and what became of them.
+-- How requests are judged, one after the other, and their results.
 use Rattle.std.specs.Prelude.{◌≡◌, ℕ, ◌+◌, ◌==◌, List, [], ◌∷◌, ◌++◌, length, Result, Ok, Err, map}
 use Rattle.std.specs.List.{filter}
 use Rattle.alm_types.specs.declared.action.Action.{Action}
@@ -75,7 +75,7 @@ abbrev pub firsts_of : List Judged → List ℕ
 firsts_of [] = []
 firsts_of (batch ∷ batches) = batch.first ∷ firsts_of batches
 
--- those that they have where the first batch begins with a number, and each other goes on
+-- the first numbers of batches, if the first batch begins with a number and each other continues the one before
 abbrev pub firsts_from : ℕ → List Judged → List ℕ
 firsts_from n [] = []
 firsts_from n (batch ∷ batches) = n ∷ firsts_from (n + length (accepted_of batch.entries)) batches

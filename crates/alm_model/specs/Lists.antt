@@ -8,7 +8,7 @@ use Rattle.alm_model.specs.Plant.{Panel, Condensed}
 use Rattle.alm_model.specs.declared.list.List.{List as Choice}
 use Rattle.alm_model.specs.declared.list.List.TheVariants.{Priority, Area, Wheel, Stale, Chatter}
 
--- a test of an alarm, false where there is none
+-- a test of an alarm, false if there is no such alarm
 abbrev pub passes : (Attr → State → Bool) → Option Attr → Option State → Bool
 passes test (Some a) (Some s) = test a s
 passes test _ _ = false
@@ -21,7 +21,7 @@ is_one test attrs rows i = passes test (slice_get attrs i) (slice_get rows i)
 abbrev pub alarms : (Attr → State → Bool) → List Attr → List State → List ℕ
 alarms test attrs rows = filter (is_one test attrs rows) (range_with_len 0 (length rows))
 
--- a key of an alarm, 0 where there is none
+-- a key of an alarm, 0 if there is no such alarm
 abbrev pub key_of : (State → ℕ) → Option State → ℕ
 key_of key (Some s) = key s
 key_of key None = 0
@@ -38,7 +38,7 @@ stamp s = s.stamp
 abbrev pub deadline : State → ℕ
 deadline s = unwrap_or s.shelved_until 0
 
--- the slots of the wheel, where the shelved alarms stand
+-- the number of slots of the wheel, which holds the shelved alarms
 abbrev pub wheel_slots : ℕ
 wheel_slots = 256
 

@@ -3,9 +3,10 @@ use Rattle.std.specs.Prelude.{◌≡◌, ◌<◌, ℕ, List, Bool, true, false, 
 use Rattle.alm_types.specs.declared.refusal.Refusal.{Refusal}
 use Rattle.alm_types.specs.declared.refusal.Refusal.TheVariants.{NoSuchAlarm, NoSuchList, OutOfMemory}
 use Rattle.alm_types.specs.declared.query.Query.{Query}
-use Rattle.alm_types.specs.declared.query.Query.TheVariants.{State, Priority, Area, Wheel, Flood, Stale, Chatter}
+use Rattle.alm_types.specs.declared.query.Query.TheVariants.{State, Priority, Area, Wheel, Flood, Stale, Chatter, Plant, Attributes}
 use Rattle.alm_types.specs.declared.answer.Answer.{Answer}
-use Rattle.alm_types.specs.Reports.{Report, report, flood, alarms}
+use Rattle.alm_types.specs.declared.attr.Attr.{Attr}
+use Rattle.alm_types.specs.Reports.{Report, report, flood, alarms, plant, attributes}
 use Rattle.alm_types.specs.Counts.{one_more}
 use Rattle.alm_state.specs.Rows.{State as RowState}
 use Rattle.alm_state.specs.Showing.{report_of}
@@ -23,6 +24,8 @@ asks_list (Area n) = Some (choice.Area n)
 asks_list (Wheel n) = Some (choice.Wheel n)
 asks_list Stale = Some choice.Stale
 asks_list Chatter = Some choice.Chatter
+asks_list Plant = None
+asks_list (Attributes i) = None
 
 abbrev pub state_report : Option RowState → Result Report Refusal
 state_report None = Err NoSuchAlarm
@@ -36,6 +39,11 @@ flood_report _ _ = Err NoSuchList
 abbrev pub list_report : Choice → Condensed → Result Report Refusal
 list_report list q = if exists list q then Ok (alarms (list_of list q)) else Err NoSuchList
 
+-- the attributes of an alarm that are in force
+abbrev pub attributes_report : Option Attr → Result Report Refusal
+attributes_report None = Err NoSuchAlarm
+attributes_report (Some a) = Ok (attributes (Some a))
+
 -- what a plant reports, or why not
 abbrev pub look : Condensed → Query → Result Report Refusal
 look q (State i) = state_report (slice_get q.panel.rows i.0)
@@ -45,37 +53,55 @@ look q (Area n) = list_report (choice.Area n) q
 look q (Wheel n) = list_report (choice.Wheel n) q
 look q Stale = list_report choice.Stale q
 look q Chatter = list_report choice.Chatter q
+look q Plant = Ok (plant q.panel.now (length q.panel.rows) (length q.floods))
+look q (Attributes i) = attributes_report (slice_get q.panel.attrs i.0)
 
--- what it told of one alarm
+-- the answer's fields on one alarm
 abbrev pub KeepsAlarm : Answer → Answer → Type 0
 KeepsAlarm before after =
     (after.shown ≡ before.shown) × (after.active ≡ before.active) × (after.flags ≡ before.flags) × (after.until ≡ before.until)
 
--- what it told of an area's window
+-- the answer's fields on an area's window
 abbrev pub KeepsFlood : Answer → Answer → Type 0
 KeepsFlood before after = (after.window ≡ before.window) × (after.flood ≡ before.flood)
 
--- what it told in its list, and the list's room
+-- the answer's list, and its room
 abbrev pub KeepsList : Answer → Answer → Type 0
 KeepsList before after = (after.list.items ≡ before.list.items) × (vec_capacity after.list ≡ vec_capacity before.list)
 
--- an answer that tells what it told before
+-- the answer's fields on the plant's moment and sizes
+abbrev pub KeepsPlant : Answer → Answer → Type 0
+KeepsPlant before after = (after.moment ≡ before.moment) × (after.alarms ≡ before.alarms) × (after.areas ≡ before.areas)
+
+-- the answer's attributes of an alarm
+abbrev pub KeepsAttributes : Answer → Answer → Type 0
+KeepsAttributes before after = after.attr ≡ before.attr
+
+-- an answer with all fields as before
 pub record IsUnchanged (before after : Answer) : Type 0 where
   pub alarm : KeepsAlarm before after
   pub flood : KeepsFlood before after
   pub list : after.list.items ≡ before.list.items
+  pub plant : KeepsPlant before after
+  pub attributes : KeepsAttributes before after
+
+-- all fields but the list
+abbrev pub KeepsUnlisted : Answer → Answer → Type 0
+KeepsUnlisted before after = KeepsAlarm before after × KeepsFlood before after × KeepsPlant before after × KeepsAttributes before after
 
 -- what a query doesn't ask for stays
 abbrev pub KeepsOthers : Query → Answer → Answer → Type 0
-KeepsOthers (State i) before after = KeepsFlood before after × KeepsList before after
-KeepsOthers (Flood a) before after = KeepsAlarm before after × KeepsList before after
-KeepsOthers (Priority n) before after = KeepsAlarm before after × KeepsFlood before after
-KeepsOthers (Area n) before after = KeepsAlarm before after × KeepsFlood before after
-KeepsOthers (Wheel n) before after = KeepsAlarm before after × KeepsFlood before after
-KeepsOthers Stale before after = KeepsAlarm before after × KeepsFlood before after
-KeepsOthers Chatter before after = KeepsAlarm before after × KeepsFlood before after
+KeepsOthers (State i) before after = KeepsFlood before after × KeepsList before after × KeepsPlant before after × KeepsAttributes before after
+KeepsOthers (Flood a) before after = KeepsAlarm before after × KeepsList before after × KeepsPlant before after × KeepsAttributes before after
+KeepsOthers (Priority n) before after = KeepsUnlisted before after
+KeepsOthers (Area n) before after = KeepsUnlisted before after
+KeepsOthers (Wheel n) before after = KeepsUnlisted before after
+KeepsOthers Stale before after = KeepsUnlisted before after
+KeepsOthers Chatter before after = KeepsUnlisted before after
+KeepsOthers Plant before after = KeepsAlarm before after × KeepsFlood before after × KeepsList before after × KeepsAttributes before after
+KeepsOthers (Attributes i) before after = KeepsAlarm before after × KeepsFlood before after × KeepsList before after × KeepsPlant before after
 
--- a growth was refused that the list of a plant's alarms needs, and nothing else was done
+-- a growth was refused that the list of a plant's alarms needs, and there was no other change
 abbrev pub WantsRoom : Condensed → Answer → Answer → Type 0
 WantsRoom q before after =
     (vec_capacity before.list < length q.panel.rows) × IsUnchanged before after × (after.refused ≡ one_more before.refused)
@@ -84,7 +110,7 @@ WantsRoom q before after =
 abbrev pub IsListed : Condensed → Choice → Answer → Answer → Result ℕ Refusal → Type 0
 IsListed q list before after (Ok n) =
     (exists list q ≡ true) × (after.list.items ≡ list_of list q) × (n ≡ q.panel.count) × (after.refused ≡ before.refused)
-    × KeepsAlarm before after × KeepsFlood before after
+    × KeepsUnlisted before after
 IsListed q list before after (Err OutOfMemory) = (exists list q ≡ true) × WantsRoom q before after
 IsListed q list before after (Err refusal) = (exists list q ≡ false) × (refusal ≡ NoSuchList) × (after ≡ before)
 
@@ -93,8 +119,8 @@ abbrev pub asks_for : Condensed → Option Choice → Bool
 asks_for q None = false
 asks_for q (Some list) = exists list q
 
--- what may be answered: what the plant tells, under its count, or its refusal; or for a list that is there want of memory, where
--- a growth that it needs was refused
+-- possible answers: what the plant answers, with its count, or its refusal; or out of memory, if the list exists and a growth
+-- that it needs was refused
 abbrev pub IsLook : Condensed → Query → Answer → Answer → Result ℕ Refusal → Type 0
 IsLook q query before after (Ok n) =
     (look q query ≡ Ok (report query after)) × (n ≡ q.panel.count) × (after.refused ≡ before.refused) × KeepsOthers query before after

@@ -1,3 +1,4 @@
+-- For the proofs.
 -- Lists that a measure picks out.
 use Rattle.std.specs.Prelude.{ℕ, List, Bool, true, filter, slice_get, ◌&&◌}
 use Rattle.alm_types.specs.declared.attr.Attr.{Attr}
@@ -14,7 +15,7 @@ measure_of (Wheel n) now moments = true
 measure_of Stale now moments = is_old now moments
 measure_of Chatter now moments = is_frequent now moments
 
--- whether alarm i stands in a list by its row and its last moments
+-- whether alarm i is in a list, by its row and its last moments
 abbrev pub is_measured : Choice → ℕ → List Attr → List State → List (List ℕ) → ℕ → Bool
 is_measured list now attrs rows moments i = is_one (stands_in list) attrs rows i && measure_of list now (moments_in (slice_get moments i))
 

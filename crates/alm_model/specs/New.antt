@@ -9,7 +9,7 @@ use Rattle.alm_model.specs.Plant.{Condensed, Measures}
 abbrev pub at_rest : State
 at_rest = record { active = false; core = Normal; shelved_until = None; by_design = false; out_of_service = false; stamp = 0 }
 
--- nothing was annunciated yet
+-- there was no annunciation yet
 abbrev pub no_measures : ℕ → ℕ → Measures
 no_measures areas alarms = record { ages = replicate areas (replicate 600 0); moments = replicate alarms [] }
 

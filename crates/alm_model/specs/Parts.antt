@@ -1,4 +1,4 @@
--- What parts of a plant stand for.
+-- The plant that its parts make.
 use Rattle.std.specs.Prelude.{ℕ, List, Option, Some, None, slice_get, slice_index}
 use Rattle.alm_model.specs.Plant.{Condensed}
 use Rattle.alm_model.specs.declared.plant_parts.PlantParts.{PlantParts}
@@ -10,7 +10,7 @@ plant_of p = record {
   floods = p.floods.items;
 }
 
--- how many annunciations of an area are of an age, 0 where there is no such area
+-- how many annunciations of an area are of an age, 0 if there is no such area
 abbrev pub age_in : ℕ → Option (List ℕ) → ℕ
 age_in age (Some ages) = slice_index ages age
 age_in age None = 0

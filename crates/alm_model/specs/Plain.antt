@@ -1,4 +1,5 @@
--- What a plain plant stands for.
+-- For the proofs.
+-- The plant that a plain plant holds.
 use Rattle.alm_model.specs.Plant.{Condensed}
 use Rattle.alm_model.specs.declared.plain_rows.PlainRows.TheInside.{Inside}
 

@@ -1,3 +1,4 @@
+-- For the proofs.
 -- What is left of a list by number.
 use Rattle.std.specs.Prelude.{ℕ, ◌-◌, ◌≤◌, ◌≡◌, List, filter, length}
 use Rattle.std.specs.List.{range_with_len}
@@ -5,7 +6,7 @@ use Rattle.alm_model.specs.Measured.{is_measured}
 use Rattle.alm_model.specs.declared.alarms_by_number.AlarmsByNumber.TheInside.{Inside}
 use Rattle.alm_types.specs.Sizes.{most_alarms}
 
--- those of the list that have not been looked at
+-- those of the list that have not been visited
 abbrev pub alarms_left : Inside → List ℕ
 alarms_left n = filter (is_measured n.list n.now n.attrs.now n.rows.now n.moments.now) (range_with_len n.at (length n.rows.now - n.at))
 

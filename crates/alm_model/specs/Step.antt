@@ -8,7 +8,7 @@ use Rattle.alm_state.specs.Rows.{State}
 use Rattle.alm_state.specs.Outcome.{outcome, without_shelving}
 use Rattle.alm_state.specs.declared.outcome.Outcome.{Outcome}
 use Rattle.alm_state.specs.declared.outcome.Outcome.TheVariants.{Changed, Annunciated, Shelved}
-use Rattle.alm_model.specs.Plant.{Panel, PlantOf, Plant, Condensed}
+use Rattle.alm_model.specs.Plant.{Panel, PlantOf, RecordedPlant, Condensed}
 use Rattle.alm_types.specs.Actions.{alarm_of}
 use Rattle.alm_model.specs.Lists.{due}
 use Rattle.alm_model.specs.Keeping.{Keeping, in_full, in_brief, change}
@@ -26,7 +26,7 @@ with_outcome k q i (Changed s) = record q { panel = with_row q.panel i s }
 with_outcome k q i (Annunciated s) = record q { panel = with_stamped q.panel i s; kept = k.note q.panel i q.kept }
 with_outcome k q i (Shelved s) = record q { panel = with_stamped q.panel i s }
 
--- what becomes of an alarm; nothing where there is none
+-- what becomes of an alarm; no change if there is no such alarm
 abbrev pub with_touched_alarm : {M : Type 0} → Keeping M → PlantOf M → ℕ → (Attr → State → Outcome) → Option Attr → Option State → PlantOf M
 with_touched_alarm k q i f (Some a) (Some s) = with_outcome k q i (f a s)
 with_touched_alarm k q i f _ _ = q
@@ -46,15 +46,15 @@ later k t q = record q { panel = record q.panel { now = t }; kept = k.pass (t - 
 abbrev pub with_attributes : {M : Type 0} → PlantOf M → ℕ → (Attr → Attr) → PlantOf M
 with_attributes q i f = record q { panel = record q.panel { attrs = change q.panel.attrs i f } }
 
--- what an action does: the clock moves and then the shelvings end that are due, one after the other; or the alarm that is named gets
--- another priority or setpoint; or it changes
+-- what an action does. The clock moves, and then the shelvings that are due end one after the other; or the alarm that is named
+-- gets another priority or setpoint; or it changes
 abbrev pub with_effect : {M : Type 0} → Keeping M → PlantOf M → Action → PlantOf M
 with_effect k q (Clock t) = fold (unshelve k) (later k t q) (due t q.panel)
 with_effect k q (SetPriority i priority) = with_attributes q i.0 (with_priority priority)
 with_effect k q (SetSetpoint i setpoint) = with_attributes q i.0 (with_setpoint setpoint)
 with_effect k q action = touch k q (alarm_of action) (outcome q.panel.now q.panel.next_stamp action)
 
--- a flood begins where the window is above 10 and ends where it is below 5
+-- a window above 10 starts a flood, and one below 5 ends it
 abbrev pub is_flood : ℕ → Bool → Bool
 is_flood window before = if nat_lt 10 window then true else if nat_lt window 5 then false else before
 
@@ -73,7 +73,7 @@ with_one_more q = record q { panel = record q.panel { count = q.panel.count + 1 
 abbrev pub next_plant : {M : Type 0} → Keeping M → PlantOf M → Action → PlantOf M
 next_plant k q action = settle k (with_effect k (with_one_more q) action)
 
-abbrev pub after : Plant → Action → Plant
+abbrev pub after : RecordedPlant → Action → RecordedPlant
 after = next_plant in_full
 
 abbrev pub step : Condensed → Action → Condensed

@@ -78,11 +78,11 @@ pub trait Alarms {
         requires age { age < 600 }
         ensures { result ≡ age_of (plant self.now) area age };
 
-    /// The last three moments of an alarm, the newest first; none where there is no such alarm.
+    /// The last three moments of an alarm, the newest first; empty if there is no such alarm.
     fn moments(&self, id: AlarmId) -> &[Moment]
         ensures { result.now ≡ moments_in (slice_get (plant self.now).kept.moments id.0) };
 
-    /// How many alarms there are. Whoever holds a plant learns by this call, too, that it keeps the rules of every plant.
+    /// How many alarms there are. By this call the caller of a plant also learns that it keeps the rules of every plant.
     fn alarms(&self) -> usize
         ensures alarms { result ≡ length (plant self.now).panel.rows }
         ensures rules { KeepsRules (plant self.now) };

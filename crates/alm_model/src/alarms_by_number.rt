@@ -21,7 +21,7 @@ pub struct AlarmsByNumber<'a> {
     moments: &'a [Recent],
     list: List,
     now: Moment,
-    /// The first number that has not been looked at.
+    /// The first number that has not been visited.
     at: usize,
 }
 
@@ -38,7 +38,7 @@ impl<'a> Model for AlarmsByNumber<'a> {
 }
 
 impl<'a> AlarmsByNumber<'a> {
-    /// Those of a list at a moment, of alarms whose attributes, rows and last moments stand by number.
+    /// Those of a list at a moment; attributes, rows and last moments of the alarms are by number.
     pub fn new(
         attrs: &'a [Attr],
         rows: &'a [Row],
@@ -62,7 +62,7 @@ impl<'a> AlarmsByNumber<'a> {
     }
 }
 
-/// The first number from a place on whose alarm stands in a list, or how many alarms there are.
+/// The first number from a place on whose alarm is in a list, or how many alarms there are.
 fn first_from(
     attrs: &[Attr],
     rows: &[Row],

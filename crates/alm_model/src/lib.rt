@@ -6,7 +6,7 @@
 //! let count = look(&plant, Query::State(alarm), &mut answer)?;
 //! ```
 //!
-//! The definitions stand in specs/, for contracts and for readers:
+//! The definitions are in specs/, for contracts and for readers:
 //!
 //! | file | what it defines |
 //! |---|---|
@@ -20,9 +20,9 @@
 //! | New, Parts | the new plant of a table, and the plant of its parts |
 //!
 //! What is used above: a plant that is [`Alarms`] is one value, the condensed plant, and each call says what it does to
-//! that value: `check` is the acceptance of the definitions, `apply` their step, `fill` their lists. Only `new`, `build`
-//! and `copy` take memory. [`PlainPlant`] keeps rows by number and makes each list by filter and sort: it is slow, and
-//! faster plants are compared with it. Nothing is promised of time.
+//! that value. `check` is the acceptance of the definitions, `apply` their step, `fill` their lists. Of the calls,
+//! `new`, `build` and `copy` are those that allocate. [`PlainPlant`] stores the rows by number and computes a list by
+//! filtering and sorting: it is slow, and faster plants are compared with it. Not covered: time.
 #![tactic(auto)]
 
 mod ages;

@@ -1,6 +1,6 @@
 //! Lists of alarms.
 
-/// The slots of the wheel, in which shelved alarms stand by the moment at which the shelving ends.
+/// The slots of the wheel, which hold shelved alarms by the moment at which the shelving ends.
 pub const WHEEL_SLOTS: u32 = 256;
 
 /// A list of alarms.

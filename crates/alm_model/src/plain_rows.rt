@@ -18,7 +18,7 @@ use alm_state::Row;
 use alm_types::{AlarmId, Attr, Moment};
 use std::marker::Model;
 
-/// The fields of a plant; what they keep within an action is less than the rules.
+/// The fields of a plant; what they keep during an action is less than the rules.
 #[derive(Drop)]
 pub struct PlainRows {
     clock: Moment,

@@ -9,7 +9,7 @@ use alm_state::Row;
 use alm_types::{Attr, Moment, Table};
 use std::alloc::{AllocError, Global};
 
-/// The fields of a plant, in the open.
+/// The fields of a plant, all public.
 #[derive(Drop)]
 pub struct PlantParts {
     pub clock: Moment,
@@ -30,7 +30,7 @@ impl PlantParts {
     ghost use Rattle.alm_model.specs.Parts.{plant_of};
     ghost use Rattle.alm_model.specs.Rules.{KeepsRules};
 
-    /// The parts of the new plant of a table; an error only for want of memory.
+    /// The parts of the new plant of a table; an error only if out of memory.
     pub fn new(alloc: Global, table: &Table) -> Result<Self, AllocError>
         ensures parts { IfOk result (λ parts. plant_of parts ≡ new_plant table.now) }
         ensures rules { IfOk result (λ parts. KeepsRules (plant_of parts)) }

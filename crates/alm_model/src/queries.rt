@@ -1,12 +1,13 @@
 //! What a plant answers to a query.
 
+ghost use Rattle.alm_types.specs.declared.query.Query.TheVariants.{Attributes};
 ghost use Rattle.alm_model.specs.Look.{IsListed, IsLook};
 
 use crate::alarms::Alarms;
 use crate::list::List;
-use alm_types::{Answer, Query, Refusal};
+use alm_types::{AlarmId, Answer, Query, Refusal};
 
-/// Fills in a list: `NoSuchList` where there is none, `OutOfMemory` where its growth was refused.
+/// Fills in a list: `NoSuchList` if it doesn't exist, `OutOfMemory` if its growth was refused.
 fn look_at_list<P: Alarms>(plant: &P, list: List, answer: &mut Answer) -> Result<u64, Refusal>
     ensures { IsListed (P.plant plant.now) list answer.old answer.new result }
 {
@@ -20,9 +21,23 @@ fn look_at_list<P: Alarms>(plant: &P, list: List, answer: &mut Answer) -> Result
     Ok(plant.count())
 }
 
-/// Puts what a plant answers to a query into `answer`, and tells the count of its actions. `NoSuchAlarm` or `NoSuchList`
-/// where there is none, `OutOfMemory` where the growth of a list was refused; the answer is then as it was, but for its
-/// count of refusals.
+/// Fills in an alarm's attributes. It is a function of its own, since inlined its stack frame would cost each other
+/// query time.
+#[inline(never)]
+fn look_at_attributes<P: Alarms>(
+    plant: &P,
+    alarm: AlarmId,
+    answer: &mut Answer,
+) -> Result<u64, Refusal>
+    ensures { IsLook (P.plant plant.now) (Attributes alarm) answer.old answer.new result }
+{
+    answer.attr = Some(plant.attr(alarm).ok_or(Refusal::NoSuchAlarm)?);
+    Ok(plant.count())
+}
+
+/// Puts what a plant answers to a query into `answer`, and returns the count of the plant's actions. The refusals are
+/// `NoSuchAlarm`, `NoSuchList`, and `OutOfMemory` if the growth of a list was refused; the answer is then unchanged,
+/// except for its count of refused growths.
 pub fn look<P: Alarms>(plant: &P, query: Query, answer: &mut Answer) -> Result<u64, Refusal>
     ensures { IsLook (P.plant plant.now) query answer.old answer.new result }
 {
@@ -46,5 +61,12 @@ pub fn look<P: Alarms>(plant: &P, query: Query, answer: &mut Answer) -> Result<u
         Query::Wheel(n) => look_at_list(plant, List::Wheel(n), answer),
         Query::Stale => look_at_list(plant, List::Stale, answer),
         Query::Chatter => look_at_list(plant, List::Chatter, answer),
+        Query::Plant => {
+            answer.moment = plant.now().seconds();
+            answer.alarms = plant.alarms() as u64;
+            answer.areas = plant.areas() as u64;
+            Ok(plant.count())
+        }
+        Query::Attributes(alarm) => look_at_attributes(plant, alarm, answer),
     }
 }

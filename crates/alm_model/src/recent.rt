@@ -27,14 +27,14 @@ impl Model for Recent {
     ghost invariant = { λ r. r.count ≤ 3 };
 }
 
-/// Whether a moment lies within the last minute.
+/// Whether a moment is within the last minute.
 fn is_near(moment: Moment, now: Moment) -> bool
     ensures { result ≡ nat_lt now (moment + 60) }
 {
     now.seconds() < moment.seconds() + 60
 }
 
-/// How many moments lie within the last minute.
+/// How many moments are within the last minute.
 #[tactic(auto, using(std::proofs::lemmas::List::Sums::count_by_more_yes, std::proofs::lemmas::List::Sums::count_by_more_no))]
 fn count_near(moments: &[Moment], now: Moment) -> usize
     ensures { result ≡ count_by (λ m. nat_lt now (m + 60)) moments.now }

@@ -1,4 +1,4 @@
-//! Which alarms a list wants.
+//! Which alarms a list consists of.
 
 ghost use Rattle.std.specs.Prelude.{◌≡◌};
 ghost use Rattle.alm_model.specs.Lists.{stands_in};
@@ -7,7 +7,7 @@ use crate::list::{List, WHEEL_SLOTS};
 use alm_state::Row;
 use alm_types::{Attr, Moment};
 
-/// Whether an alarm stands in a list, the measures aside.
+/// Whether an alarm is in a list, the measures aside.
 pub(crate) fn stands_in(list: List, attr: &Attr, row: &Row) -> bool
     ensures { result ≡ stands_in list attr.now row.now }
 {
@@ -37,7 +37,7 @@ pub enum Wanted {
 impl Wanted {
     ghost use Rattle.alm_model.specs.Ordering.{is_wanted};
 
-    /// Whether it wants an alarm.
+    /// Whether an alarm is wanted.
     pub fn has(&self, attr: &Attr, row: &Row) -> bool
         ensures { result ≡ is_wanted self.now attr.now row.now }
     {

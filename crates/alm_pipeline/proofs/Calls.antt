@@ -4,7 +4,7 @@ use Rattle.alm_types.specs.Batches.{Judged}
 use Rattle.alm_model.specs.Judging.{accepted_of}
 use Rattle.alm_store.specs.declared.phase.Phase.{Phase}
 use Rattle.alm_store.specs.declared.phase.Phase.TheVariants.{Idle, Committing, Copying, Paused, Stopped}
-use Rattle.alm_store.specs.Advancing.{IsOpen}
+use Rattle.alm_store.specs.Advancing.{IsCheckpointing}
 use Rattle.alm_flush.specs.Advances.{IsSure}
 use Rattle.alm_flush.specs.declared.held.Held.{Held}
 use Rattle.alm_flush.specs.declared.held.Held.TheVariants.{Nothing, Fetched, Failed, Committed, Published}
@@ -24,7 +24,7 @@ committed_batch p (Failed b) h' is = absurd is
 committed_batch p (Committed b) h' is = absurd is
 committed_batch p (Published b n) h' is = absurd is
 
--- a commit goes on, and the batch stays; or a checkpoint goes on
+-- a commit continues, and the batch stays; or a checkpoint continues
 pub going_batch : (p : Phase) (h h' : Held) → AdvanceAnswers A.More p h h' → (h' ≡ h) × ((b : Judged) → h ≡ Fetched b → 0 < length (accepted_of b.entries))
 going_batch p Nothing h' is = (is.0, λ b e. absurd cc)
 going_batch p (Fetched b) h' is = (is.0, λ c e. subst (λ (x : Held). 0 < length (to_commit x)) e is.2)
@@ -32,7 +32,7 @@ going_batch p (Failed b) h' is = absurd is
 going_batch p (Committed b) h' is = (is.0, λ c e. absurd cc)
 going_batch p (Published b n) h' is = (is.0, λ c e. absurd cc)
 
--- a call that fails before a commit was given up: of a batch with actions, or without a batch to commit
+-- a call that fails before a commit has failed permanently: of a batch with actions, or without a batch to commit
 pub failed_batch : (p : Phase) (h h' : Held) → p ≢ Stopped → ¬ (IsGivenUp h) → AdvanceAnswers A.Failed p h h' → ((b : Judged) × (h ≡ Fetched b) × (h' ≡ Failed b) × (0 < length (accepted_of b.entries))) ⊎ (IsFree h × (h' ≡ h))
 failed_batch p Nothing h' going trying is = inr (tt, is.0)
 failed_batch p (Fetched b) h' going trying is = inl (b, refl, is.0, is.1 going)
@@ -40,7 +40,7 @@ failed_batch p (Failed b) h' going trying is = absurd (trying tt)
 failed_batch p (Committed b) h' going trying is = inr (tt, is.0)
 failed_batch p (Published b n) h' going trying is = inr (tt, is.0)
 
--- nothing is to be committed
+-- no batch is to be committed
 pub no_batch : (p : Phase) (h h' : Held) → AdvanceAnswers A.Nothing p h h' → h' ≡ h
 no_batch p Nothing h' is = is.0
 no_batch p (Fetched b) h' is = absurd is
@@ -62,17 +62,17 @@ not_yet (Failed b) h' is = is
 not_yet (Committed b) h' is = absurd is
 not_yet (Published b n) h' is = is
 
--- ---- where a device call is possible
+-- ---- if a device call is possible
 
-pub open_else : (p : Phase) → p ≢ Idle → p ≢ Committing → p ≢ Stopped → IsOpen p
+pub open_else : (p : Phase) → p ≢ Idle → p ≢ Committing → p ≢ Stopped → IsCheckpointing p
 open_else Idle not_idle not_committing going = absurd (not_idle refl)
 open_else Committing not_idle not_committing going = absurd (not_committing refl)
 open_else Copying not_idle not_committing going = tt
 open_else Paused not_idle not_committing going = tt
 open_else Stopped not_idle not_committing going = absurd (going refl)
 
--- a call went on: a batch waits, or a checkpoint is open
-pub goes_with : (p : Phase) (h h' : Held) → AdvanceAnswers A.More p h h' → IsHeld (stage_of h) ⊎ IsOpen p
+-- a call returned More: a batch waits, or a checkpoint is open
+pub goes_with : (p : Phase) (h h' : Held) → AdvanceAnswers A.More p h h' → IsHeld (stage_of h) ⊎ IsCheckpointing p
 goes_with p Nothing h' is = inr is.1
 goes_with p (Fetched b) h' is = inl tt
 goes_with p (Failed b) h' is = absurd is
@@ -80,33 +80,33 @@ goes_with p (Committed b) h' is = inr is.1
 goes_with p (Published b n) h' is = inr is.1
 
 -- a call failed: the same
-pub fails_with : (p : Phase) (h h' : Held) → p ≢ Stopped → (accepted_of (waiting_of h) ≡ [] → p ≢ Committing) → AdvanceAnswers A.Failed p h h' → IsHeld (stage_of h) ⊎ IsOpen p
+pub fails_with : (p : Phase) (h h' : Held) → p ≢ Stopped → (accepted_of (waiting_of h) ≡ [] → p ≢ Committing) → AdvanceAnswers A.Failed p h h' → IsHeld (stage_of h) ⊎ IsCheckpointing p
 fails_with p Nothing h' going idle is = inr (open_else p is.1 (idle refl) going)
 fails_with p (Fetched b) h' going idle is = inl tt
 fails_with p (Failed b) h' going idle is = inl tt
 fails_with p (Committed b) h' going idle is = inr (open_else p is.1 (idle refl) going)
 fails_with p (Published b n) h' going idle is = inr (open_else p is.1 (idle refl) going)
 
-pub may_call : (w : World) (d : Sight) (h : Held) (p : Phase) → w.closed ≡ false → stage_of h ≡ w.stage → p ≡ d.phase → IsHeld (stage_of h) ⊎ IsOpen p → MayCall w d
+pub may_call : (w : World) (d : Sight) (h : Held) (p : Phase) → w.closed ≡ false → stage_of h ≡ w.stage → p ≡ d.phase → IsHeld (stage_of h) ⊎ IsCheckpointing p → MayCall w d
 may_call w d h p opened stage phase (inl held) = (opened, inl (subst IsHeld stage held))
-may_call w d h p opened stage phase (inr open') = (opened, inr (subst IsOpen phase open'))
+may_call w d h p opened stage phase (inr open') = (opened, inr (subst IsCheckpointing phase open'))
 
 -- no call was made: neither
-none_waits : (p : Phase) (h h' : Held) → AdvanceAnswers A.Nothing p h h' → ¬ (IsHeld (stage_of h) ⊎ IsOpen p)
+none_waits : (p : Phase) (h h' : Held) → AdvanceAnswers A.Nothing p h h' → ¬ (IsHeld (stage_of h) ⊎ IsCheckpointing p)
 none_waits p Nothing h' is (inl held) = held
-none_waits p Nothing h' is (inr open') = subst IsOpen is.1 open'
+none_waits p Nothing h' is (inr open') = subst IsCheckpointing is.1 open'
 none_waits p (Fetched b) h' is either = is
 none_waits p (Failed b) h' is either = is
 none_waits p (Committed b) h' is (inl held) = held
-none_waits p (Committed b) h' is (inr open') = subst IsOpen is.1 open'
+none_waits p (Committed b) h' is (inr open') = subst IsCheckpointing is.1 open'
 none_waits p (Published b n) h' is (inl held) = held
-none_waits p (Published b n) h' is (inr open') = subst IsOpen is.1 open'
+none_waits p (Published b n) h' is (inr open') = subst IsCheckpointing is.1 open'
 
 pub may_not_call : (w : World) (d : Sight) (h h' : Held) (p : Phase) → stage_of h ≡ w.stage → p ≡ d.phase → AdvanceAnswers A.Nothing p h h' → ¬ (MayCall w d)
 may_not_call w d h h' p stage phase is (opened, inl held) = none_waits p h h' is (inl (subst IsHeld (sym stage) held))
-may_not_call w d h h' p stage phase is (opened, inr open') = none_waits p h h' is (inr (subst IsOpen (sym phase) open'))
+may_not_call w d h h' p stage phase is (opened, inr open') = none_waits p h h' is (inr (subst IsCheckpointing (sym phase) open'))
 
--- no checkpoint is to be begun where work is under way
+-- no checkpoint is to begin if work is under way
 pub sure_working : (p : Phase) (takes : Type 0) → p ≢ Stopped → p ≢ Idle → IsSure p takes
 sure_working Idle takes going working = absurd (working refl)
 sure_working Committing takes going working = tt

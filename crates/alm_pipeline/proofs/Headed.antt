@@ -24,7 +24,7 @@ use Rattle.alm_pipeline.specs.World.{World}
 use Rattle.alm_store.specs.Recovery.{IsFrontPlant}
 use Rattle.alm_store.proofs.Recovery.{front_prop, front_is, safe_by}
 use Rattle.alm_pipeline.specs.Headline.{Headline}
-use Rattle.alm_pipeline.specs.Matches.{entries_of, Fits}
+use Rattle.alm_pipeline.specs.Matches.{entries_of, MatchesWorld}
 
 flat : List (List Entry) → List Entry
 flat [] = []
@@ -81,7 +81,7 @@ history_split before fetched sealed h waiting taking held is =
 
 module _ {K D : Type 0} {g : Ghosts K D} {d : Disk.Ghosts D} where
   -- the stored plant, and the one of the commit
-  pub stored_front : (w : World) (p : Pipeline K D g d) → Fits w p → IsFrontPlant w.base w.accepted w.floor (g.state p.flusher.store).stored × IsFrontPlant w.base w.accepted w.floor (run (g.state p.flusher.store).stored (accepted_of (waiting_of p.flusher.held)))
+  pub stored_front : (w : World) (p : Pipeline K D g d) → MatchesWorld w p → IsFrontPlant w.base w.accepted w.floor (g.state p.flusher.store).stored × IsFrontPlant w.base w.accepted w.floor (run (g.state p.flusher.store).stored (accepted_of (waiting_of p.flusher.held)))
   stored_front w p f =
       let l = f.lists in
       let before = entries_in (fetched_of p.flusher.before.value) in
@@ -100,7 +100,7 @@ module _ {K D : Type 0} {g : Ghosts K D} {d : Disk.Ghosts D} where
             (front_is w.base w.accepted w.floor (w.stored ++ waiting) split.0 whole (omega (arith, enough, length-append w.stored waiting))),
       )
 
-  pub headline : (w : World) (p : Pipeline K D g d) → Fits w p
+  pub headline : (w : World) (p : Pipeline K D g d) → MatchesWorld w p
       → ((image : List ℕ) → IsImage (d.state (g.disk p.flusher.store)) image → ∥ g.recovers image (g.state p.flusher.store).stored ⊎ g.recovers image (g.state p.flusher.store).next ∥₁)
       → ((image : List ℕ) (p q : Condensed) → g.recovers image p → g.recovers image q → p ≡ q)
       → ((image : List ℕ) (p : Condensed) → AreBytes image → g.recovers image p → KeepsRules p)

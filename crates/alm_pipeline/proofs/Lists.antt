@@ -38,7 +38,7 @@ next_sealed fetched coming sealed later b waiting all is some p =
       split ∙ (sym (append_assoc (entries_of fetched) (b.entries ∷ []) (entries_of h.0)) ∙ ap (λ l. l ++ entries_of h.0) (sym (lists_append fetched (b ∷ [])))),
     )
 
--- none waits where none is known to
+-- none waits if none is known to
 pub none_sealed : (fetched coming sealed : List Judged) (waiting : List (List Entry)) → fetched ++ coming ≡ sealed → entries_of sealed ≡ entries_of fetched ++ waiting → ¬ (0 < length coming) → ¬ (0 < length waiting)
 none_sealed fetched [] sealed waiting all is none some =
     let e : waiting ≡ [] = cancel (entries_of fetched) waiting [] (sym is ∙ (ap entries_of (sym all) ∙ lists_append fetched [])) in

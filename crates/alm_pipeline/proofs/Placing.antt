@@ -1,4 +1,4 @@
--- Ends where one of them was told something.
+-- Ends of which one was synchronised.
 use Rattle.std.proofs.Common.{◌≡◌, ◌≢◌, ◌⊎◌, inl, inr, ◌∙◌, ◌<◌, ◌∷◌, [], ℕ, zero, suc, List, length, Option, Some, None, slice_get, slice_set, is_some, true, refl, sym, ap, arith, eq-eqb, ◌==◌, false, subst}
 use Rattle.std.proofs.lemmas.Option.{none-some, same_Some}
 use Rattle.rtrb.specs.Ends.{SameRing}

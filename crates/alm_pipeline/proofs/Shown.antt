@@ -20,21 +20,21 @@ use Rattle.alm_pipeline.specs.declared.step.Step.TheVariants.{Look}
 use Rattle.alm_pipeline.specs.declared.event.Event.TheVariants.{Skipped}
 use Rattle.alm_pipeline.specs.World.{World, shown_in}
 use Rattle.alm_pipeline.specs.Headline.{Moves}
-use Rattle.alm_pipeline.specs.Matches.{Fits, IsOpen, sight_in}
+use Rattle.alm_pipeline.specs.Matches.{MatchesWorld, MatchesOpenWorld, sight_in}
 
 pub was_ok : {A E : Type 0} (r : Result A E) (x : A) → r ≡ Ok x → IsOk r
 was_ok r x is = subst IsOk (sym is) refl
 
 module _ {K D : Type 0} {g : Ghosts K D} {d : Disk.Ghosts D} where
-  pub shown_plant : (w : World) (p : Pipeline K D g d) → Fits w p → run p.flusher.board.base.value (actions_of p.flusher.board.log) ≡ shown_in w
+  pub shown_plant : (w : World) (p : Pipeline K D g d) → MatchesWorld w p → run p.flusher.board.base.value (actions_of p.flusher.board.log) ≡ shown_in w
   shown_plant w p f =
       let l = f.lists in
       let log = actions_of p.flusher.board.log in
       let shown = accepted_of (entries_in (fetched_of p.flusher.before.value) ++ published_entries p.flusher.held) in
       ap (λ b. run b log) l.stored_from ∙ (sym (run_append w.base l.opened log) ∙ (ap (λ x. run w.base (l.opened ++ x)) p.flusher.published ∙ ap (run w.base) (sym l.shown)))
 
-  -- a look raises the floor alone
-  pub looked_at : (w : World) (p : Pipeline K D g d) (count : ℕ) → count ≤ w.base.panel.count + length w.published → IsOpen w p → IsOpen (record w { floor = max w.floor count }) p
+  -- a look only raises the floor
+  pub looked_at : (w : World) (p : Pipeline K D g d) (count : ℕ) → count ≤ w.base.panel.count + length w.published → MatchesOpenWorld w p → MatchesOpenWorld (record w { floor = max w.floor count }) p
   looked_at w p count few o =
       let f = o.fits in
       let l = f.lists in
@@ -53,7 +53,7 @@ not_ok : {A E : Type 0} (r : Result A E) (e : E) → r ≡ Err e → ¬ (IsOk r)
 not_ok {A = A} r e is ok = let bad : IsOk {T = A} (Err e) = subst IsOk is ok in absurd (cc bad)
 
 module _ {K D : Type 0} {g : Ghosts K D} {d : Disk.Ghosts D} where
-  -- a look that is possible is skipped only where a growth was refused
+  -- a look that is possible is skipped only if a growth was refused
   pub skips : (w : World) (slot : ℕ) (p : Pipeline K D g d) (q : Condensed) (query : Query) (refusal : Refusal) (before after : Answer) → q ≡ shown_in w → IsLook q query before after (Err refusal)
       → Moves g.recovers g.spent w (Look slot query) Skipped (sight_in before.refused p) (sight_in after.refused p)
   skips w slot p q query OutOfMemory before after shows is = inr (ap (λ n. sight_in n p) is.1.2)

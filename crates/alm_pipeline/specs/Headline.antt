@@ -1,5 +1,5 @@
--- The headline: after a crash at any moment the device stands for the plant of a front of the accepted actions, which holds all that
--- was told or shown. And the runs of a world beside its device, at each point of which it holds.
+-- The headline: after a crash at any moment the device encodes the plant that a prefix of the accepted actions makes. The prefix
+-- contains all that was reported or shown. Also the runs of a world with its device, at each point of which it holds.
 use Rattle.std.specs.Prelude.{◌≡◌, ◌≢◌, ◌⊎◌, ◌<◌, ◌-◌, ℕ, false, List, [], ◌∷◌, length, take}
 use Rattle.alm_disk.specs.Device.{DeviceState, IsImage, Crashes}
 use Rattle.alm_disk.specs.Failures.{HasFailed}
@@ -10,7 +10,7 @@ use Rattle.alm_model.specs.Judging.{accepted_of}
 use Rattle.alm_store.specs.Calls.{IsCall}
 use Rattle.alm_store.specs.declared.phase.Phase.{Phase}
 use Rattle.alm_store.specs.declared.phase.Phase.TheVariants.{Idle, Committing, Stopped}
-use Rattle.alm_store.specs.Advancing.{IsCalls, IsOpen}
+use Rattle.alm_store.specs.Advancing.{IsCalls, IsCheckpointing}
 use Rattle.alm_store.specs.Opening.{HasCause}
 use Rattle.alm_store.specs.Recovery.{IsSafe}
 use Rattle.alm_pipeline.specs.Named.{names_byte}
@@ -22,8 +22,8 @@ use Rattle.alm_pipeline.specs.declared.event.Event.TheVariants.{More, Committed,
 
 -- ---- runs
 
--- what contracts see of a device: its state, how often a call of it has failed, where the store over it stands, and how many growths
--- were refused that looks at lists need
+-- what contracts see of a device: its state, how often a call of it has failed, and the phase of the store over it.
+-- Also how many growths were refused that looks at lists need
 pub record Sight : Type 0 where
   pub state : DeviceState
   pub failures : ℕ
@@ -36,19 +36,22 @@ device_alone state' failures' refused' = record { state = state'; failures = fai
 
 -- a device call is possible: a batch waits for its commit, or a checkpoint is open
 abbrev pub MayCall : World → Sight → Type 0
-MayCall w d = (w.closed ≡ false) × (IsHeld w.stage ⊎ IsOpen d.phase)
+MayCall w d = (w.closed ≡ false) × (IsHeld w.stage ⊎ IsCheckpointing d.phase)
 
--- which bytes stand for which plant, and which device stands at the last epoch
+-- which bytes encode which plant, and which device is at the last epoch
 module _ (recovers : List ℕ → Condensed → Type 0) (spent : DeviceState → Type 0) where
   -- each image that a crash may leave of the device is safe
   abbrev pub Headline : World → DeviceState → Type 0
   Headline w state = (image : List ℕ) → IsImage state image → IsSafe recovers w.base w.accepted w.floor image
 
-  -- What a step that was answered so does to the device. A Call is one write or one sync, done or failed, or nothing for a batch
-  -- without actions; it is skipped only where no batch waits and no checkpoint is open. It fails only where the device failed in it,
-  -- or where nothing was under way in the last epoch, so that a checkpoint was due; and where it goes on the device didn't fail. A look that is possible is skipped only where a
-  -- growth of its list was refused. A crash leaves the bytes that it names. A reopening reads an image, and answers what it stands
-  -- for, or a fault with its cause. No other step touches the device.
+  -- What a step with this answer does to the device.
+  -- - A Call is one write or one sync, done or failed, or none for a batch without actions. It is skipped only if no batch waits
+  --   and no checkpoint is open. If there is more to do the device didn't fail. It fails only if the device failed in it, or if
+  --   no work was under way in the last epoch, so that a checkpoint was due.
+  -- - A look that is possible is skipped only if a growth of its list was refused.
+  -- - A crash leaves the bytes that it names.
+  -- - A reopening reads an image, and answers what it encodes, or a fault with its cause.
+  -- - No other step touches the device.
   abbrev pub Moves : World → Step → Event → Sight → Sight → Type 0
   Moves w Call More d d' = MayCall w d × IsCall d.state d'.state × (d'.failures ≡ d.failures) × (d'.phase ≢ Stopped) × (d'.refused ≡ d.refused)
   Moves w Call Committed d d' =
@@ -65,7 +68,7 @@ module _ (recovers : List ℕ → Condensed → Type 0) (spent : DeviceState →
   Moves w Reopen (Unopened fault) d d' = ((image : List ℕ) → IsImage d'.state image → IsImage d.state image) × HasCause recovers d.state fault d.failures d'.failures × (d'.refused ≡ d.refused)
   Moves w step event d d' = d' ≡ d
 
-  -- the world's run of these steps, from a device to a device: each entry answers its step, the device moves as the step lets it,
+  -- the world's run of these steps, from a device to a device. Each entry answers its step, the device moves as the step lets it,
   -- and the headline holds before the first step and after each
   abbrev pub IsRun : World → Sight → List Step → List Event → Sight → Type 0
   IsRun w d [] [] d' = Headline w d.state × (d' ≡ d)

@@ -31,12 +31,12 @@ use Rattle.alm_pipeline.specs.declared.step.Step.{Step}
 use Rattle.alm_pipeline.specs.declared.step.Step.TheVariants.{Call, Crash, Reopen}
 use Rattle.alm_pipeline.specs.declared.event.Event.{Event}
 use Rattle.alm_pipeline.specs.declared.event.Event.TheVariants.{More, Committed, Failed, Skipped}
-use Rattle.alm_pipeline.specs.World.{World, Stage, Nothing, Held, Stored, Shown, Note, after_step}
+use Rattle.alm_pipeline.specs.World.{World, BatchStage, Nothing, Held, Stored, Shown, Note, after_step}
 use Rattle.alm_pipeline.specs.Headline.{Sight}
 use Rattle.alm_types.specs.Sizes.{most_out}
 
 -- how far the flusher's batch is
-abbrev pub stage_of : H.Held → Stage
+abbrev pub stage_of : H.Held → BatchStage
 stage_of V.Nothing = Nothing
 stage_of (V.Fetched b) = Held b.entries
 stage_of (V.Failed b) = Held b.entries
@@ -49,12 +49,12 @@ entries_of [] = []
 entries_of (b ∷ batches) = b.entries ∷ entries_of batches
 
 -- how many batches are held
-abbrev pub batch_held_at : Stage → ℕ
+abbrev pub batch_held_at : BatchStage → ℕ
 batch_held_at Nothing = 0
 batch_held_at stage = 1
 
 -- the parts have these batches
-pub record Batches (taking : List Entry) (sealed : List (List Entry)) (free : ℕ) (stage : Stage) (open' : Judged) (spare : ℕ) (s : SealEnds) (f : FetchEnds) (h : H.Held) : Type 0 where
+pub record Batches (taking : List Entry) (sealed : List (List Entry)) (free : ℕ) (stage : BatchStage) (open' : Judged) (spare : ℕ) (s : SealEnds) (f : FetchEnds) (h : H.Held) : Type 0 where
   pub entries : open'.entries ≡ taking
   pub waiting : entries_of (sealed_of s) ≡ entries_of (fetched_of f) ++ sealed
   pub held : stage_of h ≡ stage
@@ -121,38 +121,38 @@ IsInner Reopen = ⊥
 IsInner step = Unit {0}
 
 module _ {K D : Type 0} {g : Ghosts K D} {d : Disk.Ghosts D} where
-  -- what contracts see of its device, where so many growths were refused
+  -- what contracts see of its device, if n growths were refused
   abbrev pub sight_in : ℕ → Pipeline K D g d → Sight
   sight_in n p = record { state = d.state (g.disk p.flusher.store); failures = d.failures (g.disk p.flusher.store); phase = (g.state p.flusher.store).phase; refused = n }
 
-  -- no checkpoint is to be begun by its next call
+  -- its next call begins no checkpoint
   abbrev pub CallsSurely : Pipeline K D g d → Type 0
   CallsSurely p = IsSure (g.state p.flusher.store).phase (g.takes p.flusher.store (to_commit p.flusher.held))
 
-  pub record Fits (w : World) (p : Pipeline K D g d) : Type 0 where
+  pub record MatchesWorld (w : World) (p : Pipeline K D g d) : Type 0 where
     pub slots : Slots w.sent w.taken w.released w.received p.consoles.items p.sequencer.inboxes.items p.flusher.outboxes.items
     pub batches : Batches w.taking w.sealed w.free w.stage p.sequencer.batch (spares p.sequencer.spare) p.sequencer.ends p.flusher.fetch p.flusher.held
     pub lists : FitLists w.base w.accepted w.stored w.published w.floor p.sequencer.base.value p.flusher.board.base.value (entries_in (sealed_of p.sequencer.ends)) p.sequencer.batch.entries (entries_in (fetched_of p.flusher.before.value)) p.flusher.held
 
   -- the parts are those of an open world
-  pub record IsOpen (w : World) (p : Pipeline K D g d) : Type 0 where
+  pub record MatchesOpenWorld (w : World) (p : Pipeline K D g d) : Type 0 where
     pub opened : w.closed ≡ false
-    pub fits : Fits w p
+    pub fits : MatchesWorld w p
     pub going : (g.state p.flusher.store).phase ≢ Stopped
     pub trying : ¬ (IsGivenUp p.flusher.held)
 
   -- after a call that failed the parts still fit the world that the failure shuts
   abbrev pub CallFits : World → Event → Pipeline K D g d → Type 0
-  CallFits w Failed p = Fits w p
-  CallFits w event p = IsOpen (after_step w Call event) p
+  CallFits w Failed p = MatchesWorld w p
+  CallFits w event p = MatchesOpenWorld (after_step w Call event) p
 
-  -- the commit of the fetched batch is done in at most so many calls
-  abbrev pub EndsIn : ℕ → Pipeline K D g d → Type 0
-  EndsIn m p = let actions = to_commit p.flusher.held in let s = p.flusher.store in Within m (g.state s).phase (g.state s).left (g.takes s actions) (g.will_take s actions) (length actions)
+  -- the commit of the fetched batch is done in at most m calls
+  abbrev pub CommitsIn : ℕ → Pipeline K D g d → Type 0
+  CommitsIn m p = let actions = to_commit p.flusher.held in let s = p.flusher.store in Within m (g.state s).phase (g.state s).left (g.takes s actions) (g.will_take s actions) (length actions)
 
   -- the ends of a slot, and those of the batch rings, know what the others did
-  abbrev pub Knows : ℕ → Pipeline K D g d → Type 0
-  Knows s p = KnowsSlot s p.consoles.items p.sequencer.inboxes.items p.flusher.outboxes.items
+  abbrev pub KnowsAtSlot : ℕ → Pipeline K D g d → Type 0
+  KnowsAtSlot s p = KnowsSlot s p.consoles.items p.sequencer.inboxes.items p.flusher.outboxes.items
 
   abbrev pub KnowsAll : Pipeline K D g d → Type 0
   KnowsAll p = KnowsBatches p.sequencer.ends p.flusher.fetch

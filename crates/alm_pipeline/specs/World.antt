@@ -1,5 +1,5 @@
--- The world: plain lists of what was sent, accepted, stored, shown and told; which steps are possible in it, what each step answers,
--- and what the world is then. What a slot has seen is no part of it: no answer depends on that.
+-- The world: plain lists of what was sent, accepted, stored, shown and reported; which steps are possible in it, what each step
+-- answers, and what the world is then. What a slot has seen is not in it: no answer depends on that.
 use Rattle.std.specs.Prelude.{suc, ◌≡◌, ◌⊎◌, ◌<◌, ◌≤◌, ◌+◌, ◌-◌, ◌^◌, ◌==◌, if◌then◌else◌, ℕ, Bool, true, false, max, List, [], ◌∷◌, ◌++◌, length, take, drop, slice_get, Option, Some, None, is_some, IsOk}
 use Rattle.alm_types.specs.declared.action.Action.{Action}
 use Rattle.alm_types.specs.declared.entry.Entry.{Entry}
@@ -18,12 +18,12 @@ use Rattle.alm_types.specs.Sizes.{most_entries, most_out}
 
 -- ---- the world
 
--- the batch that was fetched, and how far it is: held, stored, and shown with so many of its verdicts released
-pub data Stage : Type 0 where
-  Nothing : Stage
-  Held : List Entry → Stage
-  Stored : List Entry → Stage
-  Shown : List Entry → ℕ → Stage
+-- the batch that was fetched, and its progress: held, stored, and shown with a number of its verdicts released
+pub data BatchStage : Type 0 where
+  Nothing : BatchStage
+  Held : List Entry → BatchStage
+  Stored : List Entry → BatchStage
+  Shown : List Entry → ℕ → BatchStage
 
 -- what a receipt says: the request's serial, its verdict, and the count of the plant with all accepted actions up to it
 pub record Note : Type 0 where
@@ -32,7 +32,7 @@ pub record Note : Type 0 where
   pub number : ℕ
 
 pub record World : Type 0 where
-  -- the plant that the device stood for at the very first, and all accepted actions since
+  -- the plant that the device encoded at the very first, and all accepted actions since
   pub base : Condensed
   pub accepted : List Action
   -- what each slot has sent, and how many of it were taken
@@ -45,7 +45,7 @@ pub record World : Type 0 where
   pub taking : List Entry
   pub sealed : List (List Entry)
   pub free : ℕ
-  pub stage : Stage
+  pub stage : BatchStage
   -- how far the accepted list is stored, and shown
   pub stored : List Action
   pub published : List Action
@@ -61,11 +61,11 @@ live w = run w.base w.accepted
 abbrev pub shown_in : World → Condensed
 shown_in w = run w.base w.published
 
--- the same, but for one slot
+-- the same, except for one slot
 abbrev pub with_at : {A : Type 0} → (ℕ → A) → ℕ → A → ℕ → A
 with_at f slot x s = if s == slot then x else f s
 
--- an open world with nothing under way
+-- an open world with no work under way
 abbrev pub new_world : Condensed → List Action → ℕ → World
 new_world plant kept least = record {
   base = plant;
@@ -99,23 +99,23 @@ abbrev pub entry_for : World → ℕ → Option Action → Verdict → List Entr
 entry_for w slot None v = []
 entry_for w slot (Some a) v = record { slot = slot; serial = w.taken slot + 1; want = a; verdict = v } ∷ []
 
-abbrev pub IsHeld : Stage → Type 0
+abbrev pub IsHeld : BatchStage → Type 0
 IsHeld (Held entries) = Unit {0}
 IsHeld stage = ⊥
 
-abbrev pub IsStored : Stage → Type 0
+abbrev pub IsStored : BatchStage → Type 0
 IsStored (Stored entries) = Unit {0}
 IsStored stage = ⊥
 
-abbrev pub HasVerdicts : Stage → Type 0
+abbrev pub HasVerdicts : BatchStage → Type 0
 HasVerdicts (Shown entries n) = n < length entries
 HasVerdicts stage = ⊥
 
-abbrev pub IsReleased : Stage → Type 0
+abbrev pub IsReleased : BatchStage → Type 0
 IsReleased (Shown entries n) = length entries ≤ n
 IsReleased stage = ⊥
 
-abbrev pub entries_at : Stage → List Entry
+abbrev pub entries_at : BatchStage → List Entry
 entries_at Nothing = []
 entries_at (Held entries) = entries
 entries_at (Stored entries) = entries
@@ -126,12 +126,12 @@ abbrev pub note_of : World → List Entry → ℕ → Option Entry → List Note
 note_of w entries n None = []
 note_of w entries n (Some e) = record { serial = e.serial; verdict = e.verdict; number = w.base.panel.count + length w.published - length (accepted_of (drop (suc n) entries)) } ∷ []
 
-abbrev pub next_notes : World → Stage → List Note
+abbrev pub next_notes : World → BatchStage → List Note
 next_notes w (Shown entries n) = note_of w entries n (slice_get entries n)
 next_notes w stage = []
 
 -- the entry whose verdict is the next
-abbrev pub next_entry : Stage → Option Entry
+abbrev pub next_entry : BatchStage → Option Entry
 next_entry (Shown entries n) = slice_get entries n
 next_entry stage = None
 
@@ -168,7 +168,7 @@ IsStorageFault F.OutOfMemory = Unit {0}
 IsStorageFault F.Unformatted = ⊥
 IsStorageFault (F.Damaged half at) = ⊥
 
--- the trace entry is an answer of this step. Which of More, Committed and Failed, the device decides; a Call is possible also where a
+-- the trace entry is an answer of this step. More, Committed or Failed is decided by the device. A Call is also possible if a
 -- checkpoint is open, as the device's own phase says: MayCall and Moves of Headline
 abbrev pub Answers : World → Step → Event → Type 0
 Answers w (Send slot a) (Sent serial) = Possible w (Send slot a) × (length (w.sent slot) < most_out + w.received slot) × (serial ≡ length (w.sent slot) + 1)
@@ -184,7 +184,7 @@ Answers w Release (Released slot) = Possible w Release × goes_to (next_entry w.
 Answers w GiveBack GaveBack = Possible w GiveBack
 Answers w (Receive slot) (Received serial verdict number) = Possible w (Receive slot) × says (slice_get (w.released slot) (w.received slot)) serial verdict number
 Answers w (Look slot query) (Looked count) = Possible w (Look slot query) × (count ≡ w.base.panel.count + length w.published)
--- a look is refused where its alarm or list doesn't exist; one at a list also for want of memory, which Moves counts
+-- a look is refused if its alarm or list doesn't exist; one at a list also if out of memory, which Moves counts
 Answers w (Look slot query) Skipped = ¬ (Possible w (Look slot query)) ⊎ (is_some (asks_list query) ≡ true)
 Answers w (Crash bytes) Crashed = Unit {0}
 Answers w Reopen (Opened n) = Possible w Reopen × (w.floor ≤ n) × (n ≤ w.base.panel.count + length w.accepted)
@@ -194,7 +194,7 @@ Answers w step event = ⊥
 
 -- ---- the world after a step
 
--- all but the base, the accepted list and the floor is gone
+-- all but the base, the accepted list and the floor is lost
 abbrev pub closed_world : World → World
 closed_world w = record (new_world w.base w.accepted w.floor) { closed = true }
 
@@ -205,15 +205,15 @@ abbrev pub fetches : World → List (List Entry) → World
 fetches w [] = w
 fetches w (entries ∷ sealed) = record w { stage = Held entries; sealed = sealed }
 
-abbrev pub stores : World → Stage → World
+abbrev pub stores : World → BatchStage → World
 stores w (Held entries) = record w { stage = Stored entries; stored = w.stored ++ accepted_of entries }
 stores w stage = w
 
-abbrev pub after_publish : World → Stage → World
+abbrev pub after_publish : World → BatchStage → World
 after_publish w (Stored entries) = record w { stage = Shown entries 0; published = w.published ++ accepted_of entries }
 after_publish w stage = w
 
-abbrev pub told_more : Stage → Stage
+abbrev pub told_more : BatchStage → BatchStage
 told_more (Shown entries n) = Shown entries (n + 1)
 told_more stage = stage
 

@@ -8,7 +8,7 @@ use alm_types::{Slot, Verdict};
 pub enum Event {
     /// The request has this serial.
     Sent(u64),
-    /// The slot has 64 unanswered requests, or its serials are spent.
+    /// The slot has 64 unanswered requests, or its serials are used up.
     Busy,
     Took(Verdict),
     Sealed,
@@ -30,6 +30,6 @@ pub enum Event {
     /// The count of the plant that was recovered.
     Opened(u64),
     Unopened(OpenFault),
-    /// The step isn't possible, or the look was refused: nothing changed.
+    /// The step isn't possible, or the look was refused: no change.
     Skipped,
 }

@@ -10,15 +10,16 @@
 //! | name | is |
 //! |---|---|
 //! | [`Pipeline`] | the consoles of all slots, the sequencer, and the flusher with its board, over any store |
-//! | [`Step`] | what happens next: one slot sends or receives, one part goes on, the power fails, the device is opened again |
+//! | [`Step`] | what happens next: a slot sends or receives, a part makes a step, the power fails, the device is opened again |
 //! | [`Event`] | what came of it |
 //!
-//! What is used above: in a world of plain lists (specs/World.antt) each event is the answer of its step, and the pipeline is
-//! then that of the world after it (`answer` and `fits` of each step). Skipped stands only where the step isn't possible or a
-//! look is refused. What a call does to the device is said by `moves`, and what a crash leaves by [`Pipeline::images`]: each
-//! image stands for the plant of a front of the accepted actions, which holds all that was told (specs/Headline.antt).
+//! What is used above: each step answers an event. In a world of plain lists (specs/World.antt) that event is the step's answer.
+//! The pipeline is then that of the world after it (`answer` and `fits` of each step). Skipped means that the step isn't possible
+//! or a look is refused. What a call does to the device is said by `moves`, and what a crash leaves by [`Pipeline::images`]. Each
+//! image encodes the plant that a prefix of the accepted actions makes, and the prefix contains all that was reported
+//! (specs/Headline.antt).
 //!
-//! Not promised: that memory suffices to open one, and anything of threads that run beside each other.
+//! Not covered: that memory suffices to open one, and threads that run concurrently.
 #![tactic(auto)]
 
 mod event;

@@ -21,16 +21,16 @@ impl<K: Store> Pipeline<K> {
     ghost use Rattle.alm_model.specs.Plant.{Condensed};
     ghost use Rattle.alm_model.specs.Step.{run};
     ghost use Rattle.alm_pipeline.specs.World.{new_world};
-    ghost use Rattle.alm_pipeline.specs.Matches.{IsOpen};
+    ghost use Rattle.alm_pipeline.specs.Matches.{MatchesOpenWorld};
 
-    /// Rings, consoles, board, sequencer and flusher over an idle store; the store comes back where memory is short.
+    /// Rings, consoles, board, sequencer and flusher over an idle store; the store is returned if out of memory.
     pub fn new(alloc: Global, store: K) -> Result<Pipeline<K>, K>
         requires idle { (K.state store).phase ≡ Phase.Idle }
         requires limit { (K.state store).stored.panel.count ≤ most_actions }
         ensures open { IfOk result
             (λ pipeline. (base : Condensed) (kept : List Action) (floor : ℕ) →
             (K.state store).stored ≡ run base kept → floor ≤ base.panel.count + length kept →
-            IsOpen (new_world base kept floor) pipeline) }
+            MatchesOpenWorld (new_world base kept floor) pipeline) }
         ensures store { IfOk result (λ pipeline. pipeline.flusher.store ≡ store) }
         ensures refused { IfErr result (λ back. back ≡ store) }
     {
@@ -64,15 +64,15 @@ impl<K: Store> Pipeline<K> {
         })
     }
 
-    /// Opens what a device stands for, and puts all parts over it.
+    /// Opens the plant that a device encodes, and puts all parts over it.
     ///
-    /// The device comes back where it stands for nothing, where it failed, or for want of memory.
+    /// The device is returned if it encodes no plant, if it failed, or if out of memory.
     pub fn open(alloc: Global, disk: K::Device) -> Result<Pipeline<K>, (OpenFault, K::Device)>
         ensures open { IfOk result
             (λ pipeline. (base : Condensed) (kept : List Action) (floor : ℕ) →
             (K.state pipeline.flusher.store).stored ≡ run base kept →
-            floor ≤ base.panel.count + length kept → IsOpen (new_world base kept floor) pipeline) }
-        // Of this device a sync and reads were made, and nothing else; where it is refused, up to its fault.
+            floor ≤ base.panel.count + length kept → MatchesOpenWorld (new_world base kept floor) pipeline) }
+        // The calls made on this device are a sync and reads, and no others; if it is refused, up to its fault.
         ensures made { MatchResult result
             (λ pipeline. OpensBy K.Device.serves disk (K.disk pipeline.flusher.store))
             (λ e. IsRefusedBy e.0 K.Device.serves disk e.1) }

@@ -44,14 +44,14 @@ impl<K: Store> Pipeline<K> {
     ghost use Rattle.std.specs.Prelude.{◌≡◌, ◌↔◌, ◌≤◌, ◌<◌, ◌+◌, ℕ, length, slice_get, IsSome};
     ghost use Rattle.alm_disk.specs.Failures.{HasFailed};
     ghost use Rattle.alm_flush.specs.HeldBatch.{to_commit};
-    ghost use Rattle.alm_pipeline.specs.Matches.{Fits, IsOpen, Knows, KnowsAll, CallFits, CallsSurely, EndsIn, event_of_call, IsInner, sight_in};
+    ghost use Rattle.alm_pipeline.specs.Matches.{MatchesWorld, MatchesOpenWorld, KnowsAtSlot, KnowsAll, CallFits, CallsSurely, CommitsIn, event_of_call, IsInner, sight_in};
     ghost use Rattle.alm_pipeline.specs.declared.step.Step.TheVariants as S;
     ghost use Rattle.alm_pipeline.specs.Headline.{Moves, Headline};
     ghost use Rattle.alm_rings.specs.Batches.{emptied_of, given_of};
 
-    // Tells the ends of the batch rings what the others did.
+    // Synchronises the ends of the batch rings: each learns what the others did.
     fn tell_batches(&mut self)
-        ensures open { (w : World) → IsOpen w self.old → IsOpen w self.new }
+        ensures open { (w : World) → MatchesOpenWorld w self.old → MatchesOpenWorld w self.new }
         ensures knows { KnowsAll self.new }
         ensures same { (self.new.consoles ≡ self.old.consoles) ×
             (self.new.sequencer.inboxes ≡ self.old.sequencer.inboxes) ×
@@ -65,10 +65,10 @@ impl<K: Store> Pipeline<K> {
         self.flusher.batches_beside(&mut self.sequencer.ends);
     }
 
-    // Tells the ends of a slot what the others did.
+    // Synchronises the ends of a slot: each learns what the others did.
     fn tell(&mut self, slot: Slot)
-        ensures open { (w : World) → IsOpen w self.old → IsOpen w self.new }
-        ensures knows { Knows slot self.new }
+        ensures open { (w : World) → MatchesOpenWorld w self.old → MatchesOpenWorld w self.new }
+        ensures knows { KnowsAtSlot slot self.new }
         ensures there { IsSome (slice_get self.new.consoles.items slot) }
         ensures held { self.new.flusher.held ≡ self.old.flusher.held }
         ensures store { self.new.flusher.store ≡ self.old.flusher.store }
@@ -78,10 +78,10 @@ impl<K: Store> Pipeline<K> {
         self.flusher.replies_beside(slot, console);
     }
 
-    // Tells all of them.
+    // Synchronises all of them.
     fn tell_all(&mut self, slot: Slot)
-        ensures open { (w : World) → IsOpen w self.old → IsOpen w self.new }
-        ensures knows { Knows slot self.new × KnowsAll self.new }
+        ensures open { (w : World) → MatchesOpenWorld w self.old → MatchesOpenWorld w self.new }
+        ensures knows { KnowsAtSlot slot self.new × KnowsAll self.new }
         ensures there { IsSome (slice_get self.new.consoles.items slot) }
         ensures held { self.new.flusher.held ≡ self.old.flusher.held }
         ensures store { self.new.flusher.store ≡ self.old.flusher.store }
@@ -92,9 +92,9 @@ impl<K: Store> Pipeline<K> {
 
     /// A slot sends a request.
     pub fn send(&mut self, slot: Slot, action: Action) -> Event
-        ensures answer { (w : World) → IsOpen w self.old → Answers w (S.Send slot action) result }
-        ensures fits { (w : World) → IsOpen w self.old →
-            IsOpen (after_step w (S.Send slot action) result) self.new }
+        ensures answer { (w : World) → MatchesOpenWorld w self.old → Answers w (S.Send slot action) result }
+        ensures fits { (w : World) → MatchesOpenWorld w self.old →
+            MatchesOpenWorld (after_step w (S.Send slot action) result) self.new }
         ensures store { self.new.flusher.store ≡ self.old.flusher.store }
     {
         self.tell_all(slot);
@@ -105,11 +105,12 @@ impl<K: Store> Pipeline<K> {
         }
     }
 
-    /// The next request of a slot is judged and joins the open batch. It is asked first whether one waits, so that Skipped means that none does.
+    /// The next request of a slot is judged and joins the open batch. First it is checked whether one waits, so Skipped means
+    /// that none does.
     pub fn take(&mut self, slot: Slot) -> Event
-        ensures answer { (w : World) → IsOpen w self.old → Answers w (S.Take slot) result }
-        ensures fits { (w : World) → IsOpen w self.old →
-            IsOpen (after_step w (S.Take slot) result) self.new }
+        ensures answer { (w : World) → MatchesOpenWorld w self.old → Answers w (S.Take slot) result }
+        ensures fits { (w : World) → MatchesOpenWorld w self.old →
+            MatchesOpenWorld (after_step w (S.Take slot) result) self.new }
         ensures store { self.new.flusher.store ≡ self.old.flusher.store }
     {
         self.tell_all(slot);
@@ -123,11 +124,12 @@ impl<K: Store> Pipeline<K> {
         }
     }
 
-    /// The open batch is sealed. Its ends are told once more, so that the batch that was opened is known to have been free.
+    /// The open batch is sealed. Its ends are synchronised once more, so that the batch that was opened is known to have been
+    /// free.
     pub fn seal(&mut self) -> Event
-        ensures answer { (w : World) → IsOpen w self.old → Answers w S.Seal result }
-        ensures fits { (w : World) → IsOpen w self.old →
-            IsOpen (after_step w S.Seal result) self.new }
+        ensures answer { (w : World) → MatchesOpenWorld w self.old → Answers w S.Seal result }
+        ensures fits { (w : World) → MatchesOpenWorld w self.old →
+            MatchesOpenWorld (after_step w S.Seal result) self.new }
         ensures store { self.new.flusher.store ≡ self.old.flusher.store }
     {
         self.tell_batches();
@@ -143,9 +145,9 @@ impl<K: Store> Pipeline<K> {
 
     /// The next sealed batch is fetched.
     pub fn fetch(&mut self) -> Event
-        ensures answer { (w : World) → IsOpen w self.old → Answers w S.Fetch result }
-        ensures fits { (w : World) → IsOpen w self.old →
-            IsOpen (after_step w S.Fetch result) self.new }
+        ensures answer { (w : World) → MatchesOpenWorld w self.old → Answers w S.Fetch result }
+        ensures fits { (w : World) → MatchesOpenWorld w self.old →
+            MatchesOpenWorld (after_step w S.Fetch result) self.new }
         ensures honest { K.Device.honest (K.disk self.old.flusher.store) ↔
             K.Device.honest (K.disk self.new.flusher.store) }
         ensures store { (K.Device.state (K.disk self.new.flusher.store) ≡
@@ -167,31 +169,31 @@ impl<K: Store> Pipeline<K> {
 
     /// The one device call that is next.
     pub fn call(&mut self) -> Advance
-        ensures answer { (w : World) → IsOpen w self.old → Answers w S.Call (event_of_call result) }
-        ensures fits { (w : World) → IsOpen w self.old →
+        ensures answer { (w : World) → MatchesOpenWorld w self.old → Answers w S.Call (event_of_call result) }
+        ensures fits { (w : World) → MatchesOpenWorld w self.old →
             CallFits w (event_of_call result) self.new }
         ensures honest { K.Device.honest (K.disk self.old.flusher.store) ↔
             K.Device.honest (K.disk self.new.flusher.store) }
         ensures moves { K.Device.honest (K.disk self.old.flusher.store) → (w : World) →
-            IsOpen w self.old → (refused : ℕ) →
+            MatchesOpenWorld w self.old → (refused : ℕ) →
             Moves K.recovers K.spent w S.Call (event_of_call result) (sight_in refused self.old)
             (sight_in refused self.new) }
-        // Where the held batch is taken, or work is under way, only the device fails.
+        // If the held batch is taken, or work is under way, only the device fails.
         ensures sure { result ≡ Advance.Failed → CallsSurely self.old → (w : World) →
-            IsOpen w self.old →
+            MatchesOpenWorld w self.old →
             HasFailed (K.Device.failures (K.disk self.old.flusher.store))
             (K.Device.failures (K.disk self.new.flusher.store)) }
-        // It fails only where the device failed in it, or where a checkpoint was due in the last epoch.
+        // It fails only if the device failed in it, or if a checkpoint was due in the last epoch.
         ensures late { result ≡ Advance.Failed → ¬ (K.exhausted self.new.flusher.store) →
-            (w : World) → IsOpen w self.old →
+            (w : World) → MatchesOpenWorld w self.old →
             HasFailed (K.Device.failures (K.disk self.old.flusher.store))
             (K.Device.failures (K.disk self.new.flusher.store)) }
         ensures count { K.Device.failures (K.disk self.old.flusher.store) ≤
             K.Device.failures (K.disk self.new.flusher.store) }
         // A batch is committed in a bounded number of calls.
         ensures ends { (m : ℕ) → result ≡ Advance.More →
-            0 < length (to_commit self.old.flusher.held) → EndsIn (m + 1) self.old →
-            EndsIn m self.new }
+            0 < length (to_commit self.old.flusher.held) → CommitsIn (m + 1) self.old →
+            CommitsIn m self.new }
     {
         self.tell_batches();
         self.flusher.keeper().images();
@@ -205,13 +207,13 @@ impl<K: Store> Pipeline<K> {
 
     /// The committed batch is shown.
     pub fn publish(&mut self) -> Event
-        ensures answer { (w : World) → IsOpen w self.old → Answers w S.Publish result }
-        ensures fits { (w : World) → IsOpen w self.old →
-            IsOpen (after_step w S.Publish result) self.new }
+        ensures answer { (w : World) → MatchesOpenWorld w self.old → Answers w S.Publish result }
+        ensures fits { (w : World) → MatchesOpenWorld w self.old →
+            MatchesOpenWorld (after_step w S.Publish result) self.new }
         ensures store { self.new.flusher.store ≡ self.old.flusher.store }
     {
         self.tell_batches();
-        match self.flusher.publish(&()) {
+        match self.flusher.publish(&(), &()) {
             Publishes::Published => Event::Published,
             Publishes::OutOfMemory => Event::Skipped,
             Publishes::NotYet => Event::Skipped,
@@ -220,9 +222,9 @@ impl<K: Store> Pipeline<K> {
 
     /// The next verdict is released to its slot.
     pub fn release(&mut self) -> Event
-        ensures answer { (w : World) → IsOpen w self.old → Answers w S.Release result }
-        ensures fits { (w : World) → IsOpen w self.old →
-            IsOpen (after_step w S.Release result) self.new }
+        ensures answer { (w : World) → MatchesOpenWorld w self.old → Answers w S.Release result }
+        ensures fits { (w : World) → MatchesOpenWorld w self.old →
+            MatchesOpenWorld (after_step w S.Release result) self.new }
         ensures store { self.new.flusher.store ≡ self.old.flusher.store }
     {
         let Some(entry) = self.flusher.next() else {
@@ -236,11 +238,11 @@ impl<K: Store> Pipeline<K> {
         }
     }
 
-    /// The batch goes back once its verdicts are released.
+    /// The batch is returned after its verdicts are released.
     pub fn give_back(&mut self) -> Event
-        ensures answer { (w : World) → IsOpen w self.old → Answers w S.GiveBack result }
-        ensures fits { (w : World) → IsOpen w self.old →
-            IsOpen (after_step w S.GiveBack result) self.new }
+        ensures answer { (w : World) → MatchesOpenWorld w self.old → Answers w S.GiveBack result }
+        ensures fits { (w : World) → MatchesOpenWorld w self.old →
+            MatchesOpenWorld (after_step w S.GiveBack result) self.new }
         ensures store { self.new.flusher.store ≡ self.old.flusher.store }
     {
         self.tell_batches();
@@ -253,9 +255,9 @@ impl<K: Store> Pipeline<K> {
 
     /// A slot receives its next receipt.
     pub fn receive(&mut self, slot: Slot) -> Event
-        ensures answer { (w : World) → IsOpen w self.old → Answers w (S.Receive slot) result }
-        ensures fits { (w : World) → IsOpen w self.old →
-            IsOpen (after_step w (S.Receive slot) result) self.new }
+        ensures answer { (w : World) → MatchesOpenWorld w self.old → Answers w (S.Receive slot) result }
+        ensures fits { (w : World) → MatchesOpenWorld w self.old →
+            MatchesOpenWorld (after_step w (S.Receive slot) result) self.new }
         ensures store { self.new.flusher.store ≡ self.old.flusher.store }
     {
         self.tell_all(slot);
@@ -278,14 +280,14 @@ impl<K: Store> Pipeline<K> {
         }
     }
 
-    /// Asks the published plant, for any slot. A look at a list that is there is skipped only where a growth of the answer's list was
+    /// Asks the published plant, for any slot. A look at an existing list is skipped only if a growth of the answer's list was
     /// refused, which the answer counts.
     pub fn look(&self, query: Query, answer: &mut Answer) -> Event
-        ensures answer { (w : World) (slot : ℕ) → IsOpen w self.now →
+        ensures answer { (w : World) (slot : ℕ) → MatchesOpenWorld w self.now →
             Answers w (S.Look slot query) result }
-        ensures fits { (w : World) (slot : ℕ) → IsOpen w self.now →
-            IsOpen (after_step w (S.Look slot query) result) self.now }
-        ensures moves { (w : World) (slot : ℕ) → IsOpen w self.now →
+        ensures fits { (w : World) (slot : ℕ) → MatchesOpenWorld w self.now →
+            MatchesOpenWorld (after_step w (S.Look slot query) result) self.now }
+        ensures moves { (w : World) (slot : ℕ) → MatchesOpenWorld w self.now →
             Moves K.recovers K.spent w (S.Look slot query) result
             (sight_in answer.old.refused self.now) (sight_in answer.new.refused self.now) }
     {
@@ -299,12 +301,12 @@ impl<K: Store> Pipeline<K> {
     /// One of the steps that leave the device alone.
     pub fn go(&mut self, step: &Step, answer: &mut Answer) -> Event
         requires { IsInner step.now }
-        ensures answer { (w : World) → IsOpen w self.old → Answers w step.now result }
-        ensures fits { (w : World) → IsOpen w self.old →
-            IsOpen (after_step w step.now result) self.new }
+        ensures answer { (w : World) → MatchesOpenWorld w self.old → Answers w step.now result }
+        ensures fits { (w : World) → MatchesOpenWorld w self.old →
+            MatchesOpenWorld (after_step w step.now result) self.new }
         ensures honest { K.Device.honest (K.disk self.old.flusher.store) ↔
             K.Device.honest (K.disk self.new.flusher.store) }
-        ensures moves { (w : World) → IsOpen w self.old →
+        ensures moves { (w : World) → MatchesOpenWorld w self.old →
             Moves K.recovers K.spent w step.now result (sight_in answer.old.refused self.old)
             (sight_in answer.new.refused self.new) }
     {
@@ -334,7 +336,7 @@ impl<K: Store> Pipeline<K> {
     /// Does nothing: it says what a crash leaves.
     pub fn images(&self)
         ensures headline { K.Device.honest (K.disk self.now.flusher.store) → (w : World) →
-            Fits w self.now →
+            MatchesWorld w self.now →
             Headline K.recovers K.spent w (K.Device.state (K.disk self.now.flusher.store)) }
     {
         self.flusher.keeper().images();
@@ -346,9 +348,10 @@ impl<K: Store> Pipeline<K> {
         ensures device { K.Device.state result ≡ K.Device.state (K.disk self.flusher.store) }
         ensures failures { K.Device.failures result ≡
             K.Device.failures (K.disk self.flusher.store) }
-        ensures headline { K.Device.honest (K.disk self.flusher.store) → (w : World) → Fits w self →
+        ensures headline { K.Device.honest (K.disk self.flusher.store) → (w : World) → MatchesWorld w self →
             Headline K.recovers K.spent w (K.Device.state result) }
     {
+        // for the proof: what a crash leaves
         self.images();
         let Pipeline {
             consoles: _,

@@ -25,8 +25,8 @@ pub enum Step {
     Receive(Slot),
     /// A slot asks the published plant.
     Look(Slot, Query),
-    /// The power fails. The pairs are a place and its byte: of two pairs of one place the first counts, a pair of a place that
-    /// isn't pending is passed over, and a pending place without a pair stays as it reads.
+    /// Power is lost. Each pair has a place and its byte. Of several pairs with the same place only the first has an effect, and
+    /// a pair whose place isn't pending has none. A pending place without a pair stays as it reads.
     Crash(Vec<(u64, u8)>),
     /// The device is opened again.
     Reopen,

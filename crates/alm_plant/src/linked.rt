@@ -26,7 +26,7 @@ use alm_types::{Action, AlarmId, Attr, MOST_ACTIONS, Moment, Refusal, Request, T
 use std::alloc::{AllocError, Global};
 use std::marker::Model;
 
-/// The fields of a plant; what they keep within an action is less than the rules.
+/// The fields of a plant; what they keep during an action is less than the rules.
 #[derive(Drop)]
 pub struct Linked {
     count: u64,
@@ -459,7 +459,7 @@ impl Linked {
         self.settle();
     }
 
-    /// Does an action. It is built into each loop over actions: a call costs a seventh of what most of them do.
+    /// Does an action. It is inlined into each loop over actions: a call costs a seventh of what most of them do.
     #[inline(always)]
     pub fn apply(&mut self, action: &Action, working: &mut Vec<u32>)
         requires rules { KeepsRules self.old }

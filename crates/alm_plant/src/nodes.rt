@@ -74,7 +74,7 @@ fn keeps_slot(before: &Row, row: &Row) -> bool
     }
 }
 
-/// The list of an alarm's priority, where it stands in it.
+/// The list of an alarm's priority, if it is in it.
 fn priority_of(attr: &Attr, row: &Row) -> Option<u32>
     ensures { result ≡ by_priority attr.now row.now }
 {
@@ -96,7 +96,7 @@ fn area_of(attr: &Attr, row: &Row) -> Option<u32>
     }
 }
 
-/// Takes a node out of its list of a family, where it stands in one.
+/// Takes a node out of its list of a family, if it is in one.
 fn take_out(chains: &mut Chains, family: u32, node: u32)
     requires family { family < length chains.old.families }
     requires node { node < chains.old.nodes }
@@ -110,7 +110,7 @@ fn take_out(chains: &mut Chains, family: u32, node: u32)
     }
 }
 
-/// The same, and puts it to the end of a list, where it is to stand in one.
+/// The same, and puts it at the end of list `to`, if there is one.
 #[inline(never)]
 fn refile(chains: &mut Chains, family: u32, node: u32, to: Option<u32>)
     requires family { family < length chains.old.families }
@@ -127,8 +127,7 @@ fn refile(chains: &mut Chains, family: u32, node: u32, to: Option<u32>)
     }
 }
 
-/// Takes a node out of its list of a family, where it stands in one, and puts it by its key into a list, where it is to stand in
-/// one.
+/// Takes a node out of its list of a family, if it is in one, and puts it by its key into list `to`, if there is one.
 fn insert(chains: &mut Chains, family: u32, node: u32, to: Option<u32>, keys: &[u64])
     requires family { family < length chains.old.families }
     requires node { node < chains.old.nodes }
@@ -240,6 +239,7 @@ fn row_at(rows: &[Row], index: usize) -> &Row
     ensures state { IsState result.now }
 {
     let row = &rows[index];
+    // for the proof: what is always true of a row
     let _active = row.active;
     row
 }
@@ -291,7 +291,7 @@ impl Nodes {
         &self.rows
     }
 
-    /// The same once more.
+    /// A copy of it.
     pub fn copy(&self, alloc: Global) -> Result<Self, AllocError>
         ensures { IfOk result (λ n. n ≡ self.now) }
     {
@@ -351,7 +351,7 @@ impl Nodes {
         reschedule(&mut self.wheel, slot_stays, index, &row);
     }
 
-    /// An alarm has other attributes, in the same area. In another list of priorities it stands by its stamp.
+    /// An alarm has other attributes, in the same area. In the list of another priority its place is by its stamp.
     pub fn set_attr(&mut self, index: u32, attr: Attr)
         requires here { index < length self.old.rows }
         requires area { area_in (slice_get self.old.attrs index) ≡ attr.area }
@@ -365,7 +365,7 @@ impl Nodes {
         reprioritize(&mut self.chains, stays, index, &attr, row, &self.stamps);
     }
 
-    /// The shelvings that end up to a moment, where none ends by another before it: by deadline, then number.
+    /// The shelvings that end up to a moment, if none ends by an earlier one: by deadline, then number.
     pub fn due(&self, from: u64, to: u64, out: &mut Vec<u32>)
         requires ahead { AreAhead from self.now.rows }
         requires room { length self.now.rows ≤ vec_capacity out.old }

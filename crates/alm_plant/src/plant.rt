@@ -14,7 +14,7 @@ use alm_types::{Action, AlarmId, Attr, Moment, Refusal, Request, Table};
 use std::alloc::{AllocError, Global};
 use std::marker::Model;
 
-/// A plant whose alarms stand in linked lists.
+/// A plant whose alarms are in linked lists.
 #[derive(Drop)]
 pub struct Plant {
     linked: Linked,

@@ -35,7 +35,7 @@ fn act<P: Alarms>(plant: &mut P, action: Action) -> bool {
     admitted
 }
 
-/// A list; `None` where there is none, or no memory.
+/// A list; `None` if it doesn't exist, or if out of memory.
 fn list_of<P: Alarms>(alloc: Global, plant: &P, list: List) -> Option<Vec<u32>> {
     if !plant.has_list(list) {
         return None;
@@ -45,8 +45,8 @@ fn list_of<P: Alarms>(alloc: Global, plant: &P, list: List) -> Option<Vec<u32>> 
     Some(all)
 }
 
-/// The list of the area of a plant that is built of another's image, whose alarms came from the last to the first; `None` where
-/// the two differ.
+/// The list of the area of a plant that is built of another's image, whose alarms came from the last to the first; `None` if the
+/// two differ.
 fn built_list<P: Alarms + Drop, Q: Alarms + Drop>(
     alloc: Global,
     rows: &Table,
@@ -76,7 +76,7 @@ fn lists_go_by_stamps_that_run_against_the_numbers(rt: HostRuntime) -> Result<()
     Ok(())
 }
 
-/// Whether a plant with shelvings that is built of another's image goes on as that one.
+/// Whether a plant with shelvings that is built of another's image behaves like that one from then on.
 fn goes_on<P: Alarms + Drop, Q: Alarms + Drop>(alloc: Global, rows: &Table) -> Result<bool, Fail> {
     let mut plain = P::new(alloc, rows)?;
     for number in [7u32, 2, 5] {

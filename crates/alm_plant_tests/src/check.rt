@@ -2,9 +2,9 @@
 
 use crate::step::Step;
 use crate::want::Want;
+use alm_desk::worked_table;
 use alm_model::{Alarms, List, PlainPlant};
 use alm_plant::Plant;
-use alm_service::worked_table;
 use alm_types::{AlarmId, Answer, Refusal, Request, Shown, Slot, Table};
 use std::alloc::{AllocError, Global};
 use std::process::Abort;
@@ -13,7 +13,7 @@ use std::test::Fail;
 /// A row: its name, and its steps on a new plant of the worked table.
 pub type Row = (&'static str, &'static [Step<'static>]);
 
-/// Whether what a slot wants is done, and counted, or refused as it should be, and nothing is counted.
+/// Whether what a slot asks for is done, and counted, or refused as it should be, and not counted.
 fn is_answered<P: Alarms>(
     plant: &mut P,
     slot: u8,
@@ -75,7 +75,7 @@ fn has_window<P: Alarms>(plant: &P, area: u32, wanted: (u64, bool)) -> bool {
     plant.has_list(List::Area(area)) && plant.window(area) == wanted
 }
 
-/// Whether a step goes as it should.
+/// Whether a step does what it should.
 fn goes<P: Alarms>(alloc: Global, plant: &mut P, step: &Step<'_>) -> Result<bool, Fail> {
     Ok(match step {
         Step::Done(slot, want) => is_answered(plant, *slot, *want, None)?,
@@ -93,7 +93,7 @@ fn goes<P: Alarms>(alloc: Global, plant: &mut P, step: &Step<'_>) -> Result<bool
     })
 }
 
-/// The first step of a row that doesn't go as it should on a new plant, or on a copy of the plant before it.
+/// The first step of a row that doesn't do what it should on a new plant, or on a copy of the plant before it.
 fn first_wrong<P: Alarms + Drop>(
     alloc: Global,
     table: &Table,

@@ -61,7 +61,7 @@ fn action(drawn: u64, now: Moment) -> Result<Action, Fail> {
     })
 }
 
-/// After how many drawn actions two new plants differ; `None` where they don't.
+/// After how many drawn actions two new plants differ; `None` if they don't.
 fn differ_after<P: Alarms + Drop, Q: Alarms + Drop>(
     alloc: Global,
     rows: &Table,

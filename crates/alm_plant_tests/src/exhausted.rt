@@ -1,17 +1,19 @@
 //! A plant that has had all its actions.
 
 use crate::want::Want;
+use alm_desk::worked_table;
 use alm_model::{Alarms, PlainPlant, PlantParts};
 use alm_plant::Plant;
-use alm_service::worked_table;
 use alm_types::{Refusal, Request, Slot};
 use std::alloc::Global;
 use std::test::Fail;
 
-/// What each slot wants of such a plant, and why it is refused: for want of numbers last.
-const REFUSED: [(u8, Want, Refusal); 8] = [
+/// What each slot asks of such a plant, and why it is refused: last because no action numbers are left.
+const REFUSED: [(u8, Want, Refusal); 10] = [
     (17, Want::Clock(5), Refusal::Exhausted),
     (17, Want::Clock(0), Refusal::ClockBack),
+    (0, Want::Ack(0), Refusal::NotUnacknowledged),
+    (0, Want::Shelve(0, 5), Refusal::Exhausted),
     (0, Want::SetPriority(0, 2), Refusal::Exhausted),
     (0, Want::SetPriority(0, 1), Refusal::SameValue),
     (0, Want::SetPriority(0, 5), Refusal::PriorityRange),

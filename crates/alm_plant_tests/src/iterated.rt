@@ -7,7 +7,7 @@ use alm_types::{Action, AlarmId, Moment, Reading};
 use std::alloc::Global;
 use std::test::Fail;
 
-/// A list as a vector is filled with it; an error where there is none.
+/// A list as a vector is filled with it; an error if it doesn't exist.
 fn filled(alloc: Global, plant: &Plant, list: List) -> Result<Vec<u32>, Fail> {
     if !plant.has_list(list) {
         return Err("list".into());

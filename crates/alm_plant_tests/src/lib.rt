@@ -1,15 +1,15 @@
-//! Tests of the linked plant beside the plain one.
+//! Tests of the linked plant, compared with the plain one.
 //!
 //! | module | what it runs |
 //! |---|---|
 //! | `changes`, `exhausted`, `stamps` | worked rows of what no line of the desk shows, as calls on both plants and on copies of them |
-//! | `built` | a plant of an image's parts is the plain one of that image, in stamp order where stamps run against numbers, and goes on like it |
+//! | `built` | a plant of an image's parts is the plain one of that image, in stamp order if stamps don't follow numbers, then and later |
 //! | `drawn` | 10,000 drawn actions through both plants: all lists, windows, ages, moments and rows are compared after each hundred |
 //! | `iterated` | lists alarm by alarm are those that fill a vector |
-//! | `largest` | 16,384 alarms in 64 areas: made, built and copied |
-//! | `refused` | want of memory: a plant is made whole or not at all |
+//! | `limits` | both plants at their limits: 16,384 alarms in 64 areas, made, built and copied; the last moment |
+//! | `refused` | out of memory: a plant is made whole or not at all |
 //!
-//! They stand in a crate of their own, since a crate with tests is proved twice. The worked rows of lines and replies run over both
+//! They are in a crate of their own: a crate with tests is proved twice. The worked rows of lines and replies run over both
 //! plants in `alm_desk_tests`.
 #![tactic(auto)]
 
@@ -26,7 +26,7 @@ mod exhausted;
 #[cfg(test)]
 mod iterated;
 #[cfg(test)]
-mod largest;
+mod limits;
 #[cfg(test)]
 mod refused;
 #[cfg(test)]

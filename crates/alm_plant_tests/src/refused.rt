@@ -1,5 +1,5 @@
-//! Want of memory: run with each allocation refused in turn (`rt try --test --fail-alloc N`), this passes. One is refused at
-//! most, so what was refused is made the second time: a maker that always gives up doesn't pass.
+//! Out of memory: run with each allocation refused in turn (`rt try --test --fail-alloc N`), this passes. One is refused at most,
+//! so what was refused is made the second time: a maker that always gives up doesn't pass.
 
 use crate::tables::table;
 use alm_model::{Alarms, PlainPlant, PlantParts};

@@ -4,7 +4,7 @@ use alm_model::{Alarms, List};
 use alm_types::{AlarmId, Attr};
 use std::alloc::{AllocError, Global};
 
-/// Whether a list is the same; also where neither plant has it.
+/// Whether a list is the same; also if neither plant has it.
 pub fn is_list_same<P: Alarms, Q: Alarms>(
     alloc: Global,
     one: &P,
@@ -50,13 +50,34 @@ fn is_area_same<P: Alarms, Q: Alarms>(one: &P, other: &Q, area: u32) -> bool {
     same
 }
 
-/// Whether an alarm's row, moments, priority and setpoint are the same.
+/// Whether two alarms have the same attributes.
+fn is_attr_same(one: &Attr, other: &Attr) -> bool {
+    one.kind == other.kind
+        && one.setpoint == other.setpoint
+        && one.deadband == other.deadband
+        && one.priority == other.priority
+        && one.area == other.area
+        && one.latching == other.latching
+        && one.max_shelve == other.max_shelve
+        && one.tag.as_bytes() == other.tag.as_bytes()
+        && one.text.as_bytes() == other.text.as_bytes()
+}
+
+/// Whether two answers have the same attributes.
+fn are_attributes_same(one: Option<Attr>, other: Option<Attr>) -> bool {
+    match (one, other) {
+        (Some(one), Some(other)) => is_attr_same(&one, &other),
+        (None, None) => true,
+        _ => false,
+    }
+}
+
+/// Whether an alarm's row, moments and attributes are the same.
 fn is_alarm_same<P: Alarms, Q: Alarms>(one: &P, other: &Q, number: u32) -> bool {
     let id = AlarmId(number);
-    let attributes = |attr: Attr| (attr.priority, attr.setpoint);
     one.state(id) == other.state(id)
         && one.moments(id) == other.moments(id)
-        && one.attr(id).map(attributes) == other.attr(id).map(attributes)
+        && are_attributes_same(one.attr(id), other.attr(id))
 }
 
 /// Whether two plants show the same of everything.

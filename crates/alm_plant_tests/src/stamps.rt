@@ -1,7 +1,8 @@
-//! Stamps, and what goes by them.
+//! Stamps, and what depends on them.
 
 use crate::want::Want;
 use alm_model::{Alarms, List, PlainPlant};
+use alm_plant::Plant;
 use alm_types::{AlarmId, Attr, Kind, Request, Settings, Slot, Table};
 use std::alloc::Global;
 use std::process::Abort;
@@ -59,7 +60,8 @@ fn shelvings<P: Alarms + Drop, R: Abort + AllocGlobal>(rt: &R) -> Result<(), Fai
 
 #[test]
 fn three_shelvings_end_by_deadline(rt: HostRuntime) -> Result<(), Fail> {
-    shelvings::<PlainPlant, _>(&rt)
+    shelvings::<PlainPlant, _>(&rt)?;
+    shelvings::<Plant, _>(&rt)
 }
 
 fn stamp_of_a_normal_alarm<P: Alarms + Drop, R: Abort + AllocGlobal>(rt: &R) -> Result<(), Fail> {
@@ -77,7 +79,8 @@ fn stamp_of_a_normal_alarm<P: Alarms + Drop, R: Abort + AllocGlobal>(rt: &R) -> 
 
 #[test]
 fn an_alarm_that_becomes_normal_has_no_stamp(rt: HostRuntime) -> Result<(), Fail> {
-    stamp_of_a_normal_alarm::<PlainPlant, _>(&rt)
+    stamp_of_a_normal_alarm::<PlainPlant, _>(&rt)?;
+    stamp_of_a_normal_alarm::<Plant, _>(&rt)
 }
 
 fn stamp_of_a_shelving<P: Alarms + Drop, R: Abort + AllocGlobal>(rt: &R) -> Result<(), Fail> {
@@ -95,5 +98,6 @@ fn stamp_of_a_shelving<P: Alarms + Drop, R: Abort + AllocGlobal>(rt: &R) -> Resu
 
 #[test]
 fn a_second_flag_leaves_the_stamp_of_a_shelving(rt: HostRuntime) -> Result<(), Fail> {
-    stamp_of_a_shelving::<PlainPlant, _>(&rt)
+    stamp_of_a_shelving::<PlainPlant, _>(&rt)?;
+    stamp_of_a_shelving::<Plant, _>(&rt)
 }

@@ -7,9 +7,9 @@ use alm_types::{Refusal, Shown};
 /// What is asked of a plant, and what it answers.
 #[derive(Clone, Copy)]
 pub enum Step<'a> {
-    /// A slot's want is accepted.
+    /// A slot's request is accepted.
     Done(u8, Want),
-    /// A slot's want is refused.
+    /// A slot's request is refused.
     Refused(u8, Want, Refusal),
     /// What is shown of an alarm, whether it is active, its flags and the end of its shelving.
     State(u32, Shown, bool, u8, Option<u64>),

@@ -19,7 +19,7 @@ pub enum Want {
 }
 
 impl Want {
-    /// The action of these numbers; an error where a number is out of its range.
+    /// The action of these numbers; an error if a number is out of its range.
     pub fn action(self) -> Result<Action, Fail> {
         Ok(match self {
             Want::Clock(seconds) => Action::Clock(Moment::new(seconds).ok_or("moment")?),

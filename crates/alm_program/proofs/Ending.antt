@@ -6,7 +6,7 @@ use Rattle.std.specs.Io.KnownBytes.{Appends, Keeps}
 use Rattle.std.proofs.KnownBytes.{Appends-kept}
 use Rattle.alm_model.specs.Plant.{Condensed}
 use Rattle.alm_lines.specs.Written.{IsCutShort, Prints}
-use Rattle.alm_service.specs.Showing.{plant_text}
+use Rattle.alm_export.specs.Showing.{plant_text}
 
 -- showing the plant broke off
 pub shown_in_part : {E : Type 0} (o n : Option (List ℕ)) (q q' : Condensed) (epoch epoch' : ℕ) (r : Result ⊤ E) → IsErr r → q' ≡ q → epoch' ≡ epoch
@@ -14,7 +14,7 @@ pub shown_in_part : {E : Type 0} (o n : Option (List ℕ)) (q q' : Condensed) (e
 shown_in_part {E} o n q q' epoch epoch' (Ok x) err same same_epoch cut = cc
 shown_in_part {E} o n q q' epoch epoch' (Err x) err same same_epoch cut = rw same at (rw same_epoch at cut)
 
--- all of it was shown, and the writer failed behind it
+-- all of it was shown, and the writer failed after it
 pub shown_whole : (o m n : Option (List ℕ)) (q q' : Condensed) (epoch epoch' : ℕ) → q' ≡ q → epoch' ≡ epoch → Appends o m (plant_text q' epoch') → Keeps m n
     → IsCutShort o n (plant_text q epoch)
 shown_whole o m n q q' epoch epoch' same same_epoch shown kept =

@@ -8,7 +8,7 @@ use Rattle.alm_export.specs.Exported.{IsTableText}
 use Rattle.alm_program.specs.declared.fault.Fault.{Fault}
 use Rattle.alm_program.specs.declared.fault.Fault.TheVariants.{Stopped, OutOfMemory, Io}
 
--- a read failed, or so many gave no end
+-- a read failed, or 2^32 of them gave no end
 abbrev pub IsUnread : (failed failed_now reads reads_now : ℕ) → Type 0
 IsUnread failed failed_now reads reads_now = (failed_now ≡ one_more failed) ⊎ (reads_now ≡ min (reads + 2 ^ 32) (2 ^ 64 - 1))
 
@@ -30,7 +30,7 @@ PrintEnds failed failed_now (Err Io) = failed_now ≡ one_more failed
 PrintEnds failed failed_now (Err OutOfMemory) = failed_now ≡ failed
 PrintEnds failed failed_now (Err _) = ⊥
 
--- a table file of the plant was printed, or a front of one where the writer failed, or nothing for want of memory
+-- a table file of the plant was printed, or a prefix of one if the writer failed, or nothing if out of memory
 abbrev pub PrintsTable : ℕ → Condensed → Option (List ℕ) → Option (List ℕ) → Result Unit Fault → Type 0
 PrintsTable size q old new (Ok _) = (text : List ℕ) × IsTableText size q text × Appends old new text
 PrintsTable size q old new (Err Io) = (text : List ℕ) × IsTableText size q text × IsCutShort old new text

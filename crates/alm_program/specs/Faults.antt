@@ -10,10 +10,10 @@ use Rattle.alm_file.specs.declared.file_fault.FileFault.{FileFault}
 use Rattle.alm_file.specs.declared.file_fault.FileFault.TheVariants as file
 use Rattle.alm_table.specs.declared.load_fault.LoadFault.{LoadFault}
 use Rattle.alm_table.specs.declared.load_fault.LoadFault.TheVariants as load
-use Rattle.alm_words.specs.declared.words_fault.WordsFault.{WordsFault}
-use Rattle.alm_words.specs.declared.words_fault.WordsFault.TheVariants as words
-use Rattle.alm_service.specs.declared.show_fault.ShowFault.{ShowFault}
-use Rattle.alm_service.specs.declared.show_fault.ShowFault.TheVariants as show
+use Rattle.alm_program.specs.declared.words_fault.WordsFault.{WordsFault}
+use Rattle.alm_program.specs.declared.words_fault.WordsFault.TheVariants as words
+use Rattle.alm_export.specs.declared.show_fault.ShowFault.{ShowFault}
+use Rattle.alm_export.specs.declared.show_fault.ShowFault.TheVariants as show
 use Rattle.alm_store.specs.declared.open_fault.OpenFault.{OpenFault}
 use Rattle.alm_store.specs.declared.open_fault.OpenFault.TheVariants as opening
 use Rattle.alm_keeper.specs.declared.format_fault.FormatFault.{FormatFault}
@@ -84,8 +84,8 @@ abbrev pub fault_of_error : ErrorKind → Fault
 fault_of_error kind.OutOfMemory = OutOfMemory
 fault_of_error _ = Io
 
--- .. of a device's file that isn't opened: one that is a standard stream's is named wrongly, and one whose sync failed has failed as a
--- device
+-- .. of a device's file that isn't opened: one that is a standard stream is wrong usage, and one whose sync failed is a
+-- device that failed
 abbrev pub fault_of_file : FileFault → Fault
 fault_of_file file.Stream = Usage
 fault_of_file (file.Sync error) = Disk
@@ -106,7 +106,7 @@ status_of Unformatted = 2
 status_of (Damaged half at) = 2
 status_of _ = 3
 
--- the line, or a front of it where it can't be written
+-- the line, or a prefix of it if it can't be written
 abbrev pub IsTold : Option (List ℕ) → Option (List ℕ) → Fault → Type 0
 IsTold old new fault = Appends old new (fault_line fault) ⊎ IsCutShort old new (fault_line fault)
 

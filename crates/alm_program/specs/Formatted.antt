@@ -1,3 +1,4 @@
+-- For the proofs.
 -- What is printed of a device that was formatted.
 use Rattle.std.specs.Prelude.{ℕ, List, ◌++◌, codes, decimal}
 

@@ -1,4 +1,9 @@
+pub mod Jobs
+pub mod WordsFaults
+pub mod Commands
+pub mod Orders
 pub mod Faults
 pub mod Formatted
-pub mod Orders
+pub mod ServeOrders
+pub mod OwnedEndpoints
 pub mod Ends

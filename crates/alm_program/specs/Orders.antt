@@ -1,17 +1,102 @@
--- What the program is asked of a server.
-use Rattle.std.specs.Prelude.{◌≡◌, ℕ, List, Option, Some, None, IsNone, string_bytes}
-use Rattle.alm_words.specs.Orders.{Order, desk, export, format, order_in, serve, show}
-use Rattle.alm_program.specs.declared.serve_order.ServeOrder.{ServeOrder}
+-- Which words ask for which job.
+use Rattle.std.specs.Prelude.{◌≡◌, ◌+◌, ◌^◌, ℕ, ⊤, List, [], ◌∷◌, Option, Some, None, Result, Ok, Err}
+use Rattle.std.specs.Prelude.{codes, if◌then◌else◌, nat_le, option_and_then, option_map}
+use Rattle.std.specs.Str.{bytes_eq}
+use Rattle.clap.specs.Words.{Kinds, Row, Text, fault_of, first_of, subcommand_of}
+use Rattle.alm_lines.specs.Line.{number}
+use Rattle.alm_program.specs.Commands.{commands}
+use Rattle.alm_program.specs.Jobs.{greatest_port, least_port}
+use Rattle.alm_program.specs.declared.job.Job.{Job}
+use Rattle.alm_program.specs.declared.job.Job.TheVariants as job
+use Rattle.alm_program.specs.declared.endpoints.Endpoints.{Endpoints}
+use Rattle.alm_program.specs.declared.endpoints.Endpoints.TheVariants as endpoints
+use Rattle.alm_program.specs.declared.words_fault.WordsFault.{WordsFault}
+use Rattle.alm_program.specs.declared.words_fault.WordsFault.TheVariants.{Usage, OutOfMemory}
 
--- an order to serve is answered by just its device, port and number of connections, each other one by none
-abbrev pub IsOrderOf : Order → Option ServeOrder → Type 0
-IsOrderOf (serve device port conns) (Some asked) = (string_bytes asked.device ≡ device) × (asked.port ≡ port) × (asked.conns ≡ conns)
-IsOrderOf (serve device port conns) None = ⊥
-IsOrderOf (desk device) asked = IsNone asked
-IsOrderOf (format device table) asked = IsNone asked
-IsOrderOf (show device) asked = IsNone asked
-IsOrderOf (export device) asked = IsNone asked
+-- a server's endpoints: the 18 ports from one on, or the sockets of a folder
+pub data At : Type 0 where
+  ports : ℕ → At
+  sockets : Text → At
 
--- .. of the words that the program was given
-abbrev pub IsAskedInWords : Option ServeOrder → Type 0
-IsAskedInWords asked = (words : List (List ℕ)) × (order : Order) × (order_in words ≡ Some order) × IsOrderOf order asked
+abbrev pub endpoints_of : Endpoints → At
+endpoints_of (endpoints.Ports port) = ports port
+endpoints_of (endpoints.Sockets folder) = sockets folder.now
+
+-- what words ask for, in texts and numbers
+pub data JobOrder : Type 0 where
+  desk : Option Text → JobOrder
+  format : Text → Text → JobOrder
+  show : Text → JobOrder
+  export : Text → JobOrder
+  serve : Text → At → ℕ → JobOrder
+
+-- a job's own order
+abbrev pub order_of : Job → JobOrder
+order_of (job.Desk device) = desk (option_map (λ d. d.now) device)
+order_of (job.Format device table) = format device.now table.now
+order_of (job.Show device) = show device.now
+order_of (job.Export device) = export device.now
+order_of (job.Serve device endpoints conns) = serve device.now (endpoints_of endpoints) conns
+
+-- the port of the first slot, if the 17 after it are ports as well
+abbrev pub port_in : Text → Option ℕ
+port_in digits =
+    option_and_then (λ port. if nat_le least_port port then Some port else None)
+    (number (greatest_port + 1) digits)
+
+-- the endpoints, by the port's digits and the folder: one of the two is named, and not both
+abbrev pub endpoints_by : Option Text → Option Text → Option At
+endpoints_by (Some digits) None = option_map ports (port_in digits)
+endpoints_by None (Some folder) = Some (sockets folder)
+endpoints_by None None = None
+endpoints_by (Some digits) (Some folder) = None
+
+-- the number of connections, 0 if it is missing
+abbrev pub conns_in : Option Text → Option ℕ
+conns_in None = Some 0
+conns_in (Some digits) = number (2 ^ 32) digits
+
+-- the device, what a format is asked, and what a server is asked
+abbrev pub device_in : List Row → Option Text
+device_in = first_of (codes "device")
+
+abbrev pub format_in : List Row → Option JobOrder
+format_in rows =
+    option_and_then (λ device. option_map (format device) (first_of (codes "table") rows))
+    (device_in rows)
+
+abbrev pub serve_by : Option Text → Option At → Option Text → Option JobOrder
+serve_by device at conns =
+    option_and_then (λ d. option_and_then (λ p. option_map (serve d p) (conns_in conns))
+    at) device
+
+abbrev pub serve_in : List Row → Option JobOrder
+serve_in rows =
+    serve_by (device_in rows) (endpoints_by (first_of (codes "port") rows) (first_of (codes "sockets") rows))
+    (first_of (codes "conns") rows)
+
+-- what a command is asked by its words
+abbrev pub order_at : Text → List Row → Option JobOrder
+order_at name rows =
+    if bytes_eq name (codes "desk") then Some (desk (device_in rows))
+    else (if bytes_eq name (codes "format") then format_in rows
+    else (if bytes_eq name (codes "show") then option_map show (device_in rows)
+    else (if bytes_eq name (codes "export") then option_map export (device_in rows)
+    else (if bytes_eq name (codes "serve") then serve_in rows else None))))
+
+-- words in which `clap` finds a fault ask for nothing
+abbrev pub unless_faulty : Kinds → Option JobOrder → Option JobOrder
+unless_faulty [] order = order
+unless_faulty (kind ∷ kinds) order = None
+
+-- what the words ask for, the program's name first
+unfoldable pub order_in : List Text → Option JobOrder
+order_in words =
+    unless_faulty (fault_of commands words)
+    (option_and_then (λ met. order_at met.0 met.1) (subcommand_of commands words))
+
+-- the job of an order, or wrong usage if there is none; or memory ran out
+abbrev pub IsJobOf : Option JobOrder → Result Job WordsFault → Type 0
+IsJobOf order (Ok job) = order ≡ Some (order_of job)
+IsJobOf order (Err Usage) = order ≡ None
+IsJobOf order (Err OutOfMemory) = ⊤

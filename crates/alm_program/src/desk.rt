@@ -1,23 +1,30 @@
 //! The desk over standard input and output.
 
-ghost use Rattle.std.specs.Prelude.{◌⊎◌, IfSome, OnOk, is_none};
-ghost use Rattle.alm_service.specs.Desk.{IsDesk};
+ghost use Rattle.std.specs.Prelude.{◌≡◌, ◌⊎◌, IfErr, IfSome, OnOk, is_none};
+ghost use Rattle.alm_disk.specs.Failures.{HasFailed};
+ghost use Rattle.alm_keeper.specs.AsStore.{StandsFor};
+ghost use Rattle.alm_desk.specs.DeskLines.{IsDesk};
+ghost use Rattle.alm_store.specs.Calls.{IsRefusedBy};
+ghost use Rattle.alm_store.specs.Opening.{HasCause};
 ghost use Rattle.alm_program.specs.Ends.{DeskEnds, IsUnread, IsUnwritten};
+ghost use Rattle.alm_program.specs.Faults.{fault_of_open};
 
 use crate::fault::Fault;
 use crate::file_stack::FileStack;
 use crate::io_faults::{file_fault, io_fault};
-use alm_desk::{Backend, CountedWriter, LocalDesk};
+use alm_desk::{Backend, CountedReader, CountedWriter, LocalDesk, desk_run, worked_table};
+use alm_disk::Disk;
 use alm_file::FileDisk;
+use alm_keeper::OpenFault;
 use alm_model::Alarms;
 use alm_plant::Plant;
-use alm_service::{CountedReader, desk_run, worked_table};
 use alm_stack::Stack;
 use std::alloc::Global;
 use std::fs::{File, Files};
 use std::io::{self, BufWriter, Read, Write};
 
-/// Runs a desk between a reader and a writer. Where the storage stops it goes on to the end of the input, and stopped is its fault.
+/// Runs a desk between a reader and a writer. If the storage stops, the desk continues to the end of the input, and its fault
+/// is `Stopped`.
 fn run_between<I: Read + Drop, B: Backend + Drop, W: Write + Drop>(
     reader: &mut CountedReader<I>,
     writer: &mut CountedWriter<W>,
@@ -58,10 +65,18 @@ pub fn run_desk<R: Input + Print + AllocGlobal>(rt: &R) -> Result<(), Fault> {
     run_desk_over(rt, plant)
 }
 
-/// Opens the stack over a file.
-fn open_stack(alloc: Global, disk: FileDisk) -> Result<FileStack, Fault> {
+/// Opens the stack over a device.
+fn open_stack<D: Disk + Drop>(alloc: Global, disk: D) -> Result<Stack<D>, Fault>
+    // The fault is that of a device that this one is after an opening's calls.
+    ensures refused { IfErr result
+        (λ fault. (why : OpenFault) × (now : D) × (fault ≡ fault_of_open why) ×
+        IsRefusedBy why D.serves disk now ×
+        (why ≡ OpenFault.Disk → HasFailed (D.failures disk) (D.failures now)) ×
+        (D.honest disk →
+        HasCause StandsFor (D.state disk) why (D.failures disk) (D.failures now))) }
+{
     match Stack::open(alloc, disk) {
-        Ok(stack) => Ok(FileStack { stack }),
+        Ok(stack) => Ok(stack),
         Err((fault, _)) => Err(Fault::from(fault)),
     }
 }
@@ -73,5 +88,5 @@ pub fn run_device_desk<R: Input + Print + Files<File = File> + AllocGlobal>(
 ) -> Result<(), Fault> {
     let disk = FileDisk::open(rt, device).map_err(file_fault)?;
     let stack = open_stack(rt.alloc(), disk)?;
-    run_desk_over(rt, stack)
+    run_desk_over(rt, FileStack { stack })
 }

@@ -1,9 +1,10 @@
 //! Faults of the program.
 
+use crate::words_fault::WordsFault;
+use alm_desk::RunFault;
+use alm_export::ShowFault;
 use alm_keeper::{FormatFault, OpenFault};
-use alm_service::{RunFault, ShowFault};
 use alm_table::LoadFault;
-use alm_words::WordsFault;
 use std::alloc::AllocError;
 
 /// Why the program ends with a status other than 0.
@@ -28,7 +29,7 @@ pub enum Fault {
     /// The device failed later.
     Stopped,
     OutOfMemory,
-    /// A port can't be had.
+    /// A port or a socket can't be had.
     Net,
     /// A file, standard input or output failed.
     Io,

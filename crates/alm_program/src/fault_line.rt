@@ -1,4 +1,4 @@
-//! The lines that tell of faults.
+//! The lines that report faults.
 
 ghost use Rattle.std.specs.Prelude.{◌≡◌, ◌++◌, codes};
 ghost use Rattle.alm_lines.specs.Parts.{part_text};
@@ -83,7 +83,7 @@ fn print_name<W: io::Write>(fault: &Fault, writer: &mut W) -> io::Result<()>
     put(word.as_bytes(), writer)
 }
 
-/// Prints the line that tells of a fault. Where the writer fails, a front of it is written.
+/// Prints the line of a fault. If the writer fails, a prefix of it is written.
 pub fn print_fault<W: io::Write>(fault: &Fault, writer: &mut W) -> io::Result<()>
     ensures { Prints (W.contents writer.old) (W.contents writer.new) (fault_line fault.now) result }
 {

@@ -1,6 +1,6 @@
 //! The stack over a device's file.
 
-use alm_desk::{Backend, Judged, Stopped};
+use alm_desk::{Backend, JudgedRequest, Stopped};
 use alm_file::FileDisk;
 use alm_stack::Stack;
 use alm_types::{Answer, Query, Refusal, Request};
@@ -18,7 +18,7 @@ impl Backend for FileStack {
 
     ghost failures = { λ s. ⟦<Stack<FileDisk> as Backend>⟧.failures s.stack };
 
-    fn submit(&mut self, request: &Request) -> Result<Judged, Stopped> {
+    fn submit(&mut self, request: &Request) -> Result<JudgedRequest, Stopped> {
         self.stack.submit(request)
     }
 

@@ -38,8 +38,8 @@ fn layout_for(size: u64, table: &Table) -> Result<Layout, Fault>
     Layout::longest(rows, table.areas(), size, Version::V02).ok_or(Fault::TooSmall)
 }
 
-/// Formats the file of a device for a table, which is made or set to this size first, whatever comes of it: with room on the disk for all
-/// that its layout uses, so that no later write can meet a full disk. The length of its segments.
+/// Formats the file of a device for a table, and returns the length of its segments. The file is made or set to this size first,
+/// and stays so if a refusal follows. All that its layout uses gets room on the disk, so that no later write meets a full disk.
 fn format_file<R: Files<File = File> + AllocGlobal>(
     rt: &R,
     device: &str,
@@ -85,8 +85,8 @@ fn print_formatted<W: io::Write>(table: &Table, segment: u32, writer: &mut W) ->
     )
 }
 
-/// Makes a device of a table file, and prints its rows, areas and segment. Nothing is made where the table is refused, but one that is too
-/// large for its `size` leaves a file of that size.
+/// Makes a device of a table file, and prints its rows, areas and segment. No file is made if the table is refused; but a table
+/// that is too large for its `size` leaves a file of that size.
 pub fn run_format<R: Files<File = File> + Print + AllocGlobal>(
     rt: &R,
     device: &str,

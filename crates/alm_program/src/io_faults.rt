@@ -18,7 +18,7 @@ pub fn io_fault(error: io::Error) -> Fault
     }
 }
 
-/// What a device's file that isn't opened is to the program: one that is a standard stream's is named wrongly, and one whose sync failed is a
+/// The fault of a device's file that isn't opened: one that is a standard stream is wrong usage, and one whose sync failed is a
 /// device that failed.
 pub fn file_fault(fault: FileFault) -> Fault
     ensures { result ≡ fault_of_file fault }

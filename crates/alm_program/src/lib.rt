@@ -9,13 +9,15 @@
 //! | words | do |
 //! |---|---|
 //! | `desk` | the worked table in memory, over standard input and output |
-//! | `desk DEVICE` | the same over a formatted device |
+//! | `desk DEVICE` | the same, but over a device that is formatted |
 //! | `format DEVICE TABLE` | makes the file of a device, and formats it for a table file |
-//! | `show DEVICE` | prints the plant that a device stands for |
-//! | `export DEVICE` | prints the table of that plant as a table file, with the device's size and the priorities and setpoints in force |
-//! | `serve DEVICE --port P [--conns N]` | a [`ServeOrder`], for a server of the slots of a formatted device at 18 ports |
+//! | `show DEVICE` | prints the plant on a device |
+//! | `export DEVICE` | prints the table of that plant as a table file, with the size, priorities and setpoints in force |
+//! | `serve DEVICE --port P [--conns N]` | a [`ServeOrder`]: the slots of a formatted device at 18 ports |
+//! | `serve DEVICE --sockets FOLDER [--conns N]` | the same at 18 Unix sockets in a folder |
 //!
-//! Every other word, and a request for help, is wrong usage.
+//! Options may come in any order. P (1024 to 65518) and N (below 2^32, 0 if it is missing) are decimal digits without a leading
+//! zero. Every other word, and a request for help, is wrong usage.
 //!
 //! | fault | status | its line on standard error |
 //! |---|---|---|
@@ -24,31 +26,38 @@
 //! | of the device's bytes or size | 2 | `fault too-small`, `fault unformatted`, `fault damaged <half> <at>` |
 //! | of the device as it is opened or formatted | 3 | `fault disk` |
 //! | of the device later | 3 | `fault stopped` |
-//! | of memory, files, streams, ports | 3 | `fault memory`, `fault io`, `fault net` |
+//! | of memory, files, streams, ports or sockets | 3 | `fault memory`, `fault io`, `fault net` |
 //!
-//! What is used above: [`run_words`] answers an order to serve just where some words ask for one, with the device, the port and the
-//! number of connections that they name; [`end_of`] ends with status 0 and no line, or with the status and the line of the fault.
+//! What is used above: [`run_words`] returns the order to serve that some words ask for, with their device, endpoints
+//! and number of connections. Not covered: that these are the process's own words. [`end_of`] ends with status 0 and no
+//! line, or with the status and the line of the fault.
 //!
-//! Within: over any reader, writer and device, a desk, the print of a plant or of its table and a refused opening end by the fault of
-//! their cause.
+//! Within: over any reader, writer and device, a desk, the print of a plant or of its table and a refused opening end by the fault
+//! of their cause.
 //!
-//! Not promised: what a file or a standard stream gives and takes.
+//! Not covered: what a file or a standard stream gives and takes.
 #![tactic(auto)]
 
 mod desk;
+mod endpoints;
 mod exporting;
 mod fault;
 mod fault_line;
 mod file_stack;
 mod formatting;
 mod io_faults;
+mod job;
+mod owned_endpoints;
 mod program;
 mod serve_order;
 mod showing;
+mod words;
+mod words_fault;
 
 pub use desk::run_desk_over;
 pub use fault::Fault;
 pub use fault_line::print_fault;
 pub use io_faults::file_fault;
+pub use owned_endpoints::OwnedEndpoints;
 pub use program::{end_of, run_local, run_words};
 pub use serve_order::ServeOrder;

@@ -1,23 +1,27 @@
 //! The program, from its words to its status.
 
-ghost use Rattle.std.specs.Prelude.{◌≡◌, ◌≤◌, IfOk, string_bytes};
+ghost use Rattle.std.specs.Prelude.{◌≡◌, IfOk, string_bytes};
 ghost use Rattle.std.specs.Process.{exit_status};
-ghost use Rattle.alm_words.specs.Jobs.{IsJob};
-ghost use Rattle.alm_words.specs.Orders.{order_of};
+ghost use Rattle.alm_program.specs.Jobs.{AreEndpoints, IsJob};
+ghost use Rattle.alm_program.specs.Orders.{endpoints_of, order_of};
 ghost use Rattle.alm_program.specs.Faults.{EndsBy, IsEnd};
-ghost use Rattle.alm_program.specs.Orders.{IsAskedInWords, IsOrderOf};
+ghost use Rattle.alm_program.specs.ServeOrders.{IsAskedInWords, IsOrderOf};
+ghost use Rattle.alm_program.specs.OwnedEndpoints.{AreOwnedEndpoints, at_of};
 
 use crate::desk::{run_desk, run_device_desk};
+use crate::endpoints::Endpoints;
 use crate::exporting::run_export;
 use crate::fault::Fault;
 use crate::fault_line::print_fault;
 use crate::formatting::run_format;
 use crate::io_faults::io_fault;
+use crate::job::Job;
+use crate::owned_endpoints::OwnedEndpoints;
 use crate::serve_order::ServeOrder;
 use crate::showing::run_show;
+use crate::words::job_of;
 use alm_file::fill_streams;
-use alm_words::{Job, job_of};
-use std::alloc::Global;
+use std::alloc::{AllocError, Global};
 use std::env::{self, Env};
 use std::fs::{File, Files};
 use std::io::{self, ErrorKind};
@@ -32,17 +36,35 @@ fn words_of<R: Env + AllocGlobal>(rt: &R) -> Result<Vec<String>, Fault> {
     }
 }
 
+/// The endpoints that are asked for, which own the folder's name.
+fn owned(alloc: Global, endpoints: Endpoints<'_>) -> Result<OwnedEndpoints, AllocError>
+    requires { AreEndpoints endpoints }
+    ensures at { IfOk result (λ o. at_of o ≡ endpoints_of endpoints.entry) }
+    ensures ports { IfOk result AreOwnedEndpoints }
+{
+    match endpoints {
+        Endpoints::Ports(port) => Ok(OwnedEndpoints::Ports(port)),
+        Endpoints::Sockets(folder) => Ok(OwnedEndpoints::Sockets(String::from_str(alloc, folder)?)),
+    }
+}
+
 /// What a server is asked.
-fn order_to<'a>(alloc: Global, device: &'a str, port: u16, conns: u32) -> Result<ServeOrder, Fault>
-    requires { port ≤ 65518 }
+fn order_to(
+    alloc: Global,
+    device: &str,
+    endpoints: Endpoints<'_>,
+    conns: u32,
+) -> Result<ServeOrder, Fault>
+    requires { AreEndpoints endpoints }
     ensures { IfOk result
-        (λ order. (string_bytes order.device ≡ device.now) × (order.port ≡ port) ×
-        (order.conns ≡ conns)) }
+        (λ order. (string_bytes order.device ≡ device.now) ×
+        (at_of order.endpoints ≡ endpoints_of endpoints.entry) × (order.conns ≡ conns)) }
 {
     let device = String::from_str(alloc, device)?;
+    let endpoints = owned(alloc, endpoints)?;
     Ok(ServeOrder {
         device,
-        port,
+        endpoints,
         conns,
     })
 }
@@ -63,17 +85,17 @@ fn run_job<'a, R: Input + Print + Files<File = File> + AllocGlobal>(
         Job::Export(device) => run_export(rt, device)?,
         Job::Serve {
             device,
-            port,
+            endpoints,
             conns,
         } => {
-            return Ok(Some(order_to(rt.alloc(), device, port, conns)?));
+            return Ok(Some(order_to(rt.alloc(), device, endpoints, conns)?));
         }
     }
     Ok(None)
 }
 
-/// Does what the words ask of files and standard streams, the descriptor of each closed stream taken before. Where they ask for a server,
-/// no more is done, and the answer is what they ask.
+/// Does what the words ask of files and standard streams, after the descriptor of each closed stream is taken. If they ask for a
+/// server, nothing is done, and the order is returned.
 pub fn run_words<R: Input + Print + Env + Files<File = File> + AllocGlobal>(
     rt: &R,
 ) -> Result<Option<ServeOrder>, Fault>

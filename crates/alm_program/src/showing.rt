@@ -6,9 +6,9 @@ ghost use Rattle.alm_checkpoint.specs.declared.layout.Layout.{Layout};
 ghost use Rattle.alm_disk.specs.Device.{IsImage};
 ghost use Rattle.alm_keeper.specs.Calls.{reads_of};
 ghost use Rattle.alm_keeper.specs.Keeper.{StandsWithRoom};
-ghost use Rattle.alm_keeper.specs.Opening.{CountsAs, Opens};
+ghost use Rattle.alm_keeper.specs.Opening.{CountsAs, OpensAs};
 ghost use Rattle.alm_lines.specs.Written.{Prints};
-ghost use Rattle.alm_service.specs.Showing.{plant_text};
+ghost use Rattle.alm_export.specs.Showing.{plant_text};
 ghost use Rattle.alm_store.specs.Calls.{SyncsAndEndsIn};
 ghost use Rattle.alm_program.specs.Ends.{PrintEnds};
 ghost use Rattle.alm_program.specs.Faults.{fault_of_open};
@@ -17,9 +17,9 @@ use crate::fault::Fault;
 use crate::io_faults::{file_fault, io_fault};
 use alm_desk::CountedWriter;
 use alm_disk::Disk;
+use alm_export::show_plant;
 use alm_file::FileDisk;
 use alm_keeper::{Keeper, OpenFault, open_store};
-use alm_service::show_plant;
 use alm_types::Answer;
 use std::alloc::Global;
 use std::fs::{File, Files};
@@ -37,7 +37,7 @@ fn open_to_print<D: Disk + Drop>(alloc: Global, disk: D) -> Result<Keeper<D>, Fa
         (λ fault. (why : OpenFault) × (now : D) × (layout : Layout) × (half : Half) ×
         (fault ≡ fault_of_open why) × CountsAs why (D.failures disk) (D.failures now) ×
         SyncsAndEndsIn why D.serves (reads_of layout half) disk now ×
-        (D.honest disk → Opens (D.state now).bytes (Err why)) ×
+        (D.honest disk → OpensAs (D.state now).bytes (Err why)) ×
         (D.honest disk → (b : List ℕ) → IsImage (D.state now) b → IsImage (D.state disk) b)) }
 {
     match open_store(alloc, disk) {

@@ -66,7 +66,7 @@ fn write_file(rt: &HostRuntime, path: &str, parts: &[&str]) -> Result<(), Fail> 
     Ok(())
 }
 
-/// A device keeps what was answered, and its count goes on; formatted again, it is new.
+/// A device keeps what was answered, and its count continues; formatted again, it is new.
 const KEEPS: [Run; 6] = [
     (
         b"alm_server\nformat\nkeeps.device\nkeeps.toml\n",
@@ -105,7 +105,7 @@ fn a_device_keeps_what_was_answered(rt: HostRuntime) -> Result<(), Fail> {
     Ok(())
 }
 
-/// What is shown after PRIO 0 3 behind them, in the half of the checkpoint.
+/// What is shown after PRIO 0 3, which comes after them, in the half of the checkpoint.
 const SHOWN_UPGRADED: &[u8] = b"NOW 1000 COUNT 3 EPOCH 2
 ALARM 0 TI-101 UNACK 1 - -
 ALARM 1 PI-102 NORM 0 - -
@@ -126,7 +126,7 @@ const FORMATS: [Run; 1] = [(
     (DONE, b"formatted 4 2 4116\n", b""),
 )];
 
-/// One of version 01 goes on, and the first priority brings about a checkpoint of version 02.
+/// One of version 01 stays usable, and the first priority causes a checkpoint of version 02.
 const UPGRADES: [Run; 4] = [
     (
         b"alm_server\ndesk\nold.device\n",
@@ -146,7 +146,7 @@ const UPGRADES: [Run; 4] = [
     ),
 ];
 
-/// It opens again, and goes on.
+/// It opens again, and continues.
 const GOES_ON: [Run; 1] = [(
     b"alm_server\ndesk\nold.device\n",
     b"0 1 ACK 0\n0 2 SETP 0 900\n0 3 STATE 0\n",
@@ -270,7 +270,7 @@ fn the_fault_of_a_device_is_told(rt: HostRuntime) -> Result<(), Fail> {
     Ok(())
 }
 
-/// Formats for a table that wants a byte more than its size.
+/// Formats for a table that needs a byte more than its size.
 const FORMATS_TOO_SMALL: [Run; 1] = [(
     b"alm_server\nformat\nsmall.device\nsmall.toml\n",
     b"",
@@ -280,7 +280,7 @@ const FORMATS_TOO_SMALL: [Run; 1] = [(
 /// The size of that table.
 const SMALL: usize = 28_996;
 
-/// Whether the file has that size, these bytes at its front and zeros behind them.
+/// Whether the file has that size, begins with these bytes and has zeros after them.
 fn is_set(rt: &HostRuntime, front: &[u8]) -> Result<bool, Fail> {
     let bytes = fs::read(rt, "small.device")?;
     let rest = bytes.get(front.len()..).unwrap_or(&[]);

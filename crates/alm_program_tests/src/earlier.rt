@@ -1,4 +1,4 @@
-//! A device that an earlier release wrote goes on.
+//! A device that an earlier release wrote stays usable.
 
 use crate::runs::{DONE, Run, first_wrong};
 use std::fs;
@@ -7,7 +7,8 @@ use std::test::Fail;
 /// How many bytes the device has.
 const SIZE: usize = 28_997;
 
-/// What stands on it, by places: version 01, the worked table, and the frames of CLOCK 1000 and of VAL 0 800. The other bytes are zeros.
+/// What is on it, by places: version 01, the worked table, and the frames of CLOCK 1000 and of VAL 0 800. The other bytes are
+/// zeros.
 const PARTS: [(usize, &[u8]); 10] = [
     (
         0,
@@ -100,7 +101,7 @@ const GOES_ON: [Run; 1] = [(
     (DONE, REPLIES, b""),
 )];
 
-/// Puts the parts where they stand.
+/// Puts the parts in their places.
 fn put_parts(bytes: &mut [u8]) -> Option<()> {
     for (place, part) in PARTS {
         let room = bytes.get_mut(place..)?.get_mut(..part.len())?;

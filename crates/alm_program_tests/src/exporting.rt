@@ -53,7 +53,8 @@ tag = \"XS-201\"
 text = \"\"
 ";
 
-/// A priority and a setpoint are given, and stand in the table that is exported then. A device that is missing has none.
+/// A priority and a setpoint are given, and are in the table that is exported then. A device that doesn't exist has
+/// none.
 const EXPORTS: [Run; 4] = [
     (
         b"alm_server\nformat\nexported.device\nexported.toml\n",

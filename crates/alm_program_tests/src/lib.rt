@@ -1,5 +1,5 @@
-//! The program under test: its words, its faults and its statuses, in a process of the tests' own, devices in its files, and reads that are
-//! interrupted, that fail and that give a byte at a time.
+//! The program under test: its words, its faults and its statuses, in a process of the tests' own, and devices in its files. Its
+//! reads are interrupted, fail, or give single bytes.
 #![tactic(auto)]
 
 #[cfg(test)]

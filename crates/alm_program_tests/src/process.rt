@@ -8,8 +8,8 @@ use std::fmt::Display;
 use std::fs::{File, Files, Metadata, OpenOptions};
 use std::io::{self, BufRead, Error, ErrorKind, Lines, Read};
 
-/// A process: its words, each with an LF behind it, its standard input, and a standard output that takes at most three bytes at a write and fails at
-/// every write after so many.
+/// A process: its words, each with an LF after it, its standard input, and a standard output. The output takes at most three
+/// bytes in a write, and fails at every write after a number of them.
 #[derive(Drop)]
 pub struct Process<'a> {
     alloc: Global,

@@ -1,9 +1,11 @@
 //! Reads, and a desk over them.
 
 use crate::script::{Script, Step};
-use alm_desk::{Backend, CountedWriter, LocalDesk, desk_of};
+use alm_desk::{
+    Backend, CountedReader, CountedWriter, LocalDesk, ReadOutcome, RunFault, desk_of, desk_run,
+    worked_table,
+};
 use alm_plant::Plant;
-use alm_service::{CountedReader, ReadOutcome, RunFault, desk_run, worked_table};
 use std::alloc::Global;
 use std::test::Fail;
 
@@ -46,7 +48,7 @@ const FAILS: [Step<'static>; 3] = [
     Step::Gives(b"0 3 ACK 0\n"),
 ];
 
-/// Whether a desk answers what is whole before and behind that read.
+/// Whether a desk answers what is whole before and after that read.
 fn goes_on<B: Backend + Drop>(alloc: Global, desk: &mut LocalDesk<B>) -> bool {
     let mut reader = CountedReader::new(Script::new(&FAILS));
     let mut writer = CountedWriter::new(Vec::new(alloc));

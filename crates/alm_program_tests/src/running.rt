@@ -6,7 +6,7 @@ use crate::script::Step;
 /// The words of a desk.
 const DESK: &[u8] = b"alm_server\ndesk\n";
 
-/// Words that are none of the program's.
+/// Words that the program doesn't have.
 const WORDS: [&[u8]; 11] = [
     b"",
     b"alm_server\n",
@@ -43,7 +43,7 @@ const FAILS: [Step<'static>; 5] = [
     Step::Gives(b"\n"),
 ];
 
-/// How a run ends over so many of them.
+/// How a run ends over a number of them.
 const ENDS: [(usize, Ending<'static>); 4] = [
     (2, (DONE, b"", b"")),
     (3, (DONE, b"16 1 OK 1\n", b"")),
@@ -51,7 +51,7 @@ const ENDS: [(usize, Ending<'static>); 4] = [
     (5, (BROKEN, b"16 1 OK 1\n", b"fault io\n")),
 ];
 
-/// Whether the desk over the first so many of these steps ends so.
+/// Whether the desk over the first `length` of these steps ends so.
 fn ends_behind(rt: &HostRuntime, steps: &[Step<'_>], length: usize, ending: Ending<'_>) -> bool {
     match steps.get(..length) {
         Some(steps) => ends_over(rt, DESK, steps, 100, ending),
@@ -76,7 +76,7 @@ const LINES: [Step<'static>; 3] = [
 
 const REPLIES: &[u8] = b"16 1 OK 1\n0 2 OK 2\n0 3 STATE 2 ACKED 1 - -\n";
 
-/// How many bytes go out at so many writes, of which each takes three.
+/// How many bytes go out in how many writes, of which each takes three.
 const TAKEN: [usize; 16] = [0, 3, 6, 9, 10, 13, 16, 19, 22, 25, 28, 31, 34, 37, 40, 43];
 
 #[test]

@@ -6,10 +6,10 @@ use alm_program::run_local;
 use std::alloc::Global;
 use std::process::ExitCode;
 
-/// How a run ends: its status, what it printed, and what it told of a fault.
+/// How a run ends: its status, what it printed, and what it reported of a fault.
 pub type Ending<'a> = (&'a str, &'a [u8], &'a [u8]);
 
-/// A run: its words, each with an LF behind it, its input, and how it ends.
+/// A run: its words, each with an LF after it, its input, and how it ends.
 pub type Run = (&'static [u8], &'static [u8], Ending<'static>);
 
 pub const DONE: &str = "ExitCode(unix_exit_status(0))";
@@ -31,7 +31,8 @@ pub fn is_status(alloc: Global, status: ExitCode, wanted: &str) -> bool {
     }
 }
 
-/// Whether the program, with these words, over these steps of its input and with so many writes that go well, ends so.
+/// Whether the program, with these words, over these steps of its input and with a number of writes that succeed, ends
+/// so.
 pub fn ends_over(
     rt: &HostRuntime,
     words: &[u8],

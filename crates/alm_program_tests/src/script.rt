@@ -48,7 +48,7 @@ impl Read for Script<'_> {
     }
 }
 
-/// Nothing of a script can be looked at before it is read.
+/// A script can't be peeked at before it is read.
 impl BufRead for Script<'_> {
     fn fill_buf(&mut self) -> io::Result<&[u8]> {
         Err(Error::from(ErrorKind::Unsupported))

@@ -2,44 +2,75 @@
 
 use crate::process::Process;
 use crate::script::Script;
-use alm_program::{Fault, run_words};
+use alm_program::{Fault, OwnedEndpoints, run_words};
 
-/// Words, and the port and the connections that the device `d` is to be served with; nothing where they are wrong.
-const ASKED: [(&[u8], Option<(u16, u32)>); 9] = [
-    (b"alm_server\nserve\nd\n--port\n1024\n", Some((1024, 0))),
+/// The endpoints and the connections that a server is asked for.
+#[derive(Clone, Copy, Debug)]
+enum Wanted<'a> {
+    Ports(u16, u32),
+    Sockets(&'a str, u32),
+    /// The words are wrong.
+    Nothing,
+}
+
+use Wanted::{Nothing, Ports, Sockets};
+
+/// Words, and how the device `d` is to be served with them.
+const ASKED: [(&[u8], Wanted<'static>); 16] = [
+    (b"serve\nd\n--port\n1024\n", Ports(1024, 0)),
+    (b"serve\n--port\n65518\nd\n--conns\n7\n", Ports(65518, 7)),
     (
-        b"alm_server\nserve\n--port\n65518\nd\n--conns\n7\n",
-        Some((65518, 7)),
+        b"serve\n--conns\n4294967295\n--port\n5000\nd\n",
+        Ports(5000, 4294967295),
+    ),
+    (b"serve\nd\n--port\n1023\n", Nothing),
+    (b"serve\nd\n--port\n65519\n", Nothing),
+    (b"serve\nd\n--port\n05000\n", Nothing),
+    (b"serve\nd\n--port\n5000\n--conns\n4294967296\n", Nothing),
+    (b"serve\nd\n", Nothing),
+    (b"serve\n--port\n5000\n", Nothing),
+    (
+        b"serve\nd\n--sockets\n/run/plant\n",
+        Sockets("/run/plant", 0),
     ),
     (
-        b"alm_server\nserve\n--conns\n4294967295\n--port\n5000\nd\n",
-        Some((5000, 4294967295)),
+        b"serve\n--sockets\n5000\n--conns\n2\nd\n",
+        Sockets("5000", 2),
     ),
-    (b"alm_server\nserve\nd\n--port\n1023\n", None),
-    (b"alm_server\nserve\nd\n--port\n65519\n", None),
-    (b"alm_server\nserve\nd\n--port\n05000\n", None),
-    (
-        b"alm_server\nserve\nd\n--port\n5000\n--conns\n4294967296\n",
-        None,
-    ),
-    (b"alm_server\nserve\nd\n", None),
-    (b"alm_server\nserve\n--port\n5000\n", None),
+    (b"serve\n--sockets=here\nd\n", Sockets("here", 0)),
+    (b"serve\nd\n--sockets\nhere\n--port\n5000\n", Nothing),
+    (b"serve\nd\n--sockets\nhere\n--conns\n01\n", Nothing),
+    (b"serve\nd\n--sockets\n", Nothing),
+    (b"serve\n--sockets\nhere\n", Nothing),
 ];
 
+/// Whether an order has these endpoints and these connections.
+fn has(endpoints: &OwnedEndpoints, conns: u32, wanted: Wanted<'_>) -> bool {
+    match (endpoints, wanted) {
+        (OwnedEndpoints::Ports(port), Ports(first, most)) => *port == first && conns == most,
+        (OwnedEndpoints::Sockets(folder), Sockets(path, most)) => folder.as_str() == path
+            && conns == most,
+        _ => false,
+    }
+}
+
 /// Whether a server is asked for so with these words.
-fn is_asked(rt: &HostRuntime, words: &[u8], wanted: Option<(u16, u32)>) -> bool {
-    let process = Process::new(rt, words, Script::new(&[]), 100);
+fn is_asked(rt: &HostRuntime, words: &[u8], wanted: Wanted<'_>) -> bool {
+    let Ok(all) = [b"alm_server\n", words].concat(rt.alloc()) else {
+        return false;
+    };
+    let process = Process::new(rt, all.as_slice(), Script::new(&[]), 100);
     match run_words(&process) {
         Ok(Some(order)) => {
-            order.device.as_str() == "d" && wanted == Some((order.port, order.conns))
+            order.device.as_str() == "d" && has(&order.endpoints, order.conns, wanted)
         }
         Ok(None) => false,
-        Err(fault) => wanted.is_none() && fault == Fault::Usage,
+        Err(fault) => matches!(wanted, Nothing) && fault == Fault::Usage,
     }
 }
 
 #[test]
-fn a_server_is_asked_for_its_port_and_its_connections(rt: HostRuntime) {
+fn a_server_is_asked_for_its_endpoints_and_its_connections(rt: HostRuntime) {
     for (row, (words, wanted)) in ASKED.iter().enumerate() {
         assert!(rt; is_asked(&rt, words, *wanted), "row {row}");
     }

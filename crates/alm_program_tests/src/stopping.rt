@@ -3,11 +3,10 @@
 use crate::process::Process;
 use crate::runs::{BROKEN, DONE, Ending, MANY, is_status};
 use crate::script::{Script, Step};
-use alm_desk::{Backend, Judged, Stopped};
+use alm_desk::{Backend, JudgedRequest, Stopped, worked_table};
 use alm_disk::MemDisk;
 use alm_keeper::format;
 use alm_program::{end_of, run_desk_over};
-use alm_service::worked_table;
 use alm_stack::Stack;
 use alm_types::{Answer, Query, Refusal, Request};
 use std::alloc::{AllocError, Global};
@@ -34,7 +33,7 @@ impl Backend for MemStack {
 
     ghost failures = { λ s. ⟦<Stack<MemDisk> as Backend>⟧.failures s.stack };
 
-    fn submit(&mut self, request: &Request) -> Result<Judged, Stopped> {
+    fn submit(&mut self, request: &Request) -> Result<JudgedRequest, Stopped> {
         self.stack.submit(request)
     }
 
@@ -51,7 +50,7 @@ impl Backend for MemStack {
     }
 }
 
-/// The stack over a formatted device that fails behind so many calls.
+/// The stack over a formatted device that fails after `calls` calls.
 fn open_stack(alloc: Global, calls: usize) -> Result<MemStack, AllocError> {
     let table = worked_table(alloc)?;
     let disk = MemDisk::new(alloc, vec![in alloc; 0u8; SIZE]?, calls)?;
@@ -67,7 +66,7 @@ fn open_stack(alloc: Global, calls: usize) -> Result<MemStack, AllocError> {
 /// Two actions and a query.
 const LINES: &[u8] = b"17 1 CLOCK 1000\n16 2 VAL 0 800\n0 3 STATE 0\n";
 
-/// Whether a desk over a device that fails behind so many calls of these lines ends so.
+/// Whether a desk over a device that fails after `calls` calls of these lines ends so.
 fn ends_by(rt: &HostRuntime, calls: usize, (status, printed, errors): Ending<'_>) -> bool {
     let steps = [Step::Gives(LINES)];
     let process = Process::new(rt, b"", Script::new(&steps), MANY);

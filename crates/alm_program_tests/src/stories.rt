@@ -2,7 +2,7 @@
 
 use crate::runs::{DONE, Run, first_wrong};
 
-/// A shelving that the clock ends, and the alarm that is annunciated anew.
+/// A shelving that the clock ends, and the alarm that is annunciated again.
 const SHELVING: &[u8] = b"17 1 CLOCK 1000
 16 2 VAL 1 90
 0 3 SHELVE 1 600
@@ -92,8 +92,8 @@ const FLOOD_REPLIES: &[u8] = b"17 1 OK 1
 0 29 FLOOD 25 0 0
 ";
 
-/// An operator's morning: two alarms, one acknowledged and gone, a latched one that has to be reset; then the first gets another setpoint
-/// and another priority.
+/// An operator's morning: two alarms, one of which is acknowledged and goes, and a latched one that must be reset. Then
+/// the first gets another setpoint and another priority.
 const MORNING: &[u8] = b"17 1 CLOCK 21600
 16 2 VAL 0 812
 16 3 VAL 2 1

@@ -1,5 +1,5 @@
-//! The lines of faults that no run of these tests brings about: those of a device that fails as it is opened or formatted, of memory and
-//! of ports.
+//! The lines of faults that no run of these tests brings about: those of a device that fails as it is opened or
+//! formatted, of memory and of ports.
 
 use crate::runs::{BROKEN, is_status};
 use alm_file::FileFault;

@@ -1,22 +1,22 @@
-//! Progress: nothing in the server's design gets stuck, lost or starved. These are laws of the world of plain lists that the headline speaks of
-//! (alm_pipeline, specs/World.antt), in which sequencer, flusher and receivers step in any order. Each function does nothing, and its contract
-//! is the law.
+//! Progress: no request in the server's design is stuck, lost or starved. These are laws of the world of plain lists that the
+//! headline is about (alm_pipeline, specs/World.antt), in which sequencer, flusher and receivers step in any order. Each function
+//! does nothing, and its contract is the law.
 //!
 //! | law | says |
 //! |---|---|
 //! | [`nothing_is_stuck`] | while a request isn't received, some step of sequencer, flusher or a receiver is possible |
-//! | [`each_step_leaves_less`] | each such step leaves less to do; a request adds `calls + 8`, a look nothing |
+//! | [`each_step_leaves_less`] | each such step leaves less to do; a request adds `calls + 8`, a look 0 |
 //! | [`nothing_gets_lost`] | what was taken is released or under way, in each world of a run, crashes included |
-//! | [`all_is_answered_in_time`], [`a_way_leads_to_the_end`] | such steps alone lead to where every request is received, and there are such steps |
+//! | [`all_is_answered_in_time`], [`a_way_leads_to_the_end`] | such steps alone lead to a world in which every request is received, and there are such steps |
 //! | [`every_fair_schedule_answers_all`] | rounds in any order, each step once or more in a round, receive all |
 //! | [`rounds_in_order_answer_all`] | from a settled world rounds in the threads' order receive a share of each slot: five for 18 slots with 64 each |
 //!
-//! One premise is added, `Paces`: the commit of a held batch goes on a bounded number of times. That the calls of a bench or a desk keep to
-//! it is no clause of theirs yet.
+//! One premise is added, `Paces`: the steps of a held batch's commit return More a bounded number of times. Not covered: that the
+//! calls of a bench or a desk meet it.
 //!
-//! Not said: that a thread runs, since a part that is never driven does nothing; and nothing of requests that never stop coming: then a slot
-//! can be starved by others where the order of steps is free, and the threads' shares are what prevents it. Five rounds hold from a
-//! settled world alone: behind seven sealed batches a request is received in the eighth.
+//! Not covered: that a thread runs, since a part that is never driven does nothing; and requests that never stop coming. Then a
+//! slot can be starved by others if the order of steps is free, and the threads' shares are what prevents it. Five rounds hold
+//! only from a settled world: after seven sealed batches a request is received in the eighth.
 #![tactic(auto)]
 
 ghost use Rattle.std.specs.Prelude.{◌≡◌, ◌<◌, ◌≤◌, ◌+◌, ◌*◌, ◌⊎◌, ℕ, List, length};
@@ -42,7 +42,7 @@ pub fn each_step_leaves_less()
         left_to_do slots calls w more }
 {}
 
-/// A request that is sent adds its own steps: eight, and the calls that its commit goes on.
+/// A request that is sent adds its own steps: eight, and the calls of its commit that return More.
 pub fn a_request_adds_its_own()
     ensures { (slots calls more slot serial : ℕ) (w : World) (action : Action) → slot < slots →
         w.taken slot ≤ length (w.sent slot) →
@@ -50,14 +50,15 @@ pub fn a_request_adds_its_own()
         left_to_do slots calls w more + (calls + 8) }
 {}
 
-/// A look leaves it alone.
+/// A look doesn't change it.
 pub fn a_look_adds_nothing()
     ensures { (slots calls more slot : ℕ) (w : World) (query : Query) (event : Event) →
         left_to_do slots calls (after_step w (Look slot query) event) more ≡
         left_to_do slots calls w more }
 {}
 
-/// Nothing gets lost: not at first, by no step, and so in no world that a run reaches, crashes and reopenings included.
+/// No request gets lost: not at first, by no step, and so in no world that a run reaches, crashes and reopenings
+/// included.
 pub fn nothing_gets_lost()
     ensures fresh { (plant : Condensed) (kept : List Action) (least : ℕ) →
         LosesNothing (new_world plant kept least) }
@@ -68,16 +69,16 @@ pub fn nothing_gets_lost()
         LosesNothing (after_steps (closed_world (first plant)) steps trace) }
 {}
 
-/// Nothing is stuck: where a request isn't received, a step of sequencer, flusher or receiver is possible.
+/// The design is never stuck: if a request isn't received, a step of sequencer, flusher or receiver is possible.
 pub fn nothing_is_stuck()
     ensures { (slots calls slot : ℕ) (w : World) → LosesNothing w → slot < slots →
         w.received slot < length (w.sent slot) →
         (step : Step) × Serves slots calls step × Possible w step }
 {}
 
-/// So all that was sent is answered in time. Let them go on from some moment, each step a possible one, with no failure, crash or new request:
-/// then each step counts towards what was left to do, and where none is possible any more, or as many were
-/// made as were left, each request is received.
+/// So all that was sent is answered in time. Consider such steps from some moment on, each a possible one, with no failure, crash
+/// or new request. Each step then counts towards what was left to do. If none is possible any more, or as many were made as were
+/// left, each request is received.
 pub fn all_is_answered_in_time()
     ensures { (slots calls more last : ℕ) (w : World) (steps : List Step) (trace : List Event) →
         LosesNothing w → StepsPossibly slots calls w more steps trace last →
@@ -88,8 +89,8 @@ pub fn all_is_answered_in_time()
         AreReceived slots calls w (after_steps w steps trace)) }
 {}
 
-/// These runs are there: in each world such steps lead to where each request is received, and any steps of theirs can be driven, one that isn't
-/// possible being skipped.
+/// These runs exist. From each world such steps lead to one in which each request is received. Any steps of theirs can be driven,
+/// one that isn't possible being skipped.
 pub fn a_way_leads_to_the_end()
     ensures driven { (slots calls more : ℕ) (w : World) (steps : List Step) →
         AllServe slots calls steps →
@@ -101,17 +102,18 @@ pub fn a_way_leads_to_the_end()
         AreReceived slots calls w (after_steps w steps trace) }
 {}
 
-/// The order doesn't matter. In a round each step of sequencer, flusher and receivers is driven at least once, in any order, and may be skipped:
-/// after as many rounds as steps were left each request that was sent before them is received, if no call fails.
+/// The order doesn't matter. In a round each step of sequencer, flusher and receivers is driven at least once, in any order, and
+/// may be skipped. After as many rounds as steps were left, each request that was sent before them is received, if no call fails.
 pub fn every_fair_schedule_answers_all()
     ensures { (slots calls more last : ℕ) (w end : World) (rounds : List (List Step)) →
         LosesNothing w → left_to_do slots calls w more ≤ length rounds →
         DrivesRounds slots calls w more rounds end last → AreReceived slots calls w end }
 {}
 
-/// The bound in rounds. In the threads' order a round takes a share of each slot, brings the batch all the way and lets each slot receive its share.
-/// From a moment at which nothing is under way so many rounds answer each slot's requests, if they are that many shares at most and the shares of
-/// all slots fit a batch: of 18 slots with 64 requests each, five rounds with shares of 14.
+/// The bound in rounds. In the threads' order a round takes a share of each slot, brings the batch all the way and lets each slot
+/// receive its share. From a moment at which no work is under way `rounds` rounds answer each slot's requests. For that these are
+/// at most `rounds` shares, and the shares of all slots fit a batch: of 18 slots with 64 requests each, five rounds with shares
+/// of 14.
 pub fn rounds_in_order_answer_all()
     ensures { (slots calls share rounds more last : ℕ) (w end : World) →
         slots * share ≤ most_entries → LosesNothing w → HasNothingUnderWay slots w →

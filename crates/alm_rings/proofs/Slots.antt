@@ -50,7 +50,7 @@ module _ {E : Type 0} (number : E → ℕ) where
     | inr f ↦ rw f (set_other ends k e new slot is same other)
   ]
 
-  -- an end that is there stands at a place
+  -- an end that exists is at a place
   pub place_of : (ends : List E) (slot : ℕ) (e : E) → end_at number slot ends ≡ Some e → (k : ℕ) × ((slice_get ends k ≡ Some e) × (number e ≡ slot))
   place_of [] slot e is = absurd (none-some e is)
   place_of (x ∷ ends) slot e is = elim (cases_Bool (number x == slot)) [
@@ -76,7 +76,7 @@ module _ {E : Type 0} (number : E → ℕ) where
       let same : k.0 ≡ at = sym (get_or_from_slice_get places slot k.0 0 here) ∙ is in
       (some.0, (subst (λ n. slice_get ends n ≡ Some some.0) same k.1.0, k.1.1, some.1))
 
-  -- what stands at a place after a write
+  -- what is at a place after a write
   get_set : (ends : List E) (k j : ℕ) (new x : E) → slice_get (slice_set ends k new) j ≡ Some x → ((j ≡ k) × (x ≡ new)) ⊎ (slice_get ends j ≡ Some x)
   get_set [] k j new x is = inr is
   get_set (y ∷ ends) zero zero new x is = inl (refl, sym (same_Some new x is))
@@ -84,7 +84,7 @@ module _ {E : Type 0} (number : E → ℕ) where
   get_set (y ∷ ends) (suc k) zero new x is = inr is
   get_set (y ∷ ends) (suc k) (suc j) new x is = elim (get_set ends k j new x is) [ inl h ↦ inl (ap suc h.0, h.1) | inr h ↦ inr h ]
 
-  -- another end at its place stands where its slot says
+  -- another end at its place is at the place that its slot says
   pub placed_set : (ends : List E) (places : List ℕ) (k : ℕ) (e new : E) → ((j : ℕ) (x : E) → slice_get ends j ≡ Some x → slice_get places (number x) ≡ Some j) → slice_get ends k ≡ Some e → number new ≡ number e
       → (j : ℕ) (x : E) → slice_get (slice_set ends k new) j ≡ Some x → slice_get places (number x) ≡ Some j
   placed_set ends places k e new placed at same j x is = elim (get_set ends k j new x is) [
@@ -92,7 +92,7 @@ module _ {E : Type 0} (number : E → ℕ) where
     | inr h ↦ placed j x h
   ]
 
-  -- and so do the slots of the ends, looked up by their places
+  -- and so do the slots of the ends, found by their places
   pub back_set : (ends : List E) (places : List ℕ) (at : ℕ) (e new : E) → ((s k : ℕ) (x : E) → slice_get places s ≡ Some k → slice_get ends k ≡ Some x → number x ≡ s) → slice_get ends at ≡ Some e → number new ≡ number e
       → (s k : ℕ) (x : E) → slice_get places s ≡ Some k → slice_get (slice_set ends at new) k ≡ Some x → number x ≡ s
   back_set ends places at e new back here same s k x to is = elim (get_set ends at k new x is) [
@@ -110,7 +110,7 @@ module _ {E : Type 0} (number : E → ℕ) where
         inr (other, set_other ends k e new slot at same other))
   ]
 
-  -- what is read of each slot's end stays, where it is the same of both ends
+  -- what is read of each slot's end stays, if it is the same of both ends
   pub set_by : {A : Type 0} (f : Option E → A) (ends : List E) (k : ℕ) (e new : E) → AreApart number ends → slice_get ends k ≡ Some e → number new ≡ number e → f (Some new) ≡ f (Some e) → (slot : ℕ) → f (end_at number slot (slice_set ends k new)) ≡ f (end_at number slot ends)
   set_by f ends k e new apart at same is slot = elim (set_cases ends k e new apart at same slot) [
     | inl h ↦ ap f h.2 ∙ (is ∙ ap f (sym h.1))
@@ -131,7 +131,7 @@ same_inboxes inboxes k i new apart at same s = elim (set_cases (λ i. i.slot) in
   | inr h ↦ rw h.1 (same_inbox_at (inbox_at s inboxes))
 ]
 
--- a slot whose place lies behind the ends has none
+-- a slot whose place is after the ends has none
 pub no_end : {E : Type 0} (number : E → ℕ) (ends : List E) (places : List ℕ) (slot at : ℕ) → ((k : ℕ) (e : E) → slice_get ends k ≡ Some e → slice_get places (number e) ≡ Some k) → get_or places slot 0 ≡ at → length ends ≤ at → end_at number slot ends ≡ None
 no_end number ends places slot at placed is far = elim (end_at number slot ends) as (λ o. end_at number slot ends ≡ o → o ≡ None) [
   | None ↦ λ e. refl

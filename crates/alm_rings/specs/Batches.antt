@@ -21,11 +21,11 @@ coming_in f = known_items f.full
 abbrev pub places_of : SealEnds → ℕ
 places_of s = known_free s.full
 
--- all batches that were given back, oldest first
+-- all batches that were returned, oldest first
 abbrev pub given_of : FetchEnds → List Judged
 given_of f = sent f.empty
 
--- all batches that came back, oldest first
+-- all batches that were returned to the sequencer, oldest first
 abbrev pub emptied_of : SealEnds → List Judged
 emptied_of s = received s.empty
 

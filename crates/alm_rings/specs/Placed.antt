@@ -8,7 +8,7 @@ use Rattle.alm_rings.specs.declared.inbox.Inbox.{Inbox}
 use Rattle.alm_rings.specs.declared.outbox.Outbox.{Outbox}
 use Rattle.alm_rings.specs.Ends.{taken_of, waiting_in, released_of, room_in, SameInbox, SameOutbox}
 
--- the end of a slot, the first where there were several
+-- the end of a slot, the first if there were several
 abbrev pub end_at : {E : Type 0} → (E → ℕ) → ℕ → List E → Option E
 end_at number slot [] = None
 end_at number slot (e ∷ ends) = if number e == slot then Some e else end_at number slot ends
@@ -28,7 +28,7 @@ abbrev pub known_to : Option Inbox → List Action
 known_to None = []
 known_to (Some i) = waiting_in i
 
--- the requests of a slot that were taken, none where it has no end
+-- the requests of a slot that were taken, none if it has no end
 abbrev pub taken_by : ℕ → List Inbox → List Action
 taken_by slot inboxes = taken_in (inbox_at slot inboxes)
 
@@ -54,7 +54,7 @@ module _ {T : Type 0} {g : Ghosts T} where
   room_at None = 0
   room_at (Some o) = room_in o
 
-  -- the receipts that were released to a slot, none where it has no end
+  -- the receipts that were released to a slot, none if it has no end
   abbrev pub released_by : ℕ → List (Outbox T g) → List (Receipt T g)
   released_by slot outboxes = released_in (outbox_at slot outboxes)
 

@@ -25,7 +25,7 @@ pub struct SlotEnds<T: Told + Drop> {
     pub outboxes: Vec<Outbox<T>>,
 }
 
-/// The ends of all slots, new; an error only for want of memory.
+/// The ends of all slots, new; an error only if out of memory.
 pub fn open_slots<T: Told + Drop>(alloc: Global) -> Result<SlotEnds<T>, AllocError>
     ensures count { IfOk result (λ e. length e.consoles.items ≡ slot_count) }
     ensures apart { IfOk result

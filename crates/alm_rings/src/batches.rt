@@ -14,7 +14,7 @@ use std::alloc::{AllocError, Global};
 const BATCHES: usize = 8;
 
 /// The ends of both batch rings, and the eight batches, empty and with their room, all on the way to the sequencer; an error only
-/// for want of memory.
+/// if out of memory.
 pub fn open_batches(alloc: Global) -> Result<(SealEnds, FetchEnds), AllocError>
     ensures ends { IfOk result (λ r. AreBatchEnds r.0 r.1) }
     ensures new { IfOk result
@@ -38,7 +38,8 @@ pub fn open_batches(alloc: Global) -> Result<(SealEnds, FetchEnds), AllocError>
     Ok((seal, fetch))
 }
 
-/// Tells the two ends of each batch ring, in one thread, what the other did. Takes no memory.
+/// Synchronises the ends of both batch rings, which must be in the same thread: each learns what the other did. Takes
+/// no memory.
 pub fn batches_beside(seal: &mut SealEnds, fetch: &mut FetchEnds)
     requires { AreBatchEnds seal.old fetch.old }
     ensures ends { AreBatchEnds seal.new fetch.new }

@@ -52,8 +52,8 @@ impl<T: Told + Drop> Console<T> {
 
     /// Sends an action, and gives its serial, from 1.
     ///
-    /// [`Busy`] gives the action back, with nothing changed: where [`MOST_OUT`] requests are unanswered, where no place of the
-    /// ring is known to be free, or where the serials are spent.
+    /// Changes nothing and returns [`Busy`] with the action if [`MOST_OUT`] requests are unanswered, if no place is known to be
+    /// free, or if the serials are used up.
     pub fn send(&mut self, action: Action) -> Result<u64, Busy>
         ensures end { SameConsole self.old self.new }
         ensures receipts { (received_of self.new ≡ received_of self.old) ×
@@ -88,7 +88,7 @@ impl<T: Told + Drop> Console<T> {
         self.replies.cached_slots() > 0
     }
 
-    /// The next receipt. `None` where no receipt is known to wait.
+    /// The next receipt. `None` if no receipt is known to wait.
     pub fn receive(&mut self) -> Option<Receipt<T>>
         ensures end { SameConsole self.old self.new }
         ensures requests { (sent_of self.new ≡ sent_of self.old) ×

@@ -8,7 +8,7 @@ use alm_types::Batch;
 use rtrb::{Consumer, Producer};
 use std::alloc::Global;
 
-/// The flusher's ends of the batch rings: it fetches batches, and gives them back empty.
+/// The flusher's ends of the batch rings: it fetches batches, and returns them empty.
 #[derive(Drop)]
 pub struct FetchEnds {
     pub(crate) full: Consumer<Batch>,
@@ -28,7 +28,7 @@ impl FetchEnds {
         self.full.cached_slots() > 0
     }
 
-    /// The next sealed batch. `None` where none is known to wait.
+    /// The next sealed batch. `None` if none is known to wait.
     pub fn fetch(&mut self) -> Option<Batch>
         ensures ends { SameFetchEnds self.old self.new }
         ensures given { (given_of self.new ≡ given_of self.old) ×
@@ -45,8 +45,8 @@ impl FetchEnds {
         self.full.pop().ok()
     }
 
-    /// Gives a batch back, without its entries. It comes back, with nothing changed, where no place of the ring is
-    /// known to be free.
+    /// Returns a batch, without its entries, to the sequencer. If no place of the ring is known to be free, the batch
+    /// comes back as the error and nothing changes.
     pub fn give_back(&mut self, batch: Batch) -> Result<(), Batch>
         ensures ends { SameFetchEnds self.old self.new }
         ensures fetched { (fetched_of self.new ≡ fetched_of self.old) ×

@@ -36,7 +36,7 @@ impl Inbox {
         self.requests.cached_slots() > 0
     }
 
-    /// The next request, after its serial. `None` where no request is known to wait.
+    /// The next request, after its serial. `None` if no request is known to wait.
     pub fn take(&mut self) -> Option<(u64, Action)>
         ensures end { SameInbox self.old self.new }
         ensures some { IfSome result

@@ -1,4 +1,4 @@
-//! The ends by which the threads of the server hand each other requests, receipts and batches.
+//! The ends by which the threads of the server pass requests, receipts and batches to each other.
 //!
 //! ```text
 //! let (mut console, mut inbox, mut outbox) = open_slot(alloc, slot)?;
@@ -6,7 +6,8 @@
 //! outbox.release(receipt)?; let receipt = console.receive();
 //! ```
 //!
-//! Each slot has three ends over two rings of 64. The batches go over two rings of eight, and eight batches go round.
+//! Each slot has three ends over two rings of 64. The batches pass through two rings of eight, and there are eight
+//! batches in all.
 //!
 //! | ring | what goes in | what comes out |
 //! |---|---|---|
@@ -15,19 +16,19 @@
 //! | sealed batches | [`SealEnds::seal`] | [`FetchEnds::fetch`] |
 //! | empty batches | [`FetchEnds::give_back`] | [`SealEnds::empty`] |
 //!
-//! [`open_slot`], [`open_slots`] and [`open_batches`] take all the memory that there is to take. No other call takes any, and none waits:
-//! where a ring is not known to have a place, what was to go in comes back, and where it is not known to hold an item,
-//! none comes out. Each such answer has its causes in the contract, and changes nothing.
+//! [`open_slot`], [`open_slots`] and [`open_batches`] take all the memory that is needed. No other call takes any, and none
+//! waits. If a ring is not known to have a free place, what was to go in is returned; if it is not known to hold an item, none
+//! comes out. Each such answer has its causes in the contract, and changes nothing.
 //!
 //! What is used above: contracts see all that ever went into a ring at one end, and all that ever came out at the
-//! other. Every call says that it is still the same end, and what became of these lists. Between threads nothing ties
-//! the two lists together, until both ends are in one thread: then [`beside`], its halves [`requests_beside`] and
-//! [`replies_beside`], [`batches_beside`] and [`close_slot`] say that what came out is a front of what went in, in
-//! order. A [`Receipt`] says more by its type, in whatever thread: the list that it tells reaches its number, and an
-//! accepted action stands there. A batch that comes back has no entries. Who holds the ends of many slots finds them by
-//! their slots: specs/Placed defines the end of a slot, and what no slot with two ends means.
+//! other. Every call says that it is still the same end, and what became of these lists. Between threads the two lists
+//! are not related until both ends are in one thread. Then [`beside`], its halves [`requests_beside`] and
+//! [`replies_beside`], [`batches_beside`] and [`close_slot`] say that what came out is a prefix of what went in. A
+//! [`Receipt`] says more by its type, in whatever thread: the list that it reports reaches its number, and an accepted
+//! action is in the list at that number. A batch that is returned has no entries. The holder of the ends of many slots
+//! finds them by their slots: specs/Placed defines the end of a slot, and what it means that no slot has two ends.
 //!
-//! It is not promised that anything sent is ever taken, nor anything released ever received.
+//! Not covered: that anything sent is ever taken, or anything released ever received.
 #![tactic(auto)]
 
 mod all_slots;

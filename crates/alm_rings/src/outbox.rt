@@ -31,7 +31,7 @@ impl<T: Told + Drop> Outbox<T> {
         self.slot
     }
 
-    /// Releases a receipt. It comes back, with nothing changed, where no place of the ring is known to be free.
+    /// Releases a receipt. If no place of the ring is known to be free, the receipt is returned and nothing changes.
     pub fn release(&mut self, receipt: Receipt<T>) -> Result<(), Receipt<T>>
         ensures end { SameOutbox self.old self.new }
         ensures ok { OnOk result ((released_of self.new ≡ released_of self.old ++ receipt ∷ [])

@@ -7,14 +7,14 @@ ghost use Rattle.alm_types.specs.declared.verdict.Verdict.TheVariants.{Accepted}
 use crate::told::Told;
 use alm_types::Verdict;
 
-/// The answer to a request. Its type keeps that the list it tells reaches its number, and that an accepted action
-/// stands there.
+/// The answer to a request. Its type guarantees that the list it reports reaches its number, and that an accepted
+/// action is in the list at that number.
 #[derive(Drop)]
 pub struct Receipt<T: Told> {
     /// Which of the slot's requests it answers, from 1.
     pub serial: u64,
     pub verdict: Verdict,
-    /// The number of the action that was accepted, or the count of actions against which the request was refused.
+    /// The number of the action that was accepted, or the count of actions at which the request was refused.
     pub number: u64,
     pub told: T,
     pub ghost reaches: { number ≤ T.base_count told + length (T.list told) },

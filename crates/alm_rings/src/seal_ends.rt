@@ -21,8 +21,8 @@ impl SealEnds {
     ghost use mathlib.Core.List.{IsPrefix};
     ghost use Rattle.alm_rings.specs.Batches.{SameSealEnds, sealed_of, empties_in, emptied_of, places_of};
 
-    /// Seals a batch: hands it to the flusher. It comes back, with nothing changed, where no place of the ring is
-    /// known to be free.
+    /// Seals a batch: sends it to the flusher. If no place of the ring is known to be free, the batch is returned and
+    /// nothing changes.
     pub fn seal(&mut self, batch: Batch) -> Result<(), Batch>
         ensures ends { SameSealEnds self.old self.new }
         ensures empties { (empties_in self.new ≡ empties_in self.old) ×
@@ -41,7 +41,7 @@ impl SealEnds {
         }
     }
 
-    /// The next empty batch. `None` where none is known to wait.
+    /// The next empty batch. `None` if none is known to wait.
     pub fn empty(&mut self) -> Option<Batch>
         ensures ends { SameSealEnds self.old self.new }
         ensures sealed { (sealed_of self.new ≡ sealed_of self.old) ×

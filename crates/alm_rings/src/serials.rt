@@ -3,7 +3,7 @@
 use alm_types::Action;
 use rtrb::Protocol;
 
-/// The last serial that there is.
+/// The last serial.
 pub(crate) const LAST_SERIAL: u64 = u64::MAX;
 
 /// The protocol that allows as many requests as there are serials.

@@ -16,7 +16,7 @@ use alm_types::Slot;
 use rtrb::RingBuffer;
 use std::alloc::{AllocError, Global};
 
-/// The three ends of a new slot, over two rings of 64; an error only for want of memory.
+/// The three ends of a new slot, over two rings of 64; an error only if out of memory.
 pub fn open_slot<T: Told + Drop>(
     alloc: Global,
     slot: Slot,
@@ -51,7 +51,8 @@ pub fn open_slot<T: Told + Drop>(
     Ok((console, inbox, outbox))
 }
 
-/// Tells the two ends of a slot's ring of requests, in one thread, what the other did. Takes no memory.
+/// Synchronises the two ends of a slot's ring of requests, in one thread: each learns what the other did. Takes no
+/// memory.
 pub fn requests_beside<T: Told + Drop>(console: &mut Console<T>, inbox: &mut Inbox)
     requires { IsPair console.old.requests inbox.old.requests }
     ensures ends { IsPair console.new.requests inbox.new.requests }
@@ -66,12 +67,14 @@ pub fn requests_beside<T: Told + Drop>(console: &mut Console<T>, inbox: &mut Inb
     ensures room { most_out + length (taken_of inbox.new) ≤
         room_of console.new + length (sent_of console.new) }
 {
+    // for the proof: the serial is a number of 64 bits, so fewer than 2^64 requests were sent
     let _serial = console.serial;
     console.requests.slots_beside(&mut inbox.requests);
     inbox.requests.slots_beside(&mut console.requests);
 }
 
-/// Tells the two ends of a slot's ring of receipts, in one thread, what the other did. Takes no memory.
+/// Synchronises the two ends of a slot's ring of receipts, in one thread: each learns what the other did. Takes no
+/// memory.
 pub fn replies_beside<T: Told + Drop>(console: &mut Console<T>, outbox: &mut Outbox<T>)
     requires { IsPair outbox.old.replies console.old.replies }
     ensures ends { IsPair outbox.new.replies console.new.replies }
@@ -88,7 +91,7 @@ pub fn replies_beside<T: Told + Drop>(console: &mut Console<T>, outbox: &mut Out
     console.replies.slots_beside(&mut outbox.replies);
 }
 
-/// Tells each of a slot's three ends, in one thread, what the others did. Takes no memory.
+/// Synchronises a slot's three ends, in one thread: each learns what the others did. Takes no memory.
 pub fn beside<T: Told + Drop>(console: &mut Console<T>, inbox: &mut Inbox, outbox: &mut Outbox<T>)
     requires { AreEnds console.old inbox.old outbox.old }
     ensures ends { AreEnds console.new inbox.new outbox.new }
@@ -111,7 +114,7 @@ pub fn beside<T: Told + Drop>(console: &mut Console<T>, inbox: &mut Inbox, outbo
     replies_beside(console, outbox);
 }
 
-/// Ends a slot, and reports what went through it. Always `Some`, since all its ends are at hand.
+/// Ends a slot, and reports what went through it. Always `Some`, since it has all the slot's ends.
 pub fn close_slot<T: Told + Drop>(
     console: Console<T>,
     inbox: Inbox,

@@ -1,6 +1,6 @@
-//! What receipts tell.
+//! What receipts report.
 
-/// What a receipt tells of the list of published actions: contracts alone see it.
+/// What a receipt reports of the list of published actions: only contracts see it.
 pub trait Told {
     ghost use Rattle.std.specs.Prelude.{ℕ, List};
     ghost use Rattle.alm_types.specs.declared.action.Action.{Action};

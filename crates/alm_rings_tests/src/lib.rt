@@ -1,4 +1,4 @@
-//! Tests of the ends of slots and of batch rings: what no clause says, and each call once with ample memory.
+//! Tests of the ends of slots and of batch rings: what the contracts don't cover, and each call once with ample memory.
 //! [`one`] makes the receipts, and is proved with the crate itself.
 #![tactic(auto)]
 

@@ -3,7 +3,7 @@
 use alm_rings::{Receipt, Told};
 use alm_types::{Action, AlarmId, Verdict};
 
-/// Tells a list of one action, of a server that was opened with none.
+/// Reports a list of one action, of a server that was opened with none.
 #[derive(Drop)]
 pub struct One {
     pub action: Action,

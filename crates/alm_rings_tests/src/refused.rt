@@ -1,5 +1,5 @@
-//! Want of memory: run with each allocation refused in turn (`rt try --test --fail-alloc N`), these pass. One is refused at
-//! most, so what was refused is made the second time: a maker that always gives up doesn't pass.
+//! Out of memory: run with each allocation refused in turn (`rt try --test --fail-alloc N`), these pass. One is refused at most,
+//! so what was refused is made the second time: a maker that always gives up doesn't pass.
 
 use crate::one::{One, ack};
 use alm_rings::{open_batches, open_slot};

@@ -1,4 +1,4 @@
-//! All slots at once.
+//! All slots together.
 
 use crate::one::{One, accepted, ack};
 use alm_rings::{Console, Inbox, Outbox, open_slot};
@@ -20,7 +20,7 @@ fn request(slot: Slot, serial: u8) -> Action {
     ack(told_by(slot, serial))
 }
 
-/// What the receipt of this request tells in place of its serial: no other slot is told the same.
+/// What the receipt of this request has in place of its serial: no other slot gets the same.
 fn told_by(slot: Slot, serial: u8) -> u64 {
     u64::from(slot.number()) * 10 + u64::from(serial)
 }

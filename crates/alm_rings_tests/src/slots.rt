@@ -98,6 +98,20 @@ fn sixty_four_receipts_may_wait(rt: HostRuntime) -> Result<(), Fail> {
     Ok(())
 }
 
+// The ends aren't synchronised here: each checks its ring again, however many came before.
+#[test]
+fn a_slot_goes_on_behind_a_million_requests(rt: HostRuntime) -> Result<(), Fail> {
+    let slot = Slot::new(0).ok_or("slot")?;
+    let (mut console, mut inbox, mut outbox) = open_slot(rt.alloc(), slot)?;
+    for serial in 1..=1_000_200 {
+        sends(&rt, &mut console, serial);
+        takes(&rt, &mut inbox, serial);
+        releases(&rt, &mut outbox, serial);
+        receives(&rt, &mut console, serial);
+    }
+    Ok(())
+}
+
 #[test]
 fn a_round_of_each_slot(rt: HostRuntime) -> Result<(), Fail> {
     for number in 0..18 {

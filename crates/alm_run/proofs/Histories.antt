@@ -1,4 +1,4 @@
--- Fronts of what a flusher fetched.
+-- Prefixes of what a flusher fetched.
 use Rattle.std.proofs.Common.{◌≡◌, ◌⊎◌, ⊎_elim, inl, inr, ◌∙◌, List, [], ◌++◌, refl, sym, ap, subst, drop}
 use Rattle.std.proofs.lemmas.List.{append_assoc, append-nil, take-append-drop}
 use mathlib.Core.List.{IsPrefix}
@@ -50,7 +50,7 @@ ahead_front before h fetched is =
       ap (λ l. l ++ front.0) (append_assoc (entries_in before) (stored_of h) (waiting_of h)) ∙ (front.1 ∙ (sym (entries_append before (batches_of h)) ∙ ap entries_in (sym is))),
     )
 
--- what stands for the stored plant or the next one, by what the next one is
+-- what encodes the stored plant or the next one, by what the next one is
 pub one_of : (R : Condensed → Type 0) (stored next ahead : Condensed) → ∥ R stored ⊎ R next ∥₁ → ∥ (next ≡ stored) ⊎ (next ≡ ahead) ∥₁ → ∥ R stored ⊎ R ahead ∥₁
 one_of R stored next ahead stands either =
     ∥∥₁_elim either ∥∥₁_prop (λ e. ∥∥₁_elim stands ∥∥₁_prop (λ s.

@@ -1,4 +1,4 @@
--- A run's moments go on.
+-- A run's moments continue.
 use Rattle.std.proofs.Common.{◌≡◌, ◌⊎◌, ⊎_elim, ◌≤◌, ◌+◌, ◌∙◌, ℕ, List, [], ◌∷◌, ◌++◌, length, refl, sym, ap, subst, arith, length-append}
 use Rattle.std.specs.Prelude.{max, Bool, true, false, MatchBool}
 use Rattle.std.proofs.lemmas.List.{append_assoc, append-nil}
@@ -30,35 +30,35 @@ use Rattle.alm_flush.specs.declared.publishes.Publishes as P
 use Rattle.alm_flush.specs.declared.release.Release as R
 use Rattle.alm_flush.specs.Flushes.{FetchAnswers, AdvanceAnswers, PublishAnswers, ReleaseAnswers, GivesBack}
 use Rattle.alm_flush.proofs.HeldLaws.{told_pass}
-use Rattle.alm_run.specs.Moments.{Moment, Follows, Leads, IsSafeAt, SafeCourse, Endures, at_first, at_moment}
+use Rattle.alm_run.specs.Moments.{RunMoment, Follows, FollowUpTo, IsSafeAt, SafeCourse, Endures, at_first, at_moment}
 use Rattle.alm_run.proofs.Histories.{ahead_front, kept_front, told_kept}
 
-leads_on : (safe : Moment → Type 0) (m : Moment) (moments : List Moment) (last next : Moment) → Leads safe m moments last → safe last → Follows last next → Leads safe m (moments ++ next ∷ []) next
-leads_on safe m [] last next is now follows = (subst safe is now, subst (λ (x : Moment). Follows x next) is follows, refl)
+leads_on : (safe : RunMoment → Type 0) (m : RunMoment) (moments : List RunMoment) (last next : RunMoment) → FollowUpTo safe m moments last → safe last → Follows last next → FollowUpTo safe m (moments ++ next ∷ []) next
+leads_on safe m [] last next is now follows = (subst safe is now, subst (λ (x : RunMoment). Follows x next) is follows, refl)
 leads_on safe m (n ∷ moments) last next l now follows = (l.0, l.1, leads_on safe n moments last next l.2 now follows)
 
-leads_weaker : (safe other : Moment → Type 0) → ((m : Moment) → safe m → other m) → (m : Moment) (moments : List Moment) (last : Moment) → Leads safe m moments last → Leads other m moments last
+leads_weaker : (safe other : RunMoment → Type 0) → ((m : RunMoment) → safe m → other m) → (m : RunMoment) (moments : List RunMoment) (last : RunMoment) → FollowUpTo safe m moments last → FollowUpTo other m moments last
 leads_weaker safe other weaker m [] last is = is
 leads_weaker safe other weaker m (n ∷ moments) last l = (weaker m l.0, l.1, leads_weaker safe other weaker n moments last l.2)
 
-abbrev pub Passed : (List ℕ → Condensed → Type 0) → Condensed → List Action → Moment → Moment → Type 0
-Passed recovers base accepted first last = (moments : List Moment) × Leads (IsSafeAt recovers base accepted) first moments last
+abbrev pub Passed : (List ℕ → Condensed → Type 0) → Condensed → List Action → RunMoment → RunMoment → Type 0
+Passed recovers base accepted first last = (moments : List RunMoment) × FollowUpTo (IsSafeAt recovers base accepted) first moments last
 
 module _ (recovers : List ℕ → Condensed → Type 0) (base : Condensed) where
   -- one moment more
-  pub passed_on : (accepted : List Action) (first last next : Moment) → Passed recovers base accepted first last → IsSafeAt recovers base accepted last → Follows last next → Passed recovers base accepted first next
+  pub passed_on : (accepted : List Action) (first last next : RunMoment) → Passed recovers base accepted first last → IsSafeAt recovers base accepted last → Follows last next → Passed recovers base accepted first next
   passed_on accepted first last next p safe follows = (p.0 ++ next ∷ [], leads_on (IsSafeAt recovers base accepted) first p.0 last next p.1 safe follows)
 
-  safe_of_more : (accepted more : List Action) (m : Moment) → IsSafeAt recovers base accepted m → IsSafeAt recovers base (accepted ++ more) m
+  safe_of_more : (accepted more : List Action) (m : RunMoment) → IsSafeAt recovers base accepted m → IsSafeAt recovers base (accepted ++ more) m
   safe_of_more accepted more m safe image is = safe_on recovers base accepted more (max m.released m.shown) image (safe image is)
 
-  -- with more that is accepted
-  pub passed_of_prefix : (accepted all : List Action) (first last : Moment) → IsPrefix accepted all → Passed recovers base accepted first last → Passed recovers base all first last
+  -- with more accepted actions
+  pub passed_of_prefix : (accepted all : List Action) (first last : RunMoment) → IsPrefix accepted all → Passed recovers base accepted first last → Passed recovers base all first last
   passed_of_prefix accepted all first last front p =
       subst (λ (l : List Action). Passed recovers base l first last) front.1
       (p.0, leads_weaker (IsSafeAt recovers base accepted) (IsSafeAt recovers base (accepted ++ front.0)) (safe_of_more accepted front.0) first p.0 last p.1)
 
-  pub course_of_prefix : (accepted all : List Action) (first last : Moment) → IsPrefix accepted all → SafeCourse recovers base accepted first last → SafeCourse recovers base all first last
+  pub course_of_prefix : (accepted all : List Action) (first last : RunMoment) → IsPrefix accepted all → SafeCourse recovers base accepted first last → SafeCourse recovers base all first last
   course_of_prefix accepted all first last front c =
       let p = passed_of_prefix accepted all first last front (c.moments, c.leads) in
       record {
@@ -108,7 +108,7 @@ all_stored count number before h published is shown =
     (omega (arith, is, prefix_le _ _ (accepted_prefix (entries_in before ++ released_entries h) (entries_in before ++ stored_of h) (told_kept before h))))
     (omega (arith, shown_stored (entries_in before) h published shown))
 
--- the stored plant, and the one of the commit, are fronts of all that was fetched
+-- the stored plant, and the one of the commit, are those of prefixes of all that was fetched
 fronts : (base : Condensed) (before fetched : List Judged) (h : Held) (floor : ℕ) (stored : Condensed) → fetched ≡ before ++ batches_of h → stored ≡ run base (accepted_of (entries_in before ++ stored_of h))
     → floor ≤ base.panel.count + length (accepted_of (entries_in before ++ stored_of h))
     → IsFrontPlant base (accepted_of (entries_in fetched)) floor stored × IsFrontPlant base (accepted_of (entries_in fetched)) floor (run stored (accepted_of (waiting_of h)))
@@ -243,7 +243,7 @@ batches_told before h fetched is =
       prefix_le _ _ (accepted_prefix (entries_in before ++ stored_of h) (entries_in fetched) (kept_front before h fetched is)),
     )
 
--- giving back a batch takes nothing back
+-- returning a batch takes nothing back
 pub told_by_giving : (result : Bool) (before before' : FetchEnds) (fetched fetched' : List Judged) (old new : Held) (given given' : List Judged) (rest : Type 0)
     → fetched ≡ fetched_of before ++ batches_of old → fetched' ≡ fetched_of before' ++ batches_of new → fetched' ≡ fetched
     → MatchBool result (GivesBack old new given given') ((new ≡ old) × rest × (before' ≡ before))
@@ -269,7 +269,7 @@ course_by recovers base base' accepted from from' to number released published p
     (subst (λ (d : DeviceState). (shown : ℕ) × SafeCourse recovers base accepted (at_first base d) (record { device = to; released = released; shown = shown })) q
     (subst (λ (n : ℕ). (shown : ℕ) × SafeCourse recovers base accepted (at_first base from) (record { device = to; released = n; shown = shown })) r here))
 
--- .. of more that is accepted, to the last device by another name
+-- .. of more accepted actions, to the last device by another name
 pub endures_on : (recovers : List ℕ → Condensed → Type 0) (base : Condensed) (honest : Type 0) (from to to' : DeviceState) (accepted all : List Action) (released : ℕ) → to ≡ to' → IsPrefix accepted all
     → Endures honest recovers base from to accepted released → Endures honest recovers base from to' all released
 endures_on recovers base honest from to to' accepted all released same front endures = λ h.

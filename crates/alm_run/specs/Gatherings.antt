@@ -1,4 +1,5 @@
--- Whom an open batch awaits.
+-- For the proofs.
+-- The slots that an open batch awaits.
 use Rattle.std.specs.Prelude.{◌≡◌, Bool, ℕ, List, Some, replicate, slice_get, true, false}
 use Rattle.alm_run.specs.declared.gathering.Gathering.{Gathering}
 use Rattle.alm_types.specs.Sizes.{slot_count}

@@ -1,4 +1,4 @@
--- What a run's threads leave behind, as parts of one history.
+-- What a run's threads leave, as parts of one history.
 use Rattle.std.specs.Prelude.{◌≡◌, ◌≤◌, ◌+◌, ◌↔◌, ◌⊎◌, ◌++◌, ℕ, List, length, slice_get, Some}
 use Rattle.std.specs.List.{range_with_len}
 use mathlib.Core.List.{IsPrefix}
@@ -18,7 +18,8 @@ use Rattle.alm_rings.specs.Batches.{sealed_of, fetched_of}
 use Rattle.alm_rings.specs.Placed.{taken_by, released_by}
 use Rattle.alm_flush.specs.Replies.{replies_in, replies_to}
 
--- from this base: the entries of the sealed batches, and those that were not sealed, are one legal history of one thread, and of each slot they answer the requests that were taken, each once, in order
+-- from this base: the entries of the sealed batches, and those that were not sealed, are one legal history, as of a single
+-- thread. Of each slot they answer the requests that were taken, each once, in order
 pub record JudgesAll (base : Condensed) (inboxes : List Inbox) (ends : SealEnds) : Type 0 where
   pub entries : List Entry
   pub sealed : IsPrefix (entries_in (sealed_of ends)) entries
@@ -26,13 +27,15 @@ pub record JudgesAll (base : Condensed) (inboxes : List Inbox) (ends : SealEnds)
   pub wants : (s : ℕ) → wants_of (of_slot s entries) ≡ taken_by s inboxes
   pub serials : (s : ℕ) → serials_of (of_slot s entries) ≡ range_with_len 1 (length (taken_by s inboxes))
 
--- a device that does what its trait says still does, and each image that a crash may leave of it stands for one of these two plants
+-- a device that does what its trait says still does, and each image that a crash may leave of it encodes one of these two plants
 abbrev pub LeavesOneOf : Type 0 → Type 0 → (List ℕ → Condensed → Type 0) → DeviceState → Condensed → Condensed → Type 0
 LeavesOneOf before after recovers device p q = (before ↔ after) × (after → (b : List ℕ) → IsImage device b → ∥ recovers b p ⊎ recovers b q ∥₁)
 
 module _ {T : Type 0} {g : Ghosts T} where
-  -- from this base: what is stored is a front of the fetched entries, what was released a front of those that are stored; of each slot the receipts have the serials and verdicts of its entries, in order, and no number above what is stored.
-  -- The device is left with the stored plant, or with that and the entries that come next, of the batch whose commit wasn't done; and it came there by moments at each of which a front of the fetched actions stands that holds all that was released
+  -- from this base: what is stored is a prefix of the fetched entries, what was released a prefix of those that are stored. Of
+  -- each slot the receipts have the serials and verdicts of its entries, in order, and no number above what is stored. The device
+  -- is left with the stored plant, or with that and the entries that come next, of the batch whose commit wasn't done. It came
+  -- there by moments at each of which it encodes a prefix of the fetched actions that contains all that was released
   pub record Flushed (leaves : Condensed → Condensed → Type 0) (endures : List Action → ℕ → Type 0) (base stored : Condensed) (outboxes : List (Outbox T g)) (fetch : FetchEnds) : Type 0 where
     pub kept : List Entry
     pub fetched : IsPrefix kept (entries_in (fetched_of fetch))

@@ -1,4 +1,5 @@
--- Who is woken once a batch is answered, and who with the next one.
+-- For the proofs.
+-- Which slots are woken after a batch is answered, and which with the next one.
 use Rattle.std.specs.Prelude.{◌+◌, ◌-◌, ◌^◌, ◌&&◌, ◌||◌, Bool, ℕ, List, false, not, min, nat_le, nat_lt, replicate, slice_index, slice_index_or, slice_set}
 use Rattle.alm_run.specs.declared.waking.Waking.{Waking}
 use Rattle.alm_types.specs.Sizes.{slot_count}

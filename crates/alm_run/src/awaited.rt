@@ -1,23 +1,24 @@
-//! Those whom the sequencer's thread waits for, as the slots see them.
+//! The slots that the sequencer's thread waits for, as the slots see them.
 
 use crate::gathering::Gathering;
 use alm_types::{SLOTS, Slot};
 use std::sync::atomic::{AtomicU32, Ordering};
 
-/// With so few still to come the thread that waits for them is woken: it takes about as long to wake as they take to come.
+/// If only this number of them is still to come, the thread that waits for them is woken: it takes about as long to wake as they
+/// take to come.
 const FEW: u32 = 2;
 
-/// Beside the slots' bits: that thread is awake.
+/// Next to the slots' bits: that thread is awake.
 const AWAKE: u32 = 1 << 31;
 
-/// Those whom the sequencer's thread waits for, as the slots see them: a bit each. It is woken with two of them still to come, so that it is
-/// awake as the last one comes, who wakes it where it isn't.
+/// The slots that the sequencer's thread waits for, a bit each. The thread is woken when two of them are still to come, so that
+/// it is awake as the last one comes. If it isn't awake then, the last one wakes it.
 #[derive(Drop)]
 pub struct Awaited {
     slots: AtomicU32,
 }
 
-// The bits of those whom a gathering awaits.
+// The bits of the slots that a gathering awaits.
 fn bits_of(gathering: &Gathering) -> u32 {
     let mut bits: u32 = 0;
     for slot in 0..SLOTS {
@@ -29,25 +30,25 @@ fn bits_of(gathering: &Gathering) -> u32 {
 }
 
 impl Awaited {
-    /// Nobody.
+    /// No slot is awaited.
     pub fn new() -> Self {
         Awaited {
             slots: AtomicU32::new(0),
         }
     }
 
-    /// Those whom this gathering awaits: look once more for what they sent before.
+    /// Starts to await the slots of this gathering: check once more for what they sent before.
     pub fn begin(&self, gathering: &Gathering) {
         self.slots.store(bits_of(gathering), Ordering::SeqCst);
     }
 
-    /// Of them those whom it still awaits: whether any hasn't come.
+    /// The slots of this gathering that are still awaited: whether any hasn't come.
     pub fn narrow(&self, gathering: &Gathering) -> bool {
         let bits = bits_of(gathering);
         self.slots.fetch_and(bits, Ordering::SeqCst) & bits != 0
     }
 
-    /// The thread is awake: nobody wakes it from now on.
+    /// The thread is awake: no slot wakes it from now on.
     pub fn attend(&self) {
         self.slots.fetch_or(AWAKE, Ordering::SeqCst);
     }
@@ -62,12 +63,12 @@ impl Awaited {
         self.slots.fetch_and(!AWAKE, Ordering::SeqCst) & !AWAKE == 0
     }
 
-    /// Nobody any longer.
+    /// No slot is awaited any longer.
     pub fn end(&self) {
         self.slots.store(0, Ordering::SeqCst);
     }
 
-    /// This slot has sent something: whether it was awaited, and the thread is to be woken. A load alone where it wasn't awaited.
+    /// This slot has sent something: whether it was awaited, and the thread is to be woken. Only a load if it wasn't awaited.
     pub fn come(&self, slot: Slot) -> bool {
         let bit = 1u32 << slot.number();
         if self.slots.load(Ordering::SeqCst) & bit == 0 {

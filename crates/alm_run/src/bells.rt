@@ -8,9 +8,9 @@ use std::sync::atomic::{AtomicU32, Ordering};
 #[derive(Drop)]
 pub struct Bells<B: Bell + Drop> {
     bells: Vec<B>,
-    // Where the bell of each slot stands; not below their number where it has none.
+    // The index of each slot's bell; not below their number if it has none.
     places: [usize; SLOTS],
-    // Whom one thread left for another to wake: a bit each.
+    // The slots that one thread left for another to wake: a bit each.
     left: AtomicU32,
 }
 
@@ -40,12 +40,12 @@ impl<B: Bell + Drop> Bells<B> {
         }
     }
 
-    /// Leaves the bell of a slot to whoever calls [`Bells::ring_left`] next.
+    /// Leaves the bell of a slot to the next caller of [`Bells::ring_left`].
     pub fn leave(&self, slot: Slot) {
         self.left.fetch_or(1u32 << slot.number(), Ordering::SeqCst);
     }
 
-    /// Rings those that were left. A load alone where none was.
+    /// Rings those that were left. Only a load if none was.
     pub fn ring_left(&self) {
         if self.left.load(Ordering::SeqCst) == 0 {
             return;

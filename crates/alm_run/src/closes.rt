@@ -1,18 +1,19 @@
-//! A board that isn't let go, but closed.
+//! A board that isn't dropped, but closed.
 
 use alm_board::Board;
 use alm_model::Alarms;
-use alm_shared::{Desk, Front, Head, Naming, Publisher, Shown, Step};
+use alm_moments::RunId;
+use alm_shared::{AppendStep, HandedOver, HistoryLength, Publisher, ShownPlant};
 use std::sync::Wait;
 
-/// A board that is closed by `C`: readers may still look at it, and it waits for them.
+/// A board that is closed by `C`: readers may still use it, and closing waits for them.
 pub trait Closes<C>: Board {
     /// Looks are answered Stopped from now on.
     fn close(self, by: &C);
 }
 
-impl<J: Naming, P: Alarms + Drop, R: Wait> Closes<R>
-    for Publisher<Shown<J, P>, Step<J>, Desk<J>, Head<J>> {
+impl<J: RunId, P: Alarms + Drop, R: Wait> Closes<R>
+    for Publisher<ShownPlant<J, P>, AppendStep<J>, HandedOver<J>, HistoryLength<J>> {
     fn close(self, by: &R) {
         drop(self.take(by));
     }

@@ -1,9 +1,9 @@
-//! A board that is closed where it is let go.
+//! A board that is closed when it is dropped.
 
 use crate::closes::Closes;
 use std::sync::Wait;
 
-/// A board that is closed where it is let go, as by a run that can't be started.
+/// A board that is closed when it is dropped, as by a run that can't be started.
 pub struct ClosingBoard<'r, B: Closes<R>, R: Wait> {
     board: B,
     rt: &'r R,

@@ -2,7 +2,7 @@
 
 use std::time::{Clock, Instant};
 
-/// How long ago that was, in microseconds; `None` where the clock can't be read.
+/// How long ago that was, in microseconds; `None` if the clock can't be read.
 pub fn micros_since<C: Clock>(clock: &C, since: Instant) -> Option<u64> {
     match since.elapsed(clock) {
         Ok(time) => Some(u64::try_from(time.as_micros()).unwrap_or(u64::MAX)),
@@ -10,8 +10,8 @@ pub fn micros_since<C: Clock>(clock: &C, since: Instant) -> Option<u64> {
     }
 }
 
-/// How long the last batch was out, from its sealing until it was seen to be back, in microseconds: 0 before the first is back, and where
-/// the clock can't be read.
+/// How long the last batch was out, from its sealing until it was seen to be back, in microseconds. It is 0 before the first is
+/// back, and if the clock can't be read.
 #[derive(Drop)]
 pub struct CommitTime {
     // Since when a batch is out.

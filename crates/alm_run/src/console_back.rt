@@ -1,10 +1,10 @@
-//! A promise of what a source's thread gives back.
+//! A promise of what a source's thread returns.
 
 use alm_rings::{Console, Told};
 use std::snapshot::Snapshot;
 use std::thread::Promise;
 
-/// The console that comes back is the end that it was.
+/// The console that is returned is the end that it was.
 #[derive(Drop)]
 pub struct ConsoleBack<T: Told + Drop>(pub Snapshot<Console<T>>);
 

@@ -1,4 +1,4 @@
-//! What the threads tell each other beside the rings.
+//! What the threads signal to each other besides the rings.
 
 use crate::awaited::Awaited;
 use crate::bell::Bell;
@@ -7,7 +7,7 @@ use crate::thread_bell::ThreadBell;
 use alm_types::Slot;
 use std::sync::atomic::{AtomicBool, AtomicU64, AtomicUsize, Ordering};
 
-/// What the threads tell each other beside the rings: hints, on which no contract rests.
+/// What the threads signal to each other besides the rings: hints, on which no contract depends.
 #[derive(Drop)]
 pub struct Flags<B: Bell + Drop> {
     /// No source gets another turn.
@@ -16,17 +16,17 @@ pub struct Flags<B: Bell + Drop> {
     pub out: AtomicBool,
     /// How many batches were sealed.
     pub batches: AtomicU64,
-    /// Two more waited than the one that was last answered.
+    /// At least two batches were queued when the last one was answered.
     pub busy: AtomicBool,
     /// The open batch is about to be sealed: the flusher's thread was woken ahead of it.
     pub near: AtomicBool,
-    /// Nothing more is sealed.
+    /// No further batch is sealed.
     pub sealed: AtomicBool,
-    /// So many sources have ended.
+    /// How many sources have ended.
     pub ended: AtomicUsize,
     /// Wakes the sequencer's thread.
     pub sequencer: ThreadBell,
-    /// Whom the sequencer's thread waits for.
+    /// The slots that the sequencer's thread waits for.
     pub awaited: Awaited,
     /// Wakes the flusher's thread.
     pub flusher: ThreadBell,
@@ -37,7 +37,7 @@ pub struct Flags<B: Bell + Drop> {
 }
 
 impl<B: Bell + Drop> Flags<B> {
-    /// None of it yet.
+    /// No flag is set yet.
     pub fn new(slots: Bells<B>) -> Self {
         Flags {
             stop: AtomicBool::new(false),
@@ -55,8 +55,8 @@ impl<B: Bell + Drop> Flags<B> {
         }
     }
 
-    /// A slot may have sent something: the sequencer's thread is woken where it waits for anybody, or for this one as one of the last, and then
-    /// the flusher's too, so that it is awake as their batch comes.
+    /// A slot may have sent something. The sequencer's thread is woken if it waits for any slot, or for this one as one of the
+    /// last. Then the flusher's thread is woken too, so that it is awake as their batch comes.
     pub fn send(&self, slot: Slot) {
         self.sequencer.ring();
         if self.awaited.come(slot) {
@@ -66,7 +66,7 @@ impl<B: Bell + Drop> Flags<B> {
         }
     }
 
-    /// A slot may have received something: the flusher's thread is woken where it waits for that.
+    /// A slot may have received something: the flusher's thread is woken if it waits for that.
     pub fn receive(&self) {
         if self.full.load(Ordering::SeqCst) {
             self.full.store(false, Ordering::SeqCst);

@@ -1,9 +1,9 @@
-//! What a flusher stands on beside its board.
+//! What a flusher consists of besides its board.
 
 use alm_rings::{FetchEnds, Outbox, Told};
 use alm_store::Store;
 
-/// What a flusher stands on beside its board, and gives back.
+/// What a flusher consists of besides its board, and returns.
 #[derive(Drop)]
 pub struct FlusherParts<K: Store, T: Told + Drop> {
     pub store: K,

@@ -10,6 +10,7 @@ use crate::thread_bell::{EARLY_YIELDS, YIELDS};
 use crate::waking::Waking;
 use alm_board::{Board, Publish};
 use alm_flush::{Advance, Fetch, Publishes, Release};
+use alm_moments::{Moments, RunId};
 use alm_rings::Told;
 use alm_store::Store;
 use alm_types::{MOST_ENTRIES, SLOTS, Slot};
@@ -20,8 +21,9 @@ use std::thread;
 /// How often the same publish is refused before the run stops.
 const REFUSALS: u64 = 1000;
 
-/// How many turns in a row find no batch before an open checkpoint goes on: the thread has slept by then, and sends a piece each time it
-/// wakes. Where batches come, each takes a piece along: pieces that went out between them would all wait for the next one's sync.
+/// How many turns in a row find no batch before an open checkpoint continues: by then the thread has slept, and it sends a piece
+/// each time it wakes. While batches come, each takes a piece along: pieces that went out between them would all wait for the
+/// next one's sync.
 const REST: u32 = YIELDS + 2;
 
 // What a pass found.
@@ -35,11 +37,18 @@ enum Pass {
     Stopped,
 }
 
-// Commits a step of the held batch and publishes it, where that is next: its replies are then due.
-fn commit<K: Store, T: Told + Drop, B: Board<Told = T> + Publish<R>, E: Bell + Drop, R: Wait>(
+// Commits a step of the held batch and publishes it, if that is next: its replies are then due.
+fn commit<
+    K: Store,
+    T: Told + Drop,
+    B: Board<Told = T> + Publish<R, Moments<J>>,
+    J: RunId,
+    E: Bell + Drop,
+    R: Wait,
+>(
     rt: &R,
     flags: &Flags<E>,
-    flusher: &mut RecordedFlusher<K, T, B>,
+    flusher: &mut RecordedFlusher<K, T, B, J>,
     waking: &mut Waking,
     refused: &mut u64,
 ) -> Pass
@@ -70,7 +79,8 @@ fn commit<K: Store, T: Told + Drop, B: Board<Told = T> + Publish<R>, E: Bell + D
     Pass::Work
 }
 
-// Leaves to the sequencer's thread whoever is still to be woken as a batch is answered: it is a batch ahead then.
+// Leaves to the sequencer's thread the slots that are still to be woken as a batch is answered: that thread is a batch
+// ahead then.
 fn leave<E: Bell + Drop>(flags: &Flags<E>, waking: &mut Waking) {
     for number in 0..SLOTS {
         if let Some(slot) = Slot::new(number as u8) {
@@ -81,10 +91,10 @@ fn leave<E: Bell + Drop>(flags: &Flags<E>, waking: &mut Waking) {
     }
 }
 
-// Releases the batch's receipts and wakes their slots, gives it back, and has those woken who were left asleep.
-fn answer<K: Store, T: Told + Drop, B: Board<Told = T>, E: Bell + Drop>(
+// Releases the batch's receipts and wakes their slots, returns it, and has the slots woken that were left asleep.
+fn answer<K: Store, T: Told + Drop, B: Board<Told = T>, J: RunId, E: Bell + Drop>(
     flags: &Flags<E>,
-    flusher: &mut RecordedFlusher<K, T, B>,
+    flusher: &mut RecordedFlusher<K, T, B, J>,
     waking: &mut Waking,
 ) -> Pass
     ensures fetch { SameFetchEnds flusher.old.flusher.fetch flusher.new.flusher.fetch }
@@ -116,7 +126,7 @@ fn answer<K: Store, T: Told + Drop, B: Board<Told = T>, E: Bell + Drop>(
     Pass::Work
 }
 
-// Whether a batch is about to come, ahead of which the thread was woken: it stays awake for it a while, and lets others run.
+// Whether a batch is about to come, ahead of which the thread was woken: it stays awake for it a while, and yields to others.
 fn stays_awake<E: Bell + Drop>(flags: &Flags<E>, yields: &mut u32) -> bool {
     if !flags.near.load(Ordering::SeqCst) {
         *yields = 0;
@@ -131,11 +141,18 @@ fn stays_awake<E: Bell + Drop>(flags: &Flags<E>, yields: &mut u32) -> bool {
     true
 }
 
-// One step of each kind, behind so many turns that found nothing to do.
-fn step<K: Store, T: Told + Drop, B: Board<Told = T> + Publish<R>, E: Bell + Drop, R: Wait>(
+// One step of each kind, after `idle` turns that found no work.
+fn step<
+    K: Store,
+    T: Told + Drop,
+    B: Board<Told = T> + Publish<R, Moments<J>>,
+    J: RunId,
+    E: Bell + Drop,
+    R: Wait,
+>(
     rt: &R,
     flags: &Flags<E>,
-    flusher: &mut RecordedFlusher<K, T, B>,
+    flusher: &mut RecordedFlusher<K, T, B, J>,
     waking: &mut Waking,
     refused: &mut u64,
     idle: u32,
@@ -174,13 +191,16 @@ fn step<K: Store, T: Told + Drop, B: Board<Told = T> + Publish<R>, E: Bell + Dro
     answer(flags, flusher, waking)
 }
 
-/// Commits, publishes and releases until nothing more is sealed and nothing is left, or the store has stopped, or a publish was
-/// refused 1,000 times in a row. Whoever waits for what it does is woken.
-pub fn flush<K: Store, T: Told + Drop, B: Board<Told = T> + Publish<R>, E: Bell + Drop, R: Wait>(
-    rt: &R,
-    flags: &Flags<E>,
-    flusher: &mut RecordedFlusher<K, T, B>,
-)
+/// Commits, publishes and releases until no batch will be sealed and none is left, or the store has stopped, or a publish was
+/// refused 1,000 times in a row. The threads that wait for what it does are woken.
+pub fn flush<
+    K: Store,
+    T: Told + Drop,
+    B: Board<Told = T> + Publish<R, Moments<J>>,
+    J: RunId,
+    E: Bell + Drop,
+    R: Wait,
+>(rt: &R, flags: &Flags<E>, flusher: &mut RecordedFlusher<K, T, B, J>)
     ensures fetch { SameFetchEnds flusher.old.flusher.fetch flusher.new.flusher.fetch }
     ensures outboxes { (s : ℕ) →
         SameOutboxAt (outbox_at s flusher.old.flusher.outboxes.items)
@@ -217,7 +237,8 @@ pub fn flush<K: Store, T: Told + Drop, B: Board<Told = T> + Publish<R>, E: Bell 
                 }
             }
             Pass::Full => {
-                // What is received once that is said rings: only what was tried since then is waited for.
+                // A slot that receives after this is announced rings: the thread waits only for what it tried since
+                // then.
                 if !flags.full.swap(true, Ordering::SeqCst) {
                     continue;
                 }

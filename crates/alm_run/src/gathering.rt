@@ -1,4 +1,4 @@
-//! Whom the open batch waits for.
+//! The slots that the open batch waits for.
 ghost use Rattle.std.specs.Prelude.{◌≡◌, ◌↔◌, ◌<◌, ◌/◌, None, min, IsTrue, IfSome, MatchBool, slice_set, true, false};
 ghost use Rattle.alm_run.specs.Gatherings.{Awaits, AwaitsSome, AwaitsNone, nobody};
 ghost use Rattle.alm_types.specs.Sizes.{slot_count};
@@ -6,21 +6,21 @@ ghost use Rattle.alm_types.specs.Sizes.{slot_count};
 use crate::pause::Pause;
 use alm_types::{SLOTS, Slot};
 
-/// Whom the open batch waits for, once the batch before it is back: those who were answered by that one soon ask again, and a batch that
-/// goes without them commits for a part of the slots, while the others wait for a whole commit more. It waits for nobody else, and
-/// once only, so that whoever doesn't come holds up the others by one pause.
+/// The slots that the open batch waits for, after the batch before it is back: those that were answered by that one soon ask
+/// again. A batch without them commits for a part of the slots, while the others wait for a whole commit more. It waits for no
+/// other slot, and only once, so a slot that doesn't come delays the others by one pause.
 #[derive(Clone, Copy, Debug, PartialEq, Eq)]
 pub struct Gathering {
-    /// Who has a request in the open batch.
+    /// The slots that have a request in the open batch.
     joined: [bool; SLOTS],
-    /// Who had one in the batch before it.
+    /// The slots that had one in the batch before it.
     answered: [bool; SLOTS],
     /// The open batch has not waited yet.
     fresh: bool,
 }
 
 impl Gathering {
-    /// Nobody yet.
+    /// No slot is awaited yet.
     pub fn new() -> Self
         ensures { result ≡ record { joined = nobody; answered = nobody; fresh = false } }
     {
@@ -38,7 +38,7 @@ impl Gathering {
         self.joined[slot.number() as usize] = true;
     }
 
-    /// The open batch was sealed: the next one waits for those who are in it.
+    /// The open batch was sealed: the next one waits for the slots that are in it.
     pub fn seal(&mut self)
         ensures { self.new ≡ record { joined = nobody; answered = self.old.joined; fresh = true } }
     {
@@ -57,7 +57,7 @@ impl Gathering {
         self.answered[slot] && !self.joined[slot]
     }
 
-    // Whether somebody is awaited.
+    // Whether a slot is awaited.
     fn awaits_some(&self) -> bool
         ensures { MatchBool result (AwaitsSome self.now) (AwaitsNone self.now) }
     {
@@ -69,8 +69,8 @@ impl Gathering {
         false
     }
 
-    /// The leave of the open batch to wait, the batch before it being back after so many microseconds: where somebody is awaited, once
-    /// a batch, and for half of that time at most.
+    /// The pause that the open batch may wait, if the batch before it is back after `took` microseconds. There is one if a slot
+    /// is awaited, once a batch, and for half of that time at most.
     pub fn pause(&mut self, took: u64) -> Option<Pause>
         ensures whom { IfSome result (λ _. AwaitsSome self.old) }
         ensures long { IfSome result (λ pause. pause.micros ≡ min (took / 2) 500) }

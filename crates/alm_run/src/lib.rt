@@ -8,21 +8,28 @@
 //!
 //! | thread | runs | ends |
 //! |---|---|---|
-//! | of each slot | [`run_source`]: one turn of its [`Source`] after another | after a turn that says [`Go::End`], or before one where `stop` is set |
-//! | the sequencer's | [`run_sequencer`]: takes from each slot in turn, 14 requests in a row at most, and seals where no batch is out, once those whom the last one answered have asked again or half of the time that it took has passed, 500 microseconds at most, or where the open batch is full | where all sources had ended before a pass that took nothing, and the open batch is empty; or where `stop` is set |
-//! | the flusher's | [`run_flusher`]: commits, publishes and releases, and wakes each slot that it answers; where two batches more wait it leaves that to the sequencer's thread, and whoever asks on without its answers is woken once for two batches; each time its sleep ends and nothing is there, a piece of an open checkpoint | where nothing more was to be sealed before a fetch that gave nothing; at a failure of the device; after 1,000 refused publishes in a row |
+//! | of each slot | [`run_source`]: one turn of its [`Source`] after another | after a turn that returns [`Go::End`], or before one if `stop` is set |
+//! | the sequencer's | [`run_sequencer`]: takes requests from each slot in turn, 14 in a row at most, and seals batches | all sources had ended, a pass took nothing, and the open batch is empty; or `stop` is set |
+//! | the flusher's | [`run_flusher`]: commits, publishes and releases batches, and wakes the slots | no batch will be sealed and a fetch gave none; the device failed; or 1,000 publishes in a row were refused |
 //!
-//! [`Flags`] are hints, each read before the step that it bounds. A thread that has nothing to do looks again some 8 times, and then sleeps by
-//! its [`Bell`]: whoever has something for it rings, and every 100 milliseconds it looks once by itself. The sequencer and the flusher are
-//! woken as two of the awaited slots are left, and let others run some 32 times for those.
+//! The sequencer seals if no batch is out and the slots that the last one answered have asked again. It also seals after half of
+//! the time that the last batch took, 500 microseconds at most, or if the open batch is full. The flusher wakes each slot that it
+//! answers. If two more batches wait it leaves that to the sequencer's thread, and a slot that asks on without its answers is
+//! woken once for two batches. Each time its sleep ends and no batch is there, a piece of an open checkpoint goes out.
 //!
-//! What is used above: each thread gives back the ends that it was given, so that whoever joins them all has both ends of each ring
-//! again and may close the slots; a sequencer and a flusher are made in their threads, and what their types say holds throughout. What went
-//! through the ends is one history: what was taken is judged as by one thread, what is stored is a front of it, and what was released a
-//! front of that. Before and after each device call of the run, whatever a crash leaves of an honest device stands for a front of that history
-//! which holds all that had been released or published by then ([`RecordedFlusher`]).
+//! [`Flags`] are hints, each read before the step that it bounds. A thread that has no work checks again some 8 times, and then
+//! sleeps by its [`Bell`]. A thread that has work for it rings, and every 100 milliseconds it checks once by itself. The
+//! sequencer and the flusher are woken when two of the awaited slots are left, and yield some 32 times for those.
 //!
-//! Not promised: that a thread ever ends, that a request is ever answered, and any time.
+//! What is used above: each thread returns the ends that it was given. So the caller that joins them all has both ends of each
+//! ring again and may close the slots. A sequencer and a flusher are made in their threads, and what their types say holds
+//! throughout. What went through the ends is one history. What was taken is judged as by one thread, what is stored is a prefix
+//! of it, and what was released a prefix of that. Before and after each device call of the run, whatever a crash leaves of an
+//! honest device encodes a prefix of that history. The prefix contains all that had been released or published by then
+//! ([`RecordedFlusher`]). A moment is in the run's history before anything is published by it. So each receipt and each look says
+//! of itself that what it reports stays on the device, whether the run ever returns or not.
+//!
+//! Not covered: that a thread ever ends, that a request is ever answered, and time.
 #![tactic(auto)]
 
 mod awaited;

@@ -1,10 +1,10 @@
-//! A leave to wait once.
+//! A time budget for one wait.
 ghost use Rattle.std.specs.Prelude.{◌≤◌};
 
 /// How long a pause is at most, in microseconds.
 pub const LONGEST_PAUSE: u64 = 500;
 
-/// A leave to wait once, for so long at most: whoever waits by it gives it up, and has what is left of it.
+/// A time budget for one wait. Waiting consumes it and returns the rest.
 #[derive(Debug, Drop, PartialEq, Eq)]
 pub struct Pause {
     micros: u64,
@@ -14,7 +14,7 @@ pub struct Pause {
 impl Pause {
     ghost use Rattle.std.specs.Prelude.{◌≡◌, ◌≤◌, ◌+◌, min, IfSome, None};
 
-    /// A pause of so many microseconds, or the longest there is.
+    /// A pause of `micros` microseconds, or the longest if that is shorter.
     pub fn of(micros: u64) -> Self
         ensures { result.micros ≡ min micros 500 }
     {
@@ -23,7 +23,7 @@ impl Pause {
         }
     }
 
-    /// What is left of it behind so many microseconds; nothing where it is over by then.
+    /// What is left of it after `passed` microseconds; `None` if it is over by then.
     pub fn after(self, passed: u64) -> Option<Pause>
         ensures left { IfSome result (λ left. left.micros + passed ≡ self.micros) }
         ensures over { result ≡ None → self.micros ≤ passed }

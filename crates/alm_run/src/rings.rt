@@ -1,8 +1,8 @@
-//! What a sequencer stands on.
+//! What a sequencer uses.
 
 use alm_rings::{Inbox, SealEnds};
 
-/// What a sequencer stands on.
+/// What a sequencer uses.
 #[derive(Drop)]
 pub struct Rings {
     pub inboxes: Vec<Inbox>,

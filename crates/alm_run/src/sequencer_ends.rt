@@ -1,11 +1,11 @@
-//! A promise of what the sequencer's thread gives back.
+//! A promise of what the sequencer's thread returns.
 
 use crate::rings::Rings;
 use alm_model::Alarms;
 use std::snapshot::Snapshot;
 use std::thread::Promise;
 
-/// The ends that come back are those that went in, and what went through them is one legal history from the plant that the
+/// The ends that are returned are those that went in, and what went through them is one legal history from the plant that the
 /// sequencer began with.
 #[derive(Drop)]
 pub struct SequencerEnds<P: Alarms + Drop> {

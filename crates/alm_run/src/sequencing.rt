@@ -2,7 +2,7 @@
 ghost use Rattle.std.specs.Prelude.{◌≡◌, ◌≤◌, IsSome, IfSome};
 ghost use Rattle.alm_rings.specs.Batches.{SameSealEnds};
 ghost use Rattle.alm_rings.specs.Placed.{inbox_at};
-ghost use Rattle.alm_seq.specs.Sequences.{SameInboxes, base_of};
+ghost use Rattle.alm_seq.specs.Sequences.{SameInboxes, live_base};
 ghost use Rattle.alm_run.specs.Serving.{ServesSlots};
 
 use crate::awaited::Awaited;
@@ -21,11 +21,11 @@ use std::sync::atomic::Ordering;
 use std::thread;
 use std::time::{Clock, Instant};
 
-/// How many turns in a row that find nothing it dozes through: four commits of that time. A device that hangs keeps no thread awake.
+/// How many turns in a row without work it dozes through: four commits of that time. A device that hangs keeps no thread awake.
 const DOZES: u32 = 16;
 
-/// How many requests of a slot are taken in a row at most: its share of a batch, so that one round finds room for all slots. What such
-/// requests have in common is at hand for the next one, in each thread that the batch goes through.
+/// How many requests of a slot are taken in a row at most: its share of a batch, so that one round finds room for all slots. What
+/// such requests have in common is in the cache for the next one, in each thread that the batch passes through.
 const SHARE: usize = MOST_ENTRIES / SLOTS;
 
 // What a pass over the slots found.
@@ -49,7 +49,7 @@ enum Left {
     Empty,
 }
 
-// Takes requests of a slot, as many in a row as are its share of a batch, and tells the hold of each.
+// Takes requests of a slot, up to its share of a batch in a row, and informs the hold of each.
 fn take_share<P: Alarms + Drop, H: Hold>(
     sequencer: &mut Sequencer<P>,
     slot: Slot,
@@ -59,7 +59,7 @@ fn take_share<P: Alarms + Drop, H: Hold>(
     requires { IsSome (inbox_at slot sequencer.old.inboxes.items) }
     ensures inboxes { SameInboxes sequencer.old.inboxes.items sequencer.new.inboxes.items }
     ensures ends { SameSealEnds sequencer.old.ends sequencer.new.ends }
-    ensures base { base_of sequencer.new ≡ base_of sequencer.old }
+    ensures base { live_base sequencer.new ≡ live_base sequencer.old }
 {
     let mut found = Found::Nothing;
     for _ in 0..SHARE {
@@ -76,7 +76,7 @@ fn take_share<P: Alarms + Drop, H: Hold>(
     found
 }
 
-// Takes of each slot that has requests up to its share of a batch.
+// Takes requests of each slot, up to its share of a batch.
 fn go_round<P: Alarms + Drop, H: Hold>(
     sequencer: &mut Sequencer<P>,
     slots: &[Slot],
@@ -87,7 +87,7 @@ fn go_round<P: Alarms + Drop, H: Hold>(
     ensures serves { ServesSlots slots.now sequencer.new.inboxes.items }
     ensures inboxes { SameInboxes sequencer.old.inboxes.items sequencer.new.inboxes.items }
     ensures ends { SameSealEnds sequencer.old.ends sequencer.new.ends }
-    ensures base { base_of sequencer.new ≡ base_of sequencer.old }
+    ensures base { live_base sequencer.new ≡ live_base sequencer.old }
 {
     let mut found = Found::Nothing;
     for slot in slots {
@@ -100,7 +100,7 @@ fn go_round<P: Alarms + Drop, H: Hold>(
     found
 }
 
-// Lets others run until the last ones have come, for a while: what is left of the pause where they haven't.
+// Yields until the last ones have come, for a while: what is left of the pause if they haven't.
 fn yield_to_last<C: Clock>(clock: &C, awaited: &Awaited, pause: Pause) -> Option<Pause>
     ensures { IfSome result (λ left. left.micros ≤ pause.micros) }
 {
@@ -133,7 +133,7 @@ fn await_all<B: Bell + Drop, R: Wait + Clock>(rt: &R, flags: &Flags<B>, pause: P
     }
 }
 
-// Waits until those have come whom the open batch awaits, for one pause at most.
+// Waits until the slots have come that the open batch awaits, for one pause at most.
 fn gather<P: Alarms + Drop, B: Bell + Drop, H: Hold, R: Wait + Clock>(
     rt: &R,
     flags: &Flags<B>,
@@ -147,11 +147,11 @@ fn gather<P: Alarms + Drop, B: Bell + Drop, H: Hold, R: Wait + Clock>(
     ensures serves { ServesSlots slots.now sequencer.new.inboxes.items }
     ensures inboxes { SameInboxes sequencer.old.inboxes.items sequencer.new.inboxes.items }
     ensures ends { SameSealEnds sequencer.old.ends sequencer.new.ends }
-    ensures base { base_of sequencer.new ≡ base_of sequencer.old }
+    ensures base { live_base sequencer.new ≡ live_base sequencer.old }
 {
     flags.sequencer.hush(rt);
     flags.awaited.begin(gathering);
-    // Who came before that woke nobody.
+    // A slot that came before that woke no thread.
     let found = go_round(sequencer, slots, hold, gathering);
     if flags.awaited.narrow(gathering) && found != Found::Full {
         await_all(rt, flags, pause);
@@ -159,7 +159,7 @@ fn gather<P: Alarms + Drop, B: Bell + Drop, H: Hold, R: Wait + Clock>(
     flags.awaited.end();
 }
 
-// Seals where no batch is out and nobody is to be waited for, or the open one is full.
+// Seals if no batch is out and no slot is to be waited for, or the open one is full.
 fn seal_some<P: Alarms + Drop, B: Bell + Drop, C: Clock>(
     clock: &C,
     flags: &Flags<B>,
@@ -170,7 +170,7 @@ fn seal_some<P: Alarms + Drop, B: Bell + Drop, C: Clock>(
 ) -> Left
     ensures inboxes { sequencer.new.inboxes ≡ sequencer.old.inboxes }
     ensures ends { SameSealEnds sequencer.old.ends sequencer.new.ends }
-    ensures base { base_of sequencer.new ≡ base_of sequencer.old }
+    ensures base { live_base sequencer.new ≡ live_base sequencer.old }
 {
     let mut left = Left::Waiting;
     let is_back = !flags.out.load(Ordering::SeqCst);
@@ -199,8 +199,8 @@ fn seal_some<P: Alarms + Drop, B: Bell + Drop, C: Clock>(
     left
 }
 
-// Waits for something to do: until it is woken, or for a quarter of a commit where two batches more waited than the one that was answered.
-// Nobody is held up by that, and no thread has to wake this one, the flusher's least of all.
+// Waits for work: until it is woken, or for a quarter of a commit if two more batches waited than the one that was answered. That
+// delays no slot, and no thread has to wake this one, the flusher's least of all.
 fn wait_for_work<B: Bell + Drop, R: Wait>(
     rt: &R,
     flags: &Flags<B>,
@@ -215,9 +215,9 @@ fn wait_for_work<B: Bell + Drop, R: Wait>(
     }
 }
 
-/// Takes, judges and seals until all sources have ended and nothing is left, or `stop` is set. It seals where no batch is out and those
-/// whom the last one answered have asked again, or half of the time that it took has passed since it came back, and never more than
-/// 500 microseconds; or where the open batch is full. The hold is told of each request that is taken.
+/// Takes, judges and seals until all sources have ended and no work is left, or `stop` is set. It seals if no batch is out and
+/// the slots that the last one answered have asked again. It also seals if half of the time that the last one took has passed
+/// since it came back, or 500 microseconds, or if the open batch is full. The hold is informed of each request that is taken.
 pub fn sequence<P: Alarms + Drop, B: Bell + Drop, H: Hold, R: Wait + Clock>(
     rt: &R,
     flags: &Flags<B>,
@@ -228,7 +228,7 @@ pub fn sequence<P: Alarms + Drop, B: Bell + Drop, H: Hold, R: Wait + Clock>(
     requires { ServesSlots slots.now sequencer.inboxes.items }
     ensures inboxes { SameInboxes sequencer.inboxes.items result.inboxes.items }
     ensures ends { SameSealEnds sequencer.ends result.ends }
-    ensures base { base_of result ≡ base_of sequencer }
+    ensures base { live_base result ≡ live_base sequencer }
 {
     let mut sequencer = sequencer;
     let mut gathering = Gathering::new();

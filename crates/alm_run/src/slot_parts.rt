@@ -1,4 +1,4 @@
-//! What the thread of a slot stands on.
+//! What the thread of a slot uses.
 
 ghost use Rattle.std.specs.Prelude.{◌≡◌, ℕ, Some};
 
@@ -6,7 +6,7 @@ use crate::source::Source;
 use alm_board::Look;
 use alm_rings::{Console, Told};
 
-/// What the thread of a slot stands on. A source that was made for one slot has the console of that slot.
+/// What the thread of a slot uses. A source that was made for one slot has the console of that slot.
 #[derive(Drop)]
 pub struct SlotParts<T: Told + Drop, L: Look<Told = T> + Drop, S: Source<T, L> + Drop> {
     pub console: Console<T>,

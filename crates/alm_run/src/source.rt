@@ -9,10 +9,10 @@ pub trait Source<T: Told + Drop, L: Look<Told = T>> {
     ghost use Rattle.std.specs.Prelude.{◌≡◌, ℕ, Option, Some};
     ghost use Rattle.alm_rings.specs.Ends.{SameConsole};
 
-    /// The slot for which it was made, where it was made for one alone.
+    /// The slot for which it was made, if it was made for one alone.
     ghost slot: { Self → Option ℕ };
 
-    /// One turn, at the console of its slot: what it sends, receives, looks at and learns is its own affair.
+    /// One turn, at the console of its slot: what it sends, receives, queries and learns is up to the source.
     fn turn(&mut self, console: &mut Console<T>, look: &mut L) -> Go
         requires slot { (n : ℕ) → slot self.old ≡ Some n → console.old.slot ≡ n }
         ensures ends { SameConsole console.old console.new }

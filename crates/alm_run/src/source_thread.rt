@@ -12,7 +12,7 @@ use std::sync::Wait;
 use std::sync::atomic::Ordering;
 use std::thread;
 
-// Waits where others may run first: by the slot's bell, if it has one.
+// Waits by the slot's bell, if it has one; else lets other threads run.
 fn rest<T: Told + Drop, B: Bell + Drop, R: Wait>(
     rt: &R,
     flags: &Flags<B>,
@@ -25,8 +25,8 @@ fn rest<T: Told + Drop, B: Bell + Drop, R: Wait>(
     }
 }
 
-/// Takes turns until the source ends or `stop` is set. The sequencer is woken after a turn that may have sent something, the flusher
-/// after one that may have received something that it waits for.
+/// Takes turns until the source ends or `stop` is set. The sequencer is woken after a turn that may have sent something, the
+/// flusher after one that may have received something that it waits for.
 pub fn run_source<
     T: Told + Drop,
     L: Look<Told = T> + Drop,
@@ -48,7 +48,7 @@ pub fn run_source<
         let before = console.unanswered();
         let go = source.turn(&mut console, &mut look);
         let after = console.unanswered();
-        // A slot that rests wakes nobody.
+        // A slot that rests wakes no thread.
         let went = go != Go::Rest || after != before;
         if went && after > 0 {
             flags.send(console.slot());

@@ -59,7 +59,7 @@ where
     }
 }
 
-/// Starts each source in a thread of its own, in order. At a fault those that run are told to stop.
+/// Starts each source in a thread of its own, in order. At a fault those that run are stopped.
 pub fn start_all<
     's,
     E,

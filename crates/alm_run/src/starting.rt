@@ -22,7 +22,7 @@ use std::sync::Wait;
 use std::thread::{PromisedHandle, Scope};
 use std::time::Clock;
 
-/// Runs a sequencer over these ends until all sources have ended and nothing is left, and gives them back.
+/// Runs a sequencer over these ends until all sources have ended and no work is left, and returns them.
 pub fn run_sequencer<P: Alarms + Drop, B: Bell + Drop, H: Hold, R: Wait + Clock>(
     rt: &R,
     flags: &Flags<B>,
@@ -44,6 +44,7 @@ pub fn run_sequencer<P: Alarms + Drop, B: Bell + Drop, H: Hold, R: Wait + Clock>
     let Rings { inboxes, ends } = rings;
     let sequencer = Sequencer::new(plant, inboxes, ends);
     let sequencer = sequence(rt, flags, slots, hold, sequencer);
+    // for the proof: the contract of `live` says that what was judged is one legal history
     let _live = sequencer.live();
     let (inboxes, ends) = sequencer.into_ends();
     Rings { inboxes, ends }

@@ -10,25 +10,25 @@ use std::thread;
 use std::thread::Parker;
 use std::time::{Clock, Duration, Instant};
 
-/// How often a thread looks again, and only lets others run, before it sleeps: a few microseconds.
+/// How often a thread checks again, and only yields, before it sleeps: a few microseconds.
 pub const YIELDS: u32 = 8;
 
-/// The same where it was woken ahead of what it waits for: some 15 microseconds.
+/// The same if it was woken ahead of what it waits for: some 15 microseconds.
 pub const EARLY_YIELDS: u32 = 32;
 
 /// How long it sleeps at most, in milliseconds.
 const SLEEP: u64 = 100;
 
-/// A bell that one thread sleeps by. It is rung by a load alone while that thread is busy.
+/// A bell that one thread sleeps by. Ringing it is only a load while that thread is busy.
 #[derive(Drop)]
 pub struct ThreadBell {
-    // The thread sleeps, or looks a last time before it does.
+    // The thread sleeps, or checks a last time before it does.
     listens: AtomicBool,
     parker: Parker,
 }
 
 impl ThreadBell {
-    /// One that nobody listens to.
+    /// One that no thread listens to.
     pub fn new() -> Self {
         ThreadBell {
             listens: AtomicBool::new(false),
@@ -36,15 +36,14 @@ impl ThreadBell {
         }
     }
 
-    /// Rings bring nothing from now on, and one that came before is forgotten: its token, or this one, is taken without a sleep.
+    /// Rings have no effect from now on, and one that came before is forgotten: its token, or this one, is taken without a sleep.
     pub fn hush<R: Wait>(&self, rt: &R) {
         self.listens.store(false, Ordering::SeqCst);
         self.parker.unpark();
         self.parker.park_timeout(rt, Duration::from_micros(0));
     }
 
-    /// Sleeps until it is woken, no longer than the pause that is given up for it: what is left of that, and nothing where the clock
-    /// can't be read.
+    /// Sleeps until it is woken, at most for the pause, which it consumes, and returns the rest; none if the clock can't be read.
     pub fn sleep<R: Wait + Clock>(&self, rt: &R, pause: Pause) -> Option<Pause>
         ensures { IfSome result (λ left. left.micros ≤ pause.micros) }
     {
@@ -54,14 +53,14 @@ impl ThreadBell {
         pause.after(micros_since(rt, began?)?)
     }
 
-    /// Sleeps for a pause at most where rings are to bring nothing.
+    /// Sleeps for a pause at most, if rings are to have no effect.
     pub fn doze<R: Wait>(&self, rt: &R, pause: Pause) {
         self.listens.store(false, Ordering::SeqCst);
         self.parker
             .park_timeout(rt, Duration::from_micros(pause.micros()));
     }
 
-    /// Ends its sleep, or the next one, also where rings bring nothing.
+    /// Ends its sleep, or the next one, also if rings have no effect.
     pub fn wake(&self) {
         self.parker.unpark();
     }
@@ -75,8 +74,8 @@ impl Bell for ThreadBell {
         }
     }
 
-    // What comes once it listens is found by the look before the sleep, or rings. A sleep that nobody ended leaves it listening: it
-    // looks once, and sleeps again.
+    // What comes after it listens is found by the check before the sleep, or rings. A sleep that ended by its time leaves it
+    // listening: it checks once, and sleeps again.
     fn wait<R: Wait>(&self, rt: &R, idle: u32) {
         if idle < YIELDS {
             thread::yield_now();

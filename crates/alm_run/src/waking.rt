@@ -4,25 +4,25 @@ ghost use Rattle.alm_run.specs.Wakings.{is_owed, may_sleep, no_one, no_reply, wi
 
 use alm_types::{SLOTS, Slot};
 
-/// How many replies of one batch tell that a slot asks on without waiting for them.
+/// A slot with this number of replies in one batch asks on without waiting for them.
 const MANY: u16 = 8;
 
-/// How many batches have to wait before anybody is left asleep.
+/// How many batches must wait before a slot is left asleep.
 const QUEUE: u64 = 2;
 
-/// When the slots are woken that a batch answers. Each is woken as soon as it is answered, unless another batch waits: then each is woken
-/// once the whole batch is answered, but where two wait for a slot with eight replies of it or more, which asks on without them. What that one
-/// asks for waits behind those two batches: it is left asleep until the next one is answered, not twice in a row, and takes the replies of both
-/// by one wake.
+/// When to wake the slots of a batch that is answered. No other batch queued: each slot as soon as it has a reply. One queued:
+/// all slots after the whole batch is answered. Two queued: the same, except for a slot with 8 or more replies, which asks on
+/// without them. Its next request waits after those two batches anyway. It is left asleep until the next batch is answered, not
+/// twice in a row, and takes the replies of both by one wake.
 #[derive(Clone, Copy, Debug, PartialEq, Eq)]
 pub struct Waking {
-    /// So many batches were fetched.
+    /// How many batches were fetched.
     fetched: u64,
-    /// So many more waited as the first reply of this batch was due.
+    /// How many more waited as the first reply of this batch was due.
     waiting: u64,
     /// How many replies of it each slot has for which it wasn't woken.
     replies: [u16; SLOTS],
-    /// Who was left asleep by the batch before.
+    /// The slots that the batch before left asleep.
     late: [bool; SLOTS],
 }
 
@@ -47,7 +47,7 @@ impl Waking {
         self.fetched = self.fetched.saturating_add(1);
     }
 
-    /// The replies of the batch that was fetched last are due, and so many batches were sealed by now.
+    /// The replies of the batch that was fetched last are due, and `sealed` batches were sealed so far.
     pub fn begin(&mut self, sealed: u64)
         ensures { self.new ≡
             record self.old { waiting = sealed - self.old.fetched; replies = no_reply } }
@@ -63,7 +63,7 @@ impl Waking {
         self.waiting >= QUEUE
     }
 
-    /// A slot has a reply: whether it is woken at once.
+    /// A slot has a reply: whether it is woken immediately.
     pub fn reply(&mut self, slot: Slot) -> bool
         ensures { MatchBool result ((self.old.waiting ≡ 0) × (self.new ≡ self.old))
             ((0 < self.old.waiting) ×

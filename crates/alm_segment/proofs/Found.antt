@@ -1,4 +1,4 @@
--- What came from a segment stands in it: open frames, and a closed gate behind them.
+-- What a scanner found in a segment is in it: open frames, and a closed gate after them.
 use Rattle.std.proofs.Common.{◌≡◌, ℕ, zero, suc, ◌+◌, ◌-◌, ◌*◌, ◌<◌, ◌≤◌, Bool, true, false, List, [], ◌∷◌, ◌++◌, length, take, drop, Option, Some, None, Result, Ok, Err, refl, sym, ap, subst, ◌∙◌, append_assoc, arith, length-append, length-drop}
 use Rattle.std.specs.List.{flat_map, AllByRecursion}
 use Rattle.std.specs.Int.{w16, w64, to_be_bytes}
@@ -113,7 +113,7 @@ on_closed version q epoch count gate bytes end shut e =
 both_borne : (version : Version) (xs ys : List Action) → AreBorne version xs → AreBorne version ys → AreBorne version (xs ++ ys)
 both_borne version xs ys p q = All-append (IsBorne version) xs ys p q
 
--- a frame, and what is found behind it
+-- a frame, and what is found after it
 with_frame : (version : Version) (q : Condensed) (epoch count n : ℕ) (bytes rest : List ℕ) (end : End) → Heads epoch count bytes (n, rest) → (s : Several version q epoch (count + n) n rest end)
     → Found version (run q s.list) epoch (count + n) s.after end → Found version q epoch count (165 ∷ bytes) end
 with_frame version q epoch count n bytes rest end h s f =

@@ -35,7 +35,7 @@ no_length : {A : Type 0} (xs : List A) → ¬ (0 < length xs) → xs ≡ []
 no_length [] none = refl
 no_length (x ∷ xs) none = absurd (none (omega arith))
 
--- an inbox that gave nothing knew of nothing
+-- an inbox that returned none knew of none
 pub none_known : (inboxes : List Inbox) (k : ℕ) (i : Inbox) (slot : ℕ) → AreApart (λ (i : Inbox). i.slot) inboxes → slice_get inboxes k ≡ Some i → i.slot ≡ slot
     → (0 < length (waiting_in i) → ⊥) → waiting_by slot inboxes ≡ []
 none_known inboxes k i slot apart at is gave =

@@ -35,17 +35,17 @@ module _ {P : Type 0} {g : Ghosts P} where
   abbrev pub history_of : Sequencer P g → List Entry
   history_of s = sealed_by s ++ open_of s
 
-  abbrev pub base_of : Sequencer P g → Condensed
-  base_of s = g.plant s.base.value
+  abbrev pub live_base : Sequencer P g → Condensed
+  live_base s = g.plant s.base.value
 
   abbrev pub live_of : Sequencer P g → Condensed
-  live_of s = run (base_of s) (accepted_of (history_of s))
+  live_of s = run (live_base s) (accepted_of (history_of s))
 
   -- it kept its base and its batches
   abbrev pub SameSeals : Sequencer P g → Sequencer P g → Type 0
   SameSeals old new = (new.base.value ≡ old.base.value) × (new.ends ≡ old.ends) × (new.spare ≡ old.spare) × (new.batch.first ≡ old.batch.first)
 
-  -- nothing changed
+  -- no change
   abbrev pub Unchanged : Sequencer P g → Sequencer P g → Type 0
   Unchanged old new = (new.inboxes ≡ old.inboxes) × (new.ends ≡ old.ends) × (new.batch ≡ old.batch) × (new.spare ≡ old.spare) × (new.plant ≡ old.plant) × (new.base ≡ old.base)
 

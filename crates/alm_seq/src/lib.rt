@@ -9,7 +9,7 @@
 //! The sequencer's thread takes requests from all slots, in whatever order it likes, and judges each on the live plant: that
 //! order is the one history of the server. Judged requests gather in the open batch; sealed batches go to the flusher.
 //!
-//! | call | answer | where |
+//! | call | answer | condition |
 //! |---|---|---|
 //! | [`Sequencer::take`] | [`Take::Taken`] | the slot's next request was judged, and joined the open batch |
 //! | | [`Take::Empty`] | the slot's ring knew no request |
@@ -19,18 +19,18 @@
 //! | | [`Seal::NoRoom`] | no empty batch is known, or no place for a sealed one |
 //!
 //! What is used above: at all times the entries of the sealed batches and then of the open one are one legal history from the
-//! base plant on, each verdict on the plant of the accepted actions before it, and of each slot they answer the requests that
-//! were taken, each once, in order. No call takes memory, and none waits.
+//! base plant on. Each verdict is on the plant of all actions accepted earlier. For each slot the entries answer the requests
+//! that were taken, each once, in order. No call takes memory, and none waits.
 //!
-//! It is not promised that a request is ever taken: whoever calls chooses the slots.
+//! Not covered: that a request is ever taken. The caller chooses the slots.
 //!
 //! | call | answers |
 //! |---|---|
-//! | `take` | the verdict on a slot's next request; Empty only where that ring knew none; BatchFull at 256 entries |
-//! | `seal` | Sealed; NothingToSeal without an entry; NoRoom where no empty batch is known to wait |
-//! | `waits`, `live` | whether a batch is at hand; the plant of all accepted actions |
+//! | `take` | the verdict on a slot's next request; Empty only if that ring knew none; BatchFull at 256 entries |
+//! | `seal` | Sealed; NothingToSeal without an entry; NoRoom if no empty batch is known to wait |
+//! | `waits`, `live` | whether a request of a slot is known to wait; the plant of all accepted actions |
 //!
-//! Not promised: that a slot is ever asked, any order between slots, and any time.
+//! Not covered: that a slot is ever asked, any order between slots, and time.
 #![tactic(auto)]
 
 mod seal;

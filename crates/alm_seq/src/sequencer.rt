@@ -22,7 +22,7 @@ use std::snapshot::Snapshot;
 #[derive(Drop)]
 pub struct Sequencer<P: Alarms + Drop> {
     inboxes: Vec<Inbox>,
-    // Where the inbox of each slot stands.
+    // The index of the inbox of each slot.
     places: [usize; SLOTS],
     pub ends: SealEnds,
     batch: Batch,
@@ -45,7 +45,7 @@ pub struct Sequencer<P: Alarms + Drop> {
     pub ghost live: { P.plant plant ≡
         run (P.plant base.value) (accepted_of (entries_in (sealed_of ends) ++ batch.entries)) },
     pub ghost most: { (P.plant plant).panel.count ≤ most_actions },
-    /// Each sealed batch begins behind the accepted actions of those before it.
+    /// Each sealed batch begins after the accepted actions of those before it.
     pub ghost firsts: { firsts_of (sealed_of ends) ≡
         firsts_from ((P.plant base.value).panel.count + 1) (sealed_of ends) },
     pub ghost first: { batch.first ≡
@@ -59,7 +59,7 @@ fn is_empty(batch: &Batch) -> bool
     batch.entries().is_empty()
 }
 
-// The spare batch, or one of the empty ones that came back.
+// The spare batch, or one of the empty ones that were returned.
 fn empty_batch(spare: &mut Option<Batch>, ends: &mut SealEnds) -> Option<Batch>
     ensures ends { SameSealEnds ends.old ends.new }
     ensures sealed { (sealed_of ends.new ≡ sealed_of ends.old) ×
@@ -96,6 +96,7 @@ fn judge_into<P: Alarms>(
         batch.old.entries ++
         record { slot = slot; serial = serial; want = want; verdict = result } ∷ [] }
 {
+    // for the proof: copies, since the prover does not follow a value after it was moved into a struct
     let asked = want;
     let of = slot;
     let request = Request {
@@ -120,7 +121,7 @@ impl<P: Alarms + Drop> Sequencer<P> {
     ghost use Rattle.alm_rings.specs.Ends.{sent_of, received_of, coming_to, room_of, SameConsole};
     ghost use Rattle.alm_rings.specs.Batches.{SameSealEnds, sealed_of, empties_in, emptied_of};
     ghost use Rattle.alm_rings.specs.Placed.{AreApart, inbox_at, taken_by, waiting_by};
-    ghost use Rattle.alm_seq.specs.Sequences.{TakeAnswers, SealAnswers, SameInboxes, SameSeals, live_of, history_of, base_of};
+    ghost use Rattle.alm_seq.specs.Sequences.{TakeAnswers, SealAnswers, SameInboxes, SameSeals, live_of, history_of, live_base};
 
     /// The first batch is one of the empty ones that are known to wait.
     pub fn new(plant: P, inboxes: Vec<Inbox>, mut ends: SealEnds) -> Self
@@ -132,7 +133,7 @@ impl<P: Alarms + Drop> Sequencer<P> {
         ensures inboxes { result.inboxes ≡ inboxes }
         ensures ends { SameSealEnds ends result.ends × (sealed_of result.ends ≡ []) ×
             (length (emptied_of result.ends) ≡ length (emptied_of ends) + 1) }
-        ensures new { (history_of result ≡ []) × (base_of result ≡ P.plant plant) ×
+        ensures new { (history_of result ≡ []) × (live_base result ≡ P.plant plant) ×
             (result.spare ≡ None) }
     {
         let mut places = [0; SLOTS];
@@ -156,7 +157,7 @@ impl<P: Alarms + Drop> Sequencer<P> {
         }
     }
 
-    // Where the inbox of a slot stands.
+    // The index of the inbox of a slot.
     fn place(&self, slot: Slot) -> usize
         requires { IsSome (inbox_at slot self.now.inboxes.items) }
         ensures limit { result < length self.now.inboxes.items }
@@ -213,7 +214,8 @@ impl<P: Alarms + Drop> Sequencer<P> {
         }
     }
 
-    /// Tells a slot's inbox and the console at its other end, in one thread, what the other did. Takes no memory.
+    /// Synchronises a slot's inbox and the console at its other end, in one thread: each learns what the other did.
+    /// Takes no memory.
     pub fn requests_beside<T: Told + Drop>(&mut self, slot: Slot, console: &mut Console<T>)
         requires slot { IsSome (inbox_at slot self.old.inboxes.items) }
         requires ends { (i : Inbox) → inbox_at slot self.old.inboxes.items ≡ Some i →
@@ -258,18 +260,18 @@ impl<P: Alarms + Drop> Sequencer<P> {
         self.inboxes[place].waits()
     }
 
-    /// The plant of all that was accepted. The sealed batches and then the open one are one legal history of one thread, and
-    /// of each slot they answer the requests that were taken, each once, in order.
+    /// The plant of all that was accepted. The sealed batches and then the open one are one legal history, as of a single thread.
+    /// Of each slot they answer the requests that were taken, each once, in order.
     pub fn live(&self) -> &P
         ensures live { P.plant result.now ≡ live_of self.now }
-        ensures legal { IsLegal (base_of self.now) (history_of self.now) }
+        ensures legal { IsLegal (live_base self.now) (history_of self.now) }
         ensures wants { (s : ℕ) →
             wants_of (of_slot s (history_of self.now)) ≡ taken_by s self.now.inboxes.items }
         ensures serials { (s : ℕ) →
             serials_of (of_slot s (history_of self.now)) ≡
             range_with_len 1 (length (taken_by s self.now.inboxes.items)) }
         ensures firsts { firsts_of (sealed_of self.now.ends) ≡
-            firsts_from ((base_of self.now).panel.count + 1) (sealed_of self.now.ends) }
+            firsts_from ((live_base self.now).panel.count + 1) (sealed_of self.now.ends) }
     {
         &self.plant
     }

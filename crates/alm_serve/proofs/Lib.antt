@@ -1,2 +1,3 @@
 mod Cut
 pub mod Runs
+pub mod Taken

@@ -8,15 +8,15 @@ use Rattle.alm_rings.specs.declared.slot_report.SlotReport.{SlotReport}
 use Rattle.alm_store.specs.declared.open_fault.OpenFault.{OpenFault}
 use Rattle.alm_store.specs.declared.phase.Phase.{Phase}
 use Rattle.alm_run.specs.Histories.{LeavesOneOf}
-use Rattle.alm_threads.specs.Runs.{IsRun}
+use Rattle.alm_threads.specs.Runs.{IsServerRun}
 use Rattle.alm_serve.specs.declared.serve_fault.ServeFault.{ServeFault}
 use Rattle.alm_serve.specs.declared.serve_fault.ServeFault.TheVariants.{Open, Net, Write, Memory, Storage}
-use Rattle.alm_serve.specs.Runs.{IsOpened, Opens, ServeEnds, ServesRun, Tells}
+use Rattle.alm_serve.specs.Runs.{IsOpened, OpensAndRuns, ServeEnds, ServesRun, RunsTo}
 use Rattle.alm_serve.specs.Serving.{ServeWrites}
 
 run_map : (leaves leaves' : Condensed → Condensed → Type 0) (endures endures' : List Action → ℕ → Type 0) (base : Condensed) (slots : List ℕ) (stored : Condensed) (reports : List (Option SlotReport))
     → ((p q : Condensed) → leaves p q → leaves' p q) → ((actions : List Action) (n : ℕ) → endures actions n → endures' actions n)
-    → IsRun leaves endures base slots stored reports → IsRun leaves' endures' base slots stored reports
+    → IsServerRun leaves endures base slots stored reports → IsServerRun leaves' endures' base slots stored reports
 run_map leaves leaves' endures endures' base slots stored reports left course r = record {
   entries = r.entries;
   legal = r.legal;
@@ -34,8 +34,8 @@ run_map leaves leaves' endures endures' base slots stored reports left course r 
 }
 
 pub run_by : (before after : Type 0) (recovers : List ℕ → Condensed → Type 0) (to : DeviceState) (endures : List Action → ℕ → Type 0) (base : Condensed) (slots : List ℕ) (stored : Condensed) (reports : List (Option SlotReport))
-    → IsRun (LeavesOneOf before after recovers to) endures base slots stored reports
-    → IsRun (λ p q. before → (b : List ℕ) → IsImage to b → ∥ recovers b p ⊎ recovers b q ∥₁) endures base slots stored reports
+    → IsServerRun (LeavesOneOf before after recovers to) endures base slots stored reports
+    → IsServerRun (λ p q. before → (b : List ℕ) → IsImage to b → ∥ recovers b p ⊎ recovers b q ∥₁) endures base slots stored reports
 run_by before after recovers to endures base slots stored reports r =
     run_map (LeavesOneOf before after recovers to) (λ p q. before → (b : List ℕ) → IsImage to b → ∥ recovers b p ⊎ recovers b q ∥₁) endures endures base slots stored reports
     (λ p q left h. left.1 (left.0.0 h)) (λ actions n course. course) r
@@ -54,7 +54,7 @@ module _ (honest honest' : Type 0) (recovers : List ℕ → Condensed → Type 0
     run = run_map _ _ _ _ base s.slots s.stored s.reports (λ p q left h. left (is h)) (λ actions n course h. course (is h)) s.run;
   }
 
-  tells_by : (base : Condensed) (from : DeviceState) (told : Option ℕ) → Tells honest' recovers base from told → Tells honest recovers base from told
+  tells_by : (base : Condensed) (from : DeviceState) (told : Option ℕ) → RunsTo honest' recovers base from told → RunsTo honest recovers base from told
   tells_by base from (Some count) s = serves_by base from _ count s
   tells_by base from None s = (s.0, serves_by base from _ s.0 s.1)
 
@@ -70,14 +70,14 @@ module _ (honest honest' : Type 0) (recovers : List ℕ → Condensed → Type 0
   }
 
   pub opens_of : (opens : DeviceState → Type 0) (device opened : DeviceState) (base : Condensed) (told : Option ℕ) → opens opened → (honest → IsImage device opened.bytes × recovers opened.bytes base) → (honest → (place : ℕ) → opened.pending place ≡ false)
-      → Tells honest' recovers base opened told → Opens honest recovers opens device told
+      → RunsTo honest' recovers base opened told → OpensAndRuns honest recovers opens device told
   unfolding opened_of
   opens_of opens device opened base told by stands settled tells = (opened_of opens device opened base by stands settled, tells_by base opened told tells)
 
   pub ends_of : (opens : DeviceState → Type 0) (device opened : DeviceState) (is_refused : OpenFault → Type 0) (base : Condensed) (result : Result ℕ ServeFault)
       → opens opened → (honest → IsImage device opened.bytes × recovers opened.bytes base) → (honest → (place : ℕ) → opened.pending place ≡ false)
-      → IfOk result (λ count. Tells honest' recovers base opened (Some count))
-      → IfErr result (λ fault. fault ≡ Storage → Tells honest' recovers base opened None)
+      → IfOk result (λ count. RunsTo honest' recovers base opened (Some count))
+      → IfErr result (λ fault. fault ≡ Storage → RunsTo honest' recovers base opened None)
       → IfErr result (λ fault. (why : OpenFault) → fault ≢ Open why)
       → ServeEnds honest recovers opens device is_refused result
   ends_of opens device opened is_refused base (Ok count) by stands settled ran stopped none = opens_of opens device opened base (Some count) by stands settled ran
@@ -87,13 +87,13 @@ module _ (honest honest' : Type 0) (recovers : List ℕ → Condensed → Type 0
   ends_of opens device opened is_refused base (Err Write) by stands settled ran stopped none = opened_of opens device opened base by stands settled
   ends_of opens device opened is_refused base (Err Memory) by stands settled ran stopped none = opened_of opens device opened base by stands settled
 
--- what is written, behind what else is known of a whole run
-pub writes_map : (whole whole' : ℕ → Type 0) (port : ℕ) (old new : Option (List ℕ)) (result : Result ℕ ServeFault)
-    → ((count : ℕ) → whole count → whole' count) → ServeWrites whole port old new result → ServeWrites whole' port old new result
-writes_map whole whole' port old new (Ok count) more w = w
-writes_map whole whole' port old new (Err (Open why)) more w = w
-writes_map whole whole' port old new (Err Net) more w = w
-writes_map whole whole' port old new (Err Memory) more w = w
-writes_map whole whole' port old new (Err Storage) more w = w
-writes_map whole whole' port old new (Err Write) more (inl cut) = inl cut
-writes_map whole whole' port old new (Err Write) more (inr w) = inr (w.0, more w.0 w.1, w.2)
+-- what is written, with what else is known of a whole run
+pub writes_map : (whole whole' : ℕ → Type 0) (name : List ℕ) (old new : Option (List ℕ)) (result : Result ℕ ServeFault)
+    → ((count : ℕ) → whole count → whole' count) → ServeWrites whole name old new result → ServeWrites whole' name old new result
+writes_map whole whole' name old new (Ok count) more w = w
+writes_map whole whole' name old new (Err (Open why)) more w = w
+writes_map whole whole' name old new (Err Net) more w = w
+writes_map whole whole' name old new (Err Memory) more w = w
+writes_map whole whole' name old new (Err Storage) more w = w
+writes_map whole whole' name old new (Err Write) more (inl cut) = inl cut
+writes_map whole whole' name old new (Err Write) more (inr w) = inr (w.0, more w.0 w.1, w.2)

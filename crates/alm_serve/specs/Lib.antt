@@ -1,2 +1,3 @@
 pub mod Runs
 pub mod Serving
+pub mod Http

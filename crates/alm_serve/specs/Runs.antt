@@ -11,7 +11,7 @@ use Rattle.alm_store.specs.declared.phase.Phase.TheVariants.{Stopped}
 use Rattle.alm_store.specs.declared.open_fault.OpenFault.{OpenFault}
 use Rattle.alm_run.specs.Moments.{Endures}
 use Rattle.alm_threads.specs.Answered.{AllAnswered}
-use Rattle.alm_threads.specs.Runs.{IsRun}
+use Rattle.alm_threads.specs.Runs.{IsServerRun}
 use Rattle.alm_serve.specs.declared.serve_fault.ServeFault.{ServeFault}
 use Rattle.alm_serve.specs.declared.serve_fault.ServeFault.TheVariants.{Open, Storage}
 use Rattle.alm_types.specs.Sizes.{slot_count}
@@ -26,7 +26,7 @@ abbrev pub IsWhole : Phase → List (Option SlotReport) → Type 0
 IsWhole phase reports = (phase ≢ Stopped) × ∥ AllAnswered reports ∥₁
 
 module _ (honest : Type 0) (recovers : List ℕ → Condensed → Type 0) where
-  -- from this plant and this device on all slots were served in one run, at whose end so many actions are stored, and which ended so
+  -- all slots were served in one run from this plant and this device, at whose end `count` actions are stored, and which ended so
   pub record ServesRun (base : Condensed) (from : DeviceState) (ended : Phase → List (Option SlotReport) → Type 0) (count : ℕ) : Type 0 where
     pub slots : List ℕ
     pub all : AreAllSlots slots
@@ -36,19 +36,19 @@ module _ (honest : Type 0) (recovers : List ℕ → Condensed → Type 0) where
     pub reports : List (Option SlotReport)
     pub end : ended phase reports
     pub to : DeviceState
-    pub run : IsRun (λ p q. honest → (b : List ℕ) → IsImage to b → ∥ recovers b p ⊎ recovers b q ∥₁) (Endures honest recovers base from to) base slots stored reports
+    pub run : IsServerRun (λ p q. honest → (b : List ℕ) → IsImage to b → ∥ recovers b p ⊎ recovers b q ∥₁) (Endures honest recovers base from to) base slots stored reports
 
-  -- .. by what is told: how many actions are stored where the run was whole
-  abbrev pub Tells : Condensed → DeviceState → Option ℕ → Type 0
-  Tells base from (Some count) = ServesRun base from IsWhole count
-  Tells base from None = (count : ℕ) × ServesRun base from (λ phase reports. ¬ (IsWhole phase reports)) count
+  -- .. by what is returned: how many actions are stored if the run was whole
+  abbrev pub RunsTo : Condensed → DeviceState → Option ℕ → Type 0
+  RunsTo base from (Some count) = ServesRun base from IsWhole count
+  RunsTo base from None = (count : ℕ) × ServesRun base from (λ phase reports. ¬ (IsWhole phase reports)) count
 
 -- what a device becomes by an opening's calls
 abbrev pub OpensTo : {D : Type 0} → (D → Call → Result Unit DiskFault → D → Type 0) → (D → DeviceState) → D → DeviceState → Type 0
 OpensTo {D} serves state old to = (now : D) × OpensBy serves old now × (to ≡ state now)
 
 module _ (honest : Type 0) (recovers : List ℕ → Condensed → Type 0) (opens : DeviceState → Type 0) where
-  -- the device was opened: by an opening's calls, and what was read is an image of it that stands for the plant from which a run goes on
+  -- the device was opened by an opening's calls. What was read is an image of it, which encodes the plant that the run begins with
   pub record IsOpened (device : DeviceState) : Type 0 where
     pub opened : DeviceState
     pub base : Condensed
@@ -58,12 +58,12 @@ module _ (honest : Type 0) (recovers : List ℕ → Condensed → Type 0) (opens
     pub settled : honest → (place : ℕ) → opened.pending place ≡ false
 
   -- .. and was run to this end
-  abbrev pub Opens : DeviceState → Option ℕ → Type 0
-  Opens device told = (o : IsOpened device) × Tells honest recovers o.base o.opened told
+  abbrev pub OpensAndRuns : DeviceState → Option ℕ → Type 0
+  OpensAndRuns device told = (o : IsOpened device) × RunsTo honest recovers o.base o.opened told
 
   -- by how the server ends; of a device that isn't opened, why
   abbrev pub ServeEnds : DeviceState → (is_refused : OpenFault → Type 0) → Result ℕ ServeFault → Type 0
-  ServeEnds device is_refused (Ok count) = Opens device (Some count)
-  ServeEnds device is_refused (Err Storage) = Opens device None
+  ServeEnds device is_refused (Ok count) = OpensAndRuns device (Some count)
+  ServeEnds device is_refused (Err Storage) = OpensAndRuns device None
   ServeEnds device is_refused (Err (Open why)) = is_refused why
   ServeEnds device is_refused (Err other) = IsOpened device

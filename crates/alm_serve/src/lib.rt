@@ -1,4 +1,4 @@
-//! The server: the running parts behind the slots' ports.
+//! The server: the running threads over the slots' ports on loopback, or over their sockets in a folder.
 //!
 //! ```text
 //! let disk = FileDisk::open(rt, "plant.device")?;
@@ -6,29 +6,62 @@
 //! let count = serve_run(rt, alloc, disk, 5000, all_connections, &mut stdout)?;
 //! ```
 //!
-//! | step of [`serve_run`] | where it fails | what is written by then |
+//! [`serve_run`] serves at ports of loopback, [`serve_sockets`] at Unix sockets in a folder. It is the same server with the
+//! same contract; the first line names the port or the folder.
+//!
+//! | step | if it fails | what is written by then |
 //! |---|---|---|
 //! | opens the device | `Open` with the fault | nothing |
-//! | binds the 18 ports of loopback from P on | `Net` | nothing |
-//! | writes `serving P` | `Write` | a front of that line |
-//! | starts the threads, and joins them when so many connections have ended or the storage has stopped | `Memory`, `Storage` | that line |
-//! | writes `stopped N` | `Write` | both lines, or a front |
+//! | binds the 18 ports from P on, or makes the folder's 18 sockets | `Net` | nothing |
+//! | writes `serving P` or `serving FOLDER` | `Write` | a prefix of that line |
+//! | starts the threads; joins them at the last connection's end, or after the storage has stopped | `Memory`, `Storage` | that line |
+//! | writes `stopped N` | `Write` | both lines, or a prefix |
 //!
-//! `Memory`, for want of memory or of a thread, may come at any step behind the first.
+//! `Memory`, if memory or a thread can't be had, may come at any step after the first.
 //!
-//! What is used above: what stands written, by how it ends; N is how many actions are stored. And what was run: from the plant for which
-//! an image of the device stands, a run of all slots in threads, at each moment of which whatever a crash leaves of an honest device
-//! stands for a front of the run's history that holds all that had been told by then. It ends well just where that run was whole, and
-//! writes of `stopped N` only behind a whole run; that the storage stopped is said only where it wasn't. `Open` is told of what the
-//! device became by an opening's calls, as the device's fault only where a failure was counted, and `Net`, `Write` and `Memory` only
-//! of a device that was opened.
+//! Slot k listens on the k-th port after the first one, or at the socket k of the folder. A [`slot_port::SlotPort`] is the source
+//! of a slot: it accepts one connection after another and gives each its turns.
 //!
-//! Not promised: anything of what a socket gives or takes, that it ever ends, and any time. There are no accounts: whoever reaches a port
-//! of loopback has the role of its slot.
+//! | a port | does in a turn |
+//! |---|---|
+//! | without a connection | accepts the next connection |
+//! | with a connection | a turn of its session; if that has ended or failed, it closes the connection |
+//! | whose connection has ended | drops the receipts of its requests, until all are answered; then the connection counts as ended |
+//! | without work | has its bell wake it, checks once more, and waits for its sockets and the bell, a second at most |
+//! | after the last of its connections has ended | says that it has ended |
+//!
+//! A connection takes no memory beyond the buffers of its slot's session and those of the system: no more is read while
+//! a reply is still to be written. So a client that stalls or never reads keeps its own slot busy, and no other. A port
+//! keeps its console's end, whatever its clients do.
+//!
+//! What is used above: what is written, by how it ends; N is how many actions are stored. Also what was run: all slots
+//! in threads, from the plant of an image of the device. At each moment of that run, whatever a crash leaves of an
+//! honest device encodes a prefix of the run's history, which contains all that had been reported by then. `Ok` is
+//! returned only after a whole run, and `stopped N` is written only after one; `Storage` is returned only after a run
+//! that wasn't whole. `Open` says what the device became by an opening's calls, and is the device's fault only if a
+//! failure was counted. `Net`, `Write` and `Memory` are returned only after the device was opened.
+//!
+//! Not covered: what a socket gives or takes, that a wake comes, that the server ever ends, and time. There are no
+//! accounts: a client that reaches a port of loopback, or may open a socket, has the role of its slot.
 #![tactic(auto)]
 
+mod bound;
+mod connection;
+mod connection_count;
+mod first_bytes;
+mod listen;
+mod opening;
+mod port_fault;
+mod ports;
 mod serve_fault;
 mod serving;
+mod slot_bell;
+mod slot_listener;
+mod slot_port;
+mod slot_stream;
+mod socket_folder;
+mod sockets;
+mod stream_wire;
 
 pub use serve_fault::ServeFault;
-pub use serving::serve_run;
+pub use serving::{serve_run, serve_sockets};

@@ -7,7 +7,7 @@ use alm_keeper::OpenFault;
 pub enum ServeFault {
     /// The device doesn't open.
     Open(OpenFault),
-    /// A port can't be had.
+    /// A port or a socket can't be had.
     Net,
     /// The writer failed.
     Write,

@@ -9,7 +9,7 @@ use std::test::Fail;
 use std::thread;
 use std::time::Duration;
 
-/// The methods, each with the space behind it.
+/// The methods, each with the space after it.
 const METHODS: [&[u8]; 10] = [
     b"GET ",
     b"HEAD ",
@@ -23,7 +23,7 @@ const METHODS: [&[u8]; 10] = [
     b"PRI ",
 ];
 
-/// What comes behind a method: the rest of the head, and a body with a line of the protocol.
+/// What follows a method: the rest of the head, and a body with a line of the protocol.
 const REST: &[u8] = b"/ HTTP/1.1\r\nHost: 127.0.0.1\r\n\r\n\n1 CLOCK 1000\n2 STATE 0\n";
 
 /// Whether the clock's port gives no byte for a request by this method, which comes in two pieces.
@@ -37,7 +37,7 @@ fn is_ended(rt: &HostRuntime, port: u16, method: &[u8]) -> io::Result<bool> {
     Ok(matches!(browser.read(&mut [0_u8; 1]), Ok(0) | Err(_)))
 }
 
-/// Whether each method is ended, and a first line that only looks like one is answered as any other.
+/// Whether each method ends the connection, and a first line that only resembles one is answered as any other.
 fn browse(rt: &HostRuntime, port: u16) -> io::Result<bool> {
     let mut all = true;
     for method in METHODS {

@@ -18,7 +18,7 @@ pub fn connect(rt: &HostRuntime, port: u16) -> io::Result<TcpStream> {
 }
 
 /// Whether a stream gives these bytes next.
-pub fn gives(stream: &mut TcpStream, bytes: &[u8]) -> io::Result<bool> {
+pub fn gives<S: Read>(stream: &mut S, bytes: &[u8]) -> io::Result<bool> {
     let mut one = [0_u8; 1];
     for byte in bytes {
         if stream.read(&mut one)? == 0 || one[0] != *byte {
@@ -29,7 +29,7 @@ pub fn gives(stream: &mut TcpStream, bytes: &[u8]) -> io::Result<bool> {
 }
 
 /// Sends lines and reads these replies.
-pub fn asks(stream: &mut TcpStream, lines: &[u8], replies: &[u8]) -> io::Result<bool> {
+pub fn asks<S: Read + Write>(stream: &mut S, lines: &[u8], replies: &[u8]) -> io::Result<bool> {
     stream.write_all(lines)?;
     gives(stream, replies)
 }

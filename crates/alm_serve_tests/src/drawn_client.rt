@@ -10,10 +10,10 @@ use std::io::{self, Read, Write};
 use std::net::TcpStream;
 use std::sync::Arc;
 
-/// How many lines a client sends at a time.
+/// How many lines a client sends together.
 const OUT: u64 = 8;
 
-/// A word, and what stands behind it.
+/// A word, and what follows it.
 fn put_word(word: &str, alarm: AlarmId, lines: &mut Vec<u8>) -> io::Result<()> {
     put_parts(&[Part::Word(word), Part::Number(u64::from(alarm.0))], lines)
 }
@@ -63,7 +63,7 @@ fn put_action(action: Action, lines: &mut Vec<u8>) -> io::Result<()> {
     }
 }
 
-/// The drawn lines of a slot behind so many.
+/// The drawn lines of a slot after the first `sent`.
 fn lines_behind(alloc: Global, slot: Slot, sent: u64) -> io::Result<Vec<u8>> {
     let mut lines = Vec::new(alloc);
     for ahead in 1..=OUT {
@@ -98,7 +98,7 @@ fn number(stream: &mut TcpStream) -> io::Result<(u64, u8)> {
     Ok((number, one[0]))
 }
 
-/// The next reply, where it is one to an action.
+/// The next reply, if it is one to an action.
 fn reply(stream: &mut TcpStream) -> io::Result<Option<Told>> {
     let (id, space) = number(stream)?;
     let mut word = [0_u8; 3];
@@ -115,8 +115,8 @@ fn reply(stream: &mut TcpStream) -> io::Result<Option<Told>> {
     }))
 }
 
-/// Sends so many lines of a slot, some at a time, and notes which were accepted under which numbers. Whether all were answered in their
-/// order.
+/// Sends a number of lines of a slot, some together, and notes which were accepted under which numbers. Whether all were answered
+/// in their order.
 pub fn converse(
     rt: &HostRuntime,
     port: u16,

@@ -1,12 +1,12 @@
-//! Eighteen clients at once.
+//! Eighteen clients together.
 
 use crate::drawn_client::converse;
 use crate::ports::free_ports;
+use alm_desk::worked_table;
 use alm_disk::Disk;
 use alm_file::FileDisk;
 use alm_keeper::{Keeper, format};
 use alm_serve::serve_run;
-use alm_service::worked_table;
 use alm_store::Store;
 use alm_threads_tests::folds::{Accepted, reopened};
 use alm_threads_tests::notes::Notes;
@@ -24,7 +24,7 @@ const EACH: u64 = 200;
 /// The device's file.
 const PATH: &str = "eighteen.device";
 
-/// All clients at once. Whether each was answered in order.
+/// All clients together. Whether each was answered in order.
 fn all_converse<R: Threads + Wait>(
     threads: &R,
     rt: HostRuntime,
@@ -47,7 +47,7 @@ fn all_converse<R: Threads + Wait>(
     Ok(all)
 }
 
-/// How many actions a device stands for, and whether they are those that were noted. `None` where it isn't opened.
+/// How many actions a device encodes, and whether they are those that were noted. `None` if it isn't opened.
 fn kept<K: Store>(
     alloc: Global,
     disk: K::Device,

@@ -5,11 +5,11 @@ use alm_types::Slot;
 use std::sync::atomic::{AtomicBool, AtomicU64, Ordering};
 use std::thread;
 
-/// How often it is looked whether a client has been answered.
+/// How often it is checked whether a client has been answered.
 const TURNS: u32 = 200_000;
 
-/// Lets the opening's sync pass, and keeps the next one back until a client has been answered; or for so many turns, each of which yields
-/// once.
+/// Lets the opening's sync pass, and holds the next one back until a client has been answered; or for a number of turns, each of
+/// which yields once.
 #[derive(Drop)]
 pub struct Latch {
     syncs: AtomicU64,

@@ -1,4 +1,4 @@
-//! Tests of the server over loopback.
+//! Tests of the server over loopback and over sockets in a folder.
 #![tactic(auto)]
 
 #[cfg(test)]
@@ -17,3 +17,5 @@ mod one_sync;
 mod ports;
 #[cfg(test)]
 mod rows;
+#[cfg(test)]
+mod sockets;

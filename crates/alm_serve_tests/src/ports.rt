@@ -5,7 +5,7 @@ ghost use Rattle.std.specs.Prelude.{◌≤◌, IfOk};
 use std::io::{self, ErrorKind};
 use std::net::{Ipv4Addr, SocketAddr, TcpListener};
 
-/// Where ranges of ports begin: below those that the system gives to clients.
+/// The first of the ranges of ports: below those that the system gives to clients.
 const LOWEST: u16 = 10_000;
 
 /// How many ranges there are.
@@ -25,7 +25,8 @@ fn are_free(rt: &HostRuntime, first: u16) -> bool {
     true
 }
 
-/// The first port of a server whose ports are free. The search begins by a port that the system picks, so that two tests rarely meet.
+/// The first port of a server whose ports are free. The search begins by a port that the system picks, so that two
+/// tests rarely meet.
 pub fn free_ports(rt: &HostRuntime) -> io::Result<u16>
     ensures { IfOk result (λ port. port ≤ 65518) }
 {

@@ -4,10 +4,10 @@ use crate::client::{asks, connect, gives};
 use crate::latch::Latch;
 use crate::one_sync::OneSync;
 use crate::ports::free_ports;
+use alm_desk::worked_table;
 use alm_disk::{HeldDisk, MemDisk, OnceDisk};
 use alm_keeper::{OpenFault, format};
 use alm_serve::{ServeFault, serve_run};
-use alm_service::worked_table;
 use std::alloc::{AllocError, Global};
 use std::io::{self, Read, Write};
 use std::net::{Ipv4Addr, Shutdown, SocketAddr, TcpListener};
@@ -18,7 +18,7 @@ use std::thread;
 /// Opening a device makes a sync and five reads.
 const OPENING_CALLS: u64 = 6;
 
-/// An action's commit makes so many calls.
+/// How many calls an action's commit makes.
 const COMMIT_CALLS: u64 = 4;
 
 /// A device in memory that is formatted for the worked table.
@@ -92,9 +92,9 @@ fn a_device_that_is_not_formatted(rt: HostRuntime) -> Result<(), Fail> {
     Ok(())
 }
 
-/// A client that stalls within a line, one that never reads, one that is gone with requests unanswered, and one that sends a byte at a
-/// time and closes half: the last two end, the next one at their slot begins with nothing of theirs, and another slot is served beside
-/// them.
+/// A client that stalls within a line, one that never reads, one that closes with requests unanswered, and one that sends single
+/// bytes and closes half. The last two end, and the next one at their slot gets nothing of theirs. Another slot is served
+/// meanwhile.
 fn hostile_clients(rt: &HostRuntime, port: u16) -> io::Result<bool> {
     let mut stalled = connect(rt, port.saturating_add(1))?;
     stalled.write_all(b"1 STA")?;
@@ -135,7 +135,7 @@ fn clients_that_mean_no_good(rt: HostRuntime) -> Result<(), Fail> {
     Ok(())
 }
 
-/// A client is gone with a reply unread and an action unanswered. The next one at its slot is answered behind that action.
+/// A client closes with a reply unread and an action unanswered. The next one at its slot is answered after that action.
 fn two_in_a_row(rt: &HostRuntime, port: u16, latch: &Latch) -> io::Result<bool> {
     let mut lost = connect(rt, port.saturating_add(17))?;
     lost.write_all(b"1 STATE 0\n2 CLOCK 1000\n")?;
@@ -147,7 +147,7 @@ fn two_in_a_row(rt: &HostRuntime, port: u16, latch: &Latch) -> io::Result<bool> 
     Ok(read == 1 && behind)
 }
 
-/// A connection is accepted once the requests of the one before are answered.
+/// A connection is accepted after the requests of the one before are answered.
 #[test]
 fn a_connection_behind_a_lost_one(rt: HostRuntime) -> Result<(), Fail> {
     let port = free_ports(&rt)?;
@@ -171,7 +171,7 @@ fn unanswered_client(rt: &HostRuntime, port: u16) -> io::Result<bool> {
     Ok(matches!(feed.read(&mut [0_u8; 1]), Ok(0) | Err(_)))
 }
 
-/// A device that fails once it is served ends the server, and answers nobody.
+/// A device that fails after it is served ends the server, and no client is answered.
 #[test]
 fn a_device_that_fails_while_it_is_served(rt: HostRuntime) -> Result<(), Fail> {
     let port = free_ports(&rt)?;
@@ -206,8 +206,8 @@ fn a_device_that_fails_as_it_is_opened(rt: HostRuntime) -> Result<(), Fail> {
     Ok(())
 }
 
-/// A device that fails one call of an action's commit ends the server, and the action isn't answered, also where all later calls
-/// would be served.
+/// A device that fails one call of an action's commit ends the server. The action isn't answered, even if all later calls would
+/// be served.
 #[test]
 fn a_device_that_fails_one_call_of_an_action(rt: HostRuntime) -> Result<(), Fail> {
     for call in 1..=COMMIT_CALLS {

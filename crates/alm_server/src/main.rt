@@ -1,12 +1,13 @@
 //! The alarm server: a process's words, streams, files and ports over the proved parts.
 //!
-//! A status other than 0 comes with one line on standard error; `alm_program` says which words do what, and which fault has which line
-//! and status.
+//! A status other than 0 comes with one line on standard error; `alm_program` says which words do what, and which fault
+//! has which line and status.
 //!
 //! ```text
 //! alm_server format plant.device plant.toml
 //! alm_server desk plant.device
 //! alm_server serve plant.device --port 5000
+//! alm_server serve plant.device --sockets /run/alarms/plant
 //! ```
 #![tactic(auto)]
 

@@ -19,13 +19,13 @@ fn run<
     R: Input + Print + Env + Files<File = File> + Net + Threads + Wait + Clock + Sync + AllocGlobal,
 >(rt: &R) -> Result<(), Fault> {
     match run_words(rt)? {
-        Some(order) => serve_file(rt, order.device.as_str(), order.port, order.conns),
+        Some(order) => serve_file(rt, &order),
         None => Ok(()),
     }
 }
 
-/// Does what the process's words ask, over its standard streams, its files and its ports: status 0, or one line to `errors` and the
-/// status of the fault.
+/// Does what the process's words ask, over its standard streams, its files and its ports: status 0, or one line to `errors` and
+/// the status of the fault.
 pub fn run_in_process<
     R: Input + Print + Env + Files<File = File> + Net + Threads + Wait + Clock + Sync + AllocGlobal,
     E: io::Write,

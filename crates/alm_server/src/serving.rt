@@ -1,11 +1,11 @@
 //! Serving a device's file.
 
-ghost use Rattle.std.specs.Prelude.{◌≡◌, ◌≤◌};
+ghost use Rattle.std.specs.Prelude.{◌≡◌};
 ghost use Rattle.alm_server.specs.Serving.{fault_of_serve};
 
 use alm_file::PlacedDisk;
-use alm_program::{Fault, file_fault};
-use alm_serve::{ServeFault, serve_run};
+use alm_program::{Fault, OwnedEndpoints, ServeOrder, file_fault};
+use alm_serve::{ServeFault, serve_run, serve_sockets};
 use std::fs::{File, Files};
 use std::io;
 use std::net::Net;
@@ -26,17 +26,22 @@ pub fn serve_fault(fault: ServeFault) -> Fault
     }
 }
 
-/// Serves the slots of a device's file over loopback, and says so on standard output.
+/// Serves the slots of a device's file as requested, and says so on standard output.
 pub fn serve_file<
     R: Files<File = File> + Print + Net + Threads + Wait + Clock + Sync + AllocGlobal,
->(rt: &R, device: &str, port: u16, conns: u32) -> Result<(), Fault>
-    requires { port ≤ 65518 }
-{
-    let disk = match PlacedDisk::open(rt, device) {
+>(rt: &R, order: &ServeOrder) -> Result<(), Fault> {
+    let disk = match PlacedDisk::open(rt, order.device.as_str()) {
         Ok(disk) => disk,
         Err(fault) => return Err(file_fault(fault)),
     };
-    match serve_run(rt, rt.alloc(), disk, port, conns, &mut io::writer(rt)) {
+    let (alloc, conns, mut writer) = (rt.alloc(), order.conns, io::writer(rt));
+    let served = match &order.endpoints {
+        OwnedEndpoints::Ports(port) => serve_run(rt, alloc, disk, *port, conns, &mut writer),
+        OwnedEndpoints::Sockets(folder) => {
+            serve_sockets(rt, alloc, disk, folder.as_str(), conns, &mut writer)
+        }
+    };
+    match served {
         Ok(_) => Ok(()),
         Err(fault) => Err(serve_fault(fault)),
     }

@@ -5,7 +5,7 @@ use Rattle.std.proofs.lemmas.List.{append-nil, map-append}
 use Rattle.alm_types.specs.declared.action.Action.{Action}
 use Rattle.alm_board.specs.Fronts.{IsFront}
 use Rattle.alm_model.specs.Plant.{Condensed}
-use Rattle.alm_session.specs.Turns.{Heard, Met, stray, Knows, no_looks}
+use Rattle.alm_session.specs.Turns.{Heard, LineAnswer, unasked, LearnsAll, no_looks}
 use Rattle.alm_session.specs.Draining.{IsDrained}
 use Rattle.alm_session.proofs.Joins.{knows-append}
 
@@ -19,7 +19,7 @@ pub drained_more : {base : Condensed} {k l m : List Action} {x y z : List Heard}
 drained_more {base} {k} {l} {m} {x} {y} {z} p q = record {
   got = p.got ++ q.got;
   all = q.all ∙ ap (λ (t : List Heard). t ++ q.got) p.all ∙ append_assoc x p.got q.got;
-  learnt = subst (λ (ms : List Met). Knows no_looks base k ms m) (sym (map-append stray p.got q.got)) (knows-append no_looks base k l m (map stray p.got) (map stray q.got) p.learnt q.learnt);
+  learnt = subst (λ (ms : List LineAnswer). LearnsAll no_looks base k ms m) (sym (map-append unasked p.got q.got)) (knows-append no_looks base k l m (map unasked p.got) (map unasked q.got) p.learnt q.learnt);
 }
 
 pub drained_on : {base from : Condensed} {k l : List Action} {x y : List Heard} → base ≡ from → IsDrained from k x l y → IsDrained base k x l y

@@ -6,8 +6,8 @@ use Rattle.std.specs.Io.KnownBytes.{Appends}
 use Rattle.std.proofs.lemmas.List.{append-nil}
 use Rattle.alm_model.specs.Plant.{Condensed}
 use Rattle.alm_lines.specs.declared.line.Line.{Line}
-use Rattle.alm_session.specs.Intakes.{Held, lines_from, lines_in, open_in}
-use Rattle.alm_session.specs.Turns.{action, heards, met_text, slip_of, slips, strays, Heard, Side, IsTurn, Looks}
+use Rattle.alm_session.specs.Intakes.{Untaken, lines_from, lines_in, open_in}
+use Rattle.alm_session.specs.Turns.{action, heards, answer_text, line_kind, kinds, unasked_receipts, Heard, SlotState, IsTurn, Looks}
 use Rattle.alm_session.specs.Ended.{HaveSerials, IsNew, IsFinished, IsAnswered}
 use Rattle.alm_session.proofs.Joins.{joined}
 
@@ -20,29 +20,29 @@ behind_serials n [] more have = subst (λ (k : ℕ). HaveSerials k more) (let sa
 behind_serials n (h ∷ heards) more have =
     subst (λ (k : ℕ). HaveSerials k more) (let same : n + 1 + length heards ≡ n + length (h ∷ heards) = omega arith in same) (behind_serials (n + 1) heards more have.1)
 
-pub answered_all : {looks : Looks} (base : Condensed) (n : ℕ) (a b : Side) → IsTurn looks base n a b → IsNew a → IsFinished b → IsAnswered looks base a b
+pub answered_all : {looks : Looks} (base : Condensed) (n : ℕ) (a b : SlotState) → IsTurn looks base n a b → IsNew a → IsFinished b → IsAnswered looks base a b
 answered_all {looks} base n a b p fresh finished =
     let taken : lines_from [] p.got ≡ p.taken =
-    subst (λ (h : Held). lines_in h ++ lines_from (open_in h) p.got ≡ p.taken ++ lines_in b.held) fresh.0 p.lines
+    subst (λ (h : Untaken). lines_in h ++ lines_from (open_in h) p.got ≡ p.taken ++ lines_in b.held) fresh.0 p.lines
     ∙ ap (λ (l : List Line). p.taken ++ l) finished.0 ∙ append-nil p.taken in
-    let order : map slip_of p.taken ≡ flat_map slips p.met =
-    subst (λ (w : List ℕ). map action w ++ map slip_of p.taken ≡ flat_map slips p.met ++ map action b.waiting) fresh.1 p.order
-    ∙ ap (λ (w : List ℕ). flat_map slips p.met ++ map action w) finished.1 ∙ append-nil (flat_map slips p.met) in
-    let text : flat_map (met_text base) p.met ≡ p.wrote =
-    subst (λ (l : List ℕ). l ++ flat_map (met_text base) p.met ≡ p.wrote ++ b.left) fresh.2 p.text
+    let order : map line_kind p.taken ≡ flat_map kinds p.met =
+    subst (λ (w : List ℕ). map action w ++ map line_kind p.taken ≡ flat_map kinds p.met ++ map action b.waiting) fresh.1 p.order
+    ∙ ap (λ (w : List ℕ). flat_map kinds p.met ++ map action w) finished.1 ∙ append-nil (flat_map kinds p.met) in
+    let text : flat_map (answer_text base) p.met ≡ p.wrote =
+    subst (λ (l : List ℕ). l ++ flat_map (answer_text base) p.met ≡ p.wrote ++ b.left) fresh.2 p.text
     ∙ ap (λ (l : List ℕ). p.wrote ++ l) finished.2 ∙ append-nil p.wrote in
     record {
       got = p.got;
       met = p.met;
       read = p.read;
-      lines = ap (map slip_of) taken ∙ order;
+      lines = ap (map line_kind) taken ∙ order;
       written = subst (λ (t : List ℕ). Appends a.written b.written t) (sym text) p.written;
       heard = p.heard;
       learnt = p.learnt;
       serials = λ have. subst (λ (k : ℕ). HaveSerials k (flat_map heards p.met)) (let same : 1 + length a.heard ≡ length a.sent + 1 = omega (arith, fresh.3) in same)
           (behind_serials 1 a.heard (flat_map heards p.met) (subst (λ (l : List Heard). HaveSerials 1 l) p.heard have));
-      own = λ few. no_more (flat_map strays p.met) (omega (arith, p.balance, few, fresh.3, ap length fresh.1, ap length finished.1));
+      own = λ few. no_more (flat_map unasked_receipts p.met) (omega (arith, p.balance, few, fresh.3, ap length fresh.1, ap length finished.1));
     }
 
-pub join : {looks : Looks} (base : Condensed) (m n : ℕ) (a b c : Side) → IsTurn looks base m a b → IsTurn looks base n b c → IsTurn looks base (m + n) a c
+pub join : {looks : Looks} (base : Condensed) (m n : ℕ) (a b c : SlotState) → IsTurn looks base m a b → IsTurn looks base n b c → IsTurn looks base (m + n) a c
 join {looks} base m n a b c p q = joined p q

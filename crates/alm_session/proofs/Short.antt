@@ -1,8 +1,10 @@
 -- No reply to a query is longer than the room for replies.
-use Rattle.std.proofs.Common.{◌≡◌, inl, inr, ℕ, ◌+◌, ◌*◌, ◌^◌, ◌<◌, ◌≤◌, Bool, true, false, List, [], ◌∷◌, ◌++◌, length, refl, sym, ◌∙◌, arith, Option, Some, None, subst}
+use Rattle.std.proofs.Common.{◌≡◌, inl, inr, ℕ, ◌+◌, ◌*◌, ◌^◌, ◌<◌, ◌≤◌, Bool, true, false, List, [], ◌∷◌, ◌++◌, length, refl, sym, ◌∙◌, arith, Option, Some, None, subst, ℤ, pos, negsuc}
 use Rattle.std.specs.Prelude.{filter, sum, sum_by, slice_get, codes, decimal, Ok, Err, if◌then◌else◌, ◌==◌}
 use Rattle.std.specs.List.{AllByRecursion, range_with_len}
-use Rattle.std.proofs.lemmas.Fmt.{length-decimal-le}
+use Rattle.std.proofs.lemmas.Fmt.{length-decimal-le, length_signed_le}
+use Rattle.std.proofs.Math.Facts.{leb_yes}
+use Rattle.std.specs.Fmt.{signed_decimal}
 use Rattle.std.proofs.lemmas.List.{length-append}
 use Rattle.std.proofs.lemmas.List.Sums.{get_or-le-sum_by, length-filter, count_by-le-length}
 use Rattle.std.proofs.lemmas.List.FromFn.{length-range_with_len}
@@ -12,12 +14,17 @@ use Rattle.alm_types.specs.declared.query.Query.TheVariants as query
 use Rattle.alm_types.specs.declared.refusal.Refusal.{Refusal}
 use Rattle.alm_types.specs.declared.refusal.Refusal.TheVariants as refusal
 use Rattle.alm_types.specs.Refusals.{number_of}
-use Rattle.alm_types.specs.Reports.{Report, flood, alarms}
+use Rattle.alm_types.specs.declared.kind.Kind.{Kind}
+use Rattle.alm_types.specs.declared.kind.Kind.TheVariants as kind
+use Rattle.alm_types.proofs.Padding.{length-tag, length-text}
+use Rattle.alm_types.specs.Attributes.{deadband_limit}
+use Rattle.alm_types.specs.Readings.{IsReading}
+use Rattle.alm_types.specs.Reports.{Report, flood, alarms, plant, attributes}
 use Rattle.alm_types.specs.declared.shown.Shown.{Shown}
 use Rattle.alm_types.specs.declared.shown.Shown.TheVariants as shown
 use Rattle.alm_lists.proofs.Each.{all-filter, all-in_order, all-range, every}
 use Rattle.alm_model.specs.Plant.{Condensed}
-use Rattle.alm_model.specs.Look.{state_report, flood_report}
+use Rattle.alm_model.specs.Look.{state_report, flood_report, attributes_report}
 use Rattle.alm_model.specs.Rules.{KeepsRules}
 use Rattle.alm_model.proofs.Listed.{listed-few}
 use Rattle.alm_state.specs.Rows.{State}
@@ -29,7 +36,8 @@ use Rattle.alm_desk.specs.declared.hindrance.Hindrance.TheVariants.{Nothing}
 use Rattle.alm_model.specs.Lists as lists
 use Rattle.alm_model.specs.declared.list.List.{List as Choice}
 use Rattle.alm_model.specs.declared.list.List.TheVariants as choice
-use Rattle.alm_lines.specs.Reply.{with_spaces, report_text, no_text, told_text, query_word, shown_word, letters, deadline_text, digit}
+use Rattle.alm_lines.specs.Texts.{switch_text}
+use Rattle.alm_lines.specs.Reply.{fields, text_field, kind_word, attributes_text, with_spaces, report_text, no_text, told_text, query_word, shown_word, letters, deadline_text, digit}
 
 -- each number after a space: six bytes at most
 pub spaced-short : (xs : List ℕ) → AllByRecursion (λ x. x < 16384) xs → length (with_spaces xs) ≤ 6 * length xs
@@ -68,6 +76,8 @@ word-short (query.Wheel n) = omega arith
 word-short (query.Flood n) = omega arith
 word-short query.Stale = omega arith
 word-short query.Chatter = omega arith
+word-short query.Plant = omega arith
+word-short (query.Attributes i) = omega arith
 
 either-short : (k : ℕ) (b : Bool) (x y : List ℕ) → length x ≤ k → length y ≤ k → length (if b then x else y) ≤ k
 either-short k true x y h j = h
@@ -93,11 +103,62 @@ four a b c d = omega (arith, length-append (a ++ b ++ c) d, length-append (a ++ 
 five : (a b c d e : List ℕ) → length (a ++ b ++ c ++ d ++ e) ≡ length a + length b + length c + length d + length e
 five a b c d e = omega (arith, length-append (a ++ b ++ c ++ d) e, four a b c d)
 
+six : (a b c d e f : List ℕ) → length (a ++ b ++ c ++ d ++ e ++ f) ≡ length a + length b + length c + length d + length e + length f
+six a b c d e f = omega (arith, length-append (a ++ b ++ c ++ d ++ e) f, five a b c d e)
+
 eight : (a b c d e f g h : List ℕ) → length (a ++ b ++ c ++ d ++ e ++ f ++ g ++ h) ≡ length a + length b + length c + length d + length e + length f + length g + length h
 eight a b c d e f g h = omega (arith, length-append (a ++ b ++ c ++ d ++ e ++ f ++ g) h, length-append (a ++ b ++ c ++ d ++ e ++ f) g, length-append (a ++ b ++ c ++ d ++ e) f, five a b c d e)
 
+-- the fields of a report, each a byte longer than itself
+fields-short : (n m : ℕ) (field : List ℕ) (others : List (List ℕ)) → length field ≤ n → length (fields others) ≤ m → length (fields (field ∷ others)) ≤ 1 + n + m
+fields-short n m field others first rest = omega (arith, length-append (32 ∷ field) (fields others), first, rest)
+
+text-short : (text : List ℕ) → length text ≤ 80 → length (fields (text_field text)) ≤ 81
+text-short [] h = omega arith
+text-short (c ∷ cs) h = fields-short 80 0 (c ∷ cs) [] h (omega arith)
+
+kind-short : (k : Kind) → length (kind_word k) ≤ 8
+kind-short kind.High = omega arith
+kind-short kind.Low = omega arith
+kind-short kind.Discrete = omega arith
+
+switch-short : (on : Bool) → length (switch_text on) ≤ 3
+switch-short true = omega arith
+switch-short false = omega arith
+
+reading-short : (v : ℤ) → IsReading v → length (signed_decimal v) ≤ 14
+reading-short (pos n) h =
+    let within : n ≤ 1000000000000 = leb_yes h.1.le in
+    length_signed_le 13 (pos n) (omega (arith, within)) (omega (arith, within))
+reading-short (negsuc n) h =
+    let within : n ≤ 999999999999 = leb_yes h.0.le in
+    length_signed_le 13 (negsuc n) (omega (arith, within)) (omega (arith, within))
+
+deadband-short : (k : Kind) (n : ℕ) → n ≤ deadband_limit k → length (decimal n) ≤ 13
+deadband-short kind.High n h = length-decimal-le 13 n (omega arith) (omega (arith, h)) (omega (arith, h))
+deadband-short kind.Low n h = length-decimal-le 13 n (omega arith) (omega (arith, h)) (omega (arith, h))
+deadband-short kind.Discrete n h = length-decimal-le 13 n (omega arith) (omega (arith, h)) (omega (arith, h))
+
+attributes-short : (a : Attr) → length (attributes_text a) ≤ 168
+attributes-short a =
+    let tag = a.tag ∷ text_field a.text in
+    let latching = switch_text a.latching ∷ tag in
+    let longest = decimal a.max_shelve ∷ latching in
+    let area = decimal a.area ∷ longest in
+    let priority = decimal a.priority ∷ area in
+    let deadband = decimal a.deadband ∷ priority in
+    let setpoint = signed_decimal a.setpoint ∷ deadband in
+    fields-short 8 159 (kind_word a.kind) setpoint (kind-short a.kind)
+    (fields-short 14 144 (signed_decimal a.setpoint) deadband (reading-short a.setpoint a.setpoint_range)
+    (fields-short 13 130 (decimal a.deadband) priority (deadband-short a.kind a.deadband a.deadband_limit)
+    (fields-short 1 128 (decimal a.priority) area (length-decimal-le 1 a.priority (omega arith) (omega (arith, a.priority_limits)) (omega (arith, a.priority_limits)))
+    (fields-short 2 125 (decimal a.area) longest (length-decimal-le 2 a.area (omega arith) (omega (arith, a.area_limit)) (omega (arith, a.area_limit)))
+    (fields-short 6 118 (decimal a.max_shelve) latching (length-decimal-le 6 a.max_shelve (omega arith) (omega (arith, a.max_shelve_limit)) (omega (arith, a.max_shelve_limit)))
+    (fields-short 3 114 (switch_text a.latching) tag (switch-short a.latching)
+    (fields-short 32 81 a.tag (text_field a.text) (length-tag a.tag a.tag_limits) (text-short a.text (length-text a.text a.text_limits)))))))))
+
 module _ (q : Condensed) (id : ℕ) (rules : KeepsRules q) (actions : q.panel.count ≤ 2 ^ 48) (small : id < 2 ^ 32) where
-  -- what is told is as long as its report, and a little more
+  -- what is reported is as long as its report, and a little more
   told-short : (asked : Query) (r : Report) → length (report_text r) ≤ 131000 → length (told_text id q.panel.count asked r) ≤ 131072
   told-short asked r short =
       let size : length (told_text id q.panel.count asked r) ≡ length (decimal id) + length (query_word asked) + length (decimal q.panel.count) + length (report_text r) + 1 = five (decimal id) (query_word asked) (decimal q.panel.count) (report_text r) (codes "\n") in
@@ -189,6 +250,22 @@ module _ (q : Condensed) (id : ℕ) (rules : KeepsRules q) (actions : q.panel.co
   alarm-short asked i (Some s) (Some a) None e f g = absurd (outside q.kept.moments i g (omega (arith, slice_get_within q.panel.rows i s e, rules.recent)))
   alarm-short asked i (Some s) (Some a) (Some ms) e f g = told-short asked (report_of s) (report-short s (deadline-short a.max_shelve a.max_shelve_limit s.shelved_until (rules.alarms i a s ms f e g).deadline))
 
+  -- the plant's moment and sizes
+  plant-short : length (report_text (plant q.panel.now (length q.panel.rows) (length q.floods))) ≤ 131000
+  plant-short =
+      let size : length (report_text (plant q.panel.now (length q.panel.rows) (length q.floods))) ≡ 1 + length (decimal q.panel.now) + 1 + length (decimal (length q.panel.rows)) + 1 + length (decimal (length q.floods)) = six (codes " ") (decimal q.panel.now) (codes " ") (decimal (length q.panel.rows)) (codes " ") (decimal (length q.floods)) in
+      omega (
+        arith,
+        size,
+        length-decimal-le 13 q.panel.now (omega arith) (omega (arith, rules.now)) (omega (arith, rules.now)),
+        length-decimal-le 5 (length q.panel.rows) (omega arith) (omega (arith, rules.few)) (omega (arith, rules.few)),
+        length-decimal-le 2 (length q.floods) (omega arith) (omega (arith, rules.areas)) (omega (arith, rules.areas)),
+      )
+
+  attributed-short : (asked : Query) (o : Option Attr) → length (report_reply id q.panel.count asked (attributes_report o)) ≤ 131072
+  attributed-short asked None = refused-short refusal.NoSuchAlarm (length-decimal-le 2 1 (omega arith) (omega arith) (omega arith))
+  attributed-short asked (Some a) = told-short asked (attributes (Some a)) (omega (arith, attributes-short a))
+
   -- no reply to a query
   pub short : (asked : Query) → length (look_reply q id asked Nothing) ≤ 131072
   short (query.State i) = alarm-short (query.State i) i.0 (slice_get q.panel.rows i.0) (slice_get q.panel.attrs i.0) (slice_get q.kept.moments i.0) refl refl refl
@@ -198,3 +275,5 @@ module _ (q : Condensed) (id : ℕ) (rules : KeepsRules q) (actions : q.panel.co
   short (query.Wheel n) = listed-short (query.Wheel n) (choice.Wheel n) (lists.exists (choice.Wheel n) q)
   short query.Stale = listed-short query.Stale choice.Stale (lists.exists choice.Stale q)
   short query.Chatter = listed-short query.Chatter choice.Chatter (lists.exists choice.Chatter q)
+  short query.Plant = told-short query.Plant (plant q.panel.now (length q.panel.rows) (length q.floods)) plant-short
+  short (query.Attributes i) = attributed-short (query.Attributes i) (slice_get q.panel.attrs i.0)

@@ -11,19 +11,19 @@ use Rattle.alm_lines.specs.declared.line.Line.{Line}
 use Rattle.alm_lines.specs.Stream.{held_behind}
 use Rattle.alm_desk.specs.Answers.{verdict_reply}
 use Rattle.alm_board.specs.Fronts.{IsFront}
-use Rattle.alm_session.specs.Intakes.{Held, lines_from, lines_in, open_in}
-use Rattle.alm_session.specs.Turns.{Heard, Met, acted, told, denied, cramped, gone, bad, stray, met_text, Slip, action, slip_of, slips, heards, strays, wants, Knows, KnowsNext, refused_next, refused_over, Side, IsTurn, Looks, no_looks}
+use Rattle.alm_session.specs.Intakes.{Untaken, lines_from, lines_in, open_in}
+use Rattle.alm_session.specs.Turns.{Heard, LineAnswer, by_receipt, by_look, look_refused, no_room, stopped, bad_line, unasked, answer_text, LineKind, action, line_kind, kinds, heards, unasked_receipts, wants, LearnsAll, Learns, refused_next, refused_over, SlotState, IsTurn, Looks, no_looks}
 
 pub consumes_nil : (o : Option (List ℕ)) → Consumes o o []
 consumes_nil None = tt
 consumes_nil (Some xs) = refl
 
--- what stays of one that is put behind nothing more
-one_text : (base : Condensed) (left : List ℕ) (m : Met) → left ++ flat_map (met_text base) (m ∷ []) ≡ left ++ met_text base m
-one_text base left m = ap (λ (t : List ℕ). left ++ t) (append-nil (met_text base m))
+-- what stays of one that is put after no others
+one_text : (base : Condensed) (left : List ℕ) (m : LineAnswer) → left ++ flat_map (answer_text base) (m ∷ []) ≡ left ++ answer_text base m
+one_text base left m = ap (λ (t : List ℕ). left ++ t) (append-nil (answer_text base m))
 
--- nothing happens but that bytes are taken up to the next line
-pub still : {looks : Looks} (base : Condensed) (a b : Side) → lines_in b.held ≡ lines_in a.held → open_in b.held ≡ open_in a.held → b.waiting ≡ a.waiting → b.left ≡ a.left → b.known ≡ a.known
+-- the only change is that bytes are taken up to the next line
+pub still : {looks : Looks} (base : Condensed) (a b : SlotState) → lines_in b.held ≡ lines_in a.held → open_in b.held ≡ open_in a.held → b.waiting ≡ a.waiting → b.left ≡ a.left → b.known ≡ a.known
     → b.coming ≡ a.coming → b.written ≡ a.written → b.sent ≡ a.sent → b.heard ≡ a.heard → b.refused ≡ a.refused → IsTurn looks base 0 a b
 still {looks} base a b lines opens waiting left known coming written sent heard refused = record {
   got = [];
@@ -45,18 +45,18 @@ still {looks} base a b lines opens waiting left known coming written sent heard 
 }
 
 -- a receipt answers the first line that waits
-pub answered : {looks : Looks} (base : Condensed) (a b : Side) (id : ℕ) (h : Heard) → b.held ≡ a.held → a.waiting ≡ id ∷ b.waiting → b.left ≡ a.left ++ met_text base (acted id h) → IsFront a.known b.known → IsFront h.list b.known
+pub answered : {looks : Looks} (base : Condensed) (a b : SlotState) (id : ℕ) (h : Heard) → b.held ≡ a.held → a.waiting ≡ id ∷ b.waiting → b.left ≡ a.left ++ answer_text base (by_receipt id h) → IsFront a.known b.known → IsFront h.list b.known
     → b.coming ≡ a.coming → b.written ≡ a.written → b.sent ≡ a.sent → b.heard ≡ a.heard ++ h ∷ [] → b.refused ≡ a.refused → IsTurn looks base 1 a b
 answered {looks} base a b id h held waiting left known learnt coming written sent heard refused = record {
   got = [];
   wrote = [];
   taken = [];
-  met = acted id h ∷ [];
+  met = by_receipt id h ∷ [];
   read = rw coming (consumes_nil a.coming);
   lines = append-nil (lines_in a.held) ∙ ap lines_in (sym held);
   open_line = ap open_in held;
   order = append-nil (map action a.waiting) ∙ ap (map action) waiting;
-  text = one_text base a.left (acted id h) ∙ sym left;
+  text = one_text base a.left (by_receipt id h) ∙ sym left;
   written = rw written (Appends-nil a.written);
   sent = sent ∙ sym (append-nil a.sent);
   heard = heard;
@@ -71,21 +71,21 @@ no_one {P} e = cc
 
 pub nothing_of : (xs : List ℕ) → length xs ≡ 0 → xs ≡ []
 nothing_of [] e = refl
-nothing_of (x ∷ xs) e = (let bad : ◌≡◌ {A = ℕ} 1 0 = omega (arith, e) in no_one bad)
+nothing_of (x ∷ xs) e = (let bad_line : ◌≡◌ {A = ℕ} 1 0 = omega (arith, e) in no_one bad_line)
 
 -- a receipt comes while no line waits
-pub strayed : {looks : Looks} (base : Condensed) (a b : Side) (h : Heard) → b.held ≡ a.held → a.waiting ≡ [] → b.waiting ≡ [] → b.left ≡ a.left → IsFront a.known b.known → IsFront h.list b.known
+pub strayed : {looks : Looks} (base : Condensed) (a b : SlotState) (h : Heard) → b.held ≡ a.held → a.waiting ≡ [] → b.waiting ≡ [] → b.left ≡ a.left → IsFront a.known b.known → IsFront h.list b.known
     → b.coming ≡ a.coming → b.written ≡ a.written → b.sent ≡ a.sent → b.heard ≡ a.heard ++ h ∷ [] → b.refused ≡ a.refused → IsTurn looks base 1 a b
 strayed {looks} base a b h held waiting waits left known learnt coming written sent heard refused = record {
   got = [];
   wrote = [];
   taken = [];
-  met = stray h ∷ [];
+  met = unasked h ∷ [];
   read = rw coming (consumes_nil a.coming);
   lines = append-nil (lines_in a.held) ∙ ap lines_in (sym held);
   open_line = ap open_in held;
   order = append-nil (map action a.waiting) ∙ ap (map action) (waiting ∙ sym waits);
-  text = one_text base a.left (stray h) ∙ append-nil a.left ∙ sym left;
+  text = one_text base a.left (unasked h) ∙ append-nil a.left ∙ sym left;
   written = rw written (Appends-nil a.written);
   sent = sent ∙ sym (append-nil a.sent);
   heard = heard;
@@ -96,7 +96,7 @@ strayed {looks} base a b h held waiting waits left known learnt coming written s
 }
 
 -- bytes are written
-pub wrote_some : {looks : Looks} (base : Condensed) (a b : Side) (n : ℕ) → 1 ≤ n → n ≤ length a.left → b.held ≡ a.held → b.waiting ≡ a.waiting → b.left ≡ drop n a.left → b.known ≡ a.known
+pub wrote_some : {looks : Looks} (base : Condensed) (a b : SlotState) (n : ℕ) → 1 ≤ n → n ≤ length a.left → b.held ≡ a.held → b.waiting ≡ a.waiting → b.left ≡ drop n a.left → b.known ≡ a.known
     → b.coming ≡ a.coming → Appends a.written b.written (take n a.left) → b.sent ≡ a.sent → b.heard ≡ a.heard → b.refused ≡ a.refused → IsTurn looks base 1 a b
 wrote_some {looks} base a b n some within held waiting left known coming written sent heard refused = record {
   got = [];
@@ -120,8 +120,8 @@ wrote_some {looks} base a b n some within held waiting left known coming written
     taken_length : (n : ℕ) (xs : List ℕ) → n ≤ length xs → length (take n xs) ≡ n
     taken_length n xs h = length-take-le n xs h
 
--- bytes are read, where no line was held
-pub read_some : {looks : Looks} (base : Condensed) (a b : Side) → a.held.line ≡ None → a.held.rest ≡ [] → b.held ≡ record a.held { rest = b.held.rest } → 1 ≤ length b.held.rest → b.waiting ≡ a.waiting → b.left ≡ a.left
+-- bytes are read, if no line was held
+pub read_some : {looks : Looks} (base : Condensed) (a b : SlotState) → a.held.line ≡ None → a.held.rest ≡ [] → b.held ≡ record a.held { rest = b.held.rest } → 1 ≤ length b.held.rest → b.waiting ≡ a.waiting → b.left ≡ a.left
     → b.known ≡ a.known → Consumes a.coming b.coming b.held.rest → b.written ≡ a.written → b.sent ≡ a.sent → b.heard ≡ a.heard → b.refused ≡ a.refused → IsTurn looks base 1 a b
 read_some {looks} base a b none empty held some waiting left known coming written sent heard refused = record {
   got = b.held.rest;
@@ -142,16 +142,16 @@ read_some {looks} base a b none empty held some waiting left known coming writte
   moved = omega (arith, some);
 }
   where
-    lined : (h : Held) (rest : List ℕ) → h.line ≡ None → lines_in (record h { rest = rest }) ≡ lines_from h.held rest
+    lined : (h : Untaken) (rest : List ℕ) → h.line ≡ None → lines_in (record h { rest = rest }) ≡ lines_from h.held rest
     lined h rest none = rw none refl
 
-    opened : (h : Held) (rest : List ℕ) → h.rest ≡ [] → open_in (record h { rest = rest }) ≡ held_behind (open_in h) rest
+    opened : (h : Untaken) (rest : List ℕ) → h.rest ≡ [] → open_in (record h { rest = rest }) ≡ held_behind (open_in h) rest
     opened h rest empty = rw empty refl
 
--- a line is taken and answered at once, or sent
-pub took : {looks : Looks} (base : Condensed) (a b : Side) (line : Line) (met : List Met) → a.held.line ≡ Some line → b.held ≡ record a.held { line = None }
-    → map action a.waiting ++ slip_of line ∷ [] ≡ flat_map slips met ++ map action b.waiting → b.left ≡ a.left ++ flat_map (met_text base) met
-    → b.coming ≡ a.coming → b.written ≡ a.written → b.sent ≡ a.sent ++ wants line → b.heard ≡ a.heard → flat_map heards met ≡ [] → flat_map strays met ≡ [] → Knows looks base a.known met b.known
+-- a line is taken and answered immediately, or sent
+pub took : {looks : Looks} (base : Condensed) (a b : SlotState) (line : Line) (met : List LineAnswer) → a.held.line ≡ Some line → b.held ≡ record a.held { line = None }
+    → map action a.waiting ++ line_kind line ∷ [] ≡ flat_map kinds met ++ map action b.waiting → b.left ≡ a.left ++ flat_map (answer_text base) met
+    → b.coming ≡ a.coming → b.written ≡ a.written → b.sent ≡ a.sent ++ wants line → b.heard ≡ a.heard → flat_map heards met ≡ [] → flat_map unasked_receipts met ≡ [] → LearnsAll looks base a.known met b.known
     → b.refused ≡ refused_over base a.refused met → length (wants line) + length a.waiting ≡ length b.waiting → IsTurn looks base 1 a b
 took {looks} base a b line met held later order left coming written sent heard none plain learnt refused count = record {
   got = [];
@@ -159,7 +159,7 @@ took {looks} base a b line met held later order left coming written sent heard n
   taken = line ∷ [];
   met = met;
   read = rw coming (consumes_nil a.coming);
-  lines = append-nil (lines_in a.held) ∙ passed a.held line held ∙ ap (λ (h : Held). line ∷ lines_in h) (sym later);
+  lines = append-nil (lines_in a.held) ∙ passed a.held line held ∙ ap (λ (h : Untaken). line ∷ lines_in h) (sym later);
   open_line = ap open_in later;
   order = order;
   text = sym left;
@@ -172,25 +172,25 @@ took {looks} base a b line met held later order left coming written sent heard n
   moved = omega arith;
 }
   where
-    passed : (h : Held) (line : Line) → h.line ≡ Some line → lines_in h ≡ line ∷ lines_in (record h { line = None })
+    passed : (h : Untaken) (line : Line) → h.line ≡ Some line → lines_in h ≡ line ∷ lines_in (record h { line = None })
     passed h line held = rw held refl
 
 at_end : (xs ys zs : List ℕ) → xs ≡ zs → ys ≡ [] → xs ≡ ys ++ (zs ++ [])
 at_end xs ys zs e f = rw f (e ∙ sym (append-nil zs))
 
-alone_order : (w v : List ℕ) (s : Slip) (l : List Slip) → w ≡ [] → v ≡ [] → l ≡ s ∷ [] → map action w ++ s ∷ [] ≡ (l ++ []) ++ map action v
+alone_order : (w v : List ℕ) (s : LineKind) (l : List LineKind) → w ≡ [] → v ≡ [] → l ≡ s ∷ [] → map action w ++ s ∷ [] ≡ (l ++ []) ++ map action v
 alone_order w v s l e f h = rw (e, f, h) refl
 
--- a line is answered at once, where no action waits and nothing is to be written
-pub at_once : {looks : Looks} (base : Condensed) (a b : Side) (line : Line) (m : Met) → a.held.line ≡ Some line → b.held ≡ record a.held { line = None } → a.waiting ≡ [] → b.waiting ≡ [] → a.left ≡ [] → b.left ≡ met_text base m
-    → slips m ≡ slip_of line ∷ [] → wants line ≡ [] → heards m ≡ [] → strays m ≡ [] → KnowsNext looks base a.known m b.known → b.coming ≡ a.coming → b.written ≡ a.written → b.sent ≡ a.sent → b.heard ≡ a.heard → b.refused ≡ refused_next base a.refused m → IsTurn looks base 1 a b
+-- a line is answered immediately, if no action waits and no byte is to be written
+pub at_once : {looks : Looks} (base : Condensed) (a b : SlotState) (line : Line) (m : LineAnswer) → a.held.line ≡ Some line → b.held ≡ record a.held { line = None } → a.waiting ≡ [] → b.waiting ≡ [] → a.left ≡ [] → b.left ≡ answer_text base m
+    → kinds m ≡ line_kind line ∷ [] → wants line ≡ [] → heards m ≡ [] → unasked_receipts m ≡ [] → Learns looks base a.known m b.known → b.coming ≡ a.coming → b.written ≡ a.written → b.sent ≡ a.sent → b.heard ≡ a.heard → b.refused ≡ refused_next base a.refused m → IsTurn looks base 1 a b
 at_once {looks} base a b line m held later waiting waits empty left slip want none plain known coming written sent heard refused =
-    took base a b line (m ∷ []) held later (alone_order a.waiting b.waiting (slip_of line) (slips m) waiting waits slip) (at_end b.left a.left (met_text base m) left empty) coming written
-    (sent ∙ sym (append-nil a.sent) ∙ ap (λ (l : List Action). a.sent ++ l) (sym want)) heard (append-nil (heards m) ∙ none) (append-nil (strays m) ∙ plain) (b.known, (known, refl))
+    took base a b line (m ∷ []) held later (alone_order a.waiting b.waiting (line_kind line) (kinds m) waiting waits slip) (at_end b.left a.left (answer_text base m) left empty) coming written
+    (sent ∙ sym (append-nil a.sent) ∙ ap (λ (l : List Action). a.sent ++ l) (sym want)) heard (append-nil (heards m) ∙ none) (append-nil (unasked_receipts m) ∙ plain) (b.known, (known, refl))
     refused (omega (arith, ap length want, ap length waiting, ap length waits))
 
 -- a receipt is received
-pub received : {looks : Looks} (base : Condensed) (a b : Side) (h : Heard) → b.held ≡ a.held → (a.waiting ≡ [] → (b.waiting ≡ []) × (b.left ≡ a.left))
+pub received : {looks : Looks} (base : Condensed) (a b : SlotState) (h : Heard) → b.held ≡ a.held → (a.waiting ≡ [] → (b.waiting ≡ []) × (b.left ≡ a.left))
     → ((id : ℕ) (ids : List ℕ) → a.waiting ≡ id ∷ ids → (b.waiting ≡ ids) × (b.left ≡ a.left ++ verdict_reply id h.number h.verdict)) → IsFront a.known b.known → IsFront h.list b.known
     → b.coming ≡ a.coming → b.written ≡ a.written → b.sent ≡ a.sent → b.heard ≡ a.heard ++ h ∷ [] → b.refused ≡ a.refused → IsTurn looks base 1 a b
 received {looks} base a b h held none some known learnt coming written sent heard refused = by_waiting a.waiting refl
@@ -200,18 +200,18 @@ received {looks} base a b h held none some known learnt coming written sent hear
     by_waiting (id ∷ ids) e = answered base a b id h held (e ∙ ap (λ (l : List ℕ). id ∷ l) (sym (some id ids e).0)) (some id ids e).1 known learnt coming written sent heard refused
 
 -- turns without a look are turns with any
-knows_more : (looks : Looks) (base : Condensed) (known : List Action) (met : List Met) (later : List Action) → Knows no_looks base known met later → Knows looks base known met later
+knows_more : (looks : Looks) (base : Condensed) (known : List Action) (met : List LineAnswer) (later : List Action) → LearnsAll no_looks base known met later → LearnsAll looks base known met later
 knows_more looks base known [] later k = k
-knows_more looks base known (acted id h ∷ ms) later (next, (k, ks)) = (next, (k, knows_more looks base next ms later ks))
-knows_more looks base known (told id asked list ∷ ms) later (next, (k, ks)) = absurd k.0
-knows_more looks base known (denied id asked list hindrance ∷ ms) later (next, (k, ks)) = absurd k.0.1
-knows_more looks base known (cramped id asked list ∷ ms) later (next, (k, ks)) = absurd k.0
-knows_more looks base known (gone id asked ∷ ms) later (next, (k, ks)) = absurd k.0
-knows_more looks base known (bad id refusal ∷ ms) later (next, (k, ks)) = (next, (k, knows_more looks base next ms later ks))
-knows_more looks base known (stray h ∷ ms) later (next, (k, ks)) = (next, (k, knows_more looks base next ms later ks))
+knows_more looks base known (by_receipt id h ∷ ms) later (next, (k, ks)) = (next, (k, knows_more looks base next ms later ks))
+knows_more looks base known (by_look id asked list ∷ ms) later (next, (k, ks)) = absurd k.0
+knows_more looks base known (look_refused id asked list hindrance ∷ ms) later (next, (k, ks)) = absurd k.0.1
+knows_more looks base known (no_room id asked list ∷ ms) later (next, (k, ks)) = absurd k.0
+knows_more looks base known (stopped id asked ∷ ms) later (next, (k, ks)) = absurd k.0
+knows_more looks base known (bad_line id refusal ∷ ms) later (next, (k, ks)) = (next, (k, knows_more looks base next ms later ks))
+knows_more looks base known (unasked h ∷ ms) later (next, (k, ks)) = (next, (k, knows_more looks base next ms later ks))
 
--- the same turns with other looks, where those were enough for what was learnt
-pub with_looks : {from : Looks} (looks : Looks) {base : Condensed} {n : ℕ} {a b : Side} → (p : IsTurn from base n a b) → Knows looks base a.known p.met b.known → IsTurn looks base n a b
+-- the same turns with other looks, if those were enough for what was learnt
+pub with_looks : {from : Looks} (looks : Looks) {base : Condensed} {n : ℕ} {a b : SlotState} → (p : IsTurn from base n a b) → LearnsAll looks base a.known p.met b.known → IsTurn looks base n a b
 with_looks {from} looks {base} {n} {a} {b} p learnt = record {
   got = p.got;
   wrote = p.wrote;
@@ -231,5 +231,5 @@ with_looks {from} looks {base} {n} {a} {b} p learnt = record {
   moved = p.moved;
 }
 
-pub unseen : {looks : Looks} {base : Condensed} {n : ℕ} {a b : Side} → IsTurn no_looks base n a b → IsTurn looks base n a b
+pub unseen : {looks : Looks} {base : Condensed} {n : ℕ} {a b : SlotState} → IsTurn no_looks base n a b → IsTurn looks base n a b
 unseen {looks} {base} {n} {a} {b} p = with_looks looks p (knows_more looks base a.known p.met b.known p.learnt)

@@ -38,7 +38,7 @@ fed-append held (x ∷ xs) ys = fed-append (held_after held x) xs ys
 fed_split : (held bytes : List ℕ) (n : ℕ) → held_behind (held_behind held (take n bytes)) (drop n bytes) ≡ held_behind held bytes
 fed_split held bytes n = sym (fed-append held (take n bytes) (drop n bytes)) ∙ ap (held_behind held) (take-append-drop n bytes)
 
--- where no line end is found, nothing is left
+-- if no line end is found, none is left
 none_left : (held bytes : List ℕ) → line_ended held bytes ≡ None → drop (bytes_used bytes) bytes ≡ []
 none_left held [] e = refl
 none_left held (b ∷ bytes) e =

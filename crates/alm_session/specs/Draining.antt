@@ -2,10 +2,10 @@
 use Rattle.std.specs.Prelude.{◌≡◌, List, ◌++◌, map}
 use Rattle.alm_types.specs.declared.action.Action.{Action}
 use Rattle.alm_model.specs.Plant.{Condensed}
-use Rattle.alm_session.specs.Turns.{Heard, stray, Knows, no_looks}
+use Rattle.alm_session.specs.Turns.{Heard, unasked, LearnsAll, no_looks}
 
--- receipts are received, and all that they told is learnt
+-- receipts are received, and all that they report is learnt
 pub record IsDrained (base : Condensed) (known : List Action) (heard : List Heard) (knows : List Action) (heards : List Heard) : Type 0 where
   pub got : List Heard
   pub all : heards ≡ heard ++ got
-  pub learnt : Knows no_looks base known (map stray got) knows
+  pub learnt : LearnsAll no_looks base known (map unasked got) knows

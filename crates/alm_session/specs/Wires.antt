@@ -2,14 +2,14 @@
 use Rattle.std.specs.Prelude.{◌≡◌, ℕ, ◌≤◌, List, [], Option, length, take, drop}
 use Rattle.std.specs.Io.KnownBytes.{Consumes, Appends, IsAtEnd}
 use Rattle.alm_types.specs.Counts.{one_more}
-use Rattle.alm_session.specs.Intakes.{Held}
+use Rattle.alm_session.specs.Intakes.{Untaken}
 use Rattle.alm_session.specs.declared.wire.ReadGave.{ReadGave}
 use Rattle.alm_session.specs.declared.wire.ReadGave.TheVariants as read
 use Rattle.alm_session.specs.declared.wire.WriteTook.{WriteTook}
 use Rattle.alm_session.specs.declared.wire.WriteTook.TheVariants as write
 use Rattle.alm_session.specs.declared.output.Sent.{Sent}
 use Rattle.alm_session.specs.declared.output.Sent.TheVariants as sent
-use Rattle.alm_session.specs.Outputs.{Left}
+use Rattle.alm_session.specs.Outputs.{Unwritten}
 
 -- how many reads and writes were blocked, and how many calls failed, each up to the greatest number
 pub record Counts : Type 0 where
@@ -26,7 +26,7 @@ blocked_write c = record c { blocked_writes = one_more c.blocked_writes }
 abbrev pub failed_call : Counts → Counts
 failed_call c = record c { failed = one_more c.failed }
 
--- a read gives at least one byte and no more than there is room for; what it was blocked or failed by is counted
+-- a read returns at least one byte and no more than there is room for; what it was blocked or failed by is counted
 abbrev pub ReadCounts : ReadGave → ℕ → Counts → Counts → Type 0
 ReadCounts (read.Got n) room old new = (new ≡ old) × (1 ≤ n) × (n ≤ room)
 ReadCounts read.End room old new = new ≡ old
@@ -38,7 +38,7 @@ WriteCounts (write.Wrote n) room old new = (new ≡ old) × (1 ≤ n) × (n ≤ 
 WriteCounts write.Blocked room old new = new ≡ blocked_write old
 WriteCounts write.Failed room old new = new ≡ failed_call old
 
--- what a read gives is taken from what comes; at the end nothing is left
+-- what a read returns is taken from what comes; at the end no byte is left
 abbrev pub ReadBytes : ReadGave → List ℕ → Option (List ℕ) → Option (List ℕ) → Type 0
 ReadBytes (read.Got n) buffer old new = Consumes old new (take n buffer)
 ReadBytes read.End buffer old new = (new ≡ old) × IsAtEnd new
@@ -50,15 +50,15 @@ WriteBytes (write.Wrote n) bytes old new = Appends old new (take n bytes)
 WriteBytes write.Blocked bytes old new = new ≡ old
 WriteBytes write.Failed bytes old new = new ≡ old
 
--- what was read is behind what was held; else nothing changed
-abbrev pub ReadGives : ReadGave → Held → Held → Option (List ℕ) → Option (List ℕ) → Type 0
+-- what was read is after what was held; else nothing changed
+abbrev pub ReadGives : ReadGave → Untaken → Untaken → Option (List ℕ) → Option (List ℕ) → Type 0
 ReadGives (read.Got n) before later old new = (length later.rest ≡ n) × Consumes old new later.rest × (later ≡ record before { rest = later.rest })
 ReadGives read.End before later old new = (later ≡ before) × (new ≡ old) × IsAtEnd new
 ReadGives read.Blocked before later old new = (later ≡ before) × (new ≡ old)
 ReadGives read.Failed before later old new = (later ≡ before) × (new ≡ old)
 
--- what was written stood first of what is left
-abbrev pub WritesFront : Sent → Left → Left → Option (List ℕ) → Option (List ℕ) → Type 0
+-- what was written is a prefix of what was left
+abbrev pub WritesFront : Sent → Unwritten → Unwritten → Option (List ℕ) → Option (List ℕ) → Type 0
 WritesFront sent.Nothing before later old new = (before.left ≡ []) × (later.left ≡ []) × (later.used ≡ 0) × (new ≡ old)
 WritesFront sent.Some before later old new = (later.used ≡ before.used) × ((n : ℕ) × (1 ≤ n) × (n ≤ length before.left) × (later.left ≡ drop n before.left) × Appends old new (take n before.left))
 WritesFront sent.Blocked before later old new = (later ≡ before) × (new ≡ old)

@@ -1,4 +1,4 @@
-//! What a lost connection leaves behind.
+//! The requests and receipts that a lost connection leaves.
 
 ghost use Rattle.std.specs.Prelude.{◌≡◌, ◌↔◌, ◌≤◌, ◌+◌, ◌⊎◌, IsTrue, length, false, true};
 ghost use Rattle.alm_rings.specs.Ends.{SameConsole, sent_of, received_of};
@@ -9,7 +9,7 @@ ghost use Rattle.alm_types.specs.Sizes.{most_out};
 use alm_board::FreeLook;
 use alm_rings::{Console, Told};
 
-/// Receives a receipt, learns what it tells and drops it: false where none is known to wait.
+/// Receives a receipt, learns what it reports and drops it: false if none is known to wait.
 fn drop_one<T: Told + Drop, L: FreeLook<Told = T>>(console: &mut Console<T>, look: &mut L) -> bool
     ensures base { L.Look.base look.new ≡ L.Look.base look.old }
     ensures end { SameConsole console.old console.new }
@@ -29,8 +29,8 @@ fn drop_one<T: Told + Drop, L: FreeLook<Told = T>>(console: &mut Console<T>, loo
     }
 }
 
-/// Receives, learns and drops all receipts that are known to wait, of which there are at most 64: whether no request of the slot is
-/// unanswered.
+/// Receives, learns and drops all receipts that are known to wait, of which there are at most 64: whether no request of
+/// the slot is unanswered.
 pub fn drain<T: Told + Drop, L: FreeLook<Told = T>>(console: &mut Console<T>, look: &mut L) -> bool
     ensures base { L.Look.base look.new ≡ L.Look.base look.old }
     ensures end { SameConsole console.old console.new }

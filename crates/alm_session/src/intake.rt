@@ -24,9 +24,9 @@ pub struct Intake {
 
 impl Model for Intake {
     ghost use Rattle.std.specs.Prelude.{◌≤◌, take, drop};
-    ghost use Rattle.alm_session.specs.Intakes.{Held, piece_len};
+    ghost use Rattle.alm_session.specs.Intakes.{Untaken, piece_len};
 
-    ghost Value = { Held };
+    ghost Value = { Untaken };
 
     ghost view = { λ i.
         record { line = i.line; held = i.decoder; rest = drop i.at (take i.end i.bytes) } };
@@ -50,7 +50,7 @@ fn feed_from(decoder: &mut Decoder, bytes: &[u8], at: usize, end: usize) -> (usi
 
 impl Intake {
     ghost use Rattle.std.specs.Prelude.{◌≡◌, [], None, length, take};
-    ghost use Rattle.alm_session.specs.Intakes.{Held, lines_in, open_in};
+    ghost use Rattle.alm_session.specs.Intakes.{Untaken, lines_in, open_in};
     ghost use Rattle.alm_session.specs.Wires.{ReadCounts, ReadGives};
 
     /// Nothing has come.
@@ -89,7 +89,7 @@ impl Intake {
         self.line = None;
     }
 
-    /// Reads once, where nothing is left to take up.
+    /// Reads once, if no byte is left to take up.
     pub fn read<W: Wire>(&mut self, wire: &mut W) -> ReadGave
         requires { self.old.rest ≡ [] }
         ensures counts { ReadCounts result piece_len (W.counts wire.old) (W.counts wire.new) }

@@ -7,27 +7,27 @@ ghost use Rattle.alm_model.specs.Rules.{KeepsRules};
 ghost use Rattle.alm_desk.specs.Answers.{look_reply};
 ghost use Rattle.alm_desk.specs.declared.hindrance.Hindrance.TheVariants.{Nothing};
 ghost use Rattle.alm_session.specs.Ended.{IsNew, IsFinished, IsAnswered};
-ghost use Rattle.alm_session.specs.Turns.{IsTurn, Side, between, looks_of};
+ghost use Rattle.alm_session.specs.Turns.{IsTurn, SlotState, between, looks_of};
 ghost use Rattle.alm_types.specs.Sizes.{most_actions};
 ghost use Rattle.alm_session.specs.Outputs.{output_limit};
 
 use alm_board::Look;
 
-/// What single turns do, they do one after the other; and of a connection that was new and has ended, each line was answered, each query by
-/// a look, and what was written is the replies in the order of the lines.
+/// What single turns do, they do one after the other. For a connection that was new and has ended, each line was answered, and
+/// each query by a look. What was written is the replies in the order of the lines.
 pub fn turns_answer_all_lines<L: Look>()
-    ensures among { (x y : L) (base : Condensed) (n : ℕ) (a b : Side) →
+    ensures among { (x y : L) (base : Condensed) (n : ℕ) (a b : SlotState) →
         IsTurn (between L.looked x y) base n a b → IsTurn (looks_of L.looked) base n a b }
-    ensures join { (base : Condensed) (m n : ℕ) (a b c : Side) →
+    ensures join { (base : Condensed) (m n : ℕ) (a b c : SlotState) →
         IsTurn (looks_of L.looked) base m a b → IsTurn (looks_of L.looked) base n b c →
         IsTurn (looks_of L.looked) base (m + n) a c }
-    ensures ended { (base : Condensed) (n : ℕ) (a b : Side) →
+    ensures ended { (base : Condensed) (n : ℕ) (a b : SlotState) →
         IsTurn (looks_of L.looked) base n a b → IsNew a → IsFinished b →
         IsAnswered (looks_of L.looked) base a b }
 {}
 
-/// Of a plant that keeps its rules, and so has 16,384 alarms at most, no reply to a query is longer than the room for replies: such a
-/// query is never refused for its length.
+/// The plant keeps its rules, and so has 16,384 alarms at most. Then no reply to a query is longer than the room for replies:
+/// such a query is never refused for its length.
 pub fn replies_have_room()
     ensures { (q : Condensed) (id : ℕ) (query : Query) → KeepsRules q →
         q.panel.count ≤ most_actions →

@@ -8,16 +8,17 @@
 //!
 //! A [`Session`] does in one turn the first of these that can be done without waiting:
 //!
-//! | step | where | the turn |
+//! | step | if | the turn |
 //! |---|---|---|
-//! | receives a receipt, learns what it tells, and prints the reply to the oldest action that waits | the ring knows a receipt | [`Turn::Went`] |
-//! | writes once | replies stand to be written | Went, Idle where the write is blocked, Fault where it fails |
-//! | sends the action of the line that is held | a line is held | Went, Idle where it has to wait |
+//! | receives a receipt, learns what it reports, and prints the reply to the oldest action that waits | the ring knows a receipt | [`Turn::Went`] |
+//! | writes once | there are replies to write | Went, Idle if the write is blocked, Fault if it fails |
+//! | sends the action of the line that is held | a line is held | Went, Idle if it has to wait |
 //! | answers the query or the bad line that is held | a line is held, no action waits | Went |
-//! | reads once | no line is held | Went, Idle where the read is blocked, Ended at the end, Fault where it fails |
+//! | reads once | no line is held | Went, Idle if the read is blocked, Ended at the end, Fault if it fails |
 //!
-//! So replies stand in the order of the lines, and a look comes after all receipts before it were learnt. A line is taken only while no
-//! reply stands to be written, and the wire is read only while no whole line is held: a client that doesn't read isn't read either.
+//! So replies are written in the order of their lines, and by the time of a look all receipts before it were learnt. While there
+//! are replies to write no line is taken, and while a whole line is held the wire is not read: a client that doesn't read isn't
+//! read either.
 //!
 //! | what a session holds | room |
 //! |---|---|
@@ -26,11 +27,12 @@
 //! | ids of actions that wait for their receipts | 64 |
 //! | replies that aren't written | 131,072 |
 //!
-//! What is used above: [`Session::turn`], by the relation `IsTurn` between the slot's side before and after; the law
-//! [`laws::turns_answer_all_lines`] makes of it what a whole connection is. [`drain`] drops what a lost connection leaves.
+//! What is used above: [`Session::turn`], by the relation `IsTurn` between the slot's side before and after. The law
+//! [`laws::turns_answer_all_lines`] derives from it what a whole connection is. [`drain`] drops what a lost connection leaves.
 //! [`Wire`] is what a socket is to a session, [`MemWire`] one in memory.
 //!
-//! Not promised: any time. That the k-th receipt answers the k-th request is the flusher's to say; here receipts come in order.
+//! Not covered: time, and that the k-th receipt answers the k-th request, which the flusher guarantees; here receipts come in
+//! order.
 #![tactic(auto)]
 
 mod draining;

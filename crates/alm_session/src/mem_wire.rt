@@ -5,7 +5,7 @@ ghost use Rattle.std.specs.Prelude.{◌≡◌, ◌≤◌, vec_capacity, vec_len}
 use crate::wire::{ReadGave, Wire, WriteTook};
 use std::alloc::{AllocError, Global};
 
-/// A wire in memory: it gives its input and then End, and takes as many bytes as it has room for; then it is blocked.
+/// A wire in memory: it gives its input and then End, and takes bytes until its room is full; then it is blocked.
 #[derive(Drop)]
 pub struct MemWire {
     input: Vec<u8>,
@@ -22,7 +22,7 @@ impl MemWire {
     ghost use Rattle.std.specs.Prelude.{◌≡◌, ◌≤◌, IfOk, Some, []};
     ghost use Rattle.alm_session.specs.MemWires.{input_of, output_of, wire_room};
 
-    /// A wire that gives this input, and has room for so many bytes of output.
+    /// A wire that gives this input, and has room for `room` bytes of output.
     pub fn new(alloc: Global, input: Vec<u8>, room: usize) -> Result<Self, AllocError>
         ensures input { IfOk result (λ w. input_of w ≡ input.items) }
         ensures output { IfOk result (λ w. output_of w ≡ []) }

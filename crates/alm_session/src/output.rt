@@ -10,7 +10,7 @@ use alm_types::{Answer, Query, Refusal};
 use std::alloc::{AllocError, Global};
 use std::marker::Model;
 
-/// The places of the buffer: the longest list of alarms goes in.
+/// The places of the buffer: the longest list of alarms fits.
 const OUTPUT_ROOM: usize = 131_072;
 
 /// Replies that aren't written yet.
@@ -22,9 +22,9 @@ pub struct Output {
 
 impl Model for Output {
     ghost use Rattle.std.specs.Prelude.{◌≤◌, drop, vec_len, vec_capacity};
-    ghost use Rattle.alm_session.specs.Outputs.{Left, output_limit};
+    ghost use Rattle.alm_session.specs.Outputs.{Unwritten, output_limit};
 
-    ghost Value = { Left };
+    ghost Value = { Unwritten };
 
     ghost view = { λ o. record { left = drop o.written o.text.items; used = vec_len o.text } };
 
@@ -40,7 +40,7 @@ pub enum Sent {
     Failed,
 }
 
-/// Puts bytes where there is room.
+/// Appends bytes, for which there must be room.
 fn put(text: &mut Vec<u8>, bytes: &[u8])
     requires { vec_len text.old + length bytes.now ≤ vec_capacity text.old }
     ensures items { text.new.items ≡ text.old.items ++ bytes.now }
@@ -53,7 +53,7 @@ fn put(text: &mut Vec<u8>, bytes: &[u8])
     }
 }
 
-/// Puts an id, a word and a number, where there is room for 64 bytes.
+/// Appends an id, a word and a number, for which there must be room for 64 bytes.
 fn put_line(text: &mut Vec<u8>, id: u32, word: &str, number: u64)
     requires word { length word.now ≡ 4 }
     requires room { vec_len text.old + reply_limit ≤ vec_capacity text.old }
@@ -73,10 +73,10 @@ impl Output {
     ghost use Rattle.alm_lines.specs.Reply.{ok_text, no_text, told_text};
     ghost use Rattle.alm_types.specs.Reports.{report};
     ghost use Rattle.std.specs.Prelude.{true, false};
-    ghost use Rattle.alm_session.specs.Outputs.{Left};
+    ghost use Rattle.alm_session.specs.Outputs.{Unwritten};
     ghost use Rattle.alm_session.specs.Wires.{WritesFront, SentCounts};
 
-    /// Nothing is to be written.
+    /// A buffer without bytes to write.
     pub fn new(alloc: Global) -> Result<Self, AllocError>
         ensures { IfOk result (λ o. o ≡ record { left = []; used = 0 }) }
     {
@@ -86,7 +86,7 @@ impl Output {
         })
     }
 
-    /// Nothing is to be written any more.
+    /// Drops all bytes that are to be written.
     pub fn clear(&mut self)
         ensures { self.new ≡ record { left = []; used = 0 } }
     {
@@ -112,7 +112,7 @@ impl Output {
         put_line(&mut self.text, id, " NO ", u64::from(refusal.number()));
     }
 
-    /// Prints what is told to a query, where nothing is to be written. False, and nothing is printed, where it doesn't go in.
+    /// Prints the answer to a query, if no byte is to be written. False, and no byte is printed, if it doesn't fit.
     pub fn told(&mut self, id: u32, n: u64, query: Query, answer: &Answer) -> bool
         requires { self.old.used ≡ 0 }
         ensures text { result ≡ true →
@@ -131,7 +131,7 @@ impl Output {
         false
     }
 
-    /// Writes once, where something is to be written.
+    /// Writes once, if there are bytes to write.
     pub fn write<W: Wire>(&mut self, wire: &mut W) -> Sent
         ensures sends { WritesFront result self.old self.new (W.written wire.old)
             (W.written wire.new) }

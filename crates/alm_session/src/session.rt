@@ -29,11 +29,11 @@ pub struct Session {
 impl Session {
     ghost use Rattle.std.specs.Prelude.{◌≡◌, ◌+◌, ◌≤◌, ◌<◌, ◌⊎◌, ℕ, List, [], ◌∷◌, length, Option, None, Some, IfOk, true, false};
     ghost use Rattle.arrayvec.specs.ArrayVec.{array_vec_len};
-    ghost use Rattle.alm_rings.specs.Ends.{SameConsole, sent_of};
+    ghost use Rattle.alm_rings.specs.Ends.{SameConsole, coming_to, received_of, sent_of};
     ghost use Rattle.alm_session.specs.Intakes.{lines_in};
     ghost use Rattle.alm_session.specs.Turns.{IsTurn, Heard, between, no_looks};
     ghost use Rattle.alm_types.specs.declared.action.Action.{Action};
-    ghost use Rattle.alm_session.specs.Sides.{side_of, heard_by, least_of, IsQuiet, IsStuck, ReadTurns, GoneOn, Turns};
+    ghost use Rattle.alm_session.specs.Sides.{slot_state, heard_by, least_of, IsQuiet, IsStuck, ReadTurns, GoOnTurns, Turns};
     ghost use Rattle.std.specs.Prelude.{◌++◌, if◌then◌else◌};
     ghost use Rattle.alm_model.specs.Plant.{Condensed};
     ghost use Rattle.alm_lines.specs.Reply.{no_text};
@@ -41,7 +41,7 @@ impl Session {
     ghost use Rattle.alm_session.specs.declared.turn.Turn.TheVariants as turn;
     ghost use Rattle.alm_lines.specs.declared.ask.Ask.TheVariants as ask;
 
-    /// A connection on which nothing has come.
+    /// A connection on which no byte has come.
     pub fn new(alloc: Global) -> Result<Self, AllocError>
         ensures held { IfOk result (λ s. s.intake ≡ record { line = None; held = []; rest = [] }) }
         ensures waiting { IfOk result (λ s. s.waiting.items ≡ []) }
@@ -55,7 +55,7 @@ impl Session {
         })
     }
 
-    /// Another connection, on which nothing has come. It keeps its buffers.
+    /// Another connection, on which no byte has come. It keeps its buffers.
     pub fn restart(&mut self)
         ensures held { self.new.intake ≡ record { line = None; held = []; rest = [] } }
         ensures waiting { self.new.waiting.items ≡ [] }
@@ -87,7 +87,7 @@ impl Session {
         }
     }
 
-    /// Receives a receipt, where one is known to wait, learns what it tells and prints the reply.
+    /// Receives a receipt, if one is known to wait, learns what it reports and prints the reply.
     fn receive<T: Told + Drop, L: FreeLook<Told = T>>(
         &mut self,
         console: &mut Console<T>,
@@ -97,11 +97,13 @@ impl Session {
         ensures end { SameConsole console.old console.new }
         ensures turn { (coming written : Option (List ℕ)) →
             IsTurn no_looks (L.Look.base look.old) (if result then 1 else 0)
-            (side_of self.old (L.Look.knows look.old) coming written (sent_of console.old)
+            (slot_state self.old (L.Look.knows look.old) coming written (sent_of console.old)
             (heard_by console.old))
-            (side_of self.new (L.Look.knows look.new) coming written (sent_of console.new)
+            (slot_state self.new (L.Look.knows look.new) coming written (sent_of console.new)
             (heard_by console.new)) }
         ensures quiet { result ≡ false → IsQuiet console.old }
+        ensures one { result ≡ true →
+            length (received_of console.new) ≡ length (received_of console.old) + 1 }
         ensures unseen { result ≡ false → look.new ≡ look.old }
         ensures left { result ≡ false → self.new.output ≡ self.old.output }
         ensures held { self.new.intake ≡ self.old.intake }
@@ -123,8 +125,8 @@ impl Session {
         ensures end { SameConsole console.old console.new }
         ensures turn { (base : Condensed) (known : List Action) (coming written : Option (List ℕ)) →
             IsTurn no_looks base (least_of result)
-            (side_of self.old known coming written (sent_of console.old) (heard_by console.old))
-            (side_of self.new known coming written (sent_of console.new) (heard_by console.new)) }
+            (slot_state self.old known coming written (sent_of console.old) (heard_by console.old))
+            (slot_state self.new known coming written (sent_of console.new) (heard_by console.new)) }
         ensures cases { (result ≡ turn.Went) ⊎
             ((result ≡ turn.Idle) × IsStuck self.new console.new) }
         ensures left { self.new.output ≡ self.old.output }
@@ -142,7 +144,7 @@ impl Session {
         }
     }
 
-    /// Answers the query of the line that is held, where no action waits.
+    /// Answers the query of the line that is held, if no action waits.
     fn ask<L: Look>(&mut self, id: u32, query: Query, look: &mut L)
         requires line { self.old.intake.line ≡ Some (record { id = id; ask = ask.Look query }) }
         requires empty { (self.old.output.left ≡ []) × (self.old.output.used ≡ 0) }
@@ -151,8 +153,8 @@ impl Session {
         ensures turn { (coming written : Option (List ℕ)) (sent : List Action)
             (heard : List Heard) →
             IsTurn (between L.looked look.old look.new) (L.base look.old) 1
-            (side_of self.old (L.knows look.old) coming written sent heard)
-            (side_of self.new (L.knows look.new) coming written sent heard) }
+            (slot_state self.old (L.knows look.old) coming written sent heard)
+            (slot_state self.new (L.knows look.new) coming written sent heard) }
     {
         self.intake.pass();
         match look.look(query, &mut self.answer) {
@@ -165,7 +167,7 @@ impl Session {
         }
     }
 
-    /// Answers the bad line that is held, where no action waits.
+    /// Answers the bad line that is held, if no action waits.
     fn refuse(&mut self, id: u32, refusal: Refusal)
         requires line { self.old.intake.line ≡ Some (record { id = id; ask = ask.Bad refusal }) }
         requires empty { (self.old.output.left ≡ []) × (self.old.output.used ≡ 0) }
@@ -179,7 +181,7 @@ impl Session {
         self.output.no(id, refusal);
     }
 
-    /// Takes the line that is held, where nothing is to be written.
+    /// Takes the line that is held, if no byte is to be written.
     fn take<T: Told + Drop, L: FreeLook<Told = T>>(
         &mut self,
         line: Line,
@@ -193,9 +195,9 @@ impl Session {
         ensures turn { (coming written : Option (List ℕ)) →
             IsTurn (between L.Look.looked look.old look.new) (L.Look.base look.old)
             (least_of result)
-            (side_of self.old (L.Look.knows look.old) coming written (sent_of console.old)
+            (slot_state self.old (L.Look.knows look.old) coming written (sent_of console.old)
             (heard_by console.old))
-            (side_of self.new (L.Look.knows look.new) coming written (sent_of console.new)
+            (slot_state self.new (L.Look.knows look.new) coming written (sent_of console.new)
             (heard_by console.new)) }
         ensures cases { (result ≡ turn.Went) ⊎
             ((result ≡ turn.Idle) × IsStuck self.new console.new × (self.new.output.left ≡ [])) }
@@ -220,14 +222,14 @@ impl Session {
         }
     }
 
-    /// Reads, where nothing is held and nothing is to be written.
+    /// Reads, if no line is held and no byte is to be written.
     fn read<W: Wire>(&mut self, wire: &mut W) -> Turn
         requires held { (self.old.intake.line ≡ None) × (self.old.intake.rest ≡ []) }
         requires empty { self.old.output.left ≡ [] }
         ensures turn { (base : Condensed) (known sent : List Action) (heard : List Heard) →
             IsTurn no_looks base (least_of result)
-            (side_of self.old known (W.coming wire.old) (W.written wire.old) sent heard)
-            (side_of self.new known (W.coming wire.new) (W.written wire.new) sent heard) }
+            (slot_state self.old known (W.coming wire.old) (W.written wire.old) sent heard)
+            (slot_state self.new known (W.coming wire.new) (W.written wire.new) sent heard) }
         ensures answer { ReadTurns result self.old self.new (W.counts wire.old) (W.counts wire.new)
             (W.coming wire.new) }
     {
@@ -244,7 +246,7 @@ impl Session {
         }
     }
 
-    /// Takes a line, or reads, where nothing is to be written.
+    /// Takes a line, or reads, if no byte is to be written.
     fn go_on<W: Wire, T: Told + Drop, L: FreeLook<Told = T>>(
         &mut self,
         wire: &mut W,
@@ -256,11 +258,11 @@ impl Session {
         ensures end { SameConsole console.old console.new }
         ensures turn { IsTurn (between L.Look.looked look.old look.new) (L.Look.base look.old)
             (least_of result)
-            (side_of self.old (L.Look.knows look.old) (W.coming wire.old) (W.written wire.old)
+            (slot_state self.old (L.Look.knows look.old) (W.coming wire.old) (W.written wire.old)
             (sent_of console.old) (heard_by console.old))
-            (side_of self.new (L.Look.knows look.new) (W.coming wire.new) (W.written wire.new)
+            (slot_state self.new (L.Look.knows look.new) (W.coming wire.new) (W.written wire.new)
             (sent_of console.new) (heard_by console.new)) }
-        ensures answer { GoneOn result self.new console.new (W.counts wire.old) (W.counts wire.new)
+        ensures answer { GoOnTurns result self.new console.new (W.counts wire.old) (W.counts wire.new)
             (W.coming wire.new) }
         ensures takes_first { 0 < length (lines_in self.old.intake) →
             W.coming wire.new ≡ W.coming wire.old }
@@ -282,16 +284,20 @@ impl Session {
         ensures end { SameConsole console.old console.new }
         ensures turn { IsTurn (between L.Look.looked look.old look.new) (L.Look.base look.old)
             (least_of result)
-            (side_of self.old (L.Look.knows look.old) (W.coming wire.old) (W.written wire.old)
+            (slot_state self.old (L.Look.knows look.old) (W.coming wire.old) (W.written wire.old)
             (sent_of console.old) (heard_by console.old))
-            (side_of self.new (L.Look.knows look.new) (W.coming wire.new) (W.written wire.new)
+            (slot_state self.new (L.Look.knows look.new) (W.coming wire.new) (W.written wire.new)
             (sent_of console.new) (heard_by console.new)) }
         ensures answer { Turns result self.new console.old console.new (W.counts wire.old)
             (W.counts wire.new) (W.coming wire.new) }
-        // While a reply stands to be written no line is taken, and nothing is read;
+        // While a receipt is known to wait, a turn receives one and makes no call on the wire.
+        ensures receives_first { 0 < length (coming_to console.old) →
+            (result ≡ turn.Went) × (wire.new ≡ wire.old) ×
+            (length (received_of console.new) ≡ length (received_of console.old) + 1) }
+        // While a reply is still to be written no line is taken, and no byte is read;
         ensures writes_first { 0 < length self.old.output.left →
             (self.new.intake ≡ self.old.intake) × (W.coming wire.new ≡ W.coming wire.old) }
-        // and nothing is read while a whole line is held.
+        // and no byte is read while a whole line is held.
         ensures takes_first { 0 < length (lines_in self.old.intake) →
             W.coming wire.new ≡ W.coming wire.old }
     {

@@ -17,7 +17,7 @@ pub enum WriteTook {
     Failed,
 }
 
-/// A connection that never waits: what can't be done at once is Blocked.
+/// A connection that never waits: what can't be done immediately is Blocked.
 pub trait Wire {
     ghost use Rattle.std.specs.Prelude.{◌≡◌, ◌<◌, ℕ, length, List, Option};
     ghost use Rattle.alm_session.specs.Wires.{ReadCounts, WriteCounts, ReadBytes, WriteBytes, Counts};
@@ -25,10 +25,10 @@ pub trait Wire {
     /// How many reads and writes were blocked, and how many calls failed.
     ghost counts: { Self → Counts };
 
-    /// What reads will give, where that is known.
+    /// What reads will give, if that is known.
     ghost coming: { Self → Option (List ℕ) };
 
-    /// What was written, where that is known.
+    /// What was written, if that is known.
     ghost written: { Self → Option (List ℕ) };
 
     fn read(&mut self, into: &mut [u8]) -> ReadGave

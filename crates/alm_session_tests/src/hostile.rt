@@ -8,7 +8,7 @@ use alm_types::Slot;
 use std::alloc::{AllocError, Global};
 use std::test::Fail;
 
-/// What is answered to these bytes at a slot, a byte at a time.
+/// What is answered to these bytes at a slot, fed byte by byte.
 fn replies_to(alloc: Global, slot: Slot, input: &[u8]) -> Result<Vec<u8>, AllocError> {
     let (mut console, mut inbox, mut outbox) = open_slot(alloc, slot)?;
     let mut look = worked_look(alloc)?;
@@ -48,7 +48,7 @@ fn bad_lines(rt: HostRuntime) -> Result<(), Fail> {
     Ok(())
 }
 
-/// How a connection went that sent this input, and what was written to it, where there is room for so many bytes.
+/// The result of a connection that sent this input, and what was written to it, if there is room for `room` bytes.
 fn over_memory(
     alloc: Global,
     slot: Slot,
@@ -70,7 +70,8 @@ fn over_memory(
     Ok((course, Vec::from_slice(alloc, wire.output())?))
 }
 
-/// A million bytes without a line end are one line that is too long, and the next line is read as if alone.
+/// A million bytes without a line end are one line that is too long, which leaves no trace in the reading of the line
+/// after it.
 #[test]
 fn a_line_without_end(rt: HostRuntime) -> Result<(), Fail> {
     let alloc = rt.alloc();
@@ -91,7 +92,7 @@ fn a_line_without_end(rt: HostRuntime) -> Result<(), Fail> {
     Ok(())
 }
 
-/// Of a client that reads nothing no more is read than one buffer once a reply stands to be written.
+/// While a reply is still to be written, no more than one buffer is read from a client that reads nothing.
 #[test]
 fn a_client_that_never_reads(rt: HostRuntime) -> Result<(), Fail> {
     let alloc = rt.alloc();
@@ -121,7 +122,7 @@ fn a_client_that_never_reads(rt: HostRuntime) -> Result<(), Fail> {
     Ok(())
 }
 
-/// A wire that has room for five bytes takes the front of the reply, and blocks.
+/// A wire that has room for five bytes takes a prefix of the reply, and blocks.
 #[test]
 fn no_room(rt: HostRuntime) -> Result<(), Fail> {
     let alloc = rt.alloc();

@@ -1,8 +1,8 @@
-//! A wire that gives and takes a few bytes at a time.
+//! A wire that gives and takes a few bytes in a call.
 
 use alm_session::{ReadGave, Wire, WriteTook};
 
-/// A wire that gives at most so many bytes at a time and takes at most so many, and is blocked before each call that it serves.
+/// A wire that gives and takes at most a number of bytes in a call, and is blocked before each call that it serves.
 #[derive(Drop)]
 pub struct PieceWire {
     input: Vec<u8>,
@@ -18,7 +18,7 @@ pub struct PieceWire {
 }
 
 impl PieceWire {
-    /// A wire that gives this input in pieces of at most so many bytes, and takes pieces of at most so many; 0 is none at all.
+    /// A wire that gives this input in pieces of at most `piece` bytes, and takes pieces of at most `room`; 0 is none at all.
     pub fn new(input: Vec<u8>, piece: usize, output: Vec<u8>, room: usize) -> Self {
         PieceWire {
             input,

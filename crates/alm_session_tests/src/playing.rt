@@ -3,18 +3,18 @@
 ghost use Rattle.alm_rings.specs.Ends.{AreEnds};
 
 use crate::still::{StillLook, StillTold};
+use alm_desk::worked_table;
 use alm_model::{Alarms, PlainPlant};
 use alm_rings::{Console, Inbox, Outbox, Receipt, beside};
-use alm_service::worked_table;
 use alm_session::{Session, Turn, Wire};
 use alm_types::{Refusal, Verdict};
 use std::alloc::{AllocError, Global};
 
-/// How a connection went.
+/// The result of a connection.
 #[derive(Clone, Copy, Debug, PartialEq, Eq)]
 pub struct Course {
     pub last: Turn,
-    /// How many turns could do nothing.
+    /// How many turns were idle.
     pub idle: u32,
     /// How many requests were answered.
     pub answers: u64,
@@ -49,7 +49,7 @@ pub fn answer(
     beside(console, inbox, outbox);
 }
 
-/// One turn. One request is answered where it is idle and some are unanswered.
+/// One turn. One request is answered if it is idle and some are unanswered.
 fn go_on<W: Wire>(
     session: &mut Session,
     wire: &mut W,
@@ -70,8 +70,8 @@ fn go_on<W: Wire>(
     turn
 }
 
-/// Takes turns until the connection ends, or a hundred were idle in a row. One request is answered at each idle turn, as long as some
-/// are unanswered.
+/// Takes turns until the connection ends, or a hundred were idle in a row. One request is answered at each idle turn,
+/// as long as some are unanswered.
 pub fn play<W: Wire>(
     session: &mut Session,
     wire: &mut W,

@@ -12,7 +12,7 @@ use alm_types::{Action, AlarmId, Slot};
 use std::alloc::{AllocError, Global};
 use std::test::Fail;
 
-/// Lines of each kind, and what is answered where each action is refused.
+/// Lines of each kind, and their replies if each action is refused.
 const LINES: &str =
     "7 ACK 0\n8 ACK 1\n9 STATE 1\nx\n10 FLOOD 9\n11 LIST P 1\n12 ACK 0\n13 FLOOD 0\n";
 
@@ -23,8 +23,9 @@ fn bytes(alloc: Global, text: &str) -> Result<Vec<u8>, AllocError> {
     Vec::from_slice(alloc, text.as_bytes())
 }
 
-/// Whether these lines at a slot have these replies, over a wire that gives and takes so many bytes at a time.
-fn is_answered(
+/// Whether these lines at a slot have these replies, over a wire that gives and takes a few bytes in a call. An error if out of
+/// memory.
+pub fn is_answered(
     alloc: Global,
     slot: Slot,
     lines: &str,
@@ -35,7 +36,12 @@ fn is_answered(
     let (mut console, mut inbox, mut outbox) = open_slot(alloc, slot)?;
     let mut look = worked_look(alloc)?;
     let mut session = Session::new(alloc)?;
-    let mut wire = PieceWire::new(bytes(alloc, lines)?, piece, Vec::new(alloc), room);
+    let mut wire = PieceWire::new(
+        bytes(alloc, lines)?,
+        piece,
+        Vec::with_capacity(alloc, replies.len())?,
+        room,
+    );
     let course = play(
         &mut session,
         &mut wire,
@@ -74,7 +80,7 @@ fn a_query_and_the_end(rt: HostRuntime) -> Result<(), Fail> {
     Ok(())
 }
 
-/// Replies stand in the order of the lines, however the stream is cut and however little is taken at a time.
+/// Lines and replies have the same order, however the stream is cut and however few bytes are taken in a call.
 #[test]
 fn replies_in_order_for_each_cut(rt: HostRuntime) -> Result<(), Fail> {
     let alloc = rt.alloc();
@@ -115,7 +121,7 @@ fn a_query_waits_for_actions(rt: HostRuntime) -> Result<(), Fail> {
     Ok(())
 }
 
-/// How the next five turns of a session go.
+/// The next five turns of a session.
 fn five_turns<W: Wire>(
     session: &mut Session,
     wire: &mut W,
@@ -133,8 +139,8 @@ fn five_turns<W: Wire>(
     ]
 }
 
-/// Three sends, a connection lost, and drained after three receipts: the next serial is 4, and the next connection's first line is its
-/// own.
+/// Three sends, a connection lost, and drained after three receipts: the next serial is 4, and the next connection's
+/// first line is its own.
 #[test]
 fn a_lost_connection(rt: HostRuntime) -> Result<(), Fail> {
     let alloc = rt.alloc();
@@ -180,6 +186,17 @@ fn as_many_as_the_slot_takes(rt: HostRuntime) -> Result<(), Fail> {
         replies.push_str("7 NO 2\n")?;
     }
     assert!(rt; is_answered(alloc, slot, &lines, &replies, 4096, 4096)?);
+    Ok(())
+}
+
+/// The plant and an alarm's attributes, in pieces of one byte.
+#[test]
+fn a_plant_and_its_attributes(rt: HostRuntime) -> Result<(), Fail> {
+    let slot = Slot::new(16).ok_or("slot")?;
+    let lines = "5 PLANT\n6 ATTR 2\n4294967295 ATTR 4\n7 ATTR 1\n";
+    let replies =
+        "5 PLANT 0 0 4 2\n6 ATTR 0 DISCRETE 1 0 1 1 0 ON XS-201\n4294967295 NO 1\n7 ATTR 0 LOW 100 5 2 0 3600 OFF PI-102\n";
+    assert!(rt; is_answered(rt.alloc(), slot, lines, replies, 1, 1)?);
     Ok(())
 }
 

@@ -1,11 +1,11 @@
-//! A published plant to which nothing was ever published.
+//! A published plant for which no batch was ever published.
 
 use alm_board::{FreeLook, Look};
 use alm_model::{Alarms, look};
 use alm_rings::Told;
 use alm_types::{Answer, Query, Refusal};
 
-/// Nothing is told.
+/// An empty report.
 #[derive(Drop)]
 pub struct StillTold {
     pub base_count: u64,
@@ -35,8 +35,11 @@ impl<P: Alarms + Drop> Look for StillLook<P> {
     ghost knows = { λ _. [] };
 
     fn look(&mut self, query: Query, answer: &mut Answer) -> Result<u64, Refusal> {
-        let count = look(&self.plant, query, answer)?;
-        Ok(count)
+        // for the proof: what is refused is taken apart from what is shown
+        match look(&self.plant, query, answer) {
+            Ok(count) => Ok(count),
+            Err(refusal) => Err(refusal),
+        }
     }
 
     fn take_in(&mut self, told: StillTold) {

@@ -19,20 +19,20 @@ front_behind s xs ys p = front_of (s ++ xs) (drop (length xs) ys) (s ++ ys) (app
 pub accepted_front : (xs : List Entry) (k : ℕ) → IsFront (accepted_of (take k xs)) (accepted_of xs)
 accepted_front xs k = front_of (accepted_of (take k xs)) (accepted_of (drop k xs)) (accepted_of xs) (sym (accepted_append (take k xs) (drop k xs)) ∙ ap accepted_of (take-append-drop k xs))
 
--- what begins a history, which goes on behind what is shown by the first of these actions, begins it also with all of them
+-- what begins a history, which continues after what is shown by the first of these actions, begins it also with all of them
 pub handed_front : (s h t acc : List Action) → IsFront s h → IsFront h t → IsFront (drop (length s) t) acc → IsFront h (s ++ acc)
 handed_front s h t acc shown handed same =
     let all : IsFront t (s ++ acc) = subst (λ (l : List Action). IsFront l (s ++ acc)) (rest_of s t (front_trans s h t shown handed)) (front_behind s (drop (length s) t) acc same) in
     front_trans h t (s ++ acc) handed all
 
--- what was handed over of these actions behind those that are shown, and the rest of them, are all
+-- what was handed over of these actions after those that are shown, and the rest of them, are all
 pub handed_rest : (s h acc : List Action) → IsFront s h → IsFront h (s ++ acc) → h ++ drop (length h - length s) acc ≡ s ++ acc
 handed_rest s h acc shown handed =
     let long : length h ≡ length s + (length h - length s) = omega (arith, front_length s h shown) in
     let behind : drop (length h) (s ++ acc) ≡ drop (length h - length s) acc = ap (λ n. drop n (s ++ acc)) long ∙ drop-append-add s acc (length h - length s) in
     ap (λ l. h ++ l) (sym behind) ∙ rest_of h (s ++ acc) handed
 
--- so many of the first are passed over, and then an action more is taken; or it is one of those
+-- a number of the first are passed over, and then an action more is taken; or it is one of those
 pub one_taken : (before : List Action) (a : Action) (n : ℕ) → n - length before ≡ 0 → drop n (before ++ a ∷ []) ≡ drop n before ++ a ∷ []
 one_taken before a n none = drop-append-le n before (a ∷ []) (omega (arith, none))
 
@@ -41,7 +41,7 @@ one_passed before a n some =
     let less : length before < n = omega (arith, some) in
     drop_all n (before ++ a ∷ []) (omega (arith, less, length-append before (a ∷ []))) ∙ sym (drop_all n before (omega (arith, less)))
 
--- what a history, which goes on behind what is shown by the first of these actions, has to grow by
+-- what a history, which continues after what is shown by the first of these actions, has to grow by
 module _ (s t acc : List Action) (shown : IsFront s t) (same : IsFront (drop (length s) t) acc) where
   long : length t - length s ≡ length (drop (length s) t)
   long = sym (length-drop (length s) t)

@@ -1,4 +1,4 @@
--- What is there is told, and what isn't is refused whatever was published.
+-- What exists is reported, and what doesn't is refused whatever was published.
 use Rattle.std.proofs.Common.{◌≡◌, ℕ, ◌<◌, inl, inr, Bool, true, false, List, length, Option, Some, None, refl, ap, sym, subst, arith}
 use Rattle.std.specs.Prelude.{Ok, Err, IsOk, slice_get, if◌then◌else◌}
 use Rattle.std.proofs.lemmas.Bool.{ltb-true, ltb-false, le-ltb}
@@ -6,18 +6,19 @@ use Rattle.std.proofs.lemmas.Option.{slice_get_past, slice_get_cases}
 use Rattle.alm_types.specs.declared.action.Action.{Action}
 use Rattle.alm_types.specs.declared.answer.Answer.{Answer}
 use Rattle.alm_types.specs.declared.query.Query.{Query}
-use Rattle.alm_types.specs.declared.query.Query.TheVariants.{State, Priority, Area, Wheel, Flood, Stale, Chatter}
+use Rattle.alm_types.specs.declared.query.Query.TheVariants.{State, Priority, Area, Wheel, Flood, Stale, Chatter, Plant, Attributes}
 use Rattle.alm_types.specs.declared.refusal.Refusal.{Refusal}
 use Rattle.alm_types.specs.declared.refusal.Refusal.TheVariants.{NoSuchList, OutOfMemory, Stopped}
+use Rattle.alm_types.specs.declared.attr.Attr.{Attr}
 use Rattle.alm_types.specs.Reports.{alarms}
 use Rattle.alm_state.specs.Rows.{State as RowState}
 use Rattle.alm_model.specs.Plant.{Condensed}
-use Rattle.alm_model.specs.Look.{IsLook, look, state_report, flood_report, list_report}
+use Rattle.alm_model.specs.Look.{IsLook, look, state_report, flood_report, list_report, attributes_report}
 use Rattle.alm_model.specs.Lists.{exists, list_of}
 use Rattle.alm_model.specs.declared.list.List.{List as Choice}
 use Rattle.alm_model.specs.declared.list.List.TheVariants as choice
 use Rattle.alm_model.specs.Step.{run}
-use Rattle.alm_model.proofs.Runs.{run_sizes}
+use Rattle.alm_model.proofs.Runs.{run_sizes, run_attrs}
 use Rattle.alm_board.specs.Fronts.{IsFront}
 use Rattle.alm_board.specs.Looks.{LookAnswers}
 use Rattle.alm_board.proofs.FrontLaws.{front_self}
@@ -26,6 +27,12 @@ use Rattle.alm_shared.specs.Extents.{is_there, missing}
 a_row : (rows : List RowState) (i : ℕ) → i < length rows → IsOk (state_report (slice_get rows i))
 a_row rows i within = elim (slice_get_cases rows i).1 [
   | inl here ↦ subst (λ o. IsOk (state_report o)) (sym here.2) refl
+  | inr past ↦ absurd (omega (arith, within, past.0))
+]
+
+some_attributes : (attrs : List Attr) (i : ℕ) → i < length attrs → IsOk (attributes_report (slice_get attrs i))
+some_attributes attrs i within = elim (slice_get_cases attrs i).1 [
+  | inl here ↦ subst (λ o. IsOk (attributes_report o)) (sym here.2) refl
   | inr past ↦ absurd (omega (arith, within, past.0))
 ]
 
@@ -52,26 +59,31 @@ no_flood None flood is = refl
 no_flood (Some ages) None is = refl
 no_flood (Some ages) (Some on) is = absurd (cc is)
 
-pub tells : (q : Condensed) (query : Query) → length q.kept.ages ≡ length q.floods → is_there q query ≡ true → IsOk (look q query)
-tells q (State i) same is = a_row q.panel.rows i.0 (ltb-true _ _ is)
-tells q (Flood area) same is = a_flood q.kept.ages q.floods area same (ltb-true _ _ is)
-tells q (Area area) same is = a_list (choice.Area area) q is
-tells q (Priority n) same is = a_list (choice.Priority n) q is
-tells q (Wheel slot) same is = a_list (choice.Wheel slot) q is
-tells q Stale same is = refl
-tells q Chatter same is = refl
+pub tells : (q : Condensed) (query : Query) → length q.panel.attrs ≡ length q.panel.rows → length q.kept.ages ≡ length q.floods → is_there q query ≡ true → IsOk (look q query)
+tells q (State i) named same is = a_row q.panel.rows i.0 (ltb-true _ _ is)
+tells q (Flood area) named same is = a_flood q.kept.ages q.floods area same (ltb-true _ _ is)
+tells q (Area area) named same is = a_list (choice.Area area) q is
+tells q (Priority n) named same is = a_list (choice.Priority n) q is
+tells q (Wheel slot) named same is = a_list (choice.Wheel slot) q is
+tells q Stale named same is = refl
+tells q Chatter named same is = refl
+tells q Plant named same is = refl
+tells q (Attributes i) named same is = some_attributes q.panel.attrs i.0 (omega (arith, named, ltb-true _ _ is))
 
-pub refuses : (q : Condensed) (query : Query) → length q.kept.ages ≡ length q.floods → is_there q query ≡ false → (list : List Action) → look (run q list) query ≡ Err (missing query)
-refuses q (State i) same is list = ap state_report (slice_get_past (run q list).panel.rows i.0 (omega (arith, (run_sizes q list same).0, ltb-false _ _ is)))
-refuses q (Flood area) same is list = no_flood (slice_get (run q list).kept.ages area) (slice_get (run q list).floods area)
+pub refuses : (q : Condensed) (query : Query) → length q.panel.attrs ≡ length q.panel.rows → length q.kept.ages ≡ length q.floods → is_there q query ≡ false → (list : List Action) → look (run q list) query ≡ Err (missing query)
+refuses q (State i) named same is list = ap state_report (slice_get_past (run q list).panel.rows i.0 (omega (arith, (run_sizes q list same).0, ltb-false _ _ is)))
+refuses q (Flood area) named same is list = no_flood (slice_get (run q list).kept.ages area) (slice_get (run q list).floods area)
     (slice_get_past (run q list).floods area (omega (arith, (run_sizes q list same).1, ltb-false _ _ is)))
-refuses q (Area area) same is list = no_list (choice.Area area) (run q list) (le-ltb _ _ (omega (arith, (run_sizes q list same).1, ltb-false _ _ is)))
-refuses q (Priority n) same is list = no_list (choice.Priority n) (run q list) is
-refuses q (Wheel slot) same is list = no_list (choice.Wheel slot) (run q list) is
-refuses q Stale same is list = absurd (cc is)
-refuses q Chatter same is list = absurd (cc is)
+refuses q (Area area) named same is list = no_list (choice.Area area) (run q list) (le-ltb _ _ (omega (arith, (run_sizes q list same).1, ltb-false _ _ is)))
+refuses q (Priority n) named same is list = no_list (choice.Priority n) (run q list) is
+refuses q (Wheel slot) named same is list = no_list (choice.Wheel slot) (run q list) is
+refuses q Stale named same is list = absurd (cc is)
+refuses q Chatter named same is list = absurd (cc is)
+refuses q Plant named same is list = absurd (cc is)
+refuses q (Attributes i) named same is list =
+    ap attributes_report (slice_get_past (run q list).panel.attrs i.0 (omega (arith, named, run_attrs q list same, ltb-false _ _ is)))
 
--- what isn't there is refused by what is known
+-- what doesn't exist is refused by what is known
 pub missing_answers : (base : Condensed) (known : List Action) (query : Query) (answer : Answer) → ((list : List Action) → look (run base list) query ≡ Err (missing query)) → LookAnswers base known known query answer answer (Err (missing query))
 missing_answers base known (State i) answer none = (refl, (known, (front_self known, (none known, refl))))
 missing_answers base known (Flood area) answer none = (refl, (known, (front_self known, (none known, refl))))
@@ -80,8 +92,10 @@ missing_answers base known (Priority n) answer none = (refl, (known, (front_self
 missing_answers base known (Wheel slot) answer none = (refl, (known, (front_self known, (none known, refl))))
 missing_answers base known Stale answer none = (refl, (known, (front_self known, (none known, refl))))
 missing_answers base known Chatter answer none = (refl, (known, (front_self known, (none known, refl))))
+missing_answers base known Plant answer none = (refl, (known, (front_self known, (none known, refl))))
+missing_answers base known (Attributes i) answer none = (refl, (known, (front_self known, (none known, refl))))
 
--- a look that is refused tells no more than was known
+-- a look that is refused reports no more than was known
 pub refused_answers : (base : Condensed) (known list : List Action) (query : Query) (before after : Answer) (refusal : Refusal) → IsOk (look base query) → IsFront known list → IsLook (run base list) query before after (Err refusal) → LookAnswers base known known query before after (Err refusal)
 refused_answers base known list query before after Stopped there front is = (refl, is.1, there)
 refused_answers base known list query before after OutOfMemory there front is = (refl, (list, (front, is)))

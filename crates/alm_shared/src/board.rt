@@ -1,46 +1,41 @@
 //! A shared board is a board.
 
-use crate::desk::Desk;
-use crate::front::Front;
-use crate::head::Head;
-use crate::naming::Naming;
+use crate::append_step::AppendStep;
+use crate::durable::Durable;
+use crate::handed_over::HandedOver;
+use crate::history_length::HistoryLength;
 use crate::publisher::Publisher;
-use crate::shown::Shown;
-use crate::step::Step;
+use crate::shown_plant::ShownPlant;
 use alm_board::{Board, Publish};
 use alm_model::Alarms;
+use alm_moments::{Moments, RunId};
 use alm_types::Batch;
 use std::alloc::AllocError;
 use std::sync::Wait;
 
-impl<J: Naming, P: Alarms + Drop> Board for Publisher<Shown<J, P>, Step<J>, Desk<J>, Head<J>> {
-    ghost use Rattle.alm_shared.specs.Desks.{shown_of, pending_of};
+impl<J: RunId, P: Alarms + Drop> Board
+    for Publisher<ShownPlant<J, P>, AppendStep<J>, HandedOver<J>, HistoryLength<J>> {
+    ghost use Rattle.alm_shared.specs.SharedBoards.{board_shown, board_pending};
 
-    type Told = Front<J>;
+    type Told = Durable<J>;
 
     ghost base = { λ _. J.base };
 
-    ghost published = { λ board. shown_of board };
+    ghost published = { λ board. board_shown board };
 
-    ghost pending = { λ board. pending_of board };
+    ghost pending = { λ board. board_pending board };
 
-    fn tell(&self) -> Front<J> {
-        self.shown().front.again()
+    fn tell(&self) -> Durable<J> {
+        self.shown().told.again()
     }
 }
 
-impl<J: Naming, P: Alarms + Drop, R: Wait> Publish<R>
-    for Publisher<Shown<J, P>, Step<J>, Desk<J>, Head<J>> {
+impl<J: RunId, P: Alarms + Drop, R: Wait> Publish<R, Moments<J>>
+    for Publisher<ShownPlant<J, P>, AppendStep<J>, HandedOver<J>, HistoryLength<J>> {
     ghost sure = { ⊥ };
 
-    fn publish(&mut self, by: &R, batch: &Batch) -> Result<(), AllocError> {
-        match self.hand_over(batch) {
-            Ok(()) => {}
-            Err(refused) => return Err(refused),
-        }
-        match self.turn(by) {
-            Ok(()) => Ok(()),
-            Err(refused) => Err(refused),
-        }
+    fn publish(&mut self, by: &R, moments: &Moments<J>, batch: &Batch) -> Result<(), AllocError> {
+        self.hand_over(batch, moments)?;
+        self.turn(by)
     }
 }

@@ -1,59 +1,52 @@
-//! A beginning of a run's history.
+//! A prefix of a run's history.
 ghost use Rattle.std.specs.Prelude.{◌≡◌, ◌+◌, ◌≤◌, ◌++◌, ◌⊎◌, ◌↔◌, [], length, take, drop, MatchBool, IsTrue};
 ghost use mathlib.Core.List.{IsPrefix};
 ghost use Rattle.alm_model.specs.Judging.{accepted_of};
 ghost use Rattle.alm_model.specs.Step.{run};
 ghost use Rattle.alm_types.specs.Sizes.{most_actions};
 ghost use Rattle.alm_board.specs.Fronts.{IsFront};
-ghost use Rattle.alm_shared.specs.Growing.{EndsIn};
+ghost use Rattle.alm_shared.specs.Growing.{HasLast};
 
-use crate::add::{Add, Growth, Rest};
-use crate::head::Head;
-use crate::law::Law;
-use crate::naming::Naming;
-use crate::nothing::Nothing;
+use crate::append_actions::{AppendActions, Growth, Rest};
+use crate::history_length::HistoryLength;
+use crate::history_rule::HistoryRule;
+use crate::no_trade::NoTrade;
 use alm_model::accepted_in;
-use alm_rings::Told;
+use alm_moments::RunId;
 use alm_types::{Action, Batch, MOST_ACTIONS};
 use logbook::{Offer, Seen};
 use std::marker::{Model, PhantomData};
 
-/// A beginning of a run's history, of so many of the actions that were seen: eight bytes, however long. Each action is admitted where it comes.
-/// Contracts see it as its actions.
+/// A prefix of a run's history, as its length among the actions that were seen: eight bytes, however long. Each action is
+/// admitted at its turn. Contracts see it as its actions.
 #[derive(Drop)]
-pub struct Front<J: Naming> {
+pub struct Front<J: RunId> {
     len: u64,
-    seen: Seen<Growth, u64, Law>,
+    seen: Seen<Growth, u64, HistoryRule>,
     of: PhantomData<J>,
 }
 
-impl<J: Naming> Model for Front<J> {
+impl<J: RunId> Model for Front<J> {
     ghost use Rattle.std.specs.Prelude.{◌≡◌, ◌≤◌, List, length, take};
     ghost use Rattle.alm_types.specs.declared.action.Action.{Action};
     ghost use Rattle.alm_model.specs.Rules.{AllAdmitted};
     ghost use Rattle.alm_types.specs.Sizes.{most_actions};
-    ghost use Rattle.alm_shared.specs.History.{joined};
+    ghost use Rattle.alm_shared.specs.History.{joined_actions};
 
     ghost Value = { List Action };
 
-    ghost view = { λ f. take f.len (joined f.seen.log) };
+    ghost view = { λ f. take f.len (joined_actions f.seen.log) };
 
     ghost invariant = { λ f.
-        (f.len ≤ length (joined f.seen.log)) × (f.len ≤ most_actions) × (f.seen.book ≡ J.book) ×
-        AllAdmitted J.base (take f.len (joined f.seen.log)) };
+        (f.len ≤ length (joined_actions f.seen.log)) × (f.len ≤ most_actions) × (f.seen.book ≡ J.book) ×
+        AllAdmitted J.base (take f.len (joined_actions f.seen.log)) };
 }
 
-impl<J: Naming> Told for Front<J> {
-    ghost base_count = { λ _. J.base.panel.count };
-
-    ghost list = { λ front. front };
-}
-
-impl<J: Naming> Front<J> {
+impl<J: RunId> Front<J> {
     ghost use Rattle.alm_model.specs.Rules.{AllAdmitted};
 
-    // A front that has seen nothing.
-    pub(crate) fn new(seen: Seen<Growth, u64, Law>) -> Front<J>
+    // A prefix that has seen no actions.
+    pub(crate) fn new(seen: Seen<Growth, u64, HistoryRule>) -> Front<J>
         requires empty { seen.log ≡ [] }
         requires book { seen.book ≡ J.book }
         ensures { result ≡ [] }
@@ -74,7 +67,7 @@ impl<J: Naming> Front<J> {
         self.len
     }
 
-    /// The same front.
+    /// The same prefix.
     pub fn again(&self) -> Front<J>
         ensures { result ≡ self.now }
     {
@@ -85,7 +78,7 @@ impl<J: Naming> Front<J> {
         }
     }
 
-    /// The longer of two fronts: it begins with the other.
+    /// The longer of two prefixes: it begins with the other.
     pub fn longer(&self, other: &Front<J>) -> Front<J>
         ensures one { (result ≡ self.now) ⊎ (result ≡ other.now) }
         ensures this { IsPrefix self.now result }
@@ -100,28 +93,30 @@ impl<J: Naming> Front<J> {
         }
     }
 
-    // Whether `other` begins with this front: it does where it is no shorter.
+    // Whether `other` begins with this prefix: it does if it is no shorter.
     pub(crate) fn begins(&self, other: &Front<J>) -> bool
         ensures { IsTrue result ↔ IsFront self.now other.now }
     {
+        // for the proof: one of two prefixes of a history begins with the other
         drop(self.longer(other));
         self.len() <= other.len()
     }
 
-    /// Whether `next` is this front with just the last of its actions more, which are `actions`.
+    /// Whether `next` is this prefix with exactly its last actions more, which are `actions`.
     pub fn is_followed_by(&self, next: &Front<J>, actions: &[Action]) -> bool
-        requires last { EndsIn next.now actions.now }
+        requires last { HasLast next.now actions.now }
         ensures longer { IsTrue result ↔ (length next.now ≡ length self.now + length actions.now) }
         ensures next { IsTrue result → next.now ≡ self.now ++ actions.now }
         ensures admitted { IsTrue result → AllAdmitted (run J.base self.now) actions.now }
     {
+        // for the proof: one of two prefixes of a history begins with the other
         drop(self.longer(next));
         next.len() == self.len() + actions.len() as u64
     }
 
-    // Adds the accepted actions of a batch to the history, but for so many of the first, and holds them too. Nothing changes where the history
-    // is longer than this front, or has no room.
-    pub(crate) fn extend(&mut self, head: &Head<J>, batch: &Batch, from: u64) -> bool
+    // Adds the accepted actions of a batch to the history, without the first `from`, and holds them too. Nothing changes if the
+    // history is longer than this prefix, or has no room.
+    pub(crate) fn extend(&mut self, head: &HistoryLength<J>, batch: &Batch, from: u64) -> bool
         requires within { from ≤ length (accepted_of batch.now.entries) }
         requires admitted { AllAdmitted (run J.base self.old)
             (drop from (accepted_of batch.now.entries)) }
@@ -138,13 +133,21 @@ impl<J: Naming> Front<J> {
             return false;
         }
         let mut seen = self.seen.again();
-        let mut offer: Offer<Growth, u64, Law, Nothing> = seen.plain::<Nothing, Rest<'_>, Add>(
-            &Rest { batch, from },
-        );
+        let mut offer: Offer<Growth, u64, HistoryRule, NoTrade> = seen.plain::<
+            NoTrade,
+            Rest<'_>,
+            AppendActions,
+        >(&Rest { batch, from });
         let mut pen = seen.no_pen();
         let found = head
             .head
-            .compare_exchange::<Add, Nothing>(len, len + more, &mut seen, &mut offer, &mut pen);
+            .compare_exchange::<AppendActions, NoTrade>(
+                len,
+                len + more,
+                &mut seen,
+                &mut offer,
+                &mut pen,
+            );
         if found != len {
             return false;
         }

@@ -1,65 +1,69 @@
 //! The published plant, which threads share.
 //!
 //! ```text
-//! let (mut board, looks) = open_board(rt, alloc, history, plant, slots)?;
-//! board.publish(rt, &batch)?; look.learn(receipt);
+//! let (mut board, looks) = open_board(rt, alloc, history, &moments, plant, slots)?;
+//! board.publish(rt, &moments, &batch)?; look.learn(receipt);
 //! let count = look.look(query, &mut answer)?;
 //! ```
 //!
-//! One thread shows batches, and each slot looks at what is shown, without a lock. The plant is shown with the list of the actions
-//! that it comes from.
+//! One thread publishes batches, and each slot reads what is published, without a lock. The plant is shown with the list of the
+//! actions that it comes from.
 //!
 //! | name | is |
 //! |---|---|
 //! | [`SharedBoard`], [`open_board`] | the board, and what opens it with its looks |
-//! | [`SharedLook`] | one slot's sight of it |
-//! | [`Front`] | what is told: a beginning of the run's history, eight bytes however long it is |
-//! | [`NewHistory`], [`Naming`] | a history, and the run that it is of |
-//! | [`Publisher`], [`Sight`], [`Glance`] | any value that is shown to threads, and its readers |
+//! | [`SharedLook`] | one slot's view of it |
+//! | [`Front`] | a prefix of the run's history of actions, eight bytes however long it is |
+//! | [`Durable`] | what receipts report and looks know: a prefix that stays on the device ([`laws`]) |
+//! | [`NewRun`], [`NewHistory`] | the histories of a run, before it has a name |
+//! | [`Publisher`], [`BoardReader`], [`ReadGuard`] | any value that is shown to threads, and its readers |
 //!
-//! What is used above: a look shows the plant of a list of published actions, with its count. The list begins with all that this looker saw
-//! before, and with the list told in every receipt that it learnt, whatever thread published it. A refused publish shows
-//! nothing new, and the next call goes on where it stopped. It is what [`alm_board::Board`], [`alm_board::Publish`] and
-//! [`alm_board::Look`] say, at these types.
+//! What is used above: a look shows the plant of a list of published actions, with its count. Earlier looks by the same reader
+//! saw prefixes of that list, and each receipt that it learnt reported a prefix, whatever thread published it. A refused publish
+//! leaves the shown list as it was, and the next call continues from there. This is what [`alm_board::Board`],
+//! [`alm_board::Publish`] and [`alm_board::Look`] say, at these types.
 //!
-//! [`open_board`], [`Publisher::turn`], [`Publisher::take`] and a publish may wait, for readers that look at the older plant. A look, a told
-//! list and what is learnt wait for nobody, and none of them takes memory but for the list that a query asks for: their contracts have no handle to
-//! wait by.
+//! [`open_board`], [`Publisher::turn`], [`Publisher::take`] and a publish may wait for readers of the older plant. A look, and
+//! reporting or learning a list, never wait: their contracts have no handle to wait by. They take no memory, except for the list
+//! that a query asks for.
 //!
-//! Not promised: that a look sees the newest of what is published, that a publish is ever granted its memory, and any time.
+//! Not covered: that a look sees the newest of what is published, that a publish ever gets its memory, and time.
 #![tactic(auto)]
 
-mod add;
-mod aim;
+mod append_actions;
+mod append_step;
 mod board;
-mod desk;
+mod board_reader;
+mod durable;
 mod extent;
 mod front;
-mod glance;
+mod handed_over;
 mod handing;
-mod head;
-mod law;
-mod naming;
+mod history_length;
+mod history_rule;
+pub mod laws;
 mod new_history;
-mod nothing;
+mod new_run;
+mod next_shown;
+mod no_trade;
 mod open;
 mod publisher;
+mod read_guard;
 mod shared_look;
-mod shown;
-mod sight;
-mod step;
+mod shown_plant;
 
-pub use aim::Aim;
-pub use desk::{Desk, SharedBoard};
+pub use append_step::AppendStep;
+pub use board_reader::BoardReader;
+pub use durable::Durable;
 pub use extent::Extent;
 pub use front::Front;
-pub use glance::Glance;
-pub use head::Head;
-pub use naming::Naming;
+pub use handed_over::{HandedOver, SharedBoard};
+pub use history_length::HistoryLength;
 pub use new_history::NewHistory;
+pub use new_run::NewRun;
+pub use next_shown::NextShown;
 pub use open::open_board;
 pub use publisher::Publisher;
+pub use read_guard::ReadGuard;
 pub use shared_look::SharedLook;
-pub use shown::Shown;
-pub use sight::Sight;
-pub use step::Step;
+pub use shown_plant::ShownPlant;

@@ -2,19 +2,19 @@
 ghost use Rattle.std.specs.Prelude.{◌≡◌, []};
 ghost use Rattle.alm_shared.specs.History.{newest_of};
 
-use crate::add::Growth;
+use crate::append_actions::Growth;
 use crate::front::Front;
-use crate::head::Head;
-use crate::law::Law;
-use crate::naming::Naming;
+use crate::history_length::HistoryLength;
+use crate::history_rule::HistoryRule;
+use alm_moments::RunId;
 use logbook::{Seen, Start, Word};
 use std::alloc::Global;
 
 /// An empty history, before it has a name.
 #[derive(Drop)]
 pub struct NewHistory {
-    head: Word<Growth, u64, Law>,
-    seen: Seen<Growth, u64, Law>,
+    head: Word<Growth, u64, HistoryRule>,
+    seen: Seen<Growth, u64, HistoryRule>,
     pub ghost empty: { seen.log ≡ [] },
     pub ghost head_is: { head ≡ newest_of seen.book },
 }
@@ -29,12 +29,12 @@ impl NewHistory {
         }
     }
 
-    // Its length under a name, and the front that has seen nothing.
-    pub(crate) fn named<J: Naming>(self, alloc: Global) -> (Head<J>, Front<J>)
+    // Its length under a name, and the empty prefix.
+    pub(crate) fn named<J: RunId>(self, alloc: Global) -> (HistoryLength<J>, Front<J>)
         requires { self.seen.book ≡ J.book }
         ensures { result.1 ≡ [] }
     {
         let NewHistory { head, seen } = self;
-        (Head::new(alloc, head), Front::new(seen))
+        (HistoryLength::new(alloc, head), Front::new(seen))
     }
 }

@@ -1,52 +1,58 @@
 //! Opens a shared board with its looks.
 ghost use Rattle.std.specs.Prelude.{◌≡◌, ◌<◌, ◌^◌, [], IfOk, vec_len};
-ghost use Rattle.alm_shared.specs.Desks.{shown_of, pending_of};
+ghost use Rattle.alm_shared.specs.SharedBoards.{board_shown, board_pending};
 
-use crate::desk::{Desk, SharedBoard};
+use crate::durable::Durable;
 use crate::extent::Extent;
-use crate::front::Front;
-use crate::naming::Naming;
+use crate::handed_over::{HandedOver, SharedBoard};
 use crate::new_history::NewHistory;
 use crate::publisher::Publisher;
 use crate::shared_look::SharedLook;
-use crate::shown::Shown;
+use crate::shown_plant::ShownPlant;
 use alm_model::Alarms;
+use alm_moments::{Moments, RunId};
 use std::alloc::{AllocError, Global};
 use std::sync::Wait;
 
-/// A board on which nothing was published yet: it shows the plant that the run begins with. And so many looks at it. It takes two of each: the
-/// plant and its copy. An error is want of memory.
-pub fn open_board<J: Naming, P: Alarms + Drop, R: Wait>(
+/// A board without published actions, which shows the plant that the run begins with, and a number of looks at it. It takes two
+/// of each: the plant and its copy. An error means out of memory.
+pub fn open_board<J: RunId, P: Alarms + Drop, R: Wait>(
     rt: &R,
     alloc: Global,
     history: NewHistory,
+    moments: &Moments<J>,
     plant: P,
     lookers: usize,
 ) -> Result<(SharedBoard<J, P>, Vec<SharedLook<J, P>>), AllocError>
     requires book { history.seen.book ≡ J.book }
+    requires moments { moments.now ≡ [] }
     requires base { P.plant plant ≡ J.base }
     requires lookers { (0 < lookers) × (lookers < 2 ^ 32) }
-    ensures published { IfOk result (λ r. shown_of r.0 ≡ []) }
-    ensures pending { IfOk result (λ r. pending_of r.0 ≡ []) }
+    ensures published { IfOk result (λ r. board_shown r.0 ≡ []) }
+    ensures pending { IfOk result (λ r. board_pending r.0 ≡ []) }
     ensures lookers { IfOk result (λ r. vec_len r.1 ≡ lookers) }
 {
     let extent = Extent::new(&plant);
     let second = plant.copy(alloc)?;
     let (head, front) = history.named::<J>(alloc);
-    let first = Shown {
+    let told = Durable {
+        front: front.again(),
+        moments: moments.again(),
+    };
+    let first = ShownPlant {
         plant,
-        front: front.again(),
+        told: told.again(),
     };
-    let second = Shown {
+    let second = ShownPlant {
         plant: second,
-        front: front.again(),
+        told: told.again(),
     };
-    let desk = Desk {
+    let desk = HandedOver {
         handed: front.again(),
-        reached: front.again(),
+        reached: front,
     };
     let board = Publisher::new(alloc, first, second, lookers, desk, head)?;
-    match looks(alloc, &board, &front, &extent, lookers) {
+    match looks(alloc, &board, &told, &extent, lookers) {
         Ok(looks) => Ok((board, looks)),
         Err(fault) => {
             drop(board.take(rt));
@@ -55,11 +61,11 @@ pub fn open_board<J: Naming, P: Alarms + Drop, R: Wait>(
     }
 }
 
-// So many looks that have seen nothing.
-fn looks<J: Naming, P: Alarms + Drop>(
+// A number of looks that have seen no actions.
+fn looks<J: RunId, P: Alarms + Drop>(
     alloc: Global,
     board: &SharedBoard<J, P>,
-    front: &Front<J>,
+    told: &Durable<J>,
     extent: &Extent<J>,
     lookers: usize,
 ) -> Result<Vec<SharedLook<J, P>>, AllocError>
@@ -68,8 +74,8 @@ fn looks<J: Naming, P: Alarms + Drop>(
     let mut looks = Vec::with_capacity(alloc, lookers)?;
     for _ in 0..lookers {
         let look = SharedLook {
-            sight: board.sight()?,
-            front: front.again(),
+            reader: board.reader()?,
+            known: told.again(),
             extent: extent.again(),
         };
         if looks.push(look).is_err() {

@@ -1,8 +1,8 @@
-//! The one who publishes to readers in other threads.
+//! The publisher of a value to readers in other threads.
 ghost use Rattle.std.specs.Prelude.{◌≡◌, ◌^◌, ◌<◌, drop, fold, IfOk};
 
-use crate::aim::Aim;
-use crate::sight::Sight;
+use crate::board_reader::BoardReader;
+use crate::next_shown::NextShown;
 use alm_types::Action;
 use core::mem::replace_with;
 use crossbeam_utils::rule::Unruled;
@@ -11,50 +11,50 @@ use left_right::writer::Writer;
 use std::alloc::{AllocError, Global};
 use std::sync::Wait;
 
-/// Shows a value to readers in other threads, by `left_right`. Operations are handed over one by one, and shown together by a turn, to which the
-/// handle is lent that it waits by. It isn't `Drop`: end it by [`Publisher::take`].
-pub struct Publisher<T: Absorb<O, State = [Action; 0]> + Drop, O: Drop, X: Aim, Y> {
+/// Shows a value to readers in other threads, by `left_right`. Operations are handed over one by one, and shown together by a
+/// turn, which borrows the handle that it waits by. It isn't `Drop`: end it by [`Publisher::take`].
+pub struct Publisher<T: Absorb<O, State = [Action; 0]> + Drop, O: Drop, X: NextShown, Y> {
     writer: Writer<T, O, (), Unruled>,
-    /// What the owner keeps beside it: it knows what the next turn shows.
-    pub beside: X,
+    /// What the owner keeps next to it: it knows what the next turn shows.
+    pub owner: X,
     /// What else the owner keeps: no call changes it.
-    pub more: Y,
+    pub extra: Y,
     pub ghost leads: { fold T.applied (T.state writer.desk.shown.value)
-        (drop writer.behind writer.log.items) ≡ X.aim beside },
+        (drop writer.behind writer.log.items) ≡ X.next_shown owner },
 }
 
-impl<T: Absorb<O, State = [Action; 0]> + Drop, O: Drop, X: Aim, Y> Publisher<T, O, X, Y> {
+impl<T: Absorb<O, State = [Action; 0]> + Drop, O: Drop, X: NextShown, Y> Publisher<T, O, X, Y> {
     ghost use Rattle.std.specs.Prelude.{◌≡◌, IsOk, OnOk, OnErr, MatchResult};
     ghost use Rattle.alm_shared.specs.Publishers.{published};
 
-    /// Shows the first of two values that are alike; `readers` is how many may look at once.
+    /// Shows the first of two equal values; `readers` is the largest number of readers.
     pub fn new(
         alloc: Global,
         first: T,
         second: T,
         readers: usize,
-        beside: X,
-        more: Y,
+        owner: X,
+        extra: Y,
     ) -> Result<Publisher<T, O, X, Y>, AllocError>
     where
         X: Drop,
         Y: Drop,
         requires readers { (0 < readers) × (readers < 2 ^ 32) }
         requires alike { T.state first ≡ T.state second }
-        requires aim { X.aim beside ≡ T.state first }
-        ensures { IfOk result (λ p. (published p ≡ first) × (p.beside ≡ beside) × (p.more ≡ more)) }
+        requires next_shown { X.next_shown owner ≡ T.state first }
+        ensures { IfOk result (λ p. (published p ≡ first) × (p.owner ≡ owner) × (p.extra ≡ extra)) }
     {
         let writer = Writer::new(alloc, first, second, readers)?;
         Ok(Publisher {
             writer,
-            beside,
-            more,
+            owner,
+            extra,
         })
     }
 
-    /// One reader's sight. An error where there is no memory, or there are as many as were asked for.
-    pub fn sight(&self) -> Result<Sight<T>, AllocError> {
-        Ok(Sight {
+    /// One reader's sight. An error if out of memory, or if all `readers` are taken.
+    pub fn reader(&self) -> Result<BoardReader<T>, AllocError> {
+        Ok(BoardReader {
             reader: Some(self.writer.factory().reader()?),
         })
     }
@@ -66,30 +66,30 @@ impl<T: Absorb<O, State = [Action; 0]> + Drop, O: Drop, X: Aim, Y> Publisher<T, 
         self.writer.published()
     }
 
-    /// Hands over an operation. It comes back where there is no memory.
-    pub fn append(&mut self, op: O, beside: X) -> Result<(), (O, X)>
+    /// Hands over an operation. It is returned if out of memory.
+    pub fn append(&mut self, op: O, owner: X) -> Result<(), (O, X)>
     where
         X: Drop,
-        requires { X.aim beside ≡ T.applied (X.aim self.old.beside) op }
+        requires { X.next_shown owner ≡ T.applied (X.next_shown self.old.owner) op }
         ensures published { published self.new ≡ published self.old }
-        ensures more { self.new.more ≡ self.old.more }
-        ensures beside { MatchResult result (λ _. self.new.beside ≡ beside)
-            (λ x. (x.0 ≡ op) × (x.1 ≡ beside) × (self.new.beside ≡ self.old.beside)) }
+        ensures extra { self.new.extra ≡ self.old.extra }
+        ensures owner { MatchResult result (λ _. self.new.owner ≡ owner)
+            (λ x. (x.0 ≡ op) × (x.1 ≡ owner) × (self.new.owner ≡ self.old.owner)) }
     {
         match self.writer.append(op) {
             Ok(()) => {
-                self.beside = beside;
+                self.owner = owner;
                 Ok(())
             }
-            Err(op) => Err((op, beside)),
+            Err(op) => Err((op, owner)),
         }
     }
 
-    /// Shows all that was handed over, or nothing new for want of memory. It waits for readers that look at the older value.
+    /// Shows all that was handed over, or the same as before if out of memory. It waits for readers of the older value.
     pub fn turn<R: Wait>(&mut self, rt: &R) -> Result<(), AllocError>
-        ensures beside { (self.new.beside ≡ self.old.beside) × (self.new.more ≡ self.old.more) }
+        ensures owner { (self.new.owner ≡ self.old.owner) × (self.new.extra ≡ self.old.extra) }
         ensures succeeds { T.never_fails → IsOk result }
-        ensures ok { OnOk result (T.state (published self.new) ≡ X.aim self.old.beside) }
+        ensures ok { OnOk result (T.state (published self.new) ≡ X.next_shown self.old.owner) }
         ensures err { OnErr result (published self.new ≡ published self.old) }
     {
         replace_with(&mut self.writer, rt, |writer, rt| {
@@ -97,16 +97,16 @@ impl<T: Absorb<O, State = [Action; 0]> + Drop, O: Drop, X: Aim, Y> Publisher<T, 
         })
     }
 
-    /// Ends it, and gives what was shown last. It waits for readers that look at it.
+    /// Ends it, and returns what was shown last. It waits for readers of that value.
     pub fn take<R: Wait>(self, rt: &R) -> (Box<T>, X, Y)
-        ensures { (result.0.value ≡ published self) × (result.1 ≡ self.beside) ×
-            (result.2 ≡ self.more) }
+        ensures { (result.0.value ≡ published self) × (result.1 ≡ self.owner) ×
+            (result.2 ≡ self.extra) }
     {
         let Self {
             writer,
-            beside,
-            more,
+            owner,
+            extra,
         } = self;
-        (writer.take(rt), beside, more)
+        (writer.take(rt), owner, extra)
     }
 }

@@ -1,74 +1,78 @@
-//! A slot's sight of a shared board.
+//! A slot's view of a shared board.
 ghost use Rattle.std.specs.Prelude.{◌≡◌, ◌≤◌, length, IsOk, OnOk};
 ghost use Rattle.alm_model.specs.Look.{IsLook, look as told};
 ghost use Rattle.alm_model.specs.Step.{run};
 ghost use Rattle.alm_board.specs.Fronts.{IsFront};
 ghost use Rattle.alm_board.specs.Looks.{LookAnswers};
 
+use crate::board_reader::BoardReader;
+use crate::durable::Durable;
 use crate::extent::Extent;
-use crate::front::Front;
-use crate::naming::Naming;
-use crate::shown::Shown;
-use crate::sight::Sight;
+use crate::shown_plant::ShownPlant;
 use alm_board::{FreeLook, Look};
 use alm_model::{Alarms, look};
+use alm_moments::RunId;
 use alm_types::{Answer, Query, Refusal};
 
-/// A slot's sight of the published plant, with all that it knows of it: what it saw and what it was told.
+/// A slot's view of the published plant, with all that it knows of it: what it saw and what receipts reported.
 #[derive(Drop)]
-pub struct SharedLook<J: Naming, P: Alarms + Drop> {
-    pub(crate) sight: Sight<Shown<J, P>>,
-    pub(crate) front: Front<J>,
+pub struct SharedLook<J: RunId, P: Alarms + Drop> {
+    pub(crate) reader: BoardReader<ShownPlant<J, P>>,
+    /// What it saw last, or what a receipt reported since.
+    pub known: Durable<J>,
     pub(crate) extent: Extent<J>,
 }
 
-impl<J: Naming, P: Alarms + Drop> Look for SharedLook<J, P> {
-    type Told = Front<J>;
+impl<J: RunId, P: Alarms + Drop> Look for SharedLook<J, P> {
+    type Told = Durable<J>;
 
     ghost base = { λ _. J.base };
 
-    ghost knows = { λ look. look.front };
+    ghost knows = { λ look. look.known.front };
 
     fn look(&mut self, query: Query, answer: &mut Answer) -> Result<u64, Refusal> {
         if let Err(refusal) = self.extent.find(query) {
             return Err(refusal);
         }
-        let Some(shown) = self.sight.enter() else {
+        let Some(shown) = self.reader.enter() else {
             return Err(Refusal::Stopped);
         };
-        look_at(&*shown, &mut self.front, query, answer)
+        look_at(&*shown, &mut self.known, query, answer)
     }
 
-    fn take_in(&mut self, told: Front<J>) {
-        self.front = self.front.longer(&told);
+    fn take_in(&mut self, told: Durable<J>) {
+        self.known = self.known.longer(&told);
     }
 }
 
-impl<J: Naming, P: Alarms + Drop> FreeLook for SharedLook<J, P> {
+impl<J: RunId, P: Alarms + Drop> FreeLook for SharedLook<J, P> {
     ghost free = { λ look told. tt };
 }
 
-// Looks at what is shown, at something that is there. An older list than was known is not looked at: Stopped, which no run meets.
-fn look_at<J: Naming, P: Alarms + Drop>(
-    shown: &Shown<J, P>,
-    front: &mut Front<J>,
+// Answers a query for something that exists by what is shown. A list older than the known one isn't used: Stopped, which no run
+// meets.
+fn look_at<J: RunId, P: Alarms + Drop>(
+    shown: &ShownPlant<J, P>,
+    known: &mut Durable<J>,
     query: Query,
     answer: &mut Answer,
 ) -> Result<u64, Refusal>
     requires there { IsOk (told J.base query) }
-    ensures later { IsFront front.old front.new }
-    ensures answer { LookAnswers J.base front.old front.new query answer.old answer.new result }
-    ensures shown { length front.old ≤ length shown.now.front →
-        IsLook (run J.base shown.now.front) query answer.old answer.new result }
-    ensures saw { OnOk result (front.new ≡ shown.now.front) }
+    ensures later { IsFront known.old.front known.new.front }
+    ensures answer { LookAnswers J.base known.old.front known.new.front query answer.old answer.new
+        result }
+    ensures shown { length known.old.front ≤ length shown.now.told.front →
+        IsLook (run J.base shown.now.told.front) query answer.old answer.new result }
+    ensures saw { OnOk result (known.new.front ≡ shown.now.told.front) }
 {
-    if shown.front.len() < front.len() {
+    if shown.told.front.len() < known.front.len() {
         return Err(Refusal::Stopped);
     }
-    drop(shown.front.longer(front));
+    // for the proof: one of two prefixes of a history begins with the other
+    drop(shown.told.front.longer(&known.front));
     match look(&shown.plant, query, answer) {
         Ok(count) => {
-            *front = shown.front.again();
+            *known = shown.told.again();
             Ok(count)
         }
         Err(refusal) => Err(refusal),

@@ -1,9 +1,10 @@
+-- For the proofs.
 -- How large the chains and the measure of the benchmarks are.
 use Rattle.std.specs.Prelude.{ℕ, ◌≡◌, length}
 use Rattle.alm_links.specs.Lists.{Families, family_at}
 use Rattle.alm_measure.specs.Metrics.{Metrics}
 
--- one family of so many lists over so many nodes
+-- one family of this number of lists over this number of nodes
 pub record IsOfSizes (nodes lists : ℕ) (c : Families) : Type 0 where
   pub one_family : length c.families ≡ 1
   pub all_nodes : c.nodes ≡ nodes

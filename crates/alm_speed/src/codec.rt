@@ -1,6 +1,6 @@
 //! The largest image, written and read.
 //!
-//! `bench/codec/run.sh` runs it beside a loop in C that copies and sums as many bytes.
+//! `bench/codec/run.sh` compares it with a loop in C that copies and sums as many bytes.
 
 use crate::report::report;
 use alm_codec::{image_len, read_image, write_image};
@@ -38,7 +38,7 @@ fn table(alloc: Global) -> Result<Table> {
     Table::new(alarms, 64).map_err(|_| anyhow!("table"))
 }
 
-/// Does an action, where it is admitted.
+/// Does an action, if it is admitted.
 fn act<P: Alarms>(plant: &mut P, action: Action) {
     if plant.admits(&action).is_ok() {
         plant.apply(&action);
@@ -62,7 +62,7 @@ fn plant<P: Alarms + Drop>(alloc: Global) -> Result<P> {
     Ok(plant)
 }
 
-/// Writes the image of a plant, where there is room for it.
+/// Writes the image of a plant, if there is room for it.
 fn write<P: Alarms>(plant: &P, out: &mut [u8]) -> bool {
     let size = image_len(plant.alarms() as u32, plant.areas() as u8);
     if (out.len() as u64) < size {
@@ -81,7 +81,7 @@ fn sum(bytes: &[u8]) -> u64 {
     sum
 }
 
-/// Writes the image so often.
+/// Writes the image a number of times.
 fn write_again<P: Alarms>(plant: &P, out: &mut [u8]) -> u64 {
     let mut written = 0u64;
     for _round in 0..ROUNDS {
@@ -90,7 +90,7 @@ fn write_again<P: Alarms>(plant: &P, out: &mut [u8]) -> u64 {
     written
 }
 
-/// Reads the image so often.
+/// Reads the image a number of times.
 fn read_again(alloc: Global, bytes: &[u8]) -> u64 {
     let mut stamps = 0u64;
     for _round in 0..ROUNDS {

@@ -1,8 +1,8 @@
 //! A request's way from its console to its receipt: rings, sequencer, flusher, keeper and board in one thread. A sum is how many
 //! receipts came, those of accepted actions twice.
 //!
-//! Batches of refusals make no device call, and go over a device in memory. With the path of a file, batches of accepted actions are
-//! committed to it, in four calls each. `bench/flusher/run.sh` runs it beside the same way in plain Rust.
+//! Batches of refusals make no device call, and use a device in memory. With the path of a file, batches of accepted actions are
+//! committed to it, in four calls each. `bench/flusher/run.sh` compares it with the same way in plain Rust.
 mod asked;
 mod round;
 
@@ -31,7 +31,7 @@ const SMALL: usize = 65_536;
 /// How many device calls formatting and opening make, at most.
 const FIRST_CALLS: usize = 32;
 
-/// Goes so many rounds of a course, and reports them.
+/// Runs a number of rounds of a course, and reports them.
 fn time_course<K: Store>(
     rt: &(impl Print + Eprint + Clock),
     parts: &mut Parts<K>,
@@ -51,7 +51,7 @@ fn time_course<K: Store>(
     report(rt, name, sum, took)
 }
 
-/// Two courses, each with its name and so many turns.
+/// Two courses, each with its name and its number of turns.
 type Courses<'a> = [(&'a str, Course, u64); 2];
 
 fn time_courses<K: Store>(
@@ -66,7 +66,7 @@ fn time_courses<K: Store>(
     Ok(())
 }
 
-/// Courses over a device that is formatted for so many alarms.
+/// Courses over a device that is formatted for a number of alarms.
 fn time_over<D: Disk + Drop>(
     rt: &(impl Print + Eprint + Clock),
     alloc: Global,

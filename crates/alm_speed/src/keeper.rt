@@ -1,9 +1,10 @@
-//! A keeper: opening what was formatted, checkpoints, commits of 256 actions until a segment of 16 MiB is full, and opening what they leave. A
-//! sum is how often it was done, or how many actions an opened device stands for.
+//! A keeper: opening what was formatted, checkpoints, commits of 256 actions until a segment of 16 MiB is full, and opening what
+//! they leave. A sum is how often it was done, or how many actions are in an opened device.
 //!
-//! With the path of a file it is a device of the largest table, and is left with a full segment; else a small one in memory. `bench/keeper/run.sh`
-//! runs it beside plain Rust that makes the same calls and reads the same bytes. A server opens its device once: what that takes is timed by
-//! a process that does nothing else, since what was opened and let go before leaves memory that is given back to the system, or isn't.
+//! With the path of a file it is a device of the largest table, and is left with a full segment; else a small one in memory.
+//! `bench/keeper/run.sh` compares it with plain Rust that makes the same calls and reads the same bytes. A server opens its
+//! device once. That is timed by a process that does nothing else, since earlier openings leave freed memory that may or may not
+//! be returned to the system.
 mod stored;
 
 use crate::report::report;
@@ -86,7 +87,7 @@ fn time_commits<D: Disk + Drop>(
     report(rt, "commit", u64::from(done), took)
 }
 
-/// Opens a device, and gives it back with the count that it stands for.
+/// Opens a device, and returns it with the count of the plant that it encodes.
 fn open_and_close<D: Disk + Drop>(alloc: Global, disk: D) -> (D, u64) {
     match open_store(alloc, disk) {
         Ok(keeper) => {
@@ -97,7 +98,7 @@ fn open_and_close<D: Disk + Drop>(alloc: Global, disk: D) -> (D, u64) {
     }
 }
 
-/// Opens a device, and gives it back.
+/// Opens a device, and returns it.
 fn time_opening<D: Disk + Drop>(
     rt: &(impl Print + Eprint + Clock),
     alloc: Global,

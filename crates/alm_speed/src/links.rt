@@ -1,6 +1,6 @@
 //! Chains and the wheel. A sum is over the answers.
 //!
-//! `bench/links/run.sh` runs it beside the same in plain Rust.
+//! `bench/links/run.sh` compares it with the same in plain Rust.
 ghost use Rattle.std.specs.Prelude.{◌≡◌, ◌<◌, ◌≤◌, IfOk, length, vec_capacity};
 ghost use Rattle.alm_speed.specs.Sizes.{IsOfSizes};
 
@@ -33,7 +33,7 @@ fn below(number: u64, bound: u32) -> u32
     (number % bound as u64) as u32
 }
 
-/// Puts a node to the end of a list, or takes it out where it stands in one; whether it was put.
+/// Puts a node at the end of a list, or takes it out if it is in one; whether it was put.
 fn move_one(chains: &mut Chains, nodes: u32, lists: u32, list: u32, node: u32) -> bool
     requires sizes { IsOfSizes nodes lists chains.old }
     requires list { list < lists }
@@ -49,7 +49,7 @@ fn move_one(chains: &mut Chains, nodes: u32, lists: u32, list: u32, node: u32) -
     free
 }
 
-/// So many moves at random; how many nodes were put.
+/// `count` moves at random; how many nodes were put.
 fn moves(chains: &mut Chains, nodes: u32, lists: u32, count: u32) -> u32
     requires sizes { IsOfSizes nodes lists chains.old }
     requires nodes { 0 < nodes }
@@ -78,7 +78,7 @@ fn shelve(wheel: &mut Wheel, nodes: u32, node: u32, deadline: u64)
     }
 }
 
-/// A deadline for each node, in no order of numbers: all at one moment, or spread over so many seconds behind it.
+/// A deadline for each node, in no order of numbers: all at one moment, or spread over `seconds` seconds after it.
 fn shelved(alloc: Global, nodes: u32, moment: u64, seconds: u32) -> Result<Wheel, AllocError>
     requires nodes { 0 < nodes }
     requires seconds { 0 < seconds }
@@ -99,7 +99,7 @@ fn shelved(alloc: Global, nodes: u32, moment: u64, seconds: u32) -> Result<Wheel
     Ok(wheel)
 }
 
-/// Asks so often for all that is due from one moment to the next; a sum over the lists.
+/// Asks a number of times for all that is due from one moment to the next; a sum over the lists.
 fn ask(wheel: &Wheel, rounds: u32, from: u64, step: u64, out: &mut Vec<u32>) -> u64
     requires { length wheel.now.deadlines ≤ vec_capacity out.old }
     ensures { vec_capacity out.old ≤ vec_capacity out.new }
@@ -118,7 +118,7 @@ fn ask(wheel: &Wheel, rounds: u32, from: u64, step: u64, out: &mut Vec<u32>) -> 
     sum
 }
 
-/// Asks so often for the same seconds.
+/// Asks a number of times for the same seconds.
 fn ask_again(wheel: &Wheel, times: u32, from: u64, step: u64, out: &mut Vec<u32>) -> u64
     requires { length wheel.now.deadlines ≤ vec_capacity out.old }
     ensures { vec_capacity out.old ≤ vec_capacity out.new }

@@ -4,12 +4,12 @@
 //! |---|---|
 //! | none | all of it that needs no file |
 //! | `codec`, `links`, `measure`, `plant`, `segment` | the part of that name |
-//! | `rings [REQUESTS]` | so many requests through a slot's rings, 100,000 where nothing is said |
+//! | `rings [REQUESTS]` | REQUESTS requests through a slot's rings, 100,000 by default |
 //! | `flusher [FILE]`, `keeper [FILE]` | the part of that name, and commits to a file |
 //! | `open FILE` | opening the device in a file, once |
 //! | `threads FILE` | the server's threads over a file |
 //!
-//! The scripts in `bench/` run them beside plain programs. What is stored of the run without words are the sums.
+//! The scripts in `bench/` compare them with plain programs. Of the run without words the sums are stored.
 #![tactic(auto)]
 
 mod benchmark;
@@ -32,7 +32,7 @@ use std::rt::Clock;
 use std::sync::Wait;
 use std::thread::Threads;
 
-/// How many requests go through the rings where nothing is said.
+/// How many requests pass through the rings by default.
 const REQUESTS: u64 = 100_000;
 
 /// How many requests a word says.

@@ -1,6 +1,6 @@
 //! The measure. A sum is over the answers.
 //!
-//! `bench/measure/run.sh` runs it beside the same in plain Rust.
+//! `bench/measure/run.sh` compares it with the same in plain Rust.
 mod busy;
 
 use crate::report::report;
@@ -14,14 +14,14 @@ const CALLS: u32 = 50_000_000;
 
 const ROUNDS: u32 = 1_000_000;
 
-/// So many annunciations, in no order of numbers.
+/// `times` annunciations, in no order of numbers.
 fn annunciate(busy: &mut Busy, times: u32) {
     for turn in 0..times {
         busy.annunciate(turn.wrapping_mul(7_919) % ALARMS);
     }
 }
 
-/// An annunciation and the windows of all areas, so many times; a sum over the windows.
+/// An annunciation and the windows of all areas, `times` times; a sum over the windows.
 fn ask(busy: &mut Busy, times: u32) -> u64 {
     let mut sum = 0u64;
     for turn in 0..times {
@@ -31,7 +31,7 @@ fn ask(busy: &mut Busy, times: u32) -> u64 {
     sum
 }
 
-/// An annunciation and the flood flags of all areas, so many times.
+/// An annunciation and the flood flags of all areas, `times` times.
 fn settle(busy: &mut Busy, times: u32) {
     for turn in 0..times {
         busy.annunciate(turn % ALARMS);
@@ -39,7 +39,7 @@ fn settle(busy: &mut Busy, times: u32) {
     }
 }
 
-/// So many seconds; in each 300th each area has an annunciation.
+/// A number of seconds; in each 300th each area has an annunciation.
 fn pass(busy: &mut Busy, seconds: u32) {
     for second in 0..seconds {
         if second % 300 == 0 {

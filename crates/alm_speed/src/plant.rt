@@ -1,6 +1,6 @@
-//! Actions on the linked plant, and on the plain one for the eye. A sum is over the answers.
+//! Actions on the linked plant, and on the plain one for comparison. A sum is over the answers.
 //!
-//! `bench/plant/run.sh` runs it beside the same in plain Rust.
+//! `bench/plant/run.sh` compares it with the same in plain Rust.
 mod plants;
 
 use crate::report::report;
@@ -13,7 +13,7 @@ use std::alloc::Global;
 use std::rt::Clock;
 use std::time::Instant;
 
-/// What is done to a plant so many times; how many actions were accepted.
+/// What is done to a plant a number of times; how many actions were accepted.
 #[derive(Clone, Copy)]
 enum Course {
     /// A second with 4,096 values and acknowledgements of alarms at random.
@@ -80,7 +80,7 @@ fn shelve<P: Alarms>(plant: &mut P, senders: &Senders) -> u32 {
     accepted
 }
 
-/// So many seconds of a course; how many actions were accepted.
+/// A number of seconds of a course; how many actions were accepted.
 fn pass<P: Alarms>(plant: &mut P, senders: &Senders, course: Course, seconds: u32) -> u32 {
     let mut seed = 88172645463325252;
     let mut accepted = 0u32;
@@ -98,7 +98,7 @@ fn pass<P: Alarms>(plant: &mut P, senders: &Senders, course: Course, seconds: u3
     accepted
 }
 
-/// Fills the list of priority 1 so often; a sum over its lengths.
+/// Fills the list of priority 1 a number of times; a sum over its lengths.
 fn fill<P: Alarms>(plant: &P, times: u32, out: &mut Vec<u32>) -> u32 {
     let mut sum = 0u32;
     for _time in 0..times {

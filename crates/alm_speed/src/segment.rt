@@ -1,6 +1,6 @@
 //! A full segment of 16 MiB, scanned. The sum is over the answers.
 //!
-//! `bench/segment/run.sh` runs it beside a loop in C that reads the same fields.
+//! `bench/segment/run.sh` compares it with a loop in C that reads the same fields.
 
 use crate::report::report;
 use alm_codec::{Version, write_frame_body};
@@ -64,7 +64,7 @@ fn scan(bytes: &[u8]) -> u64 {
     sum
 }
 
-/// Scans so often; a sum over the sums.
+/// Scans a number of times; a sum over the sums.
 fn scan_again(bytes: &[u8]) -> u64 {
     let mut sum = 0u64;
     for _round in 0..ROUNDS {

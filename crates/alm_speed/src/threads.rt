@@ -1,7 +1,7 @@
-//! Runs of the server's threads over a file: 18 slots that ask with one request out and with 64, and looks beside a slot that asks. A sum
-//! is how many requests were answered or looks shown.
+//! Runs of the server's threads over a file: 18 slots that ask with one request out and with 64, and looks during the requests of
+//! another slot. A sum is how many requests were answered or looks shown.
 //!
-//! `bench/threads/run.sh` runs it beside plain Rust threads, on a file whose syncs take 0.2 ms.
+//! `bench/threads/run.sh` compares it with plain Rust threads, on a file whose syncs take 0.2 ms.
 ghost use Rattle.std.specs.Prelude.{◌≡◌, ◌<◌, ◌^◌, length};
 ghost use Rattle.alm_rings.specs.Placed.{AreApart};
 
@@ -62,7 +62,7 @@ fn stored_after<R: Threads + Wait + Clock + Sync>(
     (storage == Storage::Whole).then_some(count)
 }
 
-/// 18 slots ask each so many times, with so many requests out: how many actions are stored.
+/// 18 slots make a number of requests each, with a number of them unanswered: how many actions are stored.
 fn ask<R: Threads + Wait + Clock + Sync>(
     rt: &R,
     alloc: Global,
@@ -76,7 +76,7 @@ fn ask<R: Threads + Wait + Clock + Sync>(
     stored_after(rt, alloc, disk, slots, sources)
 }
 
-/// So many consoles look each so many hundred times beside the feed: how many looks were shown.
+/// A number of consoles make some hundreds of looks each while the feed asks: how many looks were shown.
 fn look<R: Threads + Wait + Clock + Sync>(
     rt: &R,
     alloc: Global,
@@ -94,9 +94,9 @@ fn look<R: Threads + Wait + Clock + Sync>(
 /// What is timed.
 #[derive(Clone, Copy, Debug)]
 enum Course {
-    /// So many requests out, and from each slot.
+    /// How many requests are unanswered, and how many each slot sends.
     Ask { out: u64, each: u64 },
-    /// So many consoles, and hundreds of looks of each.
+    /// A number of consoles, and the hundreds of looks of each.
     Look { readers: u8, hundreds: u64 },
 }
 

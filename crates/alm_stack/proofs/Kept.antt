@@ -1,4 +1,4 @@
--- For which plants the images of a stack's device stand.
+-- Which plants the images of a stack's device encode.
 use Rattle.std.proofs.Common.{◌≡◌, ◌⊎◌, ⊎_elim, ◌∙◌, ℕ, List, [], ◌∷◌, Option, Some, None, refl, sym, ap, subst, arith}
 use Rattle.std.specs.List.{Contains}
 use mathlib.Core.Logic.{∥∥₁_elim, ∥∥₁_prop}

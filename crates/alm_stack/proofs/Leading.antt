@@ -11,7 +11,7 @@ use Rattle.alm_pipeline.specs.Headline.{Sight, Headline, IsRun, after_steps}
 use Rattle.alm_stack.specs.Exchanges.{IsTrace, Leads, calls, went_on}
 
 module _ (recovers : List ℕ → Condensed → Type 0) (spent : DeviceState → Type 0) (honest : Type 0) where
-  -- one way behind another
+  -- one way after another
   pub leads_then : (w : World) (d : Sight) (steps : List Step) (trace : List Event) (w' : World) (d' : Sight) (steps' : List Step) (trace' : List Event) (w'' : World) (d'' : Sight)
       → Leads recovers spent honest w d steps trace w' d' → Leads recovers spent honest w' d' steps' trace' w'' d'' → Leads recovers spent honest w d (steps ++ steps') (trace ++ trace') w'' d''
   leads_then w d [] [] w' d' steps' trace' w'' d'' l m =
@@ -33,7 +33,7 @@ module _ (recovers : List ℕ → Condensed → Type 0) (spent : DeviceState →
   leads_after w d [] (e ∷ trace) w' d' l = absurd l
   leads_after w d (s ∷ steps) [] w' d' l = absurd l
 
-  -- with an honest device, and where the headline holds at its end, it is a run
+  -- with an honest device, and if the headline holds at its end, it is a run
   pub leads_run : (w : World) (d : Sight) (steps : List Step) (trace : List Event) (w' : World) (d' : Sight) → honest → Headline recovers spent w' d'.state
       → Leads recovers spent honest w d steps trace w' d' → IsRun recovers spent w d steps trace d'
   leads_run w d [] [] w' d' is headline l =

@@ -22,7 +22,7 @@ use Rattle.alm_flush.specs.HeldBatch.{stored_of, to_commit, waiting_of}
 use Rattle.alm_pipeline.specs.declared.pipeline.Pipeline.{Pipeline}
 use Rattle.alm_pipeline.specs.World.{World, Nothing, Held, live}
 use Rattle.alm_flush.specs.Flushes.{IsGivenUp}
-use Rattle.alm_pipeline.specs.Matches.{Fits, stage_of}
+use Rattle.alm_pipeline.specs.Matches.{MatchesWorld, stage_of}
 use Rattle.alm_stack.specs.Stacks.{sent_to}
 
 stands_at : {E : Type 0} (xs : List E) (n : ℕ) → n < length xs → (e : E) × (slice_get xs n ≡ Some e)
@@ -31,19 +31,19 @@ stands_at (x ∷ xs) zero less = (x, refl)
 stands_at (x ∷ xs) (suc n) less = stands_at xs n (omega (arith, less))
 
 module _ {K D : Type 0} {g : Ghosts K D} {d : Disk.Ghosts D} where
-  pub lives : (w : World) (p : Pipeline K D g d) → Fits w p → live_of p.sequencer ≡ live w
+  pub lives : (w : World) (p : Pipeline K D g d) → MatchesWorld w p → live_of p.sequencer ≡ live w
   lives w p f =
       let history = accepted_of (history_of p.sequencer) in
       ap (λ (b : Condensed). run b history) f.lists.judged_from ∙ (sym (run_append w.base f.lists.opened history) ∙ ap (run w.base) (sym f.lists.all))
 
-  pub stored_as : (w : World) (p : Pipeline K D g d) → Fits w p → (g.state p.flusher.store).stored ≡ run w.base w.stored
+  pub stored_as : (w : World) (p : Pipeline K D g d) → MatchesWorld w p → (g.state p.flusher.store).stored ≡ run w.base w.stored
   stored_as w p f =
       let l = f.lists in
       let stored = accepted_of (entries_in (fetched_of p.flusher.before.value) ++ stored_of p.flusher.held) in
       p.flusher.stored ∙ (ap (λ (q : Condensed). run q stored) l.stored_from ∙ (sym (run_append w.base l.opened stored) ∙ ap (run w.base) (sym l.kept)))
 
   -- how many requests a slot has sent
-  pub sent_by : (w : World) (p : Pipeline K D g d) (slot : ℕ) → slot < 18 → Fits w p → length (w.sent slot) ≡ sent_to (slice_get p.consoles.items slot)
+  pub sent_by : (w : World) (p : Pipeline K D g d) (slot : ℕ) → slot < 18 → MatchesWorld w p → length (w.sent slot) ≡ sent_to (slice_get p.consoles.items slot)
   sent_by w p slot few f =
       let there = stands_at p.consoles.items slot (omega (arith, few, p.count)) in
       sym (ap length (f.slots.requests slot there.0 there.1)) ∙ sym (ap sent_to there.1)

@@ -12,7 +12,7 @@ use Rattle.alm_model.specs.Judging.{verdict_from, verdict_of, after_verdict, whe
 use Rattle.alm_model.specs.Step.{run}
 use Rattle.alm_model.proofs.Runs.{run_append, step_count}
 use Rattle.alm_desk.specs.Backends.{judged_on, judged_by, if_accepted}
-use Rattle.alm_desk.specs.declared.judged.Judged.{Judged}
+use Rattle.alm_desk.specs.declared.judged_request.JudgedRequest.{JudgedRequest}
 use Rattle.alm_pipeline.specs.World.{World, live}
 use Rattle.alm_stack.specs.Exchanges.{handed_in}
 
@@ -25,12 +25,12 @@ unfolding verdict_of
 after_is q r = after_from q q.panel.count (accept q.panel r)
 
 judged_from : (q : Condensed) (r : Result Action Refusal)
-    → let j : Judged = record { verdict = verdict_from q.panel.count r; number = (after_verdict q (verdict_from q.panel.count r)).panel.count } in j ≡ judged_by q.panel.count r
-judged_from q (Ok a) = ap (λ (n : ℕ). let j : Judged = record { verdict = Accepted a; number = n } in j) (step_count q a)
+    → let j : JudgedRequest = record { verdict = verdict_from q.panel.count r; number = (after_verdict q (verdict_from q.panel.count r)).panel.count } in j ≡ judged_by q.panel.count r
+judged_from q (Ok a) = ap (λ (n : ℕ). let j : JudgedRequest = record { verdict = Accepted a; number = n } in j) (step_count q a)
 judged_from q (Err why) = refl
 
 pub judged_is : (q : Condensed) (r : Request)
-    → let j : Judged = record { verdict = verdict_of q r; number = (after_verdict q (verdict_of q r)).panel.count } in j ≡ judged_on q r
+    → let j : JudgedRequest = record { verdict = verdict_of q r; number = (after_verdict q (verdict_of q r)).panel.count } in j ≡ judged_on q r
 unfolding verdict_of
 judged_is q r = judged_from q (accept q.panel r)
 
@@ -45,6 +45,6 @@ pub run_one : (q : Condensed) (v : Verdict) → run q (when_accepted v) ≡ afte
 run_one q (Accepted a) = refl
 run_one q (Refused why n) = refl
 
--- the plant with a request's action, where it was accepted
+-- the plant with a request's action, if it was accepted
 pub live_after : (w : World) (slot : ℕ) (want : Action) (v : Verdict) → live (handed_in w slot want v) ≡ after_verdict (live w) v
 live_after w slot want v = run_append w.base w.accepted (when_accepted v ++ []) ∙ (ap (run (live w)) (append-nil (when_accepted v)) ∙ run_one (live w) v)

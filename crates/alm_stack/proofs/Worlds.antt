@@ -13,7 +13,7 @@ use Rattle.alm_pipeline.proofs.Lists.{get_seam}
 use Rattle.alm_pipeline.proofs.Placing.{same_or_not, with_here, with_there}
 use Rattle.alm_stack.specs.Exchanges.{IsIdle, entry_at, handed_in, stored_world}
 
--- ---- what a step answers where it is possible
+-- ---- what a step answers if it is possible
 
 pub sent_or_busy : (w : World) (slot : ℕ) (a : Action) (e : Event) → Possible w (Send slot a) → Answers w (Send slot a) e → ((serial : ℕ) × (e ≡ Sent serial)) ⊎ (e ≡ Busy)
 sent_or_busy w slot a (Sent serial) possible is = inl (serial, refl)
@@ -112,7 +112,7 @@ may_fetch w i slot want v = subst (λ (x : World). Possible x Fetch) (sym (is_se
 pub judged_on : (w : World) → IsIdle w → (slot : ℕ) (want : Action) (v : Verdict) → Answers (sent_at w slot want) (Take slot) (Took v) → v ≡ verdict_of (live w) (record { slot = slot; want = want })
 judged_on w i slot want v is = subst (λ (o : Option Action). judges (sent_at w slot want) slot o v) (get_want w i slot want) is.1
 
--- ---- its reply is handed out
+-- ---- its reply is released
 
 abbrev pub shown_at : World → ℕ → Action → Verdict → World
 shown_at w slot want v = after_step (stored_world w slot want v) Publish Published
@@ -171,7 +171,7 @@ lists_at f slot x s = elim (same_or_not s slot) [
   | inr n ↦ omega (arith, ap length (with_there f slot (f slot ++ x ∷ []) s n), with_there {A = ℕ} (λ _. 0) slot 1 s n)
 ]
 
--- and nothing is under way again
+-- and no request is under way again
 pub idle_again : (w : World) → IsIdle w → (slot : ℕ) (want : Action) (v : Verdict) → IsIdle (received_at w slot want v)
 idle_again w i slot want v = record {
   opened = refl;

@@ -1,5 +1,5 @@
 -- One request as a run of the world's steps.
-use Rattle.std.specs.Prelude.{zero, suc, ◌≡◌, ◌⊎◌, ◌+◌, false, ℕ, List, [], ◌∷◌, ◌++◌, length, Result, Ok, Err, OnOk}
+use Rattle.std.specs.Prelude.{zero, suc, ◌≡◌, ◌<◌, ◌⊎◌, ◌+◌, false, ℕ, List, [], ◌∷◌, ◌++◌, length, Result, Ok, Err, OnOk}
 use Rattle.alm_types.specs.declared.action.Action.{Action}
 use Rattle.alm_types.specs.declared.entry.Entry.{Entry}
 use Rattle.alm_types.specs.declared.verdict.Verdict.{Verdict}
@@ -10,7 +10,7 @@ use Rattle.alm_disk.specs.declared.disk.Disk
 use Rattle.alm_store.specs.declared.store.Store.{Ghosts}
 use Rattle.alm_flush.specs.declared.held.Held as H
 use Rattle.alm_flush.specs.HeldBatch.{waiting_of}
-use Rattle.alm_desk.specs.declared.judged.Judged.{Judged}
+use Rattle.alm_desk.specs.declared.judged_request.JudgedRequest.{JudgedRequest}
 use Rattle.alm_desk.specs.declared.stopped.Stopped.{Stopped}
 use Rattle.alm_pipeline.specs.declared.step.Step.{Step}
 use Rattle.alm_pipeline.specs.declared.step.Step.TheVariants.{Send, Take, Seal, Fetch, Call, Publish, Release, GiveBack, Receive}
@@ -19,7 +19,7 @@ use Rattle.alm_pipeline.specs.declared.event.Event.TheVariants.{Sent, Busy, Took
 use Rattle.alm_pipeline.specs.declared.pipeline.Pipeline.{Pipeline}
 use Rattle.alm_pipeline.specs.World.{World, Nothing, Held, Answers, after_step, with_at}
 use Rattle.alm_pipeline.specs.Headline.{Sight, Headline, Moves, IsRun, after_steps}
-use Rattle.alm_pipeline.specs.Matches.{IsOpen, sight_in}
+use Rattle.alm_pipeline.specs.Matches.{MatchesOpenWorld, sight_in}
 
 -- no request is under way: all that was sent is taken and answered, and all that was accepted is stored and shown
 pub record IsIdle (w : World) : Type 0 where
@@ -36,7 +36,11 @@ pub record IsIdle (w : World) : Type 0 where
 
 -- ---- the steps of a request, and their answers
 
--- so many device calls that go on
+-- the most device calls of a commit: if a checkpoint is open, and another one has to make the room
+abbrev pub commit_calls : ℕ
+commit_calls = 647
+
+-- n device calls that return More
 abbrev pub calls : ℕ → List Step
 calls zero = []
 calls (suc n) = Call ∷ calls n
@@ -59,12 +63,13 @@ answer_steps slot = Publish ∷ Release ∷ GiveBack ∷ Receive slot ∷ []
 abbrev pub answer_events : (slot serial : ℕ) → Verdict → (number : ℕ) → List Event
 answer_events slot serial v number = Published ∷ Released slot ∷ GaveBack ∷ Received serial v number ∷ []
 
--- what a slot's request came to, by which steps: the reply that was received; or it wasn't sent, or a call failed
-abbrev pub ComesTo : ℕ → Action → Result Judged Stopped → List Step → List Event → Type 0
+-- what a slot's request came to, by which steps: the reply that was received; or it wasn't sent, or a call failed. A
+-- commit takes as many calls as it may at most
+abbrev pub ComesTo : ℕ → Action → Result JudgedRequest Stopped → List Step → List Event → Type 0
 ComesTo slot want (Ok j) steps trace =
-    (n serial : ℕ) × (steps ≡ hand_in_steps slot want ++ (calls n ++ (Call ∷ answer_steps slot))) × (trace ≡ hand_in_events serial j.verdict ++ (went_on n ++ (Committed ∷ answer_events slot serial j.verdict j.number)))
+    (n serial : ℕ) × (n < commit_calls) × (steps ≡ hand_in_steps slot want ++ (calls n ++ (Call ∷ answer_steps slot))) × (trace ≡ hand_in_events serial j.verdict ++ (went_on n ++ (Committed ∷ answer_events slot serial j.verdict j.number)))
 ComesTo slot want (Err e) steps trace =
-    ((steps ≡ Send slot want ∷ []) × (trace ≡ Busy ∷ [])) ⊎ ((n serial : ℕ) × (v : Verdict) × (steps ≡ hand_in_steps slot want ++ (calls n ++ (Call ∷ []))) × (trace ≡ hand_in_events serial v ++ (went_on n ++ (Failed ∷ []))))
+    ((steps ≡ Send slot want ∷ []) × (trace ≡ Busy ∷ [])) ⊎ ((n serial : ℕ) × (v : Verdict) × (n < commit_calls) × (steps ≡ hand_in_steps slot want ++ (calls n ++ (Call ∷ []))) × (trace ≡ hand_in_events serial v ++ (went_on n ++ (Failed ∷ []))))
 
 -- each entry answers its step
 abbrev pub IsTrace : World → List Step → List Event → Type 0
@@ -103,7 +108,8 @@ abbrev pub stored_world : World → ℕ → Action → Verdict → World
 stored_world w slot want v = after_step (handed_in w slot want v) Call Committed
 
 module _ (recovers : List ℕ → Condensed → Type 0) (spent : DeviceState → Type 0) (honest : Type 0) where
-  -- these steps, answered so, lead from a world and its device to another; with an honest device the headline holds before each
+  -- these steps, with these answers, lead from a world and its device to another; with an honest device the headline holds before
+  -- each
   abbrev pub Leads : World → Sight → List Step → List Event → World → Sight → Type 0
   Leads w d [] [] w' d' = (w' ≡ w) × (d' ≡ d)
   Leads w d (step ∷ steps) (event ∷ trace) w' d' =
@@ -112,20 +118,20 @@ module _ (recovers : List ℕ → Condensed → Type 0) (spent : DeviceState →
   Leads w d (step ∷ steps) [] w' d' = ⊥
 
 module _ {K D : Type 0} {g : Ghosts K D} {d : Disk.Ghosts D} where
-  -- what contracts see of its device, where no list was looked at
+  -- what contracts see of its device, if no list was looked at
   abbrev pub sight_of : Pipeline K D g d → Sight
   sight_of p = sight_in 0 p
 
   -- a world's pipeline, with no request under way
   abbrev pub Rests : World → Pipeline K D g d → Type 0
-  Rests w p = IsOpen w p × IsIdle w
+  Rests w p = MatchesOpenWorld w p × IsIdle w
 
-  -- for the proofs: these steps, answered so, lead through a pipeline from one world to another
+  -- for the proofs: these steps, with these answers, lead through a pipeline from one world to another
   abbrev pub IsWay : World → List Step → List Event → World → (old new : Pipeline K D g d) → Type 0
   IsWay w steps trace w' old new = Leads g.recovers g.spent (d.honest (g.disk old.flusher.store)) w (sight_of old) steps trace w' (sight_of new)
 
   -- a slot's request went through it as a run of the world's steps, and with an honest device as one of the headline's
-  pub record IsExchange (w : World) (slot : ℕ) (want : Action) (old new : Pipeline K D g d) (result : Result Judged Stopped) : Type 0 where
+  pub record IsExchange (w : World) (slot : ℕ) (want : Action) (old new : Pipeline K D g d) (result : Result JudgedRequest Stopped) : Type 0 where
     pub steps : List Step
     pub trace : List Event
     pub comes : ComesTo slot want result steps trace

@@ -1,4 +1,4 @@
--- A stack, and for which plants its device stands.
+-- A stack, and which plants its device encodes.
 use Rattle.std.specs.Prelude.{◌≡◌, ℕ, List, [], ◌∷◌, length, Option, Some, None, Result, Ok, Err, slice_get}
 use Rattle.alm_types.specs.declared.request.Request.{Request}
 use Rattle.alm_model.specs.Accept.{accept}
@@ -10,7 +10,7 @@ use Rattle.alm_rings.specs.Ends.{sent_of}
 use Rattle.alm_store.specs.declared.store.Store.{Ghosts}
 use Rattle.alm_seq.specs.Sequences.{live_of}
 use Rattle.alm_desk.specs.Backends.{if_accepted}
-use Rattle.alm_desk.specs.declared.judged.Judged.{Judged}
+use Rattle.alm_desk.specs.declared.judged_request.JudgedRequest.{JudgedRequest}
 use Rattle.alm_desk.specs.declared.stopped.Stopped.{Stopped}
 use Rattle.alm_types.specs.declared.query.Query.{Query}
 use Rattle.alm_types.specs.declared.refusal.Refusal.{Refusal}
@@ -25,7 +25,7 @@ abbrev pub if_running : Option Request → Condensed → Option Condensed
 if_running None live = Some live
 if_running (Some r) live = None
 
--- the plant alone; once the storage has stopped, what was stored before, without the request's own action or with it
+-- the plant alone; after the storage has stopped, what was stored before, without the request's own action or with it
 abbrev pub kept_at : Option Request → (live stored : Condensed) → List Condensed
 kept_at None live stored = live ∷ []
 kept_at (Some r) live stored = stored ∷ if_accepted stored (accept stored.panel r) ∷ []
@@ -55,7 +55,7 @@ module _ {K D : Type 0} {g : Ghosts K D} {d : Disk.Ghosts D} where
   RunsIn w s = (s.halted ≡ None) × Rests w s.pipeline
 
   -- a request is a run of that world's steps, of which the answer is the reply
-  abbrev pub RunsThrough : World → Request → (old new : StackOver K D g d) → Result Judged Stopped → Type 0
+  abbrev pub RunsThrough : World → Request → (old new : StackOver K D g d) → Result JudgedRequest Stopped → Type 0
   RunsThrough w r old new result = IsExchange w r.slot r.want old.pipeline new.pipeline result
 
   -- a query is a look of that world, under the count that it shows; a refused one changes nothing

@@ -13,22 +13,22 @@ ghost use Rattle.alm_types.specs.Sizes.{most_entries};
 ghost use Rattle.alm_pipeline.specs.declared.step.Step.TheVariants as S;
 ghost use Rattle.alm_pipeline.specs.declared.event.Event.TheVariants as E;
 ghost use Rattle.alm_pipeline.specs.World.{World, Held, after_step, live, closed_world};
-ghost use Rattle.alm_pipeline.specs.Matches.{Fits, IsOpen};
+ghost use Rattle.alm_pipeline.specs.Matches.{MatchesWorld, MatchesOpenWorld};
 ghost use Rattle.alm_stack.specs.Exchanges.{IsIdle, IsExchange, IsWay, Rests, MayWait};
-ghost use Rattle.alm_stack.specs.Exchanges.{calls, went_on, hand_in_steps, hand_in_events, answer_steps, answer_events, handed_in, stored_world};
+ghost use Rattle.alm_stack.specs.Exchanges.{commit_calls, calls, went_on, hand_in_steps, hand_in_events, answer_steps, answer_events, handed_in, stored_world};
 
-use alm_desk::{Judged, Stopped};
+use alm_desk::{JudgedRequest, Stopped};
 use alm_flush::Advance;
 use alm_pipeline::{Event, Pipeline};
 use alm_store::Store;
 use alm_types::{Action, Slot};
 
-/// A commit is done in as many calls: where a checkpoint is open, and another one has to make the room.
+/// A commit is done in at most this number of calls: if a checkpoint is open, and another one has to make the room.
 const MOST_CALLS: u32 = 647;
 
-/// Sends a request, and has it judged, sealed and fetched: whether it was sent. None is where the slot's serials are spent.
+/// Sends a request, and has it judged, sealed and fetched: whether it was sent. It is not if the slot's serials are used up.
 ///
-/// Before each step it is said what a crash leaves.
+/// Its clauses also say what a crash leaves before each step.
 fn hand_in<K: Store>(pipeline: &mut Pipeline<K>, slot: Slot, want: Action) -> bool
     ensures honest { K.Device.honest (K.disk pipeline.old.flusher.store) ↔
         K.Device.honest (K.disk pipeline.new.flusher.store) }
@@ -36,13 +36,14 @@ fn hand_in<K: Store>(pipeline: &mut Pipeline<K>, slot: Slot, want: Action) -> bo
         K.Device.failures (K.disk pipeline.old.flusher.store) }
     ensures handed { IsTrue result → (w : World) → Rests w pipeline.old →
         (serial : ℕ) × (v : Verdict) × (v ≡ verdict_of (live w) (request slot want)) ×
-        (serial ≡ length (w.sent slot) + 1) × IsOpen (handed_in w slot want v) pipeline.new ×
+        (serial ≡ length (w.sent slot) + 1) × MatchesOpenWorld (handed_in w slot want v) pipeline.new ×
         IsWay w (hand_in_steps slot want) (hand_in_events serial v) (handed_in w slot want v)
         pipeline.old pipeline.new }
     ensures spent { result ≡ false → (w : World) → Rests w pipeline.old →
-        (2 ^ 64 ≤ length (w.sent slot) + 1) × IsOpen w pipeline.new ×
+        (2 ^ 64 ≤ length (w.sent slot) + 1) × MatchesOpenWorld w pipeline.new ×
         IsWay w (S.Send slot want ∷ []) (E.Busy ∷ []) w pipeline.old pipeline.new }
 {
+    // for the proof: what a crash leaves, here and at each call of `images` below
     pipeline.images();
     let Event::Sent(_) = pipeline.send(slot, want) else {
         return false;
@@ -68,26 +69,28 @@ fn commit<K: Store>(pipeline: &mut Pipeline<K>) -> bool
         K.Device.honest (K.disk pipeline.new.flusher.store) }
     ensures count { K.Device.failures (K.disk pipeline.old.flusher.store) ≤
         K.Device.failures (K.disk pipeline.new.flusher.store) }
-    ensures done { IsTrue result → (w : World) (entries : List Entry) → IsOpen w pipeline.old →
+    ensures done { IsTrue result → (w : World) (entries : List Entry) → MatchesOpenWorld w pipeline.old →
         w.stage ≡ Held entries → length (accepted_of entries) ≤ most_entries →
-        IsOpen (after_step w S.Call E.Committed) pipeline.new ×
-        ((n : ℕ) ×
+        MatchesOpenWorld (after_step w S.Call E.Committed) pipeline.new ×
+        ((n : ℕ) × (n < commit_calls) ×
         IsWay w (calls n ++ (S.Call ∷ [])) (went_on n ++ (E.Committed ∷ []))
         (after_step w S.Call E.Committed) pipeline.old pipeline.new) }
-    ensures failed { result ≡ false → (w : World) (entries : List Entry) → IsOpen w pipeline.old →
+    ensures failed { result ≡ false → (w : World) (entries : List Entry) → MatchesOpenWorld w pipeline.old →
         w.stage ≡ Held entries → length (accepted_of entries) ≤ most_entries →
-        Fits w pipeline.new ×
-        ((n : ℕ) ×
+        MatchesWorld w pipeline.new ×
+        ((n : ℕ) × (n < commit_calls) ×
         IsWay w (calls n ++ (S.Call ∷ [])) (went_on n ++ (E.Failed ∷ [])) (closed_world w)
         pipeline.old pipeline.new) }
-    ensures cause { result ≡ false → (w : World) (entries : List Entry) → IsOpen w pipeline.old →
+    ensures cause { result ≡ false → (w : World) (entries : List Entry) → MatchesOpenWorld w pipeline.old →
         w.stage ≡ Held entries → length (accepted_of entries) ≤ most_entries →
         ¬ (K.exhausted pipeline.new.flusher.store) →
         HasFailed (K.Device.failures (K.disk pipeline.old.flusher.store))
         (K.Device.failures (K.disk pipeline.new.flusher.store)) }
 {
+    // for the proof: how many calls are left, by the contract of `images`
     pipeline.flusher.keeper().images();
     for _step in 0..MOST_CALLS {
+        // for the proof: what a crash leaves, here and at each call of `images` below
         pipeline.images();
         match pipeline.call() {
             Advance::More => {}
@@ -99,19 +102,20 @@ fn commit<K: Store>(pipeline: &mut Pipeline<K>) -> bool
     false
 }
 
-/// Shows the batch that was committed, and hands out the reply.
-fn hand_out<K: Store>(pipeline: &mut Pipeline<K>, slot: Slot) -> Option<Judged>
+/// Shows the batch that was committed, and releases the reply.
+fn hand_out<K: Store>(pipeline: &mut Pipeline<K>, slot: Slot) -> Option<JudgedRequest>
     ensures store { pipeline.new.flusher.store ≡ pipeline.old.flusher.store }
     ensures answered { IfSome result
         (λ j. (w : World) (want : Action) (v : Verdict) → IsIdle w →
-        IsOpen (stored_world w slot want v) pipeline.old →
+        MatchesOpenWorld (stored_world w slot want v) pipeline.old →
         (j.verdict ≡ v) × (w' : World) × Rests w' pipeline.new ×
         (live w' ≡ live (handed_in w slot want v)) × (j.number ≡ (live w').panel.count) ×
         IsWay (stored_world w slot want v) (answer_steps slot)
         (answer_events slot (length (w.sent slot) + 1) v j.number) w' pipeline.old pipeline.new) }
     ensures sure { IsNone result → (w : World) (want : Action) (v : Verdict) → IsIdle w →
-        IsOpen (stored_world w slot want v) pipeline.old → ⊥ }
+        MatchesOpenWorld (stored_world w slot want v) pipeline.old → ⊥ }
 {
+    // for the proof: what a crash leaves, here and at each call of `images` below
     pipeline.images();
     let Event::Published = pipeline.publish() else {
         return None;
@@ -128,17 +132,17 @@ fn hand_out<K: Store>(pipeline: &mut Pipeline<K>, slot: Slot) -> Option<Judged>
     let Event::Received(_, verdict, number) = pipeline.receive(slot) else {
         return None;
     };
-    Some(Judged { verdict, number })
+    Some(JudgedRequest { verdict, number })
 }
 
-/// Does what a slot asks: what became of it, once that is stored and published.
+/// Does what a slot asks: what became of it, after that is stored and published.
 ///
-/// It stops only where the device failed, where the last epoch is spent, or where the slot's serials are.
+/// It stops only if the device failed, if the last epoch is used up, or if the slot's serials are.
 pub fn exchange<K: Store>(
     pipeline: &mut Pipeline<K>,
     slot: Slot,
     want: Action,
-) -> Result<Judged, Stopped>
+) -> Result<JudgedRequest, Stopped>
     ensures honest { K.Device.honest (K.disk pipeline.old.flusher.store) ↔
         K.Device.honest (K.disk pipeline.new.flusher.store) }
     ensures count { K.Device.failures (K.disk pipeline.old.flusher.store) ≤
@@ -159,6 +163,7 @@ pub fn exchange<K: Store>(
         IsExchange w slot want pipeline.old pipeline.new result }
 {
     if !hand_in(pipeline, slot, want) {
+        // for the proof: what a crash leaves, here and at each call of `images` below
         pipeline.images();
         return Err(Stopped);
     }

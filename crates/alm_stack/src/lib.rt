@@ -1,5 +1,5 @@
-//! The whole stack over a device, one request at a time: what a desk stands on where its answers are to outlive the power.
-//! It drives the same pipeline as the bench, so each request is a run of the world's steps.
+//! The whole stack over a device, one request at a time: the base of a desk whose answers must survive a power failure. It drives
+//! the same pipeline as the bench, so each request is a run of the world's steps.
 //!
 //! ```text
 //! let mut stack = Stack::open(alloc, device)?;
@@ -7,23 +7,23 @@
 //! let device = stack.into_disk();
 //! ```
 //!
-//! Each request goes the whole way before its answer is given, by the steps Send, Take, Seal, Fetch, as many Calls as its commit
-//! takes, Publish, Release, GiveBack, Receive:
+//! Each request goes the whole way before its answer is returned. The steps are Send, Take, Seal and Fetch, as many Calls as its
+//! commit takes, then Publish, Release, GiveBack and Receive:
 //!
 //! ```text
 //! console > [ring] > sequencer (judged on the live plant) > open batch > [ring] > flusher > keeper (four device calls, each
 //! write with its sync) > board > receipt > [ring] > console
 //! ```
 //!
-//! What is used above is that it is a [`Backend`](alm_desk::Backend): an answer is what the plant answers, and it is given
-//! once the action is stored. `submit` says, too, that it is the reply of a run of those steps in the world that the stack has
-//! (`run`; [`Stack::open`] says with which it begins), and that with an honest device the headline holds before the first of
-//! them and after each. What a crash leaves between requests is said by [`Stack::images`]: each image of the device stands for
-//! the plant while the stack runs, and once its storage has stopped for the plant before, without the action that met it or
-//! with it. It stops only where the device failed in that call, where the last epoch is spent, or where a slot's serials are.
+//! What is used above is that it is a [`Backend`](alm_desk::Backend): an answer is what the plant answers, and it is returned
+//! after the action is stored. `submit` also says that it is the reply of a run of those steps in the world that the stack has
+//! (`run`; [`Stack::open`] says with which it begins). With an honest device the headline holds before the first of them and
+//! after each. What a crash leaves between requests is said by [`Stack::images`]: each image of the device encodes the plant
+//! while the stack runs. After its storage has stopped, an image encodes the plant before, without the action that met the stop
+//! or with it. It stops only if a device call of that request failed, if the last epoch is used up, or if a slot's serials are.
 //!
-//! The premise of what is said of images is that the device does what its trait says. Not promised: that memory suffices to
-//! open it, and anything of a device that has failed.
+//! The premise of what is said of images is that the device does what its trait says. Not covered: that memory suffices to open
+//! it, and a device that has failed.
 #![tactic(auto)]
 
 mod exchange;

@@ -8,7 +8,7 @@ ghost use Rattle.alm_stack.specs.Exchanges.{MayWait, Rests};
 
 use crate::exchange::exchange;
 use alm_board::{Look, Seen};
-use alm_desk::{Backend, Judged, Stopped};
+use alm_desk::{Backend, JudgedRequest, Stopped};
 use alm_keeper::{Keeper, OpenFault};
 use alm_pipeline::Pipeline;
 use alm_store::Store;
@@ -25,9 +25,9 @@ pub struct StackOver<K: Store> {
     // The request at which the storage stopped.
     halted: Option<Request>,
     failures: u64,
-    /// While it runs, it has a world's pipeline, and nothing is under way between two requests,
+    /// While it runs, it has a world's pipeline, and no request is under way between two requests,
     pub ghost rests: { halted ≡ None → ∥ ((w : World) × Rests w pipeline) ∥₁ },
-    /// and once it has stopped, at most the action that met it.
+    /// and after it has stopped, at most the action that met it.
     pub ghost halts: { (r : Request) → halted ≡ Some r →
         ∥ MayWait pipeline.flusher.held (verdict_of (K.state pipeline.flusher.store).stored r) ∥₁ },
 }
@@ -42,14 +42,14 @@ impl<K: Store> StackOver<K> {
     ghost use Rattle.alm_pipeline.specs.World.{first};
     ghost use Rattle.alm_stack.specs.Stacks.{stands_of, kept_of, store_of, RunsIn};
 
-    /// Opens what a device stands for: it is synced and read, and nothing is written. All memory is taken here.
+    /// Opens the plant that a device encodes: it is synced and read, and no byte is written. All memory is taken here.
     ///
-    /// The device comes back where it stands for nothing, where it failed, or for want of memory.
+    /// The device is returned if it encodes no plant, if it failed, or if out of memory.
     pub fn open(alloc: Global, disk: K::Device) -> Result<StackOver<K>, (OpenFault, K::Device)>
-        // Of this device a sync and reads were made, and nothing else; where it is refused, up to its fault.
+        // The calls made on this device are a sync and reads, and no others; if it is refused, up to its fault.
         ensures made { MatchResult result (λ s. OpensBy K.Device.serves disk (K.disk (store_of s)))
             (λ x. IsRefusedBy x.0 K.Device.serves disk x.1) }
-        // What it reads is one of the images before, and stands for the plant.
+        // What it reads is one of the images before, and encodes the plant.
         ensures opened { K.Device.honest disk →
             IfOk result
             (λ s. IsImage (K.Device.state disk) (K.Device.state (K.disk (store_of s))).bytes ×
@@ -89,8 +89,8 @@ impl<K: Store> StackOver<K> {
         }
     }
 
-    /// Does nothing: it says what a crash leaves of the device. Each image stands for one of the plants that are kept: for the plant
-    /// itself while it runs, and once it has stopped for the one before, without the action that met it or with it.
+    /// Does nothing: it says what a crash leaves of the device. Each image encodes one of the plants that are kept. While it runs
+    /// that is the plant itself, and after it has stopped the one before, without the action that met the stop or with it.
     pub fn images(&self)
         ensures { K.Device.honest (K.disk (store_of self.now)) → (b : List ℕ) →
             IsImage (K.Device.state (K.disk (store_of self.now))) b →
@@ -127,12 +127,12 @@ impl<K: Store> Backend for StackOver<K> {
 
     ghost failures = { λ s. s.failures };
 
-    fn submit(&mut self, request: &Request) -> Result<Judged, Stopped>
+    fn submit(&mut self, request: &Request) -> Result<JudgedRequest, Stopped>
         ensures judged { IsJudged (stands_of self.old) request.now result (stands_of self.new) }
         ensures stored { kept_of self.new ≡
             kept_by (stands_of self.old) (kept_of self.old) request.now result }
         ensures count { CountsStop (stands_of self.old) result self.old.failures self.new.failures }
-        // It stops only where the device failed in this call, where the last epoch is spent, or where the slot's serials are.
+        // It stops only if the device failed in this call, if the last epoch is used up, or if the slot's serials are.
         ensures cause { IsSome (stands_of self.old) → ¬ (K.exhausted (store_of self.new)) →
             serial_of request.now.slot self.old + 1 < 2 ^ 64 →
             OnErr result

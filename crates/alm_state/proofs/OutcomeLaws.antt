@@ -21,7 +21,7 @@ use Rattle.alm_state.specs.declared.happening.Happening.TheVariants as happening
 use Rattle.alm_state.specs.declared.outcome.Outcome.{Outcome}
 use Rattle.alm_state.specs.declared.outcome.Outcome.TheVariants.{Changed, Annunciated, Shelved}
 
--- a row without a stamp of its own after another: it keeps the stamp or has none, is annunciated or shelved only where the other was
+-- a row without a stamp of its own after another: it keeps the stamp or has none, is annunciated or shelved only if the other was
 pub record IsChanged (a : Attr) (s s' : State) : Type 0 where
   pub state : IsState s'
   pub suits : IsTrue (suits a.latching s'.core)
@@ -29,7 +29,7 @@ pub record IsChanged (a : Attr) (s s' : State) : Type 0 where
   pub annunciated : is_annunciated s'.core ≡ true → is_annunciated s.core ≡ true
   pub shelved : (s'.shelved_until ≡ s.shelved_until) ⊎ (s'.shelved_until ≡ None)
 
--- a row that is annunciated anew
+-- a row that is annunciated again
 pub record IsAnnunciated (a : Attr) (stamp : ℕ) (s' : State) : Type 0 where
   pub state : IsState s'
   pub suits : IsTrue (suits a.latching s'.core)
@@ -53,7 +53,7 @@ IsOutcome a now stamp s (Shelved s') = IsShelved a now stamp s'
 free-none : (s : State) → is_suppressed s ≡ false → s.shelved_until ≡ None
 free-none s = elim s.shelved_until as (λ o. (is_some o || s.by_design || s.out_of_service) ≡ false → o ≡ None) [ None ↦ λ h. refl | Some d ↦ λ h. absurd (true≢false h) ]
 
--- a free row that is annunciated anew
+-- a free row that is annunciated again
 annunciated_anew-good : (a : Attr) (stamp : ℕ) (t : State) → 0 < stamp → is_suppressed t ≡ false → t.active ≡ true → IsAnnunciated a stamp (record t { core = Unack; stamp = stamp })
 annunciated_anew-good a stamp t new free active = record {
   state = record { suppressed = λ h. absurd (true≢false (sym h ∙ free)); active = λ h. active; stamped = (λ h. new, λ h. refl) };
@@ -90,7 +90,7 @@ moved-good a s c active state free same fits loud = record {
   shelved = inl refl;
 }
 
--- where the table leads a free row
+-- the state after a transition of a free row
 led-cases : (a : Attr) (now stamp : ℕ) (s : State) (active : Bool) (l : Bool) (h : Happening) (c : Core)
     → 0 < stamp → IsState s → is_suppressed s ≡ false → a.latching ≡ l → s.core ≡ c → active ≡ active_after h (is_active_core c) → is_some (next_core l h c) ≡ true
     → IsOutcome a now stamp s (after_transition stamp (next_core l h c) (record s { active = active }))

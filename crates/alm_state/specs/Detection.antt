@@ -17,7 +17,7 @@ goes High setpoint deadband value = int_lt value (setpoint -ℤ pos deadband)
 goes Low setpoint deadband value = int_lt (setpoint +ℤ pos deadband) value
 goes Discrete setpoint deadband value = not (int_eq value setpoint)
 
--- the new condition, where the value changes it
+-- the new condition, if the value changes it
 abbrev pub detection_of : Attr → Bool → ℤ → Option Bool
 detection_of attr false value = if comes attr.kind attr.setpoint value then Some true else None
 detection_of attr true value = if goes attr.kind attr.setpoint attr.deadband value then Some false else None

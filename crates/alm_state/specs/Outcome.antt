@@ -17,7 +17,7 @@ use Rattle.alm_state.specs.declared.happening.Happening.TheVariants as happening
 use Rattle.alm_state.specs.declared.outcome.Outcome.{Outcome}
 use Rattle.alm_state.specs.declared.outcome.Outcome.TheVariants.{Changed, Annunciated, Shelved}
 
--- a refusal where the test fails
+-- a refusal if the test fails
 abbrev pub unless : Bool → Refusal → Option Refusal
 unless passed refusal = if passed then None else Some refusal
 
@@ -55,21 +55,21 @@ row_refusal (Design i on) a s = flag_refusal on s.by_design
 row_refusal (SetPriority i priority) a s = priority_refusal a priority
 row_refusal (SetSetpoint i setpoint) a s = setpoint_refusal a setpoint
 
--- the row annunciated anew, with the next stamp
+-- the row annunciated again, with the next stamp
 abbrev pub annunciated_anew : ℕ → State → Outcome
 annunciated_anew stamp s = Annunciated (record s { core = Unack; stamp = stamp })
 
--- the row in another core state; what is annunciated no more has no stamp
+-- the row in another core state; what is no longer annunciated has no stamp
 abbrev pub in_core : Core → State → State
 in_core c s = record s { core = c; stamp = if is_annunciated c then s.stamp else 0 }
 
--- the row where the table of the core states leads it; only a condition that comes leads to Unack
+-- the row after a transition of the table of the core states; only a condition that comes leads to Unack
 abbrev pub after_transition : ℕ → Option Core → State → Outcome
 after_transition stamp None s = Changed s
 after_transition stamp (Some Unack) s = annunciated_anew stamp s
 after_transition stamp (Some c) s = Changed (in_core c s)
 
--- the row under flags that have changed: Normal while one is set; when the last one falls, an active alarm is annunciated anew
+-- the row under changed flags: Normal while one is set; when none is set any more, an active alarm is annunciated again
 abbrev pub after_flags : ℕ → State → Outcome
 after_flags stamp s =
     if is_suppressed s then Changed (record s { core = Normal; stamp = if is_some s.shelved_until then s.stamp else 0 })
@@ -86,7 +86,7 @@ after_condition stamp a s (Some active) =
     if is_suppressed s then Changed (record s { active = active })
     else after_transition stamp (next_core a.latching (if active then happening.Comes else happening.Goes) s.core) (record s { active = active })
 
--- what an action at a moment makes of the alarm that it names, where this is the next stamp
+-- what an action at a moment makes of the alarm that it names, if this is the next stamp
 abbrev pub outcome : ℕ → ℕ → Action → Attr → State → Outcome
 outcome now stamp (Clock t) a s = Changed s
 outcome now stamp (Value i v) a s = after_condition stamp a s (detection_of a s.active v)

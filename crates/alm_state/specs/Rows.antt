@@ -25,7 +25,7 @@ is_annunciated RtnUnack = true
 is_annunciated LatchUnack = true
 is_annunciated LatchAcked = true
 
--- the core state stands for a condition that holds
+-- the core states in which the condition holds
 abbrev pub is_active_core : Core → Bool
 is_active_core Normal = false
 is_active_core Unack = true
@@ -34,7 +34,8 @@ is_active_core RtnUnack = false
 is_active_core LatchUnack = false
 is_active_core LatchAcked = false
 
--- a suppressed alarm is Normal; another is active exactly in Unack and Acked; a stamp stands where the alarm is annunciated or shelved
+-- a suppressed alarm is Normal; any other has its condition exactly in Unack and Acked; its stamp is above 0 exactly if it is
+-- annunciated or shelved
 pub record IsState (s : State) : Type 0 where
   pub suppressed : is_suppressed s ≡ true → s.core ≡ Normal
   pub active : is_suppressed s ≡ false → s.active ≡ is_active_core s.core

@@ -24,7 +24,7 @@ pub enum Core {
 }
 
 impl Core {
-    /// The next core state. Where the table has none: `NoChange` for a condition, `NotUnacknowledged` for an
+    /// The next core state. If the table has none: `NoChange` for a condition, `NotUnacknowledged` for an
     /// acknowledgement, `NotResettable` for a reset.
     pub fn next(self, happening: Happening, latching: bool) -> Result<Core, Refusal>
         ensures next { IfOk result (λ core. next_core latching happening self ≡ Some core) }

@@ -32,7 +32,7 @@ fn goes(attr: &Attr, reading: Reading) -> bool
     }
 }
 
-/// The new condition of an alarm, where the value changes it.
+/// The new condition of an alarm, if the value changes it.
 pub fn detect(attr: &Attr, active: bool, reading: Reading) -> Option<bool>
     ensures { result ≡ detection_of attr.now active reading }
 {

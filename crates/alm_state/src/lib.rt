@@ -6,30 +6,30 @@
 //! let outcome = outcome_of(now, stamp, &action, &attr, &row);
 //! ```
 //!
-//! The states and their names follow the alarm state model of ANSI/ISA-18.2 and IEC 62682: normal, unacknowledged,
-//! acknowledged, returned to normal unacknowledged, the latched variants, and shelved, suppressed by design and out of
-//! service. That a latching alarm, once acknowledged and gone, stays annunciated until it is reset, and all figures, are
-//! this project's own.
+//! The states and their names follow the alarm state model of ANSI/ISA-18.2 and IEC 62682. They are normal,
+//! unacknowledged, acknowledged, returned to normal unacknowledged, the latched variants, and shelved, suppressed by
+//! design and out of service. This project's own are all figures, and that a latching alarm, once acknowledged and
+//! gone, stays annunciated until it is reset.
 //!
-//! | event | from | to, not latching | to, latching |
+//! | happening | state before | state after, not latching | state after, latching |
 //! |---|---|---|---|
-//! | condition comes | Normal, RtnUnack, LatchUnack, LatchAcked | Unack, annunciated anew | Unack, annunciated anew |
-//! | condition goes | Unack | RtnUnack | LatchUnack |
-//! | condition goes | Acked | Normal | LatchAcked |
-//! | acknowledge | Unack | Acked | Acked |
-//! | acknowledge | RtnUnack | Normal | |
-//! | acknowledge | LatchUnack | | LatchAcked |
-//! | reset | LatchAcked | | Normal |
+//! | condition comes | Normal, RtnUnack, LatchAcked, LatchUnack | Unack, annunciated again | Unack, annunciated again |
+//! | the condition goes | Unack | RtnUnack | LatchUnack |
+//! | it goes | Acked | Normal | LatchAcked |
+//! | an acknowledgement | Unack | Acked | Acked |
+//! | an acknowledgement | RtnUnack | Normal | |
+//! | an acknowledgement | LatchUnack | | LatchAcked |
+//! | a reset | LatchAcked | | Normal |
 //!
-//! While a flag is set the core stays Normal and the condition goes on being followed. When the last flag falls, an
-//! active alarm is annunciated anew. Another priority or setpoint leaves the alarm as it is: its condition is judged by a new
-//! setpoint from the next value on.
+//! The core state is Normal while any flag is set, but the condition is still followed. Once no flag is set, an alarm whose
+//! condition holds is annunciated again. Setting a priority or a setpoint does not change the alarm's state: a new setpoint
+//! counts from the next value on.
 //!
-//! What is used above: `Core::next` is the table, `detect` the detection table, and `row_refusal` and `outcome_of` say
-//! why an alarm refuses an action or what becomes of it, and `attr_after` what its attributes then are.
+//! What is used above: `Core::next` is the table and `detect` the detection table. `row_refusal` says why an alarm
+//! refuses an action, `outcome_of` what becomes of it, and `attr_after` what its attributes are after it.
 //!
-//! Not promised: anything of other alarms, of who may ask, and of the clock itself, whose moment and next stamp are handed in.
-//! Whether an action is admitted by the plant is for the plant to say.
+//! Not covered: other alarms, who may ask, and the clock itself, whose moment and next stamp are arguments. Whether the plant
+//! admits an action is said by the plant.
 #![tactic(auto)]
 
 mod attributes;

@@ -7,7 +7,7 @@ use crate::row::Row;
 pub enum Outcome {
     /// Another row, which takes no new stamp.
     Changed(Row),
-    /// A row that is annunciated anew, with the next stamp.
+    /// A row that is annunciated again, with the next stamp.
     Annunciated(Row),
     /// A row that is shelved, with the next stamp.
     Shelved(Row),

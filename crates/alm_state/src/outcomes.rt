@@ -58,7 +58,7 @@ fn reflagged(
     }
 }
 
-/// The row where the table leads it.
+/// The row after a transition of the table.
 fn led(row: Row, active: bool, happening: Happening, latching: bool, stamp: u64) -> Outcome
     requires stamp { 0 < stamp }
     requires free { is_suppressed row ≡ false }
@@ -97,7 +97,7 @@ fn followed(row: Row, attr: &Attr, active: bool, stamp: u64) -> Outcome
     }
 }
 
-/// A copy of a row, part by part: a copy of the whole takes the bytes between its parts along.
+/// A copy of a row, part by part: a copy of the whole also copies the padding bytes between its parts.
 #[inline(always)]
 fn copied(row: &Row) -> Row
     ensures { result ≡ row.now }

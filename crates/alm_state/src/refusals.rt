@@ -8,7 +8,7 @@ use crate::happening::Happening;
 use crate::row::Row;
 use alm_types::{Action, Attr, Reading, Refusal};
 
-/// Why a flag is not set or cleared: it stands so already.
+/// Why a flag is not set or cleared: it is so already.
 fn flag_refusal(on: bool, set: bool) -> Option<Refusal>
     ensures { result ≡ flag_refusal on set }
 {

@@ -5,11 +5,11 @@ use std::marker::Model;
 
 /// What changes of an alarm.
 ///
-/// While a flag is set the core is Normal; without one the alarm is active exactly in Unack and Acked. The stamp is above 0
-/// exactly where the alarm is annunciated or shelved.
+/// A suppressed alarm has the core state Normal. Without a flag the condition holds exactly in Unack and Acked. The stamp is 0
+/// exactly if the alarm is neither annunciated nor shelved.
 #[derive(Clone, Copy, Debug, PartialEq, Eq)]
 pub struct Row {
-    /// The moment at which the shelving ends; `None` where the alarm isn't shelved.
+    /// The moment at which the shelving ends; `None` if the alarm isn't shelved.
     pub shelved_until: Option<u64>,
     /// The stamp of the last annunciation while annunciated, that of the shelving while shelved, else 0.
     pub stamp: u64,

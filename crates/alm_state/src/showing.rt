@@ -44,7 +44,7 @@ fn weight(worth: u8, flag: bool) -> u8
     if flag { worth } else { 0 }
 }
 
-/// The flags that are set, each by its worth.
+/// The flags that are set, as a sum of their values.
 fn flags_of(row: &Row) -> u8
     ensures { result ≡ flags_of row.now }
 {
@@ -78,6 +78,9 @@ impl Row {
         ensures flood { (answer.new.window ≡ answer.old.window) ×
             (answer.new.flood ≡ answer.old.flood) }
         ensures list { answer.new.list ≡ answer.old.list }
+        ensures plant { (answer.new.moment ≡ answer.old.moment) ×
+            (answer.new.alarms ≡ answer.old.alarms) × (answer.new.areas ≡ answer.old.areas) }
+        ensures attr { answer.new.attr ≡ answer.old.attr }
         ensures refused { answer.new.refused ≡ answer.old.refused }
     {
         answer.shown = self.shown();

@@ -1,4 +1,4 @@
--- What a store's images stand for is safe.
+-- What a store's images encode is safe.
 use Rattle.std.proofs.Common.{◌≡◌, ◌⊎◌, ⊎_elim, ◌+◌, ◌-◌, ◌≤◌, ℕ, List, ◌++◌, length, take, refl, sym, ◌∙◌, ap, subst, arith, length-append}
 use Rattle.std.proofs.lemmas.List.{take_at, take-append-le}
 use Rattle.std.proofs.Props.{props}
@@ -15,7 +15,7 @@ use Rattle.alm_store.specs.Recovery.{IsFrontPlant, IsSafe}
 pub front_prop : (base : Condensed) (accepted : List Action) (floor : ℕ) (q : Condensed) → IsProp (IsFrontPlant base accepted floor q)
 front_prop base accepted floor q = hlevel props
 
--- a plant of a front of the accepted list that reaches the floor
+-- a plant of a prefix of the accepted list that reaches the floor
 pub front_is : (base : Condensed) (accepted : List Action) (floor : ℕ) (list rest : List Action) → list ++ rest ≡ accepted → floor ≤ base.panel.count + length list → IsFrontPlant base accepted floor (run base list)
 front_is base accepted floor list rest front enough = record {
   enough = omega (arith, enough, count);
@@ -32,7 +32,7 @@ front_is base accepted floor list rest front enough = record {
     same : take ((run base list).panel.count - base.panel.count) accepted ≡ list
     same = (λ i. take (size i) ((sym front) i)) ∙ take_at list rest (length list) refl
 
--- of a longer list of accepted actions it is a front as well
+-- of a longer list of accepted actions it is a prefix as well
 pub front_on : (base : Condensed) (accepted more : List Action) (floor : ℕ) (q : Condensed) → IsFrontPlant base accepted floor q → IsFrontPlant base (accepted ++ more) floor q
 front_on base accepted more floor q f = record {
   enough = f.enough;
@@ -41,7 +41,7 @@ front_on base accepted more floor q f = record {
 }
 
 module _ (recovers : List ℕ → Condensed → Type 0) (base : Condensed) (accepted : List Action) where
-  -- an image that stands for one of two plants, each of which is a front
+  -- an image that encodes one of two plants, each of which is that of a prefix
   pub safe_by : (floor : ℕ) (stored next : Condensed) (image : List ℕ) → AreBytes image
       → IsFrontPlant base accepted floor stored → IsFrontPlant base accepted floor next
       → ∥ recovers image stored ⊎ recovers image next ∥₁

@@ -14,12 +14,12 @@ use Rattle.alm_store.specs.declared.progress.Progress.{Progress}
 use Rattle.alm_store.specs.declared.progress.Progress.TheVariants.{More, Done, Failed}
 
 -- a checkpoint is open, and no commit is under way
-abbrev pub IsOpen : Phase → Type 0
-IsOpen Copying = Unit {0}
-IsOpen Paused = Unit {0}
-IsOpen phase = ⊥
+abbrev pub IsCheckpointing : Phase → Type 0
+IsCheckpointing Copying = Unit {0}
+IsCheckpointing Paused = Unit {0}
+IsCheckpointing phase = ⊥
 
--- nothing is under way, so that a commit may be begun
+-- no work is under way, so a commit may begin
 abbrev pub IsResting : Phase → Type 0
 IsResting Idle = Unit {0}
 IsResting Paused = Unit {0}
@@ -44,7 +44,7 @@ pub record CommitIsBegun (actions : List Action) (old new : StoreState) : Type 0
 -- a checkpoint was opened
 pub record CheckpointIsOpened (old new : StoreState) : Type 0 where
   pub idle : old.phase ≡ Idle
-  pub is_open : IsOpen new.phase
+  pub is_open : IsCheckpointing new.phase
   pub next : new.next ≡ old.stored
   pub calls : new.left ≤ most_calls
   pub fresh : IsJustOpened new.going
@@ -53,17 +53,17 @@ pub record CheckpointIsOpened (old new : StoreState) : Type 0 where
 abbrev pub CheckpointIsNotOpened : (old new : StoreState) → Type 0
 CheckpointIsNotOpened old new = (new.phase ≡ old.phase) × (new.next ≡ old.next) × (new.going ≡ old.going)
 
--- a device call: a commit goes on until it is done, and what is done is stored
+-- a device call: a commit continues until it is done, and what is done is stored
 abbrev pub Advanced : Progress → (old new : StoreState) → Type 0
 Advanced More old new =
     ((new.phase ≡ Committing) ↔ (old.phase ≡ Committing)) × (new.phase ≢ Stopped) × (new.phase ≢ Idle) × (new.stored ≡ old.stored) × (new.next ≡ old.next) × (new.left < old.left)
-Advanced Done old new = (new.phase ≢ Committing) × (new.phase ≢ Stopped) × (new.stored ≡ old.next) × (new.next ≡ old.next) × (IsOpen old.phase → new.phase ≡ Idle)
+Advanced Done old new = (new.phase ≢ Committing) × (new.phase ≢ Stopped) × (new.stored ≡ old.next) × (new.next ≡ old.next) × (IsCheckpointing old.phase → new.phase ≡ Idle)
 Advanced Failed old new = (new.phase ≡ Stopped) × (new.stored ≡ old.stored) × (new.next ≡ old.next)
 
--- what will be taken is taken once a checkpoint is done, and will be until then
+-- what will be taken is taken after a checkpoint is done, and will be until then
 abbrev pub TakesOn : Progress → Phase → (will_take takes : Type 0) → Type 0
 TakesOn More phase will_take takes = will_take
-TakesOn Done phase will_take takes = IsOpen phase → takes
+TakesOn Done phase will_take takes = IsCheckpointing phase → takes
 TakesOn Failed phase will_take takes = Unit {0}
 
 -- at most one call of the device

@@ -1,4 +1,4 @@
--- Calls of a device: what they do to its bytes, and which the device itself says that they were.
+-- Calls of a device: what they do to its bytes, and which calls the device itself says they were.
 use Rattle.std.specs.Prelude.{◌≡◌, ◌⊎◌, ◌≤◌, ℕ, List, [], ◌∷◌, Result, Ok, Err}
 use Rattle.alm_disk.specs.Device.{DeviceState, Writes, Syncs}
 use Rattle.alm_disk.specs.declared.call.Call.{Call}
@@ -33,7 +33,7 @@ abbrev pub IsChange : Call → Type 0
 IsChange (Read at n) = ⊥
 IsChange call = Unit {0}
 
--- one write or one sync of this device made of it what it is then, and had this result
+-- one write or one sync changed this device so, and had this result
 pub record OneCall {D : Type 0} (serves : D → Call → Result Unit DiskFault → D → Type 0) (result : Result Unit DiskFault) (old new : D) : Type 0 where
   pub call : Call
   pub is_change : IsChange call
@@ -47,7 +47,7 @@ CallDone serves old new = ∥ OneCall serves (Ok tt) old new ∥₁
 abbrev pub CallFailed : {D : Type 0} → (D → Call → Result Unit DiskFault → D → Type 0) → D → D → Type 0
 CallFailed serves old new = ∥ ((fault : DiskFault) × OneCall serves (Err fault) old new) ∥₁
 
--- one was made, which failed where that is told
+-- one was made, which failed if the result says so
 abbrev pub MakesOne : {D : Type 0} → (D → Call → Result Unit DiskFault → D → Type 0) → Progress → D → D → Type 0
 MakesOne serves Failed old new = CallFailed serves old new
 MakesOne serves result old new = CallDone serves old new
@@ -62,17 +62,17 @@ abbrev pub AreDone : {D : Type 0} → (D → Call → Result Unit DiskFault → 
 AreDone serves [] old new = new ≡ old
 AreDone {D} serves (call ∷ calls) old new = (between : D) × serves old call (Ok tt) between × AreDone serves calls between new
 
--- the first so many of these calls were done, and no others were made
+-- a prefix of these calls was done, and no others were made
 abbrev pub SomeAreDone : {D : Type 0} → (D → Call → Result Unit DiskFault → D → Type 0) → List Call → D → D → Type 0
 SomeAreDone serves [] old new = new ≡ old
 SomeAreDone {D} serves (call ∷ calls) old new = (new ≡ old) ⊎ ((between : D) × serves old call (Ok tt) between × SomeAreDone serves calls between new)
 
--- the first so many were done, the next one failed, and no others were made
+-- a prefix was done, the next one failed, and no others were made
 abbrev pub OneFails : {D : Type 0} → (D → Call → Result Unit DiskFault → D → Type 0) → List Call → D → D → Type 0
 OneFails serves [] old new = ⊥
 OneFails {D} serves (call ∷ calls) old new = ((fault : DiskFault) × serves old call (Err fault) new) ⊎ ((between : D) × serves old call (Ok tt) between × OneFails serves calls between new)
 
--- what was made of them where this fault came of it: up to the call that failed, where the fault is the device's
+-- what was made of them if this fault is the result: up to the call that failed, if the fault is the device's
 abbrev pub EndIn : {D : Type 0} → OpenFault → (D → Call → Result Unit DiskFault → D → Type 0) → List Call → D → D → Type 0
 EndIn Disk serves calls old new = OneFails serves calls old new
 EndIn fault serves calls old new = SomeAreDone serves calls old new
@@ -90,13 +90,13 @@ abbrev pub AreReads : List Call → Type 0
 AreReads [] = Unit {0}
 AreReads (call ∷ calls) = IsRead call × AreReads calls
 
--- a sync, and reads behind it
+-- a sync, and reads after it
 pub record OpensBy {D : Type 0} (serves : D → Call → Result Unit DiskFault → D → Type 0) (old new : D) : Type 0 where
   pub reads : List Call
   pub are_reads : AreReads reads
   pub done : AreDone serves (Sync ∷ reads) old new
 
--- an opening that was refused: a sync, and reads behind it up to its fault
+-- an opening that was refused: a sync, and reads after it up to its fault
 pub record IsRefusedBy {D : Type 0} (fault : OpenFault) (serves : D → Call → Result Unit DiskFault → D → Type 0) (old new : D) : Type 0 where
   pub reads : List Call
   pub are_reads : AreReads reads

@@ -6,13 +6,13 @@ use Rattle.alm_model.specs.Plant.{Condensed}
 use Rattle.alm_store.specs.declared.open_fault.OpenFault.{OpenFault}
 use Rattle.alm_store.specs.declared.open_fault.OpenFault.TheVariants.{Unformatted, Damaged, Disk, OutOfMemory}
 
--- an image of the device stands for no plant
+-- an image of the device encodes no plant
 pub record IsFaulty (recovers : List ℕ → Condensed → Type 0) (state : DeviceState) : Type 0 where
   pub image : List ℕ
   pub is_image : IsImage state image
   pub faulty : (plant : Condensed) → ¬ (recovers image plant)
 
--- the cause of a fault: the bytes, or the device, which counts so many failures before and now
+-- the cause of a fault: the bytes, or the device, with its counts of failures before and after
 abbrev pub HasCause : (List ℕ → Condensed → Type 0) → DeviceState → OpenFault → ℕ → ℕ → Type 0
 HasCause recovers state Unformatted before now = ∥ IsFaulty recovers state ∥₁
 HasCause recovers state (Damaged half at) before now = ∥ IsFaulty recovers state ∥₁

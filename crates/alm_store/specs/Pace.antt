@@ -27,7 +27,7 @@ pub record Going : Type 0 where
   pub since : ℕ
   pub pieces : ℕ
 
--- what goes out of it in front of the closed gate has at most so many bytes
+-- what goes out of it before the closed gate has at most this number of bytes
 abbrev pub open_len : Going → ℕ
 open_len g = 24 + largest + g.since
 
@@ -35,18 +35,18 @@ open_len g = 24 + largest + g.since
 abbrev pub IsPieceAhead : Phase → (written : ℕ) → Type 0
 IsPieceAhead phase written = (phase ≡ Committing) ⊎ (1 ≤ written)
 
--- the commits since its copy don't overtake its pieces: when it was copied at most half of the segment was used but for one frame, and
--- before each commit a piece went out
+-- the commits since its copy don't overtake its pieces. When it was copied at most half of the segment was used, except for one
+-- frame, and before each commit a piece went out
 pub record Paced (segment used : ℕ) (ahead : Type 0) (g : Going) : Type 0 where
   pub commits : ℕ
   pub half : 2 * used ≤ segment + 2 * (longest * (commits + 1))
   pub frames : g.since ≤ longest * commits
   pub sent : commits ≤ g.pieces
   pub next : ahead → commits + 1 ≤ g.pieces
-  -- each of these pieces is a whole one, since the last one comes behind the commits
+  -- each of these pieces is a whole one, since the last one comes after the commits
   pub whole : most * commits ≤ open_len g
 
--- where no checkpoint is open at most half of the segment is used
+-- if no checkpoint is open at most half of the segment is used
 abbrev pub IsInPace : (segment : ℕ) → Phase → (used written : ℕ) → Option Going → Type 0
 IsInPace segment phase used written None = 2 * used ≤ segment
 IsInPace segment phase used written (Some g) = Paced segment used (IsPieceAhead phase written) g

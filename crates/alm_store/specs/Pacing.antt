@@ -19,7 +19,7 @@ TakesAny s = s.used + longest + 1 ≤ s.segment
 abbrev pub SamePace : (old new : StoreState) → Type 0
 SamePace old new = (new.used ≡ old.used) × (new.segment ≡ old.segment) × (new.going ≡ old.going)
 
--- a checkpoint is open that was copied behind all frames
+-- a checkpoint is open that was copied after all frames
 abbrev pub IsJustOpened : Option Going → Type 0
 IsJustOpened None = ⊥
 IsJustOpened (Some g) = g.since ≡ 0
@@ -49,7 +49,7 @@ PaceAfter More phase u used written o going = (used ≡ u) × (going ≡ o)
 PaceAfter Done Committing u used written o going = (used ≤ u + longest) × (written ≡ 0) × Grows o going
 PaceAfter Done phase u used written o going = EndsCopy o going used
 
--- a device call: a piece has at most 65,536 bytes, nothing else is counted, and only a commit that is done sets the count back
+-- a device call: a piece has at most 65,536 bytes, no other bytes are counted, and only a commit that is done resets the count
 pub record Goes (result : Progress) (old new : StoreState) : Type 0 where
   pub segment : new.segment ≡ old.segment
   pub written : new.written ≤ old.written + most

@@ -1,4 +1,5 @@
--- What a crash may leave: an image that stands for the plant of a front of the accepted actions, and holds all that was told.
+-- What a crash may leave: an image of the plant that a prefix of the accepted actions makes. The prefix contains all that was
+-- reported.
 use Rattle.std.specs.Prelude.{◌≡◌, ◌≤◌, ◌+◌, ◌-◌, IsPermutation, true, ℕ, List, length, take}
 use Rattle.alm_types.specs.declared.action.Action.{Action}
 use Rattle.alm_model.specs.Plant.{Condensed}
@@ -7,7 +8,7 @@ use Rattle.alm_model.specs.Rising.{RisesByStamp, is_by_stamp}
 use Rattle.alm_model.specs.declared.list.List.{List as Choice}
 use Rattle.alm_model.specs.Step.{run}
 
--- this is the plant of a front of the accepted actions, and its count reaches the floor
+-- this plant is made by a prefix of the accepted actions, and its count reaches the floor
 pub record IsFrontPlant (base : Condensed) (accepted : List Action) (floor : ℕ) (q : Condensed) : Type 0 where
   pub enough : floor ≤ q.panel.count
   pub no_more : q.panel.count ≤ base.panel.count + length accepted
@@ -18,7 +19,7 @@ pub record IsFilter (q : Condensed) (list : Choice) : Type 0 where
   pub filter : IsPermutation (alarms (stands_in list) q.panel.attrs q.panel.rows) (list_of list q)
   pub rises : RisesByStamp q.panel (list_of list q)
 
--- an image stands for a plant; this is such a plant, and each of its lists that goes by stamp is the filter of its alarms
+-- an image encodes a plant; this is such a plant, and each of its lists that is by stamp is the filter of its alarms
 pub record IsSafe (recovers : List ℕ → Condensed → Type 0) (base : Condensed) (accepted : List Action) (floor : ℕ) (image : List ℕ) : Type 0 where
   pub some : ∥ ((plant : Condensed) × recovers image plant) ∥₁
   pub each : (plant : Condensed) → recovers image plant → IsFrontPlant base accepted floor plant

@@ -6,9 +6,9 @@
 //! while let Progress::More = store.advance() {}
 //! ```
 //!
-//! A [`Store`] commits batches and makes checkpoints, one device call at a time: which plant is stored, which one is when the work
-//! that is under way is done, and what its device may hold at any moment. The keeper is one; whatever stands on this crate alone is
-//! proved of every other as well.
+//! A [`Store`] commits batches and makes checkpoints, one device call at a time. Its contract says which plant is stored, which
+//! one is when the work that is under way is done, and what its device may hold at any moment. The keeper is one; what uses this
+//! crate alone is proved for every other as well.
 //!
 //! | phase | `begin` | `begin_checkpoint` | `advance` |
 //! |---|---|---|---|
@@ -18,14 +18,14 @@
 //! | paused | begins a commit of the next batch | refused | one piece of the checkpoint that is open |
 //! | stopped | refused | refused | |
 //!
-//! What is used above: at any moment every image of the device stands for the stored plant, or for the next one. A commit
-//! that is done has stored its batch; a checkpoint stores what was stored. What was taken as a checkpoint went on is taken behind
-//! it, and one that no commit came into makes room for any batch. A call fails only where the device failed in it.
+//! What is used above: at any moment every image of the device encodes the stored plant, or the next one. A commit that is done
+//! has stored its batch; a checkpoint stores what was stored. What was taken during a checkpoint is also taken after it, and a
+//! checkpoint that no commit came into makes room for any batch. A call fails only if the device failed in it.
 //!
-//! How fast an open checkpoint goes out is said by what each call makes of it (Pacing): a piece of at most 65,536 bytes goes out by
-//! each call of a paused store, a commit adds one frame, and a checkpoint that is done leaves the frames that came into it.
+//! How fast an open checkpoint goes out is said by what each call makes of it (Pacing). A piece of at most 65,536 bytes goes out
+//! by each call of a paused store. A commit adds one frame, and a checkpoint that is done leaves the frames that came into it.
 //!
-//! It is not promised that there is room for a batch: a store that keeps its pace has it.
+//! Not covered: that there is room for a batch. A store that keeps its pace has it.
 #![tactic(auto)]
 
 mod open_fault;

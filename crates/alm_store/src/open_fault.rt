@@ -5,10 +5,10 @@
 pub enum OpenFault {
     /// The device was never formatted, or not to the end.
     Unformatted,
-    /// The first field that breaks a rule: in which half (0 or 1; 2 is the header), and where on the device.
+    /// The first field that breaks a rule: in which half (0 or 1; 2 is the header), and its place on the device.
     Damaged { half: u8, at: u64 },
     /// The device has failed.
     Disk,
-    /// It says nothing of the bytes.
+    /// It says nothing about the bytes.
     OutOfMemory,
 }

@@ -21,7 +21,7 @@ pub trait Store: Drop {
     ghost use Rattle.alm_model.specs.Judging.{accepted_of};
     ghost use Rattle.alm_model.specs.Rules.{AllAdmitted, KeepsRules};
     ghost use Rattle.alm_store.specs.declared.phase.Phase.TheVariants.{Idle, Committing, Stopped};
-    ghost use Rattle.alm_store.specs.Advancing.{Advanced, CommitIsBegun, KeepsStored, CommitIsNotBegun, CheckpointIsNotOpened, IsOpen, IsResting, CheckpointIsOpened, TakesOn};
+    ghost use Rattle.alm_store.specs.Advancing.{Advanced, CommitIsBegun, KeepsStored, CommitIsNotBegun, CheckpointIsNotOpened, IsCheckpointing, IsResting, CheckpointIsOpened, TakesOn};
     ghost use Rattle.alm_store.specs.Calls.{CountsFailures, IsCall, MakesOne, OpensBy, IsRefusedBy};
     ghost use Rattle.alm_store.specs.Opening.{HasCause};
     ghost use Rattle.alm_store.specs.Pace.{most_calls};
@@ -37,7 +37,7 @@ pub trait Store: Drop {
     /// What it does, what it stores, and how much of its segment is used.
     ghost state: { Self → StoreState };
 
-    /// These bytes of a device stand for this plant.
+    /// These bytes of a device encode this plant.
     ghost recovers: { List ℕ → Condensed → Type 0 };
 
     /// The next frame takes these actions.
@@ -49,25 +49,25 @@ pub trait Store: Drop {
     /// The half that stands is of the newest version: it may hold every action.
     ghost newest: { Self → Type 0 };
 
-    /// A device stands at the last epoch.
+    /// A device is at the last epoch.
     ghost spent: { DeviceState → Type 0 };
 
-    /// No checkpoint can be begun any more: the half that stands is of the last epoch.
+    /// No checkpoint can begin any more: the half that stands is of the last epoch.
     ghost exhausted: { Self → Type 0 };
 
-    /// Opens what the device stands for: a sync comes first, and nothing is written.
+    /// Opens the plant that the device encodes: a sync comes first, and no byte is written.
     fn open(alloc: Global, from: Self::Device) -> Result<Self, (OpenFault, Self::Device)>
-        /// Of this device a sync and reads were made, and nothing else; where it is refused, up to its fault.
+        /// The calls made on this device are a sync and reads, and no others; if it is refused, up to its fault.
         ensures made { MatchResult result (λ store. OpensBy Self.Device.serves from (disk store))
             (λ e. IsRefusedBy e.0 Self.Device.serves from e.1) }
         ensures honest { IfOk result
             (λ store. Self.Device.honest from ↔ Self.Device.honest (disk store)) }
         ensures idle { IfOk result (λ store. (state store).phase ≡ Idle) }
         ensures limit { IfOk result (λ store. (state store).stored.panel.count ≤ most_actions) }
-        /// Where at most half of the segment is used the store keeps its pace.
+        /// If at most half of the segment is used the store keeps its pace.
         ensures pace { IfOk result
             (λ store. 2 * (state store).used ≤ (state store).segment → KeepsPace (state store)) }
-        /// What it reads is one of the images before, and stands for the stored plant.
+        /// What it reads is one of the images before, and encodes the stored plant.
         ensures opened { Self.Device.honest from →
             IfOk result (λ store. let device = Self.Device.state (disk store) in
             IsImage (Self.Device.state from) device.bytes ×
@@ -82,7 +82,7 @@ pub trait Store: Drop {
             IfErr result
             (λ e. (image : List ℕ) → IsImage (Self.Device.state e.1) image →
             IsImage (Self.Device.state from) image) }
-        /// Whatever the device does, its fault is told only where it failed.
+        /// Whatever the device does, its fault is returned only if it failed.
         ensures failed { IfErr result
             (λ e. e.0 ≡ OpenFault.Disk →
             HasFailed (Self.Device.failures from) (Self.Device.failures e.1)) }
@@ -95,7 +95,7 @@ pub trait Store: Drop {
     fn into_device(self) -> Self::Device
         ensures { result ≡ disk self };
 
-    /// Does nothing: it says what a crash leaves. In every phase each image stands for the stored plant or the next one. And a work
+    /// Does nothing: it says what a crash leaves. In every phase each image encodes the stored plant or the next one. And a work
     /// that is under way ends in 320 device calls.
     fn images(&self)
         ensures few { (state self.now).left ≤ most_calls }
@@ -174,8 +174,8 @@ pub trait Store: Drop {
 
     /// One device call of the work that was begun.
     fn advance(&mut self) -> Progress
-        requires { ((state self.old).phase ≡ Committing) ⊎ IsOpen (state self.old).phase }
-        /// Of this device one write or sync was made, whatever it does, and it failed where that is told.
+        requires { ((state self.old).phase ≡ Committing) ⊎ IsCheckpointing (state self.old).phase }
+        /// One write or sync was made on this device, whatever it does, and it failed if the result says so.
         ensures one { MakesOne Self.Device.serves result (disk self.old) (disk self.new) }
         ensures counts { CountsFailures result (Self.Device.failures (disk self.old))
             (Self.Device.failures (disk self.new)) }
@@ -185,32 +185,33 @@ pub trait Store: Drop {
         ensures exhausted { exhausted self.old → exhausted self.new }
         ensures newest { newest self.old → newest self.new }
         ensures advanced { Advanced result (state self.old) (state self.new) }
-        /// A commit adds one frame, and counts anew; a piece goes out; and a checkpoint that is done leaves the frames in it.
+        /// A commit adds one frame, and restarts the count; a piece goes out; and a checkpoint that is done leaves the frames in
+        /// it.
         ensures pace { Goes result (state self.old) (state self.new) }
-        /// What will be taken is taken once a checkpoint is done, and till then will be;
+        /// What will be taken is taken after a checkpoint is done, and until then will be;
         ensures will_take { result ≢ Progress.Failed → (actions : List Action) →
             will_take self.old actions → TakesOn result (state self.old).phase
             (will_take self.new actions) (takes self.new actions) }
         /// and within a checkpoint what is taken stays taken.
-        ensures takes { IsOpen (state self.old).phase → result ≢ Progress.Failed →
+        ensures takes { IsCheckpointing (state self.old).phase → result ≢ Progress.Failed →
             (actions : List Action) → takes self.old actions → takes self.new actions };
 
-    /// Where no commit is under way the next plant is the stored one.
+    /// If no commit is under way the next plant is the stored one.
     ghost idle: { (store : Self) → (state store).phase ≢ Committing →
         (state store).phase ≢ Stopped → (state store).next ≡ (state store).stored };
 
-    /// No checkpoint is open where nothing is under way, and one is as it goes on.
+    /// No checkpoint is open while no work is under way, and one is open in its phases.
     ghost alone: { (store : Self) → (state store).phase ≡ Idle → (state store).going ≡ None };
 
-    ghost opened: { (store : Self) → IsOpen (state store).phase → IsSome (state store).going };
+    ghost opened: { (store : Self) → IsCheckpointing (state store).phase → IsSome (state store).going };
 
-    /// Where there is room for the longest frame any batch is taken by a half of the newest version.
+    /// If there is room for the longest frame any batch is taken by a half of the newest version.
     ghost fits: { (store : Self) (actions : List Action) → newest store →
         length actions ≤ most_entries → TakesAny (state store) → takes store actions };
 
-    /// No bytes stand for two plants.
+    /// No bytes encode two plants.
     ghost one: { (b : List ℕ) (p q : Condensed) → recovers b p → recovers b q → p ≡ q };
 
-    /// What bytes stand for keeps the rules of every plant.
+    /// What bytes encode keeps the rules of every plant.
     ghost rules: { (b : List ℕ) (p : Condensed) → AreBytes b → recovers b p → KeepsRules p };
 }

@@ -18,7 +18,7 @@ tables_step (datetime t) ds h = cc
 tables_step (array xs) ds h = cc
 tables_step (table ms) ds h = refl
 
--- a table at the front of tables
+-- a table at the start of tables
 pub tables_first : (d : Data) (ds : Items) → are_tables (item d ds) ≡ true → is_some (as_table d) ≡ true
 tables_first (string s) ds h = cc
 tables_first (integer z) ds h = cc

@@ -1,4 +1,4 @@
--- What is told of a table file.
+-- What a fault says of a table file.
 use Rattle.std.specs.Prelude.{◌≡◌, IsUtf8, None, Some, map, ⊤, ℕ, List, Option, option_map, Result, Err, string_bytes}
 use Rattle.toml.specs.Parse.{parse_document}
 use Rattle.alm_types.specs.declared.attr.Attr.{Attr}

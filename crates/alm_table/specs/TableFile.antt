@@ -19,12 +19,12 @@ abbrev pub is_key : Option ℕ → List ℕ → Bool
 is_key None k = bytes_eq k (codes "size") || bytes_eq k (codes "areas") || bytes_eq k (codes "alarm")
 is_key (Some i) k = bytes_eq k (codes "kind") || bytes_eq k (codes "setpoint") || bytes_eq k (codes "priority") || bytes_eq k (codes "area") || bytes_eq k (codes "deadband") || bytes_eq k (codes "max_shelve") || bytes_eq k (codes "latching") || bytes_eq k (codes "tag") || bytes_eq k (codes "text")
 
--- the first key that there is not, since members stand in the order of their bytes
+-- the first unknown key, since members are in the order of their bytes
 abbrev pub first_unknown : (List ℕ → Bool) → Members → Option (List ℕ)
 first_unknown if_known no_members = None
 first_unknown if_known (member k d ms) = if if_known k then first_unknown if_known ms else Some k
 
--- a value that there is where a test holds
+-- a value, if it exists and a test holds
 abbrev pub only_if : {A : Type 0} → (A → Bool) → A → Option A
 only_if holds a = if holds a then Some a else None
 
@@ -68,7 +68,7 @@ known_but alarm (Some k) = Err (key alarm k)
 abbrev pub if_known : Option ℕ → Members → Result (List ℕ) Misfit
 if_known alarm ms = known_but alarm (first_unknown (is_key alarm) ms)
 
--- the value of a key, or what stands for one that is missing
+-- the value of a key, or a default if the key is missing
 abbrev pub value_or : {A : Type 0} → Option A → (Data → Option A) → Option Data → Option A
 value_or absent reads None = absent
 value_or absent reads (Some d) = reads d

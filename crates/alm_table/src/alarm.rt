@@ -12,7 +12,7 @@ use alm_types::Attr;
 use std::alloc::Global;
 use toml::Table;
 
-/// The alarm of a number in a plant with so many areas.
+/// The alarm of a number, in a plant with `areas` areas.
 pub fn alarm_of(alloc: Global, table: &Table, number: u32, areas: u8) -> Result<Attr, LoadFault>
     requires { (1 ≤ areas) × (areas ≤ most_areas) }
     ensures ok { IfOk result
@@ -35,9 +35,6 @@ pub fn alarm_of(alloc: Global, table: &Table, number: u32, areas: u8) -> Result<
     let latching = section.truth("latching")?;
     let tag = section.tag("tag")?;
     let text = section.text("text")?;
-    setpoint.value();
-    tag.as_bytes();
-    text.as_bytes();
     Ok(Attr {
         kind,
         setpoint,

@@ -6,10 +6,10 @@
 //! let alarms = table.alarms();
 //! ```
 //!
-//! The file has `size` (bytes of the device, 1 to 2^40), `areas` (1 to 64) and an array of tables `alarm`, 1 to 16,384 of
-//! them; an alarm's number is its place.
+//! The file has `size` (bytes of the device, 1 to 2^40), `areas` (1 to 64) and an array of tables `alarm`, 1 to 16,384 of them.
+//! An alarm's number is its place.
 //!
-//! | key of an alarm | type | where it is missing |
+//! | key of an alarm | type | if it is missing |
 //! |---|---|---|
 //! | `kind` | `"high"`, `"low"`, `"discrete"` | refused |
 //! | `setpoint`, `priority`, `area` | integer | refused |
@@ -19,7 +19,8 @@
 //! | `text` | string | empty |
 //!
 //! Other keys are refused. Of several faults the first counts: the file's own keys, then the number of the alarms, then
-//! the alarms by number; in each the unknown keys first, in the order of their bytes, then the keys in the order above.
+//! the alarms by number. In each of these, the unknown keys come first, by their bytes, and then the known keys as
+//! listed above.
 //!
 //! What is used above: [`table_of`] gives what the tree that `toml` reads in the text says, or the first thing that is
 //! wrong with it.

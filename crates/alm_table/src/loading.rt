@@ -92,7 +92,7 @@ fn file_of(alloc: Global, table: &toml::Table) -> Result<(u64, Table), LoadFault
 pub fn table_of(alloc: Global, text: &[u8]) -> Result<(u64, Table), LoadFault>
     // The text has a tree, and this is what it says.
     ensures ok { IfOk result (λ p. ReadsAs text.now (Ok (device_table p.0 p.1))) }
-    // A fault of a key or of the rows is the first of the tree; a text is no TOML only where it has none.
+    // A fault of a key or of the rows is the first of the tree; a text is reported as no TOML only if it has no tree.
     ensures err { IfErr result (λ e. IsFaultOf e text.now) }
 {
     let table = match toml::table_from_slice(alloc, text) {

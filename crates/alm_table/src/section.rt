@@ -40,7 +40,7 @@ impl<'a> Section<'a> {
         }
     }
 
-    /// Sees that there is each of its keys.
+    /// Checks that each of its keys is a known one.
     pub fn known(&self) -> Result<(), LoadFault>
         ensures ok { IfOk result
             (λ _. if_known self.now.alarm (table_view self.now.table.now) ≡ Ok []) }
@@ -74,7 +74,7 @@ impl<'a> Section<'a> {
         }
     }
 
-    /// A number, 0 where it is missing.
+    /// A number, 0 if it is missing.
     pub fn natural_or_zero(&self, key: &str, most: u64) -> Result<u64, LoadFault>
         ensures ok { IfOk result
             (λ n.
@@ -123,7 +123,7 @@ impl<'a> Section<'a> {
         }
     }
 
-    /// Whether it is so; not where it is missing.
+    /// A boolean, false if it is missing.
     pub fn truth(&self, key: &str) -> Result<bool, LoadFault>
         ensures ok { IfOk result
             (λ b.
@@ -155,7 +155,7 @@ impl<'a> Section<'a> {
         }
     }
 
-    /// A text, empty where it is missing.
+    /// A text, empty if it is missing.
     pub fn text(&self, key: &str) -> Result<Text, LoadFault>
         ensures ok { IfOk result
             (λ t.

@@ -8,7 +8,7 @@ use std::test::Fail;
 const ALARM: &str =
     "[[alarm]]\nkind = \"low\"\nsetpoint = 1\npriority = 4\narea = 63\ntag = \"T\"\n";
 
-/// A file of so many alarms.
+/// A file of `alarms` alarms.
 fn file(alloc: Global, alarms: u32) -> Result<String, Fail> {
     let mut text = joined(alloc, &["size = 1099511627776\nareas = 64\n"])?;
     for _alarm in 0..alarms {

@@ -3,12 +3,12 @@
 //! | module | what it reads |
 //! |---|---|
 //! | `worked` | a file of four alarms: its size, its areas and each attribute, with and without the keys that may be missing |
-//! | `faulty` | files with a fault, and with several: the first is told |
+//! | `faulty` | files with a fault, and with several: the first is reported |
 //! | `limits` | each number at both ends of its limits and beyond them; tags and texts at their longest |
 //! | `largest` | 16,384 alarms |
-//! | `refused` | want of memory: a table is read whole or not at all |
+//! | `refused` | out of memory: a table is read whole or not at all |
 //!
-//! They stand in a crate of their own, since a crate with tests is proved twice.
+//! They are in a crate of their own: a crate with tests is proved twice.
 #![tactic(auto)]
 
 #[cfg(test)]

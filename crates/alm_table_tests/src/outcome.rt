@@ -4,7 +4,7 @@ use alm_table::{LoadFault, table_of};
 use std::alloc::Global;
 use std::test::Fail;
 
-/// What is wanted of a file.
+/// What is expected of a file.
 #[derive(Clone, Copy, Debug)]
 pub enum Outcome<'a> {
     Taken,

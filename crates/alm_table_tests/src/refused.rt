@@ -1,5 +1,5 @@
-//! Want of memory: run with each allocation refused in turn (`rt try --test --fail-alloc N`), this passes. One is refused at
-//! most, so what was refused is read the second time: a reader that always gives up doesn't pass.
+//! Out of memory: run with each allocation refused in turn (`rt try --test --fail-alloc N`), this passes. One is refused at most,
+//! so what was refused is read the second time: a reader that always gives up doesn't pass.
 
 use alm_table::{LoadFault, table_of};
 use alm_types::Table;
@@ -9,7 +9,7 @@ use std::test::Fail;
 const TEXT: &[u8] =
     b"size = 28997\nareas = 2\n[[alarm]]\nkind = \"high\"\nsetpoint = 800\npriority = 1\narea = 1\ntag = \"TI-101\"\n";
 
-/// What the text says, or nothing where it is refused for want of memory.
+/// What the text says, or `None` if it is refused as out of memory.
 fn read(alloc: Global) -> Result<Option<(u64, Table)>, Fail> {
     match table_of(alloc, TEXT) {
         Ok(said) => Ok(Some(said)),

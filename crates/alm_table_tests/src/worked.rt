@@ -1,7 +1,7 @@
 //! A file of four alarms.
 
 use crate::outcome::joined;
-use alm_service::worked_table;
+use alm_desk::worked_table;
 use alm_table::table_of;
 use alm_types::{Attr, Kind};
 use std::test::Fail;
@@ -20,7 +20,7 @@ const SWITCH: &str =
 const LEVEL: &str =
     "[[alarm]]\ntag = \"LI-202\"\narea = 1\npriority = 3\nsetpoint = -50\nkind = \"high\"\n";
 
-/// The table that stands where none is read, as a file.
+/// The worked table, which is used if no table is read, as a file.
 const WORKED: [&str; 5] = [
     SIZES,
     "[[alarm]]\nkind = \"high\"\nsetpoint = 800\ndeadband = 10\npriority = 1\narea = 0\nmax_shelve = 3600\ntag = \"TI-101\"\n",

@@ -1,4 +1,4 @@
--- What was told before an outage is there after it.
+-- What was reported before an outage is there after it.
 use Rattle.std.proofs.Common.{◌≡◌, inl, inr, ◌≤◌, ◌-◌, ◌∙◌, ℕ, List, [], ◌∷◌, ◌++◌, take, sym, ap, subst, arith}
 use Rattle.std.specs.Prelude.{All, max}
 use Rattle.std.proofs.lemmas.List.Elements.{All-nil, All-cons}
@@ -7,11 +7,11 @@ use Rattle.alm_model.specs.Plant.{Condensed}
 use Rattle.alm_model.specs.Step.{run}
 use Rattle.alm_model.proofs.Runs.{run_append, run_count}
 use Rattle.alm_store.specs.Recovery.{IsFrontPlant}
-use Rattle.alm_run.specs.Moments.{Moment, Leads, IsSafeAt, at_first}
+use Rattle.alm_run.specs.Moments.{RunMoment, FollowUpTo, IsSafeAt, at_first}
 use Rattle.alm_threads.specs.Outages.{IsAmong, Outage, Outages}
 
 -- each moment of a course is safe
-safe_among : (safe : Moment → Type 0) (m : Moment) (moments : List Moment) (last : Moment) → Leads safe m moments last → safe last → (x : Moment) → IsAmong x (m ∷ moments) → safe x
+safe_among : (safe : RunMoment → Type 0) (m : RunMoment) (moments : List RunMoment) (last : RunMoment) → FollowUpTo safe m moments last → safe last → (x : RunMoment) → IsAmong x (m ∷ moments) → safe x
 safe_among safe m [] last leads now x (inl same) = subst safe (leads ∙ sym same) now
 safe_among safe m [] last leads now x (inr none) = absurd none
 safe_among safe m (n ∷ moments) last leads now x (inl same) = subst safe (sym same) leads.0

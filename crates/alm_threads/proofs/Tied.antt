@@ -1,4 +1,4 @@
--- What came back from the threads is tied as before, and is one run.
+-- What the threads returned is tied as before, and is one run.
 use Rattle.std.proofs.Common.{◌≡◌, ◌∙◌, ◌++◌, ℕ, zero, suc, List, [], ◌∷◌, length, map, Option, Some, None, slice_get, refl, sym, ap, subst, rules, append_assoc}
 use Rattle.std.specs.Prelude.{IsSome}
 use Rattle.std.proofs.lemmas.Option.{none-some, same_Some}
@@ -20,7 +20,7 @@ use Rattle.alm_run.specs.Same.{AllSame}
 use Rattle.alm_run.proofs.Serves.{some_still}
 use Rattle.alm_threads.specs.Slots.{AreTied}
 
--- where a number stands in a list of numbers, its element stands
+-- at the place of a number in a list of numbers is its element
 pub stands_at : {A : Type 0} (number : A → ℕ) (xs : List A) (numbers : List ℕ) (k s : ℕ) → map number xs ≡ numbers → slice_get numbers k ≡ Some s → (x : A) × ((slice_get xs k ≡ Some x) × (number x ≡ s))
 stands_at number [] numbers k s is at = absurd (none-some s (ap (λ l. slice_get l k) is ∙ at))
 stands_at number (x ∷ xs) numbers zero s is at = (x, (refl, same_Some (number x) s (ap (λ l. slice_get l 0) is ∙ at)))

@@ -1,4 +1,4 @@
--- Slots of which nothing is left.
+-- Slots with no request or receipt left.
 use Rattle.std.specs.Prelude.{◌≡◌, ℕ, List, Option, Some, None, slice_get}
 use Rattle.alm_rings.specs.declared.slot_report.SlotReport.{SlotReport}
 

@@ -14,7 +14,8 @@ use Rattle.alm_rings.specs.declared.told.Told.{Ghosts}
 use Rattle.alm_rings.specs.Ends.{sent_of, received_of}
 use Rattle.alm_rings.specs.Placed.{taken_by, released_by}
 
--- so many requests of a slot were sent, and so many of them taken; so many receipts were released, and so many of them received
+-- how many requests of a slot were sent, and how many of them taken; how many receipts were released, and how many of them
+-- received
 pub record IsClosed (sent taken released received : ℕ) (r : SlotReport) : Type 0 where
   pub sent_is : r.sent ≡ sent
   pub taken_is : r.taken ≡ taken
@@ -23,20 +24,23 @@ pub record IsClosed (sent taken released received : ℕ) (r : SlotReport) : Type
   pub no_more_taken : taken ≤ sent
   pub no_more_received : received ≤ released
 
--- a report that is there, of so many
-pub record Closes (reports : List (Option SlotReport)) (k sent taken released received : ℕ) : Type 0 where
+-- a report that exists, with these numbers
+pub record HasReport (reports : List (Option SlotReport)) (k sent taken released received : ℕ) : Type 0 where
   pub report : SlotReport
   pub at : slice_get reports k ≡ Some (Some report)
   pub is : IsClosed sent taken released received report
 
 module _ {T : Type 0} {g : Ghosts T} where
-  -- the reports stand in the order of the consoles, each of what went through its slot
+  -- the reports are in the order of the consoles, each of what went through its slot
   abbrev pub AreClosed : List (Console T g) → List Inbox → List (Outbox T g) → List (Option SlotReport) → Type 0
-  AreClosed consoles inboxes outboxes reports = (length reports ≡ length consoles) × ((k : ℕ) (c : Console T g) → slice_get consoles k ≡ Some c → Closes reports k (length (sent_of c)) (length (taken_by c.slot inboxes)) (length (released_by c.slot outboxes)) (length (received_of c)))
+  AreClosed consoles inboxes outboxes reports = (length reports ≡ length consoles) × ((k : ℕ) (c : Console T g) → slice_get consoles k ≡ Some c → HasReport reports k (length (sent_of c)) (length (taken_by c.slot inboxes)) (length (released_by c.slot outboxes)) (length (received_of c)))
 
--- from this base: what was taken of all slots is one legal history of one thread; the store holds a front of it, and what was released is a front of that; each slot's report, in the order of the slots, counts its entries in these lists.
--- The device is left with the stored plant, or with that and the next entries of the history, of the one batch whose commit wasn't done; and it came there by moments at each of which a front of the history stands that holds all that was released or published by then
-pub record IsRun (leaves : Condensed → Condensed → Type 0) (endures : List Action → ℕ → Type 0) (base : Condensed) (slots : List ℕ) (stored : Condensed) (reports : List (Option SlotReport)) : Type 0 where
+-- from this base: what was taken of all slots is one legal history, as of a single thread. The store holds a prefix of it, and
+-- what was released is a prefix of that. Each slot's report, in the order of the slots, counts its entries in these lists. The
+-- device is left with the stored plant, or with that and the next entries of the history, of the one batch whose commit wasn't
+-- done. It came there by moments at each of which it encodes a prefix of the history that contains all that was released or
+-- published by then
+pub record IsServerRun (leaves : Condensed → Condensed → Type 0) (endures : List Action → ℕ → Type 0) (base : Condensed) (slots : List ℕ) (stored : Condensed) (reports : List (Option SlotReport)) : Type 0 where
   pub entries : List Entry
   pub legal : IsLegal base entries
   pub kept : List Entry
@@ -49,4 +53,4 @@ pub record IsRun (leaves : Condensed → Condensed → Type 0) (endures : List A
   pub within : IsPrefix told kept
   pub course : endures (accepted_of entries) (base.panel.count + length (accepted_of told))
   pub count : length reports ≡ length slots
-  pub each : (k s : ℕ) → slice_get slots k ≡ Some s → (sent received : ℕ) × Closes reports k sent (length (of_slot s entries)) (length (of_slot s told)) received
+  pub each : (k s : ℕ) → slice_get slots k ≡ Some s → (sent received : ℕ) × HasReport reports k sent (length (of_slot s entries)) (length (of_slot s told)) received

@@ -8,9 +8,9 @@ ghost use Rattle.alm_threads.specs.Outages.{Outages};
 
 use alm_store::Store;
 
-/// After any number of runs over a store, each opened on what a power failure left of the one before, the plant that stands is that of a list of
-/// actions behind the first run's plant; it holds every number that any of the runs had released when its power failed, and all that its looks
-/// had shown.
+/// Consider any number of runs over a store, each opened on what a power failure left of the one before. The plant at the end is
+/// that of a list of actions after the first run's plant. Its count reaches every number that any of the runs had released when
+/// its power failed, and all that its looks had shown.
 #[tactic(auto, using(crate::proofs::Outages::outlasts))]
 pub fn what_was_told_outlasts_outages<K: Store>()
     ensures { (base last : Condensed) (told : List ℕ) → Outages K.recovers base told last →

@@ -10,16 +10,16 @@
 //! |---|---|
 //! | [`parts_of`] | rings, board, looks and the sequencer's plant for some slots, over an idle store |
 //! | [`run_threads`] | a thread for each source and one for the sequencer, the flusher in the caller's; joins them and closes the slots |
-//! | [`run_with_bells`] | the same, with a bell of the caller's own for each slot, as one that wakes a poll |
+//! | [`run_with_bells`] | the same, with a bell of the caller's own for each slot, such as one that wakes a poll |
 //!
-//! What is used above is the contract of a run: all that was taken of the slots is one legal history of one thread from the plant that was
-//! stored at first; what the store holds at the end is a front of it, and what was released is a front of that; and each slot's
-//! report, in the order of the slots, counts its entries in them. [`Storage::Whole`] is answered just where the store hasn't stopped and nothing is
-//! left. At each moment of the run whatever a crash leaves of an honest device stands for a front of that history which holds all that had been
-//! released or published by then.
+//! What is used above is the contract of a run. All that was taken of the slots is one legal history, as of a single thread, from
+//! the plant that was stored at first. What the store holds at the end is a prefix of it, and what was released is a prefix of
+//! that. Each slot's report, in the order of the slots, counts its entries in them. [`Storage::Whole`] is returned exactly if the
+//! store hasn't stopped and no request or receipt is left. At each moment of the run whatever a crash leaves of an honest device
+//! encodes a prefix of that history. The prefix contains all that had been released or published by then.
 //!
-//! Not promised: that a run ever ends, that a request is ever answered, and any time. After a fault the parts are gone, and the device is to be
-//! opened again.
+//! Not covered: that a run ever ends, that a request is ever answered, and time. After a fault the parts are lost, and the device
+//! must be opened again.
 #![tactic(auto)]
 
 mod closing;

@@ -1,22 +1,33 @@
-//! What stands between the consoles and the device.
-ghost use Rattle.std.specs.Prelude.{◌≡◌, ℕ, ◌<◌, ◌≤◌, [], length};
+//! What is between the consoles and the device.
+ghost use Rattle.std.specs.Prelude.{◌≡◌, ◌↔◌, ℕ, List, ◌<◌, ◌≤◌, [], length};
+ghost use Rattle.alm_model.specs.Plant.{Condensed};
 ghost use Rattle.alm_store.specs.declared.phase.Phase.TheVariants.{Idle};
 ghost use Rattle.alm_rings.specs.Batches.{AreBatchEnds, sealed_of, fetched_of, empties_in};
 ghost use Rattle.alm_rings.specs.Placed.{AreApart, taken_by, released_by};
 ghost use Rattle.alm_types.specs.Sizes.{most_actions};
 
+use alm_moments::{Moments, MomentsLength, RunId};
 use alm_plant::Plant;
 use alm_rings::Told;
 use alm_run::{FlusherParts, Rings};
 use alm_store::Store;
 
-/// What stands between the consoles and the device, before anything went through it.
+/// What is between the consoles and the device, before the first item went through it.
 #[derive(Drop)]
-pub struct Middle<K: Store, T: Told + Drop> {
+pub struct Middle<K: Store, T: Told + Drop, J: RunId> {
     /// The plant that the sequencer judges on.
     pub plant: Plant,
     pub rings: Rings,
     pub flusher: FlusherParts<K, T>,
+    /// The end of the history of moments, and what was seen of it: none.
+    pub recorder: MomentsLength<J>,
+    pub moments: Moments<J>,
+    /// The run is named after the store.
+    pub ghost base: { J.base ≡ (K.state flusher.store).stored },
+    pub ghost device: { J.first ≡ K.Device.state (K.disk flusher.store) },
+    pub ghost honest: { ∥ (J.honest ↔ K.Device.honest (K.disk flusher.store)) ∥₁ },
+    pub ghost recovers: { ∥ ((b : List ℕ) (p : Condensed) → (J.recovers b p ↔ K.recovers b p)) ∥₁ },
+    pub ghost none: { moments ≡ [] },
     pub ghost idle: { (K.state flusher.store).phase ≡ Idle },
     pub ghost limit: { plant.panel.count ≤ most_actions },
     pub ghost live: { plant ≡ (K.state flusher.store).stored },

@@ -1,7 +1,8 @@
 //! The parts over an opened store.
-ghost use Rattle.std.specs.Prelude.{◌≡◌, ◌<◌, ◌≤◌, ◌^◌, [], length, IfOk, IfErr};
+ghost use Rattle.std.specs.Prelude.{◌≡◌, ◌↔◌, ℕ, List, ◌<◌, ◌≤◌, ◌^◌, [], length, IfOk, IfErr};
+ghost use Rattle.alm_model.specs.Plant.{Condensed};
 ghost use Rattle.alm_rings.specs.Placed.{AreApart};
-ghost use Rattle.alm_shared.specs.Desks.{shown_of, pending_of};
+ghost use Rattle.alm_shared.specs.SharedBoards.{board_shown, board_pending};
 ghost use Rattle.alm_types.specs.Sizes.{most_actions};
 
 use crate::middle::Middle;
@@ -10,32 +11,35 @@ use crate::slots::open_some;
 use crate::watched_look::{WatchedLook, watched};
 use alm_disk::Hold;
 use alm_model::Alarms;
+use alm_moments::{Moments, RunId};
 use alm_plant::Plant;
 use alm_rings::{SlotEnds, batches_beside, open_batches};
 use alm_run::{FlusherParts, Rings};
-use alm_shared::{Front, Naming, NewHistory, SharedBoard, SharedLook, open_board};
+use alm_shared::{Durable, NewHistory, NewRun, SharedBoard, SharedLook, open_board};
 use alm_store::{Phase, Store};
 use alm_types::Slot;
 use std::alloc::{AllocError, Global};
 use std::sync::Wait;
 
-// A board that shows this plant, and a look at it for each slot, of which the hold is told.
-fn board_of<'h, J: Naming, P: Alarms + Drop, H: Hold, R: Wait>(
+// A board that shows this plant, and a look at it for each slot, which reports to the hold.
+fn board_of<'h, J: RunId, P: Alarms + Drop, H: Hold, R: Wait>(
     rt: &R,
     alloc: Global,
     history: NewHistory,
+    moments: &Moments<J>,
     plant: P,
     slots: &[Slot],
     hold: &'h H,
 ) -> Result<(SharedBoard<J, P>, Vec<WatchedLook<'h, SharedLook<J, P>, H>>), AllocError>
     requires book { history.seen.book ≡ J.book }
+    requires moments { moments.now ≡ [] }
     requires base { P.plant plant ≡ J.base }
     requires some { (0 < length slots.now) × (length slots.now < 2 ^ 32) }
-    ensures published { IfOk result (λ r. shown_of r.0 ≡ []) }
-    ensures pending { IfOk result (λ r. pending_of r.0 ≡ []) }
+    ensures published { IfOk result (λ r. board_shown r.0 ≡ []) }
+    ensures pending { IfOk result (λ r. board_pending r.0 ≡ []) }
     ensures looks { IfOk result (λ r. length r.1.items ≡ length slots.now) }
 {
-    let (board, looks) = open_board::<J, P, R>(rt, alloc, history, plant, slots.len())?;
+    let (board, looks) = open_board::<J, P, R>(rt, alloc, history, moments, plant, slots.len())?;
     match watched(alloc, hold, slots, looks) {
         Ok(looks) => Ok((board, looks)),
         Err(fault) => {
@@ -45,17 +49,23 @@ fn board_of<'h, J: Naming, P: Alarms + Drop, H: Hold, R: Wait>(
     }
 }
 
-/// The parts of a run for these slots, over an idle store; the hold is told of each look. The store comes back where memory is short.
-pub fn parts_of<'h, J: Naming, K: Store, H: Hold, R: Wait>(
+/// The parts of a run for these slots, over an idle store; each look reports to the hold. The store is returned if out of memory.
+pub fn parts_of<'h, J: RunId, K: Store, H: Hold, R: Wait>(
     rt: &R,
     alloc: Global,
-    history: NewHistory,
+    new: NewRun,
     store: K,
     slots: Vec<Slot>,
     hold: &'h H,
-) -> Result<Parts<Front<J>, WatchedLook<'h, SharedLook<J, Plant>, H>, SharedBoard<J, Plant>, K>, K>
-    requires book { history.seen.book ≡ J.book }
-    requires base { (K.state store).stored ≡ J.base }
+) -> Result<
+    Parts<Durable<J>, WatchedLook<'h, SharedLook<J, Plant>, H>, SharedBoard<J, Plant>, K, J>,
+    K,
+>
+    requires books { (new.history.seen.book ≡ J.book) × (new.moments.seen.book ≡ J.moments) }
+    requires base { J.base ≡ (K.state store).stored }
+    requires device { J.first ≡ K.Device.state (K.disk store) }
+    requires honest { ∥ (J.honest ↔ K.Device.honest (K.disk store)) ∥₁ }
+    requires recovers { ∥ ((b : List ℕ) (p : Condensed) → (J.recovers b p ↔ K.recovers b p)) ∥₁ }
     requires idle { (K.state store).phase ≡ Phase.Idle }
     requires limit { (K.state store).stored.panel.count ≤ most_actions }
     requires some { (0 < length slots.items) × (length slots.items < 2 ^ 32) }
@@ -64,6 +74,8 @@ pub fn parts_of<'h, J: Naming, K: Store, H: Hold, R: Wait>(
     ensures slots { IfOk result (λ parts. parts.slots ≡ slots) }
     ensures refused { IfErr result (λ back. back ≡ store) }
 {
+    let NewRun { history, moments } = new;
+    let (recorder, moments) = moments.named::<J, K>(&store);
     let named = slots.as_slice();
     let Ok(slot_ends) = open_some(alloc, named) else {
         return Err(store);
@@ -78,8 +90,9 @@ pub fn parts_of<'h, J: Naming, K: Store, H: Hold, R: Wait>(
     let Ok(shown) = store.stored().copy(alloc) else {
         return Err(store);
     };
-    let Ok((board, looks)) = board_of::<J, Plant, H, R>(rt, alloc, history, shown, named, hold)
-    else {
+    let Ok((board, looks)) = board_of::<J, Plant, H, R>(
+        rt, alloc, history, &moments, shown, named, hold,
+    ) else {
         return Err(store);
     };
     let SlotEnds {
@@ -101,6 +114,8 @@ pub fn parts_of<'h, J: Naming, K: Store, H: Hold, R: Wait>(
             plant,
             rings: Rings { inboxes, ends },
             flusher,
+            recorder,
+            moments,
         },
     })
 }

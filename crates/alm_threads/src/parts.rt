@@ -8,20 +8,21 @@ ghost use Rattle.alm_rings.specs.Placed.{AreApart, inbox_at, outbox_at};
 
 use crate::middle::Middle;
 use alm_board::{Board, Look};
+use alm_moments::RunId;
 use alm_rings::{Console, Told};
 use alm_run::{Closes, FlusherParts};
 use alm_store::Store;
 use alm_types::Slot;
 use std::sync::Wait;
 
-/// What a run is made of: for each slot its console and its look, in the order of the slots, and what they share. It isn't `Drop`,
-/// since a board isn't.
-pub struct Parts<T: Told + Drop, L: Look<Told = T> + Drop, B: Board<Told = T>, K: Store> {
+/// What a run is made of: for each slot its console and its look, in the order of the slots, and what they share. It
+/// isn't `Drop`, since a board isn't.
+pub struct Parts<T: Told + Drop, L: Look<Told = T> + Drop, B: Board<Told = T>, K: Store, J: RunId> {
     pub slots: Vec<Slot>,
     pub consoles: Vec<Console<T>>,
     pub looks: Vec<L>,
     pub board: B,
-    pub middle: Middle<K, T>,
+    pub middle: Middle<K, T, J>,
     pub ghost apart: { AreApart (λ s. s) slots.items },
     pub ghost order: { map (λ c. c.slot) consoles.items ≡ slots.items },
     pub ghost each_looks: { length looks.items ≡ length slots.items },
@@ -40,10 +41,16 @@ pub struct Parts<T: Told + Drop, L: Look<Told = T> + Drop, B: Board<Told = T>, K
         outbox_at c.slot middle.flusher.outboxes.items ≡ Some o → IsPair o.replies c.replies },
 }
 
-impl<T: Told + Drop, L: Look<Told = T> + Drop, B: Board<Told = T>, K: Store> Parts<T, L, B, K> {
+impl<T: Told + Drop, L: Look<Told = T> + Drop, B: Board<Told = T>, K: Store, J: RunId> Parts<
+    T,
+    L,
+    B,
+    K,
+    J,
+> {
     ghost use Rattle.std.specs.Prelude.{◌≡◌};
 
-    /// Lets the parts go: the board is closed.
+    /// Drops the parts: the board is closed.
     pub fn close<R: Wait>(self, rt: &R) -> K
     where
         B: Closes<R>,

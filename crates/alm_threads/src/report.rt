@@ -8,7 +8,7 @@ use crate::storage::Storage;
 use alm_rings::SlotReport;
 use alm_store::Store;
 
-/// What a run leaves. Its storage is whole just where the store has not stopped, and all that was sent was taken and answered.
+/// What a run leaves. Its storage is whole exactly if the store has not stopped, and all that was sent was taken and answered.
 #[derive(Drop)]
 pub struct RunReport<K: Store> {
     /// The flusher's store.

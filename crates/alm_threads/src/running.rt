@@ -9,7 +9,7 @@ ghost use Rattle.alm_run.specs.Moments.{Endures};
 ghost use Rattle.alm_run.specs.Same.{AllSame};
 ghost use Rattle.alm_run.specs.Serving.{ServesSlots};
 ghost use Rattle.alm_threads.specs.Answered.{AllAnswered, IsSlotAnswered};
-ghost use Rattle.alm_threads.specs.Runs.{AreClosed, IsRun};
+ghost use Rattle.alm_threads.specs.Runs.{AreClosed, IsServerRun};
 ghost use Rattle.alm_threads.specs.Slots.{AreTied};
 
 use crate::closing::close_all;
@@ -21,6 +21,7 @@ use crate::slot_parts::slot_parts_of;
 use crate::storage::Storage;
 use alm_board::{Board, Look, Publish};
 use alm_disk::Hold;
+use alm_moments::{Moments, RunId};
 use alm_rings::{Console, SlotReport, Told, batches_beside};
 use alm_run::{
     Bell, Bells, Closes, ClosingBoard, Flags, FlusherParts, Rings, SlotParts, Source, StartFault,
@@ -42,7 +43,8 @@ fn run_all<
     T: Told + Drop + Send,
     L: Look<Told = T> + Drop + Send,
     S: Source<T, L> + Drop + Send,
-    B: Board<Told = T> + Publish<R> + Closes<R>,
+    B: Board<Told = T> + Publish<R, Moments<J>> + Closes<R>,
+    J: RunId,
     E: Bell + Drop + Sync,
     H: Hold + Sync,
     R: Threads + Wait + Clock + Sync,
@@ -56,7 +58,7 @@ fn run_all<
     slot_parts: Vec<SlotParts<T, L, S>>,
     room: Vec<Console<T>>,
     board: B,
-    middle: Middle<K, T>,
+    middle: Middle<K, T, J>,
 ) -> Result<Ends<K, T>, StartFault>
 where
     T: 's,
@@ -94,6 +96,8 @@ where
         plant,
         rings,
         flusher,
+        recorder,
+        moments,
     } = middle;
     let sequencer = match start_rings(scope, rt, flags, slots, hold, plant, rings) {
         Ok(handle) => handle,
@@ -109,7 +113,7 @@ where
             return Err(fault);
         }
     };
-    let flusher = run_flusher(rt, flags, board, flusher);
+    let flusher = run_flusher(rt, flags, board, flusher, recorder, moments);
     let consoles = join_all(rt, sources, room);
     let rings = sequencer.join(rt);
     Ok(Ends {
@@ -141,7 +145,7 @@ fn are_answered(slots: &[Option<SlotReport>]) -> bool
     true
 }
 
-// The run is whole just where the store has not stopped and nothing is left.
+// The run is whole exactly if the store has not stopped and no request or receipt is left.
 fn storage_of(phase: Phase, is_answered: bool) -> Storage
     ensures whole { result ≡ Storage.Whole → (phase ≢ Phase.Stopped) × IsTrue is_answered }
     ensures stopped { phase ≢ Phase.Stopped → IsTrue is_answered → result ≡ Storage.Whole }
@@ -189,14 +193,15 @@ fn report_of<K: Store, T: Told + Drop>(
     }
 }
 
-// The same, in a scope of its own that joins whatever was started.
+// The same, in a scope of its own that joins all threads that were started.
 fn in_scope<
     's,
     K: Store,
     T: Told + Drop + Send,
     L: Look<Told = T> + Drop + Send,
     S: Source<T, L> + Drop + Send,
-    B: Board<Told = T> + Publish<R> + Closes<R>,
+    B: Board<Told = T> + Publish<R, Moments<J>> + Closes<R>,
+    J: RunId,
     E: Bell + Drop + Sync,
     H: Hold + Sync,
     R: Threads + Wait + Clock + Sync,
@@ -209,7 +214,7 @@ fn in_scope<
     slot_parts: Vec<SlotParts<T, L, S>>,
     room: Vec<Console<T>>,
     board: B,
-    middle: Middle<K, T>,
+    middle: Middle<K, T, J>,
 ) -> Result<Ends<K, T>, StartFault>
     requires serves { ServesSlots slots.now.items middle.rings.inboxes.items }
     requires base { (K.state middle.flusher.store).stored ≡ B.Board.base board }
@@ -280,7 +285,7 @@ fn in_scope<
     )
 }
 
-// Room for the parts of the slots, for the consoles that come back, and for what each slot reports.
+// Room for the parts of the slots, for the consoles that are returned, and for what each slot reports.
 #[derive(Drop)]
 struct Room<T: Told + Drop, L: Look<Told = T> + Drop, S: Source<T, L> + Drop> {
     slot_parts: Vec<SlotParts<T, L, S>>,
@@ -288,7 +293,7 @@ struct Room<T: Told + Drop, L: Look<Told = T> + Drop, S: Source<T, L> + Drop> {
     reports: Vec<Option<SlotReport>>,
 }
 
-// Room for so many slots.
+// Room for `slots` slots.
 fn room_for<T: Told + Drop, L: Look<Told = T> + Drop, S: Source<T, L> + Drop>(
     alloc: Global,
     slots: usize,
@@ -309,24 +314,25 @@ fn room_for<T: Told + Drop, L: Look<Told = T> + Drop, S: Source<T, L> + Drop>(
     })
 }
 
-/// Runs these parts with a source for each slot, in the order of the slots, and a bell for each that wakes it: a thread for each source and
-/// one for the sequencer; the flusher runs in the caller's.
+/// Runs these parts with a source for each slot, in the order of the slots, and a bell for each that wakes it. There is a thread
+/// for each source and one for the sequencer; the flusher runs in the caller's.
 ///
-/// It ends when all sources have ended and nothing is left, or when the storage is stopped: then no source gets another turn. A fault
-/// where memory is short or no thread can be made: the parts are gone, and the device is to be opened again.
+/// It ends when all sources have ended and no work is left, or when the storage is stopped; no further turns are taken after
+/// that. A fault if out of memory or no thread can be made: the parts are lost, and the device must be opened again.
 pub fn run_with_bells<
     K: Store,
     T: Told + Drop + Send,
     L: Look<Told = T> + Drop + Send,
     S: Source<T, L> + Drop + Send,
-    B: Board<Told = T> + Publish<R> + Closes<R>,
+    B: Board<Told = T> + Publish<R, Moments<J>> + Closes<R>,
+    J: RunId,
     E: Bell + Drop + Sync,
     H: Hold + Sync,
     R: Threads + Wait + Clock + Sync,
 >(
     rt: &R,
     alloc: Global,
-    parts: Parts<T, L, B, K>,
+    parts: Parts<T, L, B, K, J>,
     hold: &H,
     bells: Vec<E>,
     sources: Vec<S>,
@@ -335,7 +341,7 @@ pub fn run_with_bells<
     requires place { (k n : ℕ) (s : _) → slice_get sources.items k ≡ Some s → S.slot s ≡ Some n →
         slice_get parts.slots.items k ≡ Some n }
     ensures run { IfOk result
-        (λ report. IsRun
+        (λ report. IsServerRun
         (LeavesOneOf (K.Device.honest (K.disk parts.middle.flusher.store))
         (K.Device.honest (K.disk report.keeper)) K.recovers (K.Device.state (K.disk report.keeper)))
         (Endures (K.Device.honest (K.disk parts.middle.flusher.store)) K.recovers
@@ -376,13 +382,14 @@ pub fn run_threads<
     T: Told + Drop + Send,
     L: Look<Told = T> + Drop + Send,
     S: Source<T, L> + Drop + Send,
-    B: Board<Told = T> + Publish<R> + Closes<R>,
+    B: Board<Told = T> + Publish<R, Moments<J>> + Closes<R>,
+    J: RunId,
     H: Hold + Sync,
     R: Threads + Wait + Clock + Sync,
 >(
     rt: &R,
     alloc: Global,
-    parts: Parts<T, L, B, K>,
+    parts: Parts<T, L, B, K, J>,
     hold: &H,
     sources: Vec<S>,
 ) -> Result<RunReport<K>, StartFault>
@@ -390,7 +397,7 @@ pub fn run_threads<
     requires place { (k n : ℕ) (s : _) → slice_get sources.items k ≡ Some s → S.slot s ≡ Some n →
         slice_get parts.slots.items k ≡ Some n }
     ensures run { IfOk result
-        (λ report. IsRun
+        (λ report. IsServerRun
         (LeavesOneOf (K.Device.honest (K.disk parts.middle.flusher.store))
         (K.Device.honest (K.disk report.keeper)) K.recovers (K.Device.state (K.disk report.keeper)))
         (Endures (K.Device.honest (K.disk parts.middle.flusher.store)) K.recovers

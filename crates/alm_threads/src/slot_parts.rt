@@ -1,4 +1,4 @@
-//! What the threads of the slots stand on.
+//! What the threads of the slots use.
 ghost use Rattle.std.specs.Prelude.{◌≡◌, ◌≤◌, ℕ, [], length, map, slice_get, Some, vec_capacity};
 
 use alm_board::Look;

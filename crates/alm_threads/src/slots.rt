@@ -7,7 +7,7 @@ use alm_rings::{SlotEnds, Told, open_slot};
 use alm_types::Slot;
 use std::alloc::{AllocError, Global};
 
-/// The ends of these slots, new and in their order; an error only for want of memory.
+/// The ends of these slots, new and in their order; an error only if out of memory.
 pub fn open_some<T: Told + Drop>(alloc: Global, slots: &[Slot]) -> Result<SlotEnds<T>, AllocError>
     requires { AreApart (λ s. s) slots.now }
     ensures order { IfOk result (λ e. map (λ c. c.slot) e.consoles.items ≡ slots.now) }

@@ -1,10 +1,10 @@
-//! Whether a run left nothing behind.
+//! Whether a run left no request unanswered.
 
-/// Whether a run left nothing behind.
+/// Whether a run left no request unanswered.
 #[derive(Clone, Copy, Debug, PartialEq, Eq)]
 pub enum Storage {
-    /// The store takes batches still; all that was sent was taken, and all that was taken was answered.
+    /// The store still takes batches; all that was sent was taken, and all that was taken was answered.
     Whole,
-    /// The store has stopped, or something was not taken or not answered, as where 1,000 publishes in a row were refused.
+    /// The store has stopped, or a request was not taken or not answered, for example after 1,000 refused publishes in a row.
     Stopped,
 }

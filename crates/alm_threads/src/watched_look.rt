@@ -1,4 +1,4 @@
-//! A look that a hold is told of.
+//! A look that reports to a hold.
 ghost use Rattle.std.specs.Prelude.{◌≡◌, IfOk, length};
 
 use alm_board::{FreeLook, Look};
@@ -7,7 +7,7 @@ use alm_rings::Told;
 use alm_types::{Answer, Query, Refusal, Slot};
 use std::alloc::{AllocError, Global};
 
-/// A slot's look; its hold is told of each look that was answered.
+/// A slot's look; it reports each answered look to its hold.
 #[derive(Drop)]
 pub struct WatchedLook<'h, L, H> {
     look: L,
@@ -43,7 +43,7 @@ impl<L: FreeLook, H: Hold> FreeLook for WatchedLook<'_, L, H> {
     ghost free = { λ watched told. L.FreeLook.free watched.look told };
 }
 
-/// Has a hold told of the looks of these slots, in their order.
+/// Makes the looks of these slots report to a hold, in their order.
 pub fn watched<'h, L: Look + Drop, H: Hold>(
     alloc: Global,
     hold: &'h H,

@@ -29,7 +29,7 @@ pub fn all_slots(alloc: Global) -> Result<Vec<Slot>, AllocError>
     Ok(slots)
 }
 
-/// A caller for each slot, with so many requests; none where only another slot is to send.
+/// A caller for each slot, with a number of requests; none if only another slot is to send.
 pub fn callers(
     alloc: Global,
     slots: &[Slot],
@@ -52,7 +52,7 @@ pub fn callers(
     Ok(callers)
 }
 
-/// An asker for each slot, with so many requests out and in all.
+/// An asker for each slot, with a number of requests unanswered and in all.
 pub fn askers(
     alloc: Global,
     slots: &[Slot],
@@ -71,7 +71,7 @@ pub fn askers(
     Ok(askers)
 }
 
-/// The first so many consoles look so many hundred times each, beside the feed, which asks until all have looked; nobody else does anything.
+/// The first consoles make some hundreds of looks each, while the feed asks until all have looked; the other slots do nothing.
 pub fn lookers(
     alloc: Global,
     slots: &[Slot],
@@ -95,7 +95,7 @@ pub fn lookers(
     Ok(lookers)
 }
 
-/// A script for each slot: these steps for the one that is named beside them, and none for others.
+/// A script for each slot: the steps that are listed with it, and none if it isn't listed.
 pub fn scripts(
     alloc: Global,
     slots: &[Slot],
@@ -115,7 +115,7 @@ pub fn scripts(
     Ok(scripts)
 }
 
-/// The steps that a slot is named beside.
+/// The steps that are listed with a slot.
 fn steps_of(alloc: Global, slot: Slot, steps: &[(u8, Step)]) -> Result<Vec<Step>, AllocError> {
     let mut own = Vec::new(alloc);
     for (number, step) in steps {

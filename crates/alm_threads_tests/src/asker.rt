@@ -12,13 +12,13 @@ use std::sync::atomic::Ordering;
 /// When it has asked enough.
 #[derive(Clone, Copy, Debug)]
 pub enum Enough {
-    /// After so many requests.
+    /// After a number of requests.
     Requests(u64),
-    /// Once so many looks were shown to others.
+    /// After a number of looks were shown to others.
     Looks(u64),
 }
 
-/// Asks for what is always accepted, with so many requests out, each slot of an alarm of its own.
+/// Asks for what is always accepted, with a number of requests unanswered, each slot of an alarm of its own.
 #[derive(Drop)]
 pub struct Asker {
     slot: Slot,
@@ -41,7 +41,7 @@ impl Asker {
         }
     }
 
-    // A console takes its alarm out of service and back, the feed lets its alarm come and go, and the clock goes on by a second.
+    // A console takes its alarm out of service and back, the feed lets its alarm come and go, and the clock moves by a second.
     fn next(&self) -> Action {
         let number = self.slot.number();
         let alarm = AlarmId(u32::from(number));

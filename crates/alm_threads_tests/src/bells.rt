@@ -1,4 +1,4 @@
-//! Bells that one thread left are rung by the next one that looks.
+//! Bells that one thread left are rung by the next one that checks.
 
 use alm_run::{Bell, Bells};
 use alm_types::Slot;
@@ -21,7 +21,8 @@ impl Bell for Counter {
     fn wait<R: Wait>(&self, _rt: &R, _idle: u32) {}
 }
 
-/// How often the bells of slots 5 and 17 were rung in all as these slots had been left, and how often each once two threads had looked.
+/// How often the bells of slots 5 and 17 were rung in all as these slots had been left, and how often each after two threads had
+/// checked.
 fn rings(alloc: Global, left: &[u8]) -> Option<[u64; 3]> {
     let first = Arc::new(alloc, AtomicU64::new(0)).ok()?;
     let second = Arc::new(alloc, AtomicU64::new(0)).ok()?;

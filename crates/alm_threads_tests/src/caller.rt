@@ -10,8 +10,9 @@ use std::alloc::Global;
 use std::sync::Arc;
 use std::sync::atomic::Ordering;
 
-/// Sends so many drawn requests, with as many out as its console takes, looks after each receipt, and notes what is wrong: a receipt out of
-/// order, of another action or of a smaller number than the last, and a look that is behind what it was told.
+/// Sends a number of drawn requests, with as many unanswered as its console takes, looks after each receipt, and notes what is
+/// wrong. Wrong is a receipt out of order, of another action or of a smaller number than the last, and a look that is older than
+/// what receipts reported.
 #[derive(Drop)]
 pub struct Caller {
     slot: Slot,
@@ -19,14 +20,14 @@ pub struct Caller {
     each: u64,
     sent: u64,
     received: u64,
-    // The greatest number that it was told.
+    // The greatest number that was reported to it.
     told: u64,
     answer: Answer,
     notes: Arc<Notes, Global>,
 }
 
 impl Caller {
-    /// A slot's caller with so many requests.
+    /// A slot's caller with `each` requests.
     pub fn new(alloc: Global, slot: Slot, each: u64, notes: Arc<Notes, Global>) -> Self {
         Caller {
             slot,

@@ -1,6 +1,7 @@
 //! One run, from a device to what is left of it.
 
-ghost use Rattle.std.specs.Prelude.{◌≡◌, ◌<◌, ◌≤◌, ◌^◌, length};
+ghost use Rattle.std.specs.Prelude.{◌≡◌, ◌↔◌, ◌<◌, ◌≤◌, ◌^◌, ℕ, List, length};
+ghost use Rattle.alm_model.specs.Plant.{Condensed};
 ghost use Rattle.alm_rings.specs.Placed.{AreApart};
 ghost use Rattle.alm_types.specs.Sizes.{most_actions};
 
@@ -8,9 +9,10 @@ use crate::player::Player;
 use alm_disk::Hold;
 use alm_keeper::Phase;
 use alm_model::Alarms;
+use alm_moments::RunId;
 use alm_plant::Plant;
 use alm_rings::SlotReport;
-use alm_shared::{Front, Naming, NewHistory, SharedBoard, SharedLook};
+use alm_shared::{Durable, NewRun, SharedBoard, SharedLook};
 use alm_store::Store;
 use alm_threads::{Parts, RunReport, Storage, WatchedLook, parts_of, run_threads};
 use alm_types::Slot;
@@ -44,10 +46,10 @@ fn left_of<K: Store>(report: RunReport<K>) -> Left<K::Device> {
     }
 }
 
-/// Runs these sources. `None` where memory is short or no thread can be made.
+/// Runs these sources. `None` if out of memory or no thread can be made.
 fn run_parts<
     'h,
-    J: Naming + Send + Sync,
+    J: RunId + Send + Sync,
     P: Alarms + Drop + Send + Sync,
     K: Store,
     H: Hold + Sync,
@@ -55,7 +57,7 @@ fn run_parts<
 >(
     rt: &R,
     alloc: Global,
-    parts: Parts<Front<J>, WatchedLook<'h, SharedLook<J, P>, H>, SharedBoard<J, P>, K>,
+    parts: Parts<Durable<J>, WatchedLook<'h, SharedLook<J, P>, H>, SharedBoard<J, P>, K, J>,
     hold: &'h H,
     sources: Vec<Player>,
 ) -> Option<RunReport<K>>
@@ -64,25 +66,28 @@ fn run_parts<
     run_threads(rt, alloc, parts, hold, sources).ok()
 }
 
-/// Runs these sources over a store. `None` where memory is short or no thread can be made.
-fn run_over<J: Naming + Send + Sync, K: Store, H: Hold + Sync, R: Threads + Wait + Clock + Sync>(
+/// Runs these sources over a store. `None` if out of memory or no thread can be made.
+fn run_over<J: RunId + Send + Sync, K: Store, H: Hold + Sync, R: Threads + Wait + Clock + Sync>(
     rt: &R,
     alloc: Global,
-    history: NewHistory,
+    new: NewRun,
     store: K,
     slots: Vec<Slot>,
     hold: &H,
     sources: Vec<Player>,
 ) -> Option<RunReport<K>>
-    requires book { history.seen.book ≡ J.book }
-    requires base { (K.state store).stored ≡ J.base }
+    requires books { (new.history.seen.book ≡ J.book) × (new.moments.seen.book ≡ J.moments) }
+    requires base { J.base ≡ (K.state store).stored }
+    requires device { J.first ≡ K.Device.state (K.disk store) }
+    requires honest { ∥ (J.honest ↔ K.Device.honest (K.disk store)) ∥₁ }
+    requires recovers { ∥ ((b : List ℕ) (p : Condensed) → (J.recovers b p ↔ K.recovers b p)) ∥₁ }
     requires idle { (K.state store).phase ≡ Phase.Idle }
     requires limit { (K.state store).stored.panel.count ≤ most_actions }
     requires some { (0 < length slots.items) × (length slots.items < 2 ^ 32) }
     requires apart { AreApart (λ s. s) slots.items }
     requires sources { length sources.items ≡ length slots.items }
 {
-    match parts_of::<J, K, H, R>(rt, alloc, history, store, slots, hold) {
+    match parts_of::<J, K, H, R>(rt, alloc, new, store, slots, hold) {
         Ok(parts) => run_parts::<J, Plant, K, H, R>(rt, alloc, parts, hold, sources),
         Err(store) => {
             drop(store);
@@ -91,7 +96,7 @@ fn run_over<J: Naming + Send + Sync, K: Store, H: Hold + Sync, R: Threads + Wait
     }
 }
 
-/// Opens a device and runs these sources over it. `None` where it isn't opened, memory is short or no thread can be made.
+/// Opens a device and runs these sources over it. `None` if it isn't opened, if out of memory or no thread can be made.
 pub fn run_on<K: Store, H: Hold + Sync, R: Threads + Wait + Clock + Sync>(
     rt: &R,
     alloc: Global,
@@ -106,10 +111,8 @@ pub fn run_on<K: Store, H: Hold + Sync, R: Threads + Wait + Clock + Sync>(
 {
     match K::open(alloc, disk) {
         Ok(store) => {
-            let history = NewHistory::new();
-            let report = run_over::<Brand, K, H, R>(
-                rt, alloc, history, store, slots, hold, sources,
-            )?;
+            let new = NewRun::new();
+            let report = run_over::<Brand, K, H, R>(rt, alloc, new, store, slots, hold, sources)?;
             Some(left_of(report))
         }
         Err(_) => None,

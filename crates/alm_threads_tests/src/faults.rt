@@ -5,9 +5,9 @@ use crate::course::{Left, run_on};
 use crate::devices::formatted;
 use crate::folds::{Accepted, reopened};
 use crate::notes::Notes;
+use alm_desk::worked_table;
 use alm_disk::{Free, MemDisk, OnceDisk};
 use alm_keeper::Keeper;
-use alm_service::worked_table;
 use alm_threads::Storage;
 use alm_types::Slot;
 use std::alloc::Global;
@@ -26,14 +26,14 @@ struct Found {
     storage: Storage,
     /// How many receipts or looks were wrong.
     wrong: u64,
-    /// The greatest number that was told.
+    /// The greatest number that was reported.
     told: u64,
-    /// How many actions the device stands for, and whether they are the first that were accepted.
+    /// How many actions the device encodes, and whether they are the first that were accepted.
     count: u64,
     is_fold: bool,
 }
 
-/// Runs 18 sources, or one of them, over a device that fails its call of a number. `None` where memory is short, no thread can be made
+/// Runs 18 sources, or one of them, over a device that fails its call of a number. `None` if out of memory, no thread can be made
 /// or the device isn't opened again.
 fn run_failing<R: Threads + Wait + Clock + Sync>(
     rt: &R,

@@ -10,8 +10,8 @@ use std::alloc::Global;
 /// No slot sends more.
 const MOST: u64 = 100_000;
 
-/// The plant of the first so many requests that were accepted, in the order of their numbers, each drawn again. `None` where one isn't noted
-/// or isn't accepted now, or memory is short.
+/// The plant of the first `count` requests that were accepted, in the order of their numbers, each drawn again. `None` if one
+/// isn't noted or isn't accepted now, or if out of memory.
 fn folded<P: Alarms + Drop>(alloc: Global, table: &Table, notes: &Notes, count: u64) -> Option<P> {
     let mut plant = P::new(alloc, table).ok()?;
     for number in 0..count {
@@ -39,7 +39,7 @@ fn are_same<P: Alarms, Q: Alarms>(one: &P, other: &Q) -> bool {
     one.next_stamp() == other.next_stamp()
 }
 
-/// The plant of the first so many requests of a slot that are accepted, where it alone sends.
+/// The plant of the first `count` requests of a slot that are accepted, if no other slot sends.
 fn foretold<P: Alarms + Drop>(alloc: Global, table: &Table, slot: Slot, count: u64) -> Option<P> {
     let mut plant = P::new(alloc, table).ok()?;
     for before in 0..MOST {
@@ -63,7 +63,7 @@ pub enum Accepted<'n> {
     Alone(Slot),
 }
 
-/// Whether a plant is the one that is wanted, where there is one.
+/// Whether a plant is the expected one, if there is one.
 fn is_wanted<P: Alarms + Drop, Q: Alarms>(plant: &Q, wanted: Option<P>) -> bool {
     match wanted {
         Some(wanted) => are_same(plant, &wanted),
@@ -71,7 +71,7 @@ fn is_wanted<P: Alarms + Drop, Q: Alarms>(plant: &Q, wanted: Option<P>) -> bool 
     }
 }
 
-/// How many actions a device stands for, and whether it is the plant of as many that were accepted. `None` where it isn't opened.
+/// How many actions a device encodes, and whether it is the plant of as many that were accepted. `None` if it isn't opened.
 pub fn reopened<K: Store>(
     alloc: Global,
     disk: K::Device,

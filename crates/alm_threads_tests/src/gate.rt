@@ -5,14 +5,14 @@ use alm_types::Slot;
 use std::sync::atomic::{AtomicBool, AtomicU64, Ordering};
 use std::thread;
 
-/// How often it is looked whether it may go on.
+/// How often it is checked whether it may continue.
 const TURNS: u64 = 1_000_000;
 
-/// Holds the first sync behind the first take until another slot's request was taken and another slot has looked, since it began. After
-/// a million turns, each of which yields once, the sync fails.
+/// Holds the first sync after the first take until another slot's request was taken and another slot has looked, since it began.
+/// After a million turns, each of which yields once, the sync fails.
 #[derive(Drop)]
 pub struct Gate {
-    // Whose request was taken first; 0 where none was.
+    // The slot whose request was taken first; 0 if none was.
     first: AtomicU64,
     begun: AtomicBool,
     takes: AtomicU64,
@@ -22,7 +22,7 @@ pub struct Gate {
 }
 
 impl Gate {
-    /// One that nothing has passed, and that holds, where it is to.
+    /// One that nothing has passed; `is_held` says whether it holds.
     pub fn new(is_held: bool) -> Self {
         Gate {
             begun: AtomicBool::new(!is_held),

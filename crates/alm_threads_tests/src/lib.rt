@@ -1,10 +1,10 @@
-//! Runs of the server's threads over devices in memory: what no clause says of them.
+//! Runs of the server's threads over devices in memory: what the contracts don't cover.
 //!
 //! | file | has |
 //! |---|---|
 //! | [`caller`] | a source that sends drawn requests, of [`drawn`] |
 //! | [`script`] | a source that plays steps, one after another |
-//! | [`asker`], [`looker`] | a source that asks for what is always accepted, and one that only looks: for the benchmark |
+//! | [`asker`], [`looker`] | a source that asks for what is always accepted, and one that only makes looks: for the benchmark |
 //! | [`player`] | one of these |
 //! | [`notes`] | what the sources note while they run |
 //! | [`all_slots`], [`devices`] | slots with their callers, and devices |
@@ -43,6 +43,8 @@ mod rows;
 #[cfg(test)]
 mod runs;
 pub mod script;
+#[cfg(test)]
+mod stopped;
 #[cfg(test)]
 mod stops;
 #[cfg(test)]

@@ -1,4 +1,4 @@
-//! A source that only looks.
+//! A source that only makes looks.
 
 use crate::notes::Notes;
 use alm_board::FreeLook;
@@ -9,10 +9,10 @@ use std::alloc::Global;
 use std::sync::Arc;
 use std::sync::atomic::Ordering;
 
-/// How many looks it takes in a turn.
+/// How many looks it makes in a turn.
 const LOOKS: u64 = 100;
 
-/// Looks at an alarm, so many hundred times.
+/// Looks at an alarm, some hundreds of times.
 #[derive(Drop)]
 pub struct Looker {
     left: u64,
@@ -21,7 +21,7 @@ pub struct Looker {
 }
 
 impl Looker {
-    /// One that is to look so many hundred times.
+    /// One that is to look `hundreds` hundred times.
     pub fn new(alloc: Global, hundreds: u64, notes: Arc<Notes, Global>) -> Self {
         Looker {
             left: hundreds,

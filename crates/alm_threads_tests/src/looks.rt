@@ -1,19 +1,25 @@
-//! Looks at a shared board whose owner is gone.
-ghost use Rattle.std.specs.Prelude.{◌≡◌};
+//! Looks at a shared board whose owner has ended.
+ghost use Rattle.std.specs.Prelude.{◌≡◌, ◌↔◌, ℕ, List};
+ghost use Rattle.alm_model.specs.Plant.{Condensed};
 
+use crate::devices::formatted;
 use alm_board::Look;
+use alm_desk::worked_table;
+use alm_disk::MemDisk;
+use alm_keeper::{Keeper, Phase};
 use alm_model::Alarms;
+use alm_moments::RunId;
 use alm_plant::Plant;
-use alm_service::worked_table;
-use alm_shared::{Naming, NewHistory, open_board};
+use alm_shared::{NewRun, open_board};
+use alm_store::Store;
 use alm_types::{AlarmId, Answer, Query, Refusal};
 use std::alloc::Global;
 use std::marker::Brand;
 use std::sync::Wait;
 use std::test::Fail;
 
-/// Queries of four alarms in two areas, and what they are answered once the board's owner is gone.
-const ASKED: [(Query, Refusal); 12] = [
+/// Queries of four alarms in two areas, and their answers after the board's owner has ended.
+const ASKED: [(Query, Refusal); 15] = [
     (Query::State(AlarmId(3)), Refusal::Stopped),
     (Query::State(AlarmId(4)), Refusal::NoSuchAlarm),
     (Query::Priority(0), Refusal::NoSuchList),
@@ -26,6 +32,9 @@ const ASKED: [(Query, Refusal); 12] = [
     (Query::Wheel(255), Refusal::Stopped),
     (Query::Wheel(256), Refusal::NoSuchList),
     (Query::Chatter, Refusal::Stopped),
+    (Query::Plant, Refusal::Stopped),
+    (Query::Attributes(AlarmId(3)), Refusal::Stopped),
+    (Query::Attributes(AlarmId(4)), Refusal::NoSuchAlarm),
 ];
 
 /// How many of them are answered so.
@@ -39,18 +48,27 @@ fn answered<L: Look>(look: &mut L, answer: &mut Answer) -> usize {
     answered
 }
 
-/// How many are while the board has its owner, and behind its end. `None` where memory is short.
-fn answered_in_turn<J: Naming, P: Alarms + Drop, R: Wait>(
+/// How many are while the board has its owner, and after its end. `None` if out of memory.
+fn answered_in_turn<J: RunId, K: Store, R: Wait>(
     rt: &R,
     alloc: Global,
-    history: NewHistory,
-    plant: P,
+    new: NewRun,
+    store: K,
 ) -> Option<(usize, usize)>
-    requires book { history.seen.book ≡ J.book }
-    requires base { P.plant plant ≡ J.base }
+    requires books { (new.history.seen.book ≡ J.book) × (new.moments.seen.book ≡ J.moments) }
+    requires base { J.base ≡ (K.state store).stored }
+    requires device { J.first ≡ K.Device.state (K.disk store) }
+    requires honest { ∥ (J.honest ↔ K.Device.honest (K.disk store)) ∥₁ }
+    requires recovers { ∥ ((b : List ℕ) (p : Condensed) → (J.recovers b p ↔ K.recovers b p)) ∥₁ }
+    requires idle { (K.state store).phase ≡ Phase.Idle }
 {
+    let NewRun { history, moments } = new;
+    let (_recorder, moments) = moments.named::<J, K>(&store);
+    let Ok(plant) = store.stored().copy(alloc) else {
+        return None;
+    };
     let mut answer = Answer::new(alloc);
-    match open_board::<J, P, R>(rt, alloc, history, plant, 1) {
+    match open_board::<J, Plant, R>(rt, alloc, history, &moments, plant, 1) {
         Ok((board, mut looks)) => {
             let before = looks.get_mut(0).map(|look| answered(look, &mut answer));
             drop(board.take(rt));
@@ -64,20 +82,26 @@ fn answered_in_turn<J: Naming, P: Alarms + Drop, R: Wait>(
     }
 }
 
-/// The same of a board of its own.
-fn answered_by<P: Alarms + Drop, R: Wait>(
+/// The same of a board over a device.
+fn answered_by<K: Store, R: Wait>(
     rt: &R,
     alloc: Global,
-    plant: P,
+    disk: K::Device,
 ) -> Option<(usize, usize)> {
-    let history = NewHistory::new();
-    answered_in_turn::<Brand, P, R>(rt, alloc, history, plant)
+    match K::open(alloc, disk) {
+        Ok(store) => {
+            let new = NewRun::new();
+            answered_in_turn::<Brand, K, R>(rt, alloc, new, store)
+        }
+        Err(_) => None,
+    }
 }
 
 #[test]
 fn a_look_after_the_owner_is_gone(rt: HostRuntime) -> Result<(), Fail> {
     let table = worked_table(rt.alloc())?;
-    let plant = Plant::new(rt.alloc(), &table)?;
-    assert_eq!(rt; answered_by(&rt, rt.alloc(), plant), Some((6, 12)));
+    let disk = formatted(rt.alloc(), &table).ok_or("formatted")?;
+    let answered = answered_by::<Keeper<MemDisk>, _>(&rt, rt.alloc(), disk);
+    assert_eq!(rt; answered, Some((7, 15)));
     Ok(())
 }

@@ -9,17 +9,17 @@ use std::sync::atomic::{AtomicU64, Ordering};
 pub struct Notes {
     /// How often something was wrong.
     pub wrong: AtomicU64,
-    /// The greatest number that was told.
+    /// The greatest number that was reported.
     pub told: AtomicU64,
     /// How many looks were answered, and how many refused.
     pub shown: AtomicU64,
     pub unseen: AtomicU64,
-    // Which request each number is of; 0 where none is noted.
+    // Which request each number is of; 0 if none is noted.
     requests: Vec<AtomicU64>,
 }
 
 impl Notes {
-    /// No notes yet, with room for so many numbers.
+    /// No notes yet, with room for `numbers` numbers.
     pub fn new(alloc: Global, numbers: usize) -> Result<Self, AllocError> {
         let mut requests = Vec::new(alloc);
         for _ in 0..numbers {
@@ -39,12 +39,12 @@ impl Notes {
         self.wrong.fetch_add(1, Ordering::SeqCst);
     }
 
-    /// A slot was told a number.
+    /// A number was reported to a slot.
     pub fn is_told(&self, number: u64) {
         self.told.fetch_max(number, Ordering::SeqCst);
     }
 
-    /// A slot's request of a serial was accepted under a number: wrong where another was.
+    /// A slot's request of a serial was accepted under a number: wrong if another one was.
     pub fn is_accepted(&self, slot: Slot, serial: u64, number: u64) {
         let request = serial
             .wrapping_mul(18)
@@ -69,7 +69,17 @@ impl Notes {
         Some((slot, request / 18))
     }
 
-    // Where the request of a number stands.
+    /// Whether each request is noted that was accepted under a number up to this one.
+    pub fn are_noted_up_to(&self, number: u64) -> bool {
+        for before in 0..number {
+            if self.accepted(before + 1).is_none() {
+                return false;
+            }
+        }
+        true
+    }
+
+    // The place of the request of a number.
     fn place(&self, number: u64) -> Option<&AtomicU64> {
         if number == 0 {
             return None;

@@ -5,9 +5,9 @@ use crate::course::{Left, run_on};
 use crate::devices::formatted;
 use crate::folds::{Accepted, reopened};
 use crate::notes::Notes;
+use alm_desk::worked_table;
 use alm_disk::{Chooser, Crashable, Free, FuseDisk, MemDisk};
 use alm_keeper::Keeper;
-use alm_service::worked_table;
 use alm_types::Slot;
 use std::alloc::Global;
 use std::sync::atomic::Ordering;
@@ -49,17 +49,19 @@ impl Chooser for Drawn {
     }
 }
 
-/// What stands after a power failure, and what was told before it.
+/// What the device encodes after a power failure, and what was reported before it.
 #[derive(Clone, Copy, Debug)]
 struct Found {
     wrong: u64,
     told: u64,
     count: u64,
+    // Whether it is known which actions these are. Of a request that has no reply only its slot knows.
+    are_known: bool,
     is_fold: bool,
 }
 
-/// Runs 18 sources, or one of them, over a device that serves so many calls: then its power fails, which leaves drawn bytes. `None` where memory
-/// is short, no thread can be made, or the device isn't opened again.
+/// Runs 18 sources, or one of them, over a device that serves a number of calls: then its power fails, which leaves drawn bytes.
+/// `None` if out of memory, no thread can be made, or the device isn't opened again.
 fn run_until<R: Threads + Wait + Clock + Sync>(
     rt: &R,
     alloc: Global,
@@ -86,17 +88,19 @@ fn run_until<R: Threads + Wait + Clock + Sync>(
         wrong: notes.wrong.load(Ordering::SeqCst),
         told: notes.told.load(Ordering::SeqCst),
         count,
+        are_known: only.is_some() || notes.are_noted_up_to(count),
         is_fold,
     })
 }
 
-/// Behind how many calls the power fails in a run.
+/// After how many calls the power fails in a run.
 fn calls_of(run: u64) -> u64 {
     FIRST + run.wrapping_mul(0x9E37_79B9_7F4A_7C15) % 97
 }
 
 #[test]
 fn what_was_told_is_there_after_a_power_failure(rt: HostRuntime) -> Result<(), Fail> {
+    let mut judged = 0u64;
     for run in 0..RUNS {
         let calls = calls_of(run);
         let found = run_until(&rt, rt.alloc(), None, calls).ok_or("run")?;
@@ -107,12 +111,17 @@ fn what_was_told_is_there_after_a_power_failure(rt: HostRuntime) -> Result<(), F
             found.count,
             found.told
         );
+        if found.are_known {
+            assert!(rt; found.is_fold, "{calls} calls");
+            judged = judged.wrapping_add(1);
+        }
     }
+    assert!(rt; judged >= RUNS / 4, "{judged} plants are known");
     Ok(())
 }
 
 #[test]
-fn a_front_of_what_was_accepted_stands_after_a_power_failure(rt: HostRuntime) -> Result<(), Fail> {
+fn a_prefix_of_what_was_accepted_stands_after_a_power_failure(rt: HostRuntime) -> Result<(), Fail> {
     let feed = Slot::new(16).ok_or("slot")?;
     for run in 0..RUNS {
         let calls = calls_of(run);

@@ -1,19 +1,22 @@
 //! Publishes that are refused: the flusher's thread tries one a thousand times.
 
-ghost use Rattle.std.specs.Prelude.{◌≡◌};
+ghost use Rattle.std.specs.Prelude.{◌≡◌, ◌↔◌, ℕ, List};
+ghost use Rattle.alm_model.specs.Plant.{Condensed};
 
 use crate::devices::formatted;
-use alm_board::{Board, PlainBoard, PlainTold, Publish};
+use alm_board::{Board, PlainBoard, PlainTold, Publish, Voucher};
+use alm_desk::worked_table;
 use alm_disk::MemDisk;
 use alm_keeper::Keeper;
 use alm_model::Alarms;
+use alm_moments::{NewMoments, RunId};
 use alm_plant::Plant;
 use alm_rings::{SealEnds, SlotEnds, batches_beside, open_batches, open_slots};
 use alm_run::{Bells, Closes, Flags, FlusherParts, ThreadBell, run_flusher};
-use alm_service::worked_table;
 use alm_store::{Phase, Store};
 use alm_types::{Action, Batch, Entry, Moment, Slot, Verdict};
 use std::alloc::{AllocError, Global};
+use std::marker::Brand;
 use std::sync::Wait;
 use std::sync::atomic::Ordering;
 use std::test::Fail;
@@ -39,15 +42,15 @@ impl Board for RefusingBoard {
     }
 }
 
-impl<C> Publish<C> for RefusingBoard {
+impl<C, V: Voucher> Publish<C, V> for RefusingBoard {
     ghost sure = { ⊥ };
 
-    fn publish(&mut self, _by: &C, batch: &Batch) -> Result<(), AllocError> {
+    fn publish(&mut self, _by: &C, _voucher: &V, batch: &Batch) -> Result<(), AllocError> {
         if self.refusals > 0 {
             self.refusals -= 1;
             return Err(AllocError);
         }
-        <PlainBoard<Plant> as Publish<()>>::publish(&mut self.board, &(), batch)
+        <PlainBoard<Plant> as Publish<(), ()>>::publish(&mut self.board, &(), &(), batch)
     }
 }
 
@@ -55,7 +58,7 @@ impl<C> Closes<C> for RefusingBoard {
     fn close(self, _by: &C) {}
 }
 
-/// Whether the clock's action goes to the flusher in a batch, as if its slot had asked for it.
+/// Whether the clock's action is sent to the flusher in a batch, as if its slot had asked for it.
 pub fn seals_one(ends: &mut SealEnds, clock: Slot) -> bool {
     let (Some(moment), Some(mut batch)) = (Moment::new(1000), ends.empty()) else {
         return false;
@@ -69,16 +72,23 @@ pub fn seals_one(ends: &mut SealEnds, clock: Slot) -> bool {
     ends.seal(batch).is_ok()
 }
 
-/// What a run of the flusher leaves whose board refuses so many publishes of one batch: the number that its slot is told, if it is told
-/// one, and whether all threads are to stop.
-fn told_behind<K: Store, R: Wait>(
+/// What a run of the flusher leaves if its board refuses a number of publishes of one batch. It is the number that its
+/// slot receives, if any, and whether all threads are to stop.
+fn told_behind<J: RunId, K: Store, R: Wait>(
     rt: &R,
     alloc: Global,
+    new: NewMoments,
     store: K,
     refusals: u64,
 ) -> Option<(Option<u64>, bool)>
+    requires book { new.seen.book ≡ J.moments }
+    requires base { J.base ≡ (K.state store).stored }
+    requires device { J.first ≡ K.Device.state (K.disk store) }
+    requires honest { ∥ (J.honest ↔ K.Device.honest (K.disk store)) ∥₁ }
+    requires recovers { ∥ ((b : List ℕ) (p : Condensed) → (J.recovers b p ↔ K.recovers b p)) ∥₁ }
     requires idle { (K.state store).phase ≡ Phase.Idle }
 {
+    let (recorder, moments) = new.named::<J, K>(&store);
     let clock = Slot::new(17)?;
     let Ok(shown) = store.stored().copy(alloc) else {
         return None;
@@ -109,7 +119,7 @@ fn told_behind<K: Store, R: Wait>(
         outboxes,
         fetch,
     };
-    drop(run_flusher(rt, &flags, board, parts));
+    drop(run_flusher(rt, &flags, board, parts, recorder, moments));
     let told = match consoles.get_mut(17) {
         Some(console) => console.receive().map(|receipt| receipt.number),
         None => None,
@@ -121,8 +131,21 @@ fn told_behind<K: Store, R: Wait>(
 fn told_on_new<R: Wait>(rt: &R, alloc: Global, refusals: u64) -> Option<(Option<u64>, bool)> {
     let table = worked_table(alloc).ok()?;
     let disk = formatted(alloc, &table)?;
-    match <Keeper<MemDisk> as Store>::open(alloc, disk) {
-        Ok(store) => told_behind(rt, alloc, store, refusals),
+    told_on::<Keeper<MemDisk>, R>(rt, alloc, disk, refusals)
+}
+
+/// The same over a device.
+fn told_on<K: Store, R: Wait>(
+    rt: &R,
+    alloc: Global,
+    disk: K::Device,
+    refusals: u64,
+) -> Option<(Option<u64>, bool)> {
+    match K::open(alloc, disk) {
+        Ok(store) => {
+            let new = NewMoments::new();
+            told_behind::<Brand, K, R>(rt, alloc, new, store, refusals)
+        }
         Err(_) => None,
     }
 }

@@ -1,23 +1,26 @@
-//! Want of memory on the board that threads share: run with each allocation refused in turn (`rt try --test --fail-alloc N`), the test of
-//! this module passes. One is refused at most, so the publish that was refused goes on the second time.
+//! Out of memory on the board that threads share: run with each allocation refused in turn (`rt try --test --fail-alloc N`), the
+//! test of this module passes. One is refused at most, so the publish that was refused succeeds the second time.
 
-ghost use Rattle.std.specs.Prelude.{◌≡◌, ℕ, []};
-ghost use Rattle.alm_rings.specs.Batches.{fetched_of};
-ghost use Rattle.alm_rings.specs.Placed.{AreApart, released_by};
+ghost use Rattle.std.specs.Prelude.{◌≡◌, ◌↔◌, ◌≤◌, ℕ, List};
+ghost use Rattle.alm_model.specs.Plant.{Condensed};
+ghost use Rattle.alm_types.specs.Sizes.{most_actions};
 
+use crate::all_slots::all_slots;
 use crate::devices::formatted;
 use crate::refusals::seals_one;
 use alm_board::{Board, Look, Publish};
-use alm_disk::MemDisk;
-use alm_flush::{Advance, Fetch, Flusher, Publishes};
+use alm_desk::worked_table;
+use alm_disk::{Free, MemDisk};
+use alm_flush::{Advance, Fetch, Publishes};
 use alm_keeper::{Keeper, Phase};
 use alm_model::Alarms;
+use alm_moments::{Moments, RunId};
 use alm_plant::Plant;
-use alm_rings::{SlotEnds, Told, batches_beside, open_batches, open_slots};
-use alm_run::{Closes, FlusherParts};
-use alm_service::worked_table;
-use alm_shared::{Naming, NewHistory, open_board};
+use alm_rings::Told;
+use alm_run::{Closes, FlusherParts, RecordedFlusher, Rings};
+use alm_shared::{Durable, NewRun, SharedBoard, SharedLook};
 use alm_store::Store;
+use alm_threads::{Middle, Parts, WatchedLook, parts_of};
 use alm_types::{AlarmId, Answer, Query, Refusal, Slot};
 use std::alloc::Global;
 use std::marker::Brand;
@@ -27,7 +30,7 @@ use std::test::Fail;
 /// What a publish of one action answers, and then a look; and the same of another publish.
 type Course = [(Publishes, Option<Result<u64, Refusal>>); 2];
 
-/// It is published at once.
+/// It is published immediately.
 const AT_ONCE: Course = [
     (Publishes::Published, Some(Ok(1))),
     (Publishes::NotYet, Some(Ok(1))),
@@ -39,8 +42,10 @@ const LATER: Course = [
     (Publishes::Published, Some(Ok(1))),
 ];
 
-/// Commits what is sealed: whether that goes.
-fn commits<K: Store, T: Told + Drop, B: Board<Told = T>>(flusher: &mut Flusher<K, T, B>) -> bool {
+/// Commits what is sealed: whether that succeeds.
+fn commits<K: Store, T: Told + Drop, B: Board<Told = T>, J: RunId>(
+    flusher: &mut RecordedFlusher<K, T, B, J>,
+) -> bool {
     if flusher.fetch() != Fetch::Got {
         return false;
     }
@@ -53,9 +58,16 @@ fn commits<K: Store, T: Told + Drop, B: Board<Told = T>>(flusher: &mut Flusher<K
 }
 
 /// Publishes what is committed, and looks.
-fn shows<K: Store, T: Told + Drop, B: Board<Told = T> + Publish<R>, L: Look, R: Wait>(
+fn shows<
+    K: Store,
+    T: Told + Drop,
+    B: Board<Told = T> + Publish<R, Moments<J>>,
+    J: RunId,
+    L: Look,
+    R: Wait,
+>(
     rt: &R,
-    flusher: &mut Flusher<K, T, B>,
+    flusher: &mut RecordedFlusher<K, T, B, J>,
     looks: &mut [L],
     answer: &mut Answer,
 ) -> (Publishes, Option<Result<u64, Refusal>>) {
@@ -69,28 +81,39 @@ fn shows<K: Store, T: Told + Drop, B: Board<Told = T> + Publish<R>, L: Look, R: 
 
 /// The course of one action that is sealed, over a board and a look at it.
 fn course_of<
-    K: Store,
     T: Told + Drop,
-    B: Board<Told = T> + Publish<R> + Closes<R>,
-    L: Look + Drop,
+    L: Look<Told = T> + Drop,
+    B: Board<Told = T> + Publish<R, Moments<J>> + Closes<R>,
+    K: Store,
+    J: RunId,
     R: Wait,
->(rt: &R, board: B, looks: Vec<L>, parts: FlusherParts<K, T>, answer: &mut Answer) -> Option<Course>
-    requires apart { AreApart (λ o. o.slot) parts.outboxes.items }
-    requires released { (s : ℕ) → released_by s parts.outboxes.items ≡ [] }
-    requires fetched { fetched_of parts.fetch ≡ [] }
-    requires idle { (K.state parts.store).phase ≡ Phase.Idle }
-    requires stored { (K.state parts.store).stored ≡ B.Board.base board }
-    requires published { B.Board.published board ≡ [] }
-    requires pending { B.Board.pending board ≡ [] }
-{
+>(rt: &R, parts: Parts<T, L, B, K, J>, clock: Slot, answer: &mut Answer) -> Option<Course> {
+    let Parts {
+        slots: _,
+        consoles: _,
+        mut looks,
+        board,
+        middle,
+    } = parts;
+    let Middle {
+        plant: _,
+        rings,
+        flusher,
+        recorder,
+        moments,
+    } = middle;
+    let Rings {
+        inboxes: _,
+        mut ends,
+    } = rings;
     let FlusherParts {
         store,
         outboxes,
         fetch,
-    } = parts;
-    let mut looks = looks;
-    let mut flusher = Flusher::new(store, board, outboxes, fetch);
-    let committed = commits(&mut flusher);
+    } = flusher;
+    let sealed = seals_one(&mut ends, clock);
+    let mut flusher = RecordedFlusher::new(store, board, outboxes, fetch, recorder, moments);
+    let committed = sealed && commits(&mut flusher);
     let first = shows(rt, &mut flusher, &mut looks, answer);
     let second = shows(rt, &mut flusher, &mut looks, answer);
     let (_store, board, _outboxes, _fetch) = flusher.into_ends();
@@ -102,56 +125,46 @@ fn course_of<
     }
 }
 
+/// The same over the parts of a run, with any plant.
+fn course_by<'h, J: RunId, P: Alarms + Drop, K: Store, R: Wait>(
+    rt: &R,
+    parts: Parts<Durable<J>, WatchedLook<'h, SharedLook<J, P>, Free>, SharedBoard<J, P>, K, J>,
+    clock: Slot,
+    answer: &mut Answer,
+) -> Option<Course> {
+    course_of(rt, parts, clock, answer)
+}
+
 /// The same over a new shared board, if there was memory for it and for the ends.
-fn course_over<J: Naming, P: Alarms + Drop, K: Store, R: Wait>(
+fn course_over<J: RunId, K: Store, R: Wait>(
     rt: &R,
     alloc: Global,
-    history: NewHistory,
+    new: NewRun,
     store: K,
-    shown: P,
 ) -> Option<Course>
-    requires book { history.seen.book ≡ J.book }
-    requires base { (K.state store).stored ≡ J.base }
-    requires shown { P.plant shown ≡ J.base }
+    requires books { (new.history.seen.book ≡ J.book) × (new.moments.seen.book ≡ J.moments) }
+    requires base { J.base ≡ (K.state store).stored }
+    requires device { J.first ≡ K.Device.state (K.disk store) }
+    requires honest { ∥ (J.honest ↔ K.Device.honest (K.disk store)) ∥₁ }
+    requires recovers { ∥ ((b : List ℕ) (p : Condensed) → (J.recovers b p ↔ K.recovers b p)) ∥₁ }
     requires idle { (K.state store).phase ≡ Phase.Idle }
+    requires limit { (K.state store).stored.panel.count ≤ most_actions }
 {
     let mut answer = Answer::new(alloc);
     let clock = Slot::new(17)?;
-    let Ok((mut ends, mut fetch)) = open_batches(alloc) else {
-        return None;
-    };
-    batches_beside(&mut ends, &mut fetch);
-    if !seals_one(&mut ends, clock) {
-        return None;
+    let slots = all_slots(alloc).ok()?;
+    match parts_of::<J, K, Free, R>(rt, alloc, new, store, slots, &Free) {
+        Ok(parts) => course_by::<J, Plant, K, R>(rt, parts, clock, &mut answer),
+        Err(_) => None,
     }
-    let Ok(slot_ends) = open_slots(alloc) else {
-        return None;
-    };
-    let Ok((board, looks)) = open_board::<J, P, R>(rt, alloc, history, shown, 1) else {
-        return None;
-    };
-    let SlotEnds {
-        consoles: _,
-        inboxes: _,
-        outboxes,
-    } = slot_ends;
-    let parts = FlusherParts {
-        store,
-        outboxes,
-        fetch,
-    };
-    course_of(rt, board, looks, parts, &mut answer)
 }
 
 /// The same over a device.
 fn course_on<K: Store, R: Wait>(rt: &R, alloc: Global, disk: K::Device) -> Option<Course> {
     match K::open(alloc, disk) {
         Ok(store) => {
-            let Ok(shown) = store.stored().copy(alloc) else {
-                return None;
-            };
-            let history = NewHistory::new();
-            course_over::<Brand, Plant, K, R>(rt, alloc, history, store, shown)
+            let new = NewRun::new();
+            course_over::<Brand, K, R>(rt, alloc, new, store)
         }
         Err(_) => None,
     }

@@ -6,10 +6,10 @@ use crate::devices::formatted;
 use crate::gate::Gate;
 use crate::notes::Notes;
 use crate::script::Step;
+use alm_desk::worked_table;
 use alm_disk::{HeldDisk, MemDisk};
 use alm_keeper::Keeper;
 use alm_rings::SlotReport;
-use alm_service::worked_table;
 use alm_store::Store;
 use alm_threads::Storage;
 use alm_types::{Action, AlarmId, Moment, Reading, Shown};
@@ -41,8 +41,8 @@ struct Found {
     late: u64,
 }
 
-/// A run of steps: what is played, whether the first commit is held until another slot has gone on, and the slots whose reports are
-/// looked at.
+/// A run of steps: what is played, whether the first commit is held until another slot has continued, and the slots whose reports
+/// are compared.
 #[derive(Clone, Copy)]
 struct Row<'a> {
     steps: &'a [(u8, Step)],
@@ -125,7 +125,7 @@ fn play<R: Threads + Wait + Clock + Sync>(rt: &R, alloc: Global, row: &Row<'_>) 
     )
 }
 
-/// All went well with so many actions, and one request of each of the two slots was answered.
+/// All succeeded with `count` actions, and one request of each of the two slots was answered.
 fn whole(count: u64) -> Found {
     Found {
         storage: Storage::Whole,

@@ -1,14 +1,14 @@
-//! Eighteen sources at once.
+//! Eighteen sources together.
 
 use crate::all_slots::{all_slots, callers};
 use crate::course::{Left, run_on};
 use crate::devices::formatted;
 use crate::folds::{Accepted, reopened};
 use crate::notes::Notes;
+use alm_desk::worked_table;
 use alm_disk::{Free, MemDisk};
 use alm_keeper::Keeper;
 use alm_rings::SlotReport;
-use alm_service::worked_table;
 use alm_store::Store;
 use alm_threads::Storage;
 use alm_types::Table;
@@ -30,8 +30,8 @@ const ALL: SlotReport = SlotReport {
     received: EACH,
 };
 
-/// What is left of a run: the storage, how many actions are stored, whether each slot has had all, and whether the device stands for what was
-/// noted.
+/// What is left of a run: the storage, how many actions are stored, whether each slot has had all, and whether the device encodes
+/// what was noted.
 #[derive(Clone, Copy, Debug)]
 struct Found {
     storage: Storage,

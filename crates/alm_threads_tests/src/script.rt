@@ -29,8 +29,8 @@ pub enum Step {
     SendAndLinger(Action),
 }
 
-/// Plays a step a turn, and notes what is wrong: a step that can't be played for long, and a look that is
-/// refused or shows something else.
+/// Plays a step a turn, and notes what is wrong: a step that can't be played for long, and a look that is refused or
+/// shows something else.
 #[derive(Drop)]
 pub struct Script {
     steps: Vec<Step>,

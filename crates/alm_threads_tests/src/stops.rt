@@ -1,20 +1,20 @@
-//! A source gets no turn once all threads are to stop.
+//! A source gets no turn after all threads are to stop.
 
 use alm_board::{Look, PlainBoard, PlainTold, Seen};
+use alm_desk::worked_table;
 use alm_model::{Alarms, PlainPlant};
 use alm_rings::{Console, Told, open_slot};
 use alm_run::{Bells, Flags, Go, Source, ThreadBell, run_source};
-use alm_service::worked_table;
 use alm_types::Slot;
 use std::alloc::Global;
 use std::sync::atomic::{AtomicU64, Ordering};
 use std::sync::{Arc, Wait};
 use std::test::Fail;
 
-/// How many turns the source wants.
+/// How many turns the source asks for.
 const TURNS: u64 = 3;
 
-/// A source that counts its turns, and ends behind the last. In one of them it has all threads stop.
+/// A source that counts its turns, and ends after the last. In one of them it has all threads stop.
 #[derive(Drop)]
 struct Counted<'f> {
     turns: Arc<AtomicU64, Global>,
@@ -36,7 +36,7 @@ impl<T: Told + Drop, L: Look<Told = T>> Source<T, L> for Counted<'_> {
     }
 }
 
-/// How many turns it gets, where the threads are to stop from so many turns on.
+/// How many turns it gets, if the threads are to stop from turn `stops_in` on.
 fn turns<R: Wait>(rt: &R, alloc: Global, stops_in: u64) -> Option<u64> {
     let slot = Slot::new(0)?;
     let (console, _inbox, _outbox) = open_slot::<PlainTold>(alloc, slot).ok()?;

@@ -1,17 +1,19 @@
-//! What a hold is told of looks, and what a look answers behind the end of its board.
+//! What a hold is informed of looks, and what a look answers after the end of its board.
 
-ghost use Rattle.std.specs.Prelude.{◌≡◌, ◌<◌, ◌≤◌, ◌^◌, length};
+ghost use Rattle.std.specs.Prelude.{◌≡◌, ◌↔◌, ◌<◌, ◌≤◌, ◌^◌, ℕ, List, length};
+ghost use Rattle.alm_model.specs.Plant.{Condensed};
 ghost use Rattle.alm_rings.specs.Placed.{AreApart};
 ghost use Rattle.alm_types.specs.Sizes.{most_actions};
 
 use crate::all_slots::all_slots;
 use crate::devices::formatted;
 use alm_board::Look;
+use alm_desk::worked_table;
 use alm_disk::{Hold, MemDisk};
 use alm_keeper::{Keeper, Phase};
+use alm_moments::RunId;
 use alm_run::Closes;
-use alm_service::worked_table;
-use alm_shared::{Naming, NewHistory};
+use alm_shared::NewRun;
 use alm_store::Store;
 use alm_threads::{Parts, parts_of};
 use alm_types::{AlarmId, Answer, Query, Refusal, Slot};
@@ -24,7 +26,7 @@ use std::test::Fail;
 /// The slot that looks.
 const SLOT: usize = 5;
 
-/// Notes how often it was told of a look, and whose the last one was.
+/// Notes how often it was informed of a look, and the slot of the last one.
 #[derive(Drop)]
 struct Noted {
     looks: AtomicU64,
@@ -56,27 +58,30 @@ fn looked_at<L: Look>(
     Some(look.look(Query::State(AlarmId(id)), answer))
 }
 
-/// What it answers of an alarm that there isn't, of one that there is, and of this one behind the end of the board.
+/// What it answers of an alarm that doesn't exist, of one that does, and of this one after the end of the board.
 type Answers = [Option<Result<u64, Refusal>>; 3];
 
 /// The same over a store.
-fn answers_over<J: Naming, K: Store, R: Wait>(
+fn answers_over<J: RunId, K: Store, R: Wait>(
     rt: &R,
     alloc: Global,
-    history: NewHistory,
+    new: NewRun,
     store: K,
     slots: Vec<Slot>,
     hold: &Noted,
 ) -> Option<Answers>
-    requires book { history.seen.book ≡ J.book }
-    requires base { (K.state store).stored ≡ J.base }
+    requires books { (new.history.seen.book ≡ J.book) × (new.moments.seen.book ≡ J.moments) }
+    requires base { J.base ≡ (K.state store).stored }
+    requires device { J.first ≡ K.Device.state (K.disk store) }
+    requires honest { ∥ (J.honest ↔ K.Device.honest (K.disk store)) ∥₁ }
+    requires recovers { ∥ ((b : List ℕ) (p : Condensed) → (J.recovers b p ↔ K.recovers b p)) ∥₁ }
     requires idle { (K.state store).phase ≡ Phase.Idle }
     requires limit { (K.state store).stored.panel.count ≤ most_actions }
     requires some { (0 < length slots.items) × (length slots.items < 2 ^ 32) }
     requires apart { AreApart (λ s. s) slots.items }
 {
     let mut answer = Answer::new(alloc);
-    let Ok(parts) = parts_of::<J, K, Noted, R>(rt, alloc, history, store, slots, hold) else {
+    let Ok(parts) = parts_of::<J, K, Noted, R>(rt, alloc, new, store, slots, hold) else {
         return None;
     };
     let Parts {
@@ -106,8 +111,8 @@ fn answers_on<K: Store, R: Wait>(
 {
     match K::open(alloc, disk) {
         Ok(store) => {
-            let history = NewHistory::new();
-            answers_over::<Brand, K, R>(rt, alloc, history, store, slots, hold)
+            let new = NewRun::new();
+            answers_over::<Brand, K, R>(rt, alloc, new, store, slots, hold)
         }
         Err(_) => None,
     }

@@ -17,7 +17,7 @@ alarm_of (Design i on) = i.0
 alarm_of (SetPriority i priority) = i.0
 alarm_of (SetSetpoint i setpoint) = i.0
 
--- what stands beside the alarm is within its type
+-- the argument besides the alarm is within its type
 abbrev pub HasArgument : Action → Type 0
 HasArgument (Clock t) = t < 2 ^ 40
 HasArgument (Value i v) = IsReading v

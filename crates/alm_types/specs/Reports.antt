@@ -1,7 +1,8 @@
 -- What an answer reports.
 use Rattle.std.specs.Prelude.{ℕ, List, Bool, Option}
 use Rattle.alm_types.specs.declared.query.Query.{Query}
-use Rattle.alm_types.specs.declared.query.Query.TheVariants.{State, Priority, Area, Wheel, Flood, Stale, Chatter}
+use Rattle.alm_types.specs.declared.query.Query.TheVariants.{State, Priority, Area, Wheel, Flood, Stale, Chatter, Plant, Attributes}
+use Rattle.alm_types.specs.declared.attr.Attr.{Attr}
 use Rattle.alm_types.specs.declared.answer.Answer.{Answer}
 use Rattle.alm_types.specs.declared.shown.Shown.{Shown}
 
@@ -12,6 +13,10 @@ pub data Report : Type 0 where
   flood : ℕ → Bool → Report
   -- a list of alarms
   alarms : List ℕ → Report
+  -- the plant's moment, and how many alarms and areas it has
+  plant : ℕ → ℕ → ℕ → Report
+  -- the attributes of an alarm; those of none are in no answer of a plant
+  attributes : Option Attr → Report
 
 -- what an answer reports to a query
 abbrev pub report : Query → Answer → Report
@@ -22,3 +27,5 @@ report (Area n) a = alarms a.list.items
 report (Wheel n) a = alarms a.list.items
 report Stale a = alarms a.list.items
 report Chatter a = alarms a.list.items
+report Plant a = plant a.moment a.alarms a.areas
+report (Attributes i) a = attributes a.attr

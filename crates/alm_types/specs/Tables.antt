@@ -16,7 +16,7 @@ pub record IsTable (t : Listing) : Type 0 where
   pub areas : (1 ≤ t.areas) × (t.areas ≤ most_areas)
   pub in_areas : All (λ a. a.area < t.areas) t.alarms
 
--- the first thing that is wrong; of the alarms, the first whose area there is not
+-- the first thing that is wrong; for the alarms, the first whose area does not exist
 abbrev pub table_fault : List Attr → ℕ → Option TableFault
 table_fault alarms areas =
     if length alarms == 0 then Some NoRows

@@ -18,7 +18,7 @@ pub enum Action {
     Ack(AlarmId),
     /// The operator resets a latched alarm.
     Reset(AlarmId),
-    /// The operator shelves for so many seconds.
+    /// The operator shelves for this number of seconds.
     Shelve(AlarmId, u32),
     /// The operator ends a shelving.
     Unshelve(AlarmId),
@@ -26,7 +26,7 @@ pub enum Action {
     Oos(AlarmId, bool),
     /// Suppressed by design, on or off.
     Design(AlarmId, bool),
-    /// The operator gives the alarm another priority, which may be out of its limits.
+    /// The operator gives the alarm another priority, which may be out of range.
     SetPriority(AlarmId, u32),
     /// The operator gives the alarm another setpoint.
     SetSetpoint(AlarmId, Reading),

@@ -4,11 +4,12 @@ ghost use Rattle.std.specs.Prelude.{◌≡◌, ◌<◌, ◌≤◌, OnOk, OnErr, 
 ghost use Rattle.alm_types.specs.Counts.{one_more};
 ghost use Rattle.alm_types.specs.declared.shown.Shown.TheVariants.{Normal};
 
+use crate::attr::Attr;
 use crate::refused_growths::RefusedGrowths;
 use crate::shown::Shown;
 use std::alloc::{AllocError, Global};
 
-/// What a plant answers to a query. Of the fields only those that the query asks for are of use.
+/// What a plant answers to a query. Only the fields that the query asks for are of use.
 #[derive(Drop)]
 pub struct Answer {
     pub shown: Shown,
@@ -22,17 +23,27 @@ pub struct Answer {
     pub window: u64,
     pub flood: bool,
     pub list: Vec<u32>,
+    /// The plant's moment, in seconds.
+    pub moment: u64,
+    /// How many alarms the plant has.
+    pub alarms: u64,
+    /// How many areas the plant has.
+    pub areas: u64,
+    /// The attributes of an alarm that are in force.
+    pub attr: Option<Attr>,
     /// How many growths of the list were refused.
     pub refused: RefusedGrowths,
 }
 
 impl Answer {
-    /// An answer that tells nothing yet; it takes no memory.
+    /// An answer with nothing in it yet; it takes no memory.
     pub fn new(alloc: Global) -> Self
         ensures alarm { (result.shown ≡ Normal) × (result.active ≡ false) × (result.flags ≡ 0) ×
             (result.until ≡ None) }
         ensures flood { (result.window ≡ 0) × (result.flood ≡ false) }
         ensures list { result.list.items ≡ [] }
+        ensures plant { (result.moment ≡ 0) × (result.alarms ≡ 0) × (result.areas ≡ 0) }
+        ensures attr { result.attr ≡ None }
         ensures refused { result.refused ≡ 0 }
     {
         Answer {
@@ -43,11 +54,15 @@ impl Answer {
             window: 0,
             flood: false,
             list: Vec::new(alloc),
+            moment: 0,
+            alarms: 0,
+            areas: 0,
+            attr: None,
             refused: RefusedGrowths::none(),
         }
     }
 
-    /// Takes room for a list of so many alarms, and counts a refused growth; all else stays.
+    /// Reserves room for a list of `alarms` alarms, and counts a refused growth; all else stays.
     pub fn reserve(&mut self, alarms: usize) -> Result<(), AllocError>
         ensures room { OnOk result (alarms ≤ vec_capacity self.new.list) }
         ensures whole { OnOk result (self.new.refused ≡ self.old.refused) }
@@ -57,6 +72,9 @@ impl Answer {
         ensures alarm { (self.new.shown ≡ self.old.shown) × (self.new.active ≡ self.old.active) ×
             (self.new.flags ≡ self.old.flags) × (self.new.until ≡ self.old.until) }
         ensures flood { (self.new.window ≡ self.old.window) × (self.new.flood ≡ self.old.flood) }
+        ensures plant { (self.new.moment ≡ self.old.moment) × (self.new.alarms ≡ self.old.alarms) ×
+            (self.new.areas ≡ self.old.areas) }
+        ensures attr { self.new.attr ≡ self.old.attr }
     {
         self.refused.reserve(&mut self.list, alarms)
     }

@@ -19,15 +19,16 @@ use crate::text::Text;
 pub struct Attr {
     pub kind: Kind,
     pub setpoint: Reading,
-    /// How far a value has to go back behind the setpoint; 0 for a discrete alarm.
+    /// The deadband: how far a value must return past the setpoint; 0 for a discrete alarm.
     pub deadband: u64,
     /// 1, the highest, to 4.
     pub priority: u8,
     /// The operating position, below [`MOST_AREAS`].
     pub area: u8,
-    /// Whether the alarm, once acknowledged and gone, stays annunciated until it is reset.
+    /// Whether the alarm stays annunciated until it is reset, after it was acknowledged and its condition no longer
+    /// holds.
     pub latching: bool,
-    /// The longest shelving in seconds; 0 where the alarm may not be shelved.
+    /// The longest shelving in seconds; 0 if the alarm may not be shelved.
     pub max_shelve: u32,
     pub tag: Tag,
     pub text: Text,
@@ -45,7 +46,8 @@ impl Attr {
     ghost use Rattle.alm_types.specs.Attributes.{attr_fault};
     ghost use Rattle.alm_types.specs.Changes.{with_priority, with_setpoint};
 
-    /// Attributes in their limits, or the first that is not: setpoint, deadband, priority, area, max_shelve, tag, text.
+    /// Attributes within their limits, or the first that is not: setpoint, deadband, priority, area, max_shelve, tag,
+    /// text.
     pub fn new(settings: Settings, tag: &[u8], text: &[u8]) -> Result<Self, AttrFault>
         ensures good { OnOk result (attr_fault settings tag.now text.now ≡ None) }
         ensures fault { IfErr result (λ fault. attr_fault settings tag.now text.now ≡ Some fault) }

@@ -32,7 +32,7 @@ impl Model for Batch {
 }
 
 impl Batch {
-    /// An empty batch for a plant that had no action; an error only for want of memory.
+    /// An empty batch for a plant without actions; an error only if out of memory.
     pub fn new(alloc: Global) -> Result<Self, AllocError>
         ensures { IfOk result (λ batch. batch ≡ record { first = 1; entries = [] }) }
     {
@@ -63,7 +63,7 @@ impl Batch {
         self.entries.len() == MOST_ENTRIES
     }
 
-    /// Puts an entry behind the others, without memory.
+    /// Appends an entry, without taking memory.
     pub fn push(&mut self, entry: Entry)
         requires { length self.old.entries < most_entries }
         ensures { self.new ≡

@@ -16,13 +16,13 @@
 //! | [`Table`] | 1 to 16,384 alarms in 1 to 64 areas | `Table::new` |
 //! | [`Batch`] | at most 256 entries, their room reserved | `Batch::new` |
 //!
-//! Beside them stand the words that pass between the parts of the server: [`Action`], [`Request`], [`Verdict`],
+//! There are also the values that pass between the parts of the server: [`Action`], [`Request`], [`Verdict`],
 //! [`Refusal`], [`Entry`], [`Query`] and [`Answer`].
 //!
 //! What is used above: a value is in its range. Limits, formats and refusals are this project's own.
 //!
-//! Not promised: that there is an alarm of an `AlarmId`'s number, which the plant says; that an [`Answer`] tells of one plant,
-//! which the call that fills it says; and any order between the slots of a [`Request`].
+//! Not covered: that an alarm with the number of an `AlarmId` exists, which the plant says; that an [`Answer`] is about one
+//! plant, which the call that fills it says. No order between the slots of a [`Request`] is covered either.
 #![tactic(auto)]
 
 mod action;

@@ -28,7 +28,7 @@ impl Moment {
         Moment { seconds: 0 }
     }
 
-    /// The moment so many seconds from the start; `None` from 2^40 on.
+    /// The moment `seconds` seconds from the start; `None` from 2^40 on.
     pub fn new(seconds: u64) -> Option<Self>
         ensures { SomeIff result (seconds < 2 ^ 40) seconds }
     {

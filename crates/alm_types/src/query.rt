@@ -19,4 +19,8 @@ pub enum Query {
     Stale,
     /// The alarms annunciated three times or more within a minute.
     Chatter,
+    /// The plant's moment, and how many alarms and areas it has.
+    Plant,
+    /// The attributes of an alarm that are in force.
+    Attributes(AlarmId),
 }

@@ -15,9 +15,9 @@ pub enum Refusal {
     NotShelved,
     /// No seconds, or more than the alarm's max_shelve.
     ShelveLength,
-    /// The flag stands already.
+    /// The flag is set already.
     AlreadySet,
-    /// The flag doesn't stand.
+    /// The flag isn't set.
     NotSet,
     /// The value changes no condition.
     NoChange,
@@ -27,7 +27,7 @@ pub enum Refusal {
     WrongRole,
     /// The slot has 64 unanswered requests. No reply line has this.
     Busy,
-    /// The line is none of the protocol's.
+    /// The line is not one of the protocol's.
     BadLine,
     /// The line has more than 128 bytes.
     LineTooLong,

@@ -6,7 +6,7 @@ ghost use Rattle.alm_types.specs.Counts.{one_more};
 use std::alloc::AllocError;
 use std::marker::Model;
 
-/// How many growths of a list were refused, up to the greatest number. Nothing but `reserve` counts one.
+/// How many growths of a list were refused, up to the greatest number. Only `reserve` counts one.
 #[derive(Drop)]
 pub struct RefusedGrowths {
     count: u64,
@@ -27,7 +27,7 @@ impl RefusedGrowths {
         RefusedGrowths { count: 0 }
     }
 
-    /// Takes room for so many numbers in all, and counts a refused growth; the list stays.
+    /// Reserves room for `numbers` numbers in all, and counts a refused growth; the list stays.
     pub fn reserve(&mut self, list: &mut Vec<u32>, numbers: usize) -> Result<(), AllocError>
         ensures room { OnOk result (numbers ≤ vec_capacity list.new) }
         ensures whole { OnOk result (self.new ≡ self.old) }

@@ -2,7 +2,7 @@
 
 use crate::kind::Kind;
 
-/// The numbers of an alarm as they were asked for: they may be out of their limits.
+/// The numbers of an alarm as they were asked for: they may be out of range.
 #[derive(Clone, Copy, Debug, PartialEq, Eq)]
 pub struct Settings {
     pub kind: Kind,

@@ -30,7 +30,7 @@ impl Model for Table {
     ghost invariant = { λ t. IsTable (record { alarms = t.alarms.items; areas = t.areas }) };
 }
 
-/// The first alarm whose area there is not.
+/// The first alarm whose area does not exist.
 fn outside(alarms: &[Attr], areas: u8) -> Option<usize>
     ensures first { result ≡ position (λ a. nat_le areas a.area) alarms.now }
     ensures none { IfNone result (All (λ a. a.area < areas) alarms.now) }

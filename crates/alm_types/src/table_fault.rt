@@ -9,6 +9,6 @@ pub enum TableFault {
     TooManyRows,
     /// It has no area, or more than 64.
     Areas,
-    /// The alarm of this number, the first such, is in an area that there is not.
+    /// The alarm of this number, the first such, is in an area that does not exist.
     AreaOf(u32),
 }

@@ -8,6 +8,6 @@ use crate::refusal::Refusal;
 pub enum Verdict {
     /// The plant has taken the action.
     Accepted(Action),
-    /// With the count of actions against which the request was refused.
+    /// With the count of actions at which the request was refused.
     Refused(Refusal, u64),
 }

@@ -1,4 +1,4 @@
-//! Attributes: the fault of each value beyond its limit, and which of several is told.
+//! Attributes: the fault of each value beyond its limit, and which of several is reported.
 
 use alm_types::{Attr, AttrFault, Kind, Settings};
 

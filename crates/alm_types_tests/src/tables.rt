@@ -20,7 +20,7 @@ fn alarm(area: u8) -> Result<Attr, Fail> {
     Ok(Attr::new(settings, b"T", b"")?)
 }
 
-/// The fault of a table of so many alarms of an area.
+/// The fault of a table of `rows` alarms of an area.
 fn fault(alloc: Global, rows: usize, area: u8, areas: u8) -> Result<Option<TableFault>, Fail> {
     let alarms = vec![in alloc; alarm(area)?; rows]?;
     Ok(Table::new(alarms, areas).err())
@@ -64,7 +64,7 @@ fn the_first_alarm_in_no_area(rt: HostRuntime) -> Result<(), Fail> {
     Ok(())
 }
 
-/// Whether a table has two areas and, behind one more alarm, an alarm of the second one.
+/// Whether a table has two areas and, after one more alarm, an alarm of the second one.
 fn has_its_rows(table: &Table) -> bool {
     match table.alarms() {
         [_, alarm] => {

@@ -55,7 +55,7 @@ met_once : (o : Option ℕ) (from n : ℕ) → n ≤ 256 → met o from n ≤ 1
 met_once None from n h = omega (arith, met_none from n)
 met_once (Some s) from n h = met_few s from n h
 
--- how often a node stands in those slots
+-- how often a node is in those slots
 pub times-nodes_behind : (deadlines : List (Option ℕ)) (f : Lists) (i from n : ℕ) → IsWheel deadlines f → i < length deadlines
     → times i (nodes_behind f.lists from n) ≡ met (option_map slot_of (deadline_of deadlines i)) from n
 times-nodes_behind deadlines f i from zero w h = refl

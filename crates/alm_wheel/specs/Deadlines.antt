@@ -1,4 +1,4 @@
--- Deadlines of nodes, and the slots in which the nodes stand.
+-- Deadlines of nodes, and the slots that the nodes are in.
 use Rattle.std.specs.Prelude.{ℕ, ◌%◌, List, Bool, false, ◌&&◌, Option, Some, None, unwrap_or, nat_lt, nat_le, slice_index_or}
 
 -- for each node its deadline, and for each slot its nodes
@@ -18,7 +18,7 @@ slot_of deadline = deadline % wheel_size
 abbrev pub deadline_of : List (Option ℕ) → ℕ → Option ℕ
 deadline_of deadlines node = slice_index_or deadlines node None
 
--- whether a deadline lies behind one moment, and at another or before it
+-- whether a deadline is after one moment, and at another or before it
 abbrev pub is_between : ℕ → ℕ → Option ℕ → Bool
 is_between from to None = false
 is_between from to (Some deadline) = nat_lt from deadline && nat_le deadline to
@@ -27,6 +27,6 @@ is_between from to (Some deadline) = nat_lt from deadline && nat_le deadline to
 abbrev pub is_deadline_due : ℕ → ℕ → List (Option ℕ) → ℕ → Bool
 is_deadline_due from to deadlines node = is_between from to (deadline_of deadlines node)
 
--- the deadline of a node as a number to sort by, 0 where it has none
+-- the deadline of a node as a number to sort by, 0 if it has none
 abbrev pub deadline_key : List (Option ℕ) → ℕ → ℕ
 deadline_key deadlines node = unwrap_or (deadline_of deadlines node) 0

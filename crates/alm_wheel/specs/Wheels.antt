@@ -1,4 +1,4 @@
--- What a wheel stands for, and what holds of it.
+-- The slots that a wheel holds, and what is true of them.
 use Rattle.std.specs.Prelude.{ℕ, ◌+◌, ◌<◌, ◌≡◌, List, [], ◌++◌, Option, option_map, length, suc, zero}
 use Rattle.std.specs.List.{AllByRecursion}
 use Rattle.alm_lists.specs.Lists.{times}
@@ -6,7 +6,7 @@ use Rattle.alm_links.specs.Lists.{Lists, nodes_of, once}
 use Rattle.alm_wheel.specs.Deadlines.{Schedule, wheel_size, slot_of, deadline_of}
 use Rattle.alm_wheel.specs.declared.wheel.Wheel.TheInside.{Inside}
 
--- each node with a deadline stands once in its slot, and no other node stands in one
+-- each node with a deadline is once in its slot, and no other node is in a slot
 pub record IsWheel (deadlines : List (Option ℕ)) (slots : Lists) : Type 0 where
   pub nodes : slots.nodes ≡ length deadlines
   pub count : length slots.lists ≡ wheel_size
@@ -19,7 +19,7 @@ schedule_of w = record { deadlines = w.deadlines.items; slots = w.slots.lists }
 abbrev pub IsSoundWheel : Inside → Type 0
 IsSoundWheel w = IsWheel w.deadlines.items w.slots
 
--- the nodes of the slots of so many moments behind one
+-- the nodes of the slots of a number of moments after one
 abbrev pub nodes_behind : List (List ℕ) → ℕ → ℕ → List ℕ
 nodes_behind slots from zero = []
 nodes_behind slots from (suc n) = nodes_behind slots from n ++ nodes_of slots (slot_of (from + 1 + n))

@@ -9,7 +9,7 @@ ghost use Rattle.alm_model.specs.Rising.{Rises, RisesByStamp, is_by_stamp};
 ghost use Rattle.alm_model.specs.Rules.{KeepsRules};
 ghost use Rattle.alm_model.specs.declared.list.List.{List as Choice};
 
-/// Each list by stamp has the alarms that stand in it, each once, and rises strictly by stamp.
+/// Each list by stamp has exactly the alarms that belong to it, each once, and rises strictly by stamp.
 pub fn lists_rise_by_stamp()
     ensures permutation { (q : Condensed) (list : Choice) → is_by_stamp list ≡ true →
         IsPermutation (alarms (stands_in list) q.panel.attrs q.panel.rows) (list_of list q) }
@@ -17,7 +17,7 @@ pub fn lists_rise_by_stamp()
         RisesByStamp q.panel (list_of list q) }
 {}
 
-/// What rises strictly by stamp and has just the alarms that stand in a list is that list.
+/// A list that rises strictly by stamp and consists of exactly the alarms that belong to it is that list.
 pub fn rising_by_stamp_is_list()
     ensures { (q : Condensed) (list : Choice) (out : List ℕ) → is_by_stamp list ≡ true →
         RisesByStamp q.panel out →
@@ -38,7 +38,7 @@ pub fn alarms_rise_by_key()
         Rises (λ i. key_of key (slice_get rows i)) (alarms_by key test attrs rows) }
 {}
 
-/// What rises by key, then number, and has just the alarms that pass is that list.
+/// A list that rises by key, then number, and consists of exactly the alarms that pass is that list.
 pub fn rising_by_key_is_list()
     ensures { (key : State → ℕ) (test : Attr → State → Bool) (attrs : List Attr) (rows : List State)
         (out : List ℕ) → Rises (λ i. key_of key (slice_get rows i)) out →

@@ -4,7 +4,7 @@ use alm_types::{Action, AlarmId, Attr, Kind, Moment, Reading, Request, Settings,
 use anyhow::{Result, anyhow};
 use std::alloc::{AllocError, Global};
 
-/// A table of so many alarms in one area.
+/// A table of `alarms` alarms in one area.
 pub fn table(alloc: Global, alarms: usize) -> Result<Table> {
     let settings = Settings {
         kind: Kind::High,
@@ -41,9 +41,9 @@ impl Values {
 /// What is asked in a turn.
 #[derive(Clone, Copy)]
 pub enum Course {
-    /// So many acknowledgements of each slot, none of which is admitted.
+    /// A number of acknowledgements of each slot, none of which is admitted.
     Refused { slots: u8, each: u8 },
-    /// So many values that bring alarms up or down, and as many moments after one.
+    /// A number of values that bring alarms up or down, and as many moments after one.
     Accepted { each: u32, after: u64 },
 }
 

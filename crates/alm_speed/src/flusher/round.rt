@@ -4,7 +4,7 @@ use alm_flush_tests::parts::Parts;
 use alm_store::Store;
 use alm_types::{Request, Verdict};
 
-/// These requests go their way in one batch: how many receipts came, those of accepted actions twice.
+/// These requests pass through in one batch: how many receipts came, those of accepted actions twice.
 pub fn round<K: Store>(parts: &mut Parts<K>, asked: &[Request]) -> u64 {
     send(parts, asked);
     take(parts, asked);

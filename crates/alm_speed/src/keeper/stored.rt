@@ -17,7 +17,7 @@ const ACTIONS: u32 = 256;
 /// More calls than the longest work makes: a checkpoint of 51 pieces.
 const MOST_CALLS: u32 = 64;
 
-/// A table of so many alarms in 64 areas.
+/// A table of `alarms` alarms in 64 areas.
 pub fn table(alloc: Global, alarms: u32) -> Result<Table> {
     let mut attrs = Vec::with_capacity(alloc, alarms as usize)?;
     for number in 0..alarms {
@@ -35,7 +35,8 @@ pub fn table(alloc: Global, alarms: u32) -> Result<Table> {
     Table::new(attrs, AREAS as u8).map_err(|_| anyhow!("table"))
 }
 
-/// Fills a batch with the values of a turn: alarm after alarm comes, and once all have, one after the other goes.
+/// Fills a batch with the values of a turn: the conditions of the alarms come one after the other, and after all have
+/// come, they go one after the other.
 fn fill(batch: &mut Batch, alarms: u32, turn: u32) {
     let first = turn.wrapping_mul(ACTIONS);
     batch.restart(u64::from(first) + 1);
@@ -60,7 +61,7 @@ fn fill(batch: &mut Batch, alarms: u32, turn: u32) {
     }
 }
 
-/// The calls of the work that is begun; 1 where it was done.
+/// The calls of the work that is begun; 1 if it was done.
 fn finish<D: Disk + Drop>(keeper: &mut Keeper<D>) -> u32 {
     for _call in 0..MOST_CALLS {
         if keeper.is_working() {
@@ -84,7 +85,7 @@ fn commit<D: Disk + Drop>(keeper: &mut Keeper<D>, batch: &Batch) -> u32 {
     }
 }
 
-/// So many commits of 256 values; how many were done.
+/// A number of commits of 256 values; how many were done.
 pub fn commit_all<D: Disk + Drop>(
     keeper: &mut Keeper<D>,
     batch: &mut Batch,
@@ -99,12 +100,12 @@ pub fn commit_all<D: Disk + Drop>(
     done
 }
 
-/// The body of a checkpoint is made in the keeper's buffer: 1 where it was.
+/// The body of a checkpoint is made in the keeper's buffer: 1 if it was.
 pub fn begin_copy<D: Disk + Drop>(keeper: &mut Keeper<D>) -> u32 {
     u32::from(keeper.begin_checkpoint().is_ok())
 }
 
-/// Its calls; 1 where it was done.
+/// Its calls; 1 if it was done.
 pub fn end_copy<D: Disk + Drop>(keeper: &mut Keeper<D>) -> u32 {
     finish(keeper)
 }

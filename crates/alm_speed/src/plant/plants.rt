@@ -56,7 +56,7 @@ impl Senders {
     }
 }
 
-/// Does an action where it is accepted; how many were.
+/// Does an action if it is accepted; how many were.
 pub fn send<P: Alarms>(plant: &mut P, slot: Slot, want: Action) -> u32 {
     match plant.check(&Request { slot, want }) {
         Ok(action) => {

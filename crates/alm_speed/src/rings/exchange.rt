@@ -15,7 +15,7 @@ use std::thread::Threads;
 /// The most requests or receipts of one turn.
 const TURN: usize = 64;
 
-/// How many times a processor pauses before it looks for receipts: each look delays who releases them.
+/// How many times a processor pauses before it polls for receipts: each poll delays the thread that releases them.
 const PAUSES: u32 = 40;
 
 fn pause() {
@@ -24,7 +24,7 @@ fn pause() {
     }
 }
 
-/// Sends as many requests as go, and gives the serial of the last.
+/// Sends as many requests as it can, and returns the serial of the last.
 fn send(console: &mut Console<Untold>, requests: u64) -> Option<u64>
     ensures { SameConsole console.old console.new }
 {
@@ -41,7 +41,7 @@ fn send(console: &mut Console<Untold>, requests: u64) -> Option<u64>
     last
 }
 
-/// Receives what has come, and gives the serial of the last receipt.
+/// Receives what has come, and returns the serial of the last receipt.
 fn receive(console: &mut Console<Untold>) -> Option<u64>
     ensures { SameConsole console.old console.new }
 {
@@ -58,7 +58,7 @@ fn receive(console: &mut Console<Untold>) -> Option<u64>
     last
 }
 
-/// Sends so many requests and receives their receipts, by turns: as many as go, then as many as have come.
+/// Sends `requests` requests and receives their receipts, by turns: as many as can be sent, then as many as have come.
 fn ask(rt: &impl Wait, console: Console<Untold>, requests: u64) -> Console<Untold>
     ensures { SameConsole console result }
 {
@@ -82,7 +82,7 @@ fn ask(rt: &impl Wait, console: Console<Untold>, requests: u64) -> Console<Untol
     console
 }
 
-/// Answers so many requests, each as it comes.
+/// Answers a number of requests, each as it comes.
 fn answer(
     rt: &impl Wait,
     inbox: Inbox,
@@ -109,7 +109,7 @@ fn answer(
     (inbox, outbox)
 }
 
-/// So many requests go through a slot, and come to its report.
+/// Sends a number of requests through a slot, up to its report.
 pub fn exchange<R: Threads + Wait + Sync>(
     rt: &R,
     alloc: Global,

@@ -1,4 +1,4 @@
-//! Receipts that tell nothing new.
+//! Receipts that report nothing new.
 
 use alm_rings::{Receipt, Told};
 use alm_types::{Action, Refusal, Verdict};
@@ -6,7 +6,7 @@ use alm_types::{Action, Refusal, Verdict};
 /// How many actions the plant had when the server was opened.
 const COUNT: u64 = 1000;
 
-/// Tells an empty list, of a server that was opened with so many actions.
+/// Reports an empty list, of a server that was opened with a number of actions.
 #[derive(Drop)]
 pub struct Untold;
 
@@ -18,7 +18,7 @@ impl Told for Untold {
     ghost list = { λ _. [] };
 }
 
-/// The request of this serial was refused, against so many actions.
+/// The request of this serial was refused, at a count of actions.
 pub fn refused(serial: u64, request: Action) -> Receipt<Untold> {
     let refusal = match request {
         Action::Ack(_) => Refusal::NotUnacknowledged,

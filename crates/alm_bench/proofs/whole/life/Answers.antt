@@ -3,7 +3,7 @@ use Rattle.alm_disk.specs.Device.{DeviceState}
 use Rattle.alm_keeper.specs.AsStore.{StandsFor, IsLastEpoch}
 use Rattle.alm_pipeline.specs.World.{closed_world, first}
 use Rattle.alm_pipeline.specs.Headline.{Sight, IsRun, after_steps, device_alone}
-use Rattle.alm_bench.specs.Stands.{sight_of}
+use Rattle.alm_bench.specs.Stands.{bench_sight}
 use Rattle.alm_bench.proofs.Carried.{stands_honest}
 use Rattle.alm_bench.proofs.Traces.{safe_by_trace}
 use Rattle.alm_bench.proofs.whole.life.Goals as goal
@@ -14,7 +14,7 @@ returns-in-Ok-clause-run g c = λ honest plant all.
     let at = c.closed-bench.ensures.stands honest plant all in
     let trace = c.in-Ok.trace in
     let back = c.into_disk.ensures in
-    let end = sight_of c.run.new.self in
+    let end = bench_sight c.run.new.self in
     let left : end ≡ record { state = g.D.Disk.state c.into_disk.result; failures = g.D.Disk.failures c.into_disk.result; phase = end.phase; refused = end.refused } = (λ i. record { state = sym back.state i; failures = sym back.failures i; phase = end.phase; refused = end.refused }) in
     let from = c.closed-bench.ensures.device in (
       back.honest.0 (stands_honest (after_steps w c.args.steps.now trace.items) c.run.new.self.setup (c.in-Ok.ensures.stands w at)),

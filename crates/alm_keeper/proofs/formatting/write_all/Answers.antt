@@ -5,7 +5,7 @@ use Rattle.alm_checkpoint.specs.Layouts.{layout_byte}
 use Rattle.alm_keeper.specs.Formatting.{with_empty_half, with_open_gate}
 use Rattle.alm_keeper.proofs.Formed.{ok_map, err_of, may_be}
 use Rattle.std.proofs.Common.{◌++◌}
-use Rattle.alm_keeper.specs.Formatting.{IsShut, IsGateClosed, IsOpened, IsWritten}
+use Rattle.alm_keeper.specs.Formatting.{IsShut, IsGateClosed, IsWithGateOpen, IsWritten}
 use Rattle.alm_keeper.specs.Moments.{FormatMoment, Never, close_calls, behind_calls, open_calls}
 use Rattle.alm_keeper.proofs.Moments.{goes_on, goes_by, more_left, some_by, some_after, moment_by, err_map}
 use Rattle.alm_keeper.proofs.formatting.write_all.Goals as goal
@@ -93,8 +93,8 @@ returns-clause-goes g c =
     let R = g.D.Disk.honest d2 × IsGateClosed (g.D.Disk.state d2) in
     let settled = λ (p : P). c.in_ok-write_behind.ensures.filled (to_q p).0 (c.in_ok-close_header.ensures.settled p.0).sound in
     let to_r : P → R = λ p. (c.write_behind.ensures.honest.0 (to_q p).0, (record { reads = refl; nothing_pending = (settled p).nothing_pending; sound = (settled p).sound }, (c.in_ok-write_behind.ensures.shut (to_q p).0 (to_q p).1).closed)) in
-    let opening = moment_by g.D.Disk.serves g.D.Disk.state P R (IsOpened (g.D.Disk.state d2)) W to_r (λ p b is. record { before = (g.D.Disk.state d1).bytes; long = g.met.D.Disk.whole d1 (to_q p).0 ∙ c.close_header.ensures.size; is = is ∙ ap with_open_gate (settled p).reads }) in
-    let O = FormatMoment g.D.Disk.serves g.D.Disk.state R (IsOpened (g.D.Disk.state d2)) in
+    let opening = moment_by g.D.Disk.serves g.D.Disk.state P R (IsWithGateOpen (g.D.Disk.state d2)) W to_r (λ p b is. record { before = (g.D.Disk.state d1).bytes; long = g.met.D.Disk.whole d1 (to_q p).0 ∙ c.close_header.ensures.size; is = is ∙ ap with_open_gate (settled p).reads }) in
+    let O = FormatMoment g.D.Disk.serves g.D.Disk.state R (IsWithGateOpen (g.D.Disk.state d2)) in
     ok_map c.open_header.result (λ more. goes_on S d0 d1 d3 close_calls (behind_calls l ++ open_calls) first (goes_on S d1 d2 d3 (behind_calls l) open_calls second (goes_by O S opening d2 d3 open_calls more))) c.open_header.ensures.goes
 
 pub returns-clause-fails : goal.returns-clause-fails
@@ -116,6 +116,6 @@ returns-clause-fails g c =
     let R = g.D.Disk.honest d2 × IsGateClosed (g.D.Disk.state d2) in
     let settled = λ (p : P). c.in_ok-write_behind.ensures.filled (to_q p).0 (c.in_ok-close_header.ensures.settled p.0).sound in
     let to_r : P → R = λ p. (c.write_behind.ensures.honest.0 (to_q p).0, (record { reads = refl; nothing_pending = (settled p).nothing_pending; sound = (settled p).sound }, (c.in_ok-write_behind.ensures.shut (to_q p).0 (to_q p).1).closed)) in
-    let opening = moment_by g.D.Disk.serves g.D.Disk.state P R (IsOpened (g.D.Disk.state d2)) W to_r (λ p b is. record { before = (g.D.Disk.state d1).bytes; long = g.met.D.Disk.whole d1 (to_q p).0 ∙ c.close_header.ensures.size; is = is ∙ ap with_open_gate (settled p).reads }) in
-    let O = FormatMoment g.D.Disk.serves g.D.Disk.state R (IsOpened (g.D.Disk.state d2)) in
+    let opening = moment_by g.D.Disk.serves g.D.Disk.state P R (IsWithGateOpen (g.D.Disk.state d2)) W to_r (λ p b is. record { before = (g.D.Disk.state d1).bytes; long = g.met.D.Disk.whole d1 (to_q p).0 ∙ c.close_header.ensures.size; is = is ∙ ap with_open_gate (settled p).reads }) in
+    let O = FormatMoment g.D.Disk.serves g.D.Disk.state R (IsWithGateOpen (g.D.Disk.state d2)) in
     err_map c.open_header.result (λ more. some_after S d0 d1 d3 close_calls (behind_calls l ++ open_calls) first (some_after S d1 d2 d3 (behind_calls l) open_calls second (some_by O S opening d2 d3 open_calls more))) c.open_header.ensures.fails

@@ -2,7 +2,7 @@ use Rattle.std.proofs.Common.{ℕ, List, refl, sym, subst}
 use Rattle.alm_disk.specs.Device.{IsImage}
 use Rattle.alm_disk.specs.Settled.{IsSettled}
 use Rattle.alm_disk.proofs.Images.{settled_image}
-use Rattle.alm_keeper.specs.Opening.{Opens}
+use Rattle.alm_keeper.specs.Opening.{OpensAs}
 use Rattle.alm_keeper.proofs.Opened.{on_ok}
 use Rattle.alm_keeper.proofs.Made.{done_behind, ends_synced, ends_unsynced}
 use Rattle.alm_keeper.proofs.opening.open_book.Goals as goal
@@ -31,7 +31,7 @@ returns-in-Ok-clause-opens g c = λ honest.
     let now = c.sync.ensures.honest.0 honest in
     let settled : IsSettled one one.bytes = record { reads = refl; nothing_pending = s.nothing_pending; sound = s.done } in
     let kept = c.read_book.ensures.keeps one.bytes now settled in
-    subst (λ (b : List ℕ). Opens b c.read_book.result) (sym kept.reads) (c.read_book.ensures.opens one.bytes now settled (g.met.D.Disk.own_image c.sync.new.self now).bytes (g.met.D.Disk.whole c.sync.new.self now))
+    subst (λ (b : List ℕ). OpensAs b c.read_book.result) (sym kept.reads) (c.read_book.ensures.opens one.bytes now settled (g.met.D.Disk.own_image c.sync.new.self now).bytes (g.met.D.Disk.whole c.sync.new.self now))
 
 pub returns-in-Ok-clause-made : goal.returns-in-Ok-clause-made
 returns-in-Ok-clause-made g c = done_behind g.D.Disk.serves c.args.disk.now c.sync.new.self c.read_book.new.disk c.read_book.result c.in-Ok.ensures.serves c.read_book.ensures.made

@@ -7,7 +7,7 @@ use Rattle.alm_lines.specs.Reply.{query_word, report_text}
 use Rattle.alm_lines.proofs.Prefixes.{prints_err, prints_then, prints_same, cut_in_first, cut_in_second, cut_same}
 use Rattle.alm_lines.proofs.printing.print_query.Goals as goal
 
--- the head, what is told and the line's end
+-- the head, the answer and the line's end
 joined : (id word n told end : List ℕ) → (id ++ (word ++ (n ++ []))) ++ (told ++ end) ≡ id ++ word ++ n ++ told ++ end
 joined id word n told end =
     ap (λ (t : List ℕ). (id ++ (word ++ t)) ++ (told ++ end)) (append-nil n)

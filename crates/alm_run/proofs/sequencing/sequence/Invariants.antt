@@ -1,6 +1,6 @@
 use Rattle.std.specs.Prelude.{◌≡◌}
 use Rattle.alm_rings.specs.Batches.{SameSealEnds}
-use Rattle.alm_seq.specs.Sequences.{SameInboxes, base_of}
+use Rattle.alm_seq.specs.Sequences.{SameInboxes, live_base}
 use Rattle.alm_run.specs.Serving.{ServesSlots}
 use Rattle.alm_run.proofs.sequencing.sequence.Given as goal
 
@@ -9,5 +9,5 @@ invariant-loop g l = record {
   serves : ServesSlots l.slots l.sequencer.inboxes.items;
   inboxes : SameInboxes l.fn.sequencer.inboxes.items l.sequencer.inboxes.items;
   ends : SameSealEnds l.fn.sequencer.ends l.sequencer.ends;
-  base : base_of l.sequencer ≡ base_of l.fn.sequencer;
+  base : live_base l.sequencer ≡ live_base l.fn.sequencer;
 }

@@ -1,12 +1,12 @@
 use Rattle.std.proofs.Common.{◌≡◌, ◌∙◌, refl, subst}
 use Rattle.alm_model.specs.Judging.{IsLegal}
-use Rattle.alm_seq.specs.Sequences.{base_of, history_of, open_of}
+use Rattle.alm_seq.specs.Sequences.{live_base, history_of, open_of}
 use Rattle.alm_run.proofs.starting.run_sequencer.Goals as goal
 
 pub returns-clause-judged : goal.returns-clause-judged
 returns-clause-judged g c =
     let s = c.sequence-sequencer.result in
-    let base : base_of s ≡ g.P.Alarms.plant c.args.plant = c.sequence-sequencer.ensures.base ∙ c.new-sequencer.ensures.new.1 in
+    let base : live_base s ≡ g.P.Alarms.plant c.args.plant = c.sequence-sequencer.ensures.base ∙ c.new-sequencer.ensures.new.1 in
     rw (c.into_ends-inboxes.ensures.inboxes, c.into_ends-inboxes.ensures.ends) (record {
       entries = history_of s;
       sealed = (open_of s, refl);

@@ -1,7 +1,7 @@
 use Rattle.std.proofs.Common.{◌≡◌, ◌∙◌, Some, slice_get, refl, sym, subst}
 use Rattle.std.proofs.Props.{props}
 use Rattle.std.proofs.Math.Logic.{∥∥₁_elim}
-use Rattle.alm_ports.specs.declared.slot_port.SlotPort.{SlotPort}
+use Rattle.alm_serve.specs.declared.slot_port.SlotPort.{SlotPort}
 use Rattle.alm_threads.proofs.Tied.{numbered}
 use Rattle.alm_serve.proofs.Runs.{run_by}
 use Rattle.alm_serve.proofs.serving.run_parts.Goals as goal

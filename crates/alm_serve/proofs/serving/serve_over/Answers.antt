@@ -9,5 +9,5 @@ returns-in-Err-print_serving-clause-writes g c = inl (as_cut _ _ _ c.print_servi
 pub returns-in-Err-print_stopped-clause-writes : goal.returns-in-Err-print_stopped-clause-writes
 returns-in-Err-print_stopped-clause-writes g c =
     let cut = as_cut _ _ _ c.print_stopped.result c.print_stopped.ensures in
-    let both = cut_behind _ _ _ (serving_line c.args.port) (stopped_line c.in-Ok-Some.count) (search rules) cut in
+    let both = cut_behind _ _ _ (serving_line (g.L.Listen.name c.args.listen.now)) (stopped_line c.in-Ok-Some.count) (search rules) cut in
     inr (c.in-Ok-Some.count, rw c.in-Ok-Some.field-0-is at c.in-Ok-Some.ensures, both)

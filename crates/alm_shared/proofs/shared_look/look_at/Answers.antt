@@ -9,8 +9,8 @@ use Rattle.alm_shared.proofs.shared_look.look_at.Goals as goal
 
 pub returns-in-Err-clause-answer : goal.returns-in-Err-clause-answer
 returns-in-Err-clause-answer g c =
-    let known = c.args.front.now in
-    let shown = c.args.shown.now.front in
+    let known = c.args.known.now.front in
+    let shown = c.args.shown.now.told.front in
     let within = prefix_shorter known shown c.longer.result c.longer.ensures.that c.longer.ensures.this (omega (arith, c.if-len.false, c.len.ensures.length, c.len-2.ensures.length)) in
     let is = subst (λ (q : Condensed). IsLook q c.args.query c.args.answer.now c.look.new.answer (Err c.in-Err.refusal)) c.args.shown.now.is_fold c.in-Err.ensures in
-    refused_answers g.J.Naming.base known shown c.args.query c.args.answer.now c.look.new.answer c.in-Err.refusal c.requires.there (front_of_prefix known shown within) is
+    refused_answers g.J.RunId.base known shown c.args.query c.args.answer.now c.look.new.answer c.in-Err.refusal c.requires.there (front_of_prefix known shown within) is

@@ -5,8 +5,8 @@ use Rattle.alm_pipeline.specs.declared.step.Step.{Step}
 use Rattle.alm_pipeline.specs.declared.step.Step.TheVariants as S
 use Rattle.alm_pipeline.specs.declared.event.Event.{Event}
 use Rattle.alm_pipeline.specs.declared.event.Event.TheVariants as E
-use Rattle.alm_pipeline.specs.World.{Stage, IsHeld, entries_at, after_step, closed_world}
-use Rattle.alm_pipeline.specs.Matches.{EndsIn}
+use Rattle.alm_pipeline.specs.World.{BatchStage, IsHeld, entries_at, after_step, closed_world}
+use Rattle.alm_pipeline.specs.Matches.{CommitsIn}
 use Rattle.alm_stack.specs.Exchanges.{Leads, calls, went_on, sight_of}
 use Rattle.alm_stack.proofs.Leading.{leads_then, calls_more, went_more}
 use Rattle.alm_stack.proofs.Rests.{fails_since, held_commits, ends_in_time, no_time}
@@ -44,12 +44,12 @@ loop-step-preserved g c =
           let now = was.0 in
           let a = made.answer w now in
           let many = held_commits p.flusher.held entries now.trying (now.fits.batches.held ∙ at) in
-          let some : 0 < length (accepted_of entries) = subst (λ (x : Stage). 0 < length (accepted_of (entries_at x))) at (a.1 (subst IsHeld (sym at) tt)) in
+          let some : 0 < length (accepted_of entries) = subst (λ (x : BatchStage). 0 < length (accepted_of (entries_at x))) at (a.1 (subst IsHeld (sym at) tt)) in
           let left : 647 - k ≡ (647 - (k + 1)) + 1 = omega (arith, c.loop-step-test.true) in
           let way = leads_then s.recovers s.spent (g.K.Device.Disk.honest (s.disk old.flusher.store)) w (sight_of old) (calls k) (went_on k) w (sight_of p) (S.Call ∷ []) (E.More ∷ []) w (sight_of q) was.2
           (sight_of q, a, (λ h. (c.images-in-loop-step.ensures.headline (inv.honest.0 h) w now.fits, made.moves (inv.honest.0 h) w now 0)), (refl, refl)) in (
             made.fits w now,
-            made.ends (647 - (k + 1)) refl (subst (λ l. 0 < length l) (sym many) some) (subst (λ (n : ℕ). EndsIn n p) left was.1),
+            made.ends (647 - (k + 1)) refl (subst (λ l. 0 < length l) (sym many) some) (subst (λ (n : ℕ). CommitsIn n p) left was.1),
             subst (λ (l : List Step). Leads s.recovers s.spent (g.K.Device.Disk.honest (s.disk old.flusher.store)) w (sight_of old) l (went_on (k + 1)) w (sight_of q)) (calls_more k)
                 (subst (λ (t : List Event). Leads s.recovers s.spent (g.K.Device.Disk.honest (s.disk old.flusher.store)) w (sight_of old) (calls k ++ S.Call ∷ []) t w (sight_of q)) (went_more k) way),
           );
@@ -69,6 +69,7 @@ returns-in-Committed-clause-done g c = λ _ w entries o at few.
       made.fits w now,
       (
         k,
+        omega (arith, c.loop-step-test.true),
         leads_then s.recovers s.spent (g.K.Device.Disk.honest (s.disk old.flusher.store)) w (sight_of old) (calls k) (went_on k) w (sight_of p) (S.Call ∷ []) (E.Committed ∷ []) (after_step w S.Call E.Committed) (sight_of q) was.2
             (sight_of q, made.answer w now, (λ h. (c.images-in-loop-step.ensures.headline (inv.honest.0 h) w now.fits, made.moves (inv.honest.0 h) w now 0)), (refl, refl)),
       ),
@@ -88,6 +89,7 @@ returns-in-Failed-clause-failed g c = λ _ w entries o at few.
       made.fits w now,
       (
         k,
+        omega (arith, c.loop-step-test.true),
         leads_then s.recovers s.spent (g.K.Device.Disk.honest (s.disk old.flusher.store)) w (sight_of old) (calls k) (went_on k) w (sight_of p) (S.Call ∷ []) (E.Failed ∷ []) (closed_world w) (sight_of q) was.2
             (sight_of q, made.answer w now, (λ h. (c.images-in-loop-step.ensures.headline (inv.honest.0 h) w now.fits, made.moves (inv.honest.0 h) w now 0)), (refl, refl)),
       ),
@@ -116,11 +118,11 @@ returns-clause-failed g c = λ _ w entries o at few.
     let p = c.loop-step.pipeline in
     let was = c.loop-step.invariant.going w entries o at few in
     let none : 647 - c.loop-step._step ≡ 0 = omega (arith, c.loop-step-test.false) in
-    absurd (no_time _ _ _ _ _ (subst (λ (n : ℕ). EndsIn n p) none was.1))
+    absurd (no_time _ _ _ _ _ (subst (λ (n : ℕ). CommitsIn n p) none was.1))
 
 pub returns-clause-cause : goal.returns-clause-cause
 returns-clause-cause g c = λ _ w entries o at few unspent.
     let p = c.loop-step.pipeline in
     let was = c.loop-step.invariant.going w entries o at few in
     let none : 647 - c.loop-step._step ≡ 0 = omega (arith, c.loop-step-test.false) in
-    absurd (no_time _ _ _ _ _ (subst (λ (n : ℕ). EndsIn n p) none was.1))
+    absurd (no_time _ _ _ _ _ (subst (λ (n : ℕ). CommitsIn n p) none was.1))

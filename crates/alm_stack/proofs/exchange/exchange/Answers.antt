@@ -5,7 +5,7 @@ use Rattle.alm_model.specs.Step.{run}
 use Rattle.alm_model.specs.Judging.{after_verdict, verdict_of, when_accepted}
 use Rattle.alm_disk.specs.Failures.{HasFailed}
 use Rattle.alm_desk.specs.Answers.{request}
-use Rattle.alm_desk.specs.declared.judged.Judged.{Judged}
+use Rattle.alm_desk.specs.declared.judged_request.JudgedRequest.{JudgedRequest}
 use Rattle.alm_pipeline.specs.declared.step.Step.{Step}
 use Rattle.alm_pipeline.specs.declared.step.Step.TheVariants as S
 use Rattle.alm_pipeline.specs.declared.event.Event.{Event}
@@ -87,11 +87,11 @@ returns-then-not-commit-clause-run g c = λ w m.
     let steps = hand_in_steps slot want ++ steps' in
     let trace = hand_in_events hi.0 v ++ trace' in
     let way = leads_then s.recovers s.spent honest w (sight_of p) (hand_in_steps slot want) (hand_in_events hi.0 v) y (sight_of mid) steps' trace' (closed_world y) (sight_of q) hi.5
-    (leads_if s.recovers s.spent honest (g.K.Device.Disk.honest (s.disk mid.flusher.store)) still y (sight_of mid) steps' trace' (closed_world y) (sight_of q) f.1.1) in
+    (leads_if s.recovers s.spent honest (g.K.Device.Disk.honest (s.disk mid.flusher.store)) still y (sight_of mid) steps' trace' (closed_world y) (sight_of q) f.1.2) in
     record {
       steps = steps;
       trace = trace;
-      comes = inr (n, hi.0, v, refl, refl);
+      comes = inr (n, hi.0, v, f.1.1, refl, refl);
       answers = leads_trace s.recovers s.spent honest w (sight_of p) steps trace (closed_world y) (sight_of q) way;
       run = λ h. leads_run s.recovers s.spent honest w (sight_of p) steps trace (closed_world y) (sight_of q) h (c.images-then-not-commit.ensures.headline (c.commit.ensures.honest.0 (still h)) y f.0) way;
       rests = tt;
@@ -108,7 +108,7 @@ returns-in-Some-clause-judged g c = λ w m.
     let out = c.in-Some.ensures.answered w want v m.1 done.0 in
     let q = live w in
     let after : live out.1 ≡ after_verdict q (verdict_of q asked) = out.3 ∙ (live_after w slot want v ∙ ap (after_verdict q) hi.2) in
-    let told : Judged = record { verdict = verdict_of q asked; number = (after_verdict q (verdict_of q asked)).panel.count } in
+    let told : JudgedRequest = record { verdict = verdict_of q asked; number = (after_verdict q (verdict_of q asked)).panel.count } in
     let verdict = out.0 ∙ hi.2 in
     let number = out.4 ∙ ap (λ (x : Condensed). x.panel.count) after in
     let says : c.in-Some.judged ≡ told = λ i. record { verdict = verdict i; number = number i } in
@@ -139,7 +139,7 @@ returns-in-Some-clause-run g c = λ w m.
     let trace2 = went_on n ++ E.Committed ∷ [] in
     let trace3 = answer_events slot serial v j.number in
     let behind = leads_then s.recovers s.spent honest y (sight_of mid) steps2 trace2 z (sight_of held) (answer_steps slot) trace3 out.1 (sight_of q)
-    (leads_if s.recovers s.spent honest (g.K.Device.Disk.honest (s.disk mid.flusher.store)) one y (sight_of mid) steps2 trace2 z (sight_of held) done.1.1)
+    (leads_if s.recovers s.spent honest (g.K.Device.Disk.honest (s.disk mid.flusher.store)) one y (sight_of mid) steps2 trace2 z (sight_of held) done.1.2)
     (leads_if s.recovers s.spent honest (g.K.Device.Disk.honest (s.disk held.flusher.store)) two z (sight_of held) (answer_steps slot) trace3 out.1 (sight_of q) out.5) in
     let steps = hand_in_steps slot want ++ (steps2 ++ answer_steps slot) in
     let trace = hand_in_events hi.0 v ++ (trace2 ++ trace3) in
@@ -150,6 +150,7 @@ returns-in-Some-clause-run g c = λ w m.
       comes = (
         n,
         serial,
+        done.1.1,
         ap (λ (l : List Step). hand_in_steps slot want ++ l) (append_assoc (calls n) (S.Call ∷ []) (answer_steps slot)),
         (λ i. hand_in_events (hi.3 i) (sym out.0 i) ++ (trace2 ++ answer_events slot serial (sym out.0 i) j.number)) ∙ ap (λ (l : List Event). hand_in_events serial j.verdict ++ l) (append_assoc (went_on n) (E.Committed ∷ []) (answer_events slot serial j.verdict j.number)),
       );

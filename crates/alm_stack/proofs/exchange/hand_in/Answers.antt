@@ -3,7 +3,7 @@ use Rattle.alm_pipeline.specs.declared.step.Step.TheVariants as S
 use Rattle.alm_pipeline.specs.declared.event.Event.{Event}
 use Rattle.alm_pipeline.specs.declared.event.Event.TheVariants as E
 use Rattle.alm_pipeline.specs.World.{Answers, after_step}
-use Rattle.alm_pipeline.specs.Matches.{IsOpen}
+use Rattle.alm_pipeline.specs.Matches.{MatchesOpenWorld}
 use Rattle.alm_pipeline.specs.Headline.{Sight}
 use Rattle.alm_pipeline.proofs.Moved.{opened_as}
 use Rattle.alm_stack.specs.Exchanges.{handed_in, sight_of}
@@ -71,7 +71,7 @@ returns-in_default-clause-spent g c = λ _ w m.
     let full : 2 ^ 64 ≤ length (w.sent slot) + 1 = ⊎_elim (λ x. absurd (omega (arith, x, m.1.received slot))) (λ x. x) answer.1 in
     let sees = λ (k : _). let at : Sight = record { state = g.K.Device.Disk.state (s.disk k); failures = g.K.Device.Disk.failures (s.disk k); phase = (s.state k).phase; refused = 0 } in at in (
       full,
-      subst (λ (e : Event). IsOpen (after_step w (S.Send slot want) e) q) busy (c.send.ensures.fits w m.0),
+      subst (λ (e : Event). MatchesOpenWorld (after_step w (S.Send slot want) e) q) busy (c.send.ensures.fits w m.0),
       (sight_of q, answer, (λ h. (c.images.ensures.headline h w m.0.fits, ap sees c.send.ensures.store)), (refl, refl)),
     )
 

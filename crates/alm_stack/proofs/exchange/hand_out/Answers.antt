@@ -3,7 +3,7 @@ use Rattle.alm_pipeline.specs.declared.step.Step.TheVariants as S
 use Rattle.alm_pipeline.specs.declared.event.Event.TheVariants as E
 use Rattle.alm_pipeline.specs.World.{Answers, after_step}
 use Rattle.alm_pipeline.specs.Headline.{Sight}
-use Rattle.alm_pipeline.specs.Matches.{IsOpen}
+use Rattle.alm_pipeline.specs.Matches.{MatchesOpenWorld}
 use Rattle.alm_stack.specs.Exchanges.{stored_world, sight_of}
 use Rattle.alm_stack.proofs.Worlds.{shown_at, released_at, given_at, received_at, reply_is, reply_of, idle_again, published, released, gave_back, received, may_receive}
 use Rattle.alm_stack.proofs.exchange.hand_out.Goals as goal
@@ -19,7 +19,7 @@ returns-clause-answered g c = λ w want v i o.
     let o1 = c.in-Published.ensures.fits y o in
     let a2 = c.in-Released.ensures.answer y1 o1 in
     let same = sym a2.1 in
-    let o2 = subst (λ (n : ℕ). IsOpen (after_step y1 S.Release (E.Released n)) c.release.new.self) same (c.in-Released.ensures.fits y1 o1) in
+    let o2 = subst (λ (n : ℕ). MatchesOpenWorld (after_step y1 S.Release (E.Released n)) c.release.new.self) same (c.in-Released.ensures.fits y1 o1) in
     let o3 = c.in-GaveBack.ensures.fits y2 o2 in
     let a4 = c.in-Received.ensures.answer y3 o3 in
     let said = reply_is w i slot want v c.in-Received.field-0 c.in-Received.verdict c.in-Received.number a4 in
@@ -85,7 +85,7 @@ returns-in_default-receive-clause-sure g c = λ _ w want v i o.
     let y3 = given_at w slot want v in
     let o1 = c.in-Published.ensures.fits (stored_world w slot want v) o in
     let same = sym (c.in-Released.ensures.answer y1 o1).1 in
-    let o2 = subst (λ (n : ℕ). IsOpen (after_step y1 S.Release (E.Released n)) c.release.new.self) same (c.in-Released.ensures.fits y1 o1) in
+    let o2 = subst (λ (n : ℕ). MatchesOpenWorld (after_step y1 S.Release (E.Released n)) c.release.new.self) same (c.in-Released.ensures.fits y1 o1) in
     let o3 = c.in-GaveBack.ensures.fits (released_at w slot want v) o2 in
     let r = received y3 slot c.receive.result (may_receive w i slot want v) (c.receive.ensures.answer y3 o3) in
     absurd (c.in_default-receive.not-Received r.0 r.1 r.2 r.3)

@@ -9,7 +9,7 @@ use Rattle.alm_rings.specs.Ends.{sent_of, received_of}
 use Rattle.alm_run.specs.Histories.{LeavesOneOf}
 use Rattle.alm_run.proofs.Moments.{accepted_prefix, endures_on}
 use Rattle.alm_run.specs.Same.{AllSame}
-use Rattle.alm_threads.specs.Runs.{Closes}
+use Rattle.alm_threads.specs.Runs.{HasReport}
 use Rattle.alm_threads.proofs.Tied.{stands_at, apart_by, map_count, wants_count, replies_count, received_count, front_on, entries_front, same_slots, tied_still}
 use Rattle.alm_threads.proofs.running.run_with_bells.Goals as goal
 
@@ -81,8 +81,8 @@ returns g c =
             let closes = c.report_of.ensures.closed.1 k d.0 d.1.0 in (
               length (sent_of d.0),
               length (received_of d.0),
-              subst (λ n. Closes reports k (length (sent_of d.0)) (length (of_slot s entries)) n (length (received_of d.0))) told
-                  (subst (λ n. Closes reports k (length (sent_of d.0)) n (length (released_by d.0.slot e.flusher.outboxes.items)) (length (received_of d.0))) taken closes),
+              subst (λ n. HasReport reports k (length (sent_of d.0)) (length (of_slot s entries)) n (length (received_of d.0))) told
+                  (subst (λ n. HasReport reports k (length (sent_of d.0)) n (length (released_by d.0.slot e.flusher.outboxes.items)) (length (received_of d.0))) taken closes),
             ));
       };
     }

@@ -1,5 +1,12 @@
 use Rattle.alm_threads_tests.proofs.refused.course_on.Given as goal
 
--- the history that was made, and the plant that is stored
+-- the histories that were made, and what the store begins with
 abbrev pub ghosts-course_over : goal.ghosts-course_over
-ghosts-course_over g a = record { book = a.history.seen.book; base = (g.K.Store.state a.store).stored }
+ghosts-course_over g a = record {
+  book = a.new.history.seen.book;
+  moments = a.new.moments.seen.book;
+  base = (g.K.Store.state a.store).stored;
+  first = g.K.Device.Disk.state (g.K.Store.disk a.store);
+  honest = g.K.Device.Disk.honest (g.K.Store.disk a.store);
+  recovers = g.K.Store.recovers;
+}

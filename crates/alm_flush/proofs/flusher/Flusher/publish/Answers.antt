@@ -1,4 +1,4 @@
-use Rattle.std.proofs.Common.{◌∙◌, ◌++◌, ◌+◌, [], length, ap, sym, refl}
+use Rattle.std.proofs.Common.{◌∙◌, ◌++◌, ◌+◌, [], length, ap, subst, sym, refl}
 use Rattle.alm_model.specs.Judging.{accepted_of, entries_in, of_slot}
 use Rattle.alm_model.specs.Step.{run}
 use Rattle.alm_rings.specs.Batches.{fetched_of}
@@ -39,3 +39,8 @@ pub publish-requires-clause-admitted : goal.publish-requires-clause-admitted
 publish-requires-clause-admitted g c =
     let old = c.args.self.now in
     admitted_where _ _ (ap (λ h. admits_all (run (g.B.Board.base old.board) (g.B.Board.published old.board)) (accepted_of (ready_of h))) c.in-Committed.ensures.value ∙ old.ready)
+
+pub publish-requires-clause-vouched : goal.publish-requires-clause-vouched
+publish-requires-clause-vouched g c =
+    let old = c.args.self.now in
+    subst (λ h. g.V.Voucher.vouches c.args.voucher.now (g.B.Board.published old.board ++ accepted_of (ready_of h))) (sym c.in-Committed.ensures.value) c.requires.vouched

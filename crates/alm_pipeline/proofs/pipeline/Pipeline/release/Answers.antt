@@ -9,7 +9,7 @@ use Rattle.alm_rings.specs.Placed.{outbox_at, released_in, released_by, room_by,
 use Rattle.alm_rings.specs.Batches.{AreBatchEnds, fetched_of, given_of}
 use Rattle.alm_flush.specs.HeldBatch.{stored_of, published_entries, left_of, after_release, next_entry_of}
 use Rattle.alm_flush.proofs.HeldLaws.{stored_pass, shown_pass}
-use Rattle.alm_pipeline.specs.World.{Stage, Shown, Note, HasVerdicts, goes_to, next_entry, next_notes, note_of, raise, told_more, tells, with_at}
+use Rattle.alm_pipeline.specs.World.{BatchStage, Shown, Note, HasVerdicts, goes_to, next_entry, next_notes, note_of, raise, told_more, tells, with_at}
 use Rattle.alm_flush.specs.Flushes.{IsGivenUp}
 use Rattle.alm_pipeline.specs.Matches.{stage_of, entries_of, note, notes_of, batch_held_at}
 use Rattle.alm_pipeline.proofs.Moved.{opened_as}
@@ -56,7 +56,7 @@ returns-in-Released-clause-answer g c = λ w m.
     let o = c.tell_all.ensures.«open» w m in
     let a = c.in-Released.ensures.answer in (
       (o.opened, subst HasVerdicts o.fits.batches.held (something_left mid.flusher.held a.entry a.next)),
-      subst (λ (e : Option Entry). goes_to e c.in-Released.slot) (sym (next_at_is mid.flusher.held a.entry a.next) ∙ ap (λ (s : Stage). next_entry s) o.fits.batches.held) a.of,
+      subst (λ (e : Option Entry). goes_to e c.in-Released.slot) (sym (next_at_is mid.flusher.held a.entry a.next) ∙ ap (λ (s : BatchStage). next_entry s) o.fits.batches.held) a.of,
     )
 
 pub returns-in-Released-clause-fits : goal.returns-in-Released-clause-fits

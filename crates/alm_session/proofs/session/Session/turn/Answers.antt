@@ -1,6 +1,6 @@
 use Rattle.std.proofs.Common.{refl, ap, sym, ◌∙◌, ◌<◌, length, subst, arith}
-use Rattle.alm_session.specs.Intakes.{Held, lines_in}
-use Rattle.alm_session.specs.Outputs.{Left}
+use Rattle.alm_session.specs.Intakes.{Untaken, lines_in}
+use Rattle.alm_session.specs.Outputs.{Unwritten}
 use Rattle.alm_session.proofs.Steps.{still, unseen, wrote_some}
 use Rattle.alm_session.proofs.Joins.{behind}
 use Rattle.alm_session.proofs.Turning.{gone_turns}
@@ -31,18 +31,18 @@ pub returns-in-Blocked-clause-turn : goal.returns-in-Blocked-clause-turn
 returns-in-Blocked-clause-turn g c =
     let sends = c.in-Blocked.ensures.sends in
     behind (unseen (c.if-receive.ensures.turn (g.W.Wire.coming c.args.wire.now) (g.W.Wire.written c.args.wire.now)))
-    (still _ _ _ refl refl refl (ap (λ (o : Left). o.left) sends.0) refl c.write.ensures.coming sends.1 refl refl refl)
+    (still _ _ _ refl refl refl (ap (λ (o : Unwritten). o.left) sends.0) refl c.write.ensures.coming sends.1 refl refl refl)
 
 pub returns-in-Failed-clause-turn : goal.returns-in-Failed-clause-turn
 returns-in-Failed-clause-turn g c =
     let sends = c.in-Failed.ensures.sends in
     behind (unseen (c.if-receive.ensures.turn (g.W.Wire.coming c.args.wire.now) (g.W.Wire.written c.args.wire.now)))
-    (still _ _ _ refl refl refl (ap (λ (o : Left). o.left) sends.0) refl c.write.ensures.coming sends.1 refl refl refl)
+    (still _ _ _ refl refl refl (ap (λ (o : Unwritten). o.left) sends.0) refl c.write.ensures.coming sends.1 refl refl refl)
 
 pub returns-in-Nothing-clause-writes_first : goal.returns-in-Nothing-clause-writes_first
 returns-in-Nothing-clause-writes_first g c = λ some.
-    absurd (omega (arith, some, ap length (ap (λ (o : Left). o.left) (sym (c.if-receive.ensures.left refl)) ∙ c.in-Nothing.ensures.sends.0)))
+    absurd (omega (arith, some, ap length (ap (λ (o : Unwritten). o.left) (sym (c.if-receive.ensures.left refl)) ∙ c.in-Nothing.ensures.sends.0)))
 
 pub returns-in-Nothing-clause-takes_first : goal.returns-in-Nothing-clause-takes_first
 returns-in-Nothing-clause-takes_first g c = λ some.
-    c.go_on.ensures.takes_first (subst (λ (h : Held). 0 < length (lines_in h)) (sym c.if-receive.ensures.held) some) ∙ c.write.ensures.coming
+    c.go_on.ensures.takes_first (subst (λ (h : Untaken). 0 < length (lines_in h)) (sym c.if-receive.ensures.held) some) ∙ c.write.ensures.coming

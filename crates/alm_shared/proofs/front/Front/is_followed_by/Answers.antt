@@ -19,4 +19,4 @@ returns-clause-admitted g c is =
     let ys = c.args.next.now in
     let long : length ys ≡ length xs + length c.args.actions.now = grind (arith, nat_tests) in
     let next : ys ≡ xs ++ c.args.actions.now = followed_by xs ys c.args.actions.now (prefix_shorter xs ys c.longer.result c.longer.ensures.this c.longer.ensures.that (omega arith)) long c.requires.last in
-    admitted_append g.J.Naming.base xs c.args.actions.now (subst (λ (l : List Action). AllAdmitted g.J.Naming.base l) next c.len.ensures.admitted)
+    admitted_append g.J.RunId.base xs c.args.actions.now (subst (λ (l : List Action). AllAdmitted g.J.RunId.base l) next c.len.ensures.admitted)

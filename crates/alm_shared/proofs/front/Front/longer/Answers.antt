@@ -2,16 +2,16 @@ use Rattle.std.proofs.Common.{◌≤◌, ap, subst, arith, length, take, List}
 use Rattle.std.proofs.lemmas.List.{length-take-le}
 use mathlib.Core.List.{IsPrefix}
 use Rattle.alm_types.specs.declared.action.Action.{Action}
-use Rattle.alm_shared.specs.History.{joined}
+use Rattle.alm_shared.specs.History.{joined_actions}
 use Rattle.alm_shared.proofs.Fronts.{prefix_shorter, prefix_joined, prefix_take}
 use Rattle.alm_shared.proofs.front.Front.longer.Goals as goal
 
--- of two beginnings of what was joined, the one of fewer actions begins the other
-shorter : (m n : _) (v w both : List (List Action)) → IsPrefix v both → IsPrefix w both → m ≤ length (joined v) → n ≤ length (joined w) → m ≤ n → IsPrefix (take m (joined v)) (take n (joined w))
+-- of two prefixes of what was joined, the one of fewer actions is a prefix of the other
+shorter : (m n : _) (v w both : List (List Action)) → IsPrefix v both → IsPrefix w both → m ≤ length (joined_actions v) → n ≤ length (joined_actions w) → m ≤ n → IsPrefix (take m (joined_actions v)) (take n (joined_actions w))
 shorter m n v w both p q here there le =
-    prefix_shorter (take m (joined v)) (take n (joined w)) (joined both)
-    (prefix_take m (joined v) (joined both) (prefix_joined v both p)) (prefix_take n (joined w) (joined both) (prefix_joined w both q))
-    (omega (arith, length-take-le m (joined v) here, length-take-le n (joined w) there, le))
+    prefix_shorter (take m (joined_actions v)) (take n (joined_actions w)) (joined_actions both)
+    (prefix_take m (joined_actions v) (joined_actions both) (prefix_joined v both p)) (prefix_take n (joined_actions w) (joined_actions both) (prefix_joined w both q))
+    (omega (arith, length-take-le m (joined_actions v) here, length-take-le n (joined_actions w) there, le))
 
 pub returns-then-self-other-clause-this : goal.returns-then-self-other-clause-this
 returns-then-self-other-clause-this g c =

@@ -5,4 +5,4 @@ use Rattle.alm_shared.proofs.shared_look.SharedLookLook.look.Goals as goal
 
 pub returns-in-Err-clause-answer : goal.returns-in-Err-clause-answer
 returns-in-Err-clause-answer g c =
-    rw c.in-Err.ensures.0 (missing_answers g.J.Naming.base c.args.self.now.front c.args.query c.args.answer.now (λ list. c.in-Err.ensures.1 list ∙ ap Err c.in-Err.ensures.0))
+    rw c.in-Err.ensures.0 (missing_answers g.J.RunId.base c.args.self.now.known.front c.args.query c.args.answer.now (λ list. c.in-Err.ensures.1 list ∙ ap Err c.in-Err.ensures.0))

@@ -1,0 +1,80 @@
+-- The moments of a run, and what a crash leaves at each.
+use Rattle.std.specs.Prelude.{◌≡◌, ◌⊎◌, ◌≤◌, ◌+◌, ℕ, zero, suc, Bool, false, List, [], ◌∷◌, ◌++◌, length, get_or}
+use mathlib.Core.List.{IsPrefix}
+use Rattle.alm_types.specs.declared.action.Action.{Action}
+use Rattle.alm_disk.specs.Device.{DeviceState, IsImage}
+use Rattle.alm_model.specs.Plant.{Condensed}
+use Rattle.alm_model.specs.Step.{run}
+use Rattle.alm_store.specs.Calls.{IsCall}
+use Rattle.alm_store.specs.Recovery.{IsSafe}
+use Rattle.alm_moments.specs.declared.moment.Moment.{Moment}
+
+-- the first n values of a function
+abbrev pub first_of : ℕ → (ℕ → Bool) → List Bool
+first_of zero f = []
+first_of (suc n) f = f 0 ∷ first_of n (λ k. f (suc k))
+
+-- this device, with these accepted actions and this floor
+abbrev pub moment_of : DeviceState → List Action → ℕ → Moment
+moment_of d accepted floor = record { bytes = d.bytes; pending = first_of (length d.bytes) d.pending; accepted = accepted; floor = floor }
+
+-- the device at a moment
+abbrev pub device_of : Moment → DeviceState
+device_of m = record { bytes = m.bytes; pending = λ place. get_or m.pending place false; faulted = false }
+
+-- a device is this one at the moment
+abbrev pub IsDevice : DeviceState → Moment → Type 0
+IsDevice d m = (m.bytes ≡ d.bytes) × (m.pending ≡ first_of (length d.bytes) d.pending)
+
+-- one call of the device was made
+abbrev pub IsCalled : Moment → Moment → Type 0
+IsCalled m n = (d e : DeviceState) × IsDevice d m × IsDevice e n × IsCall d e
+
+-- the next moment: one call of the device was made; or none, and actions may have been accepted, or the floor raised
+abbrev pub Follows : Moment → Moment → Type 0
+Follows m n = (IsCalled m n × (n.accepted ≡ m.accepted) × (n.floor ≡ m.floor))
+    ⊎ ((n.bytes ≡ m.bytes) × (n.pending ≡ m.pending) × IsPrefix m.accepted n.accepted × (m.floor ≤ n.floor))
+
+-- these moments follow one another after the first, each of them safe
+abbrev pub Leads : (Moment → Type 0) → Moment → List Moment → Type 0
+Leads safe m [] = Unit {0}
+Leads safe m (n ∷ moments) = Follows m n × safe n × Leads safe n moments
+
+-- the last of them, or the first if none follows
+abbrev pub last_of : Moment → List Moment → Moment
+last_of m [] = m
+last_of m (n ∷ moments) = last_of n moments
+
+-- before any action was accepted
+abbrev pub at_first : Condensed → DeviceState → Moment
+at_first base device = moment_of device [] base.panel.count
+
+-- each image that a crash may leave at this moment encodes the plant that a prefix of the accepted actions makes. The prefix reaches the floor
+abbrev pub IsSafeAt : (List ℕ → Condensed → Type 0) → Condensed → Moment → Type 0
+IsSafeAt recovers base m = (image : List ℕ) → IsImage (device_of m) image → IsSafe recovers base m.accepted m.floor image
+
+-- from this moment on, each of them safe
+pub record Course (safe : Moment → Type 0) (first : Moment) (moments : List Moment) : Type 0 where
+  pub opened : safe first
+  pub leads : Leads safe first moments
+
+-- the moments of a run since its opening, if its device keeps to its model
+abbrev pub AreMoments : Type 0 → (List ℕ → Condensed → Type 0) → Condensed → DeviceState → List Moment → Type 0
+AreMoments honest recovers base first moments = honest → ∥ Course (IsSafeAt recovers base) (at_first base first) moments ∥₁
+
+-- the last moment
+abbrev pub now_of : Condensed → DeviceState → List Moment → Moment
+now_of base first moments = last_of (at_first base first) moments
+
+-- these are on the device from the last of these moments on: its floor reaches them, and they are the first that were accepted by then
+abbrev pub AreHeld : Condensed → DeviceState → List Moment → List Action → Type 0
+AreHeld base first moments list = (base.panel.count + length list ≤ (now_of base first moments).floor) × ∥ IsPrefix list (now_of base first moments).accepted ∥₁
+
+-- the power fails at any moment after those that were seen. Each image that the crash may leave encodes a plant, and only such that
+-- these actions make, with others after them that were accepted by then
+abbrev pub StaysStored : Type 0 → (List ℕ → Condensed → Type 0) → Condensed → DeviceState → (seen : List Moment) → List Action → Type 0
+StaysStored honest recovers base first seen list =
+    (moments : List Moment) → IsPrefix seen moments → AreMoments honest recovers base first moments → honest
+    → (image : List ℕ) → IsImage (device_of (now_of base first moments)) image
+    → ∥ ((plant : Condensed) × recovers image plant) ∥₁ × ((plant : Condensed) → recovers image plant
+    → ∥ ((more : List Action) × (plant ≡ run base (list ++ more)) × IsPrefix (list ++ more) (now_of base first moments).accepted) ∥₁)

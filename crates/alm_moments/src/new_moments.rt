@@ -1,0 +1,49 @@
+//! A history of moments before it has a name.
+ghost use Rattle.std.specs.Prelude.{◌≡◌, ◌↔◌, ℕ, List, []};
+ghost use Rattle.alm_model.specs.Plant.{Condensed};
+ghost use Rattle.alm_moments.specs.History.{newest_of};
+
+use crate::moment::Moment;
+use crate::moment_rule::MomentRule;
+use crate::moments::Moments;
+use crate::moments_length::MomentsLength;
+use crate::run_id::RunId;
+use alm_store::{Phase, Store};
+use logbook::{Seen, Start, Word};
+
+/// A history without moments, before it has a name.
+#[derive(Drop)]
+pub struct NewMoments {
+    head: Word<Moment, u64, MomentRule>,
+    seen: Seen<Moment, u64, MomentRule>,
+    pub ghost empty: { seen.log ≡ [] },
+    pub ghost head_is: { head ≡ newest_of seen.book },
+}
+
+impl NewMoments {
+    /// A history of its own.
+    pub fn new() -> NewMoments {
+        let (seen, mut first, _second) = Seen::open(Start::alone(), 0, 0);
+        NewMoments {
+            head: Word::tracked(0, &mut first),
+            seen,
+        }
+    }
+
+    /// Its length under a name, and the prefix that has seen nothing. The run is named after this store, which has no work begun.
+    pub fn named<J: RunId, K: Store>(self, store: &K) -> (MomentsLength<J>, Moments<J>)
+        requires book { self.seen.book ≡ J.moments }
+        requires idle { (K.state store.now).phase ≡ Phase.Idle }
+        requires base { J.base ≡ (K.state store.now).stored }
+        requires device { J.first ≡ K.Device.state (K.disk store.now) }
+        requires honest { ∥ (J.honest ↔ K.Device.honest (K.disk store.now)) ∥₁ }
+        requires recovers { ∥ ((b : List ℕ) (p : Condensed) →
+            (J.recovers b p ↔ K.recovers b p)) ∥₁ }
+        ensures { result.1 ≡ [] }
+    {
+        // for the proof: the contract of `images` says what a crash leaves at the first moment
+        store.images();
+        let NewMoments { head, seen } = self;
+        (MomentsLength::new(head), Moments::new(seen))
+    }
+}

@@ -1,6 +1,0 @@
-use Rattle.std.proofs.Common.{◌≡◌, map, take}
-use Rattle.alm_ports.proofs.opening.bind_all.Given as goal
-
--- the ports of the slots up to here
-abbrev pub invariant-loop-slot : goal.invariant-loop-slot
-invariant-loop-slot g l = map (λ b. b.slot) l.bounds.items ≡ take l.slot-index l.slots

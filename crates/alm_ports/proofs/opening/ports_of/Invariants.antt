@@ -1,6 +1,0 @@
-use Rattle.std.proofs.Common.{◌≡◌, map}
-use Rattle.alm_ports.proofs.opening.ports_of.Given as goal
-
--- of the slots of what is bound up to here
-abbrev pub invariant-loop-bound : goal.invariant-loop-bound
-invariant-loop-bound l = map (λ p. p.slot) l.ports.items ≡ map (λ b. b.slot) l.yielded

@@ -1,0 +1,25 @@
+//! Jobs.
+
+use crate::endpoints::Endpoints;
+
+/// What the program is asked to do.
+#[derive(Clone, Copy, Debug, PartialEq, Eq)]
+pub enum Job<'a> {
+    /// Answers standard input, over a device or the worked table in memory.
+    Desk(Option<&'a str>),
+    /// Makes a device of a table file.
+    Format {
+        device: &'a str,
+        table: &'a str,
+    },
+    /// Prints the plant of a device.
+    Show(&'a str),
+    /// Prints the table of a device's plant as a table file.
+    Export(&'a str),
+    /// Serves the slots there, `conns` connections in all; 0 is without end.
+    Serve {
+        device: &'a str,
+        endpoints: Endpoints<'a>,
+        conns: u32,
+    },
+}

@@ -1,0 +1,167 @@
+//! Opens the slots' ports, or their sockets.
+
+ghost use Rattle.std.specs.Prelude.{◌≡◌, ◌≤◌, IfOk, length, map, vec_len};
+
+use crate::bound::Bound;
+use crate::connection_count::ConnectionCount;
+use crate::port_fault::PortFault;
+use crate::slot_bell::SlotBell;
+use crate::slot_port::SlotPort;
+use crate::socket_folder::bind_sockets;
+use alm_session::Session;
+use alm_types::Slot;
+use mio::{Events, Poll};
+use std::alloc::Global;
+use std::fs::{File, Files};
+use std::net::Net;
+use std::sync::Arc;
+
+/// How many events one poll reports at most: of the listener, the connection and the bell.
+const EVENTS: usize = 4;
+
+/// Binds the ports of these slots.
+fn bind_ports<R: Net>(
+    rt: &R,
+    alloc: Global,
+    slots: &[Slot],
+    port: u16,
+) -> Result<Vec<Bound>, PortFault>
+    requires { port ≤ 65518 }
+    ensures { IfOk result (λ bounds. map (λ bound. bound.slot) bounds.items ≡ slots.now) }
+{
+    let mut bounds = Vec::with_capacity(alloc, slots.len())?;
+    for slot in slots {
+        match bounds.push(Bound::at_port(rt, alloc, port, *slot)?) {
+            Ok(()) => {}
+            Err(_) => return Err(PortFault::OutOfMemory),
+        }
+    }
+    Ok(bounds)
+}
+
+/// The bells of these ports.
+fn bells_of(alloc: Global, bounds: &[Bound]) -> Result<Vec<SlotBell>, PortFault>
+    ensures { IfOk result (λ bells. vec_len bells ≡ length bounds.now) }
+{
+    let mut bells = Vec::with_capacity(alloc, bounds.len())?;
+    for bound in bounds {
+        match bells.push(bound.bell.again()?) {
+            Ok(()) => {}
+            Err(_) => return Err(PortFault::OutOfMemory),
+        }
+    }
+    Ok(bells)
+}
+
+/// The ports of slots, in their order, with their bells.
+#[derive(Drop)]
+pub struct SlotPorts {
+    pub ports: Vec<SlotPort>,
+    pub bells: Vec<SlotBell>,
+}
+
+/// What these ports share: how many connections there may be, and a bell of each.
+fn count_of(
+    alloc: Global,
+    conns: u32,
+    bounds: &[Bound],
+) -> Result<Arc<ConnectionCount>, PortFault> {
+    let count = ConnectionCount::new(conns, bells_of(alloc, bounds)?);
+    Arc::new(alloc, count).map_err(|_| PortFault::OutOfMemory)
+}
+
+/// The port of a slot that is bound.
+fn open_port(
+    alloc: Global,
+    bound: Bound,
+    count: &Arc<ConnectionCount>,
+) -> Result<SlotPort, PortFault>
+    ensures { IfOk result (λ port. port.slot ≡ bound.slot) }
+{
+    let session = Session::new(alloc)?;
+    let events = Events::with_capacity(alloc, EVENTS)?;
+    Ok(SlotPort::new(bound, events, count.clone()?, session)?)
+}
+
+/// The same for each of these.
+fn ports_of(
+    alloc: Global,
+    bounds: Vec<Bound>,
+    count: &Arc<ConnectionCount>,
+) -> Result<Vec<SlotPort>, PortFault>
+    ensures { IfOk result
+        (λ ports. map (λ p. p.slot) ports.items ≡ map (λ b. b.slot) bounds.items) }
+{
+    let mut ports = Vec::with_capacity(alloc, bounds.len())?;
+    for bound in bounds {
+        match ports.push(open_port(alloc, bound, count)?) {
+            Ok(()) => {}
+            Err(_) => return Err(PortFault::OutOfMemory),
+        }
+    }
+    Ok(ports)
+}
+
+/// Opens as many descriptors as these ports have connections at once, and closes them. If they can't be had, some slots would be
+/// served and others not.
+fn try_descriptors<R: Net>(rt: &R, alloc: Global, bounds: &[Bound]) -> Result<(), PortFault> {
+    let mut spare = Vec::with_capacity(alloc, bounds.len())?;
+    for _ in bounds {
+        match spare.push(Poll::new(rt)?) {
+            Ok(()) => {}
+            Err(_) => return Err(PortFault::OutOfMemory),
+        }
+    }
+    Ok(())
+}
+
+/// Opens all that is bound, for `conns` connections in all; 0 is without end. There are descriptors for a connection of each.
+fn open_all<R: Net>(
+    rt: &R,
+    alloc: Global,
+    bounds: Vec<Bound>,
+    conns: u32,
+) -> Result<SlotPorts, PortFault>
+    ensures ports { IfOk result
+        (λ d. map (λ port. port.slot) d.ports.items ≡ map (λ b. b.slot) bounds.items) }
+    ensures bells { IfOk result (λ d. vec_len d.bells ≡ vec_len bounds) }
+{
+    try_descriptors(rt, alloc, &bounds)?;
+    let count = count_of(alloc, conns, &bounds)?;
+    let bells = bells_of(alloc, &bounds)?;
+    let ports = ports_of(alloc, bounds, &count)?;
+    Ok(SlotPorts { ports, bells })
+}
+
+/// Binds the ports of these slots on loopback, the first slot's given, for `conns` connections in all; 0 is without end.
+pub fn open_ports<R: Net>(
+    rt: &R,
+    alloc: Global,
+    slots: &[Slot],
+    port: u16,
+    conns: u32,
+) -> Result<SlotPorts, PortFault>
+    requires port { port ≤ 65518 }
+    ensures ports { IfOk result (λ d. map (λ port. port.slot) d.ports.items ≡ slots.now) }
+    ensures bells { IfOk result (λ d. vec_len d.bells ≡ length slots.now) }
+{
+    let bounds = bind_ports(rt, alloc, slots, port)?;
+    open_all(rt, alloc, bounds, conns)
+}
+
+/// Makes the sockets of these slots in a folder that exists, each by its slot's number, for `conns` connections in all; 0 is
+/// without end. Only the owner and the group of a socket may open it. A dead server's socket is replaced. One that answers is
+/// refused, and so is anything else at its path, which stays as it is. The sockets stay after the server's end.
+pub fn open_sockets<R: Net + Files<File = File>>(
+    rt: &R,
+    alloc: Global,
+    slots: &[Slot],
+    folder: &str,
+    conns: u32,
+) -> Result<SlotPorts, PortFault>
+    ensures ports { IfOk result (λ d. map (λ port. port.slot) d.ports.items ≡ slots.now) }
+    ensures bells { IfOk result (λ d. vec_len d.bells ≡ length slots.now) }
+{
+    let bounds = bind_sockets(rt, alloc, slots, folder)?;
+    open_all(rt, alloc, bounds, conns)
+}

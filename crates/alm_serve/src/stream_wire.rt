@@ -1,0 +1,108 @@
+//! A non-blocking stream as a wire.
+
+ghost use Rattle.std.specs.Prelude.{◌≡◌, ◌↔◌, ◌⊎◌, ◌-◌, IsTrue};
+ghost use Rattle.std_io.specs.declared.io.kind.ErrorKind.TheVariants.{WouldBlock, Interrupted};
+
+use crate::first_bytes::FirstBytes;
+use alm_session::{ReadGave, Wire, WriteTook};
+use std::io::{ErrorKind, Read, Write};
+
+/// A non-blocking stream as a wire. A call that would wait, or was interrupted, is Blocked; a read of 0 bytes is the
+/// end; every other error, and a write of 0 bytes, is Failed. A stream that begins as a request of HTTP has ended. A
+/// browser sends such a request for any page that asks it to, and its body may have lines of the protocol.
+///
+/// A read that returns fewer bytes than there is room for has emptied the stream. The wire is dry then, and reads are Blocked
+/// without a call until a poll finds the stream ready. There are three exceptions, in which reads continue. Once the other side
+/// has ended its sending, no poll reports it again. A read ends before urgent data. And a read at a socket of a folder may end
+/// early.
+#[derive(Drop)]
+pub struct StreamWire<S: Read + Write + Drop> {
+    stream: S,
+    first: FirstBytes,
+    is_dry: bool,
+    reads_on: bool,
+    blocked_reads: u64,
+    blocked_writes: u64,
+    failed: u64,
+}
+
+impl<S: Read + Write + Drop> StreamWire<S> {
+    /// A wire over a stream that never waits.
+    pub fn new(stream: S) -> Self {
+        StreamWire {
+            stream,
+            first: FirstBytes::new(),
+            is_dry: false,
+            reads_on: false,
+            blocked_reads: 0,
+            blocked_writes: 0,
+            failed: 0,
+        }
+    }
+
+    /// A poll found the stream ready to be read. From now on a short read may leave bytes in the stream if the other side has
+    /// ended its sending, or sent urgent data.
+    pub fn find_ready(&mut self, reads_on: bool) {
+        self.is_dry = false;
+        self.reads_on = self.reads_on || reads_on;
+    }
+}
+
+/// Whether a call may be made again later.
+fn is_for_later(kind: ErrorKind) -> bool
+    ensures { IsTrue result ↔ (kind ≡ WouldBlock) ⊎ (kind ≡ Interrupted) }
+{
+    kind == ErrorKind::WouldBlock || kind == ErrorKind::Interrupted
+}
+
+impl<S: Read + Write + Drop> Wire for StreamWire<S> {
+    ghost use Rattle.std.specs.Prelude.{None};
+
+    ghost counts = { λ w. record {
+      blocked_reads = w.blocked_reads;
+      blocked_writes = w.blocked_writes;
+      failed = w.failed;
+    } };
+
+    ghost coming = { λ _. None };
+
+    ghost written = { λ _. None };
+
+    fn read(&mut self, into: &mut [u8]) -> ReadGave {
+        if self.is_dry {
+            self.blocked_reads = self.blocked_reads.saturating_add(1);
+            return ReadGave::Blocked;
+        }
+        let room = into.len();
+        match self.stream.read(into) {
+            Ok(0) => ReadGave::End,
+            Ok(count) => {
+                self.is_dry = count < room && !self.reads_on;
+                self.first.give(&into[..count])
+            }
+            Err(error) if is_for_later(error.kind()) => {
+                self.is_dry = error.kind() == ErrorKind::WouldBlock && !self.reads_on;
+                self.blocked_reads = self.blocked_reads.saturating_add(1);
+                ReadGave::Blocked
+            }
+            Err(_) => {
+                self.failed = self.failed.saturating_add(1);
+                ReadGave::Failed
+            }
+        }
+    }
+
+    fn write(&mut self, bytes: &[u8]) -> WriteTook {
+        match self.stream.write(bytes) {
+            Ok(count) if count > 0 => WriteTook::Wrote(count),
+            Err(error) if is_for_later(error.kind()) => {
+                self.blocked_writes = self.blocked_writes.saturating_add(1);
+                WriteTook::Blocked
+            }
+            _ => {
+                self.failed = self.failed.saturating_add(1);
+                WriteTook::Failed
+            }
+        }
+    }
+}

@@ -1,6 +1,0 @@
-use Rattle.alm_lines.proofs.Prefixes.{on_err}
-use Rattle.alm_service.proofs.Answering.{broken_handing}
-use Rattle.alm_service.proofs.running.answer_and_flush.Goals as goal
-
-pub returns-clause-broken : goal.returns-clause-broken
-returns-clause-broken g c = on_err c.flush.result (broken_handing _ c.in_ok-answer_bytes.ensures.answered c.flush.ensures.bytes)

@@ -1,0 +1,59 @@
+//! A plant with the actions that it comes from.
+ghost use Rattle.std.specs.Prelude.{◌≡◌};
+ghost use Rattle.alm_model.specs.Step.{run};
+
+use crate::append_step::AppendStep;
+use crate::durable::Durable;
+use alm_model::{Alarms, apply_all};
+use alm_moments::RunId;
+use alm_types::Action;
+use left_right::Absorb;
+use std::alloc::AllocError;
+
+/// A plant with the actions that it comes from: what readers are shown.
+#[derive(Drop)]
+pub struct ShownPlant<J: RunId, P: Alarms + Drop> {
+    pub plant: P,
+    pub told: Durable<J>,
+    pub ghost is_fold: { P.plant plant ≡ run J.base told.front },
+}
+
+impl<J: RunId, P: Alarms + Drop> ShownPlant<J, P> {
+    ghost use Rattle.std.specs.Prelude.{◌≡◌, ◌++◌};
+    ghost use Rattle.alm_model.specs.Rules.{AllAdmitted};
+    ghost use Rattle.alm_model.specs.Step.{run};
+
+    // The next actions.
+    fn take(&mut self, actions: &[Action], told: Durable<J>)
+        requires next { told.front ≡ self.old.told.front ++ actions.now }
+        requires admitted { AllAdmitted (run J.base self.old.told.front) actions.now }
+        ensures { self.new.told.front ≡ told.front }
+    {
+        apply_all(&mut self.plant, actions);
+        self.told = told;
+    }
+}
+
+impl<J: RunId, P: Alarms + Drop> Absorb<AppendStep<J>> for ShownPlant<J, P> {
+    ghost use Rattle.alm_shared.specs.Growing.{next_if_longer};
+
+    type State = [Action; 0];
+
+    ghost state = { λ s. s.told.front };
+
+    ghost applied = { λ xs step. next_if_longer xs step.actions.items step.told.front };
+
+    ghost never_fails = { Unit {0} };
+
+    fn absorb_first(
+        &mut self,
+        operation: &AppendStep<J>,
+        _other: &ShownPlant<J, P>,
+    ) -> Result<(), AllocError> {
+        let AppendStep { actions, told } = operation;
+        if self.told.front.is_followed_by(&told.front, actions) {
+            self.take(actions, told.again());
+        }
+        Ok(())
+    }
+}
