@@ -1,0 +1,381 @@
+"""Keeps the accepted actions of a served plant, and what they annunciated, in SQLite or PostgreSQL.
+
+    alm_archive run DEVICE DATABASE --port P        archives what comes, until it is ended
+    alm_archive list DATABASE                       the plants of an archive, their actions and gaps
+    alm_archive prune DATABASE --name PLANT --before 2026-01-31     takes away what is older
+
+DATABASE is the path of a SQLite file, which is made if it isn't there, or a database of PostgreSQL as postgresql://USER@HOST/NAME. For that it
+needs psycopg (Debian: python3-psycopg). The plant's name is the device file's, without its ending, or --name PLANT.
+
+Each action is archived once, under its number, and only once a query of the server shows it: so none that a power failure could take. It asks
+at a console's slot: 13, or --slot K. After a pause it goes on with what the device still holds. What is gone is kept as a gap, and told. While the
+server can't be reached it tries again. If the table was changed, or an older copy of the device was put in its place, the archive goes on with
+another plant of the same name.
+
+With --once it archives what is there and ends. With --seconds S it ends after S seconds.
+"""
+import argparse
+import os
+import time
+from dataclasses import dataclass
+from typing import Iterator, Optional
+
+from alarm_client import CLOCK, FEED, Lost, OtherPlant
+from arguments import add_port, add_slot
+from device_file import Action, NoDevice
+from table_file import Alarm
+
+from .mirror import Begun, Follower, Gap, Replaced, Served, Step, fixed
+from .model import AlarmState, Change, PlantModel
+from .store import Store, StoreFault
+from .words import Words, date, end_of, moment_of, sayer
+
+# Seconds between two looks, and steps that are written together.
+PAUSE, STEPS = 0.2, 2000
+# Archived actions that are read at once.
+CHUNK = 5000
+# At which slot an action was asked. A device doesn't store which console asked.
+SLOTS = {"CLOCK": CLOCK, "VAL": FEED, "DESIGN": FEED}
+BEFORE, LOST, PRUNED = "before the archive", "no longer in the file", "pruned"
+
+say = sayer("alm_archive")
+
+
+@dataclass
+class Plant:
+    """A plant of the archive: the last action that is kept or told as gone, and its moment."""
+
+    number: int
+    device: str
+    begins: int
+    last: int
+    moment: int
+
+
+def latest(store: Store, name: str) -> Optional[Plant]:
+    """The plant of a name that was archived last."""
+    row = store.row("SELECT plant, device, begins FROM plant WHERE name = ? ORDER BY plant DESC LIMIT 1", (name,))
+    if row is None:
+        return None
+    number, device, begins = row
+    action = store.row("SELECT number, moment FROM action WHERE plant = ? ORDER BY number DESC LIMIT 1", (number,)) or (begins, 0)
+    gap = store.row("SELECT last, ended FROM gap WHERE plant = ? ORDER BY first DESC LIMIT 1", (number,)) or (begins, 0)
+    last, moment = max(action, gap)
+    return Plant(number, device, begins, last, moment)
+
+
+def table_of(store: Store, plant: int) -> list[Alarm]:
+    """The attributes of a plant's alarms, as they were found."""
+    rows = store.rows("SELECT kind, setpoint, priority, area, tag, deadband, max_shelve, latching, text FROM alarm WHERE plant = ? ORDER BY alarm", (plant,))
+    return [Alarm(*row[:7], bool(row[7]), row[8]) for row in rows]
+
+
+def archived(store: Store, plant: int, number: int) -> Iterator[tuple]:
+    """What is archived of a plant behind an action, some at a time."""
+    query = "SELECT number, moment, word, alarm, value FROM action WHERE plant = ? AND number > ? ORDER BY number LIMIT ?"
+    while rows := list(store.rows(query, (plant, number, CHUNK))):
+        yield from rows
+        number = rows[-1][0]
+
+
+def alarm_rows(plant: int, alarms: list[Alarm]) -> list[tuple]:
+    return [(plant, number, one.tag, one.text, one.kind, one.area, one.priority, one.setpoint, one.deadband, one.max_shelve, int(one.latching))
+            for number, one in enumerate(alarms)]
+
+
+def action_row(plant: int, step: Step, tags: list[str]) -> tuple:
+    """The row of an action."""
+    action = step.action
+    if action.word == "CLOCK":
+        return plant, action.number, step.moment, action.word, None, None, action.argument, CLOCK
+    return plant, action.number, step.moment, action.word, action.alarm, tags[action.alarm], value_of(action), SLOTS.get(action.word)
+
+
+def value_of(action: Action) -> Optional[int]:
+    """The number that an action brings: a value, seconds, a priority, a setpoint, 1 for ON and 0 for OFF."""
+    return None if action.word in ("ACK", "RESET", "UNSHELVE") else action.argument
+
+
+def change_row(plant: int, number: int, moment: int, change: Change, tags: list[str]) -> tuple:
+    """The row of what an action did to an alarm."""
+    return (plant, change.alarm, number, moment, tags[change.alarm], change.priority, change.area, change.before, change.after, change.flags,
+            int(change.annunciated), change.since)
+
+
+def found_rows(plant: int, model: PlantModel) -> list[tuple]:
+    """What an alarm's state was found to be, for each alarm: behind a gap, and where the archive begins."""
+    return [found_row(plant, model, alarm) for alarm in model.alarms]
+
+
+def found_row(plant: int, model: PlantModel, alarm: AlarmState) -> tuple:
+    attributes, line = alarm.attributes, alarm.line().split(" ")
+    since = alarm.moments[0] if alarm.moments else None
+    return (plant, alarm.number, model.count, model.now, attributes.tag, attributes.priority, attributes.area, None, alarm.shown, line[5], 0, since)
+
+
+def flood_rows(plant: int, model: PlantModel) -> list[tuple]:
+    """Which areas were found flooded."""
+    return [(plant, area, model.count, model.now, int(window.flooded), window.total) for area, window in enumerate(model.windows)]
+
+
+class Archiver:
+    """Brings the news of a follower into a store."""
+
+    def __init__(self, store: Store, name: str, follower: Follower):
+        self.store, self.name, self.follower = store, name, follower
+        self.plant: Optional[Plant] = None
+        # the archived actions that the device has to have too, where it is the plant that was archived last
+        self.held: Optional[Iterator[tuple]] = None
+        self.forced = False
+        self.actions: list[tuple] = []
+        self.changes: list[tuple] = []
+        self.floods: list[tuple] = []
+
+    def look(self) -> bool:
+        """Archives what is new; whether there was anything."""
+        any_news = False
+        for one in self.follower.look():
+            any_news = True
+            if isinstance(one, Begun):
+                self.begin()
+            elif isinstance(one, Gap):
+                self.gap(one.first, one.last, LOST)
+            elif isinstance(one, Replaced):
+                self.leave()
+            elif not self.step(one):
+                break
+        self.write()
+        return any_news
+
+    @property
+    def model(self) -> PlantModel:
+        return self.follower.mirror.plant
+
+    def device(self) -> str:
+        """Which file it is."""
+        there = os.fstat(self.follower.mirror.device.file)
+        return f"{there.st_dev}:{there.st_ino}"
+
+    def begin(self) -> None:
+        """Goes on with the plant that was archived last, if the device's is that one; else begins another of the same name."""
+        self.tags = [alarm.tag for alarm in self.model.table()]
+        last = latest(self.store, self.name)
+        if last is None:
+            return self.new_plant("a new archive")
+        why = self.is_another(last)
+        if why or self.forced:
+            return self.new_plant(why or "its actions aren't those that were archived")
+        self.plant, self.compared = last, 0
+        if self.model.count > last.last:
+            self.gap(last.last + 1, self.model.count, LOST)
+        elif self.model.count < last.last:
+            self.held = archived(self.store, last.number, self.model.count)
+            self.next_held = next(self.held, None)
+
+    def is_another(self, last: Plant) -> str:
+        """Why the device's plant can't be the one that was archived last, if so."""
+        count, shown = self.model.count, self.follower.served.count
+        if fixed(table_of(self.store, last.number)) != fixed(self.model.table()):
+            return "the table is another one"
+        if shown < last.last:
+            return f"the server has {shown} actions, and {last.last} are archived"
+        if count >= last.last and self.model.now < last.moment:
+            return "its clock is behind what is archived"
+        if count == last.last and self.model.now == last.moment:
+            return ""
+        if count >= last.last and self.device() != last.device:
+            return "the file is another one, and has none of the actions that were archived"
+        return ""
+
+    def new_plant(self, why: str) -> None:
+        """Begins another plant of the name, with what the device holds."""
+        number = (self.store.value("SELECT MAX(plant) FROM plant") or 0) + 1
+        model = self.model
+        self.store.insert("plant", [(number, self.name, self.device(), len(model.windows), model.count, self.follower.served.count)])
+        self.store.insert("alarm", alarm_rows(number, model.table()))
+        self.plant, self.held, self.forced = Plant(number, self.device(), model.count, model.count, model.now), None, False
+        self.found(1, BEFORE)
+        say(f"plant {number} of the name {self.name} from action {model.count + 1} on: {why}")
+
+    def found(self, first: int, why: str, began: Optional[int] = None) -> None:
+        """Keeps the state that was found, behind actions that are gone."""
+        model, number = self.model, self.plant.number
+        if model.count >= first:
+            self.store.insert("gap", [(number, first, model.count, began, model.now, why)])
+        self.store.insert("change", found_rows(number, model))
+        self.store.insert("flood", flood_rows(number, model))
+        self.store.commit()
+        self.plant.last, self.plant.moment = model.count, model.now
+
+    def gap(self, first: int, last: int, why: str) -> None:
+        """Actions that are gone."""
+        self.write()
+        first = max(first, self.plant.last + 1)
+        if first <= last:
+            self.found(first, why, self.plant.moment)
+            say(f"actions {first} to {last} of {self.name}: {why}")
+            self.held = None
+
+    def leave(self) -> None:
+        """The device was replaced."""
+        self.write()
+        self.plant = None
+        say("another device is in the place of", self.follower.path)
+
+    def step(self, step: Step) -> bool:
+        """Archives an action, or holds one against the archive that has it; whether it is of this plant."""
+        if step.number <= self.plant.last:
+            return self.compare(step)
+        self.actions.append(action_row(self.plant.number, step, self.tags))
+        self.changes += [change_row(self.plant.number, step.number, step.moment, change, self.tags) for change in step.changes]
+        self.floods += [(self.plant.number, one.area, step.number, step.moment, int(one.flooded), one.annunciations) for one in step.floods]
+        self.plant.last, self.plant.moment = step.number, step.moment
+        if len(self.actions) >= STEPS:
+            self.write()
+        return True
+
+    def compare(self, step: Step) -> bool:
+        """Holds an action of the device against the archived one of its number. Where they differ it is another plant, which the next look begins."""
+        while self.next_held and self.next_held[0] < step.number:
+            self.next_held = next(self.held, None)
+        row = action_row(self.plant.number, step, self.tags)
+        if self.next_held and self.next_held[0] == step.number:
+            if self.next_held[1:] != (row[2], row[3], row[4], row[6]):
+                return self.restart()
+            self.compared += 1
+        return step.number < self.plant.last or self.settle()
+
+    def settle(self) -> bool:
+        """The device has all that is archived, so it is that plant, and the file is its file."""
+        self.held = None
+        if not self.compared and self.device() != self.plant.device:
+            return self.restart()
+        self.store.run("UPDATE plant SET device = ? WHERE plant = ?", (self.device(), self.plant.number))
+        self.store.commit()
+        return True
+
+    def restart(self) -> bool:
+        """Begins the device again, as another plant."""
+        self.follower.mirror.close()
+        self.follower.mirror, self.plant, self.held, self.forced = None, None, None, True
+        return False
+
+    def write(self) -> None:
+        """Writes what was gathered, all of it or nothing."""
+        if not self.actions:
+            return
+        for table, rows in (("action", self.actions), ("change", self.changes), ("flood", self.floods)):
+            self.store.insert(table, rows)
+        self.store.commit()
+        self.actions, self.changes, self.floods = [], [], []
+
+
+def run(chosen: argparse.Namespace) -> None:
+    """Archives until it is ended."""
+    name = chosen.name or os.path.splitext(os.path.basename(chosen.device))[0]
+    served = Served(chosen.port, chosen.slot, say)
+    with Store.open(chosen.database, make=True) as store, Follower(chosen.device, served) as follower:
+        archiver = Archiver(store, name, follower)
+        if chosen.once:
+            served.say = lambda *_: None
+            return archive_once(archiver, served)
+        ends = None if chosen.seconds is None else time.monotonic() + chosen.seconds
+        while ends is None or time.monotonic() < ends:
+            try:
+                any_news = archiver.look()
+            except (NoDevice, FileNotFoundError) as fault:
+                # it is being formatted, or replaced: the next look finds what is there then
+                served.say_once(str(fault), "- trying again")
+                any_news = False
+            if not any_news:
+                time.sleep(PAUSE)
+
+
+def archive_once(archiver: Archiver, served: Served) -> None:
+    """Archives what the server shows by now."""
+    while archiver.look():
+        pass
+    if not served.is_there or archiver.plant is None:
+        raise Lost(served.said or f"{archiver.follower.path} isn't the server's device")
+    print(f"{archiver.name}: plant {archiver.plant.number}, {archiver.plant.last} actions")
+
+
+def list_plants(chosen: argparse.Namespace) -> None:
+    """Prints each plant, its actions, and its gaps."""
+    with Store.open(chosen.database) as store:
+        store.still()
+        for plant, name in list(store.rows("SELECT plant, name FROM plant ORDER BY plant")):
+            first, last, began, ended, count = store.row("SELECT MIN(number), MAX(number), MIN(moment), MAX(moment), COUNT(*) FROM action WHERE plant = ?", (plant,))
+            annunciations = store.value("SELECT COUNT(*) FROM change WHERE plant = ? AND annunciated = 1", (plant,))
+            print(f"{name} plant {plant}: {count} actions, {first or '-'} to {last or '-'}, {date(began)} to {date(ended)}, {annunciations} annunciations")
+            for first, last, began, ended, why in store.rows("SELECT first, last, began, ended, why FROM gap WHERE plant = ? ORDER BY first", (plant,)):
+                print(f"  gap: actions {first} to {last}, {date(began)} to {date(ended)}: {why}")
+
+
+def prune(chosen: argparse.Namespace) -> None:
+    """Takes away what is older than a moment. The state of each alarm there is kept as one that was found."""
+    with Store.open(chosen.database) as store:
+        plants = [row[0] for row in store.rows("SELECT plant FROM plant WHERE name = ? ORDER BY plant", (chosen.name,))]
+        if not plants:
+            raise StoreFault(f"{store.place} has no plant of the name {chosen.name}")
+        gone = 0
+        for plant in plants:
+            last = store.last_before(plant, chosen.before)
+            if last:
+                gone += prune_plant(store, plant, *last)
+            if plant != plants[-1] and not store.value("SELECT COUNT(*) FROM action WHERE plant = ?", (plant,)):
+                for table in ("plant", "alarm", "change", "flood", "gap"):
+                    store.run(f"DELETE FROM {table} WHERE plant = ?", (plant,))
+        store.commit()
+        print(f"{chosen.name}: {gone} actions before {date(chosen.before)} pruned")
+
+
+def prune_plant(store: Store, plant: int, last: int, moment: int) -> int:
+    """Takes away the actions of a plant up to a number; how many they were."""
+    count = store.value("SELECT COUNT(*) FROM action WHERE plant = ? AND number <= ?", (plant, last))
+    states = list(store.rows(
+        "SELECT c.alarm, c.tag, c.priority, c.area, c.after, c.flags, c.since FROM change c JOIN (SELECT alarm, MAX(number) AS number FROM change "
+        "WHERE plant = ? AND number <= ? GROUP BY alarm) l ON l.alarm = c.alarm AND l.number = c.number WHERE c.plant = ?", (plant, last, plant)))
+    floods = list(store.rows(
+        "SELECT f.area, f.flooded, f.annunciations FROM flood f JOIN (SELECT area, MAX(number) AS number FROM flood WHERE plant = ? AND number <= ? "
+        "GROUP BY area) l ON l.area = f.area AND l.number = f.number WHERE f.plant = ?", (plant, last, plant)))
+    for table in ("action", "change", "flood"):
+        store.run(f"DELETE FROM {table} WHERE plant = ? AND number <= ?", (plant, last))
+    store.run("DELETE FROM gap WHERE plant = ? AND last <= ?", (plant, last))
+    store.insert("change", [(plant, alarm, last, moment, tag, priority, area, None, after, flags, 0, since)
+                            for alarm, tag, priority, area, after, flags, since in states])
+    store.insert("flood", [(plant, area, last, moment, flooded, annunciations) for area, flooded, annunciations in floods])
+    store.insert("gap", [(plant, 1, last, None, moment, PRUNED)])
+    return count
+
+
+def arguments() -> Words:
+    words = Words("alm_archive", __doc__)
+    commands = words.add_subparsers(required=True, metavar="COMMAND", parser_class=Words)
+    command = commands.add_parser("run", help="archive a served plant")
+    command.add_argument("device", metavar="DEVICE", help="the device file")
+    command.add_argument("database", metavar="DATABASE", help="a file of SQLite, or a database of PostgreSQL")
+    add_port(command)
+    add_slot(command, 13)
+    command.add_argument("--name", metavar="PLANT", help="the plant's name in the archive; the device file's where it is left out")
+    command.add_argument("--once", action="store_true", help="archive what is there, and end")
+    command.add_argument("--seconds", type=float, metavar="S", help="end after S seconds")
+    command.set_defaults(does=run)
+    command = commands.add_parser("list", help="print the plants of an archive")
+    command.add_argument("database", metavar="DATABASE")
+    command.set_defaults(does=list_plants)
+    command = commands.add_parser("prune", help="take away what is older than a moment")
+    command.add_argument("database", metavar="DATABASE")
+    command.add_argument("--name", metavar="PLANT", required=True)
+    command.add_argument("--before", type=moment_of, metavar="MOMENT", required=True, help="a date as 2026-01-31, or seconds of the plant's clock")
+    command.set_defaults(does=prune)
+    return words
+
+
+def main() -> None:
+    chosen = arguments().parse_args()
+    end_of("alm_archive", lambda: chosen.does(chosen), (Lost, NoDevice, OtherPlant, StoreFault))
+
+
+if __name__ == "__main__":
+    main()

@@ -1,0 +1,200 @@
+"""The alarm list of a served plant in a browser, for up to fifteen operators.
+
+    alm_browser DEVICE --port P --listen 8090
+    alm_browser DEVICE --sockets FOLDER --socket SOCKET --proxy https://alarms.example
+
+It reads the device file, and asks the server at one console's slot: 12, or the first of --slots K.. that answers. With --listen it is at
+http://127.0.0.1:8090, and prints the address with the token that lets a browser in. With --socket it is at a Unix socket. There it wants the token
+too, or with --proxy trusts the headers X-Alarms-User and X-Alarms-Role of a proxy that authenticates. Whoever may write to that socket may then
+be anybody: give it to the proxy's group alone, by --group.
+
+Who asked for an action and why is kept by the action's number, with --notes FILE in a file of SQLite, else until it ends.
+"""
+import argparse
+import asyncio
+import getpass
+import grp
+import os
+import secrets
+import signal
+import socket
+import sys
+from pathlib import Path
+from typing import Optional
+from urllib.parse import urlsplit
+
+from arguments import add_port
+from alarm_client import CONSOLES, HOST
+
+from ..words import Words, end_of, sayer
+
+try:
+    from aiohttp import web
+except ImportError:
+    sys.exit("alm_browser: the library aiohttp isn't installed (Debian: python3-aiohttp)")
+
+from .board import Board
+from .doors import Door
+from .notes import Notes, NoNotes
+from .orders import ROLES
+from .watch import STOP, Shown, Watch
+from .web import Site
+
+say = sayer("alm_browser")
+MODE = 0o660
+
+
+class Ended(Exception):
+    """It can't go on; in one line."""
+
+
+def listen_port(text: str) -> int:
+    if not text.isdecimal() or int(text) > 65_535:
+        raise argparse.ArgumentTypeError(f"{text} is no port")
+    return int(text)
+
+
+def origin(text: str) -> str:
+    """A scheme and a host, with or without a port."""
+    parts = urlsplit(text)
+    if parts.scheme not in ("http", "https") or not parts.hostname or text != f"{parts.scheme}://{parts.netloc}" or "@" in text:
+        raise argparse.ArgumentTypeError(f"{text} is no origin: give it as https://alarms.example")
+    return text.lower()
+
+
+def group_of(text: str) -> int:
+    try:
+        return grp.getgrnam(text).gr_gid
+    except KeyError:
+        raise argparse.ArgumentTypeError(f"there is no group {text}") from None
+
+
+def arguments() -> Words:
+    words = Words("alm_browser", __doc__)
+    words.add_argument("device", metavar="DEVICE", help="the device file")
+    add_port(words)
+    words.add_argument("--slots", type=int, choices=CONSOLES, nargs="+", default=[12], metavar="K", help="consoles' slots, of which one is taken; 12 where it is left out")
+    places = words.add_mutually_exclusive_group(required=True)
+    places.add_argument("--listen", type=listen_port, metavar="PORT", help="a port of loopback; 0 for any that is free")
+    places.add_argument("--socket", metavar="SOCKET", help="the path of a Unix socket")
+    words.add_argument("--origin", type=origin, metavar="ORIGIN", help="how browsers name it, if that isn't http://127.0.0.1:PORT")
+    words.add_argument("--proxy", type=origin, metavar="ORIGIN", help="with --socket: how browsers name the proxy whose headers are trusted")
+    words.add_argument("--group", type=group_of, metavar="GROUP", help="with --socket: the group that may open it")
+    words.add_argument("--role", choices=ROLES, default="operator", help="what the token lets one do; %(default)s where it is left out")
+    words.add_argument("--user", default=None, metavar="NAME", help="with a token: the name that is kept with an action; the user's who starts it where it is left out")
+    words.add_argument("--notes", metavar="FILE", help="a file of SQLite for who asked, and why; it is made if it isn't there")
+    words.add_argument("--name", metavar="PLANT", help="the plant's name in the notes; the device file's where it is left out")
+    words.add_argument("--areas", metavar="FILE", help="the names of the areas, one a line")
+    return words
+
+
+def judge(words: Words, chosen: argparse.Namespace) -> None:
+    """Refuses words that don't go together."""
+    if chosen.proxy and not chosen.socket:
+        words.error("--proxy wants --socket: headers are trusted over a Unix socket alone")
+    if chosen.proxy and chosen.origin:
+        words.error("--proxy names the origin: leave --origin out")
+    if chosen.socket and not (chosen.proxy or chosen.origin):
+        words.error("--socket wants --proxy or --origin: how browsers name it")
+    if chosen.group is not None and not chosen.socket:
+        words.error("--group wants --socket")
+
+
+def open_port(port: int) -> socket.socket:
+    """A listening port of loopback."""
+    listening = socket.socket()
+    listening.setsockopt(socket.SOL_SOCKET, socket.SO_REUSEADDR, 1)
+    try:
+        listening.bind((HOST, port))
+    except OSError as error:
+        listening.close()
+        raise Ended(f"port {port}: {error.strerror}") from None
+    return listening
+
+
+def open_socket(path: str, group: Optional[int]) -> socket.socket:
+    """A listening Unix socket, its owner's and its group's alone. One that nobody listens at any more is replaced."""
+    listening = socket.socket(socket.AF_UNIX)
+    mask = os.umask(0o777 ^ MODE)
+    try:
+        if is_left(path):
+            os.unlink(path)
+        listening.bind(path)
+        if group is not None:
+            os.chown(path, -1, group)
+    except OSError as error:
+        listening.close()
+        raise Ended(f"{path}: {error.strerror or error}") from None
+    finally:
+        os.umask(mask)
+    return listening
+
+
+def is_left(path: str) -> bool:
+    """Whether a socket stands there whose process has ended."""
+    with socket.socket(socket.AF_UNIX) as one:
+        try:
+            one.connect(path)
+        except ConnectionRefusedError:
+            return Path(path).is_socket()
+        except OSError:
+            return False
+    return False
+
+
+def read_areas(path: Optional[str]) -> list[str]:
+    if path is None:
+        return []
+    try:
+        return [line.strip() for line in Path(path).read_text(encoding="utf-8").splitlines()]
+    except UnicodeDecodeError:
+        raise Ended(f"{path}: it isn't UTF-8") from None
+
+
+def user_of(chosen: argparse.Namespace) -> str:
+    if chosen.user is not None:
+        return chosen.user
+    try:
+        return getpass.getuser()
+    except (KeyError, OSError):
+        return str(os.getuid())
+
+
+async def serve(chosen: argparse.Namespace) -> None:
+    """Serves until a signal, or until the thread that follows the plant has failed."""
+    listening = open_port(chosen.listen) if chosen.socket is None else open_socket(chosen.socket, chosen.group)
+    place = chosen.proxy or chosen.origin or f"http://{HOST}:{listening.getsockname()[1]}"
+    door = Door(place, None if chosen.proxy else secrets.token_urlsafe(32), user_of(chosen), chosen.role)
+    loop, ended = asyncio.get_running_loop(), asyncio.get_running_loop().create_future()
+    shown = Shown(chosen.port, chosen.slots, say)
+    board = Board(read_areas(chosen.areas), lambda: shown.answered)
+    notes = Notes(chosen.notes or ":memory:", chosen.name or Path(chosen.device).stem)
+    tell = lambda batch: loop.call_soon_threadsafe(board.take, batch)
+    fail = lambda fault: loop.call_soon_threadsafe(lambda: ended.done() or ended.set_exception(fault))
+    watch = Watch(chosen.device, shown, notes, tell, fail)
+    for number in (signal.SIGTERM, signal.SIGINT):
+        loop.add_signal_handler(number, lambda: ended.done() or ended.set_result(None))
+    runner = web.AppRunner(Site(door, board, watch).application(), access_log=None)
+    await runner.setup()
+    await web.SockSite(runner, listening, shutdown_timeout=1).start()
+    watch.thread.start()
+    print(f"alm_browser: {place}/" + (f"?token={door.token}" if door.token else ""), flush=True)
+    try:
+        await ended
+    finally:
+        watch.orders.put(STOP)
+        await runner.cleanup()
+        await loop.run_in_executor(None, watch.thread.join, 3)
+        if chosen.socket:
+            Path(chosen.socket).unlink(missing_ok=True)
+
+
+def main() -> None:
+    words = arguments()
+    chosen = words.parse_args()
+    judge(words, chosen)
+    end_of("alm_browser", lambda: asyncio.run(serve(chosen)), (Ended, NoNotes))
+
+
+if __name__ == "__main__":
+    main()

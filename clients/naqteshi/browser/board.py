@@ -1,0 +1,96 @@
+"""What the browsers show, and what each of them hasn't been told yet.
+
+A browser that is slow holds up nobody: what it misses is kept as the numbers of the alarms that changed, and it is told their last states.
+"""
+import asyncio
+import collections
+import json
+import time
+from typing import Any, Callable, Optional
+
+from .watch import EVENTS, Batch
+
+# Seconds between two words to a browser to which nothing changed, and the least between two to which something did.
+TICK, REST = 0.5, 0.03
+# Seconds after which a plant's clock that hasn't moved stands still.
+STANDS = 5
+READING = "the plant is being read"
+
+
+def written(value: Any) -> str:
+    return json.dumps(value, separators=(",", ":"))
+
+
+class Reader:
+    """A browser's place: what it hasn't been told."""
+
+    def __init__(self, at: int):
+        self.needs_whole, self.changed, self.at = True, set(), at
+        self.news = asyncio.Event()
+
+    async def wait(self) -> None:
+        """Waits for news, no longer than a tick."""
+        try:
+            await asyncio.wait_for(self.news.wait(), TICK)
+        except asyncio.TimeoutError:
+            pass
+
+
+class Board:
+    """The plant as its rows' texts, and the readers."""
+
+    def __init__(self, areas: list[str], answered: Callable[[], float]):
+        self.areas, self.answered = areas, answered
+        self.era: Optional[str] = None
+        self.table, self.rows = "[]", {}
+        self.events: collections.deque[list[Any]] = collections.deque(maxlen=EVENTS)
+        self.told = 0
+        self.head: dict[str, Any] = {"trouble": READING, "fault": ""}
+        self.now, self.moved = None, time.monotonic()
+        self.readers: set[Reader] = set()
+
+    def take(self, batch: Batch) -> None:
+        """Takes what is new."""
+        if batch.is_whole:
+            if batch.era != self.era:
+                self.events.clear()
+            self.era, self.table, self.rows = batch.era, written(batch.table), {}
+        self.rows.update((number, written(row)) for number, row in batch.rows.items())
+        self.events.extend(batch.events)
+        self.told += len(batch.events)
+        self.head = batch.head
+        if batch.head.get("now") != self.now:
+            self.now, self.moved = batch.head.get("now"), time.monotonic()
+        for reader in self.readers:
+            reader.needs_whole |= batch.is_whole
+            reader.changed.update(batch.rows)
+            reader.news.set()
+
+    def join(self) -> Reader:
+        reader = Reader(self.told)
+        self.readers.add(reader)
+        return reader
+
+    def leave(self, reader: Reader) -> None:
+        self.readers.discard(reader)
+
+    def head_now(self) -> dict[str, Any]:
+        """The head with what time alone changes: since when the server hasn't answered, and for how long the plant's clock has stood still."""
+        now = time.monotonic()
+        still = int(now - self.moved)
+        return {**self.head, "age": round(min(now - self.answered(), 1e6), 1), "still": still if still >= STANDS and self.now is not None else 0}
+
+    def news(self, reader: Reader) -> str:
+        """What a reader hasn't been told, as an event of the stream."""
+        reader.news.clear()
+        head = written(self.head_now())
+        if reader.needs_whole:
+            kind, numbers, events = "all", list(self.rows), list(self.events)
+            more = f',"era":{written(self.era)},"areas":{written(self.areas)},"table":{self.table}'
+        else:
+            kind, numbers, more = "news", sorted(reader.changed), ""
+            missed = min(self.told - reader.at, len(self.events))
+            events = list(self.events)[len(self.events) - missed:]
+        rows = ",".join(self.rows[number] for number in numbers)
+        reader.needs_whole, reader.changed, reader.at = False, set(), self.told
+        return f'event: {kind}\ndata: {{"rows":[{rows}],"events":{written(events)},"head":{head}{more}}}\n\n'

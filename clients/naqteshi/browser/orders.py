@@ -1,0 +1,113 @@
+"""What an operator may ask for by the page, and what is said where it isn't done."""
+from dataclasses import dataclass
+from typing import Any, Callable, NamedTuple, Optional
+
+from alarm_client import Refusal
+from table_file import READING_LIMIT, SHELVE_LIMIT
+
+from .notes import Asker
+
+ROLES = ("viewer", "operator", "engineer")
+# Which role each action wants at least, and the limits of its number where it has one.
+ACTIONS = {
+    "ACK": ("operator", None),
+    "RESET": ("operator", None),
+    "SHELVE": ("operator", (1, SHELVE_LIMIT)),
+    "UNSHELVE": ("operator", None),
+    "OOS": ("operator", (0, 1)),
+    "PRIO": ("engineer", (1, 4)),
+    "SETP": ("engineer", (-READING_LIMIT, READING_LIMIT)),
+}
+WITH_REASON = ("SHELVE", "OOS", "PRIO", "SETP")
+# Actions that are bound to the annunciation that was seen, and the refusal of one where there is none.
+SEEN = {"ACK": Refusal.NOT_UNACKNOWLEDGED, "RESET": Refusal.NOT_RESETTABLE}
+MOST_ALARMS, MOST_REASON = 1000, 200
+# Why the server refused, for an operator.
+REASONS = {
+    Refusal.NO_SUCH_ALARM: "the plant has no such alarm",
+    Refusal.NOT_UNACKNOWLEDGED: "there is nothing to acknowledge, as if another console was first",
+    Refusal.NOT_RESETTABLE: "it is no latched alarm that is acknowledged and gone",
+    Refusal.ALREADY_SHELVED: "it is shelved",
+    Refusal.NOT_SHELVED: "it isn't shelved",
+    Refusal.SHELVE_LENGTH: "the table doesn't allow so long a shelving",
+    Refusal.ALREADY_SET: "it is out of service",
+    Refusal.NOT_SET: "it is in service",
+    Refusal.STOPPED: "the server's storage has stopped: look again when it is back",
+    Refusal.PRIORITY_RANGE: "a priority is 1 to 4",
+    Refusal.SAME_VALUE: "it has that already",
+}
+AGAIN = "it has come again since it was seen: look again"
+ALSO_AGAIN = "it had come again just before: look at it"
+NO_SERVER = "no server: nothing was asked"
+NO_REPLY = "no reply came: look whether it was done once the server is back"
+OTHER_PLANT = "the plant is another one than was seen: look again"
+
+
+class Answer(NamedTuple):
+    """What came of an action of one alarm: `done`, `refused` or `lost`, its number if it was done, and what is to be said."""
+
+    alarm: int
+    outcome: str
+    number: Optional[int]
+    said: str
+
+
+class BadOrder(Exception):
+    """A page of ours doesn't ask so."""
+
+
+class NotAllowed(Exception):
+    """The role doesn't have this action."""
+
+
+@dataclass
+class Order:
+    """An action of some alarms, each with the stamp of the annunciation that was seen."""
+
+    era: str
+    word: str
+    alarms: list[tuple[int, int]]
+    value: Optional[int]
+    asker: Asker
+    answer: Callable[[list[Answer]], None]
+
+    def request(self, alarm: int) -> str:
+        """The line that asks it of an alarm."""
+        if self.word == "OOS":
+            return f"OOS {alarm} {'ON' if self.value else 'OFF'}"
+        return f"{self.word} {alarm}" + ("" if self.value is None else f" {self.value}")
+
+
+def may(role: str, word: str) -> bool:
+    """Whether a role has an action."""
+    return ROLES.index(role) >= ROLES.index(ACTIONS[word][0])
+
+
+def is_number(value: Any, least: int, most: int) -> bool:
+    return isinstance(value, int) and not isinstance(value, bool) and least <= value <= most
+
+
+def read_order(asked: Any, user: str, role: str, answer: Callable[[list[Answer]], None]) -> Order:
+    """The order in what a page sent."""
+    if not isinstance(asked, dict) or asked.get("word") not in ACTIONS:
+        raise BadOrder("no such action")
+    word, value, reason, alarms = asked["word"], asked.get("value"), asked.get("reason", ""), asked.get("alarms")
+    limits = ACTIONS[word][1]
+    if not may(role, word):
+        raise NotAllowed(f"the role {role} doesn't have {word}")
+    if (value is not None) if limits is None else not is_number(value, *limits):
+        raise BadOrder("the number is out of its limits")
+    if not isinstance(reason, str) or len(reason) > MOST_REASON or not reason.isprintable():
+        raise BadOrder(f"a reason has at most {MOST_REASON} letters")
+    if word in WITH_REASON and not reason.strip():
+        raise BadOrder("a reason is wanted")
+    if not isinstance(alarms, list) or not 0 < len(alarms) <= MOST_ALARMS or not all(is_seen(one) for one in alarms):
+        raise BadOrder("no alarms, or too many")
+    if not isinstance(asked.get("era"), str):
+        raise BadOrder("no plant")
+    return Order(asked["era"], word, [(alarm, stamp) for alarm, stamp in alarms], value, Asker(user, role, reason.strip()), answer)
+
+
+def is_seen(one: Any) -> bool:
+    """Whether it is an alarm's number and a stamp."""
+    return isinstance(one, list) and len(one) == 2 and is_number(one[0], 0, 2**32) and is_number(one[1], 0, 2**53)

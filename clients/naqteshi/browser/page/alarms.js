@@ -1,0 +1,823 @@
+// The alarm list of a plant. The stream tells rows as they change; what an operator asks goes out by /do, bound to the annunciation that was on the
+// screen. Nothing is kept here that the server hasn't shown.
+"use strict";
+
+// The places of a row, and of an alarm in the table.
+const [N, PRIORITY, AREA, SHOWN, FLAGS, ACTIVE, SINCE, THIRD, DEADLINE, STAMP, VALUE, LIMIT] = Array(12).keys();
+const [TAG, TEXT, KIND, DEADBAND, MAX_SHELVE, LATCHING] = Array(6).keys();
+const [E_NUMBER, E_MOMENT, E_ALARM, E_WORD, E_VALUE, E_BEFORE, E_AFTER, E_USER, E_REASON] = Array(9).keys();
+const SHELVED = 1, BY_DESIGN = 2, OUT_OF_SERVICE = 4;
+const WORDS = {NORM: "Normal", UNACK: "Unack", ACKED: "Acked", RTNUN: "RTN unack", LATUN: "Latch unack", LATAK: "Latched",
+  SHLVD: "Shelved", DSUPR: "By design", OOSRV: "Out of service"};
+const UNACKNOWLEDGED = new Set(["UNACK", "RTNUN", "LATUN"]), ANNUNCIATED = new Set([...UNACKNOWLEDGED, "ACKED", "LATAK"]);
+const DAY = 86400, DATES = 1e9;
+// Milliseconds: between two drawings, a half of a flash, what an annunciation has to be on the screen to be seen, and silence that is a loss.
+const REST = 60, FLASH = 500, GLANCE = 250, SILENCE = 1500, AGAIN = 700;
+// Seconds without an answer of the server after which the list may be old, and rows that are drawn beyond the screen's ends.
+const OLD = 1, SPARE = 6, MOST_EVENTS = 1000, MOST_ALARMS = 1000;
+const SOUNDS = {1: [880, 880, 880], 2: [660, 660], 3: [520], 4: [390], lost: [300, 220]};
+const EVERY = {1: 2000, 2: 4000, 3: 8000, 4: 15000};
+const DURATIONS = [900, 1800, 3600, 7200, 14400, 28800, 43200, 86400, 172800, 604800];
+
+const $ = id => document.getElementById(id);
+
+// What this browser keeps between two visits; nothing where it may not.
+function kept(name, value) {
+  try {
+    return value === undefined ? localStorage.getItem(name) : localStorage.setItem(name, value);
+  } catch (error) {
+    return null;
+  }
+}
+
+const plant = {era: null, areas: [], table: [], rows: [], events: [], head: {trouble: "the plant is being read", age: 0, still: 0, fault: ""}};
+const me = {user: "", role: "viewer", key: ""};
+const look = {view: "alarms", sort: "order", down: false, area: "", state: "", text: "", priorities: new Set()};
+const screen_ = {items: [], counts: {}, chosen: new Set(), anchor: null, cursor: 0, seen: new Map(), drawn: new Map(), due: 0, last: 0};
+const link = {heard: performance.now(), signedOut: false, wasOld: false, again: () => 0};
+const sound = {on: kept("sound") !== "off", context: null, silenced: new Map(), next: 0, priority: 0};
+
+const isChattering = row => row[THIRD] !== null && row[THIRD] > plant.head.now - 60;
+const isStale = row => ANNUNCIATED.has(row[SHOWN]) && row[SINCE] <= plant.head.now - DAY;
+const VIEWS = {
+  alarms: ["Alarms", row => ANNUNCIATED.has(row[SHOWN])],
+  shelved: ["Shelved", row => row[FLAGS] & SHELVED],
+  design: ["By design", row => row[FLAGS] & BY_DESIGN],
+  service: ["Out of service", row => row[FLAGS] & OUT_OF_SERVICE],
+  chatter: ["Chattering", isChattering],
+  stale: ["Stale", isStale],
+  all: ["All", () => true],
+  journal: ["Journal", null],
+};
+const STATES = {
+  "": () => true,
+  unacknowledged: row => UNACKNOWLEDGED.has(row[SHOWN]),
+  acknowledged: row => row[SHOWN] === "ACKED" || row[SHOWN] === "LATAK",
+  standing: row => row[ACTIVE],
+  returned: row => ["RTNUN", "LATUN", "LATAK"].includes(row[SHOWN]),
+};
+
+// ---- words
+
+const areaName = area => plant.areas[area] || `Area ${area}`;
+const tagOf = n => plant.table[n][TAG];
+
+function time(moment) {
+  if (moment === null || moment === undefined) return "";
+  if (moment < DATES) return `${moment} s`;
+  const date = new Date(moment * 1000), clock = date.toLocaleTimeString("en-GB");
+  return Math.abs(plant.head.now - moment) < DAY / 2 ? clock : `${date.toLocaleDateString("en-CA").slice(5)} ${clock.slice(0, 5)}`;
+}
+
+function span(seconds) {
+  const hours = Math.floor(seconds / 3600), two = number => String(number).padStart(2, "0");
+  const rest = `${two(Math.floor(seconds / 60) % 60)}:${two(seconds % 60)}`;
+  return hours >= 48 ? `${Math.floor(hours / 24)} d ${hours % 24} h` : hours ? `${hours}:${rest}` : rest;
+}
+
+function length(seconds) {
+  if (seconds % DAY === 0) return `${seconds / DAY} d`;
+  return seconds % 3600 === 0 ? `${seconds / 3600} h` : seconds % 60 === 0 ? `${seconds / 60} min` : `${seconds} s`;
+}
+
+function happening(event) {
+  const [value, after] = [event[E_VALUE], event[E_AFTER]];
+  switch (event[E_WORD]) {
+    case "VAL": return after === event[E_BEFORE] ? `value ${value}, suppressed` : after === "UNACK" ? `came at ${value}` : `returned at ${value}`;
+    case "ACK": return "acknowledged";
+    case "RESET": return "reset";
+    case "SHELVE": return `shelved for ${length(value)}`;
+    case "UNSHELVE": return "unshelved";
+    case "CLOCK": return "its shelving ended";
+    case "OOS": return value ? "out of service" : "back in service";
+    case "DESIGN": return value ? "suppressed by design" : "no longer suppressed by design";
+    case "PRIO": return `given priority ${value}`;
+    case "SETP": return `given setpoint ${value}`;
+    case "FLOOD": return `${areaName(value)}: a flood began`;
+    case "FLOOD END": return `${areaName(value)}: the flood ended`;
+    default: return `${value} actions aren't known: the file no longer has them`;
+  }
+}
+
+// ---- what is shown
+
+const COLUMNS = {
+  box: ["", "c-box", null],
+  mark: ["P", "c-mark", row => row[PRIORITY]],
+  time: ["Time", "c-time", row => row[SINCE] ?? -1],
+  state: ["State", "c-state", row => WORDS[row[SHOWN]]],
+  tag: ["Tag", "c-tag", row => tagOf(row[N])],
+  text: ["Text", "c-text", row => plant.table[row[N]][TEXT]],
+  value: ["Value", "c-value number", row => row[VALUE] ?? -Infinity],
+  limit: ["Limit", "c-limit number", row => row[LIMIT]],
+  area: ["Area", "c-area", row => row[AREA]],
+  left: ["Left", "c-left number", row => row[DEADLINE] ?? Infinity],
+  marks: ["Marks", "c-marks", null],
+};
+const JOURNAL = [["Time", "c-time"], ["Action", "c-number number"], ["Tag", "c-tag"], ["What happened", "c-what"], ["Became", "c-state"], ["By", "c-user"], ["Reason", "c-reason"]];
+
+function columns() {
+  return Object.keys(COLUMNS).filter(name => (name !== "left" || look.view === "shelved" || look.view === "all") && (name !== "value" || look.view !== "shelved"));
+}
+
+function isFiltered(row) {
+  const alarm = plant.table[row[N]];
+  return (look.area === "" || row[AREA] === Number(look.area)) && (!look.priorities.size || look.priorities.has(row[PRIORITY])) &&
+    STATES[look.state](row) && (!look.text || `${alarm[TAG]} ${alarm[TEXT]}`.toLowerCase().includes(look.text));
+}
+
+// Unacknowledged first, then by priority, then the newest.
+function inOrder(one, other) {
+  return UNACKNOWLEDGED.has(other[SHOWN]) - UNACKNOWLEDGED.has(one[SHOWN]) || one[PRIORITY] - other[PRIORITY] || other[STAMP] - one[STAMP] || one[N] - other[N];
+}
+
+function sorted(rows) {
+  if (look.sort === "order") return rows.sort(inOrder);
+  const key = COLUMNS[look.sort][2], sign = look.down ? -1 : 1;
+  return rows.map(row => [key(row), row]).sort((one, other) => (one[0] < other[0] ? -sign : one[0] > other[0] ? sign : inOrder(one[1], other[1]))).map(pair => pair[1]);
+}
+
+function isListed(event) {
+  const row = event[E_ALARM] === null ? null : plant.rows[event[E_ALARM]];
+  const area = row ? row[AREA] : event[E_VALUE];
+  const words = `${row ? tagOf(row[N]) + " " + plant.table[row[N]][TEXT] : ""} ${happening(event)} ${event[E_USER] ?? ""} ${event[E_REASON] ?? ""}`;
+  return (look.area === "" || area === Number(look.area)) && (!look.text || words.toLowerCase().includes(look.text)) && (!look.priorities.size || (row && look.priorities.has(row[PRIORITY])));
+}
+
+// Which rows the view has, in their order, and how many there are of each kind.
+function arrange() {
+  const counts = Object.fromEntries(Object.keys(VIEWS).map(view => [view, 0]));
+  const priorities = [null, [0, 0], [0, 0], [0, 0], [0, 0]], listed = [];
+  const kinds = Object.entries(VIEWS).filter(([, kind]) => kind[1]);
+  for (const row of plant.rows) {
+    for (const [view, [, has]] of kinds) {
+      if (has(row)) {
+        counts[view]++;
+        if (view === look.view) listed.push(row);
+      }
+    }
+    if (ANNUNCIATED.has(row[SHOWN])) {
+      priorities[row[PRIORITY]][1]++;
+      if (UNACKNOWLEDGED.has(row[SHOWN])) priorities[row[PRIORITY]][0]++;
+    }
+  }
+  const items = look.view === "journal" ? plant.events.filter(isListed).reverse() : sorted(listed.filter(isFiltered));
+  const total = look.view === "journal" ? plant.events.length : listed.length;
+  Object.assign(screen_, {items, counts, priorities, hidden: total - items.length});
+  const there = look.view === "journal" ? new Set() : new Set(items.map(row => row[N]));
+  for (const n of screen_.chosen) if (!there.has(n)) screen_.chosen.delete(n);
+  screen_.cursor = Math.max(0, Math.min(screen_.cursor, items.length - 1));
+}
+
+// ---- drawing
+
+function touch() {
+  if (!screen_.due) screen_.due = setTimeout(draw, Math.max(0, screen_.last + REST - performance.now()));
+}
+
+function draw() {
+  clearTimeout(screen_.due);
+  const cursor = screen_.items[screen_.cursor];
+  screen_.due = 0;
+  screen_.last = performance.now();
+  arrange();
+  if (cursor && screen_.chosen.has(cursor[N])) screen_.cursor = screen_.items.findIndex(row => row[N] === cursor[N]);
+  drawHead();
+  drawFloods();
+  drawTabs();
+  drawFilters();
+  drawColumns();
+  drawRows();
+  drawActions();
+}
+
+function put(element, text) {
+  if (element.textContent !== text) element.textContent = text;
+}
+
+function mark(priority) {
+  return $(`mark-${priority}`).content.firstElementChild.cloneNode(true);
+}
+
+function drawHead() {
+  for (const button of $("priorities").children) {
+    const priority = Number(button.dataset.priority), [unacknowledged, all] = screen_.priorities[priority];
+    put(button.lastElementChild, `${unacknowledged} / ${all}`);
+    button.setAttribute("aria-pressed", look.priorities.has(priority));
+    button.setAttribute("aria-label", `Priority ${priority}: ${unacknowledged} unacknowledged of ${all}`);
+  }
+  put($("clock"), plant.era ? `Plant ${time(plant.head.now)}` : "");
+  put($("who"), me.user ? `${me.user} (${me.role})` : "");
+  put($("sound"), !sound.on ? "Sound off" : sound.context?.state === "running" ? "Sound on" : "Sound: press to allow");
+  $("sound").setAttribute("aria-pressed", sound.on);
+  $("silence").disabled = !sound.priority;
+  const unacknowledged = screen_.priorities.slice(1).reduce((sum, pair) => sum + pair[0], 0);
+  document.title = unacknowledged ? `(${unacknowledged}) Alarm list` : "Alarm list";
+}
+
+// Why the list may be old; empty while it isn't.
+function oldness() {
+  const silent = performance.now() - link.heard;
+  if (link.signedOut) return "SIGNED OUT, the list may be old. Open the address that alm_browser printed last.";
+  if (silent > SILENCE) return `NO SERVER, the list may be old: nothing heard for ${Math.round(silent / 1000)} s`;
+  if (plant.head.age > OLD) return `NO SERVER, the list may be old: no answer for ${Math.round(plant.head.age)} s${plant.head.trouble ? ` (${plant.head.trouble})` : ""}`;
+  if (plant.head.trouble) return `NO SERVER, the list may be old: ${plant.head.trouble}`;
+  return plant.era ? "" : "NO SERVER, there is no list yet";
+}
+
+function drawTrouble() {
+  const old = oldness(), lines = [old];
+  if (!old && plant.head.still) lines.push(`The plant's clock has stood still for ${span(plant.head.still)}: no shelving and no flood ends`);
+  if (plant.head.fault) lines.push(`Who does what isn't kept: ${plant.head.fault}`);
+  put($("trouble"), lines.filter(Boolean).join(". "));
+  $("trouble").hidden = !$("trouble").textContent;
+  put($("connection"), old ? "No server" : "Server answers");
+  if (document.body.classList.toggle("old", Boolean(old)) !== link.wasOld) {
+    link.wasOld = Boolean(old);
+    if (old) play("lost");
+    drawActions();
+  }
+}
+
+function drawFloods() {
+  const floods = (plant.head.floods ?? []).map(([total, flooded], area) => [area, total, flooded]).filter(flood => flood[2]);
+  const texts = floods.map(([area, total]) => [area, `${areaName(area)}: ${total} in 10 min`]);
+  const place = $("floods");
+  place.hidden = !floods.length;
+  if (place.dataset.said === JSON.stringify(texts)) return;
+  place.dataset.said = JSON.stringify(texts);
+  const kept = document.activeElement?.dataset.area;
+  place.replaceChildren("ALARM FLOOD", ...texts.map(([area, text]) => {
+    const button = document.createElement("button");
+    Object.assign(button, {type: "button", textContent: text, title: "Show this area alone"});
+    button.dataset.area = area;
+    return button;
+  }));
+  if (kept !== undefined) place.querySelector(`[data-area="${kept}"]`)?.focus();
+}
+
+function drawTabs() {
+  for (const tab of $("tabs").children) {
+    const view = tab.dataset.view;
+    put(tab, VIEWS[view][0] + (view === "journal" || view === "all" ? "" : ` ${screen_.counts[view]}`));
+    tab.setAttribute("aria-selected", view === look.view);
+    tab.tabIndex = view === look.view ? 0 : -1;
+  }
+}
+
+function drawFilters() {
+  put($("hidden"), screen_.hidden ? `${screen_.hidden} hidden by filters` : "");
+  const areas = plant.head.floods?.length ?? 0, select = $("area");
+  const names = ["all", ...Array.from({length: areas}, (_, area) => areaName(area))];
+  if (select.dataset.names !== JSON.stringify(names)) {
+    select.dataset.names = JSON.stringify(names);
+    select.replaceChildren(...names.map((name, place) => new Option(name, place ? place - 1 : "")));
+  }
+  if (look.area !== "" && look.area >= areas && plant.era) look.area = "";
+  select.value = look.area;
+  $("state").disabled = look.view === "journal";
+  const row = look.view === "journal" ? null : screen_.items[screen_.cursor], alarm = row && plant.table[row[N]];
+  put($("detail"), !row || !screen_.chosen.has(row[N]) ? "" : `${alarm[TAG]}: ${alarm[KIND]} ${row[LIMIT]}, deadband ${alarm[DEADBAND]}` +
+    `${alarm[LATCHING] ? ", latches" : ""}, ${alarm[MAX_SHELVE] ? `shelved for ${length(alarm[MAX_SHELVE])} at most` : "isn't shelved"}. ${alarm[TEXT]}`);
+}
+
+function drawColumns() {
+  const names = look.view === "journal" ? JOURNAL.map(([text, kind]) => [null, text, kind]) : columns().map(name => [name, ...COLUMNS[name]]);
+  const key = JSON.stringify([names, look.sort, look.down]);
+  if ($("columns").dataset.key === key) return;
+  const focused = document.activeElement?.dataset.sort;
+  $("columns").dataset.key = key;
+  $("columns").replaceChildren(...names.map(([name, text, kind]) => {
+    const head = document.createElement("th"), button = document.createElement("button"), isSort = name && name === look.sort;
+    head.className = kind;
+    head.setAttribute("role", "columnheader");
+    head.scope = "col";
+    if (isSort) head.setAttribute("aria-sort", look.down ? "descending" : "ascending");
+    Object.assign(button, {type: "button", textContent: text + (isSort ? (look.down ? " ▾" : " ▴") : name === "mark" && look.sort === "order" ? " ●" : "")});
+    button.disabled = !name || name === "box" || name === "marks";
+    if (name) button.dataset.sort = name === "mark" && look.sort !== "order" ? "order" : name;
+    if (name === "mark") button.setAttribute("aria-label", "Unacknowledged, then priority, then time");
+    if (name === "box") button.setAttribute("aria-label", "Selected");
+    head.append(button);
+    return head;
+  }));
+  $("columns").querySelector(`[data-sort="${focused}"]`)?.focus();
+  screen_.drawn.clear();
+  $("rows").replaceChildren();
+}
+
+function rowHeight() {
+  return parseInt(getComputedStyle(document.documentElement).getPropertyValue("--row"), 10);
+}
+
+// Which rows are whole on the screen: the first of them, and the one behind the last.
+function onScreen() {
+  const list = $("list"), height = rowHeight(), room = list.clientHeight - $("columns").offsetHeight;
+  const first = Math.ceil((list.scrollTop - 2) / height);
+  return [Math.max(0, first), Math.min(screen_.items.length, Math.floor((list.scrollTop + room + 2) / height))];
+}
+
+function drawRows() {
+  const list = $("list"), height = rowHeight(), isJournal = look.view === "journal";
+  const first = Math.max(0, Math.floor(list.scrollTop / height) - SPARE);
+  const items = screen_.items.slice(first, Math.ceil((list.scrollTop + list.clientHeight) / height) + SPARE);
+  const kept = new Map(), wanted = items.map((item, place) => {
+    const key = isJournal ? `${item[E_NUMBER]} ${item[E_ALARM]} ${item[E_WORD]}` : item[N];
+    const drawn = screen_.drawn.get(key) ?? newRow(isJournal ? null : key);
+    kept.set(key, drawn);
+    (isJournal ? fillEvent : fillRow)(drawn, item, first + place);
+    return drawn.element;
+  });
+  screen_.drawn = kept;
+  // Rows that stand where they stood aren't moved, so that a click on one isn't lost.
+  const body = $("rows");
+  for (const element of [...body.children]) if (!wanted.includes(element)) element.remove();
+  wanted.forEach((element, place) => body.children[place] === element || body.insertBefore(element, body.children[place] ?? null));
+  $("above").firstElementChild.firstElementChild.style.height = `${first * height}px`;
+  $("below").firstElementChild.firstElementChild.style.height = `${Math.max(0, screen_.items.length - first - items.length) * height}px`;
+  list.setAttribute("aria-rowcount", screen_.items.length + 1);
+  put($("empty"), screen_.items.length ? "" : screen_.hidden ? "None but those that the filters hide." : "None.");
+  $("empty").hidden = Boolean(screen_.items.length);
+  noteSeen();
+}
+
+function newRow(n) {
+  const element = document.createElement("tr");
+  element.setAttribute("role", "row");
+  if (n !== null) {
+    element.id = `row-${n}`;
+    element.dataset.n = n;
+  }
+  return {element, key: ""};
+}
+
+function cell(kind, text) {
+  const one = document.createElement("td");
+  one.className = kind;
+  one.setAttribute("role", "gridcell");
+  if (text instanceof Node) one.append(text);
+  else if (kind === "text" || kind === "area" || kind === "reason") one.append(Object.assign(document.createElement("span"), {className: "two", textContent: text, title: text}));
+  else one.textContent = text;
+  return one;
+}
+
+function tips(row) {
+  const all = Object.assign(document.createElement("span"), {className: "two"});
+  const flood = ANNUNCIATED.has(row[SHOWN]) && plant.head.floods?.[row[AREA]]?.[1];
+  for (const [word, has] of [["Flood", flood], ["Stale", isStale(row)], ["Chatter", isChattering(row)], ["Shelved", row[FLAGS] & SHELVED && row[SHOWN] !== "SHLVD"],
+    ["By design", row[FLAGS] & BY_DESIGN && row[SHOWN] !== "DSUPR"], ["Holds", row[FLAGS] && row[ACTIVE]]]) {
+    if (!has) continue;
+    const tip = document.createElement("span");
+    tip.className = "tip";
+    tip.textContent = word;
+    all.append(tip);
+  }
+  return all;
+}
+
+const CELLS = {
+  box: (row, isChosen) => cell("box", isChosen ? "☑" : "☐"),
+  mark: row => cell("mark-cell", mark(row[PRIORITY])),
+  time: row => cell("time", time(row[SINCE])),
+  state: row => cell("state", WORDS[row[SHOWN]]),
+  tag: row => cell("tag", tagOf(row[N])),
+  text: row => cell("text", plant.table[row[N]][TEXT]),
+  value: row => cell("value number", row[VALUE] === null ? "" : String(row[VALUE])),
+  limit: row => cell("limit number", String(row[LIMIT])),
+  area: row => cell("area", areaName(row[AREA])),
+  left: row => cell("left number", row[DEADLINE] === null ? "" : span(Math.max(0, row[DEADLINE] - plant.head.now))),
+  marks: row => cell("marks", tips(row)),
+};
+
+function fillRow(drawn, row, place) {
+  const isChosen = screen_.chosen.has(row[N]), isCursor = place === screen_.cursor, element = drawn.element;
+  const cells = columns().map(name => CELLS[name](row, isChosen));
+  const key = cells.map(one => one.textContent).join("\n") + row[PRIORITY];
+  if (key !== drawn.key) element.replaceChildren(...cells);
+  drawn.key = key;
+  element.className = [UNACKNOWLEDGED.has(row[SHOWN]) ? "unacknowledged" : "", !row[ACTIVE] || row[FLAGS] ? "quiet" : "", isChosen ? "chosen" : "", isCursor ? "cursor" : ""].filter(Boolean).join(" ");
+  element.setAttribute("aria-selected", isChosen);
+  element.setAttribute("aria-rowindex", place + 2);
+  if (isCursor) $("list").setAttribute("aria-activedescendant", element.id);
+}
+
+function fillEvent(drawn, event, place) {
+  const texts = [["time", time(event[E_MOMENT])], ["number", String(event[E_NUMBER])], ["tag", event[E_ALARM] === null ? "" : tagOf(event[E_ALARM])], ["text", happening(event)],
+    ["state", WORDS[event[E_AFTER]] ?? ""], ["user", event[E_USER] ?? ""], ["reason", event[E_REASON] ?? ""]];
+  const key = JSON.stringify(texts);
+  if (key !== drawn.key) drawn.element.replaceChildren(...texts.map(([kind, text]) => cell(kind, text)));
+  drawn.key = key;
+  drawn.element.className = place === screen_.cursor ? "cursor" : "";
+}
+
+// Takes note of which annunciation of each alarm is on the screen, and since when.
+function noteSeen() {
+  if (document.visibilityState !== "visible" || look.view === "journal") return;
+  const [first, end] = onScreen(), now = performance.now();
+  for (const row of screen_.items.slice(first, end)) {
+    const before = screen_.seen.get(row[N]);
+    if (before?.stamp !== row[STAMP]) screen_.seen.set(row[N], {stamp: row[STAMP], at: now, before: before?.stamp ?? 0});
+  }
+}
+
+// The annunciation of an alarm that an operator has seen: what came onto the screen just now nobody has.
+function stampSeen(n) {
+  const one = screen_.seen.get(n);
+  return !one ? 0 : performance.now() - one.at >= GLANCE ? one.stamp : one.before;
+}
+
+// ---- actions
+
+const unacknowledgedShown = () => look.view === "journal" ? [] : screen_.items.slice(...onScreen()).filter(row => UNACKNOWLEDGED.has(row[SHOWN])).map(row => row[N]);
+const chosenRows = () => [...screen_.chosen].map(n => plant.rows[n]);
+const mayDo = word => me.role === "engineer" || (me.role === "operator" && word !== "PRIO" && word !== "SETP");
+
+// Which of the selected alarms each action is for.
+const FOR = {
+  ACK: row => UNACKNOWLEDGED.has(row[SHOWN]),
+  RESET: row => row[SHOWN] === "LATAK",
+  SHELVE: row => !(row[FLAGS] & SHELVED),
+  UNSHELVE: row => row[FLAGS] & SHELVED,
+  "OOS ON": row => !(row[FLAGS] & OUT_OF_SERVICE),
+  "OOS OFF": row => row[FLAGS] & OUT_OF_SERVICE,
+  PRIO: () => true,
+  SETP: () => screen_.chosen.size === 1,
+};
+
+function drawActions() {
+  const chosen = look.view === "journal" ? [] : chosenRows(), shown = unacknowledgedShown();
+  for (const button of $("actions").querySelectorAll("button")) {
+    const act = button.dataset.act;
+    button.hidden = !mayDo(act);
+    button.disabled = link.wasOld || (act === "SHOWN" ? !shown.length : !chosen.some(FOR[act]));
+  }
+  const button = $("actions").querySelector("[data-act=SHOWN]");
+  put(button.firstChild, shown.length ? `Acknowledge ${shown.length} shown ` : "Acknowledge shown ");
+}
+
+function say(text, isBad) {
+  put($("said"), text);
+  $("said").classList.toggle("bad", Boolean(isBad));
+}
+
+const DONE = {ACK: "acknowledged", RESET: "reset", SHELVE: "shelved", UNSHELVE: "unshelved", PRIO: "given another priority", SETP: "given another setpoint"};
+
+function sayAnswers(word, value, answers) {
+  const done = answers.filter(answer => answer[1] === "done"), said = answers.filter(answer => answer[3]);
+  const which = word === "OOS" ? (value ? "out of service" : "back in service") : DONE[word];
+  const head = done.length === 1 ? `${tagOf(done[0][0])} ${which}` : `${done.length} ${which}`;
+  const reasons = new Map();
+  for (const [n, , , why] of said) reasons.set(why, [...(reasons.get(why) ?? []), tagOf(n)]);
+  const rest = [...reasons].map(([why, tags]) => `${tags.slice(0, 4).join(", ")}${tags.length > 4 ? ` and ${tags.length - 4} more` : ""}: ${why}`);
+  say([done.length || !rest.length ? head : "", ...rest].filter(Boolean).join("; "), rest.length);
+}
+
+// Asks for an action of some alarms.
+async function ask(word, numbers, value, reason) {
+  if (!numbers.length || numbers.length > MOST_ALARMS) return say(numbers.length ? `choose at most ${MOST_ALARMS} alarms` : "nothing to do", true);
+  const body = JSON.stringify({era: plant.era, word, alarms: numbers.map(n => [n, stampSeen(n)]), value, reason});
+  say("..", false);
+  try {
+    const reply = await fetch("/do", {method: "POST", headers: {"Content-Type": "application/json", "X-Alarms-Key": me.key}, body});
+    if (reply.status === 401) link.again();
+    if (!reply.ok) return say(`not done: ${(await reply.text()).trim().slice(0, 100)}`, true);
+    sayAnswers(word, value, (await reply.json()).answers);
+  } catch (error) {
+    say("no reply came: look whether it was done", true);
+  }
+}
+
+function act(name) {
+  const button = $("actions").querySelector(`[data-act="${name}"]`);
+  if (!button || button.disabled || button.hidden) return;
+  if (name === "SHOWN") return ask("ACK", unacknowledgedShown());
+  const numbers = chosenRows().filter(FOR[name]).map(row => row[N]);
+  if (name === "ACK" || name === "RESET" || name === "UNSHELVE") return ask(name, numbers);
+  open_(name, numbers);
+}
+
+// ---- what an action wants to know
+
+const asking = {name: "", numbers: [], era: null};
+const TITLES = {SHELVE: "Shelve", "OOS ON": "Put out of service", "OOS OFF": "Put back in service", PRIO: "Another priority", SETP: "Another setpoint"};
+
+function open_(name, numbers) {
+  const tags = numbers.map(tagOf), row = plant.rows[numbers[0]];
+  Object.assign(asking, {name, numbers, era: plant.era});
+  put($("asking-what"), TITLES[name]);
+  put($("asking-whom"), `${tags.length === 1 ? `${tags[0]}, ${plant.table[numbers[0]][TEXT]}` : `${tags.length} alarms: ${tags.slice(0, 30).join(", ")}${tags.length > 30 ? " .." : ""}`}`);
+  put($("asking-said"), "");
+  for (const part of ["duration", "minutes", "priority", "setpoint"]) $(`asking-${part}`).hidden = true;
+  $("reason").value = "";
+  if (name === "SHELVE") offerDurations(numbers);
+  $("asking-priority").hidden = name !== "PRIO";
+  $("asking-setpoint").hidden = name !== "SETP";
+  $("priority").value = String(row[PRIORITY]);
+  $("setpoint").value = String(row[LIMIT]);
+  $("asking-do").disabled = name === "SHELVE" && $("asking-duration").hidden;
+  $("asking").showModal();
+  ($("asking").querySelector("label:not([hidden]) :is(select, input)") ?? $("reason")).focus();
+}
+
+function offerDurations(numbers) {
+  const limits = numbers.map(n => plant.table[n][MAX_SHELVE]).filter(Boolean);
+  if (!limits.length) return put($("asking-said"), "The table doesn't let them be shelved.");
+  const most = Math.min(...limits), fit = DURATIONS.filter(seconds => seconds <= most);
+  if (!fit.includes(most)) fit.push(most);
+  $("duration").replaceChildren(...fit.map(seconds => new Option(length(seconds), seconds)), new Option("minutes..", "other"));
+  $("duration").value = fit.includes(3600) ? 3600 : fit[0];
+  $("asking-duration").hidden = false;
+  $("minutes").max = Math.floor(most / 60);
+  if (limits.length < numbers.length) put($("asking-said"), `The table doesn't let ${numbers.length - limits.length} of them be shelved.`);
+}
+
+// The number that an action has, as it was typed; undefined where it has none.
+function typed() {
+  if (asking.name === "SHELVE") return $("duration").value === "other" ? Number($("minutes").value) * 60 : Number($("duration").value);
+  return {"OOS ON": 1, "OOS OFF": 0, PRIO: Number($("priority").value), SETP: Number($("setpoint").value)}[asking.name];
+}
+
+function submit(event) {
+  event.preventDefault();
+  if (!$("reason").value.trim()) return put($("asking-said"), "A reason is wanted.");
+  if (!Number.isSafeInteger(typed()) || (asking.name === "SHELVE" && typed() < 1)) return put($("asking-said"), "That is no number.");
+  $("asking").close();
+  if (asking.era !== plant.era) return say("the plant is another one than was seen: look again", true);
+  ask(asking.name.split(" ")[0], asking.numbers, typed(), $("reason").value.trim());
+}
+
+// ---- sound
+
+function loudest() {
+  let least = 0;
+  for (const row of plant.rows) {
+    if (UNACKNOWLEDGED.has(row[SHOWN]) && sound.silenced.get(row[N]) !== row[STAMP] && (!least || row[PRIORITY] < least)) least = row[PRIORITY];
+  }
+  return least;
+}
+
+// Is called with each word of the stream, since timers rest in a page that isn't looked at.
+function hear() {
+  const least = loudest(), now = performance.now();
+  if (least && (least < sound.priority || !sound.priority || now >= sound.next)) {
+    play(least);
+    sound.next = now + EVERY[least];
+  }
+  if (Boolean(least) !== Boolean(sound.priority)) touch();
+  sound.priority = least;
+  document.body.dataset.sounding = least;
+}
+
+function play(which) {
+  const context = sound.context;
+  if (!sound.on || context?.state !== "running") return;
+  SOUNDS[which].forEach((pitch, place) => {
+    const tone = context.createOscillator(), volume = context.createGain(), at = context.currentTime + place * 0.22;
+    tone.frequency.value = pitch;
+    tone.type = which === 1 ? "square" : "triangle";
+    volume.gain.setValueAtTime(0.0001, at);
+    volume.gain.exponentialRampToValueAtTime(0.25, at + 0.02);
+    volume.gain.exponentialRampToValueAtTime(0.0001, at + 0.18);
+    tone.connect(volume).connect(context.destination);
+    tone.start(at);
+    tone.stop(at + 0.2);
+  });
+  document.body.dataset.played = `${Number((document.body.dataset.played ?? "0").split(" ")[0]) + 1} ${which}`;
+}
+
+// Browsers let a page sound once it was touched.
+function allowSound() {
+  sound.context ??= new AudioContext();
+  if (sound.context.state !== "running") sound.context.resume().then(touch, () => 0);
+}
+
+function silence() {
+  for (const row of plant.rows) if (UNACKNOWLEDGED.has(row[SHOWN])) sound.silenced.set(row[N], row[STAMP]);
+  hear();
+  touch();
+}
+
+function switchSound() {
+  sound.on = !sound.on;
+  kept("sound", sound.on ? "on" : "off");
+  touch();
+}
+
+// ---- selecting
+
+function select(place, event) {
+  const row = screen_.items[place];
+  screen_.cursor = place;
+  if (look.view === "journal" || !row) return touch();
+  if (event.shiftKey && screen_.anchor !== null) {
+    const from = screen_.items.findIndex(one => one[N] === screen_.anchor);
+    screen_.chosen = new Set(screen_.items.slice(Math.min(from < 0 ? place : from, place), Math.max(from, place) + 1).map(one => one[N]));
+  } else if (event.ctrlKey || event.metaKey) {
+    toggle(row[N]);
+  } else {
+    screen_.chosen = new Set([row[N]]);
+    screen_.anchor = row[N];
+  }
+  draw();
+}
+
+function toggle(n) {
+  if (!screen_.chosen.delete(n)) screen_.chosen.add(n);
+  screen_.anchor = n;
+}
+
+function reveal(place) {
+  const list = $("list"), height = rowHeight(), room = list.clientHeight - $("columns").offsetHeight;
+  list.scrollTop = Math.min(place * height, Math.max(list.scrollTop, (place + 1) * height - room));
+}
+
+function press(event) {
+  const page = Math.max(1, onScreen()[1] - onScreen()[0] - 1), last = screen_.items.length - 1;
+  const steps = {ArrowDown: 1, ArrowUp: -1, PageDown: page, PageUp: -page, Home: -last, End: last};
+  const row = screen_.items[screen_.cursor], isJournal = look.view === "journal";
+  const keys = {a: "ACK", A: "SHOWN", r: "RESET", s: "SHELVE", u: "UNSHELVE", o: "OOS ON", i: "OOS OFF", p: "PRIO", t: "SETP"};
+  if (event.key in steps && last >= 0) {
+    const fresh = !screen_.chosen.size && Math.abs(steps[event.key]) === 1 && !isJournal;
+    const place = fresh ? screen_.cursor : Math.max(0, Math.min(last, screen_.cursor + steps[event.key]));
+    reveal(place);
+    select(place, {shiftKey: event.shiftKey});
+  } else if ((event.ctrlKey || event.metaKey) && event.key === "a" && !isJournal) {
+    screen_.chosen = new Set(screen_.items.map(one => one[N]));
+  } else if (event.ctrlKey || event.metaKey || event.altKey) {
+    return;
+  } else if (event.key === " " && row && !isJournal) {
+    toggle(row[N]);
+  } else if (event.key === "Escape") {
+    screen_.chosen.clear();
+  } else if (keys[event.key]) {
+    act(keys[event.key]);
+  } else if (event.key === "m") {
+    silence();
+  } else if (event.key === "/") {
+    $("text").focus();
+  } else if (event.key === "?") {
+    $("page").showModal();
+  } else if (event.key >= "1" && event.key <= "8") {
+    turn(Object.keys(VIEWS)[event.key - 1]);
+  } else {
+    return;
+  }
+  event.preventDefault();
+  touch();
+}
+
+function turn(view) {
+  Object.assign(look, {view, sort: look.sort === "left" ? "order" : look.sort});
+  screen_.chosen.clear();
+  Object.assign(screen_, {cursor: 0, anchor: null});
+  $("list").scrollTop = 0;
+  draw();
+}
+
+function sortBy(name) {
+  if (name === "mark" || name === "order") Object.assign(look, {sort: "order", down: false});
+  else Object.assign(look, {down: look.sort === name ? !look.down : name === "time" || name === "value", sort: name});
+  draw();
+}
+
+function clearFilters() {
+  Object.assign(look, {area: "", state: "", text: "", priorities: new Set()});
+  $("state").value = $("text").value = "";
+  draw();
+}
+
+// ---- the stream
+
+function take(news, isWhole) {
+  link.heard = performance.now();
+  link.signedOut = false;
+  if (isWhole) {
+    if (news.era !== plant.era) forget();
+    Object.assign(plant, {era: news.era, areas: news.areas, table: news.table, rows: [], events: []});
+  }
+  for (const row of news.rows) plant.rows[row[N]] = row;
+  plant.events = plant.events.concat(news.events).slice(-MOST_EVENTS);
+  plant.head = news.head;
+  hear();
+  drawTrouble();
+  touch();
+}
+
+// Another plant: nothing that was selected, seen or silenced is of it.
+function forget() {
+  for (const one of [screen_.chosen, screen_.seen, screen_.drawn, sound.silenced]) one.clear();
+  $("rows").replaceChildren();
+  if ($("asking").open) $("asking").close();
+  if (plant.era) say("the plant is another one than before", true);
+}
+
+function connect() {
+  const source = new EventSource("/stream");
+  source.addEventListener("hello", event => Object.assign(me, JSON.parse(event.data)));
+  source.addEventListener("all", event => take(JSON.parse(event.data), true));
+  source.addEventListener("news", event => take(JSON.parse(event.data), false));
+  const again = link.again = () => {
+    source.close();
+    clearInterval(watched);
+    link.again = () => 0;
+    setTimeout(enter, AGAIN);
+  };
+  // A stream that is silent is taken for lost, also where the system doesn't say so.
+  const watched = setInterval(() => performance.now() - link.heard > 4 * SILENCE && again(), SILENCE);
+  source.onerror = again;
+}
+
+// Behind a restart a proxy's user is let in again by the page; a token's has to sign in.
+async function enter() {
+  let status = 0;
+  try {
+    status = (await fetch("/")).status;
+  } catch (error) {
+    // nobody is there
+  }
+  link.signedOut = status === 401;
+  if (status !== 200) return setTimeout(enter, AGAIN);
+  // a new stream has its time to begin
+  link.heard = Math.max(link.heard, performance.now() - 3 * SILENCE);
+  connect();
+}
+
+// ---- at the start
+
+function prepare() {
+  for (const priority of [1, 2, 3, 4]) {
+    const button = document.createElement("button");
+    button.type = "button";
+    button.dataset.priority = priority;
+    button.append(mark(priority), document.createElement("span"));
+    $("priorities").append(button);
+  }
+  for (const view of Object.keys(VIEWS)) {
+    const tab = document.createElement("button");
+    tab.type = "button";
+    tab.dataset.view = view;
+    tab.setAttribute("role", "tab");
+    tab.setAttribute("aria-controls", "list");
+    $("tabs").append(tab);
+  }
+  for (const place of document.querySelectorAll("[data-mark]")) place.append(mark(place.dataset.mark));
+}
+
+function listenToControls() {
+  $("priorities").addEventListener("click", event => {
+    const priority = Number(event.target.closest("button")?.dataset.priority);
+    if (priority && !look.priorities.delete(priority)) look.priorities.add(priority);
+    draw();
+  });
+  $("tabs").addEventListener("click", event => event.target.dataset.view && turn(event.target.dataset.view));
+  $("tabs").addEventListener("keydown", event => {
+    const views = Object.keys(VIEWS), step = {ArrowRight: 1, ArrowLeft: -1}[event.key];
+    if (!step) return;
+    turn(views[(views.indexOf(look.view) + step + views.length) % views.length]);
+    $("tabs").querySelector("[aria-selected=true]").focus();
+  });
+  $("floods").addEventListener("click", event => {
+    if (event.target.dataset.area !== undefined) look.area = event.target.dataset.area;
+    draw();
+  });
+  $("area").addEventListener("change", () => { look.area = $("area").value; draw(); });
+  $("state").addEventListener("change", () => { look.state = $("state").value; draw(); });
+  $("text").addEventListener("input", () => { look.text = $("text").value.trim().toLowerCase(); draw(); });
+  $("clear").addEventListener("click", clearFilters);
+  $("actions").addEventListener("click", event => {
+    const name = event.target.closest("button")?.dataset.act;
+    if (name) act(name);
+    if (event.detail && !$("asking").open) $("list").focus({preventScroll: true});
+  });
+  $("sound").addEventListener("click", () => (sound.on && sound.context?.state !== "running" ? allowSound() : switchSound()));
+  $("silence").addEventListener("click", silence);
+  $("help").addEventListener("click", () => $("page").showModal());
+}
+
+function listenToList() {
+  $("columns").addEventListener("click", event => { const name = event.target.closest("button")?.dataset.sort; if (name) sortBy(name); });
+  $("list").addEventListener("scroll", () => { drawRows(); drawActions(); });
+  $("list").addEventListener("keydown", event => event.target === $("list") && press(event));
+  $("rows").addEventListener("click", event => {
+    const n = event.target.closest("tr")?.dataset.n;
+    if (n === undefined) return;
+    const place = screen_.items.findIndex(row => row[N] === Number(n));
+    select(place, event.target.classList.contains("box") ? {ctrlKey: true} : event);
+    $("list").focus({preventScroll: true});
+  });
+  $("asking").querySelector("form").addEventListener("submit", submit);
+  $("asking-leave").addEventListener("click", () => $("asking").close());
+  $("asking").addEventListener("close", () => $("list").focus({preventScroll: true}));
+  $("duration").addEventListener("change", () => { $("asking-minutes").hidden = $("duration").value !== "other"; });
+  window.addEventListener("resize", () => { drawRows(); drawActions(); });
+  document.addEventListener("visibilitychange", draw);
+  for (const kind of ["pointerdown", "keydown"]) document.addEventListener(kind, allowSound);
+}
+
+prepare();
+listenToControls();
+listenToList();
+draw();
+setInterval(() => $("list").classList.toggle("flash"), FLASH);
+setInterval(drawTrouble, 250);
+connect();
