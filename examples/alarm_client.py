@@ -1,6 +1,6 @@
 """The lines of the alarm server, for clients in Python: docs/PROTOCOL.md, without any library beside Python's own.
 
-    with Client.connect(5000, slot=0) as console:
+    with Client.connect(5000, slot=0) as console:                   # or Client.connect("/run/alarms/plant", slot=0), a folder of sockets
         for alarm in console.priority_list(1).alarms:
             console.acknowledge(alarm)
 
@@ -8,23 +8,24 @@ A `Client` asks at one slot. Each method waits for its reply; `ask_all` keeps up
 in order. An answer NO is a `Refused`, an end of the connection is a `Lost`: of an action that had no reply nothing is known, so ask the
 state when the server is back.
 
-Requests go by an alarm's number, people by its tag. A `Plant` is a server with its table file, and reads that file at each new connection:
+Requests go by an alarm's number, people by its tag. A `Plant` is a server whose table is asked at each new connection:
 
-    plant = Plant(5000, 0, "plant.toml")
+    plant = Plant(5000, 0)
     with plant.connect() as console:
         console.acknowledge(plant.table.numbers()["TI-101"])
 
-Where the plant isn't the table's, or isn't the one that was seen before, that is an `OtherPlant`: end then, since a name may be wrong.
+Where the plant isn't the one that was seen before, or isn't that of a table file that was given, that is an `OtherPlant`: end then.
 """
 import collections
 import enum
 import itertools
+import os
 import socket
 import subprocess
-from dataclasses import dataclass
-from typing import Iterable, Iterator, Optional
+from dataclasses import dataclass, replace
+from typing import Iterable, Iterator, Optional, Union
 
-from table_file import Table, TableFile
+from table_file import Alarm, Table, TableFile
 
 HOST = "127.0.0.1"
 CONSOLES = range(16)
@@ -35,6 +36,8 @@ WHEEL_SLOTS = range(256)
 WINDOW = 64
 # Seconds to wait for a reply. A slot that another client has gives none until that one leaves.
 PATIENCE = 5.0
+# Words of a reply to ATTR before the text, its id among them.
+ATTRIBUTE_WORDS = 11
 
 
 class Refusal(enum.IntEnum):
@@ -74,7 +77,19 @@ class Lost(Exception):
 
 
 class OtherPlant(Exception):
-    """The plant isn't the one that the client knows: it has another size than the table, or fewer actions than were seen before."""
+    """The plant isn't the one that the client knows: it isn't the given table's, or has fewer actions than were seen before."""
+
+
+@dataclass(frozen=True)
+class Hosts:
+    """The port of slot 0 at one of these addresses, the first that takes a connection: a server, or what stands for it elsewhere."""
+
+    port: int
+    addresses: tuple[str, ...]
+
+
+# Where a server is: the port of its slot 0 on loopback or at other addresses, or the folder of its sockets.
+Place = Union[int, str, Hosts]
 
 
 @dataclass(frozen=True)
@@ -109,6 +124,22 @@ class Flood:
     flooded: bool
 
 
+@dataclass(frozen=True)
+class Overview:
+    """The plant's moment in seconds, and how many alarms and areas it has."""
+
+    count: int
+    moment: int
+    alarms: int
+    areas: int
+
+
+def split_reply(line: str) -> list[str]:
+    """The words of a reply without its LF. The text of an alarm, the last word after ATTR, may have spaces."""
+    words = line[:-1].split(" ")
+    return line[:-1].split(" ", ATTRIBUTE_WORDS) if words[1:2] == ["ATTR"] else words
+
+
 def read_state(words: list[str]) -> State:
     """The state in the words after STATE."""
     count, shown, condition, flags, deadline = words
@@ -129,6 +160,17 @@ def read_flood(words: list[str]) -> Flood:
     return Flood(int(count), int(window), flooded == "1")
 
 
+def read_overview(words: list[str]) -> Overview:
+    """What the words after PLANT tell."""
+    return Overview(*map(int, words))
+
+
+def read_attributes(words: list[str]) -> Alarm:
+    """The alarm in the words after ATTR."""
+    _count, kind, setpoint, deadband, priority, area, max_shelve, latching, tag, *text = words
+    return Alarm(kind.lower(), int(setpoint), int(priority), int(area), tag, int(deadband), int(max_shelve), latching == "ON", *text)
+
+
 class Client:
     """The requests of one slot. How lines go out and come back is a subclass's `send`, `receive` and `close`.
 
@@ -140,9 +182,9 @@ class Client:
         self.seen = seen
 
     @staticmethod
-    def connect(port: int, slot: int, patience: float = PATIENCE, seen: int = 0) -> "ServerClient":
-        """A connection to a server whose slot 0 is at this port. With `seen`, the count that an earlier one ended with, another device is noticed."""
-        return ServerClient(port, slot, patience, seen)
+    def connect(place: Place, slot: int, patience: float = PATIENCE, seen: int = 0) -> "ServerClient":
+        """A connection to a server at a place. With `seen`, the count that an earlier one ended with, another device is noticed."""
+        return ServerClient(place, slot, patience, seen)
 
     def send(self, text: str) -> None:
         raise NotImplementedError
@@ -167,7 +209,7 @@ class Client:
     def reply_to(self, number: str, request: str) -> list[str]:
         """The words of the next reply after its id."""
         line = self.receive()
-        words = line.split()
+        words = split_reply(line)
         if not line.endswith("\n") or words[:1] != [number]:
             raise Lost(f"no reply to {request}")
         if words[1] == "NO":
@@ -177,8 +219,9 @@ class Client:
 
     def note(self, count: int) -> None:
         """Takes note of a reply's count of actions, which never falls."""
-        if count < self.seen:
-            raise OtherPlant(f"the server has another device than before: its count of actions is {count}, and it was {self.seen}")
+        other = other_device(count, self.seen)
+        if other:
+            raise OtherPlant(other)
         self.seen = count
 
     def ask(self, request: str) -> list[str]:
@@ -290,28 +333,32 @@ class Client:
         replies = self.ask_all(f"FLOOD {area}" for area in range(64))
         return [read_flood(reply[1:]) for reply in replies if not isinstance(reply, Refused)]
 
+    def plant(self) -> Overview:
+        """The plant's moment, and how many alarms and areas it has."""
+        return read_overview(self.ask("PLANT")[1:])
+
+    def attributes(self, alarm: int) -> Alarm:
+        """An alarm's attributes, with the priority and the setpoint in force."""
+        return read_attributes(self.ask(f"ATTR {alarm}")[1:])
+
+    def table(self) -> Table:
+        """The plant's table, with the priorities and setpoints in force. The size of its device isn't told."""
+        plant = self.plant()
+        replies = self.ask_all(f"ATTR {alarm}" for alarm in range(plant.alarms))
+        return Table(None, plant.areas, [read_attributes(granted(reply)[1:]) for reply in replies])
+
     def action_count(self) -> int:
         """How many actions made the plant that the server shows."""
-        return self.flood(0).count
+        return self.plant().count
 
-    def check_size(self, alarms: int, areas: int) -> None:
-        """Raises `OtherPlant` where the plant has another number of alarms or areas."""
-        for word, things, number in (("STATE", "alarms", alarms), ("FLOOD", "areas", areas)):
-            last, next_one = (missing(reply) for reply in self.ask_all([f"{word} {number - 1}", f"{word} {number}"]))
-            if last or not next_one:
-                raise OtherPlant(f"the plant has {'fewer' if last else 'more'} {things} than the table's {number}")
+
+def other_device(count: int, seen: int) -> Optional[str]:
+    """Says so where a plant's count of actions is below one that was seen before."""
+    return f"the server has another device than before: its count of actions is {count}, and it was {seen}" if count < seen else None
 
 
 def switch(on: bool) -> str:
     return "ON" if on else "OFF"
-
-
-def missing(reply: list[str] | Refused) -> bool:
-    """Whether a query was refused since there is no such alarm or area; raises any other refusal."""
-    if isinstance(reply, Refused) and reply.refusal in (Refusal.NO_SUCH_ALARM, Refusal.NO_SUCH_LIST):
-        return True
-    granted(reply)
-    return False
 
 
 def granted(reply: list[str] | Refused) -> list[str]:
@@ -321,17 +368,58 @@ def granted(reply: list[str] | Refused) -> list[str]:
     return reply
 
 
+def open_slot(place: Place, slot: int, patience: float) -> socket.socket:
+    """A stream to a slot of a server."""
+    if isinstance(place, str):
+        return open_socket(os.path.join(place, str(slot)), patience)
+    if isinstance(place, int):
+        return open_port(HOST, place + slot, f"port {place + slot}", patience)
+    said = []
+    for address in place.addresses:
+        try:
+            return open_port(address, place.port + slot, f"{address} port {place.port + slot}", patience)
+        except Lost as lost:
+            said.append(str(lost))
+    raise Lost("; ".join(said))
+
+
+def places_of(place: Place) -> tuple[Place, ...]:
+    """The addresses of a place one by one: what listens at one may have no server behind it."""
+    return tuple(Hosts(place.port, (address,)) for address in place.addresses) if isinstance(place, Hosts) else (place,)
+
+
+def open_port(address: str, number: int, name: str, patience: float) -> socket.socket:
+    """A stream to a port. A machine that has gone without a word is noticed within half a minute, also while nothing is asked."""
+    try:
+        stream = socket.create_connection((address, number), timeout=patience)
+    except OSError as error:
+        raise Lost(f"{name}: {error.strerror or error}") from error
+    stream.setsockopt(socket.IPPROTO_TCP, socket.TCP_NODELAY, 1)
+    for option, value in ((socket.TCP_KEEPIDLE, 10), (socket.TCP_KEEPINTVL, 5), (socket.TCP_KEEPCNT, 4)):
+        stream.setsockopt(socket.IPPROTO_TCP, option, value)
+    stream.setsockopt(socket.SOL_SOCKET, socket.SO_KEEPALIVE, 1)
+    return stream
+
+
+def open_socket(path: str, patience: float) -> socket.socket:
+    """A stream to the socket at a path."""
+    stream = socket.socket(socket.AF_UNIX)
+    stream.settimeout(patience)
+    try:
+        stream.connect(path)
+    except OSError as error:
+        stream.close()
+        raise Lost(f"{path}: {error.strerror or error}") from error
+    return stream
+
+
 class ServerClient(Client):
     """A connection to a slot of `alm_server serve`."""
 
-    def __init__(self, port: int, slot: int, patience: float = PATIENCE, seen: int = 0):
+    def __init__(self, place: Place, slot: int, patience: float = PATIENCE, seen: int = 0):
         super().__init__(seen)
         self.slot = slot
-        try:
-            self.socket = socket.create_connection((HOST, port + slot), timeout=patience)
-        except OSError as error:
-            raise Lost(f"port {port + slot}: {error.strerror or error}") from error
-        self.socket.setsockopt(socket.IPPROTO_TCP, socket.TCP_NODELAY, 1)
+        self.socket = open_slot(place, slot, patience)
         self.stream = self.socket.makefile("rb")
 
     def send(self, text: str) -> None:
@@ -354,53 +442,70 @@ class ServerClient(Client):
 
 
 class Plant:
-    """A served plant, by one slot and maybe a table file.
+    """A served plant, by one slot.
 
-    A connection begins with the table as the file has it then, so that no name is older than the connection. It asks whether the plant
-    has the table's number of alarms and areas, and no fewer actions than were seen before. Without a file it asks for the actions alone.
+    A connection begins with PLANT, and with ATTR for each alarm where names are wanted: so no name is older than the connection. Where the
+    plant has fewer actions than were seen before, it is on another device, and `other` says so: nothing of before is to be kept. Where a
+    table file is given, the plant has to be that file's, and on the same device.
     """
 
-    def __init__(self, port: int, slot: int, path: Optional[str] = None, patience: float = PATIENCE):
-        self.port, self.slot, self.patience = port, slot, patience
+    def __init__(self, place: Place, slot: int, path: Optional[str] = None, patience: float = PATIENCE, names: bool = True):
+        self.place, self.slot, self.patience = place, slot, patience
         self.file = None if path is None else TableFile(path)
+        self.names = names or self.file is not None
         self.client: Optional[ServerClient] = None
-
-    @property
-    def table(self) -> Table:
-        """The table that the last connection began with, at first the file's."""
-        return self.file.table
+        self.table = Table(None, 0, [])
+        self.other: Optional[str] = None
 
     def connect(self) -> ServerClient:
-        """A new connection. `Lost` says that there is none, `OtherPlant` and `NoTable` that the client had better end."""
+        """A new connection, to the first address that answers. `Lost` says that there is none, `OtherPlant` and `NoTable` that the client had better end."""
+        said = []
+        for place in places_of(self.place):
+            try:
+                return self.connect_to(place)
+            except Lost as lost:
+                said.append(str(lost))
+        raise Lost("; ".join(said))
+
+    def connect_to(self, place: Place) -> ServerClient:
         seen = self.client.seen if self.client else 0
-        client = Client.connect(self.port, self.slot, self.patience, seen)
+        client = Client.connect(place, self.slot, self.patience, seen if self.file else 0)
         try:
-            client.action_count()
-            if self.file is not None:
-                self.read_table(client)
+            count = self.begin(client).count
         except Exception:
             client.close()
             raise
-        self.client = client
+        self.client, self.other = client, other_device(count, seen)
         return client
 
-    def read_table(self, client: Client) -> None:
-        """Reads the table again, and holds the plant's size against it."""
-        table = self.file.read()
+    def begin(self, client: Client) -> Overview:
+        """Asks which plant it is, and what its alarms are."""
         try:
-            client.check_size(len(table.alarms), table.areas)
-        except OtherPlant as other:
-            raise OtherPlant(f"{self.file.path}: {other}") from None
+            overview = client.plant()
+        except Refused as refused:
+            if refused.refusal == Refusal.BAD_LINE:
+                raise OtherPlant("the server knows no PLANT: it is of an earlier release than this tool") from None
+            raise
+        if self.names:
+            self.table = client.table()
+        if self.file is not None:
+            self.hold_against_file()
+        return overview
+
+    def hold_against_file(self) -> None:
+        """Reads the table file again. Only priorities and setpoints may be others in the plant."""
+        given, path = self.file.read(), self.file.path
+        for things, mine, its in (("alarms", len(given.alarms), len(self.table.alarms)), ("areas", given.areas, self.table.areas)):
+            if mine != its:
+                raise OtherPlant(f"{path}: the plant has {'fewer' if its < mine else 'more'} {things} than the table's {mine}")
+        for number, (mine, its) in enumerate(zip(given.alarms, self.table.alarms)):
+            if replace(mine, priority=its.priority, setpoint=its.setpoint) != its:
+                raise OtherPlant(f"{path}: alarm {number}, {mine.tag}, is another one in the plant: {its.tag}")
 
     def lose(self) -> None:
         """Closes the connection."""
         if self.client is not None:
             self.client.close()
-
-    def forget(self) -> None:
-        """Closes the connection, and forgets the count that was seen: the next one may be to another device."""
-        self.lose()
-        self.client = None
 
 
 class DeskProcess:

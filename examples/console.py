@@ -1,7 +1,7 @@
 #!/usr/bin/env python3
 """A terminal's alarm list.
 
-    examples/console.py --port P TABLE.toml [--slot 0]
+    examples/console.py --port P [--slot 0] [--table TABLE.toml]
 
 It begins with the annunciated alarms, the newest first within its priority. Each priority has a colour; a row is in reverse while its alarm
 isn't acknowledged, and `*` stands before it. `>` marks the selected row. Marks: F its area is flooded, S it is stale, C it chatters.
@@ -19,8 +19,11 @@ isn't acknowledged, and `*` stands before it. `>` marks the selected row. Marks:
 It looks again each second, and asks the states of those rows alone that are on the screen. No list of the server has the alarms that
 are suppressed by design or out of service. So these two views ask the states of all alarms, of large plants a part each second.
 
-Where the connection ends it is made again, and the table file is read again. It ends with status 1 where the plant doesn't fit that
-file, or is another one than before: start it again with the plant's table. A slot serves one client after another: give each console its own.
+While the plant's clock doesn't move, as where no clock runs or the server can't store, that is shown with its seconds.
+
+The names are the plant's own, asked at each new connection. Where a connection ends it is made again, also to a plant that was restored
+or whose table was changed: that is said. Where a table file is given, a plant that isn't that file's, or is on another device than before,
+ends it with status 1. A slot serves one client after another: give each console its own.
 """
 import curses
 import enum
@@ -30,12 +33,14 @@ from dataclasses import dataclass, field
 from typing import Callable, Optional
 
 from alarm_client import PRIORITIES, Client, Lost, OtherPlant, Plant, Refusal, Refused, State
-from arguments import add_port, add_slot, new_parser
+from arguments import add_port, add_slot, add_table, new_parser
 from table_file import NoTable, Table
 
 PERIOD = 1.0
 PATIENCE = 2.0
 DAY = 86_400
+# Seconds after which a plant's clock that hasn't moved stands still.
+STANDS = 5
 # How many states a look asks for a view that goes by the states of all alarms.
 PART = 2048
 HELP = "a A ack  r reset  s u shelve  o oos  p prio  t setp  f area  1-7 v view  q quit"
@@ -84,6 +89,8 @@ class Board:
 
     table: Table
     count: int = 0
+    moment: int = -1
+    moved: float = 0.0
     priorities: dict[int, int] = field(default_factory=dict)
     shelved: list[int] = field(default_factory=list)
     flooded: set[int] = field(default_factory=set)
@@ -92,7 +99,10 @@ class Board:
     flags: dict[int, str] = field(default_factory=dict)
 
     def look(self, client: Client, view: View) -> None:
-        """Asks for the lists and the marks."""
+        """Asks for the plant's moment, the lists and the marks."""
+        moment = client.plant().moment
+        if moment != self.moment:
+            self.moment, self.moved = moment, time.monotonic()
         self.priorities = {}
         for priority in PRIORITIES:
             listing = client.priority_list(priority)
@@ -126,6 +136,11 @@ class Board:
         flood = self.table.alarms[alarm].area in self.flooded and alarm in self.priorities
         return ("F" if flood else " ") + ("S" if alarm in self.stale else " ") + ("C" if alarm in self.chattering else " ")
 
+    def clock(self) -> str:
+        """For how long the plant's clock has stood still, where it does."""
+        seconds = int(time.monotonic() - self.moved)
+        return f"CLOCK STANDS STILL for {seconds} s   " if self.moment >= 0 and seconds >= STANDS else ""
+
     def head(self) -> str:
         """How many there are of each."""
         held = list(self.priorities.values())
@@ -140,6 +155,10 @@ def moment(deadline: Optional[int]) -> str:
     if abs(deadline - time.time()) < DAY:
         return time.strftime("%H:%M:%S", time.localtime(deadline))
     return str(deadline)
+
+
+def tags(table: Table) -> list[str]:
+    return [alarm.tag for alarm in table.alarms]
 
 
 def set_colours() -> None:
@@ -191,9 +210,9 @@ class Console:
     def begin(self) -> None:
         """Connects. With another table nothing stays of what was shown before: its numbers were other alarms'."""
         self.client = self.plant.connect()
-        if self.plant.table is not self.board.table:
+        if self.plant.other or tags(self.plant.table) != tags(self.board.table):
             self.rows, self.states, self.selected, self.top = [], {}, 0, 0
-        self.board, self.message = Board(self.plant.table), ""
+        self.board, self.message = Board(self.plant.table), self.plant.other or ""
 
     def lose(self, lost: Lost) -> None:
         if self.client is not None:
@@ -224,7 +243,7 @@ class Console:
         self.put(0, self.board.head())
         area = "all areas" if self.area is None else f"area {self.area}"
         floods = "FLOOD in areas " + " ".join(map(str, sorted(self.board.flooded))) if self.board.flooded else ""
-        self.put(1, f"{self.view.value}, {area}   {floods}", curses.A_BOLD)
+        self.put(1, f"{self.view.value}, {area}   {self.board.clock()}{floods}", curses.A_BOLD)
         self.put(2, "   P TAG            STATE AR FSC UNTIL    TEXT", curses.A_UNDERLINE)
         for row, alarm in enumerate(self.on_screen):
             chosen = self.top + row == self.selected
@@ -364,7 +383,7 @@ def main() -> None:
     words = new_parser(__doc__)
     add_port(words)
     add_slot(words, 0)
-    words.add_argument("table", metavar="TABLE.toml", help="the plant's table file")
+    add_table(words)
     chosen = words.parse_args()
     try:
         plant = Plant(chosen.port, chosen.slot, chosen.table, PATIENCE)

@@ -67,6 +67,7 @@ class DeviceFile:
         self.file = os.open(path, os.O_RDONLY)
         header = self.read(0, HEADER)
         if len(header) < HEADER or header[0] != GATE_OPEN:
+            self.close()
             raise NoDevice(f"{path} isn't formatted")
         self.name, self.rows, self.areas, self.segment = struct.unpack(">8sIHQ", header[1:])
         self.image = 16 + AREA_IMAGE * self.areas + ALARM_IMAGE * self.rows
@@ -86,7 +87,7 @@ class DeviceFile:
     def head_of(self, half: int) -> Optional[Head]:
         """The head of a half whose gate is open."""
         text = self.read(self.half_at(half), 17)
-        if text[0] != GATE_OPEN:
+        if len(text) < 17 or text[0] != GATE_OPEN:
             return None
         epoch, marked = struct.unpack(">QQ", text[1:])
         return Head(half, epoch, marked >> 56, marked & (2**56 - 1))

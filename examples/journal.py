@@ -22,10 +22,13 @@ import sys
 import time
 from typing import Iterator, Optional
 
-from alarm_client import Lost, OtherPlant, Plant, Refused
 from arguments import add_port, add_slot, new_parser
-from device_file import Action, DeviceFile, Frame, Head, NoDevice
+from device_file import Action, DeviceFile, NoDevice
 from table_file import NoTable, TableFile
+
+sys.path.append(os.path.join(os.path.dirname(os.path.realpath(__file__)), "..", "clients"))
+
+from naqteshi.mirror import Begun, Follower, Gap, Mirror, Replaced, Served, Step
 
 PAUSE = 0.1
 # Moments from here on are taken for seconds since 1970.
@@ -57,206 +60,83 @@ def summary(device: DeviceFile) -> str:
             f"{len(actions)} actions in {len(frames)} frames, {each:.1f} a frame")
 
 
-@dataclasses.dataclass(frozen=True)
-class Entry:
-    """An action, and the plant's moment at it."""
-
-    action: Action
-    moment: int
-
-    @property
-    def number(self) -> int:
-        return self.action.number
+def last_action(path: str) -> int:
+    """The number of the last action that a device's file has."""
+    mirror = Mirror(path)
+    try:
+        return mirror.last()
+    finally:
+        mirror.close()
 
 
 @dataclasses.dataclass(frozen=True)
-class Gap:
+class Missing:
     """Actions that aren't printed, by their numbers, and why."""
 
     first: int
     last: int
     why: str = "no longer in the file"
 
-    @property
-    def number(self) -> int:
-        return self.first
-
     def __str__(self) -> str:
         return f"(action {self.first}: {self.why})" if self.first == self.last else f"(actions {self.first} to {self.last}: {self.why})"
-
-
-class Follower:
-    """A place in a device's journal, which goes on with it. `next` is the number of the action that comes next."""
-
-    def __init__(self, device: DeviceFile, first: Optional[int]):
-        """Begins with the action of this number, or with the next one that is accepted."""
-        self.device, self.head = device, device.standing()
-        self.at, self.next, self.moment = 0, self.head.count + 1, device.clock(self.head)
-        self.passed: Optional[tuple[int, int]] = None
-        self.waiting: list[Entry | Gap] = []
-        if first is not None and first <= self.head.count:
-            self.go_back(first)
-        begun = list(self.rest())
-        if first is not None:
-            self.waiting += [entry for entry in begun if entry.action.number >= first]
-
-    def go_back(self, first: int) -> None:
-        """Takes what the half before still has, and says what it no longer has."""
-        old, held = self.device.head_of(1 - self.head.half), []
-        if old and old.epoch + 1 == self.head.epoch:
-            held = self.entries(old)
-        if not held or self.device.head_of(old.half) != old or held[-1].action.number != self.head.count:
-            held = []
-        begins = held[0].action.number if held else self.head.count + 1
-        if first < begins:
-            self.waiting.append(Gap(first, begins - 1))
-        self.waiting += [entry for entry in held if entry.action.number >= first]
-
-    def entries(self, head: Head) -> list[Entry]:
-        """All actions of a half."""
-        moment, found = self.device.clock(head), []
-        for frame in self.device.frames(head):
-            for action in frame.actions:
-                moment = action.argument if action.word == "CLOCK" else moment
-                found.append(Entry(action, moment))
-        return found
-
-    def rest(self) -> Iterator[Entry]:
-        """The actions after this place in its half."""
-        for frame in self.device.frames(self.head, self.at, self.next):
-            yield from self.step(frame)
-
-    def step(self, frame: Frame) -> Iterator[Entry]:
-        """Goes past a frame; those of its actions that weren't given yet."""
-        self.passed, self.at = (self.at, frame.actions[0].number), frame.end
-        for action in frame.actions:
-            if action.number >= self.next:
-                self.moment = action.argument if action.word == "CLOCK" else self.moment
-                self.next = action.number + 1
-                yield Entry(action, self.moment)
-
-    def news(self) -> Iterator[Entry | Gap]:
-        """The actions since the last time, and which were missed. Behind a checkpoint the half before still has its last frames."""
-        yield from self.waiting
-        self.waiting = []
-        yield from self.rest()
-        head = self.device.standing()
-        if head.epoch == self.head.epoch:
-            return
-        yield from self.rest()
-        if head.count + 1 > self.next:
-            yield Gap(self.next, head.count)
-            self.next, self.moment = head.count + 1, self.device.clock(head)
-        self.head, self.at = head, 0
-        for frame in self.device.frames(head):
-            yield from self.step(frame)
-
-    def is_other(self, path: str) -> bool:
-        """Whether the path has another device by now: another file, or this one formatted again."""
-        try:
-            there, own, head = os.stat(path), os.fstat(self.device.file), self.device.standing()
-        except (FileNotFoundError, NoDevice):
-            return False
-        if (there.st_dev, there.st_ino) != (own.st_dev, own.st_ino) or head.epoch < self.head.epoch:
-            return True
-        return head == self.head and self.passed is not None and self.device.frame_at(head, *self.passed) is None
-
-
-class Shown:
-    """How many actions the server shows: those are stored durably."""
-
-    def __init__(self, port: Optional[int], slot: int):
-        self.plant = None if port is None else Plant(port, slot)
-        self.is_there = False
-        self.count = 0
-        self.said = ""
-
-    def look(self) -> Optional[int]:
-        """The count; none without a server to ask. It stays what it was while the server can't be reached."""
-        if self.plant is None:
-            return None
-        try:
-            if not self.is_there:
-                self.plant.connect()
-                self.is_there, self.said = True, ""
-            self.count = self.plant.client.action_count()
-        except (Lost, Refused) as lost:
-            self.end()
-            if str(lost) != self.said:
-                say(lost, "- trying again")
-            self.said = str(lost)
-        except OtherPlant:
-            self.forget()
-        return self.count
-
-    def end(self) -> None:
-        self.plant.lose()
-        self.is_there = False
-
-    def forget(self) -> None:
-        """Forgets the count of a device that is gone."""
-        if self.plant is not None:
-            self.plant.forget()
-            self.is_there, self.count = False, 0
 
 
 class Trail:
     """Prints the actions of a device, up to what the server shows."""
 
-    def __init__(self, path: str, shown: Shown, table: Optional[TableFile]):
-        self.path, self.shown, self.table = path, shown, table
-        self.pending: list[Entry | Gap] = []
-        self.warned = False
+    def __init__(self, path: str, served: Served, table: Optional[TableFile]):
+        self.path, self.served, self.table = path, served, table
+        self.follower = Follower(path, served)
+        self.next: Optional[int] = None
 
-    def begin(self, device: DeviceFile, first: Optional[int]) -> None:
+    def begin(self, first: Optional[int]) -> None:
         """Begins with the action of this number, or with the first that the server doesn't show yet."""
-        self.device, self.tags = device, device.tags()
-        self.texts = {alarm.tag: alarm.text for alarm in self.table.read().alarms} if self.table else {}
-        count = self.shown.look()
-        self.follower = Follower(self.device, count + 1 if first is None and count else first)
-        begins = self.follower.waiting[0].number if self.follower.waiting else self.follower.next
-        if first is not None and first > begins:
-            say(f"the device has {begins - 1} actions, so action {first} isn't there")
-        say(f"from action {begins} on" + ("" if self.shown.plant else ", as the file has them: it may be ahead of what was answered"))
+        is_served = self.served.plant is not None
+        count = self.served.look() if is_served else 0
+        total = last_action(self.path)
+        self.next = first if first is not None else (count or total) + 1
+        if self.next > total + 1:
+            say(f"the device has {total} actions, so action {self.next} isn't there")
+        say(f"from action {min(self.next, total + 1)} on" + ("" if is_served else ", as the file has them: it may be ahead of what was answered"))
 
     def look(self) -> None:
         """Prints what is new; goes on with another device where one was put in its place."""
-        before, count = self.shown.count, self.shown.look()
-        other = self.follower.is_other(self.path)
-        self.pending += self.follower.news()
-        # the count may already be that of another device
-        self.print_to(before if other and count is not None else count)
-        if other:
-            device = DeviceFile(self.path)
-            device.standing()
-            self.leave()
-            self.begin(device, 1)
-        elif count is not None and count >= self.follower.next and not self.warned:
-            self.warned = True
-            say(f"the server shows {count} actions and the file has {self.follower.next - 1}: is it the server's device?")
+        for one in self.follower.look():
+            for line in self.lines(one):
+                print(line, flush=True)
 
-    def print_to(self, count: Optional[int]) -> None:
-        """Prints what waits, up to the action of this number."""
-        shown = [one for one in self.pending if count is None or one.number <= count]
-        self.pending = self.pending[len(shown):]
-        for one in shown:
-            print(self.line(one), flush=True)
+    def lines(self, one: Begun | Step | Gap | Replaced) -> Iterator[str]:
+        """The lines of the trail that something new makes."""
+        if isinstance(one, Begun):
+            self.begun()
+            yield from self.missing(Missing(self.next, one.number))
+        elif isinstance(one, Gap):
+            yield from self.missing(Missing(max(one.first, self.next), one.last))
+        elif isinstance(one, Replaced):
+            yield from self.missing(Missing(max(one.shown + 1, self.next), one.last, "in the replaced file, and the server hadn't shown it"))
+            yield f"(another device is in the place of {self.path})"
+            self.next = 1
+        elif one.number >= self.next:
+            self.next = one.number + 1
+            yield self.line(one)
 
-    def leave(self) -> None:
-        """Ends with a device that was replaced."""
-        if self.pending:
-            print(Gap(self.pending[0].number, self.follower.next - 1, "in the replaced file, and the server hadn't shown it"), flush=True)
-        print(f"(another device is in the place of {self.path})", flush=True)
-        self.pending = []
-        self.device.close()
-        self.shown.forget()
+    def begun(self) -> None:
+        """Takes the names of the device that is there now."""
+        self.tags = [alarm.tag for alarm in self.follower.mirror.plant.table()]
+        self.texts = {alarm.tag: alarm.text for alarm in self.table.read().alarms} if self.table else {}
 
-    def line(self, one: Entry | Gap) -> str:
-        """A line of the trail."""
-        if isinstance(one, Gap) or self.table is None:
-            return str(one) if isinstance(one, Gap) else f"{one.number} {one.action.request(self.tags)}"
-        tag = "-" if one.action.word == "CLOCK" else self.tags[one.action.alarm]
-        return f"{date(one.moment)}  {one.number:>8}  {tag:14}  {in_words(one.action):32}{self.texts.get(tag, '')}".rstrip()
+    def missing(self, missing: Missing) -> Iterator[str]:
+        if missing.first <= missing.last:
+            self.next = missing.last + 1
+            yield str(missing)
+
+    def line(self, step: Step) -> str:
+        """A line of an action."""
+        action = step.action
+        if self.table is None:
+            return f"{action.number} {action.request(self.tags)}"
+        tag = "-" if action.word == "CLOCK" else self.tags[action.alarm]
+        return f"{date(step.moment)}  {action.number:>8}  {tag:14}  {in_words(action):32}{self.texts.get(tag, '')}".rstrip()
 
 
 def date(moment: int) -> str:
@@ -296,8 +176,8 @@ def main() -> None:
         if not chosen.follow and chosen.first is None:
             print(summary(DeviceFile(chosen.device)))
             return
-        trail = Trail(chosen.device, Shown(chosen.port, chosen.slot), chosen.table and TableFile(chosen.table))
-        trail.begin(DeviceFile(chosen.device), chosen.first)
+        trail = Trail(chosen.device, Served(chosen.port, chosen.slot, say), chosen.table and TableFile(chosen.table))
+        trail.begin(chosen.first)
         if chosen.follow:
             follow(trail, chosen.seconds)
         else:

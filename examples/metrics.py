@@ -8,8 +8,8 @@ queries alone, and lets the slot go. Where the server doesn't answer, `alarms_up
 
 With --device it also reads, from the file, how full the journal is, and the epoch, which grows by one with each checkpoint.
 
-It ends with status 1 where the plant has fewer actions than before, since then it is another device. With --table it reads the table
-file each time, and also ends where the plant has another number of alarms or areas.
+With --table it reads the table file each time, and ends with status 1 where the plant isn't that file's, or is on another device than
+before.
 """
 import collections
 import http.server
@@ -19,7 +19,7 @@ import time
 from typing import Iterable, Iterator, Optional
 
 from alarm_client import HOST, PRIORITIES, Client, Lost, OtherPlant, Plant, Refused
-from arguments import add_port, add_slot, new_parser
+from arguments import add_port, add_slot, add_table, new_parser
 from device_file import DeviceFile, NoDevice
 from table_file import NoTable
 
@@ -55,10 +55,12 @@ def by_area(values: Iterable[int]) -> dict[str, float]:
 def shown(client: Client) -> Iterator[str]:
     """What the plant shows. Between two queries it may go on."""
     began = time.perf_counter()
-    count = client.stale().count
+    plant = client.plant()
     taken = time.perf_counter() - began
     yield from metric("alarms_query_seconds", "gauge", "Time of a query's round trip.", {"": taken})
-    yield from metric("alarms_actions_total", "counter", "Accepted actions.", {"": count})
+    yield from metric("alarms_actions_total", "counter", "Accepted actions.", {"": plant.count})
+    yield from metric("alarms_moment_seconds", "gauge", "The plant's moment.", {"": plant.moment})
+    yield from metric("alarms_configured", "gauge", "Alarms of the plant.", {"": plant.alarms})
     yield from metric("alarms_annunciated", "gauge", "Annunciated alarms by priority and state.", annunciated(client))
     yield from metric("alarms_shelved", "gauge", "Shelved alarms.", {"": len(client.shelved())})
     yield from metric("alarms_stale", "gauge", "Alarms annunciated for a day or more.", {"": len(client.stale().alarms)})
@@ -88,6 +90,7 @@ class Exporter(http.server.ThreadingHTTPServer):
         super().__init__((HOST, listen), Handler)
         self.plant, self.device = plant, device
         self.asking = threading.Lock()
+        self.moment, self.moved = -1, 0.0
         self.fault: Optional[Exception] = None
 
     def page(self) -> str:
@@ -96,7 +99,7 @@ class Exporter(http.server.ThreadingHTTPServer):
         up = 0
         try:
             with self.asking, self.plant.connect() as client:
-                lines, up = list(shown(client)), 1
+                lines, up = [*shown(client), *self.still(client.plant().moment)], 1
         except (Lost, Refused):
             pass
         if self.device:
@@ -105,6 +108,12 @@ class Exporter(http.server.ThreadingHTTPServer):
             except (NoDevice, OSError):
                 pass
         return "\n".join([*metric("alarms_up", "gauge", "Whether the server answers.", {"": up}), *lines]) + "\n"
+
+    def still(self, moment: int) -> Iterator[str]:
+        """For how long the plant's moment hasn't been seen to move: no clock runs, or the server can't store."""
+        if moment != self.moment:
+            self.moment, self.moved = moment, time.monotonic()
+        yield from metric("alarms_clock_still_seconds", "gauge", "Time since the plant's moment was seen to move.", {"": time.monotonic() - self.moved})
 
     def stop(self, fault: Exception) -> None:
         """Ends the exporter, since what it would say is of another plant."""
@@ -144,10 +153,10 @@ def main() -> None:
     words.add_argument("--listen", type=int, default=9464, metavar="PORT", help="the port of this exporter, on loopback; 0 for any that is free")
     add_slot(words, 15)
     words.add_argument("--device", help="the device file, for the journal")
-    words.add_argument("--table", metavar="TABLE.toml", help="the plant's table file, which the plant has to fit")
+    add_table(words)
     chosen = words.parse_args()
     try:
-        exporter = Exporter(chosen.listen, Plant(chosen.port, chosen.slot, chosen.table), chosen.device)
+        exporter = Exporter(chosen.listen, Plant(chosen.port, chosen.slot, chosen.table, names=False), chosen.device)
     except (NoTable, OSError) as error:
         sys.exit(f"metrics: {error}")
     print(f"metrics: http://{HOST}:{exporter.server_port}/metrics", file=sys.stderr, flush=True)

@@ -1,7 +1,7 @@
 """Table files in Python: what one says, and the size that a device has to have. docs/TABLE.md has the keys."""
 import tomllib
 from dataclasses import dataclass
-from typing import Any
+from typing import Any, Optional
 
 KINDS = ("high", "low", "discrete")
 READING_LIMIT = 10**12
@@ -52,9 +52,9 @@ class Alarm:
 
 @dataclass(frozen=True)
 class Table:
-    """A table file that the server takes."""
+    """The table of a plant. Its size is that of the device in bytes; none where it isn't known."""
 
-    size: int
+    size: Optional[int]
     areas: int
     alarms: list[Alarm]
 
