@@ -1,15 +1,29 @@
 #!/usr/bin/env bash
 # What proofs leave to tests, at the built program: each script of the list below, and a line of summary of each.
 #
-#     tests/all.sh [--short]
+#     tests/all.sh [--short] [PROGRAM]
 #
-# With --short it takes a minute or so, after the build. A script that can't run here is left out, and says why; the last line names it.
-# A script that finds something wrong doesn't end the others; the status is then 1.
+# Without a PROGRAM it is the launcher's, which is proved and built first if need be. With --short it takes some four minutes. A script that
+# can't run here is left out, and says why. One that finds something wrong doesn't end the others. The last line counts them, and the status
+# is 0 only where none found something wrong.
 set -u
 top=$(cd "$(dirname "$0")/.." && pwd)
-program=$top/crates/alm_server/out/alm_server
+program=
+short=()
+# Seconds that a script may take. One that hangs is ended with all that it started; at a terminal it stays in the foreground, so that Ctrl-C ends it.
+longest=14400
+bounds=(--kill-after=30)
+[ ! -t 0 ] || bounds+=(--foreground)
+for word in "$@"; do
+    case $word in
+    --short) short=(--short) longest=900 ;;
+    -*) echo "all: $word is no word of it: tests/all.sh [--short] [PROGRAM]" >&2 && exit 2 ;;
+    *) program=$(readlink -f "$word") ;;
+    esac
+done
 log=$(mktemp -d)
 clients=
+passed=0
 wrong=()
 left_out=()
 # What runs beside is ended too, however this script ends.
@@ -18,9 +32,6 @@ trap 'exit 130' INT TERM
 
 # What a script wants that isn't here; empty where nothing is missing.
 lacks() {
-    case $1 in
-    faults | memory | refused | serve) command -v cc >/dev/null || echo 'no C compiler, cc' ;;
-    esac
     if [ "$1" = refused ]; then
         for source in "$top"/crates/*_tests/src/refused.rt; do
             name=$(basename "${source%/src/refused.rt}")
@@ -32,39 +43,44 @@ lacks() {
 # Takes note of how a script ended: 77 is one that was left out, and has said why.
 note() {
     case $2 in
-    0) ;;
+    0) passed=$((passed + 1)) ;;
     77) left_out+=("$1") ;;
+    124 | 137) # by `timeout`
+        echo "$1: not done within $longest seconds"
+        wrong+=("$1")
+        ;;
     *) wrong+=("$1") ;;
     esac
 }
 
 echo "all: needs Python 3.11 and a C compiler, cc; refused.py also what \`rt ci\` builds, writeback.py also root and file systems, see its page"
-echo "all: uses tmux, systemd-analyze, promtool and chromium where they are there"
-if ! python3 -c 'import sys; sys.exit(sys.version_info < (3, 11))'; then
-    echo "all: python3 is $(python3 --version 2>&1), and no script runs below 3.11" >&2
-    exit 2
-fi
-# Proves and builds the program if need be, which says how far it is; called without words the program says `fault usage`.
-"$top/alm_server" 2>&1 >/dev/null | grep --line-buffered -v '^fault usage$' >&2
-if [ "${PIPESTATUS[0]}" -gt 125 ]; then
-    echo "all: the program isn't built" >&2
-    exit 2
+echo "all: uses tmux, systemd-analyze, promtool, chromium, selenium, aiohttp, nginx and nft where they are there, mosquitto too; and systemd-nspawn over a Debian in the folder DEBIAN_ROOT, see units.py"
+"$top/tests/needs.sh" || exit 2
+if [ -z "$program" ]; then
+    program=$top/crates/alm_server/out/alm_server
+    # Proves and builds the program if need be, which says how far it is; called without words the program says `fault usage`.
+    "$top/alm_server" 2>&1 >/dev/null | grep --line-buffered -v '^fault usage$' >&2
+    if [ "${PIPESTATUS[0]}" -gt 125 ]; then
+        echo "all: the program isn't built" >&2
+        exit 2
+    fi
 fi
 
 # clients.py mostly waits for its tools, so the others run beside it.
-"$top/tests/clients.py" "$program" "$@" >"$log/clients" 2>&1 &
+timeout --kill-after=30 "$longest" "$top/tests/clients.py" "$program" "${short[@]}" >"$log/clients" 2>&1 &
 clients=$!
 # power.py isn't among them: it starts virtual machines, wants packages unpacked, and takes an hour. Its page says how it is run.
-for script in pages streams examples faults memory damage place writeback surroundings lines serve refused; do
+for script in pages prose streams examples sizes faults memory damage place writeback surroundings sockets firewall units package quarter lines serve values history browser refused; do
     why=$(lacks "$script")
     if [ -n "$why" ]; then
         echo "$script: left out: $why"
         left_out+=("$script")
         continue
     fi
-    words=("$program" "$@")
-    [ "$script" != pages ] || words=() # it reads the repository alone
-    "$top/tests/$script.py" "${words[@]}"
+    words=("$program" "${short[@]}")
+    case $script in pages | prose) words=() ;; esac # these read the repository alone
+    case $script in units | package | quarter) [ -z "${DEBIAN_ROOT:-}" ] || words+=(--root "$DEBIAN_ROOT") ;; esac
+    timeout "${bounds[@]}" "$longest" "$top/tests/$script.py" "${words[@]}"
     note "$script" $?
 done
 wait "$clients"
@@ -72,5 +88,5 @@ note clients $?
 clients=
 cat "$log/clients"
 
-echo "all: ${#wrong[@]} found something wrong${wrong[*]:+: ${wrong[*]}}; ${#left_out[@]} left out${left_out[*]:+: ${left_out[*]}}"
+echo "all: $passed passed, ${#wrong[@]} failed${wrong[*]:+: ${wrong[*]}}; ${#left_out[@]} left out${left_out[*]:+: ${left_out[*]}}"
 [ ${#wrong[@]} -eq 0 ]

@@ -56,23 +56,24 @@ class Layout:
 
 SYNC = ("fdatasync", "device")
 FORGET = ("fadvise", "device")
+LOCK = ("lock", "device")
 NAME_SYNC = [("fsync", "device"), ("openat", "folder"), ("fsync", "folder")]
 
 
 def opening():
-    """A device is opened to write. The kernel forgets what it keeps of the file, and file and name are brought to the disk, before anything is
-    read."""
-    return [("openat", "device"), FORGET, *NAME_SYNC, SYNC]
+    """A device is opened to write. It is locked first. The kernel forgets what it keeps of the file, and file and name are brought to the disk,
+    before anything is read."""
+    return [("openat", "device"), LOCK, FORGET, *NAME_SYNC, SYNC]
 
 
 def opening_by_link():
     """The same, by a symbolic link in another folder: its name is brought to the disk too."""
-    return [("openat", "link"), FORGET, ("fsync", "device"), ("openat", "link's folder"), ("fsync", "link's folder"), *NAME_SYNC[1:], SYNC]
+    return [("openat", "link"), LOCK, FORGET, ("fsync", "device"), ("openat", "link's folder"), ("fsync", "link's folder"), *NAME_SYNC[1:], SYNC]
 
 
 def reading():
-    """A device is opened to be read."""
-    return [("openat", "device"), FORGET, SYNC]
+    """A device is opened to be read, and locked against writers until it was."""
+    return [("openat", "device"), ("lock-shared", "device"), FORGET, SYNC]
 
 
 def gated(at, length):
@@ -123,12 +124,14 @@ def split_opening(made, wanted, *said):
 
 
 def check_made(made, layout):
-    """`format` gives the file its size, and room to the last byte that is used; then its name is brought to the disk, and the device is written."""
-    check_list(made[:2], [("openat", "device"), ("ftruncate", 0, layout.size)], "format")
-    room = list(itertools.takewhile(lambda call: call[0] in ("pread", "pwrite"), made[2:]))
+    """`format` locks the file, gives it its size, and room to the last byte that is used; then its name is brought to the disk, and the device is
+    written."""
+    begins = [("openat", "device"), LOCK, ("ftruncate", 0, layout.size)]
+    check_list(made[:len(begins)], begins, "format")
+    room = list(itertools.takewhile(lambda call: call[0] in ("pread", "pwrite"), made[len(begins):]))
     taken = 0
     for _, at, length in sorted(call for call in room if call[0] == "pwrite"):
         check(at <= taken, "format takes no room at", taken)
         taken = max(taken, at + length)
     check(taken >= layout.used, "format takes room for", taken, "bytes of", layout.used)
-    check_list(made[2 + len(room):], [*NAME_SYNC, *formatting(layout)], "format, after the room")
+    check_list(made[len(begins) + len(room):], [*NAME_SYNC, *formatting(layout)], "format, after the room")

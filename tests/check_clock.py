@@ -8,7 +8,7 @@ import signal
 import subprocess
 import time
 
-from alarm_client import CLOCK, Client, Lost, Refusal, Refused
+from alarm_client import CLOCK, Client, Lost, Overview, Refusal, Refused
 from check_tables import draw_lines
 from clock import PlantClock
 from program import check
@@ -17,30 +17,34 @@ from table_file import Alarm, Table, device_size
 from tools import EXAMPLES, Yard, await_said, await_true, start, stop, tool, toml
 
 PLANT = str(EXAMPLES / "plant.toml")
-# As the page has them: how far a plant is moved, how far ahead it is looked for, and the last moment.
-JUMP, SHARE, DAY, LAST = 60, 256, 86_400, 2**40 - 1
+# As the page has them: how far a plant is moved, what is far ahead, and the last moment.
+JUMP, DAY, LAST = 60, 86_400, 2**40 - 1
 # Seconds of the processor that a waiting clock may take, and how long it is watched.
 IDLE, WATCHED = 0.5, 3.0
 
 
 class Drawn:
-    """A plant's clock without a plant: what it takes, and how far each moment moved it. One request loses its connection."""
+    """A plant's clock without a plant: how far each moment moved it. One request loses its connection."""
 
     def __init__(self, now: int, lost: int):
         self.now, self.asked, self.lost, self.moves = now, 0, lost, []
 
-    def clock(self, moment: int) -> int:
+    def ask(self) -> None:
         self.asked += 1
         if self.asked == self.lost:
             raise Lost("the connection ended")
+
+    def clock(self, moment: int) -> int:
+        self.ask()
         if moment <= self.now:
             raise Refused(f"CLOCK {moment}", Refusal.CLOCK_BACK)
         self.moves.append(moment - self.now)
         self.now = moment
         return 1
 
-    def action_count(self) -> int:
-        return 1
+    def plant(self) -> Overview:
+        self.ask()
+        return Overview(len(self.moves), self.now, 4, 2)
 
 
 def set_clock(server: Server, moment: int) -> None:
@@ -58,7 +62,7 @@ def served(yard: Yard, moment: int | None = None) -> tuple[str, Server]:
 
 
 def clock(yard: Yard) -> str:
-    """A new plant, one that is behind, and searches."""
+    """A new plant, one that is behind, and drawn ones."""
     moves_no_farther()
     new_plant(yard)
     behind(yard)
@@ -70,26 +74,27 @@ def early_plants(yard: Yard) -> str:
     """Plants whose clock is ahead of the machine's, near, far and at its end."""
     ahead(yard, 500)
     ahead(yard, DAY - 300)
-    far_ahead(yard)
+    ahead(yard, 2 * DAY)
+    at_its_end(yard)
     set_back(yard)
     return "plants that are ahead"
 
 
 def moves_no_farther() -> None:
-    """Wherever a plant's clock stands, a search moves it by no more than its page says, and asks no more."""
+    """Wherever a plant's clock stands, it is moved to the machine's time or not at all, and by --jump at most."""
     dice = random.Random(7)
     now = 1_800_000_000
-    for _ in range(60):
+    for _ in range(400):
         gap = dice.choice([dice.randrange(1, 100), dice.randrange(10**4), dice.randrange(10**6), dice.randrange(now)])
-        plant, jump = Drawn(now - gap, dice.randrange(6000)), dice.choice([JUMP, 1000])
+        plant, jump = Drawn(now - gap, dice.randrange(12)), dice.choice([JUMP, 1000])
         client = PlantClock(jump)
         with contextlib.redirect_stderr(io.StringIO()):
             for second in range(5):
                 with contextlib.suppress(Lost):
                     client.tick(plant, now + second)
-        check(all(move <= max(jump, gap // SHARE) for move in plant.moves), "from", gap, "s behind a plant was moved by", plant.moves)
-        check(jump < gap <= 2 * jump or (plant.now >= now) == (gap <= jump), "a plant", gap, "s behind was brought to", now - plant.now, "s behind")
-        check(plant.asked < 8000, "a search took", plant.asked, "lines")
+        check(all(move <= jump for move in plant.moves), "from", gap, "s behind a plant was moved by", plant.moves)
+        check(jump - 5 < gap <= jump or (plant.now >= now) == (gap <= jump), "a plant", gap, "s behind was brought to", now - plant.now, "s behind")
+        check(plant.asked <= 10, "five seconds took", plant.asked, "lines")
 
 
 def new_plant(yard: Yard) -> None:
@@ -102,31 +107,30 @@ def new_plant(yard: Yard) -> None:
 
 
 def behind(yard: Yard) -> None:
-    """A plant that is too far behind stays there, until one run says that it may move. With the device file it isn't moved at all."""
+    """A plant that is too far behind stays there, until one run says that it may move."""
     began = int(time.time()) - 5000
     device, server = served(yard, began)
-    for words, moved in ((["--device", device], 0), ([], JUMP)):
-        run = tool("clock.py", "--port", server.port, "--seconds", 3, *words)
-        check(run.returncode == 1 and len(run.stderr.splitlines()) == 2 and "s ahead of the plant's, and --jump is 60" in run.stderr, run.stderr)
-        check(0 <= yard.now(device) - began <= moved, "the plant's clock was moved by", yard.now(device) - began)
+    run = tool("clock.py", "--port", server.port, "--seconds", 3)
+    check(run.returncode == 1 and len(run.stderr.splitlines()) == 2 and "s ahead of the plant's, and --jump is 60" in run.stderr, run.stderr)
+    check(yard.now(device) == began, "the plant's clock was moved by", yard.now(device) - began)
     run = tool("clock.py", "--port", server.port, "--seconds", 2, "--jump", 40_000)
     check(run.returncode == 0 and abs(time.time() - yard.now(device)) < 60, run.stderr, yard.now(device))
     server.end()
 
 
 def ahead(yard: Yard, seconds: int) -> None:
-    """Where the plant's clock is up to a day ahead, it goes on from there at half speed."""
+    """Where the plant's clock is ahead, it goes on from there at half speed."""
     far = int(time.time()) + seconds
     device, server = served(yard, far)
     running, begun = start("clock.py", "--port", server.port), time.monotonic()
     await_true("the clock above the plant's", lambda: yard.now(device) > far)
     found, began = yard.now(device), time.monotonic()
-    check(found - far <= JUMP + (began - begun) / 2 + 1, "the plant's clock was moved by", found - far, "s in", began - begun)
+    check(found - far <= (began - begun) / 2 + 2, "the plant's clock was moved by", found - far, "s in", began - begun)
     await_true("two moments more", lambda: yard.now(device) > found + 1)
     gone, reached = time.monotonic() - began, yard.now(device) - found
     _, said = stop(running)
     server.end()
-    check(said.count("\n") == 1 and "s ahead; it goes at half speed" in said, said)
+    check(said.count("\n") == 1 and "s ahead; it goes at half speed" in said and ("change_table.py --now" in said) == (seconds > DAY), said)
     check(reached <= gone / 2 + 2, "the plant's clock went", reached, "s in", gone)
 
 
@@ -137,20 +141,18 @@ def processor(process: subprocess.Popen) -> float:
     return (int(words[11]) + int(words[12])) / os.sysconf("SC_CLK_TCK")
 
 
-def far_ahead(yard: Yard) -> None:
-    """Farther ahead, and at its last moment, a plant's clock stands still; that is said once, and takes next to nothing."""
-    for moment, is_read, why in ((int(time.time()) + 2 * DAY, False, "more than a day ahead"), (LAST, False, "more than a day ahead"),
-                                 (LAST, True, "last moment")):
-        device, server = served(yard, moment)
-        running = start("clock.py", "--port", server.port, *(["--device", device] if is_read else []))
-        said = await_said(running, why)
-        check("change_table.py --now" in said and said.count("\n") == 1, said)
-        before = processor(running)
-        time.sleep(WATCHED)
-        took = processor(running) - before
-        _, said = stop(running)
-        server.end()
-        check(said == "" and took < IDLE and yard.now(device) == moment, "a clock that waits said", said, "and took", took, "s of the processor")
+def at_its_end(yard: Yard) -> None:
+    """At its last moment a plant's clock stands still; that is said once, and takes next to nothing."""
+    device, server = served(yard, LAST)
+    running = start("clock.py", "--port", server.port)
+    said = await_said(running, "last moment")
+    check("change_table.py --now" in said and said.count("\n") == 1, said)
+    before = processor(running)
+    time.sleep(WATCHED)
+    took = processor(running) - before
+    _, said = stop(running)
+    server.end()
+    check(said == "" and took < IDLE and yard.now(device) == LAST, "a clock that waits said", said, "and took", took, "s of the processor")
 
 
 def restarted(yard: Yard) -> None:
@@ -175,7 +177,7 @@ def restarted(yard: Yard) -> None:
     _, rest = stop(running)
     server.end()
     check("trying again" in said and "another device than before" in said and not rest, said, rest)
-    check(0 <= yard.now(copy) - moment <= JUMP, "the plant's clock was moved by", yard.now(copy) - moment)
+    check(yard.now(copy) == moment, "the plant's clock was moved by", yard.now(copy) - moment)
 
 
 def set_back(yard: Yard) -> None:

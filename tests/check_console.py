@@ -19,10 +19,14 @@ def console(yard: Yard) -> str:
     """The list at a terminal: keys do what they say."""
     device = yard.format("console.device", REFINERY)
     server = yard.serve(device)
-    with Client.connect(server.port, CLOCK) as clock, Client.connect(server.port, FEED) as feed, Terminal(server.port, REFINERY) as terminal:
+    with Client.connect(server.port, CLOCK) as clock, Client.connect(server.port, FEED) as feed, Terminal(server.port) as terminal:
         moment = int(time.time())
         clock.clock(moment)
         acknowledge(terminal, feed)
+        terminal.shows("CLOCK STANDS STILL for ")
+        moment += 1
+        clock.clock(moment)
+        terminal.hides("CLOCK STANDS STILL")
         shelve(terminal, moment)
         suppress(terminal, feed)
         settings(terminal)
@@ -62,11 +66,11 @@ def shelve(terminal: Terminal, moment: int) -> None:
     terminal.press("Down", "Down", "s")
     terminal.shows("TI-101: shelve for seconds:")
     terminal.type("90")
-    terminal.shows("TI-101 shelved for 90 s as action 8", "shelved 1")
+    terminal.shows("TI-101 shelved for 90 s as action 9", "shelved 1")
     terminal.press("2")
     terminal.shows("TI-101         SHLVD", time.strftime("%H:%M:%S", time.localtime(moment + 90)), "shelved, all areas")
     terminal.press("u")
-    terminal.shows("TI-101 unshelved as action 9")
+    terminal.shows("TI-101 unshelved as action 10")
 
 
 def suppress(terminal: Terminal, feed: Client) -> None:
@@ -77,7 +81,7 @@ def suppress(terminal: Terminal, feed: Client) -> None:
     terminal.shows("a A ack  r reset")
     terminal.press("o")
     terminal.type("y")
-    terminal.shows("VI-825 out of service as action 10")
+    terminal.shows("VI-825 out of service as action 11")
     feed.design(150, True)
     terminal.press("4")
     terminal.shows("out of service, all areas", "VI-825         OOSRV")
@@ -88,7 +92,7 @@ def suppress(terminal: Terminal, feed: Client) -> None:
     feed.design(151, True)
     terminal.shows("TI-702         DSUPR")
     terminal.press("4", "o")
-    terminal.shows("VI-825 back in service as action 13")
+    terminal.shows("VI-825 back in service as action 14")
     terminal.hides("VI-825         OOSRV")
 
 
@@ -101,14 +105,14 @@ def settings(terminal: Terminal) -> None:
     terminal.press("p")
     terminal.shows("TI-202: priority, 1 to 4:")
     terminal.type("3")
-    terminal.shows("TI-202 given priority 3 as action 14", ">  3 TI-202")
+    terminal.shows("TI-202 given priority 3 as action 15", ">  3 TI-202")
     terminal.press("p")
     terminal.type("7")
     terminal.shows("TI-202 not given priority 7: a priority is 1 to 4")
     terminal.press("t")
     terminal.shows("TI-202: setpoint:")
     terminal.type("-12")
-    terminal.shows("TI-202 given setpoint -12 as action 15")
+    terminal.shows("TI-202 given setpoint -12 as action 16")
     terminal.press("f", "Enter")
     terminal.shows("all areas")
 
@@ -118,7 +122,7 @@ def latched(terminal: Terminal, feed: Client) -> None:
     feed.value(1, 0)
     terminal.shows("  1 TI-102         LATAK")
     terminal.press("Home", "r")
-    terminal.shows("TI-102 reset as action 17", "P1 0")
+    terminal.shows("TI-102 reset as action 18", "P1 0")
     terminal.press("r")
     terminal.shows("TI-101 not reset: it is no latched alarm")
 
@@ -172,7 +176,10 @@ def largest(yard: Yard) -> str:
     alarms = [Alarm("high", 1, 1, number % 64, f"T-{number}", text=text) for number in range(16_384)]
     table = yard.write("console.toml", toml(Table(device_size(len(alarms), 64), 64, alarms)))
     server = yard.serve(yard.format("console.device", table))
-    with Client.connect(server.port, FEED) as feed, Terminal(server.port, table) as terminal:
+    with Client.connect(server.port, FEED) as feed, Terminal(server.port) as terminal:
+        began = time.monotonic()
+        check(feed.table().alarms == alarms, "the server tells other attributes than the table's")
+        asked = time.monotonic() - began
         for reply in feed.ask_all(f"VAL {alarm} 1" for alarm in range(len(alarms))):
             check(not isinstance(reply, Refused), reply)
         terminal.shows("P1 16384", "T-16383 ")
@@ -185,7 +192,7 @@ def largest(yard: Yard) -> str:
         terminal.press("q")
     server.end()
     check(waits[0] < 2 * slowness(), "the last alarm was shown after", waits[0])
-    return f"{waits[0]:.2f} s to the last of 16384 alarms"
+    return f"{waits[0]:.2f} s to the last of 16384 alarms, {asked:.2f} s to ask what each is"
 
 
 def swapped() -> tuple[Table, Table]:
@@ -195,30 +202,30 @@ def swapped() -> tuple[Table, Table]:
     return Table(device_size(6, 2), 2, alarms), Table(device_size(6, 2), 2, changed)
 
 
-def change(yard: Yard, table: str, new: Table, lines: str = "") -> str:
+def change(yard: Yard, table: str, new: Table) -> str:
     """Brings the plant of table.device onto a new table, and puts both files in the old ones' places, as the page says."""
     device, path = yard.path("table.device"), yard.write("new.toml", toml(new))
     new_device = yard.format("new.device", path)
     run = tool("change_table.py", device, path, "--program", yard.program)
-    check(run.returncode == 0 and " NO " not in yard.run("desk", new_device, lines=run.stdout + lines), run.stderr)
+    check(run.returncode == 0 and " NO " not in yard.run("desk", new_device, lines=run.stdout), run.stderr)
     os.replace(new_device, device)
     os.replace(path, table)
     return device
 
 
 def tables(yard: Yard) -> str:
-    """A console and a feed that run through a change of the table show and do nothing by the old one."""
+    """A console and a feed that know a port alone run through a change of the table, and show and do nothing by the old one."""
     old, new = swapped()
     table = yard.write("plant.toml", toml(old))
     server = yard.serve(yard.format("table.device", table))
-    feed = start("feed.py", "--port", server.port, table)
-    with Terminal(server.port, table) as terminal:
+    feed = start("feed.py", "--port", server.port)
+    with Terminal(server.port) as terminal:
         feed.stdin.write("T-0,801\nT-4,802\nT-3,803\nT-5,1\n")
         feed.stdin.flush()
         terminal.shows("1 T-0 ", "1 T-4 ", "4 T-3 ", "P1 2  P2 0  P3 0  P4 1")
         server.end()
-        server = yard.serve(change(yard, table, new, "17 1 CLOCK 5\n"), server.port)
-        terminal.shows("P1 1  P2 0  P3 0  P4 1", "another text")
+        server = yard.serve(change(yard, table, new), server.port)
+        terminal.shows("P1 1  P2 0  P3 0  P4 1", "another text", "the server has another device than before")
         terminal.in_order(">* 1 T-0 ", "text 0", "4 T-3 ", "another text")
         check("T-4" not in terminal.text(), "an alarm that the plant no longer has is shown", terminal.text())
         terminal.press("a")
@@ -237,20 +244,24 @@ def tables(yard: Yard) -> str:
 
 
 def others(yard: Yard, table: str, old: Table) -> None:
-    """Another number of alarms or areas than the table's, and another device, end both with one line."""
+    """Another number of alarms or areas than a given table's, an alarm that isn't the table's, and another device, end both with one line."""
     alarm = Alarm("high", 800, 1, 1, "N-10")
+    swap = [old.alarms[1], old.alarms[0], *old.alarms[2:]]
+    late = [*old.alarms[:5], replace(old.alarms[5], text="other")]
     more = Table(device_size(7, 2), 2, [*old.alarms, alarm])
     cases = [(more, f"{table}: the plant has more alarms than the table's 6"),
              (Table(device_size(5, 2), 2, old.alarms[:5]), f"{table}: the plant has fewer alarms than the table's 6"),
              (Table(device_size(6, 3), 3, old.alarms), f"{table}: the plant has more areas than the table's 2"),
              (Table(device_size(6, 1), 1, [replace(one, area=0) for one in old.alarms]), f"{table}: the plant has fewer areas than the table's 2"),
+             (Table(device_size(6, 2), 2, swap), f"{table}: alarm 0, T-3, is another one in the plant: T-1"),
+             (Table(device_size(6, 2), 2, late), f"{table}: alarm 5, N-9, is another one in the plant: N-9"),
              (old, "the server has another device than before: its count of actions is 0, and it was 1")]
     for plant, why in cases:
         server = yard.serve(yard.format("table.device", table))
         with Client.connect(server.port, CLOCK) as clock:
             clock.clock(1)
-        feed = start("feed.py", "--port", server.port, table)
-        with Terminal(server.port, table) as terminal:
+        feed = start("feed.py", "--port", server.port, "--table", table)
+        with Terminal(server.port, "--table", table) as terminal:
             terminal.shows("annunciated, all areas", "P1 0")
             await_true("the feed's connection", lambda: not is_free(server.port))
             server.end()

@@ -5,14 +5,16 @@ import shutil
 import socket
 import subprocess
 import sys
+import threading
 import time
 import urllib.error
 import urllib.request
+from dataclasses import replace
 
-from alarm_client import CLOCK, FEED, PRIORITIES, Client
-from program import check
-from table_file import image_length, load_table
-from tools import EXAMPLES, Yard, await_said, await_true, ended, start, stop, tool
+from alarm_client import CLOCK, FEED, PRIORITIES, Client, Overview
+from program import check, free_ports
+from table_file import Alarm, Table, device_size, image_length, load_table
+from tools import EXAMPLES, Yard, await_said, await_true, ended, start, stop, tool, toml
 
 PLANT, REFINERY = str(EXAMPLES / "plant.toml"), str(EXAMPLES / "refinery.toml")
 LINES = """# a remark
@@ -88,6 +90,10 @@ def methods(yard: Yard) -> str:
         console.priority(3, 4)
         console.setpoint(3, -7)
         check(console.priority_list(4).alarms == [3] and console.action_count() == 16, console.action_count())
+        check(console.plant() == Overview(16, 1000, 4, 2), console.plant())
+        wanted = load_table(PLANT).alarms
+        wanted[3] = replace(wanted[3], priority=4, setpoint=-7)
+        check(console.attributes(3) == wanted[3] and console.table() == Table(None, 2, wanted), console.table())
         check(console.flood(0).window == 3 and [flood.window for flood in console.floods()] == [3, 2], console.floods())
     server.end()
     exported = yard.run("export", device)
@@ -100,25 +106,143 @@ def feed(yard: Yard) -> str:
     device = yard.format("feed.device", REFINERY)
     fresh = shutil.copyfile(device, yard.path("fresh.device"))
     server = yard.serve(device)
-    run = tool("feed.py", "--port", server.port, REFINERY, text=LINES)
+    run = tool("feed.py", "--port", server.port, text=LINES)
     check(run.returncode == 1 and run.stdout == "3 changed a condition, 3 didn't, 0 refused, 4 bad lines\n", run.stdout, run.stderr)
     for said in ("NO-999,1: the table has no such tag", "TI-102,hot: the value is no whole number", "TI-104,design,up: the table has no such tag"):
         check(said in run.stderr, said, "isn't in", run.stderr)
     with Client.connect(server.port, 0) as console:
         check((console.state(0).shown, console.state(3).shown) == ("UNACK", "DSUPR"), console.state(0), console.state(3))
     values = yard.write("values", "".join(f"{alarm.tag},{alarm.setpoint}\n" for alarm in load_table(REFINERY).alarms))
-    run = tool("feed.py", "--port", server.port, REFINERY, values)
+    run = tool("feed.py", "--port", server.port, "--table", REFINERY, values)
     check(run.returncode == 0 and run.stdout == "198 changed a condition, 2 didn't, 0 refused, 0 bad lines\n", run.stdout, run.stderr)
     server.end()
     sends_again(yard, shutil.copyfile(fresh, device))
+    one_tag_twice(yard)
+    earlier_release()
     return "feed.py"
+
+
+class Relay(threading.Thread):
+    """Passes the connections at an address to a server at loopback, as a tunnel to another machine does."""
+
+    def __init__(self, address: str, port: int, slot: int, server_port: int):
+        super().__init__(daemon=True)
+        self.listener = socket.create_server((address, port + slot))
+        self.to = ("127.0.0.1", server_port + slot)
+        self.streams: list[socket.socket] = []
+        self.start()
+
+    def run(self) -> None:
+        while True:
+            try:
+                one, _ = self.listener.accept()
+            except OSError:
+                return
+            try:
+                other = socket.create_connection(self.to)
+            except OSError:
+                one.close()
+                continue
+            self.streams += [one, other]
+            for pair in ((one, other), (other, one)):
+                threading.Thread(target=pump, args=pair, daemon=True).start()
+
+    def end(self) -> None:
+        self.listener.close()
+        for stream in self.streams:
+            try:
+                stream.shutdown(socket.SHUT_RDWR)
+            except OSError:
+                pass
+
+
+def pump(here: socket.socket, there: socket.socket) -> None:
+    """Passes what comes at one end to the other, to its end."""
+    try:
+        while piece := here.recv(65_536):
+            there.sendall(piece)
+        there.shutdown(socket.SHUT_WR)
+    except OSError:
+        pass
+
+
+def two_machines(yard: Yard) -> str:
+    """A feed goes on at the second address once the first has gone, and sends its values again; it notices a count that fell."""
+    first, port = yard.serve(yard.format("first.device", REFINERY)), free_ports()
+    second = yard.serve(yard.format("second.device", REFINERY))
+    relays = [Relay(address, port, FEED, server.port) for address, server in (("127.0.0.2", first), ("127.0.0.3", second))]
+    feed = start("feed.py", "--host", "127.0.0.9,127.0.0.2,127.0.0.3", "--port", port)
+    feed.stdin.write("TI-101,3800\nTI-102,4100\n")
+    feed.stdin.flush()
+    await_true("the first machine's values", lambda: yard.annunciated(first.port) == {0, 1})
+    relays[0].end()
+    first.end()
+    await_true("the second machine's values", lambda: yard.annunciated(second.port) == {0, 1})
+    printed, said = feed.communicate(timeout=60)
+    relays[1].end()
+    second.end()
+    check(feed.returncode == 0 and "2 values are sent again" in said and "its count of actions is 0, and it was 2" in said, printed, said)
+    run = tool("feed.py", "--host", "127.0.0.2", "--sockets", yard.folder)
+    check(run.returncode == 2 and "--host goes with --port" in run.stderr, run.stderr)
+    return "two machines"
+
+
+def takeover(yard: Yard) -> str:
+    """A feed goes on with the same device at the second address, while what listens at the first has no server any more: it is the same plant."""
+    first, port = yard.serve(yard.format("taken.device", REFINERY)), free_ports()
+    second = free_ports()
+    relays = [Relay(address, port, FEED, server) for address, server in (("127.0.0.2", first.port), ("127.0.0.3", second))]
+    feed = start("feed.py", "--host", "127.0.0.2,127.0.0.3", "--port", port)
+    feed.stdin.write("TI-101,3800\nTI-102,4100\n")
+    feed.stdin.flush()
+    await_true("the first machine's values", lambda: yard.annunciated(first.port) == {0, 1})
+    first.end()
+    server = yard.serve(yard.path("taken.device"), second)
+    with Client.connect(second, 3) as console:
+        console.acknowledge(0)
+    feed.stdin.write("TI-103,3300\n")
+    feed.stdin.flush()
+    await_true("the second machine's values", lambda: len(yard.annunciated(second)) == 3)
+    _, said = feed.communicate(timeout=60)
+    for relay in relays:
+        relay.end()
+    server.end()
+    check(feed.returncode == 0 and "2 values are sent again" in said and "another device" not in said, said)
+    return "a takeover"
+
+
+def one_tag_twice(yard: Yard) -> None:
+    """A plant in which a tag stands twice can't be fed by tags."""
+    alarms = [Alarm("high", 1, 1, 0, tag) for tag in ("T-1", "T-2", "T-1")]
+    server = yard.serve(yard.format("twice.device", yard.write("twice.toml", toml(Table(device_size(3, 1), 1, alarms)))))
+    run = tool("feed.py", "--port", server.port, text="T-2,1\n")
+    server.end()
+    check(run.returncode == 1 and run.stderr == "feed: the plant's tag T-1 stands twice: alarms 0 and 2\n", run.stdout, run.stderr)
+
+
+def refuse_lines(listener: socket.socket) -> None:
+    """Answers each line as one that is none."""
+    one, _ = listener.accept()
+    with one, one.makefile("rb") as lines:
+        for line in lines:
+            one.sendall(line.split()[0] + b" NO 13\n")
+
+
+def earlier_release() -> None:
+    """A server that knows no PLANT ends a tool, with one line."""
+    port = free_ports()
+    with socket.create_server(("127.0.0.1", port + FEED)) as listener:
+        threading.Thread(target=refuse_lines, args=(listener,), daemon=True).start()
+        run = tool("feed.py", "--port", port, text="T-2,1\n")
+    wanted = "feed: the server knows no PLANT: it is of an earlier release than this tool\n"
+    check(run.returncode == 1 and run.stderr == wanted, run.stdout, run.stderr)
 
 
 def sends_again(yard: Yard, device: str) -> None:
     """The values that a dead server may have lost are sent again: the last of each tag, and suppressions before them."""
     lost = shutil.copyfile(device, yard.path("lost.device"))
     server = yard.serve(device)
-    running = start("feed.py", "--port", server.port, REFINERY)
+    running = start("feed.py", "--port", server.port)
     running.stdin.write("TI-101,3800\nTI-102,4100\n")
     running.stdin.flush()
     await_true("the first values", lambda: yard.annunciated(server.port) == {0, 1})
@@ -158,8 +282,9 @@ def metrics(yard: Yard) -> str:
             holds(address, f'alarms_annunciated{{priority="{priority}",state="UNACK"}} {number}')
         size = (16_777_216 - 23) // 2 - 25 - image_length(200, 8)
         holds(address, 'alarms_annunciated{priority="1",state="ACKED"} 1', "alarms_up 1", "alarms_shelved 1", "alarms_stale 0",
-              "alarms_actions_total 15", "alarms_chattering 0", 'alarms_area_annunciations{area="0"} 12', 'alarms_area_flooded{area="0"} 1',
+              "alarms_actions_total 15", "alarms_moment_seconds 1000", "alarms_configured 200", "alarms_chattering 0", 'alarms_area_annunciations{area="0"} 12', 'alarms_area_flooded{area="0"} 1',
               'alarms_area_flooded{area="7"} 0', f"alarms_journal_size_bytes {size}", "alarms_epoch 1", f"alarms_journal_bytes {15 * 35}")
+        stands_still(address)
         for value in (0, 5000, 0, 5000):
             feed.value(0, value)
         holds(address, "alarms_chattering 1", "alarms_stale 0")
@@ -172,6 +297,14 @@ def metrics(yard: Yard) -> str:
     stop(running)
     stops_at_another(yard, device)
     return f"metrics.py, {checked}"
+
+
+def stands_still(address: str) -> None:
+    """The exporter tells for how long the clock stands, which nobody moves here."""
+    found = [float(re.search(r"^alarms_clock_still_seconds (\S+)$", scrape(address), re.M)[1])]
+    time.sleep(1.2)
+    found.append(float(re.search(r"^alarms_clock_still_seconds (\S+)$", scrape(address), re.M)[1]))
+    check(found[0] + 1 < found[1] < found[0] + 60, "the clock stands still for", found)
 
 
 def holds(address: str, *lines: str) -> None:

@@ -61,6 +61,24 @@ def export(yard: Yard, count: int) -> str:
     return f"{count} tables exported"
 
 
+def export_served(yard: Yard, count: int) -> str:
+    """The table of a served plant is what `export` prints once the server has ended, byte for byte."""
+    dice = random.Random(43)
+    for _ in range(count):
+        table = draw_table(dice)
+        device = yard.format("served.device", yard.write("served.toml", toml(table, lambda: dice.random() < 0.5)))
+        change_one(yard, device, table, dice)
+        server = yard.serve(device)
+        told = tool("export.py", "--port", server.port, "--slot", dice.randrange(16), "--device", device)
+        alone = tool("export.py", "--port", server.port)
+        server.end()
+        exported = yard.run("export", device)
+        check(told.returncode == 0 and told.stdout == exported, told.stdout, told.stderr, "isn't", exported)
+        size = device_size(len(table.alarms), table.areas)
+        check(alone.stdout == exported.replace(f"size = {table.size}\n", f"size = {size}\n", 1), alone.stdout)
+    return f"{count} tables of served plants"
+
+
 def export_largest(yard: Yard) -> str:
     """The largest table is exported whole."""
     alarms = [Alarm("low", number, 1 + number % 4, number % 64, f"T-{number}", text="\"\\'" * 26) for number in range(16_384)]

@@ -33,7 +33,7 @@ OPERATING = EXAMPLES.parent / "docs" / "OPERATING.md"
 # How many checks run beside each other.
 BESIDE = 6
 INSTALLED = re.compile(r"/opt/alarms-([0-9.]+[0-9])")
-MODULES = ("alarm_client.py", "arguments.py", "device_file.py", "table_file.py")
+MODULES = ("alarm_client.py", "arguments.py", "device_file.py", "table_file.py", "value_map.py")
 # A desk that answers each line and keeps none of those that come last: what is stored is a copy from before them.
 LOSER = """#!/bin/sh
 if [ "$1" != desk ] || [ "${2%/device}" = "$2" ]; then exec PROGRAM "$@"; fi
@@ -77,7 +77,8 @@ def units(yard: Yard) -> str:
     check(installed == {VERSION}, OPERATING.name, "installs", installed, "and this is", VERSION)
     if not shutil.which("systemd-analyze"):
         return "no systemd: units left out"
-    places = {f"/opt/alarms-{VERSION}/alm_server": yard.program, f"/opt/alarms-{VERSION}/examples": str(EXAMPLES), "/usr/bin/python3": sys.executable}
+    places = {f"/opt/alarms-{VERSION}/alm_server": yard.program, f"/opt/alarms-{VERSION}/examples": str(EXAMPLES), f"/opt/alarms-{VERSION}/clients": str(EXAMPLES.parent / "clients"),
+              "/usr/bin/python3": sys.executable}
     names = sorted(path.name for path in EXAMPLES.glob("*.service"))
     for name in names:
         text = (EXAMPLES / name).read_text(encoding="utf-8")
@@ -97,9 +98,12 @@ CHECKS: dict[str, Callable[[Yard, int], str]] = {
     "tables": lambda yard, _: tmux(check_console.tables)(yard),
     "console": lambda yard, _: tmux(check_console.console)(yard),
     "export": lambda yard, step: check_tables.export(yard, 1000 // step),
+    "served": lambda yard, step: check_tables.export_served(yard, 60 // step),
     "largest": lambda yard, _: check_tables.export_largest(yard),
     "changes": lambda yard, step: check_tables.changes(yard, 100 // step),
     "feed": lambda yard, _: check_feed.feed(yard),
+    "machines": lambda yard, _: check_feed.two_machines(yard),
+    "takeover": lambda yard, _: check_feed.takeover(yard),
     "metrics": lambda yard, _: check_feed.metrics(yard),
     "journal": lambda yard, step: check_journal.journal(yard, 3000 // step),
     "reply": lambda yard, _: check_journal.not_before_its_reply(yard),

@@ -2,9 +2,11 @@
 """The built program over each example: what it prints, and its status.
 
 Each folder of examples/ with a `stdin` has a `stdout` beside it: what the desk prints for it, over a copy of `plant.device` where the
-folder has one. Without words the program says `fault usage`. `refinery.toml` is what `make_refinery.py` prints.
+folder has one. Without words the program says `fault usage`. `refinery.toml` is what `make_refinery.py` prints. Each fault of a table
+file that docs/TABLE.md lists is told by its line, and but for `too-small` no file is made.
 """
 import os
+import re
 import shutil
 import subprocess
 import sys
@@ -12,6 +14,26 @@ import sys
 from program import TESTS, Wrong, begin, check, finish, run_words
 
 EXAMPLES = os.path.join(TESTS, "..", "examples")
+TABLE = os.path.join(TESTS, "..", "docs", "TABLE.md")
+# A whole table, and for each row of the page changes of it with the line that each of them brings about.
+HEAD, FIRST = "size = 28997\nareas = 2\n", '[[alarm]]\nkind = "high"\nsetpoint = 800\npriority = 1\narea = 0\ntag = "TI-101"\n'
+SECOND = '[[alarm]]\nkind = "discrete"\nsetpoint = 1\npriority = 1\narea = 1\ntag = "XS-201"\n'
+WHOLE = HEAD + FIRST + SECOND
+FAULTS = [
+    ([WHOLE.replace("28997", ""), "areas = 2\n" + WHOLE, WHOLE + "# \xff"], "fault toml"),
+    ([WHOLE.replace("areas = 2\n", "")], "fault table - areas"),
+    ([WHOLE.replace("areas = 2", "areas = 65"), WHOLE.replace("areas = 2", "areas = 0")], "fault table - areas"),
+    ([HEAD], "fault table - alarm"),
+    ([HEAD + "alarm = []\n", HEAD + FIRST * 16_385], "fault rows"),
+    ([HEAD + FIRST + "prio = 1\n" + SECOND], "fault table 0 prio"),
+    ([WHOLE.replace('kind = "discrete"\n', "")], "fault table 1 kind"),
+    ([WHOLE.replace('"discrete"', '"higher"')], "fault table 1 kind"),
+    ([HEAD + FIRST + SECOND.replace("setpoint = 1", "setpoint = 80.5")], "fault table 1 setpoint"),
+    ([HEAD + FIRST + SECOND.replace("priority = 1", "priority = 5")], "fault table 1 priority"),
+    ([WHOLE + "deadband = 5\n"], "fault table 1 deadband"),
+    ([WHOLE.replace('"XS-201"', '"TI 101"')], "fault table 1 tag"),
+    ([WHOLE.replace("28997", "1000")], "fault too-small"),
+]
 
 
 def read(*path):
@@ -48,6 +70,25 @@ def run_maker():
     check(run.returncode == 0 and run.stdout == read(EXAMPLES, "refinery.toml"), "make_refinery.py prints another table", run.stderr)
 
 
+def run_faults(program, folder):
+    """Each fault of a table file, by the lines of the page and in its order."""
+    page = read(TABLE).decode().split("\n## Faults\n")[1]
+    told = re.findall(r"\| `(fault [^`]+)` \|\n", page)
+    check(told == [line for _, line in FAULTS], "the page tells of other faults:", told)
+    device, table = os.path.join(folder, "device"), os.path.join(folder, "table.toml")
+    for texts, line in [([WHOLE], None), *FAULTS]:
+        for text in texts:
+            with open(table, "wb") as file:
+                file.write(text.encode("latin-1"))
+            run = run_words(program, ["format", device, table])
+            wanted = (0, b"formatted 2 2 4480\n", b"") if line is None else (2, b"", line.encode() + b"\n")
+            check((run.returncode, run.stdout, run.stderr) == wanted, text[:200], "gave", run)
+            made = os.path.exists(device)
+            check(made == (line in (None, "fault too-small")), "of", line, "a file was" if made else "no file was", "made")
+            if made:
+                os.remove(device)
+
+
 def main():
     program, _, folder = begin("examples", sys.argv, 1, 1)
     found = names()
@@ -57,9 +98,10 @@ def main():
             run_example(program, name, folder)
         run_without_words(program)
         run_maker()
+        run_faults(program, folder)
     except Wrong as wrong:
         sys.exit(f"examples: {wrong}")
-    finish("examples", folder, f"{len(found)} examples, no words, and the refinery")
+    finish("examples", folder, f"{len(found)} examples, no words, the refinery, and {len(FAULTS)} faults of tables")
 
 
 if __name__ == "__main__":

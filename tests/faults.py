@@ -222,7 +222,7 @@ class Faults:
         with open(device, "rb") as file:
             bytes_before = file.read()
         _, made = self.whole([command, device])
-        check_list(split_opening(on_device(made), reading(), command), [], command)
+        check_list(split_opening(on_device(made), reading(), command), [("unlock", "device")], command)
         kinds = {"pread": ["eio", "short", "kill"], "fdatasync": ["eio", "kill"], "openat": ["eio"], "fadvise": ["eio"], "statx": ["eio"]}
         for fault in self.each(made, kinds):
             if fault.kills:

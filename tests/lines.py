@@ -7,6 +7,7 @@ A drawn line follows the grammar, with numbers at their limits, and then often n
 lengthened, a space, a zero or a carriage return too many. The reading here is a page of regular expressions. It says which lines are
 bad or too long, and with which id they are refused; which roles may ask what; what a reply to a good line may look like. Where
 the line alone decides the refusal, it has to be that one. Each action has to be accepted in a run, and refused in each of its ways.
+Replies to PLANT and ATTR are what the accepted CLOCK, PRIO and SETP before them leave in force, to the byte.
 """
 import multiprocessing
 import os
@@ -28,7 +29,12 @@ ROLES = [*[CONSOLE] * 16, FEED, CLOCK]
 ACTIONS = {**CONSOLE, **FEED, **CLOCK}
 # Refusals that a line decides alone.
 BESIDES = {b"PRIO": b"19"}
-# Of the worked table: priorities, the alarm that latches, those that may be shelved, and for how long.
+# Of the worked table: kinds, setpoints, deadbands, priorities, areas, longest shelvings, latching and tags.
+ATTRIBUTES = [["HIGH", 800, 10, 1, 0, 3600, "OFF", "TI-101"], ["LOW", 100, 5, 2, 0, 3600, "OFF", "PI-102"], ["DISCRETE", 1, 0, 1, 1, 0, "ON", "XS-201"],
+              ["HIGH", 50, 0, 3, 1, 0, "OFF", "LI-202"]]
+SETPOINT, PRIORITY = 1, 3
+AREAS = 2
+# Priorities, the alarm that latches, those that may be shelved, and for how long.
 RANKS, LATCHING, SHELVABLE, SECONDS = range(1, 5), (2,), (0, 1), range(1, 3601)
 
 SLOT = re.compile(rb"(0|[1-9]\d?) ")
@@ -36,7 +42,7 @@ LEADING = re.compile(rb"(0|[1-9]\d{0,9})(?: |$)", re.DOTALL)
 NUM = rb"(?:0|[1-9]\d*)"
 REQUEST = re.compile(
     rb"(?P<id>NUM) (?:"
-    rb"(?P<one>ACK|RESET|UNSHELVE|STATE) (?P<alarm>NUM)"
+    rb"(?P<one>ACK|RESET|UNSHELVE|STATE|ATTR) (?P<alarm>NUM)"
     rb"|(?P<shelve>SHELVE) (?P<shelved>NUM) (?P<secs>NUM)"
     rb"|(?P<flag>OOS|DESIGN) (?P<flagged>NUM) (?P<how>ON|OFF)"
     rb"|(?P<prio>PRIO) (?P<ranked>NUM) (?P<rank>NUM)"
@@ -44,7 +50,7 @@ REQUEST = re.compile(
     rb"|(?P<clock>CLOCK) (?P<moment>NUM)"
     rb"|(?P<list>LIST) (?P<which>[PAS]) (?P<number>NUM)"
     rb"|(?P<flood>FLOOD) (?P<area>NUM)"
-    rb"|(?P<all>STALE|CHATTER))".replace(b"NUM", rb"(?:0|[1-9]\d*)"))
+    rb"|(?P<all>STALE|CHATTER|PLANT))".replace(b"NUM", rb"(?:0|[1-9]\d*)"))
 WORDS = ("one", "shelve", "flag", "prio", "val", "clock", "list", "flood", "all")
 ALARMS = ("alarm", "shelved", "flagged", "ranked", "valued")
 LIMITS = [("id", 2**32), ("alarm", 2**32), ("shelved", 2**32), ("secs", 2**32), ("flagged", 2**32), ("ranked", 2**32), ("rank", 2**32),
@@ -119,15 +125,19 @@ def outcomes(word):
 
 
 def outcome(line, reply):
-    """An action's word, and OK or its refusal."""
+    """A line's word, and the reply's or its refusal."""
     words = reply.split(b" ")[2:]
-    return line.split(b" ")[2], words[0] if words[0] == b"OK" else b" ".join(words)
+    return line.split(b" ")[2], b" ".join(words) if words[0] == b"NO" else words[0]
 
 
 def read_query(word, found):
     if word == b"STATE":
         return rb"STATE \d+ [A-Z]{4,5} [01] (?:-|O?D?S?) (?:-|\d+)"
     lists = {b"P": (1, 4), b"A": (0, 1), b"S": (0, 255)}
+    if word == b"ATTR":
+        return rb"ATTR \d+ [^\n]+"
+    if word == b"PLANT":
+        return rb"PLANT \d+ \d+ 4 2"
     low, high = lists[found["which"]] if found["which"] else (0, 1)
     number = int(found["number"] or found["area"] or 0)
     if not low <= number <= high:
@@ -135,6 +145,32 @@ def read_query(word, found):
     if word == b"FLOOD":
         return rb"FLOOD \d+ \d+ [01]"
     return word + rb" \d+ (?:0|1 [0-3]|2(?: [0-3]){2}|3(?: [0-3]){3}|4(?: [0-3]){4})"
+
+
+class InForce:
+    """The moment, the count and the attributes that the accepted lines leave in force."""
+
+    def __init__(self):
+        self.moment, self.count = 0, 0
+        self.attributes = [list(attributes) for attributes in ATTRIBUTES]
+
+    def replies_as_it_should(self, line, reply):
+        """Whether a reply to PLANT or ATTR tells what is in force; what another line changes is kept."""
+        asked, told = line.split(b" ")[2:], reply.split(b" ")[2:]
+        if told[0] == b"OK":
+            self.accept(asked)
+        if told[0] == b"PLANT":
+            return told == f"PLANT {self.count} {self.moment} {len(self.attributes)} {AREAS}".encode().split()
+        if told[0] == b"ATTR":
+            return told == " ".join(str(word) for word in ["ATTR", self.count, *self.attributes[int(asked[1])]]).encode().split()
+        return True
+
+    def accept(self, asked):
+        self.count += 1
+        if asked[0] == b"CLOCK":
+            self.moment = int(asked[1])
+        if asked[0] in (b"PRIO", b"SETP"):
+            self.attributes[int(asked[1])][PRIORITY if asked[0] == b"PRIO" else SETPOINT] = int(asked[2])
 
 
 def draw_number(dice):
@@ -146,11 +182,11 @@ def draw_number(dice):
 
 def draw_request(dice):
     word = dice.choice(["ACK", "RESET", "SHELVE", "UNSHELVE", "OOS", "DESIGN", "PRIO", "SETP", "VAL", "VAL", "CLOCK", "STATE", "LIST", "FLOOD",
-                        "STALE", "CHATTER"])
+                        "STALE", "CHATTER", "PLANT", "ATTR", "ATTR"])
     fields = [word]
     if word == "LIST":
         fields.append(dice.choice("PAS"))
-    if word not in ("STALE", "CHATTER"):
+    if word not in ("STALE", "CHATTER", "PLANT"):
         fields.append(str(2 if word == "RESET" and dice.randrange(2) else draw_number(dice)))
     if word in ("SHELVE", "PRIO"):
         fields.append(str(draw_number(dice)))
@@ -211,13 +247,14 @@ def try_chunk(job):
         check(run.returncode == 0 and run.stderr == b"", seed, run.returncode, run.stderr)
         replies = run.stdout.split(b"\n")
         check(len(replies) == CHUNK + 1, seed, len(replies))
-        good, seen = 0, set()
+        good, seen, in_force = 0, set(), InForce()
         for line, reply in zip(lines, replies):
             wanted = read(line)
             check(re.fullmatch(wanted, reply), seed, line, "was answered", reply, "and not", wanted)
             if not wanted.endswith((b"NO 13", b"NO 14")):
                 good += 1
                 seen.add(outcome(line, reply))
+                check(in_force.replies_as_it_should(line, reply), seed, line, "was answered", reply, "with", vars(in_force), "in force")
         return good, seen
     except Wrong as wrong:
         return str(wrong)
@@ -232,7 +269,8 @@ def main():
             if isinstance(answer, str):
                 sys.exit(f"lines: {answer}")
             good, seen = good + answer[0], seen | answer[1]
-    missing = {(word, how) for word in ACTIONS for how in outcomes(word)} - seen
+    queries = {(b"ATTR", b"ATTR"), (b"ATTR", b"NO 1"), (b"PLANT", b"PLANT")}
+    missing = ({(word, how) for word in ACTIONS for how in outcomes(word)} | queries) - seen
     if missing:
         sys.exit(f"lines: never seen: {sorted(missing)}")
     finish("lines", folder, f"{lines} lines, {good} of them good, none read in another way, {time.monotonic() - started:.0f} s")

@@ -13,7 +13,7 @@ import sys
 from pathlib import Path
 
 TOP = Path(__file__).resolve().parent.parent
-PAGES = sorted([*TOP.glob("*.md"), *TOP.glob("docs/*.md"), *TOP.glob("tests/*.md"), *TOP.glob("examples/*.md"), *TOP.glob("bench/*.md")])
+PAGES = sorted([*TOP.glob("*.md"), *TOP.glob("docs/*.md"), *TOP.glob("tests/*.md"), *TOP.glob("examples/*.md"), *TOP.glob("clients/*.md"), *TOP.glob("bench/*.md")])
 LINK = re.compile(r"\[[^\]]*\]\(([^)\s]+)\)")
 RUST = re.compile(r"```rust\n(.*?)```", re.DOTALL)
 FENCE = re.compile(r"```.*?```", re.DOTALL)
@@ -94,6 +94,8 @@ def believed(found):
     made = subprocess.run([TOP / "docs" / "believed.py"], capture_output=True, check=True).stdout.decode()
     page = text_of(TOP / "docs" / "BELIEVED.md")
     found.check(made == page, "docs/BELIEVED.md isn't what docs/believed.py prints")
+    said = subprocess.run([TOP / "docs" / "believed.py", "--check"], capture_output=True, check=False)
+    found.check(said.returncode == 0, said.stderr.decode().strip())
     headline = " ".join(text_of(TOP / "docs" / "HEADLINE.md").split())
     for total in re.findall(r"^\d+ files, .*$", page, re.MULTILINE):
         found.check(total in headline, "docs/HEADLINE.md doesn't say", total)

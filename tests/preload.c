@@ -3,12 +3,17 @@
  *     ALM_FAULT=CALL:N:KIND[:SEED]   at the N-th CALL, from 1
  *     ALM_MET=FILE                   is made as that call comes
  *     ALM_COUNTS=FILE                at the end of the program: how often each call was made, a line each
- *     ALM_CALLS=FILE                 the calls on files in their order, a line each: name and path, or name, place and length
+ *     ALM_MEMORY=FILE                while it runs: eight bytes, how many requests for memory were made so far
+ *     ALM_CALLS=FILE                 the calls on files in their order, a line each: name and path, or name, place and length. Locks are there too:
+ *                                    lock, lock-shared, unlock
+ *     ALM_READS=lines                each read of standard input gives a line, where one is there
+ *     ALM_INTERRUPT=N                the N-th read of standard input is interrupted: EINTR
  *     ALM_BODY=ignores               stands for a program that ignores failed writes and syncs: to it they succeed
  *     ALM_BODY=keeps                 stands for a program that never lets the kernel forget: posix_fadvise does nothing
+ *     ALM_BODY=copies                stands for a program that takes a copy with each write, and lets it go: one request for memory more
  *
  * CALL is pwrite, pread, fdatasync, fsync, fadvise, ftruncate, openat, statx, memory (each request for it), thread (each that is
- * started), or device: any of pwrite, pread, fdatasync. KIND is
+ * started), read (of standard input), or device: any of pwrite, pread, fdatasync. KIND is
  *
  *     eio, enospc   the call does nothing and fails so (of memory or a thread: it is refused)
  *     disk          while the call runs the file ALM_DISK exists, which makes the disk below fail (badfs.c)
@@ -33,15 +38,17 @@
 #include <stdio.h>
 #include <stdlib.h>
 #include <string.h>
+#include <sys/file.h>
+#include <sys/mman.h>
 #include <sys/stat.h>
 #include <sys/syscall.h>
 #include <sys/types.h>
 #include <unistd.h>
 
-enum call { PWRITE, PREAD, FDATASYNC, FSYNC, FADVISE, FTRUNCATE, OPENAT, STATX, MEMORY, THREAD, DEVICE, CALLS };
+enum call { PWRITE, PREAD, FDATASYNC, FSYNC, FADVISE, FTRUNCATE, OPENAT, STATX, MEMORY, THREAD, READ, DEVICE, CALLS };
 
 static const char *const names[CALLS] = {"pwrite", "pread", "fdatasync", "fsync", "fadvise", "ftruncate",
-                                         "openat", "statx", "memory",    "thread", "device"};
+                                         "openat", "statx", "memory",    "thread", "read",   "device"};
 
 struct pending {
     struct pending *next;
@@ -58,7 +65,9 @@ static char kind[16];
 static uint64_t seed;
 static const char *counts, *met, *disk;
 static int calls = -1;
-static bool ignores, keeps;
+static bool ignores, keeps, copies, by_lines;
+static unsigned long interrupted; /* which read of standard input; 0: none */
+static unsigned long *memory; /* a file that shows the count of requests */
 static bool ready;
 static struct pending *pending;
 static int pending_lock;
@@ -77,6 +86,15 @@ static void *take(size_t length) {
     return store + at;
 }
 
+/* The count of requests for memory, in a file that whoever started the program reads. */
+static void show_memory(const char *path) {
+    int file = syscall(SYS_openat, AT_FDCWD, path, O_RDWR | O_CREAT, 0644);
+    if (file < 0 || syscall(SYS_ftruncate, file, sizeof *memory)) _exit(98);
+    memory = mmap(NULL, sizeof *memory, PROT_READ | PROT_WRITE, MAP_SHARED, file, 0);
+    if (memory == MAP_FAILED) _exit(98);
+    syscall(SYS_close, file);
+}
+
 static void begin(void) {
     if (ready) return;
     ready = true;
@@ -86,6 +104,12 @@ static void begin(void) {
     const char *body = getenv("ALM_BODY");
     ignores = body && !strcmp(body, "ignores");
     keeps = body && !strcmp(body, "keeps");
+    copies = body && !strcmp(body, "copies");
+    by_lines = getenv("ALM_READS") != NULL;
+    const char *at = getenv("ALM_INTERRUPT");
+    if (at) interrupted = strtoul(at, NULL, 10);
+    const char *shown = getenv("ALM_MEMORY");
+    if (shown) show_memory(shown);
     const char *listed = getenv("ALM_CALLS");
     if (listed) calls = syscall(SYS_openat, AT_FDCWD, listed, O_WRONLY | O_CREAT | O_APPEND, 0644);
     const char *fault = getenv("ALM_FAULT");
@@ -115,7 +139,7 @@ void _exit(int status) {
 }
 
 /* Writes a call to the list: with its place and length, or with its file's path if it has none. */
-static void list(enum call call, int file, const char *path, off_t at, size_t length) {
+static void list_as(const char *name, int file, const char *path, off_t at, size_t length) {
     begin();
     if (calls < 0) return;
     char link[64], target[256] = "", line[400];
@@ -125,15 +149,18 @@ static void list(enum call call, int file, const char *path, off_t at, size_t le
         target[got < 0 ? 0 : got] = 0;
         path = target;
     }
-    int wrote = path ? snprintf(line, sizeof line, "%s %s\n", names[call], path)
-                     : snprintf(line, sizeof line, "%s %lld %zu\n", names[call], (long long)at, length);
+    int wrote = path ? snprintf(line, sizeof line, "%s %s\n", name, path)
+                     : snprintf(line, sizeof line, "%s %lld %zu\n", name, (long long)at, length);
     syscall(SYS_write, calls, line, wrote);
 }
+
+static void list(enum call call, int file, const char *path, off_t at, size_t length) { list_as(names[call], file, path, at, length); }
 
 /* Whether this call, which is counted, is the one that shall fail. */
 static bool is_wanted(enum call call) {
     begin();
     unsigned long nth = __atomic_add_fetch(&made[call], 1, __ATOMIC_SEQ_CST);
+    if (call == MEMORY && memory) __atomic_add_fetch(memory, 1, __ATOMIC_SEQ_CST);
     bool hit = call == wanted && (nth == wanted_at || (nth > wanted_at && !strcmp(kind, "from")));
     if (call == PWRITE || call == PREAD || call == FDATASYNC) {
         nth = __atomic_add_fetch(&made[DEVICE], 1, __ATOMIC_SEQ_CST);
@@ -226,6 +253,10 @@ static bool fails(void) {
 
 static ssize_t write_at(int file, const void *bytes, size_t length, off_t at) {
     bool hit = is_wanted(PWRITE);
+    if (copies) {
+        void *volatile copy = malloc(length);
+        free(copy);
+    }
     list(PWRITE, file, NULL, at, length);
     if (!hit || (strcmp(kind, "eio") && strcmp(kind, "enospc") && strcmp(kind, "kill"))) note(file, bytes, length, at);
     if (hit) {
@@ -242,6 +273,27 @@ static ssize_t read_at(int file, void *into, size_t length, off_t at) {
         if (length > 1) length /= 2;
     }
     return syscall(SYS_pread64, file, into, length, at);
+}
+
+/* A line of standard input, byte by byte. */
+static ssize_t read_line(unsigned char *into, size_t length) {
+    size_t got = 0;
+    while (got < length) {
+        ssize_t one = syscall(SYS_read, 0, into + got, 1);
+        if (one <= 0) return got ? (ssize_t)got : one;
+        if (into[got++] == '\n') break;
+    }
+    return got;
+}
+
+ssize_t read(int file, void *into, size_t length) {
+    if (file != 0) return syscall(SYS_read, file, into, length);
+    bool hit = is_wanted(READ);
+    if ((hit && fails()) || made[READ] == interrupted) {
+        errno = interrupted ? EINTR : errno;
+        return -1;
+    }
+    return by_lines ? read_line(into, length) : syscall(SYS_read, file, into, length);
 }
 
 /* The disk fails from now on, or works again. */
@@ -292,6 +344,10 @@ ssize_t pwrite(int file, const void *bytes, size_t length, off_t at) { return wr
 ssize_t pwrite64(int file, const void *bytes, size_t length, off_t at) { return write_at(file, bytes, length, at); }
 ssize_t pread(int file, void *into, size_t length, off_t at) { return read_at(file, into, length, at); }
 ssize_t pread64(int file, void *into, size_t length, off_t at) { return read_at(file, into, length, at); }
+int flock(int file, int how) {
+    list_as(how & LOCK_UN ? "unlock" : how & LOCK_SH ? "lock-shared" : "lock", file, NULL, 0, 0);
+    return syscall(SYS_flock, file, how);
+}
 int fdatasync(int file) { return sync_by(FDATASYNC, SYS_fdatasync, file); }
 int fsync(int file) { return sync_by(FSYNC, SYS_fsync, file); }
 int posix_fadvise(int file, off_t at, off_t length, int advice) { return advise(file, at, length, advice); }

@@ -11,6 +11,7 @@ import socket
 import subprocess
 import sys
 import tempfile
+import threading
 
 TESTS = os.path.dirname(os.path.abspath(__file__))
 PLANT = os.path.join(TESTS, "..", "examples", "plant.toml")
@@ -38,6 +39,28 @@ def free_ports():
 
 class Wrong(Exception):
     """The program did what it must not do."""
+
+
+def as_user(user, group, groups, function):
+    """What a function gives as another user, in a process of its own: a text, or an exception's. No thread runs beside: the copy would wait for its locks."""
+    assert threading.active_count() == 1, "a fork beside threads"
+    there, here = os.pipe()
+    child = os.fork()
+    if child == 0:
+        try:
+            os.setgroups(groups)
+            os.setgid(group)
+            os.setuid(user)
+            said = str(function())
+        except Exception as error:
+            said = type(error).__name__
+        os.write(here, said.encode())
+        os._exit(0)
+    os.close(here)
+    with open(there, "rb") as said:
+        text = said.read().decode()
+    os.waitpid(child, 0)
+    return text
 
 
 def check(holds, *said):
@@ -130,7 +153,7 @@ def draw_lines(seed, count):
         elif kind == 12:
             line = f"{console} {number} RESET {alarm}"
         elif kind == 13:
-            line = f"{console} {number} {dice.choice(['LIST P 1', 'LIST A 0', 'STATE 0', 'CHATTER', 'NOTHING', 'FLOOD 1'])}"
+            line = f"{console} {number} {dice.choice(['LIST P 1', 'LIST A 0', 'STATE 0', 'CHATTER', 'NOTHING', 'FLOOD 1', 'ATTR 1', 'PLANT'])}"
         elif kind == 14:
             line = f"{console} {number} UNSHELVE {alarm}"
         elif kind == 15:

@@ -66,6 +66,7 @@ class Streams:
         shutil.copyfile(self.stored, self.acked)
         check(run_words(program, ["desk", self.acked], lines=b"0 4 ACK 0\n").returncode == 0, "desk")
         self.shown = self.show(self.stored)
+        self.printed = {word: self.show(self.stored, word) for word in ("show", "export")}
 
     def path(self, name):
         return os.path.join(self.folder, name)
@@ -76,9 +77,9 @@ class Streams:
         shutil.copyfile(self.stored, device)
         return device
 
-    def show(self, device):
-        run = run_words(self.program, ["show", device])
-        check(run.returncode == 0, "show", device, run.stderr)
+    def show(self, device, word="show"):
+        run = run_words(self.program, [word, device])
+        check(run.returncode == 0, word, device, run.stderr)
         return run.stdout
 
     def ends(self, run, closed, status, fault, said):
@@ -93,7 +94,8 @@ class Streams:
         for closed in sets:
             self.desk_in_memory(closed)
             self.desk(closed)
-            self.show_with(closed)
+            for word in self.printed:
+                self.show_with(word, closed)
             self.format_with(closed)
             self.serve_with(closed)
 
@@ -113,14 +115,22 @@ class Streams:
         check(run.out == (b"0 4 OK 4\n1 5 OK 5\n" if says and not fails else b""), "desk DEVICE", closed, run.out)
         check(read(device) == read(self.answered if says else self.stored), "desk DEVICE", closed, "the device")
 
-    def show_with(self, closed):
+    def show_with(self, word, closed):
         device = self.device()
-        run = Run([self.program, "show", device], closed)
+        run = Run([self.program, word, device], closed)
         fails = OUTPUT in closed
-        self.ends(run, closed, 3 if fails else 0, b"io" if fails else b"", "show")
-        check(run.out == (b"" if fails else self.shown), "show", closed, run.out)
-        check(read(device) == read(self.stored), "show", closed, "the device")
-        check(self.show(device) == self.shown, "show", closed)
+        self.ends(run, closed, 3 if fails else 0, b"io" if fails else b"", word)
+        check(run.out == (b"" if fails else self.printed[word]), word, closed, run.out)
+        check(read(device) == read(self.stored), word, closed, "the device")
+        check(self.show(device) == self.shown, word, closed)
+
+    def full_output(self):
+        """What can't be printed since the disk under the output is full is `fault io`, also where all of it fits the program's buffer."""
+        device, table = self.device(), self.path("full.device")
+        for words, lines in ((["show", device], b""), (["export", device], b""), (["desk"], STORED), (["desk", device], ASKED), (["format", table, PLANT], b"")):
+            with open("/dev/full", "wb") as full:
+                run = Run([self.program, *words], lines=lines, stdout=full)
+            self.ends(run, (), 3, b"io", f"{words[0]} on a full disk")
 
     def format_with(self, closed):
         device = self.device()
@@ -242,6 +252,7 @@ def main(argv):
     began = time.monotonic()
     streams = Streams(program, folder)
     streams.closed_streams()
+    streams.full_output()
     streams.streams_that_are_the_device()
     streams.appended()
     streams.no_devices()

@@ -129,9 +129,9 @@ def alarm_lines(table: Table, defaults: dict[str, object], left_out: Callable[[]
 class Terminal:
     """console.py in a window of tmux, of 80 by 24. Behind its end its status stands there."""
 
-    def __init__(self, port: int, table: str):
+    def __init__(self, port: int, *words: str):
         self.name = f"alarms{os.getpid()}-{next(NUMBERS)}"
-        self.words = words_of("console.py", ("--port", port, table))
+        self.words = words_of("console.py", ("--port", port, *words))
         TERMINALS.append(self)
 
     def tmux(self, *words: str) -> str:

@@ -41,7 +41,7 @@ class Packages:
 
     def find(self, name):
         """A tool's path, or None."""
-        folders = [os.path.join(self.folder, part) for part in ("usr/bin", "bin", "usr/sbin", "sbin")]
+        folders = [os.path.join(self.folder, part) for part in ("usr/bin", "bin", "usr/sbin", "sbin", "lib/drbd")]
         return shutil.which(name, path=":".join(folders)) or shutil.which(name, path=os.environ["PATH"] + ":/usr/sbin:/sbin")
 
     def run(self, name, *words):
@@ -54,8 +54,8 @@ class Packages:
         names = [name for name in (os.listdir(folder) if os.path.isdir(folder) else []) if name.startswith("vmlinuz-")]
         return os.path.join(folder, sorted(names)[-1]) if names else None
 
-    def modules(self):
-        """The files of the modules, each after those that it needs."""
+    def modules(self, names=tuple(MODULES)):
+        """The files of modules, each after those that it needs."""
         version = self.boot.split("vmlinuz-")[1]
         top = os.path.join(self.folder, "lib/modules", version)
         subprocess.run(["depmod", "-b", self.folder, version], executable=self.find("kmod"), env=self.env, check=True)
@@ -64,7 +64,7 @@ class Packages:
             for line in file:
                 path, _, below = line.partition(":")
                 needs[os.path.basename(path)[:-3].replace("-", "_")] = [path, *below.split()]
-        paths = [path for name in MODULES if name in needs for path in reversed(needs[name])]
+        paths = [path for name in names if name in needs for path in reversed(needs[name])]
         return [os.path.join(top, path) for path in dict.fromkeys(paths)]
 
 
@@ -120,6 +120,16 @@ def first_files(packages, program, guest):
     return with_folders(files)
 
 
+def qemu(packages, memory, console, said, processors, megabytes):
+    """The call of QEMU, but for disks and networks."""
+    shares = [word for part in ("qemu", "seabios") for word in ("-L", os.path.join(packages.folder, "usr/share", part))]
+    machine = ["-nodefaults", "-nographic", "-no-reboot", "-accel", "tcg,thread=multi", "-cpu", "max", "-smp", str(processors), "-m", str(megabytes)]
+    kernel = ["-kernel", packages.boot, "-initrd", memory, "-append", "console=ttyS0 quiet panic=-1 no_timer_check"]
+    ports = ["-serial", "file:" + console, "-device", "virtio-serial", "-chardev", f"file,id=said,path={said}",
+             "-device", "virtserialport,chardev=said,name=said"]
+    return [packages.find("qemu-system-x86_64"), *shares, *machine, *kernel, *ports]
+
+
 class Machine:
     """A machine that runs a shell script, /task/run.sh. What it sends to the port $SAY is kept."""
 
@@ -148,12 +158,7 @@ class Machine:
 
     def words(self, memory):
         """The call of QEMU, but for the disks."""
-        shares = [word for part in ("qemu", "seabios") for word in ("-L", os.path.join(self.packages.folder, "usr/share", part))]
-        machine = ["-nodefaults", "-nographic", "-no-reboot", "-accel", "tcg,thread=multi", "-cpu", "max", "-smp", "2", "-m", "1024"]
-        kernel = ["-kernel", self.packages.boot, "-initrd", memory, "-append", "console=ttyS0 quiet panic=-1 no_timer_check"]
-        ports = ["-serial", "file:" + self.console, "-device", "virtio-serial", "-chardev", f"file,id=said,path={self.said}",
-                 "-device", "virtserialport,chardev=said,name=said"]
-        return [self.packages.find("qemu-system-x86_64"), *shares, *machine, *kernel, *ports]
+        return qemu(self.packages, memory, self.console, self.said, 2, 1024)
 
     def text(self):
         """What its console shows."""
