@@ -2,7 +2,8 @@
 """Writes what a reader of the headline has to believe: each definition of specs/ to which its contracts unfold, by file.
 
     docs/believed.py > docs/BELIEVED.md        the page
-    docs/believed.py --check                   whether the page is that
+    docs/believed.py --check                   whether the page is that, and which files of specs/ no claim needs
+    docs/believed.py --mark                    begins each of these files with the line that says so
     docs/believed.py CRATE.FILE:NAME ..        what these definitions unfold to
 """
 import re
@@ -11,15 +12,19 @@ from pathlib import Path
 
 CRATES = Path(__file__).resolve().parent.parent / "crates"
 PAGE = Path(__file__).resolve().parent / "BELIEVED.md"
+PROVED = Path(__file__).resolve().parent / "PROVED.md"
 # The words that the contract of each call cites.
 CLAIMS = {
     "The server: `serve_run`": [
-        "alm_serve.Serving:ServeWrites", "alm_serve.Runs:ServeEnds", "alm_serve.Runs:Opens", "alm_serve.Runs:OpensTo", "alm_keeper.AsStore:StandsFor",
+        "alm_serve.Serving:ServeWrites", "alm_serve.Runs:ServeEnds", "alm_serve.Runs:OpensAndRuns", "alm_serve.Runs:OpensTo", "alm_keeper.AsStore:StandsFor",
         "alm_store.Calls:IsRefusedBy", "alm_store.Opening:HasCause", "alm_disk.Failures:HasFailed"],
+    "A receipt and a look: `what_is_told_stays_stored`": ["alm_moments.Moments:StaysStored", "alm_moments.Moments:AreHeld"],
     "One thread: `life`": [
         "alm_bench.StandOnly:StandOnly", "alm_bench.Traced:KeepsTold", "alm_pipeline.Headline:IsRun", "alm_pipeline.Headline:device_alone",
         "alm_pipeline.World:first", "alm_pipeline.World:closed_world", "alm_keeper.AsStore:StandsFor", "alm_keeper.AsStore:IsLastEpoch"],
 }
+LAWS = ["alm_laws", "alm_progress"]
+MARK = "-- For the proofs.\n"
 HEAD = """# What the headline unfolds to
 
 Whoever believes these definitions, and the Rust types that they name, need not read the code to know what [HEADLINE.md](HEADLINE.md) says. The
@@ -28,6 +33,8 @@ page is made by `docs/believed.py`; a case or a field counts as the definition t
 BEGINS = re.compile(r"\s*(?:(?:pub|abbrev|unfoldable|opaque) )*(?:(?:pub|abbrev|unfoldable|opaque|record|data) )(\S+)")
 IMPORT = re.compile(r"\s*use Rattle\.(\w+)\.specs\.(\w+)\.\{(.*)\}")
 WORD = re.compile(r"[^\s(){}\[\];,.]+")
+GHOST = re.compile(r"^\s*ghost use Rattle\.(\w+)\.specs\.(\w+)\.\{(.*)\}", re.MULTILINE)
+CONTRACT = re.compile(r"^ *(?:pub )?fn (\w+)(.*?)(?:^ *\{| \{$|;$)", re.MULTILINE | re.DOTALL)
 
 
 class Specs:
@@ -76,6 +83,40 @@ def unfold(specs, names):
     return seen
 
 
+def cited(crate, call):
+    """The definitions that the contract of a call cites, or those of all calls in the file of a type; the calls of laws are all claimed."""
+    for path in (CRATES / crate / "src").rglob("*.rt"):
+        text = path.read_text(encoding="utf-8")
+        brings = {}
+        for holder, file, words in GHOST.findall(text):
+            for word in words.split(","):
+                origin, _, here = word.strip().partition(" as ")
+                brings[here or origin] = f"{holder}.{file}:{origin}"
+        is_whole = path.stem == "laws" or crate in LAWS or re.search(rf"\b(?:struct|enum|trait) {call}\b", text)
+        texts = [text] if is_whole else [contract for name, contract in CONTRACT.findall(text) if name == call]
+        yield from (brings[word] for contract in texts for word in set(WORD.findall(contract)) & brings.keys())
+
+
+def needed(specs):
+    """The files of definitions that a claim of docs/PROVED.md needs, or the headline."""
+    names = [name for names in CLAIMS.values() for name in names] + [name for crate in LAWS for name in cited(crate, "")]
+    for line in PROVED.read_text(encoding="utf-8").splitlines():
+        if line.startswith("| alm_"):
+            cells = line.split("|")
+            crates = re.findall(r"alm_\w+", cells[1] + cells[-2])
+            calls = {call for quoted in re.findall(r"`([^`]+)`", cells[-2]) for call in re.findall(r"\w+", quoted)}
+            names += [name for crate in crates for call in calls for name in cited(crate, call)]
+    return {file for file, _ in unfold(specs, names)}
+
+
+def misplaced(specs, paths):
+    """The files that say of themselves otherwise than a claim needs them, and whether one does."""
+    wanted = needed(specs)
+    for file, path in paths.items():
+        if path.read_text(encoding="utf-8").startswith(MARK) == (file in wanted):
+            yield file, path, file in wanted
+
+
 def table(specs, names):
     """The files to which these definitions unfold, each with its definitions, and their counts."""
     seen = unfold(specs, names)
@@ -102,6 +143,13 @@ def main(words):
     if words == ["--check"]:
         if PAGE.read_text(encoding="utf-8") != page(specs):
             sys.exit("believed.py: docs/BELIEVED.md isn't what the definitions unfold to: docs/believed.py > docs/BELIEVED.md")
+        wrong = [f"{file} is {'needed by a claim' if is_needed else 'for the proofs alone'}" for file, _, is_needed in misplaced(specs, paths)]
+        if wrong:
+            sys.exit("\n".join(f"believed.py: {line}: docs/believed.py --mark" for line in wrong))
+    elif words == ["--mark"]:
+        for _, path, is_needed in misplaced(specs, paths):
+            text = path.read_text(encoding="utf-8")
+            path.write_text(text.removeprefix(MARK) if is_needed else MARK + text, encoding="utf-8")
     elif words:
         print("\n".join(table(specs, words)))
     else:
