@@ -18,7 +18,7 @@ use crate::frame::{append_frame, write_frame};
 use crate::half_text::write_half;
 use crate::stage::{Stage, Work, phase_of};
 use crate::trying::try_all;
-use alm_checkpoint::{HEAD_LEN, Half, HalfHead, Layout};
+use alm_checkpoint::{HEAD_LEN, HEADER_LEN, Half, HalfHead, Layout};
 use alm_codec::Version;
 use alm_model::{Alarms, accepted_in, apply_all};
 use alm_plant::Plant;
@@ -85,8 +85,8 @@ impl Book {
             version: _version,
         } = self.layout;
         match self.half {
-            Half::First => 23 + self.layout.half_len() as u64,
-            Half::Second => 23,
+            Half::First => HEADER_LEN as u64 + self.layout.half_len() as u64,
+            Half::Second => HEADER_LEN as u64,
         }
     }
 
@@ -102,8 +102,10 @@ impl Book {
             version: _version,
         } = self.layout;
         match self.half {
-            Half::First => 23 + self.layout.half_len() as u64,
-            Half::Second => 23 + self.layout.half_len() as u64 + self.layout.half_len() as u64,
+            Half::First => HEADER_LEN as u64 + self.layout.half_len() as u64,
+            Half::Second => {
+                HEADER_LEN as u64 + self.layout.half_len() as u64 + self.layout.half_len() as u64
+            }
         }
     }
 

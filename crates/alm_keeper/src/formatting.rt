@@ -11,8 +11,9 @@ ghost use Rattle.alm_keeper.specs.Formatting.{IsShut, IsUnformatted, StaysUnform
 ghost use Rattle.alm_keeper.specs.Moments.{FormatMoment, Never, IsLedBy, FailsIn, close_calls, behind_calls, open_calls, format_calls};
 ghost use Rattle.alm_disk.specs.declared.call.Call.TheVariants.{Write, Sync};
 
-use alm_checkpoint::{Half, Layout};
+use alm_checkpoint::{HEADER_LEN, Half, Layout};
 use alm_disk::{Disk, DiskFault};
+use alm_segment::OPEN_GATE;
 
 /// Closes the header's gate.
 fn close_header<D: Disk>(disk: &mut D) -> Result<(), DiskFault>
@@ -100,10 +101,10 @@ fn write_behind<D: Disk>(
         disk.old (behind_calls layout.now) disk.new) }
 {
     write_shut(disk, 1, header)?;
-    write_shut(disk, 23, half)?;
+    write_shut(disk, HEADER_LEN as u64, half)?;
     write_shut(disk, layout.half_at(Half::Second), &[0])?;
     sync_shut(disk)?;
-    write_shut(disk, 23, &[0xA5])?;
+    write_shut(disk, HEADER_LEN as u64, &[OPEN_GATE])?;
     sync_shut(disk)
 }
 
@@ -121,7 +122,7 @@ fn open_gate<D: Disk>(disk: &mut D) -> Result<(), DiskFault>
         IsImage (D.state disk.old) c ⊎ IsImage (D.state disk.new) c →
         IsUnformatted c ⊎ (c ≡ with_open_gate b) }
 {
-    disk.write_at(0, &[0xA5])
+    disk.write_at(0, &[OPEN_GATE])
 }
 
 /// Syncs what was written: a crash within leaves only what it could leave before.

@@ -9,8 +9,7 @@ ghost use Rattle.alm_keeper.specs.Phases.{StageCall};
 
 use crate::stage::Stage;
 use alm_disk::{Disk, DiskFault};
-
-const OPEN: u8 = 0xA5;
+use alm_segment::OPEN_GATE;
 
 const CLOSED: u8 = 0;
 
@@ -32,7 +31,7 @@ pub fn call<D: Disk>(disk: &mut D, stage: Stage, at: u64, text: &[u8]) -> Result
         Stage::CloseSync => disk.sync(),
         Stage::Body => disk.write_at(at + 1, text),
         Stage::BodySync => disk.sync(),
-        Stage::Gate => disk.write_at(at, &[OPEN]),
+        Stage::Gate => disk.write_at(at, &[OPEN_GATE]),
         Stage::GateSync => disk.sync(),
         Stage::Idle | Stage::Stopped => unreachable!(),
     }

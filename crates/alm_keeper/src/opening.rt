@@ -23,7 +23,7 @@ use crate::frame::FRAME_ROOM;
 use crate::open_fault::open_fault;
 use crate::stage::{Stage, Work};
 use alm_checkpoint::{
-    HEAD_LEN, Half, HalfHead, Layout, RestoreFault, choose, read_half_gate, read_header,
+    HEAD_LEN, HEADER_LEN, Half, HalfHead, Layout, RestoreFault, choose, read_half_gate, read_header,
 };
 use alm_disk::{Disk, DiskFault};
 use alm_model::Alarms;
@@ -67,10 +67,10 @@ fn read_layout<D: Disk>(disk: &mut D) -> Result<Layout, OpenFault>
         (λ f. EndIn f D.serves (Call.Read 0 23 ∷ []) disk.old disk.new) }
 {
     let size = disk.size();
-    if size < 23 {
+    if size < HEADER_LEN as u64 {
         return Err(OpenFault::Unformatted);
     }
-    let mut start = [0u8; 23];
+    let mut start = [0u8; HEADER_LEN];
     match read(disk, 0, &mut start) {
         Ok(()) => {}
         Err(_) => return Err(OpenFault::Disk),

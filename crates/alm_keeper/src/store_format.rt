@@ -16,7 +16,7 @@ ghost use Rattle.alm_types.specs.Sizes.{most_actions};
 use crate::format_fault::FormatFault;
 use crate::formatting::write_all;
 use crate::half_text::put_half;
-use alm_checkpoint::{HEAD_LEN, HalfHead, Layout};
+use alm_checkpoint::{HEAD_LEN, HEADER_LEN, HalfHead, Layout};
 use alm_codec::Version;
 use alm_disk::Disk;
 use alm_model::Alarms;
@@ -84,7 +84,7 @@ pub fn format_as<D: Disk + Drop>(
     let Ok(half) = new_half(alloc, &layout, table) else {
         return Err((FormatFault::OutOfMemory, disk));
     };
-    let mut header = [0u8; 22];
+    let mut header = [0u8; HEADER_LEN - 1];
     layout.write_header(&mut header);
     let mut disk = disk;
     match write_all(&mut disk, &layout, &header, &half) {
