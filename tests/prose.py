@@ -12,7 +12,7 @@ from pathlib import Path
 
 TOP = Path(__file__).resolve().parent.parent
 PAGES = ["README.md", "CHANGELOG.md", "CONTRIBUTING.md", "docs/ARCHITECTURE.md", "docs/CONTROL_ROOM.md", "docs/DECISIONS.md", "docs/DEFINITIONS.md", "docs/FIELD.md", "docs/FORMAT.md", "docs/HEADLINE.md",
-         "docs/HISTORY.md", "docs/OPERATING.md", "docs/PROTOCOL.md", "docs/PROVED.md", "docs/SPEED.md", "docs/STANDBY.md", "docs/TABLE.md", "clients/README.md", "examples/README.md", "tests/README.md"]
+         "docs/HISTORY.md", "docs/OPERATING.md", "docs/PROTOCOL.md", "docs/PROVED.md", "docs/SPEED.md", "docs/STANDBY.md", "docs/TABLE.md", "docs/WAKING.md", "clients/README.md", "examples/README.md", "tests/README.md"]
 MOST_WORDS = 30
 MOST_CHARACTERS = 150
 # A pattern of words that went, and what stands in their place.

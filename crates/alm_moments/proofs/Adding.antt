@@ -5,19 +5,19 @@ use Rattle.std.proofs.lemmas.Bool.Decides.{nat_tests}
 use mathlib.Core.List.{IsPrefix}
 use prog.Atomic.{either}
 use Rattle.logbook.specs.Pages.{Cell, cell, keeps, no_nib, step, Moves, Goes}
-use Rattle.alm_moments.specs.declared.moment.Moment.{Moment}
-use Rattle.alm_moments.specs.History.{IsKept, Adds}
+use Rattle.alm_moments.specs.declared.recorded_moment.RecordedMoment.{RecordedMoment}
+use Rattle.alm_moments.specs.History.{KeepsLength, AddsMoment}
 use Rattle.alm_moments.proofs.Fronts.{prefix_whole}
 
-abbrev pub shown : List Moment → List Moment
+abbrev pub shown : List RecordedMoment → List RecordedMoment
 shown log = []
 
-abbrev pub moved : List Moment → List Moment → ℕ → Type 0
+abbrev pub moved : List RecordedMoment → List RecordedMoment → ℕ → Type 0
 moved xs ys n = Unit {0}
 
-pub adds_goes : (log v : List Moment) (e : Moment) (old : ℕ) → length v ≡ old → IsPrefix v log
+pub adds_goes : (log v : List RecordedMoment) (e : RecordedMoment) (old : ℕ) → length v ≡ old → IsPrefix v log
     → (b : Bool) → (length log == old) ≡ b
-    → Goes IsKept shown moved 0 (v, (no_nib, None)) (λ n. either (n == old) (old + 1) n) (Adds (step 0 old (old + 1) e) (v, (no_nib, None))) ((length log, true) ∷ (0, true) ∷ []) log
+    → Goes KeepsLength shown moved 0 (v, (no_nib, None)) (λ n. either (n == old) (old + 1) n) (AddsMoment (step 0 old (old + 1) e) (v, (no_nib, None))) ((length log, true) ∷ (0, true) ∷ []) log
 adds_goes log v e old len pre true is =
     let here : length log ≡ old = grind (arith, nat_tests) in
     let same : v ≡ log = prefix_whole v log pre (omega arith) in
@@ -42,10 +42,10 @@ adds_goes log v e old len pre false is =
       rw is (ap length all),
     )
 
-pub adds_moves : (v : List Moment) (e : Moment) (old : ℕ) → length v ≡ old
-    → Moves IsKept shown moved 0 (v, (no_nib, None)) (λ n. either (n == old) (old + 1) n) (Adds (step 0 old (old + 1) e) (v, (no_nib, None)))
+pub adds_moves : (v : List RecordedMoment) (e : RecordedMoment) (old : ℕ) → length v ≡ old
+    → Moves KeepsLength shown moved 0 (v, (no_nib, None)) (λ n. either (n == old) (old + 1) n) (AddsMoment (step 0 old (old + 1) e) (v, (no_nib, None)))
 adds_moves v e old len cs log kept pre away =
-    let P : List Cell → Type 0 = λ c. (0 < length c) × ((cell c 0).1 ≡ true) × Goes IsKept shown moved 0 (v, (no_nib, None)) (λ n. either (n == old) (old + 1) n) (Adds (step 0 old (old + 1) e) (v, (no_nib, None))) c log in
+    let P : List Cell → Type 0 = λ c. (0 < length c) × ((cell c 0).1 ≡ true) × Goes KeepsLength shown moved 0 (v, (no_nib, None)) (λ n. either (n == old) (old + 1) n) (AddsMoment (step 0 old (old + 1) e) (v, (no_nib, None))) c log in
     subst P (sym kept) (omega arith, refl, adds_goes log v e old len pre (length log == old) refl)
 
 pub when_found : (A B : Type 0) (n m : ℕ) → n ≡ m → MatchBool (n == m) A B → A

@@ -1,20 +1,20 @@
 //! The step by which a history of moments grows.
 
 use crate::current_state::CurrentState;
-use crate::moment::Moment;
+use crate::recorded_moment::RecordedMoment;
 use alm_store::Store;
 use logbook::{Plain, Play};
 
 /// The step by which a history grows by the moment that is now.
 pub struct AppendMoment;
 
-impl Play<Moment, u64> for AppendMoment {
-    ghost use Rattle.alm_moments.specs.History.{Adds};
+impl Play<RecordedMoment, u64> for AppendMoment {
+    ghost use Rattle.alm_moments.specs.History.{AddsMoment};
 
-    ghost then = { Adds };
+    ghost then = { AddsMoment };
 }
 
-impl<K: Store> Plain<CurrentState<'_, K>, Moment, u64> for AppendMoment {
+impl<K: Store> Plain<CurrentState<'_, K>, RecordedMoment, u64> for AppendMoment {
     ghost use Rattle.std.specs.Prelude.{None};
     ghost use Rattle.alm_model.specs.Judging.{accepted_of, entries_in};
     ghost use Rattle.alm_rings.specs.Batches.{fetched_of};

@@ -19,22 +19,28 @@
 //! ([`laws`]).
 //!
 //! Not covered: that a moment is added at each device call. The owner of [`MomentsLength`] does so.
+//!
+//! Proved:
+//! - a moment follows the last by one device call, or by none; at each any image of an honest device holds a prefix that
+//!   reaches its floor (by `Moments::extend`)
+//! - **what is held at moments that were seen is held at each later one, whenever power fails** (by
+//!   `laws::what_is_held_stays_stored`)
 #![tactic(auto)]
 
 mod append_moment;
 mod current_state;
 pub mod laws;
-mod moment;
 mod moment_rule;
 mod moments;
 mod moments_length;
 mod new_moments;
-mod no_trade;
+mod recorded_moment;
 mod run_id;
+mod trades_nothing;
 
 pub use current_state::CurrentState;
-pub use moment::Moment;
 pub use moments::Moments;
 pub use moments_length::MomentsLength;
 pub use new_moments::NewMoments;
+pub use recorded_moment::RecordedMoment;
 pub use run_id::RunId;

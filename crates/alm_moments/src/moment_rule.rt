@@ -1,17 +1,17 @@
 //! The rule of a history of moments.
 
-use crate::moment::Moment;
+use crate::recorded_moment::RecordedMoment;
 use logbook::Rule;
 
 /// The rule of a history of moments: its word is its length.
 pub struct MomentRule;
 
-impl Rule<Moment, u64> for MomentRule {
+impl Rule<RecordedMoment, u64> for MomentRule {
     ghost use Rattle.std.specs.Prelude.{[]};
     ghost use base.Fml.{ftrue};
-    ghost use Rattle.alm_moments.specs.History.{IsKept};
+    ghost use Rattle.alm_moments.specs.History.{KeepsLength};
 
-    ghost holds = { λ cells log. IsKept cells log };
+    ghost holds = { λ cells log. KeepsLength cells log };
 
     ghost first = { [] };
 

@@ -7,11 +7,11 @@ ghost use Rattle.alm_moments.specs.Moments.{AreMoments, moment_of};
 
 use crate::append_moment::AppendMoment;
 use crate::current_state::CurrentState;
-use crate::moment::Moment;
 use crate::moment_rule::MomentRule;
 use crate::moments_length::MomentsLength;
-use crate::no_trade::NoTrade;
+use crate::recorded_moment::RecordedMoment;
 use crate::run_id::RunId;
+use crate::trades_nothing::TradesNothing;
 use alm_board::Voucher;
 use alm_store::Store;
 use logbook::{Offer, Seen};
@@ -21,16 +21,16 @@ use std::marker::{Model, PhantomData};
 #[derive(Drop)]
 pub struct Moments<J: RunId> {
     len: u64,
-    seen: Seen<Moment, u64, MomentRule>,
+    seen: Seen<RecordedMoment, u64, MomentRule>,
     of: PhantomData<J>,
 }
 
 impl<J: RunId> Model for Moments<J> {
     ghost use Rattle.std.specs.Prelude.{◌≡◌, List, length};
-    ghost use Rattle.alm_moments.specs.declared.moment.Moment.{Moment};
+    ghost use Rattle.alm_moments.specs.declared.recorded_moment.RecordedMoment.{RecordedMoment};
     ghost use Rattle.alm_moments.specs.Moments.{AreMoments};
 
-    ghost Value = { List Moment };
+    ghost Value = { List RecordedMoment };
 
     ghost view = { λ m. m.seen.log };
 
@@ -47,7 +47,7 @@ impl<J: RunId> Voucher for Moments<J> {
 
 impl<J: RunId> Moments<J> {
     // One that has seen nothing.
-    pub(crate) fn new(seen: Seen<Moment, u64, MomentRule>) -> Moments<J>
+    pub(crate) fn new(seen: Seen<RecordedMoment, u64, MomentRule>) -> Moments<J>
         requires empty { seen.log ≡ [] }
         requires book { seen.book ≡ J.moments }
         requires opened { AreMoments J.honest J.recovers J.base J.first [] }
@@ -108,15 +108,15 @@ impl<J: RunId> Moments<J> {
             return false;
         }
         let mut seen = self.seen.again();
-        let mut offer: Offer<Moment, u64, MomentRule, NoTrade> = seen.plain::<
-            NoTrade,
+        let mut offer: Offer<RecordedMoment, u64, MomentRule, TradesNothing> = seen.plain::<
+            TradesNothing,
             CurrentState<'_, K>,
             AppendMoment,
         >(now);
         let mut pen = seen.no_pen();
         let found = length
             .head
-            .compare_exchange::<AppendMoment, NoTrade>(
+            .compare_exchange::<AppendMoment, TradesNothing>(
                 len,
                 len + 1,
                 &mut seen,

@@ -1,12 +1,12 @@
 //! A history of moments before it has a name.
 ghost use Rattle.std.specs.Prelude.{◌≡◌, ◌↔◌, ℕ, List, []};
 ghost use Rattle.alm_model.specs.Plant.{Condensed};
-ghost use Rattle.alm_moments.specs.History.{newest_of};
+ghost use Rattle.alm_moments.specs.History.{length_word};
 
-use crate::moment::Moment;
 use crate::moment_rule::MomentRule;
 use crate::moments::Moments;
 use crate::moments_length::MomentsLength;
+use crate::recorded_moment::RecordedMoment;
 use crate::run_id::RunId;
 use alm_store::{Phase, Store};
 use logbook::{Seen, Start, Word};
@@ -14,10 +14,10 @@ use logbook::{Seen, Start, Word};
 /// A history without moments, before it has a name.
 #[derive(Drop)]
 pub struct NewMoments {
-    head: Word<Moment, u64, MomentRule>,
-    seen: Seen<Moment, u64, MomentRule>,
+    head: Word<RecordedMoment, u64, MomentRule>,
+    seen: Seen<RecordedMoment, u64, MomentRule>,
     pub ghost empty: { seen.log ≡ [] },
-    pub ghost head_is: { head ≡ newest_of seen.book },
+    pub ghost head_is: { head ≡ length_word seen.book },
 }
 
 impl NewMoments {

@@ -7,7 +7,7 @@ use Rattle.alm_model.specs.Plant.{Condensed}
 use Rattle.alm_rings.specs.declared.slot_report.SlotReport.{SlotReport}
 use Rattle.alm_store.specs.declared.open_fault.OpenFault.{OpenFault}
 use Rattle.alm_store.specs.declared.phase.Phase.{Phase}
-use Rattle.alm_run.specs.Histories.{LeavesOneOf}
+use Rattle.alm_threads.specs.Histories.{LeavesOneOf}
 use Rattle.alm_threads.specs.Runs.{IsServerRun}
 use Rattle.alm_serve.specs.declared.serve_fault.ServeFault.{ServeFault}
 use Rattle.alm_serve.specs.declared.serve_fault.ServeFault.TheVariants.{Open, Net, Write, Memory, Storage}

@@ -9,7 +9,7 @@ use Rattle.alm_store.specs.Calls.{OpensBy}
 use Rattle.alm_store.specs.declared.phase.Phase.{Phase}
 use Rattle.alm_store.specs.declared.phase.Phase.TheVariants.{Stopped}
 use Rattle.alm_store.specs.declared.open_fault.OpenFault.{OpenFault}
-use Rattle.alm_run.specs.Moments.{Endures}
+use Rattle.alm_threads.specs.Moments.{Endures}
 use Rattle.alm_threads.specs.Answered.{AllAnswered}
 use Rattle.alm_threads.specs.Runs.{IsServerRun}
 use Rattle.alm_serve.specs.declared.serve_fault.ServeFault.{ServeFault}

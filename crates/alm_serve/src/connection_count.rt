@@ -1,7 +1,7 @@
 //! How many connections have ended.
 
 use crate::slot_bell::SlotBell;
-use alm_run::Bell;
+use alm_wake::Bell;
 use std::sync::atomic::{AtomicU64, Ordering};
 
 /// How many connections have ended, of as many as the server is to have.

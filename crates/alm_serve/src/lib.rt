@@ -43,6 +43,15 @@
 //!
 //! Not covered: what a socket gives or takes, that a wake comes, that the server ever ends, and time. There are no
 //! accounts: a client that reaches a port of loopback, or may open a socket, has the role of its slot.
+//!
+//! Proved:
+//! - a port is the source of its slot alone, whatever its clients do; a port and a bell for each slot asked for, in order
+//!   (by `SlotPort`, `StreamWire`, `open_ports`, `open_sockets`)
+//! - a connection has ended that begins as a request of HTTP, and no other has ended for its first bytes (by `FirstBytes`)
+//! - what the server writes, by how it ends, or a prefix if the writer fails; why a device isn't opened (by `serve_run`,
+//!   `serve_sockets`)
+//! - from a plant that an image of its device holds, a run of all 18 slots as said of alm_threads, which ended as is
+//!   reported (by `serve_run`, `serve_sockets`)
 #![tactic(auto)]
 
 mod bound;

@@ -1,6 +1,6 @@
 //! What wakes the thread of a slot that waits for its sockets.
 
-use alm_run::Bell;
+use alm_wake::Bell;
 use mio::{Registry, Token, Waker};
 use std::alloc::{AllocError, Global};
 use std::io;

@@ -1,6 +1,11 @@
 pub mod Closed
+pub mod Histories
+pub mod Moments
 pub mod Opened
 pub mod Outages
 pub mod Placed
+pub mod Recorded
 pub mod Removed
+pub mod Sames
+pub mod Serves
 pub mod Tied

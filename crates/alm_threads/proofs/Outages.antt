@@ -7,7 +7,7 @@ use Rattle.alm_model.specs.Plant.{Condensed}
 use Rattle.alm_model.specs.Step.{run}
 use Rattle.alm_model.proofs.Runs.{run_append, run_count}
 use Rattle.alm_store.specs.Recovery.{IsFrontPlant}
-use Rattle.alm_run.specs.Moments.{RunMoment, FollowUpTo, IsSafeAt, at_first}
+use Rattle.alm_threads.specs.Moments.{RunMoment, FollowUpTo, IsSafeAt, at_first}
 use Rattle.alm_threads.specs.Outages.{IsAmong, Outage, Outages}
 
 -- each moment of a course is safe

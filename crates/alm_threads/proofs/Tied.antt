@@ -16,8 +16,8 @@ use Rattle.alm_rings.specs.declared.told.Told.{Ghosts}
 use Rattle.alm_rings.specs.Ends.{SameConsole, SameInbox, SameOutbox}
 use Rattle.alm_rings.specs.Placed.{AreApart, inbox_at, outbox_at, SameInboxAt, SameOutboxAt}
 use Rattle.alm_flush.specs.Replies.{replies_in, replies_to}
-use Rattle.alm_run.specs.Same.{AllSame}
-use Rattle.alm_run.proofs.Serves.{some_still}
+use Rattle.alm_threads.specs.Same.{AllSame}
+use Rattle.alm_threads.proofs.Serves.{some_still}
 use Rattle.alm_threads.specs.Slots.{AreTied}
 
 -- at the place of a number in a list of numbers is its element

@@ -3,7 +3,7 @@ use Rattle.std.specs.Prelude.{◌≡◌, ◌⊎◌, ℕ, max, List, [], ◌∷�
 use Rattle.alm_types.specs.declared.action.Action.{Action}
 use Rattle.alm_disk.specs.Device.{DeviceState, IsImage}
 use Rattle.alm_model.specs.Plant.{Condensed}
-use Rattle.alm_run.specs.Moments.{RunMoment, SafeCourse, at_first}
+use Rattle.alm_threads.specs.Moments.{RunMoment, SafeCourse, at_first}
 
 -- this is one of the moments
 abbrev pub IsAmong : RunMoment → List RunMoment → Type 0

@@ -1,7 +1,8 @@
 //! What the threads return.
 
+use crate::flusher_parts::FlusherParts;
+use crate::rings::Rings;
 use alm_rings::{Console, Told};
-use alm_run::{FlusherParts, Rings};
 use alm_store::Store;
 
 /// What the threads return.

@@ -1,7 +1,7 @@
-//! A run of the whole server in threads, from an opened store to its report.
+//! The server in threads: its parts, each in a thread of its own, and a run of them all, from an opened store to its report.
 //!
 //! ```text
-//! let parts = parts_of(rt, alloc, history, store, slots, &hold)?;
+//! let parts = parts_of(rt, alloc, new, store, slots, &hold)?;
 //! let report = run_threads(rt, alloc, parts, &hold, sources)?;
 //! let count = report.keeper.count();
 //! ```
@@ -12,34 +12,102 @@
 //! | [`run_threads`] | a thread for each source and one for the sequencer, the flusher in the caller's; joins them and closes the slots |
 //! | [`run_with_bells`] | the same, with a bell of the caller's own for each slot, such as one that wakes a poll |
 //!
+//! | thread | runs | ends |
+//! |---|---|---|
+//! | of each slot | [`run_source`]: one turn of its [`Source`] after another | after a turn that returns [`Go::End`], or before one if all are to stop |
+//! | the sequencer's | [`run_sequencer`]: takes requests from each slot in turn, 14 in a row at most, and seals batches | all sources had ended, a pass took nothing, and the open batch is empty; or all are to stop |
+//! | the flusher's | [`run_flusher`]: commits, publishes and releases batches, and wakes the slots | no batch will be sealed and a fetch gave none; the device failed; or 1,000 publishes in a row were refused |
+//!
+//! When they seal, sleep and wake each other is alm_wake's, and no contract here rests on it.
+//!
 //! What is used above is the contract of a run. All that was taken of the slots is one legal history, as of a single thread, from
 //! the plant that was stored at first. What the store holds at the end is a prefix of it, and what was released is a prefix of
 //! that. Each slot's report, in the order of the slots, counts its entries in them. [`Storage::Whole`] is returned exactly if the
 //! store hasn't stopped and no request or receipt is left. At each moment of the run whatever a crash leaves of an honest device
-//! encodes a prefix of that history. The prefix contains all that had been released or published by then.
+//! encodes a prefix of that history. The prefix contains all that had been released or published by then ([`RecordedFlusher`]). A
+//! moment is in the run's history before anything is published by it. So each receipt and each look says of itself that what it
+//! reports stays on the device, whether the run ever returns or not.
 //!
-//! Not covered: that a run ever ends, that a request is ever answered, and time. After a fault the parts are lost, and the device
-//! must be opened again.
+//! How that is had: each thread returns the ends that it was given. So the caller that joins them all has both ends of each ring
+//! again and may close the slots. A sequencer and a flusher are made in their threads, and what their types say holds throughout.
+//!
+//! Not covered: that a run or a thread ever ends, that a request is ever answered, and time. After a fault the parts are lost, and
+//! the device must be opened again.
+//!
+//! Proved:
+//! - each thread returns the ends that it was given, at the join too; a source takes its turns at its own slot's console
+//!   (by `run_source`, `start_all`, `join_all`, `start_rings`)
+//! - what was taken and sealed is one legal history; what was stored a prefix of what was fetched, what was released a
+//!   prefix of that (by `run_sequencer`, `run_flusher`)
+//! - honest device, at the end: each image holds what is stored, or that with the one batch whose commit wasn't done (by
+//!   `run_flusher`)
+//! - before and after each device call of the flusher's thread each image of an honest device holds a prefix of what was
+//!   fetched (by `run_flusher`)
+//! - the last moment is the one that is now; a moment comes before a publish, with all that it shows (by the type
+//!   `RecordedFlusher`, `publish`)
+//! - of a run that ended: one legal history of all that was taken; what is stored is a prefix of it, what was released a
+//!   prefix of that (by `parts_of`, `run_threads`, `run_with_bells`)
+//! - **its device went by single calls from what was opened to the report's; at each state each image of an honest one
+//!   holds a prefix of that history** (by `run_with_bells`)
+//! - **at the end that prefix holds every number released and all that was published.** Of a moment within, its receipts
+//!   and looks say it (by `run_with_bells`)
+//! - reports stand in the order of slots; whole is said exactly if the store goes on and all that was sent was taken and
+//!   answered (by `run_with_bells`, the type `RunReport`)
+//! - any number of runs that ended, each opened on what a crash left of the one before, keep all that was reported (by
+//!   `laws::what_was_told_outlasts_outages`)
 #![tactic(auto)]
 
+mod closes;
 mod closing;
+mod closing_board;
+mod console_back;
 mod ends;
+mod finishing;
+mod flusher_parts;
+mod flushing;
+mod go;
 pub mod laws;
 mod middle;
 mod opening;
 mod parts;
+mod recorded_flusher;
 mod report;
+mod rings;
 mod running;
+mod sequencer_ends;
+mod sequencing;
 mod slot_parts;
 mod slots;
+mod source;
+mod source_thread;
+mod start;
+mod start_fault;
+mod starting;
 mod storage;
 mod watched_look;
 
+pub use closes::Closes;
+pub use closing_board::ClosingBoard;
+pub use console_back::ConsoleBack;
 pub use ends::Ends;
+pub use finishing::run_flusher;
+pub use flusher_parts::FlusherParts;
+pub use flushing::flush;
+pub use go::Go;
 pub use middle::Middle;
 pub use opening::parts_of;
 pub use parts::Parts;
+pub use recorded_flusher::RecordedFlusher;
 pub use report::RunReport;
+pub use rings::Rings;
 pub use running::{run_threads, run_with_bells};
+pub use sequencer_ends::SequencerEnds;
+pub use sequencing::sequence;
+pub use slot_parts::SlotParts;
+pub use source::Source;
+pub use source_thread::run_source;
+pub use start::{join_all, start_all, start_one};
+pub use start_fault::StartFault;
+pub use starting::{run_sequencer, start_rings};
 pub use storage::Storage;
 pub use watched_look::WatchedLook;

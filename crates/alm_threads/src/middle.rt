@@ -6,10 +6,11 @@ ghost use Rattle.alm_rings.specs.Batches.{AreBatchEnds, sealed_of, fetched_of, e
 ghost use Rattle.alm_rings.specs.Placed.{AreApart, taken_by, released_by};
 ghost use Rattle.alm_types.specs.Sizes.{most_actions};
 
+use crate::flusher_parts::FlusherParts;
+use crate::rings::Rings;
 use alm_moments::{Moments, MomentsLength, RunId};
 use alm_plant::Plant;
 use alm_rings::Told;
-use alm_run::{FlusherParts, Rings};
 use alm_store::Store;
 
 /// What is between the consoles and the device, before the first item went through it.

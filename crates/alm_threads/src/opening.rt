@@ -5,8 +5,10 @@ ghost use Rattle.alm_rings.specs.Placed.{AreApart};
 ghost use Rattle.alm_shared.specs.SharedBoards.{board_shown, board_pending};
 ghost use Rattle.alm_types.specs.Sizes.{most_actions};
 
+use crate::flusher_parts::FlusherParts;
 use crate::middle::Middle;
 use crate::parts::Parts;
+use crate::rings::Rings;
 use crate::slots::open_some;
 use crate::watched_look::{WatchedLook, watched};
 use alm_disk::Hold;
@@ -14,7 +16,6 @@ use alm_model::Alarms;
 use alm_moments::{Moments, RunId};
 use alm_plant::Plant;
 use alm_rings::{SlotEnds, batches_beside, open_batches};
-use alm_run::{FlusherParts, Rings};
 use alm_shared::{Durable, NewHistory, NewRun, SharedBoard, SharedLook, open_board};
 use alm_store::{Phase, Store};
 use alm_types::Slot;

@@ -6,11 +6,12 @@ ghost use Rattle.alm_rings.specs.declared.inbox.Inbox.{Inbox};
 ghost use Rattle.alm_rings.specs.declared.outbox.Outbox.{Outbox};
 ghost use Rattle.alm_rings.specs.Placed.{AreApart, inbox_at, outbox_at};
 
+use crate::closes::Closes;
+use crate::flusher_parts::FlusherParts;
 use crate::middle::Middle;
 use alm_board::{Board, Look};
 use alm_moments::RunId;
 use alm_rings::{Console, Told};
-use alm_run::{Closes, FlusherParts};
 use alm_store::Store;
 use alm_types::Slot;
 use std::sync::Wait;

@@ -4,31 +4,37 @@ ghost use mathlib.Core.List.{IsPrefix};
 ghost use Rattle.alm_rings.specs.Batches.{AreBatchEnds, SameSealEnds, SameFetchEnds, fetched_of, sealed_of};
 ghost use Rattle.alm_rings.specs.Placed.{AreApart, SameOutboxAt, outbox_at};
 ghost use Rattle.alm_seq.specs.Sequences.{SameInboxes};
-ghost use Rattle.alm_run.specs.Histories.{JudgesAll, Flushed, LeavesOneOf};
-ghost use Rattle.alm_run.specs.Moments.{Endures};
-ghost use Rattle.alm_run.specs.Same.{AllSame};
-ghost use Rattle.alm_run.specs.Serving.{ServesSlots};
+ghost use Rattle.alm_threads.specs.Histories.{JudgesAll, Flushed, LeavesOneOf};
+ghost use Rattle.alm_threads.specs.Moments.{Endures};
+ghost use Rattle.alm_threads.specs.Same.{AllSame};
+ghost use Rattle.alm_threads.specs.Serving.{ServesSlots};
 ghost use Rattle.alm_threads.specs.Answered.{AllAnswered, IsSlotAnswered};
 ghost use Rattle.alm_threads.specs.Runs.{AreClosed, IsServerRun};
 ghost use Rattle.alm_threads.specs.Slots.{AreTied};
 
+use crate::closes::Closes;
 use crate::closing::close_all;
+use crate::closing_board::ClosingBoard;
 use crate::ends::Ends;
+use crate::finishing::run_flusher;
+use crate::flusher_parts::FlusherParts;
 use crate::middle::Middle;
 use crate::parts::Parts;
 use crate::report::RunReport;
-use crate::slot_parts::slot_parts_of;
+use crate::rings::Rings;
+use crate::slot_parts::{SlotParts, slot_parts_of};
+use crate::source::Source;
+use crate::start::{join_all, start_all};
+use crate::start_fault::StartFault;
+use crate::starting::start_rings;
 use crate::storage::Storage;
 use alm_board::{Board, Look, Publish};
 use alm_disk::Hold;
 use alm_moments::{Moments, RunId};
 use alm_rings::{Console, SlotReport, Told, batches_beside};
-use alm_run::{
-    Bell, Bells, Closes, ClosingBoard, Flags, FlusherParts, Rings, SlotParts, Source, StartFault,
-    ThreadBell, join_all, run_flusher, start_all, start_rings,
-};
 use alm_store::{Phase, Store};
 use alm_types::Slot;
+use alm_wake::{Bell, Bells, Flags, ThreadBell};
 use std::alloc::{AllocError, Global};
 use std::sync::Wait;
 use std::thread;

@@ -1,9 +1,18 @@
 //! What the threads of the slots use.
 ghost use Rattle.std.specs.Prelude.{◌≡◌, ◌≤◌, ℕ, [], length, map, slice_get, Some, vec_capacity};
 
+use crate::source::Source;
 use alm_board::Look;
 use alm_rings::{Console, Told};
-use alm_run::{SlotParts, Source};
+
+/// What the thread of a slot uses. A source that was made for one slot has the console of that slot.
+#[derive(Drop)]
+pub struct SlotParts<T: Told + Drop, L: Look<Told = T> + Drop, S: Source<T, L> + Drop> {
+    pub console: Console<T>,
+    pub look: L,
+    pub source: S,
+    pub ghost own: { (n : ℕ) → S.slot source ≡ Some n → console.slot ≡ n },
+}
 
 /// The parts of each slot, in their order, in a list that has room for them.
 pub fn slot_parts_of<T: Told + Drop, L: Look<Told = T> + Drop, S: Source<T, L> + Drop>(

@@ -1,7 +1,7 @@
 //! Bells that one thread left are rung by the next one that checks.
 
-use alm_run::{Bell, Bells};
 use alm_types::Slot;
+use alm_wake::{Bell, Bells};
 use std::alloc::Global;
 use std::sync::atomic::{AtomicU64, Ordering};
 use std::sync::{Arc, Wait};

@@ -4,7 +4,7 @@ use crate::drawn::drawn;
 use crate::notes::Notes;
 use alm_board::FreeLook;
 use alm_rings::{Console, Receipt, Told};
-use alm_run::{Go, Source};
+use alm_threads::{Go, Source};
 use alm_types::{AlarmId, Answer, Query, Slot, Verdict};
 use std::alloc::Global;
 use std::sync::Arc;

@@ -3,7 +3,7 @@
 use crate::notes::Notes;
 use alm_board::FreeLook;
 use alm_rings::{Console, Told};
-use alm_run::{Go, Source};
+use alm_threads::{Go, Source};
 use alm_types::{AlarmId, Answer, Query};
 use std::alloc::Global;
 use std::sync::Arc;

@@ -6,7 +6,7 @@ use crate::looker::Looker;
 use crate::script::Script;
 use alm_board::FreeLook;
 use alm_rings::{Console, Told};
-use alm_run::{Go, Source};
+use alm_threads::{Go, Source};
 
 /// A source of the tests, or of the benchmark of threads.
 #[derive(Drop)]

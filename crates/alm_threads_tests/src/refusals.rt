@@ -12,13 +12,13 @@ use alm_model::Alarms;
 use alm_moments::{NewMoments, RunId};
 use alm_plant::Plant;
 use alm_rings::{SealEnds, SlotEnds, batches_beside, open_batches, open_slots};
-use alm_run::{Bells, Closes, Flags, FlusherParts, ThreadBell, run_flusher};
 use alm_store::{Phase, Store};
+use alm_threads::{Closes, FlusherParts, run_flusher};
 use alm_types::{Action, Batch, Entry, Moment, Slot, Verdict};
+use alm_wake::{Bells, Flags, ThreadBell};
 use std::alloc::{AllocError, Global};
 use std::marker::Brand;
 use std::sync::Wait;
-use std::sync::atomic::Ordering;
 use std::test::Fail;
 
 /// A board that refuses its first publishes.
@@ -104,7 +104,7 @@ fn told_behind<J: RunId, K: Store, R: Wait>(
         return None;
     }
     let flags = Flags::<ThreadBell>::new(Bells::new(&[], Vec::new(alloc)));
-    flags.sealed.store(true, Ordering::SeqCst);
+    flags.end_sealing();
     let board = RefusingBoard {
         board: PlainBoard::new(shown),
         refusals,

@@ -17,10 +17,11 @@ use alm_model::Alarms;
 use alm_moments::{Moments, RunId};
 use alm_plant::Plant;
 use alm_rings::Told;
-use alm_run::{Closes, FlusherParts, RecordedFlusher, Rings};
 use alm_shared::{Durable, NewRun, SharedBoard, SharedLook};
 use alm_store::Store;
-use alm_threads::{Middle, Parts, WatchedLook, parts_of};
+use alm_threads::{
+    Closes, FlusherParts, Middle, Parts, RecordedFlusher, Rings, WatchedLook, parts_of,
+};
 use alm_types::{AlarmId, Answer, Query, Refusal, Slot};
 use std::alloc::Global;
 use std::marker::Brand;

@@ -4,7 +4,7 @@ use crate::gate::Gate;
 use crate::notes::Notes;
 use alm_board::FreeLook;
 use alm_rings::{Console, Told};
-use alm_run::{Go, Source};
+use alm_threads::{Go, Source};
 use alm_types::{Action, AlarmId, Answer, Query, Shown};
 use std::alloc::Global;
 use std::sync::Arc;

@@ -4,7 +4,7 @@ use Rattle.alm_model.specs.Look.{IsLook}
 use Rattle.alm_model.specs.Plant.{Condensed}
 use Rattle.alm_board.proofs.FrontLaws.{front_of_prefix}
 use Rattle.alm_shared.proofs.Extents.{refused_answers}
-use Rattle.alm_shared.proofs.Fronts.{prefix_shorter}
+use Rattle.alm_moments.proofs.Fronts.{prefix_shorter}
 use Rattle.alm_shared.proofs.shared_look.look_at.Goals as goal
 
 pub returns-in-Err-clause-answer : goal.returns-in-Err-clause-answer

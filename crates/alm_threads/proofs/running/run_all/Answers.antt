@@ -1,6 +1,6 @@
 use Rattle.alm_rings.specs.Batches.{SameSealEnds}
 use Rattle.alm_seq.specs.Sequences.{SameInboxes}
-use Rattle.alm_run.specs.declared.rings.Rings.{Rings}
+use Rattle.alm_threads.specs.declared.rings.Rings.{Rings}
 use Rattle.std.proofs.Common.{subst}
 use Rattle.alm_threads.proofs.running.run_all.Goals as goal
 

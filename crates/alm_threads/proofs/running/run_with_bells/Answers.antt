@@ -6,9 +6,9 @@ use Rattle.alm_rings.specs.declared.console.Console.{Console}
 use Rattle.alm_rings.specs.Batches.{fetched_of, sealed_of}
 use Rattle.alm_rings.specs.Placed.{inbox_at, taken_by, released_by}
 use Rattle.alm_rings.specs.Ends.{sent_of, received_of}
-use Rattle.alm_run.specs.Histories.{LeavesOneOf}
-use Rattle.alm_run.proofs.Moments.{accepted_prefix, endures_on}
-use Rattle.alm_run.specs.Same.{AllSame}
+use Rattle.alm_threads.specs.Histories.{LeavesOneOf}
+use Rattle.alm_threads.proofs.Moments.{accepted_prefix, endures_on}
+use Rattle.alm_threads.specs.Same.{AllSame}
 use Rattle.alm_threads.specs.Runs.{HasReport}
 use Rattle.alm_threads.proofs.Tied.{stands_at, apart_by, map_count, wants_count, replies_count, received_count, front_on, entries_front, same_slots, tied_still}
 use Rattle.alm_threads.proofs.running.run_with_bells.Goals as goal

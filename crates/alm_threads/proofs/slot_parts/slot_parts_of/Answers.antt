@@ -1,7 +1,7 @@
 use Rattle.std.proofs.Common.{◌≡◌, ◌∙◌, ◌++◌, length, map, slice_get, Some, ap, sym, subst, arith}
 use Rattle.std.proofs.lemmas.Option.{same_Some}
 use Rattle.alm_rings.specs.declared.console.Console.{Console}
-use Rattle.alm_run.specs.declared.slot_parts.SlotParts.{SlotParts}
+use Rattle.alm_threads.specs.declared.slot_parts.SlotParts.{SlotParts}
 use Rattle.alm_threads.proofs.Placed.{at_end, none_left}
 use Rattle.std.proofs.lemmas.List.{length-map}
 use Rattle.alm_threads.proofs.Tied.{numbered}

@@ -1,7 +1,7 @@
-use Rattle.std.proofs.Common.{◌≡◌, List, sym, subst, arith, length}
+use Rattle.std.proofs.Common.{List, sym, subst, arith}
 use mathlib.Core.List.{IsPrefix}
 use Rattle.alm_types.specs.declared.action.Action.{Action}
-use Rattle.alm_shared.proofs.Fronts.{prefix_shorter}
+use Rattle.alm_moments.proofs.Fronts.{prefix_shorter}
 use Rattle.alm_shared.proofs.durable.Durable.longer.Goals as goal
 
 pub returns-else-len-clause-that : goal.returns-else-len-clause-that

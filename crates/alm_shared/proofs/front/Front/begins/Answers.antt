@@ -1,7 +1,7 @@
 use Rattle.std.proofs.Common.{◌≤◌, arith, length}
 use Rattle.std.proofs.lemmas.Bool.{leb-true, le-leb}
 use Rattle.alm_board.proofs.FrontLaws.{front_of_prefix, front_length}
-use Rattle.alm_shared.proofs.Fronts.{prefix_shorter}
+use Rattle.alm_moments.proofs.Fronts.{prefix_shorter}
 use Rattle.alm_shared.proofs.front.Front.begins.Goals as goal
 
 pub returns : goal.returns

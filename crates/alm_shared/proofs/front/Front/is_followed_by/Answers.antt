@@ -3,7 +3,8 @@ use Rattle.std.proofs.lemmas.Bool.Decides.{nat_tests}
 use Rattle.alm_types.specs.declared.action.Action.{Action}
 use Rattle.alm_model.specs.Rules.{AllAdmitted}
 use Rattle.alm_model.proofs.Legal.{admitted_append}
-use Rattle.alm_shared.proofs.Fronts.{followed_by, prefix_shorter}
+use Rattle.alm_moments.proofs.Fronts.{prefix_shorter}
+use Rattle.alm_shared.proofs.Fronts.{followed_by}
 use Rattle.alm_shared.proofs.front.Front.is_followed_by.Goals as goal
 
 pub returns-clause-next : goal.returns-clause-next

@@ -3,7 +3,8 @@ use Rattle.std.proofs.lemmas.List.{length-take-le}
 use mathlib.Core.List.{IsPrefix}
 use Rattle.alm_types.specs.declared.action.Action.{Action}
 use Rattle.alm_shared.specs.History.{joined_actions}
-use Rattle.alm_shared.proofs.Fronts.{prefix_shorter, prefix_joined, prefix_take}
+use Rattle.alm_moments.proofs.Fronts.{prefix_shorter}
+use Rattle.alm_shared.proofs.Fronts.{prefix_joined, prefix_take}
 use Rattle.alm_shared.proofs.front.Front.longer.Goals as goal
 
 -- of two prefixes of what was joined, the one of fewer actions is a prefix of the other

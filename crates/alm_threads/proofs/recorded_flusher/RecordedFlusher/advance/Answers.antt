@@ -1,0 +1,95 @@
+use Rattle.std.proofs.Common.{◌≡◌, ◌⊎◌, ⊎_elim, inl, inr, ◌≤◌, ◌+◌, ◌++◌, ◌∙◌, ℕ, List, length, refl, sym, ap, subst, arith}
+use Rattle.std.specs.Prelude.{not}
+use Rattle.std.proofs.Props.{props}
+use Rattle.std.proofs.Math.Logic.{∥∥₁_elim, ∥∥₁_map}
+use Rattle.alm_disk.specs.Device.{IsImage}
+use Rattle.alm_model.specs.Judging.{accepted_of, entries_in}
+use Rattle.alm_rings.specs.Batches.{fetched_of}
+use Rattle.alm_flush.specs.HeldBatch.{released_entries, stored_of}
+use Rattle.alm_model.specs.Step.{run}
+use Rattle.alm_moments.specs.Moments.{moment_of, now_of}
+use Rattle.alm_moments.proofs.Courses.{goes_on, by_call, by_none, last_taken, prefix_self}
+use Rattle.alm_threads.specs.Moments.{at_first, at_moment}
+use Rattle.alm_threads.proofs.Moments.{at_safe, passed_on, told_by_advance}
+use Rattle.alm_threads.proofs.Recorded.{named_safe, stored_by_advance}
+use Rattle.alm_threads.proofs.recorded_flusher.RecordedFlusher.advance.Goals as goal
+
+pub extend-requires : goal.extend-requires
+extend-requires g c =
+    let j = g.J.RunId in
+    let s = g.K.Store in
+    let b = g.B.Board in
+    let r = c.args.self.now in
+    let o = r.flusher in
+    let n = c.advance-advanced.new.self in
+    let e = c.advance-advanced.ensures in
+    let before = fetched_of n.before.value in
+    let old = g.K.Device.Disk.state (s.disk o.store) in
+    let new = g.K.Device.Disk.state (s.disk n.store) in
+    let all = accepted_of (entries_in (fetched_of n.fetch)) in
+    let now = now_of j.base j.first r.moments in
+    let last : now ≡ moment_of old all r.floor = r.last c.if-self.false ∙ ap (λ f. moment_of old (accepted_of (entries_in (fetched_of f))) r.floor) (sym e.same.3) in
+    let base : j.base ≡ b.base n.board = r.base ∙ sym (ap b.base e.same.0) in
+    let enough : r.floor ≤ j.base.panel.count + length (accepted_of (entries_in before ++ stored_of n.held)) =
+    omega (
+      arith,
+      r.stored,
+      stored_by_advance (entries_in (fetched_of o.before.value)) c.advance-advanced.result (s.state o.store).phase o.held n.held e.held,
+      ap (λ x. length (accepted_of (entries_in (fetched_of x) ++ stored_of n.held))) e.same.2,
+    ) in
+    let stands = subst (λ (k : _). (g.K.Device.Disk.honest (s.disk k)) → (i : List ℕ) → IsImage (g.K.Device.Disk.state (s.disk k)) i → ∥ s.recovers i (s.state k).stored ⊎ s.recovers i (s.state k).next ∥₁) c.keeper-store.ensures.keeper c.images-2.ensures.stands in
+    rw (c.keeper-store.ensures.keeper, c.fetch_ends.ensures) (record {
+      moments = goes_on j.honest j.recovers j.base j.first r.moments (moment_of new all r.floor) c.stands.ensures
+          (λ h. ∥∥₁_map r.honest (λ p. ⊎_elim
+          (λ same. by_none now old new all all r.floor r.floor last same (prefix_self all) (omega arith))
+          (λ call. by_call now old new all r.floor last call) (e.device.call (p h))))
+          (λ h. ∥∥₁_elim r.honest (hlevel props) (λ p.
+          named_safe j.recovers s.recovers g.met.K.Store.one g.met.K.Store.rules r.recovers j.base before (fetched_of n.fetch) n.held r.floor new (s.state n.store).stored (s.state n.store).next
+          n.held_is (n.stored ∙ ap (λ q. run q (accepted_of (entries_in before ++ stored_of n.held))) (sym base)) n.either enough (stands (e.device.honest.0 (p h)))));
+    })
+
+pub invariant_of-self : goal.invariant_of-self
+invariant_of-self g c =
+    let s = g.K.Store in
+    let b = g.B.Board in
+    let j = g.J.RunId in
+    let r = c.args.self.now in
+    let o = r.flusher in
+    let n = c.advance-advanced.new.self in
+    let e = c.advance-advanced.ensures in
+    let base = b.base o.board in
+    let before = fetched_of o.before.value in
+    let all = accepted_of (entries_in (fetched_of o.fetch)) in
+    let first = at_first base (g.K.Device.Disk.state (s.disk c.args.self.now.first.value)) in
+    let last = at_moment base (g.K.Device.Disk.state (s.disk o.store)) o.number (b.published o.board) in
+    let told : released_entries n.held ≡ released_entries o.held = told_by_advance c.advance-advanced.result (s.state o.store).phase o.held n.held e.held in
+    let number : n.number ≡ o.number =
+    omega (
+      arith,
+      n.number_is,
+      o.number_is,
+      ap (λ x. (b.base x).panel.count) e.same.0,
+      ap (λ x. length (accepted_of (entries_in (fetched_of x) ++ released_entries n.held))) e.same.2,
+      ap (λ t. length (accepted_of (entries_in before ++ t))) told,
+    ) in
+    record {
+      base = r.base ∙ sym (ap b.base e.same.0);
+      honest = ∥∥₁_map r.honest (λ p h. e.device.honest.0 (p h));
+      recovers = r.recovers;
+      last = last_taken j.base j.first r.moments c.extend.new.self (moment_of (g.K.Device.Disk.state (s.disk n.store)) (accepted_of (entries_in (fetched_of n.fetch))) r.floor)
+          c.extend.result (not c.extend.result) refl (rw (c.keeper-store.ensures.keeper, c.fetch_ends.ensures) at c.extend.ensures);
+      stored = omega (
+        arith,
+        r.stored,
+        stored_by_advance (entries_in before) c.advance-advanced.result (s.state o.store).phase o.held n.held e.held,
+        ap (λ x. length (accepted_of (entries_in (fetched_of x) ++ stored_of n.held))) e.same.2,
+      );
+      course = rw (e.same.0, e.same.3) (λ h. ∥∥₁_map (c.args.self.now.course h) (λ p.
+          let stands = subst (λ (k : _). (g.K.Device.Disk.honest (s.disk k)) → (i : List ℕ) → IsImage (g.K.Device.Disk.state (s.disk k)) i → ∥ s.recovers i (s.state k).stored ⊎ s.recovers i (s.state k).next ∥₁) c.keeper.ensures.keeper c.images.ensures.stands p.0 in
+          let safe = at_safe s.recovers g.met.K.Store.one g.met.K.Store.rules base (g.K.Device.Disk.state (s.disk o.store)) o.number (b.published o.board) before (fetched_of o.fetch) o.held (s.state o.store).stored (s.state o.store).next
+          o.held_is o.stored o.either o.number_is o.published stands in (
+            e.device.honest.0 p.0,
+            passed_on s.recovers base all first last (at_moment base (g.K.Device.Disk.state (s.disk n.store)) n.number (b.published o.board)) p.1 safe
+                (⊎_elim (λ same. inr (same, omega (arith, number), omega arith)) (λ call. inl (call, number, refl)) (e.device.call p.0)),
+          )));
+    }

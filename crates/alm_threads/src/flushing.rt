@@ -1,0 +1,194 @@
+//! The flusher's thread.
+ghost use Rattle.std.specs.Prelude.{◌≡◌, ◌↔◌, ℕ};
+ghost use Rattle.alm_rings.specs.Batches.{SameFetchEnds};
+ghost use Rattle.alm_rings.specs.Placed.{SameOutboxAt, outbox_at};
+
+use crate::recorded_flusher::RecordedFlusher;
+use alm_board::{Board, Publish};
+use alm_flush::{Advance, Fetch, Publishes, Release};
+use alm_moments::{Moments, RunId};
+use alm_rings::Told;
+use alm_store::Store;
+use alm_types::MOST_ENTRIES;
+use alm_wake::{Bell, Flags, FlusherPace};
+use std::sync::Wait;
+
+/// How often the same publish is refused before the run stops.
+const REFUSALS: u64 = 1000;
+
+// What a pass found.
+#[derive(Clone, Copy, Debug, PartialEq, Eq)]
+enum Pass {
+    Work,
+    // No sealed batch was there.
+    Empty,
+    // The console of the next receipt has no room for it.
+    Full,
+    Stopped,
+}
+
+// Commits a step of the held batch and publishes it, if that is next: its replies are then due.
+fn commit<
+    K: Store,
+    T: Told + Drop,
+    B: Board<Told = T> + Publish<R, Moments<J>>,
+    J: RunId,
+    E: Bell + Drop,
+    R: Wait,
+>(
+    rt: &R,
+    flusher: &mut RecordedFlusher<K, T, B, J>,
+    pace: &mut FlusherPace<'_, E>,
+    refused: &mut u64,
+) -> Pass
+    ensures fetch { SameFetchEnds flusher.old.flusher.fetch flusher.new.flusher.fetch }
+    ensures outboxes { flusher.new.flusher.outboxes ≡ flusher.old.flusher.outboxes }
+    ensures base { B.Board.base flusher.new.flusher.board ≡ B.Board.base flusher.old.flusher.board }
+    ensures honest { K.Device.honest (K.disk flusher.old.flusher.store) ↔
+        K.Device.honest (K.disk flusher.new.flusher.store) }
+    ensures first { flusher.new.first ≡ flusher.old.first }
+{
+    if flusher.advance() == Advance::Failed {
+        return Pass::Stopped;
+    }
+    match flusher.publish::<R>(rt) {
+        Publishes::Published => {
+            *refused = 0;
+            pace.publish();
+        }
+        Publishes::OutOfMemory => {
+            *refused = u64::saturating_add(*refused, 1);
+            if *refused >= REFUSALS {
+                return Pass::Stopped;
+            }
+        }
+        Publishes::NotYet => {}
+    }
+    Pass::Work
+}
+
+// Releases the batch's receipts and wakes their slots, returns it, and has the slots woken that were left asleep.
+fn answer<K: Store, T: Told + Drop, B: Board<Told = T>, J: RunId, E: Bell + Drop>(
+    flusher: &mut RecordedFlusher<K, T, B, J>,
+    pace: &mut FlusherPace<'_, E>,
+) -> Pass
+    ensures fetch { SameFetchEnds flusher.old.flusher.fetch flusher.new.flusher.fetch }
+    ensures outboxes { (s : ℕ) →
+        SameOutboxAt (outbox_at s flusher.old.flusher.outboxes.items)
+        (outbox_at s flusher.new.flusher.outboxes.items) }
+    ensures base { B.base flusher.new.flusher.board ≡ B.base flusher.old.flusher.board }
+    ensures store { flusher.new.flusher.store ≡ flusher.old.flusher.store }
+    ensures first { flusher.new.first ≡ flusher.old.first }
+{
+    for _ in 0..MOST_ENTRIES {
+        match flusher.release() {
+            Release::Released(slot) => pace.release(slot),
+            Release::Full(slot) => {
+                pace.find_full(slot);
+                return Pass::Full;
+            }
+            Release::Nothing => break,
+        }
+    }
+    if flusher.give_back() {
+        pace.answer();
+    }
+    Pass::Work
+}
+
+// One step of each kind.
+fn step<
+    K: Store,
+    T: Told + Drop,
+    B: Board<Told = T> + Publish<R, Moments<J>>,
+    J: RunId,
+    E: Bell + Drop,
+    R: Wait,
+>(
+    rt: &R,
+    flusher: &mut RecordedFlusher<K, T, B, J>,
+    pace: &mut FlusherPace<'_, E>,
+    refused: &mut u64,
+) -> Pass
+    ensures fetch { SameFetchEnds flusher.old.flusher.fetch flusher.new.flusher.fetch }
+    ensures outboxes { (s : ℕ) →
+        SameOutboxAt (outbox_at s flusher.old.flusher.outboxes.items)
+        (outbox_at s flusher.new.flusher.outboxes.items) }
+    ensures base { B.Board.base flusher.new.flusher.board ≡ B.Board.base flusher.old.flusher.board }
+    ensures honest { K.Device.honest (K.disk flusher.old.flusher.store) ↔
+        K.Device.honest (K.disk flusher.new.flusher.store) }
+    ensures first { flusher.new.first ≡ flusher.old.first }
+{
+    match flusher.fetch() {
+        Fetch::Got => pace.fetch(),
+        Fetch::Held => {}
+        Fetch::Empty => {
+            if pace.has_rest() && flusher.advance() == Advance::Failed {
+                return Pass::Stopped;
+            }
+            return Pass::Empty;
+        }
+    }
+    // Replies that wait come before the pieces of a checkpoint.
+    if flusher.next().is_none() {
+        let pass = commit(rt, flusher, pace, refused);
+        if pass == Pass::Stopped {
+            return pass;
+        }
+    }
+    answer(flusher, pace)
+}
+
+/// Commits, publishes and releases until no batch will be sealed and none is left, or the store has stopped, or a publish was
+/// refused 1,000 times in a row. The threads that wait for what it does are woken.
+pub fn flush<
+    K: Store,
+    T: Told + Drop,
+    B: Board<Told = T> + Publish<R, Moments<J>>,
+    J: RunId,
+    E: Bell + Drop,
+    R: Wait,
+>(rt: &R, flags: &Flags<E>, flusher: &mut RecordedFlusher<K, T, B, J>)
+    ensures fetch { SameFetchEnds flusher.old.flusher.fetch flusher.new.flusher.fetch }
+    ensures outboxes { (s : ℕ) →
+        SameOutboxAt (outbox_at s flusher.old.flusher.outboxes.items)
+        (outbox_at s flusher.new.flusher.outboxes.items) }
+    ensures base { B.Board.base flusher.new.flusher.board ≡ B.Board.base flusher.old.flusher.board }
+    ensures honest { K.Device.honest (K.disk flusher.old.flusher.store) ↔
+        K.Device.honest (K.disk flusher.new.flusher.store) }
+    ensures first { flusher.new.first ≡ flusher.old.first }
+{
+    let mut pace = FlusherPace::new(flags);
+    let mut refused: u64 = 0;
+    for _ in rt.forever() {
+        if pace.is_stopped() {
+            break;
+        }
+        let last = pace.is_last();
+        match step(rt, flusher, &mut pace, &mut refused) {
+            Pass::Work => {
+                pace.work();
+                continue;
+            }
+            Pass::Empty => {
+                pace.empty();
+                if last {
+                    break;
+                }
+                if pace.stays_awake() {
+                    continue;
+                }
+            }
+            Pass::Full => {
+                if pace.announce_full() {
+                    continue;
+                }
+            }
+            Pass::Stopped => {
+                pace.stop_all();
+                break;
+            }
+        }
+        pace.wait(rt);
+    }
+}

@@ -1,0 +1,54 @@
+//! A source's thread.
+ghost use Rattle.std.specs.Prelude.{◌≡◌, ℕ, Some};
+ghost use Rattle.alm_rings.specs.Ends.{SameConsole};
+
+use crate::go::Go;
+use crate::source::Source;
+use alm_board::Look;
+use alm_rings::{Console, Told};
+use alm_wake::{Bell, Flags};
+use std::sync::Wait;
+
+/// Takes turns until the source ends or `stop` is set. The sequencer is woken after a turn that may have sent something, the
+/// flusher after one that may have received something that it waits for.
+pub fn run_source<
+    T: Told + Drop,
+    L: Look<Told = T> + Drop,
+    S: Source<T, L> + Drop,
+    B: Bell + Drop,
+    R: Wait,
+>(rt: &R, flags: &Flags<B>, console: Console<T>, look: L, source: S) -> Console<T>
+    requires slot { (n : ℕ) → S.slot source ≡ Some n → console.slot ≡ n }
+    ensures { SameConsole console result }
+{
+    let mut console = console;
+    let mut look = look;
+    let mut source = source;
+    let mut idle: u32 = 0;
+    for _ in rt.forever() {
+        if flags.is_stopped() {
+            break;
+        }
+        let before = console.unanswered();
+        let go = source.turn(&mut console, &mut look);
+        let after = console.unanswered();
+        // A slot that rests wakes no thread.
+        let went = go != Go::Rest || after != before;
+        if went && after > 0 {
+            flags.send(console.slot());
+        }
+        if went && before > 0 {
+            flags.receive();
+        }
+        match go {
+            Go::Go => idle = 0,
+            Go::Rest => {
+                flags.rest(rt, console.slot(), idle);
+                idle = idle.saturating_add(1);
+            }
+            Go::End => break,
+        }
+    }
+    flags.end_source();
+    console
+}

@@ -1,0 +1,126 @@
+//! Starts the sources, and joins them.
+ghost use Rattle.std.specs.Prelude.{◌≡◌, ◌≤◌, ℕ, [], map, IfOk, Some, vec_len, vec_capacity};
+ghost use Rattle.alm_rings.specs.Ends.{SameConsole};
+ghost use Rattle.alm_threads.specs.Same.{AllSame};
+
+use crate::console_back::ConsoleBack;
+use crate::slot_parts::SlotParts;
+use crate::source::Source;
+use crate::source_thread::run_source;
+use crate::start_fault::StartFault;
+use alm_board::Look;
+use alm_rings::{Console, Told};
+use alm_wake::{Bell, Flags};
+use std::alloc::Global;
+use std::snapshot::Snapshot;
+use std::sync::Wait;
+use std::thread::{PromisedHandle, Scope, Threads};
+
+type Handle<T> = PromisedHandle<Console<T>, ConsoleBack<T>>;
+
+/// Starts one source in a thread of its own.
+pub fn start_one<
+    's,
+    E,
+    T: Told + Drop + Send,
+    L: Look<Told = T> + Drop + Send,
+    S: Source<T, L> + Drop + Send,
+    B: Bell + Drop + Sync,
+    R: Wait + Sync,
+>(
+    scope: &Scope<'s, E>,
+    rt: &'s R,
+    flags: &'s Flags<B>,
+    own: SlotParts<T, L, S>,
+) -> Result<Handle<T>, StartFault>
+where
+    T: 's,
+    L: 's,
+    S: 's,
+    B: 's,
+    ensures { IfOk result (λ handle. handle.promise.0.value ≡ own.console) }
+{
+    let SlotParts {
+        console,
+        look,
+        source,
+    } = own;
+    let promise = ConsoleBack(Snapshot::of(&console));
+    match scope.spawn_with(
+        promise,
+        move || -> Console<T>
+            requires { (n : ℕ) → S.slot source ≡ Some n → console.slot ≡ n }
+            ensures { SameConsole console result }
+        { run_source(rt, flags, console, look, source) },
+    ) {
+        Ok(handle) => Ok(handle),
+        Err(_) => Err(StartFault::NoThread),
+    }
+}
+
+/// Starts each source in a thread of its own, in order. At a fault those that run are stopped.
+pub fn start_all<
+    's,
+    E,
+    T: Told + Drop + Send,
+    L: Look<Told = T> + Drop + Send,
+    S: Source<T, L> + Drop + Send,
+    B: Bell + Drop + Sync,
+    R: Wait + Sync,
+>(
+    scope: &Scope<'s, E>,
+    rt: &'s R,
+    alloc: Global,
+    flags: &'s Flags<B>,
+    slot_parts: Vec<SlotParts<T, L, S>>,
+) -> Result<Vec<Handle<T>>, StartFault>
+where
+    T: 's,
+    L: 's,
+    S: 's,
+    B: 's,
+    ensures len { IfOk result (λ handles. vec_len handles ≡ vec_len slot_parts) }
+    ensures each { IfOk result
+        (λ handles.
+        map (λ h. h.promise.0.value) handles.items ≡ map (λ p. p.console) slot_parts.items) }
+{
+    let mut handles = match Vec::with_capacity(alloc, slot_parts.len()) {
+        Ok(handles) => handles,
+        Err(_) => {
+            flags.stop_all();
+            return Err(StartFault::OutOfMemory);
+        }
+    };
+    for own in slot_parts {
+        match start_one(scope, rt, flags, own) {
+            Ok(handle) => {
+                if handles.push(handle).is_err() {
+                    flags.stop_all();
+                    return Err(StartFault::OutOfMemory);
+                }
+            }
+            Err(fault) => {
+                flags.stop_all();
+                return Err(fault);
+            }
+        }
+    }
+    Ok(handles)
+}
+
+/// Joins them in the order of the slots. Takes no memory: the consoles go into `room`.
+pub fn join_all<T: Told + Drop, R: Threads>(
+    rt: &R,
+    handles: Vec<Handle<T>>,
+    room: Vec<Console<T>>,
+) -> Vec<Console<T>>
+    requires room { (room.items ≡ []) × (vec_len handles ≤ vec_capacity room) }
+    ensures len { vec_len result ≡ vec_len handles }
+    ensures each { AllSame (map (λ h. h.promise.0.value) handles.items) result.items }
+{
+    let mut consoles = room;
+    for handle in handles {
+        consoles.push_reserved(handle.join(rt));
+    }
+    consoles
+}

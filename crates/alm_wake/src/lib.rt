@@ -1,0 +1,50 @@
+//! When the server's threads sleep, and who wakes them. No contract above rests on it, but that each wait is bounded.
+//!
+//! ```text
+//! let flags = Flags::new(Bells::new(&slots, bells));
+//! flags.send(slot);
+//! let mut pace = SequencerPace::new(&flags); pace.wait(rt);
+//! ```
+//!
+//! | thread | has | sleeps while |
+//! |---|---|---|
+//! | of a slot | the [`Bell`] of its slot | its source finds nothing to do |
+//! | the sequencer's | a [`SequencerPace`] | it has nothing to take or seal, or the open batch waits for others to join |
+//! | the flusher's | a [`FlusherPace`] | no sealed batch is there, or a console has no room for a receipt |
+//!
+//! [`Flags`] are what they share: hints, each read before the step that it bounds. A lost wake-up costs 100 milliseconds, after which
+//! each thread checks by itself. docs/WAKING.md has the states of the two threads, and who reads and writes each atomic. All numbers
+//! stand in `bounds`.
+//!
+//! Proved:
+//! - the open batch waits only for slots that the last one answered, once, and for half of its time or 500 microseconds (by
+//!   `Gathering::pause`, `Pause::after`, `ThreadBell::sleep`)
+//! - which slots are woken after a batch is answered: all that have replies of it, but who may sleep through one batch (by
+//!   `Waking::reply`, `end`)
+#![tactic(auto)]
+
+mod awaited;
+mod bell;
+mod bells;
+mod bounds;
+mod commit_time;
+mod flags;
+mod flusher_pace;
+mod gathering;
+mod pause;
+mod sealing;
+mod sequencer_pace;
+mod thread_bell;
+mod waking;
+
+pub use awaited::Awaited;
+pub use bell::Bell;
+pub use bells::Bells;
+pub use flags::Flags;
+pub use flusher_pace::FlusherPace;
+pub use gathering::Gathering;
+pub use pause::Pause;
+pub use sealing::Sealing;
+pub use sequencer_pace::SequencerPace;
+pub use thread_bell::ThreadBell;
+pub use waking::Waking;
