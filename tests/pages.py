@@ -101,6 +101,11 @@ def believed(found):
         found.check(total in headline, "docs/HEADLINE.md doesn't say", total)
 
 
+def proved(found):
+    made = subprocess.run([TOP / "docs" / "proved.py"], capture_output=True, check=True).stdout.decode()
+    found.check(made == text_of(TOP / "docs" / "PROVED.md"), "docs/PROVED.md isn't what the crates say: docs/proved.py --write")
+
+
 def claims(found):
     """The words in the last column of PROVED's table, each of a row's crates or of those below it."""
     for line in text_of(TOP / "docs" / "PROVED.md").splitlines():
@@ -116,7 +121,7 @@ def claims(found):
 
 def main():
     found = Found()
-    for look in (links, quotes, counts, believed, claims):
+    for look in (links, quotes, counts, believed, proved, claims):
         look(found)
     if found.wrong:
         sys.exit("\n".join(f"pages.py: {wrong}" for wrong in found.wrong))

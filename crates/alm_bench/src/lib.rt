@@ -25,6 +25,12 @@
 //!
 //! The premise is that the device does what its trait says of it, and that it was formatted. Not covered: that any step is
 //! possible again after a failure, that memory suffices, and threads that run concurrently.
+//!
+//! Proved:
+//! - the headline: for any steps, crashes and reopenings the trace is a run of alm_pipeline's world, and nothing reported is
+//!   lost (by `life`, `whole_life`, `Bench::new`, `step`, `run`; `laws`)
+//! - opening then returns a plant, Disk or out of memory, never Unformatted or Damaged; no Call is more than one device
+//!   call (by `life`, `step`, `run`)
 #![tactic(auto)]
 
 mod bench;

@@ -18,6 +18,10 @@
 //! saw prefixes of that list, and each receipt that it learnt reported a prefix.
 //!
 //! Not covered: that a look sees the newest of what another thread has published, and time.
+//!
+//! Proved:
+//! - a look shows a prefix of the published list, which contains all that this reader saw and that its receipts reported
+//!   (by `Board::tell`, `Publish::publish`, `Look::look`, `learn`)
 #![tactic(auto)]
 
 mod board;

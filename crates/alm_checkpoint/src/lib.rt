@@ -48,6 +48,12 @@
 //!
 //! Only [`recover`] and [`Layout::restore`] take memory, and a fault `OutOfMemory` says nothing about the bytes. Not covered:
 //! that memory suffices, which tests show. There is no checksum: damage that breaks no rule is not found.
+//!
+//! Proved:
+//! - every list of bytes holds exactly one plant in one epoch, or has exactly one fault; header and heads are written as
+//!   they are read (by `recover`, `Layout::restore`, `read_header`, `choose`, `laws`)
+//! - what lies after the first closed gate or in the other half changes nothing; the longest segment that fits twice (by
+//!   `laws`, `Layout::longest`)
 #![tactic(auto)]
 
 mod device_fault;

@@ -22,6 +22,10 @@
 //! text, and no text is a prefix of another's. In version 01 there are only the kinds 1 to 8 ([`Version::bears`]); all else is
 //! the same in both versions. Not covered: whether an action that is read is admitted. Only `read_image` takes memory: its
 //! `OutOfMemory` says nothing about the bytes.
+//!
+//! Proved:
+//! - texts of actions, frames and images are read as they were written, any plant's too; damage is reported at the first
+//!   field that breaks a rule (by `read_action`, `read_frame`, `read_image`, `write_image`, `laws`)
 #![tactic(auto)]
 
 mod action;

@@ -22,6 +22,17 @@
 //! reader failed or reported no end in 2^32 reads.
 //!
 //! Not covered: that a reader ever ends; how much of the last reply was written if the writer failed.
+//!
+//! Proved:
+//! - what is written is the replies in the order of the lines' ends, each by the plant that the earlier actions left (by
+//!   `LocalDesk::feed`, `feed_all`)
+//! - a write fault comes only if the counted writer counted one: lines before are answered, a prefix of the next reply is
+//!   written, the desk is closed (by `LocalDesk::feed`)
+//! - storage stops only if it counts a failure, so never in memory; the plants that it may hold are reported with the
+//!   desk's plant (by `Backend`)
+//! - what the desk writes is its function of what it read; it fails only if reader or writer counted a failure, after 2^32
+//!   reads, or if it was closed (by `desk_run`, `CountedReader`)
+//! - the worked table (by `worked_table`)
 #![tactic(auto)]
 
 mod answering;

@@ -33,6 +33,10 @@
 //! establish: for a file, the only claims are its size and its count of failures. Not covered: finding out that a
 //! device was damaged, and checksums. Also not covered is how often a hold is asked, since asking leaves it unchanged:
 //! a test counts.
+//!
+//! Proved:
+//! - what each call and a crash do to a device, proved of each one in memory; a fault is reported only if the device failed
+//!   (by `Disk`, `Crashable::crash`, `MemDisk`, `FuseDisk`, `OnceDisk`, `HeldDisk`, `laws`)
 #![tactic(auto)]
 
 mod as_read;

@@ -19,6 +19,11 @@
 //! of the text if the writer fails.
 //!
 //! Not covered: comments of a table file, and the order of its keys.
+//!
+//! Proved:
+//! - the text that is shown of a plant (by `show_plant`)
+//! - a plant is written as a table file of its size (the nearest that a file may name) and table; a prefix if the writer
+//!   fails (by `export_plant`)
 #![tactic(auto)]
 
 mod alarm_tree;

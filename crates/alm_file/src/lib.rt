@@ -30,6 +30,10 @@
 //!
 //! Not covered: a file's bytes. That a file keeps to the model of a device is a premise of what the layers above say, and no
 //! proof about a file can establish it.
+//!
+//! Proved:
+//! - size and count of failures as the trait says; the descriptor is no standard stream's. Of its bytes nothing is claimed
+//!   (by `FileDisk`, `PlacedDisk`)
 #![tactic(auto)]
 
 mod disk_cache;

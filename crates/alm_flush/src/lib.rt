@@ -43,6 +43,20 @@
 //! | `give_back` | whether the batch was returned, all its replies released |
 //!
 //! Not covered: that a batch is ever fetched or a reply ever released, and time.
+//!
+//! Proved:
+//! - a verdict is released only if the stored and the published list hold its number; what is published is always a prefix
+//!   of what is stored (by `Flusher::release`, `publish`)
+//! - a slot was released the verdicts on its entries of the fetched batches, one after the other (by `release`,
+//!   `replies_beside`)
+//! - at most one device call a step, none for a batch without actions. The first failure has a cause; after it every step
+//!   fails without a call (by `Flusher::new`, `advance`, `into_keeper`)
+//! - a commit waits for at most one piece of a checkpoint, 65,536 bytes, if the segment took its batch as it was fetched
+//!   (by `fetch`, `advance`, `give_back`)
+//! - after a commit a checkpoint is open if more than half of the segment is used (but in the last epoch), and none is
+//!   opened otherwise (by `advance`)
+//! - opened with at most half of a segment of 452,651 bytes or more used, in a half of version 02, it takes every batch
+//!   while epochs are left (by `Flusher::new`, `fetch`)
 #![tactic(auto)]
 
 mod advance;

@@ -56,6 +56,23 @@
 //! `begin`, and that `Failed` and `Disk` mean a failure of the device in that very call. Only `format` and `open_store` take
 //! memory: the room of each vector of a book never changes. Not covered: that memory suffices, which tests show; time; and that
 //! damaged bytes are found out (there is no checksum).
+//!
+//! Proved:
+//! - a keeper is a store as alm_store asks (by `Keeper`)
+//! - a crash at any moment of a commit leaves what is stored, or, from the third call on, that or what is begun (by
+//!   `Keeper::advance`, `images`)
+//! - a crash at any moment of a checkpoint leaves what is stored; from its last call but one on, in either epoch (by
+//!   `Keeper::advance`, `images`)
+//! - each `advance` makes one device call, and which is said; a checkpoint goes out in pieces of at most 65,536 bytes, with
+//!   commits between (by `Keeper::advance`, `paused`, `written_since`, `mark`)
+//! - a begin is refused exactly as its contract says; `takes` is true exactly if a batch's frame fits and the half may hold
+//!   its kinds (by `begin`, `begin_checkpoint`, `takes`, `used`)
+//! - opening returns the plant, epoch and room that the bytes hold after its sync, or exactly their fault; else Disk, if it
+//!   failed, or out of memory (by `open_store`)
+//! - opening writes nothing: a sync and five reads. A refused one made the first of them, at the places of some layout, not
+//!   surely of the device's own (by `open_store`)
+//! - formatting makes its ten calls, with what a crash leaves at any moment of each; then the new plant stands in epoch 1
+//!   (by `format`, `format_as`)
 #![tactic(auto)]
 
 mod advancing;

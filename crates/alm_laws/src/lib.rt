@@ -17,6 +17,9 @@
 //! | [`alarm`] | the same of one alarm that takes an action |
 //!
 //! Not covered: that a CLOCK comes, or that anything reaches an operator. A console is a slot, and no person.
+//!
+//! Proved:
+//! - laws for an alarm engineer: who ends what, who is annunciated, who may ask, stamps of whole runs (by `plant`, `askers`, `stamps`)
 #![tactic(auto)]
 
 pub mod alarm;

@@ -24,6 +24,10 @@
 //! What is used above: a [`Decoder`] gives the lines of the stream that it was fed, however the stream was cut, and
 //! [`print_reply`] writes exactly a reply's text. No call here takes memory. Not covered: whether an action is admitted. Lines
 //! and texts are this project's own.
+//!
+//! Proved:
+//! - lines are those of the stream, however it is cut; each request has exactly one text, a reply exactly its own (by
+//!   `Decoder::feed`, `line_of`, `print_reply`)
 #![tactic(auto)]
 
 mod ask;

@@ -27,6 +27,10 @@
 //! after it. The cost of `annunciated`, `window`, `flood`, `age` and `moments` doesn't depend on how many annunciations or alarms
 //! there are. That of `settle` grows with the areas, that of `chattering` with the alarms. `advance` clears at most 600 places of
 //! each area, however far the clock moves. Not covered: the cost.
+//!
+//! Proved:
+//! - ages, windows, floods, last moments, chattering are counted from all annunciations, while no window reaches 2^64 (by
+//!   `Measure`, `laws::calls_are_counted`, `laws::metrics_go_along`)
 #![tactic(auto)]
 
 mod chatter;

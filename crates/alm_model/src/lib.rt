@@ -23,6 +23,16 @@
 //! that value. `check` is the acceptance of the definitions, `apply` their step, `fill` their lists. Of the calls,
 //! `new`, `build` and `copy` are those that allocate. [`PlainPlant`] stores the rows by number and computes a list by
 //! filtering and sorting: it is slow, and faster plants are compared with it. Not covered: time.
+//!
+//! Proved:
+//! - the plain plant accepts exactly what the definitions accept, with the first refusal of all else; an action gives
+//!   exactly the next plant (by `Alarms::check`, `admits`, `apply`, `apply_all`, `judge`, `accepted_in`)
+//! - its lists, windows, ages and moments are those of the definitions; a copy is the same plant; every plant keeps the
+//!   rules (by `fill`, `window`, `age`, `moments`, `copy`, `build`, `alarms`)
+//! - a query changes only what it asked for; it is out of memory only if its list had too little room and a growth was
+//!   refused (by `look`)
+//! - laws: the condensed plant goes along with the whole one, lists are filters in stamp order, windows and floods are
+//!   counted (by `laws::measures`, `laws::rules`, `laws::lists`)
 #![tactic(auto)]
 
 mod ages;

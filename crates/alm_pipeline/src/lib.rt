@@ -20,6 +20,12 @@
 //! (specs/Headline.antt).
 //!
 //! Not covered: that memory suffices to open one, and threads that run concurrently.
+//!
+//! Proved:
+//! - over any store each event answers its step in a world of plain lists, and the pipeline is then that of the world after
+//!   it (by `Pipeline::open`, `send` .. `receive`, `look`)
+//! - honest device: each image holds a prefix of the accepted actions with all that was reported; why a call fails or is
+//!   skipped (by `call`, `images`)
 #![tactic(auto)]
 
 mod event;

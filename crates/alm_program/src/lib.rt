@@ -36,6 +36,18 @@
 //! of their cause.
 //!
 //! Not covered: what a file or a standard stream gives and takes.
+//!
+//! Proved:
+//! - which words give which job, by what `clap` finds in them by its own contract; out of memory is no wrong usage (by
+//!   `job_of`, `WordsFault`)
+//! - a desk ends well only if its storage goes on, `stopped` only if not, `io` only if a failure was counted, it was closed
+//!   or 2^32 reads gave no end (by `run_local`, `end_of`)
+//! - what is printed of a plant and of its table, or a prefix; `io` is reported exactly if the writer counted a failure (by
+//!   `print_plant`, `print_table`)
+//! - only a job to serve is answered by an order, with its device, place and connections. Which words the process was
+//!   given, no contract says (by `run_job`, `run_between`)
+//! - a device is refused by the cause of its opening; format takes the longest segment that fits, and refuses only if none
+//!   does (by `open_to_print`, `open_stack`, `layout_for`)
 #![tactic(auto)]
 
 mod desk;

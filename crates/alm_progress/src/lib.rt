@@ -17,6 +17,10 @@
 //! Not covered: that a thread runs, since a part that is never driven does nothing; and requests that never stop coming. Then a
 //! slot can be starved by others if the order of steps is free, and the threads' shares are what prevents it. Five rounds hold
 //! only from a settled world: after seven sealed batches a request is received in the eighth.
+//!
+//! Proved:
+//! - laws of that world: nothing is stuck or lost while its parts step and no call fails. Their premise, `Paces`, is no
+//!   clause of a bench (by `nothing_is_stuck`, `nothing_gets_lost`, `all_is_answered_in_time`)
 #![tactic(auto)]
 
 ghost use Rattle.std.specs.Prelude.{◌≡◌, ◌<◌, ◌≤◌, ◌+◌, ◌*◌, ◌⊎◌, ℕ, List, length};

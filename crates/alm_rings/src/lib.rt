@@ -29,6 +29,12 @@
 //! finds them by their slots: specs/Placed defines the end of a slot, and what it means that no slot has two ends.
 //!
 //! Not covered: that anything sent is ever taken, or anything released ever received.
+//!
+//! Proved:
+//! - what comes out of a ring is a prefix of what went in. A receipt's list reaches its number, and an accepted action
+//!   stands there (by `Inbox::take`, `beside`, `close_slot`, the type `Receipt`)
+//! - `Busy` comes only if 64 are unanswered, the ring knew no place, or serials are spent; other ends fail only if their
+//!   ring knew no item or place (by `Console::send`, `receive`, `Outbox::release`, `SealEnds`, `FetchEnds`)
 #![tactic(auto)]
 
 mod all_slots;

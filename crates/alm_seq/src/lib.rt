@@ -31,6 +31,10 @@
 //! | `waits`, `live` | whether a request of a slot is known to wait; the plant of all accepted actions |
 //!
 //! Not covered: that a slot is ever asked, any order between slots, and time.
+//!
+//! Proved:
+//! - all batches are one legal history of one thread; of each slot they answer the requests taken, each once, in order (by
+//!   `Sequencer::new`, `take`, `seal`, `waits`, `live`, `into_ends`)
 #![tactic(auto)]
 
 mod seal;

@@ -9,6 +9,10 @@
 //! alm_server serve plant.device --port 5000
 //! alm_server serve plant.device --sockets /run/alarms/plant
 //! ```
+//!
+//! Proved:
+//! - the program ends with status 0 and no line, or with a fault's status and line, or a prefix of it if errors can't be
+//!   written (by `print_fault`, `Fault`, `serve_file`, `serve_fault`)
 #![tactic(auto)]
 
 mod process;

@@ -33,6 +33,15 @@
 //!
 //! Not covered: time, and that the k-th receipt answers the k-th request, which the flusher guarantees; here receipts come in
 //! order.
+//!
+//! Proved:
+//! - over any wire, lines are answered in order: an action by the next receipt, a query by one look of that turn, with all
+//!   reported before (by `Session::turn`, `Wire`, `MemWire`, `laws`)
+//! - it reads only when no reply and no line waits; a held action waits only if 64 are unanswered, the ring knew no place,
+//!   or serials are spent (by `Session::turn`)
+//! - a query is out of memory only if a growth was refused, or for more than 131,072 bytes, which no plant that keeps the
+//!   rules needs (by `Session::turn`)
+//! - draining takes all that its ring knows, and says when no request is unanswered (by `drain`)
 #![tactic(auto)]
 
 mod draining;

@@ -24,6 +24,14 @@
 //!
 //! The premise of what is said of images is that the device does what its trait says. Not covered: that memory suffices to open
 //! it, and a device that has failed.
+//!
+//! Proved:
+//! - an answer is what the plant answers, once its action is stored and published; a request is a run of the bench's steps,
+//!   a query a look (by `StackOver::open`, `submit`, `ask`)
+//! - each image holds the plant; once storage has stopped, the plant before, with or without the action that met the stop
+//!   (by `images`, `into_disk`, `backend`)
+//! - it stops only if the device failed, or the last epoch or the slot's serials are spent; a commit takes at most 647
+//!   device calls (by `submit`)
 #![tactic(auto)]
 
 mod exchange;

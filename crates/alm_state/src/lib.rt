@@ -30,6 +30,10 @@
 //!
 //! Not covered: other alarms, who may ask, and the clock itself, whose moment and next stamp are arguments. Whether the plant
 //! admits an action is said by the plant.
+//!
+//! Proved:
+//! - conditions and core states go by their tables; what each action makes of one alarm, or why the alarm refuses it (by
+//!   `detect`, `Core::next`, `outcome_of`, `row_refusal`, `Row::shown`)
 #![tactic(auto)]
 
 mod attributes;

@@ -26,6 +26,10 @@
 //! by each call of a paused store. A commit adds one frame, and a checkpoint that is done leaves the frames that came into it.
 //!
 //! Not covered: that there is room for a batch. A store that keeps its pace has it.
+//!
+//! Proved:
+//! - what a store promises to all above it: each image holds the stored plant or the next one; one write or one sync a step
+//!   (by `Store`)
 #![tactic(auto)]
 
 mod open_fault;

@@ -24,6 +24,10 @@
 //!
 //! What is used above: [`table_of`] gives what the tree that `toml` reads in the text says, or the first thing that is
 //! wrong with it.
+//!
+//! Proved:
+//! - a table file's tree, with defaults, or its first fault; "no TOML" only if TOML's library refuses it for a cause other
+//!   than memory (by `table_of`)
 #![tactic(auto)]
 
 mod alarm;

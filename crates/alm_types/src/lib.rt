@@ -23,6 +23,10 @@
 //!
 //! Not covered: that an alarm with the number of an `AlarmId` exists, which the plant says; that an [`Answer`] is about one
 //! plant, which the call that fills it says. No order between the slots of a [`Request`] is covered either.
+//!
+//! Proved:
+//! - every value is in its range; each maker says exactly when it refuses, and with which of several faults (by
+//!   `Moment::new`, `Reading::new`, `Attr::new`, `Table::new`, `Batch::push`)
 #![tactic(auto)]
 
 mod action;

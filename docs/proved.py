@@ -1,0 +1,73 @@
+#!/usr/bin/env python3
+"""Writes the tables of docs/PROVED.md from the lines under `Proved:` in the root file of each crate.
+
+    docs/proved.py             the page
+    docs/proved.py --write     writes it
+
+A line is a claim, and in brackets the public calls or laws whose contracts carry it.
+"""
+import re
+import sys
+from pathlib import Path
+
+TOP = Path(__file__).resolve().parent.parent
+PAGE = TOP / "docs" / "PROVED.md"
+GROUPS = {
+    "Values, alarms, plants": ["alm_types", "alm_state", "alm_model", "alm_laws", "alm_links", "alm_wheel", "alm_measure", "alm_plant"],
+    "Lines, the desk, the program": ["alm_lines", "alm_desk", "alm_export", "alm_table", "alm_program", "alm_server"],
+    "The device and what is stored": ["alm_disk", "alm_file", "alm_codec", "alm_segment", "alm_checkpoint", "alm_keeper", "alm_store"],
+    "From request to receipt": ["alm_rings", "alm_board", "alm_shared", "alm_seq", "alm_flush"],
+    "One thread": ["alm_pipeline", "alm_bench", "alm_progress", "alm_stack"],
+    "Threads and the server": ["alm_wake", "alm_moments", "alm_threads", "alm_session", "alm_serve"],
+}
+LISTED = re.compile(r"^//! Proved:\n((?://!.*\n)*)", re.MULTILINE)
+CLAIM = re.compile(r"(.*) \(by (.*)\)")
+# Where the tables stand on the page: after the first line and before the second.
+BEGIN, END = "tables from there.\n", "\nThe rows of alm_threads and alm_serve"
+
+
+def root(crate):
+    """The root file of a crate."""
+    source = TOP / "crates" / crate / "src"
+    return next(path for path in (source / "lib.rt", source / "main.rt") if path.exists())
+
+
+def claims(crate):
+    """Each claim of a crate, with what carries it."""
+    listed = LISTED.search(root(crate).read_text(encoding="utf-8"))
+    lines = "" if listed is None else "".join(line.removeprefix("//!") for line in listed[1].split("\n"))
+    for item in lines.split(" - ")[1:]:
+        found = CLAIM.fullmatch(" ".join(item.split()))
+        if found is None:
+            sys.exit(f"proved.py: {crate}: no claim in brackets at the end of: {item}")
+        yield found.groups()
+
+
+def tables():
+    """The tables, each after its title."""
+    unlisted = {path.parent.parent.name for path in TOP.glob("crates/*/src/*.rt") if LISTED.search(path.read_text(encoding="utf-8"))}
+    unlisted -= {crate for crates in GROUPS.values() for crate in crates}
+    if unlisted:
+        sys.exit(f"proved.py: in no group: {', '.join(sorted(unlisted))}")
+    for title, crates in GROUPS.items():
+        yield f"\n**{title}**\n\n| crate | what is proved | by |\n|---|---|---|\n"
+        for crate in crates:
+            yield from (f"| {crate} | {claim} | {by} |\n" for claim, by in claims(crate))
+
+
+def page():
+    """The page, its tables made again."""
+    before, _, rest = PAGE.read_text(encoding="utf-8").partition(BEGIN)
+    _, _, after = rest.partition(END)
+    return before + BEGIN + "".join(tables()) + END + after
+
+
+def main():
+    if sys.argv[1:] == ["--write"]:
+        PAGE.write_text(page(), encoding="utf-8")
+    else:
+        print(page(), end="")
+
+
+if __name__ == "__main__":
+    main()
