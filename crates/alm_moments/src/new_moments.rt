@@ -1,7 +1,7 @@
 //! A history of moments before it has a name.
-ghost use Rattle.std.specs.Prelude.{◌≡◌, ◌↔◌, ℕ, List, []};
-ghost use Rattle.alm_model.specs.Plant.{Condensed};
+ghost use Rattle.std.specs.Prelude.{◌≡◌, []};
 ghost use Rattle.alm_moments.specs.History.{length_word};
+ghost use Rattle.alm_moments.specs.Naming.{IsNamedAfter};
 
 use crate::moment_rule::MomentRule;
 use crate::moments::Moments;
@@ -34,11 +34,7 @@ impl NewMoments {
     pub fn named<J: RunId, K: Store>(self, store: &K) -> (MomentsLength<J>, Moments<J>)
         requires book { self.seen.book ≡ J.moments }
         requires idle { (K.state store.now).phase ≡ Phase.Idle }
-        requires base { J.base ≡ (K.state store.now).stored }
-        requires device { J.first ≡ K.Device.state (K.disk store.now) }
-        requires honest { ∥ (J.honest ↔ K.Device.honest (K.disk store.now)) ∥₁ }
-        requires recovers { ∥ ((b : List ℕ) (p : Condensed) →
-            (J.recovers b p ↔ K.recovers b p)) ∥₁ }
+        requires named { IsNamedAfter J.RunId K.Store K.Device.Disk store.now }
         ensures { result.1 ≡ [] }
     {
         // for the proof: the contract of `images` says what a crash leaves at the first moment

@@ -1,7 +1,6 @@
 //! Serves the slots of a device.
 
-ghost use Rattle.std.specs.Prelude.{◌≡◌, ◌≢◌, ◌↔◌, ◌≤◌, ◌<◌, ℕ, List, decimal, length, map, IfOk, IfErr, Some, None};
-ghost use Rattle.alm_model.specs.Plant.{Condensed};
+ghost use Rattle.std.specs.Prelude.{◌≡◌, ◌≢◌, ◌≤◌, ◌<◌, decimal, length, map, IfOk, IfErr, Some, None};
 ghost use Rattle.alm_lines.specs.Written.{Prints};
 ghost use Rattle.alm_rings.specs.Placed.{AreApart};
 ghost use Rattle.alm_disk.specs.Failures.{HasFailed};
@@ -11,6 +10,7 @@ ghost use Rattle.alm_store.specs.Opening.{HasCause};
 ghost use Rattle.alm_serve.specs.Runs.{AreAllSlots, OpensAndRuns, OpensTo, ServeEnds, RunsTo};
 ghost use Rattle.alm_serve.specs.Serving.{serving_line, stopped_line, ServeWrites};
 ghost use Rattle.alm_types.specs.Sizes.{most_actions, slot_count};
+ghost use Rattle.alm_moments.specs.Naming.{IsNamedAfter};
 
 use crate::listen::Listen;
 use crate::opening::SlotPorts;
@@ -117,10 +117,7 @@ fn run_behind<J: RunId + Send + Sync, K: Store, R: Threads + Wait + Clock + Sync
     ports: SlotPorts,
 ) -> Result<Option<u64>, StartFault>
     requires books { (new.history.seen.book ≡ J.book) × (new.moments.seen.book ≡ J.moments) }
-    requires base { J.base ≡ (K.state store).stored }
-    requires device { J.first ≡ K.Device.state (K.disk store) }
-    requires honest { ∥ (J.honest ↔ K.Device.honest (K.disk store)) ∥₁ }
-    requires recovers { ∥ ((b : List ℕ) (p : Condensed) → (J.recovers b p ↔ K.recovers b p)) ∥₁ }
+    requires named { IsNamedAfter J.RunId K.Store K.Device.Disk store }
     requires idle { (K.state store).phase ≡ Phase.Idle }
     requires limit { (K.state store).stored.panel.count ≤ most_actions }
     requires slots { AreAllSlots slots.items }
@@ -153,10 +150,7 @@ fn serve_over<
     writer: &mut W,
 ) -> Result<u64, ServeFault>
     requires books { (new.history.seen.book ≡ J.book) × (new.moments.seen.book ≡ J.moments) }
-    requires base { J.base ≡ (K.state store).stored }
-    requires device { J.first ≡ K.Device.state (K.disk store) }
-    requires honest { ∥ (J.honest ↔ K.Device.honest (K.disk store)) ∥₁ }
-    requires recovers { ∥ ((b : List ℕ) (p : Condensed) → (J.recovers b p ↔ K.recovers b p)) ∥₁ }
+    requires named { IsNamedAfter J.RunId K.Store K.Device.Disk store }
     requires idle { (K.state store).phase ≡ Phase.Idle }
     requires limit { (K.state store).stored.panel.count ≤ most_actions }
     ensures writes { ServeWrites

@@ -2,6 +2,7 @@ pub mod Answered
 pub mod Histories
 pub mod Moments
 pub mod Outages
+pub mod Parts
 pub mod Runs
 pub mod Same
 pub mod Serving

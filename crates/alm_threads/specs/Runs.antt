@@ -3,6 +3,7 @@ use Rattle.std.specs.Prelude.{◌≡◌, ◌≤◌, ◌+◌, ◌-◌, ◌^◌, �
 use mathlib.Core.List.{IsPrefix}
 use Rattle.alm_types.specs.declared.action.Action.{Action}
 use Rattle.alm_types.specs.declared.entry.Entry.{Entry}
+use Rattle.alm_disk.specs.declared.disk.Disk
 use Rattle.alm_model.specs.Plant.{Condensed}
 use Rattle.alm_model.specs.Judging.{IsLegal, accepted_of, of_slot}
 use Rattle.alm_model.specs.Step.{run}
@@ -13,6 +14,10 @@ use Rattle.alm_rings.specs.declared.slot_report.SlotReport.{SlotReport}
 use Rattle.alm_rings.specs.declared.told.Told.{Ghosts}
 use Rattle.alm_rings.specs.Ends.{sent_of, received_of}
 use Rattle.alm_rings.specs.Placed.{taken_by, released_by}
+use Rattle.alm_store.specs.declared.store.Store
+use Rattle.alm_threads.specs.declared.report.RunReport.{RunReport}
+use Rattle.alm_threads.specs.Histories.{LeavesOneOf}
+use Rattle.alm_threads.specs.Moments.{Endures}
 
 -- how many requests of a slot were sent, and how many of them taken; how many receipts were released, and how many of them
 -- received
@@ -54,3 +59,10 @@ pub record IsServerRun (leaves : Condensed → Condensed → Type 0) (endures : 
   pub course : endures (accepted_of entries) (base.panel.count + length (accepted_of told))
   pub count : length reports ≡ length slots
   pub each : (k s : ℕ) → slice_get slots k ≡ Some s → (sent received : ℕ) × HasReport reports k sent (length (of_slot s entries)) (length (of_slot s told)) received
+
+module _ {K D : Type 0} (k : Store.Ghosts K D) (d : Disk.Ghosts D) where
+  -- a run of these slots over this store, by its report
+  abbrev pub IsRunOver : K → (slots : List ℕ) → RunReport K D k d → Type 0
+  IsRunOver store slots report = IsServerRun (LeavesOneOf (d.honest (k.disk store)) (d.honest (k.disk report.keeper)) k.recovers (d.state (k.disk report.keeper)))
+      (Endures (d.honest (k.disk store)) k.recovers (k.state store).stored (d.state (k.disk store)) (d.state (k.disk report.keeper)))
+      (k.state store).stored slots (k.state report.keeper).stored report.slots.items

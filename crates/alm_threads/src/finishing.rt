@@ -1,10 +1,9 @@
 //! The flusher from its parts.
-ghost use Rattle.std.specs.Prelude.{◌≡◌, ◌↔◌, ℕ, List, []};
-ghost use Rattle.alm_model.specs.Plant.{Condensed};
-ghost use Rattle.alm_rings.specs.Batches.{SameFetchEnds, fetched_of};
-ghost use Rattle.alm_rings.specs.Placed.{AreApart, SameOutboxAt, outbox_at, released_by};
-ghost use Rattle.alm_threads.specs.Histories.{Flushed, LeavesOneOf};
-ghost use Rattle.alm_threads.specs.Moments.{Endures};
+ghost use Rattle.std.specs.Prelude.{◌≡◌, ℕ, []};
+ghost use Rattle.alm_rings.specs.Batches.{fetched_of};
+ghost use Rattle.alm_rings.specs.Placed.{AreApart, released_by};
+ghost use Rattle.alm_threads.specs.Parts.{AreFlushed};
+ghost use Rattle.alm_moments.specs.Naming.{IsNamedAfter};
 
 use crate::closes::Closes;
 use crate::flusher_parts::FlusherParts;
@@ -42,21 +41,9 @@ pub fn run_flusher<
     requires stored { (K.state parts.store).stored ≡ B.Board.base board }
     requires published { B.Board.published board ≡ [] }
     requires pending { B.Board.pending board ≡ [] }
-    requires base { J.base ≡ B.Board.base board }
-    requires device { J.first ≡ K.Device.state (K.disk parts.store) }
-    requires honest { ∥ (J.honest ↔ K.Device.honest (K.disk parts.store)) ∥₁ }
-    requires recovers { ∥ ((b : List ℕ) (p : Condensed) → (J.recovers b p ↔ K.recovers b p)) ∥₁ }
+    requires named { IsNamedAfter J.RunId K.Store K.Device.Disk parts.store }
     requires moments { moments ≡ [] }
-    ensures outboxes { (s : ℕ) →
-        SameOutboxAt (outbox_at s parts.outboxes.items) (outbox_at s result.outboxes.items) }
-    ensures fetch { SameFetchEnds parts.fetch result.fetch }
-    ensures flushed { Flushed
-        (LeavesOneOf (K.Device.honest (K.disk parts.store)) (K.Device.honest (K.disk result.store))
-        K.recovers (K.Device.state (K.disk result.store)))
-        (Endures (K.Device.honest (K.disk parts.store)) K.recovers (K.state parts.store).stored
-        (K.Device.state (K.disk parts.store)) (K.Device.state (K.disk result.store)))
-        (K.state parts.store).stored (K.state result.store).stored result.outboxes.items
-        result.fetch }
+    ensures { AreFlushed K.Store K.Device.Disk parts result }
 {
     let FlusherParts {
         store,

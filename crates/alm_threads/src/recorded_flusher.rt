@@ -6,6 +6,7 @@ ghost use Rattle.alm_rings.specs.Batches.{fetched_of};
 ghost use Rattle.alm_flush.specs.HeldBatch.{stored_of};
 ghost use Rattle.alm_moments.specs.Moments.{moment_of, now_of};
 ghost use Rattle.alm_threads.specs.Moments.{RunMoment, FollowUpTo, IsSafeAt, at_first, at_moment};
+ghost use Rattle.alm_moments.specs.Naming.{IsNamedAfter};
 
 use alm_board::{Board, Publish};
 use alm_flush::{Advance, Fetch, Flusher, Publishes, Release};
@@ -47,7 +48,6 @@ pub struct RecordedFlusher<K: Store, T: Told + Drop, B: Board<Told = T>, J: RunI
 
 impl<K: Store, T: Told + Drop, B: Board<Told = T>, J: RunId> RecordedFlusher<K, T, B, J> {
     ghost use Rattle.std.specs.Prelude.{◌≡◌, ◌↔◌, ◌+◌, ◌≤◌, [], ℕ, List, slice_get, Some};
-    ghost use Rattle.alm_model.specs.Plant.{Condensed};
     ghost use Rattle.alm_rings.specs.Batches.{SameFetchEnds};
     ghost use Rattle.alm_rings.specs.Placed.{AreApart, SameOutboxAt, outbox_at, released_by};
     ghost use Rattle.alm_flush.specs.HeldBatch.{next_entry_of};
@@ -69,11 +69,7 @@ impl<K: Store, T: Told + Drop, B: Board<Told = T>, J: RunId> RecordedFlusher<K, 
         requires stored { (K.state store).stored ≡ B.base board }
         requires published { B.published board ≡ [] }
         requires pending { B.pending board ≡ [] }
-        requires base { J.base ≡ B.base board }
-        requires device { J.first ≡ K.Device.state (K.disk store) }
-        requires honest { ∥ (J.honest ↔ K.Device.honest (K.disk store)) ∥₁ }
-        requires recovers { ∥ ((b : List ℕ) (p : Condensed) →
-            (J.recovers b p ↔ K.recovers b p)) ∥₁ }
+        requires named { IsNamedAfter J.RunId K.Store K.Device.Disk store }
         requires moments { moments ≡ [] }
         ensures parts { (result.flusher.store ≡ store) × (result.flusher.board ≡ board) ×
             (result.flusher.outboxes ≡ outboxes) × (result.flusher.fetch ≡ fetch) }

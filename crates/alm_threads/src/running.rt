@@ -1,15 +1,12 @@
 //! A run.
 ghost use Rattle.std.specs.Prelude.{◌≡◌, ◌≢◌, ◌↔◌, ◌≤◌, ℕ, [], length, map, slice_get, Some, vec_len, vec_capacity, IfOk, IsTrue};
 ghost use mathlib.Core.List.{IsPrefix};
-ghost use Rattle.alm_rings.specs.Batches.{AreBatchEnds, SameSealEnds, SameFetchEnds, fetched_of, sealed_of};
-ghost use Rattle.alm_rings.specs.Placed.{AreApart, SameOutboxAt, outbox_at};
-ghost use Rattle.alm_seq.specs.Sequences.{SameInboxes};
-ghost use Rattle.alm_threads.specs.Histories.{JudgesAll, Flushed, LeavesOneOf};
-ghost use Rattle.alm_threads.specs.Moments.{Endures};
-ghost use Rattle.alm_threads.specs.Same.{AllSame};
-ghost use Rattle.alm_threads.specs.Serving.{ServesSlots};
+ghost use Rattle.alm_rings.specs.Batches.{AreBatchEnds, fetched_of, sealed_of};
+ghost use Rattle.alm_rings.specs.Placed.{AreApart};
 ghost use Rattle.alm_threads.specs.Answered.{AllAnswered, IsSlotAnswered};
-ghost use Rattle.alm_threads.specs.Runs.{AreClosed, IsServerRun};
+ghost use Rattle.alm_threads.specs.Parts.{AreBack};
+ghost use Rattle.alm_threads.specs.Runs.{AreClosed, IsRunOver};
+ghost use Rattle.alm_threads.specs.Serving.{ServesSlots};
 ghost use Rattle.alm_threads.specs.Slots.{AreTied};
 
 use crate::closes::Closes;
@@ -76,27 +73,9 @@ where
     requires base { (K.state middle.flusher.store).stored ≡ B.Board.base board }
     requires fresh { (B.Board.published board ≡ []) × (B.Board.pending board ≡ []) }
     requires room { (room.items ≡ []) × (vec_len slot_parts ≤ vec_capacity room) }
-    ensures consoles { IfOk result
-        (λ e. AllSame (map (λ p. p.console) slot_parts.items) e.consoles.items) }
-    ensures rings { IfOk result
-        (λ e. SameInboxes middle.rings.inboxes.items e.rings.inboxes.items ×
-        SameSealEnds middle.rings.ends e.rings.ends) }
-    ensures outboxes { IfOk result
-        (λ e. (s : ℕ) →
-        SameOutboxAt (outbox_at s middle.flusher.outboxes.items)
-        (outbox_at s e.flusher.outboxes.items)) }
-    ensures fetches { IfOk result (λ e. SameFetchEnds middle.flusher.fetch e.flusher.fetch) }
-    ensures judged { IfOk result
-        (λ e. JudgesAll (K.state middle.flusher.store).stored e.rings.inboxes.items e.rings.ends) }
-    ensures flushed { IfOk result
-        (λ e. Flushed
-        (LeavesOneOf (K.Device.honest (K.disk middle.flusher.store))
-        (K.Device.honest (K.disk e.flusher.store)) K.recovers
-        (K.Device.state (K.disk e.flusher.store)))
-        (Endures (K.Device.honest (K.disk middle.flusher.store)) K.recovers
-        (K.state middle.flusher.store).stored (K.Device.state (K.disk middle.flusher.store))
-        (K.Device.state (K.disk e.flusher.store))) (K.state middle.flusher.store).stored
-        (K.state e.flusher.store).stored e.flusher.outboxes.items e.flusher.fetch) }
+    ensures { IfOk result
+        (λ e. AreBack K.Store K.Device.Disk (map (λ p. p.console) slot_parts.items) middle.rings
+        middle.flusher e) }
 {
     let Middle {
         plant,
@@ -226,27 +205,9 @@ fn in_scope<
     requires base { (K.state middle.flusher.store).stored ≡ B.Board.base board }
     requires fresh { (B.Board.published board ≡ []) × (B.Board.pending board ≡ []) }
     requires room { (room.items ≡ []) × (vec_len slot_parts ≤ vec_capacity room) }
-    ensures consoles { IfOk result
-        (λ e. AllSame (map (λ p. p.console) slot_parts.items) e.consoles.items) }
-    ensures rings { IfOk result
-        (λ e. SameInboxes middle.rings.inboxes.items e.rings.inboxes.items ×
-        SameSealEnds middle.rings.ends e.rings.ends) }
-    ensures outboxes { IfOk result
-        (λ e. (s : ℕ) →
-        SameOutboxAt (outbox_at s middle.flusher.outboxes.items)
-        (outbox_at s e.flusher.outboxes.items)) }
-    ensures fetches { IfOk result (λ e. SameFetchEnds middle.flusher.fetch e.flusher.fetch) }
-    ensures judged { IfOk result
-        (λ e. JudgesAll (K.state middle.flusher.store).stored e.rings.inboxes.items e.rings.ends) }
-    ensures flushed { IfOk result
-        (λ e. Flushed
-        (LeavesOneOf (K.Device.honest (K.disk middle.flusher.store))
-        (K.Device.honest (K.disk e.flusher.store)) K.recovers
-        (K.Device.state (K.disk e.flusher.store)))
-        (Endures (K.Device.honest (K.disk middle.flusher.store)) K.recovers
-        (K.state middle.flusher.store).stored (K.Device.state (K.disk middle.flusher.store))
-        (K.Device.state (K.disk e.flusher.store))) (K.state middle.flusher.store).stored
-        (K.state e.flusher.store).stored e.flusher.outboxes.items e.flusher.fetch) }
+    ensures { IfOk result
+        (λ e. AreBack K.Store K.Device.Disk (map (λ p. p.console) slot_parts.items) middle.rings
+        middle.flusher e) }
 {
     let closing = ClosingBoard::new(board, rt);
     thread::scope(
@@ -258,22 +219,8 @@ fn in_scope<
                 (B.Board.published closing.board ≡ []) × (B.Board.pending closing.board ≡ []) ×
                 (room.items ≡ []) × (vec_len slot_parts ≤ vec_capacity room) }
             ensures { IfOk result
-                (λ e. AllSame (map (λ p. p.console) slot_parts.items) e.consoles.items ×
-                SameInboxes middle.rings.inboxes.items e.rings.inboxes.items ×
-                SameSealEnds middle.rings.ends e.rings.ends ×
-                ((s : ℕ) →
-                SameOutboxAt (outbox_at s middle.flusher.outboxes.items)
-                (outbox_at s e.flusher.outboxes.items)) ×
-                SameFetchEnds middle.flusher.fetch e.flusher.fetch ×
-                JudgesAll (K.state middle.flusher.store).stored e.rings.inboxes.items e.rings.ends ×
-                Flushed
-                (LeavesOneOf (K.Device.honest (K.disk middle.flusher.store))
-                (K.Device.honest (K.disk e.flusher.store)) K.recovers
-                (K.Device.state (K.disk e.flusher.store)))
-                (Endures (K.Device.honest (K.disk middle.flusher.store)) K.recovers
-                (K.state middle.flusher.store).stored (K.Device.state (K.disk middle.flusher.store))
-                (K.Device.state (K.disk e.flusher.store))) (K.state middle.flusher.store).stored
-                (K.state e.flusher.store).stored e.flusher.outboxes.items e.flusher.fetch) }
+                (λ e. AreBack K.Store K.Device.Disk (map (λ p. p.console) slot_parts.items)
+                middle.rings middle.flusher e) }
         {
             run_all(
                 scope,
@@ -347,14 +294,7 @@ pub fn run_with_bells<
     requires place { (k n : ℕ) (s : _) → slice_get sources.items k ≡ Some s → S.slot s ≡ Some n →
         slice_get parts.slots.items k ≡ Some n }
     ensures run { IfOk result
-        (λ report. IsServerRun
-        (LeavesOneOf (K.Device.honest (K.disk parts.middle.flusher.store))
-        (K.Device.honest (K.disk report.keeper)) K.recovers (K.Device.state (K.disk report.keeper)))
-        (Endures (K.Device.honest (K.disk parts.middle.flusher.store)) K.recovers
-        (K.state parts.middle.flusher.store).stored
-        (K.Device.state (K.disk parts.middle.flusher.store))
-        (K.Device.state (K.disk report.keeper))) (K.state parts.middle.flusher.store).stored
-        parts.slots.items (K.state report.keeper).stored report.slots.items) }
+        (IsRunOver K.Store K.Device.Disk parts.middle.flusher.store parts.slots.items) }
 {
     let Ok(
         Room {
@@ -403,14 +343,7 @@ pub fn run_threads<
     requires place { (k n : ℕ) (s : _) → slice_get sources.items k ≡ Some s → S.slot s ≡ Some n →
         slice_get parts.slots.items k ≡ Some n }
     ensures run { IfOk result
-        (λ report. IsServerRun
-        (LeavesOneOf (K.Device.honest (K.disk parts.middle.flusher.store))
-        (K.Device.honest (K.disk report.keeper)) K.recovers (K.Device.state (K.disk report.keeper)))
-        (Endures (K.Device.honest (K.disk parts.middle.flusher.store)) K.recovers
-        (K.state parts.middle.flusher.store).stored
-        (K.Device.state (K.disk parts.middle.flusher.store))
-        (K.Device.state (K.disk report.keeper))) (K.state parts.middle.flusher.store).stored
-        parts.slots.items (K.state report.keeper).stored report.slots.items) }
+        (IsRunOver K.Store K.Device.Disk parts.middle.flusher.store parts.slots.items) }
 {
     let Ok(mut bells) = Vec::with_capacity(alloc, sources.len()) else {
         drop(parts.close(rt));

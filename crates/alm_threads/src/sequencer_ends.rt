@@ -14,11 +14,7 @@ pub struct SequencerEnds<P: Alarms + Drop> {
 }
 
 impl<P: Alarms + Drop> Promise<Rings> for SequencerEnds<P> {
-    ghost use Rattle.alm_rings.specs.Batches.{SameSealEnds};
-    ghost use Rattle.alm_seq.specs.Sequences.{SameInboxes};
-    ghost use Rattle.alm_threads.specs.Histories.{JudgesAll};
+    ghost use Rattle.alm_threads.specs.Parts.{AreJudged};
 
-    ghost kept_by = { λ p r. SameInboxes p.rings.value.inboxes.items r.inboxes.items ×
-        SameSealEnds p.rings.value.ends r.ends ×
-        JudgesAll (P.plant p.plant.value) r.inboxes.items r.ends };
+    ghost kept_by = { λ p r. AreJudged (P.plant p.plant.value) p.rings.value r };
 }

@@ -1,11 +1,6 @@
 //! Starts the sequencer's thread from its parts.
-ghost use Rattle.std.specs.Prelude.{◌≡◌, ℕ, ◌<◌, ◌≤◌, [], length, IfOk};
-ghost use Rattle.alm_rings.specs.Batches.{SameSealEnds, sealed_of, empties_in};
-ghost use Rattle.alm_rings.specs.Placed.{AreApart, taken_by};
-ghost use Rattle.alm_seq.specs.Sequences.{SameInboxes};
-ghost use Rattle.alm_threads.specs.Histories.{JudgesAll};
-ghost use Rattle.alm_threads.specs.Serving.{ServesSlots};
-ghost use Rattle.alm_types.specs.Sizes.{most_actions};
+ghost use Rattle.std.specs.Prelude.{◌≡◌, IfOk};
+ghost use Rattle.alm_threads.specs.Parts.{AreFresh, AreJudged};
 
 use crate::rings::Rings;
 use crate::sequencer_ends::SequencerEnds;
@@ -30,15 +25,8 @@ pub fn run_sequencer<P: Alarms + Drop, B: Bell + Drop, H: Hold, R: Wait + Clock>
     plant: P,
     rings: Rings,
 ) -> Rings
-    requires apart { AreApart (λ i. i.slot) rings.inboxes.items }
-    requires taken { (s : ℕ) → taken_by s rings.inboxes.items ≡ [] }
-    requires sealed { sealed_of rings.ends ≡ [] }
-    requires empties { 0 < length (empties_in rings.ends) }
-    requires count { (P.plant plant).panel.count ≤ most_actions }
-    requires serves { ServesSlots slots.now rings.inboxes.items }
-    ensures inboxes { SameInboxes rings.inboxes.items result.inboxes.items }
-    ensures ends { SameSealEnds rings.ends result.ends }
-    ensures judged { JudgesAll (P.plant plant) result.inboxes.items result.ends }
+    requires { AreFresh slots.now (P.plant plant) rings }
+    ensures { AreJudged (P.plant plant) rings result }
 {
     let Rings { inboxes, ends } = rings;
     let sequencer = Sequencer::new(plant, inboxes, ends);
@@ -70,12 +58,7 @@ where
     P: 's,
     B: 's,
     H: 's,
-    requires apart { AreApart (λ i. i.slot) rings.inboxes.items }
-    requires taken { (s : ℕ) → taken_by s rings.inboxes.items ≡ [] }
-    requires sealed { sealed_of rings.ends ≡ [] }
-    requires empties { 0 < length (empties_in rings.ends) }
-    requires count { (P.plant plant).panel.count ≤ most_actions }
-    requires serves { ServesSlots slots.now.items rings.inboxes.items }
+    requires { AreFresh slots.now.items (P.plant plant) rings }
     ensures { IfOk result
         (λ handle. (handle.promise.rings.value ≡ rings) × (handle.promise.plant.value ≡ plant)) }
 {
@@ -86,14 +69,8 @@ where
     match scope.spawn_with(
         promise,
         move || -> Rings
-            requires { AreApart (λ i. i.slot) rings.inboxes.items ×
-                ((s : ℕ) → taken_by s rings.inboxes.items ≡ []) × (sealed_of rings.ends ≡ []) ×
-                (0 < length (empties_in rings.ends)) ×
-                ((P.plant plant).panel.count ≤ most_actions) ×
-                ServesSlots slots.now.items rings.inboxes.items }
-            ensures { SameInboxes rings.inboxes.items result.inboxes.items ×
-                SameSealEnds rings.ends result.ends ×
-                JudgesAll (P.plant plant) result.inboxes.items result.ends }
+            requires { AreFresh slots.now.items (P.plant plant) rings }
+            ensures { AreJudged (P.plant plant) rings result }
         { run_sequencer(rt, flags, slots.as_slice(), hold, plant, rings) },
     ) {
         Ok(handle) => Ok(handle),

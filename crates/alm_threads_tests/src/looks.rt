@@ -1,6 +1,6 @@
 //! Looks at a shared board whose owner has ended.
-ghost use Rattle.std.specs.Prelude.{◌≡◌, ◌↔◌, ℕ, List};
-ghost use Rattle.alm_model.specs.Plant.{Condensed};
+ghost use Rattle.std.specs.Prelude.{◌≡◌};
+ghost use Rattle.alm_moments.specs.Naming.{IsNamedAfter};
 
 use crate::devices::formatted;
 use alm_board::Look;
@@ -56,10 +56,7 @@ fn answered_in_turn<J: RunId, K: Store, R: Wait>(
     store: K,
 ) -> Option<(usize, usize)>
     requires books { (new.history.seen.book ≡ J.book) × (new.moments.seen.book ≡ J.moments) }
-    requires base { J.base ≡ (K.state store).stored }
-    requires device { J.first ≡ K.Device.state (K.disk store) }
-    requires honest { ∥ (J.honest ↔ K.Device.honest (K.disk store)) ∥₁ }
-    requires recovers { ∥ ((b : List ℕ) (p : Condensed) → (J.recovers b p ↔ K.recovers b p)) ∥₁ }
+    requires named { IsNamedAfter J.RunId K.Store K.Device.Disk store }
     requires idle { (K.state store).phase ≡ Phase.Idle }
 {
     let NewRun { history, moments } = new;

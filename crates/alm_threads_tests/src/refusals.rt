@@ -1,7 +1,7 @@
 //! Publishes that are refused: the flusher's thread tries one a thousand times.
 
-ghost use Rattle.std.specs.Prelude.{◌≡◌, ◌↔◌, ℕ, List};
-ghost use Rattle.alm_model.specs.Plant.{Condensed};
+ghost use Rattle.std.specs.Prelude.{◌≡◌};
+ghost use Rattle.alm_moments.specs.Naming.{IsNamedAfter};
 
 use crate::devices::formatted;
 use alm_board::{Board, PlainBoard, PlainTold, Publish, Voucher};
@@ -82,10 +82,7 @@ fn told_behind<J: RunId, K: Store, R: Wait>(
     refusals: u64,
 ) -> Option<(Option<u64>, bool)>
     requires book { new.seen.book ≡ J.moments }
-    requires base { J.base ≡ (K.state store).stored }
-    requires device { J.first ≡ K.Device.state (K.disk store) }
-    requires honest { ∥ (J.honest ↔ K.Device.honest (K.disk store)) ∥₁ }
-    requires recovers { ∥ ((b : List ℕ) (p : Condensed) → (J.recovers b p ↔ K.recovers b p)) ∥₁ }
+    requires named { IsNamedAfter J.RunId K.Store K.Device.Disk store }
     requires idle { (K.state store).phase ≡ Phase.Idle }
 {
     let (recorder, moments) = new.named::<J, K>(&store);

@@ -1,9 +1,9 @@
 //! Out of memory on the board that threads share: run with each allocation refused in turn (`rt try --test --fail-alloc N`), the
 //! test of this module passes. One is refused at most, so the publish that was refused succeeds the second time.
 
-ghost use Rattle.std.specs.Prelude.{◌≡◌, ◌↔◌, ◌≤◌, ℕ, List};
-ghost use Rattle.alm_model.specs.Plant.{Condensed};
+ghost use Rattle.std.specs.Prelude.{◌≡◌, ◌≤◌};
 ghost use Rattle.alm_types.specs.Sizes.{most_actions};
+ghost use Rattle.alm_moments.specs.Naming.{IsNamedAfter};
 
 use crate::all_slots::all_slots;
 use crate::devices::formatted;
@@ -144,10 +144,7 @@ fn course_over<J: RunId, K: Store, R: Wait>(
     store: K,
 ) -> Option<Course>
     requires books { (new.history.seen.book ≡ J.book) × (new.moments.seen.book ≡ J.moments) }
-    requires base { J.base ≡ (K.state store).stored }
-    requires device { J.first ≡ K.Device.state (K.disk store) }
-    requires honest { ∥ (J.honest ↔ K.Device.honest (K.disk store)) ∥₁ }
-    requires recovers { ∥ ((b : List ℕ) (p : Condensed) → (J.recovers b p ↔ K.recovers b p)) ∥₁ }
+    requires named { IsNamedAfter J.RunId K.Store K.Device.Disk store }
     requires idle { (K.state store).phase ≡ Phase.Idle }
     requires limit { (K.state store).stored.panel.count ≤ most_actions }
 {

@@ -1,9 +1,9 @@
 //! What a hold is informed of looks, and what a look answers after the end of its board.
 
-ghost use Rattle.std.specs.Prelude.{◌≡◌, ◌↔◌, ◌<◌, ◌≤◌, ◌^◌, ℕ, List, length};
-ghost use Rattle.alm_model.specs.Plant.{Condensed};
+ghost use Rattle.std.specs.Prelude.{◌≡◌, ◌<◌, ◌≤◌, ◌^◌, length};
 ghost use Rattle.alm_rings.specs.Placed.{AreApart};
 ghost use Rattle.alm_types.specs.Sizes.{most_actions};
+ghost use Rattle.alm_moments.specs.Naming.{IsNamedAfter};
 
 use crate::all_slots::all_slots;
 use crate::devices::formatted;
@@ -70,10 +70,7 @@ fn answers_over<J: RunId, K: Store, R: Wait>(
     hold: &Noted,
 ) -> Option<Answers>
     requires books { (new.history.seen.book ≡ J.book) × (new.moments.seen.book ≡ J.moments) }
-    requires base { J.base ≡ (K.state store).stored }
-    requires device { J.first ≡ K.Device.state (K.disk store) }
-    requires honest { ∥ (J.honest ↔ K.Device.honest (K.disk store)) ∥₁ }
-    requires recovers { ∥ ((b : List ℕ) (p : Condensed) → (J.recovers b p ↔ K.recovers b p)) ∥₁ }
+    requires named { IsNamedAfter J.RunId K.Store K.Device.Disk store }
     requires idle { (K.state store).phase ≡ Phase.Idle }
     requires limit { (K.state store).stored.panel.count ≤ most_actions }
     requires some { (0 < length slots.items) × (length slots.items < 2 ^ 32) }

@@ -1,16 +1,16 @@
 use Rattle.alm_threads.proofs.opening.parts_of.Goals as goal
 
 pub invariant_of-result-clause-base : goal.invariant_of-result-clause-base
-invariant_of-result-clause-base g c = c.requires.base
+invariant_of-result-clause-base g c = c.requires.named.base
 
 pub invariant_of-result-clause-device : goal.invariant_of-result-clause-device
-invariant_of-result-clause-device g c = c.requires.device
+invariant_of-result-clause-device g c = c.requires.named.device
 
 pub invariant_of-result-clause-honest : goal.invariant_of-result-clause-honest
-invariant_of-result-clause-honest g c = c.requires.honest
+invariant_of-result-clause-honest g c = c.requires.named.honest
 
 pub invariant_of-result-clause-recovers : goal.invariant_of-result-clause-recovers
-invariant_of-result-clause-recovers g c = c.requires.recovers
+invariant_of-result-clause-recovers g c = c.requires.named.recovers
 
 pub invariant_of-result-clause-none : goal.invariant_of-result-clause-none
 invariant_of-result-clause-none g c = c.named-recorder.ensures

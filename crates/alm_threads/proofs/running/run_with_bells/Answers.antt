@@ -24,15 +24,15 @@ pub report_of-requires-clause-apart : goal.report_of-requires-clause-apart
 report_of-requires-clause-apart g c =
     let p = c.args.parts in
     let back = c.in_ok-ends.ends.consoles.items in
-    let all = subst (λ cs. AllSame cs back) c.slot_parts_of-slot_parts.ensures.consoles c.in_ok-ends.ensures.consoles in
+    let all = subst (λ cs. AllSame cs back) c.slot_parts_of-slot_parts.ensures.consoles c.in_ok-ends.ensures.same in
     apart_by (λ (x : Console _ _). x.slot) back p.slots.items (same_slots p.consoles.items back all ∙ p.order) p.apart
 
 pub report_of-requires-clause-tied : goal.report_of-requires-clause-tied
 report_of-requires-clause-tied g c =
     let p = c.args.parts in
     let e = c.in_ok-ends.ends in
-    let all = subst (λ cs. AllSame cs e.consoles.items) c.slot_parts_of-slot_parts.ensures.consoles c.in_ok-ends.ensures.consoles in
-    tied_still p.consoles.items e.consoles.items p.middle.rings.inboxes.items e.rings.inboxes.items p.middle.flusher.outboxes.items e.flusher.outboxes.items all c.in_ok-ends.ensures.rings.0 c.in_ok-ends.ensures.outboxes (record {
+    let all = subst (λ cs. AllSame cs e.consoles.items) c.slot_parts_of-slot_parts.ensures.consoles c.in_ok-ends.ensures.same in
+    tied_still p.consoles.items e.consoles.items p.middle.rings.inboxes.items e.rings.inboxes.items p.middle.flusher.outboxes.items e.flusher.outboxes.items all c.in_ok-ends.ensures.judged.inboxes c.in_ok-ends.ensures.flushed.outboxes (record {
       has_inbox = p.inboxes;
       has_outbox = p.outboxes;
       requests = p.requests;
@@ -43,7 +43,7 @@ pub report_of-requires-clause-room : goal.report_of-requires-clause-room
 report_of-requires-clause-room g c =
     let p = c.args.parts in
     let back = c.in_ok-ends.ends.consoles in
-    let all = subst (λ cs. AllSame cs back.items) c.slot_parts_of-slot_parts.ensures.consoles c.in_ok-ends.ensures.consoles in
+    let all = subst (λ cs. AllSame cs back.items) c.slot_parts_of-slot_parts.ensures.consoles c.in_ok-ends.ensures.same in
     let order = same_slots p.consoles.items back.items all ∙ p.order in
     (c.in-Ok.ensures.reports.0, omega (arith, c.in-Ok.ensures.reports.1, c.len.ensures, back.ok, p.slots.ok, map_count (λ (x : Console _ _). x.slot) back.items, ap length order))
 
@@ -52,32 +52,32 @@ returns g c =
     let p = c.args.parts in
     let e = c.in_ok-ends.ends in
     let f = c.in_ok-ends.ensures in
-    let all = subst (λ cs. AllSame cs e.consoles.items) c.slot_parts_of-slot_parts.ensures.consoles f.consoles in
+    let all = subst (λ cs. AllSame cs e.consoles.items) c.slot_parts_of-slot_parts.ensures.consoles f.same in
     let order = same_slots p.consoles.items e.consoles.items all ∙ p.order in
-    let entries = f.judged.entries in
+    let entries = f.judged.judged.entries in
     let fetched = fetched_of e.flusher.fetch in
     let sealed = sealed_of e.rings.ends in
     let reports = c.report_of.result.slots.items in
     record {
       run = record {
         entries = entries;
-        legal = f.judged.legal;
-        kept = f.flushed.kept;
-        front = front_on f.flushed.kept (entries_in fetched) entries f.flushed.fetched (front_on (entries_in fetched) (entries_in sealed) entries (entries_front fetched sealed c.report_of.ensures.fetched) f.judged.sealed);
-        stored_is = ap (λ k. (g.K.Store.state k).stored) c.report_of.ensures.keeper ∙ f.flushed.stored_is;
-        waiting = f.flushed.waiting;
-        ahead = front_on (f.flushed.kept ++ f.flushed.waiting) (entries_in fetched) entries f.flushed.ahead (front_on (entries_in fetched) (entries_in sealed) entries (entries_front fetched sealed c.report_of.ensures.fetched) f.judged.sealed);
-        device = subst (λ (k : _). LeavesOneOf (g.K.Device.Disk.honest (g.K.Store.disk p.middle.flusher.store)) (g.K.Device.Disk.honest (g.K.Store.disk k)) g.K.Store.recovers (g.K.Device.Disk.state (g.K.Store.disk k)) (g.K.Store.state k).stored (run (g.K.Store.state k).stored (accepted_of f.flushed.waiting)))
-            (sym c.report_of.ensures.keeper) f.flushed.device;
-        told = f.flushed.told;
-        within = f.flushed.within;
+        legal = f.judged.judged.legal;
+        kept = f.flushed.flushed.kept;
+        front = front_on f.flushed.flushed.kept (entries_in fetched) entries f.flushed.flushed.fetched (front_on (entries_in fetched) (entries_in sealed) entries (entries_front fetched sealed c.report_of.ensures.fetched) f.judged.judged.sealed);
+        stored_is = ap (λ k. (g.K.Store.state k).stored) c.report_of.ensures.keeper ∙ f.flushed.flushed.stored_is;
+        waiting = f.flushed.flushed.waiting;
+        ahead = front_on (f.flushed.flushed.kept ++ f.flushed.flushed.waiting) (entries_in fetched) entries f.flushed.flushed.ahead (front_on (entries_in fetched) (entries_in sealed) entries (entries_front fetched sealed c.report_of.ensures.fetched) f.judged.judged.sealed);
+        device = subst (λ (k : _). LeavesOneOf (g.K.Device.Disk.honest (g.K.Store.disk p.middle.flusher.store)) (g.K.Device.Disk.honest (g.K.Store.disk k)) g.K.Store.recovers (g.K.Device.Disk.state (g.K.Store.disk k)) (g.K.Store.state k).stored (run (g.K.Store.state k).stored (accepted_of f.flushed.flushed.waiting)))
+            (sym c.report_of.ensures.keeper) f.flushed.flushed.device;
+        told = f.flushed.flushed.told;
+        within = f.flushed.flushed.within;
         course = endures_on g.K.Store.recovers (g.K.Store.state p.middle.flusher.store).stored (g.K.Device.Disk.honest (g.K.Store.disk p.middle.flusher.store)) (g.K.Device.Disk.state (g.K.Store.disk p.middle.flusher.store)) (g.K.Device.Disk.state (g.K.Store.disk e.flusher.store)) (g.K.Device.Disk.state (g.K.Store.disk c.report_of.result.keeper)) (accepted_of (entries_in fetched)) (accepted_of entries) _
-            (ap (λ k. g.K.Device.Disk.state (g.K.Store.disk k)) (sym c.report_of.ensures.keeper)) (accepted_prefix (entries_in fetched) entries (front_on (entries_in fetched) (entries_in sealed) entries (entries_front fetched sealed c.report_of.ensures.fetched) f.judged.sealed)) f.flushed.course;
+            (ap (λ k. g.K.Device.Disk.state (g.K.Store.disk k)) (sym c.report_of.ensures.keeper)) (accepted_prefix (entries_in fetched) entries (front_on (entries_in fetched) (entries_in sealed) entries (entries_front fetched sealed c.report_of.ensures.fetched) f.judged.judged.sealed)) f.flushed.flushed.course;
         count = c.report_of.ensures.closed.0 ∙ (sym (map_count (λ (x : Console _ _). x.slot) e.consoles.items) ∙ ap length order);
         each = λ k s at. (
             let d = stands_at (λ (x : Console _ _). x.slot) e.consoles.items p.slots.items k s order at in
-            let taken : length (taken_by d.0.slot e.rings.inboxes.items) ≡ length (of_slot s entries) = ap (λ n. length (taken_by n e.rings.inboxes.items)) d.1.1 ∙ (ap length (sym (f.judged.wants s)) ∙ wants_count (of_slot s entries)) in
-            let told : length (released_by d.0.slot e.flusher.outboxes.items) ≡ length (of_slot s f.flushed.told) = ap (λ n. length (released_by n e.flusher.outboxes.items)) d.1.1 ∙ (sym (received_count (released_by s e.flusher.outboxes.items)) ∙ (ap length (f.flushed.released s) ∙ replies_count (of_slot s f.flushed.told))) in
+            let taken : length (taken_by d.0.slot e.rings.inboxes.items) ≡ length (of_slot s entries) = ap (λ n. length (taken_by n e.rings.inboxes.items)) d.1.1 ∙ (ap length (sym (f.judged.judged.wants s)) ∙ wants_count (of_slot s entries)) in
+            let told : length (released_by d.0.slot e.flusher.outboxes.items) ≡ length (of_slot s f.flushed.flushed.told) = ap (λ n. length (released_by n e.flusher.outboxes.items)) d.1.1 ∙ (sym (received_count (released_by s e.flusher.outboxes.items)) ∙ (ap length (f.flushed.flushed.released s) ∙ replies_count (of_slot s f.flushed.flushed.told))) in
             let closes = c.report_of.ensures.closed.1 k d.0 d.1.0 in (
               length (sent_of d.0),
               length (received_of d.0),

@@ -8,5 +8,5 @@ new-requires-2-clause-opened g c =
     let k = c.args.store.now in
     let r = c.requires in
     let next = g.met.K.Store.idle k (λ p. absurd (cc (r.idle, p))) (λ p. absurd (cc (r.idle, p))) in
-    named_opened j.honest (g.K.Device.Disk.honest (s.disk k)) j.recovers s.recovers g.met.K.Store.one g.met.K.Store.rules r.recovers r.honest
-    j.base (s.state k).stored (s.state k).next j.first (g.K.Device.Disk.state (s.disk k)) r.base next r.device c.images.ensures.stands
+    named_opened j.honest (g.K.Device.Disk.honest (s.disk k)) j.recovers s.recovers g.met.K.Store.one g.met.K.Store.rules r.named.recovers r.named.honest
+    j.base (s.state k).stored (s.state k).next j.first (g.K.Device.Disk.state (s.disk k)) r.named.base next r.named.device c.images.ensures.stands

@@ -6,14 +6,14 @@ use Rattle.alm_rings.specs.Batches.{fetched_of}
 use Rattle.alm_threads.proofs.recorded_flusher.RecordedFlusher.new.Goals as goal
 
 pub invariant_of-result-clause-base : goal.invariant_of-result-clause-base
-invariant_of-result-clause-base g c = c.requires.base ∙ ap g.B.Board.base (sym c.new-flusher.ensures.parts.1)
+invariant_of-result-clause-base g c = c.requires.named.base ∙ (c.requires.stored ∙ ap g.B.Board.base (sym c.new-flusher.ensures.parts.1))
 
 pub invariant_of-result-clause-honest : goal.invariant_of-result-clause-honest
 invariant_of-result-clause-honest g c =
-    ∥∥₁_map c.requires.honest (λ p h. subst (λ (k : _). g.K.Device.Disk.honest (g.K.Store.disk k)) (sym c.new-flusher.ensures.parts.0) (p.0 h))
+    ∥∥₁_map c.requires.named.honest (λ p h. subst (λ (k : _). g.K.Device.Disk.honest (g.K.Store.disk k)) (sym c.new-flusher.ensures.parts.0) (p.0 h))
 
 pub invariant_of-result-clause-recovers : goal.invariant_of-result-clause-recovers
-invariant_of-result-clause-recovers g c = c.requires.recovers
+invariant_of-result-clause-recovers g c = c.requires.named.recovers
 
 pub invariant_of-result-clause-last : goal.invariant_of-result-clause-last
 invariant_of-result-clause-last g c = λ lost.
@@ -22,12 +22,12 @@ invariant_of-result-clause-last g c = λ lost.
     let f = c.new-flusher.result in
     let parts = c.new-flusher.ensures.parts in
     let device = g.K.Device.Disk.state (s.disk f.store) in
-    let floor : j.base.panel.count ≡ c.count-floor.result = omega (arith, c.count-floor.ensures, ap (λ q. q.panel.count) c.requires.stored, ap (λ q. q.panel.count) c.requires.base) in
+    let floor : j.base.panel.count ≡ c.count-floor.result = omega (arith, c.count-floor.ensures, ap (λ q. q.panel.count) c.requires.named.base) in
     ap (λ l. now_of j.base j.first l) c.requires.moments
-    ∙ (ap (λ d. moment_of d [] j.base.panel.count) (c.requires.device ∙ ap (λ k. g.K.Device.Disk.state (s.disk k)) (sym parts.0))
+    ∙ (ap (λ d. moment_of d [] j.base.panel.count) (c.requires.named.device ∙ ap (λ k. g.K.Device.Disk.state (s.disk k)) (sym parts.0))
     ∙ (ap (λ l. moment_of device (accepted_of (entries_in l)) j.base.panel.count) (sym c.requires.fetched ∙ ap fetched_of (sym parts.3))
     ∙ ap (λ n. moment_of device (accepted_of (entries_in (fetched_of f.fetch))) n) floor))
 
 pub invariant_of-result-clause-stored : goal.invariant_of-result-clause-stored
 invariant_of-result-clause-stored g c =
-    omega (arith, c.count-floor.ensures, ap (λ q. q.panel.count) c.requires.stored, ap (λ q. q.panel.count) c.requires.base)
+    omega (arith, c.count-floor.ensures, ap (λ q. q.panel.count) c.requires.named.base)
