@@ -1,11 +1,17 @@
-"""The arguments that tools have in common: where the server is, and a console's slot."""
+"""The arguments that tools have in common: where the server is, or several are, and a console's slot."""
 import argparse
+import collections
 import os
+from typing import Any
 
-from alarm_client import CONSOLES, Hosts
+from alarm_client import CONSOLES, Hosts, Place
 
 # The port of slot 0 is one of these.
 PORTS = range(1024, 65_519)
+# Letters of a server's name that a list has room for.
+NAME = 12
+PORT_HELP, SOCKETS_HELP = "the port of slot 0, as in `serve DEVICE --port P`", "the folder of the slots' sockets, as in `serve DEVICE --sockets FOLDER`"
+HOST_HELP = "with --port: addresses that are tried in this order, instead of 127.0.0.1"
 
 
 def new_parser(page: str) -> argparse.ArgumentParser:
@@ -49,11 +55,9 @@ class AddPlace(argparse.Action):
 def add_port(words: argparse.ArgumentParser, required: bool = True) -> None:
     """The arguments that say where the server is: at ports from a number on, or at the sockets of a folder. Either is the parsed `port`."""
     places = words.add_mutually_exclusive_group(required=required)
-    places.add_argument("--port", type=port, metavar="P", action=AddPlace, help="the port of slot 0, as in `serve DEVICE --port P`")
-    places.add_argument("--sockets", type=folder, dest="port", metavar="FOLDER", action=AddPlace,
-                        help="the folder of the slots' sockets, as in `serve DEVICE --sockets FOLDER`")
-    words.add_argument("--host", type=addresses, action=AddPlace, metavar="A,B", default=argparse.SUPPRESS,
-                       help="with --port: addresses that are tried in this order, instead of 127.0.0.1")
+    places.add_argument("--port", type=port, metavar="P", action=AddPlace, help=PORT_HELP)
+    places.add_argument("--sockets", type=folder, dest="port", metavar="FOLDER", action=AddPlace, help=SOCKETS_HELP)
+    words.add_argument("--host", type=addresses, action=AddPlace, metavar="A,B", default=argparse.SUPPRESS, help=HOST_HELP)
 
 
 def add_table(words: argparse.ArgumentParser) -> None:
@@ -65,3 +69,52 @@ def add_slot(words: argparse.ArgumentParser, default: int) -> None:
     """The argument that says at which console's slot to ask."""
     words.add_argument("--slot", type=int, choices=CONSOLES, default=default, metavar="K",
                        help="the console's slot, 0 to 15; %(default)s where it is left out")
+
+
+def add_places(words: argparse.ArgumentParser) -> None:
+    """The arguments that say where one server is, or several are. `places_of_servers` and `names_of_servers` read them."""
+    more = "; once more for each further server"
+    words.add_argument("--port", type=port, dest="places", metavar="P", action="append", default=[], help=PORT_HELP + more)
+    words.add_argument("--sockets", type=folder, dest="places", metavar="FOLDER", action="append", help=SOCKETS_HELP + more)
+    words.add_argument("--host", type=addresses, dest="hosts", metavar="A,B", action="append", default=[],
+                       help=HOST_HELP + "; once for all ports, or once for each")
+
+
+def places_of_servers(words: argparse.ArgumentParser, chosen: argparse.Namespace) -> list[Place]:
+    """Where each server is, in the order in which they were given."""
+    if not chosen.places:
+        words.error("one of the arguments --port --sockets is required")
+    ports = [place for place in chosen.places if isinstance(place, int)]
+    if chosen.hosts and not ports:
+        words.error("--host goes with --port")
+    hosts = iter(of_each(words, "--host", chosen.hosts, len(ports), shared=True))
+    places = []
+    for place in chosen.places:
+        found = next(hosts) if isinstance(place, int) else None
+        places.append(Hosts(place, found) if found else place)
+    return places
+
+
+def of_each(words: argparse.ArgumentParser, option: str, given: list[Any], count: int, default: Any = None, shared: bool = False) -> list[Any]:
+    """What was given of each of some servers, in their order: nothing, one for each, or where it may be shared one for all."""
+    if len(given) in (0, count):
+        return given or [default] * count
+    if len(given) == 1 and shared:
+        return given * count
+    words.error(f"{option} is given {len(given)} times, and there are {count} servers")
+
+
+def name_of(place: Place) -> str:
+    """What a server is called by where it is: its port, or the last part of its folder."""
+    if isinstance(place, str):
+        return os.path.basename(place) or place
+    return str(place.port if isinstance(place, Hosts) else place)
+
+
+def names_of_servers(words: argparse.ArgumentParser, names: list[str]) -> list[str]:
+    """The names of several servers as a list has room for them. Each has another one."""
+    short = [name[:NAME] for name in names]
+    for name, count in collections.Counter(short).items():
+        if count > 1:
+            words.error(f"{count} servers are called {name}: give each a --name")
+    return short

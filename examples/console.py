@@ -2,6 +2,7 @@
 """A terminal's alarm list.
 
     examples/console.py --port P [--slot 0] [--table TABLE.toml]
+    examples/console.py --port 5000 --port 5020 --name north --name south
 
 It begins with the annunciated alarms, the newest first within its priority. Each priority has a colour; a row is in reverse while its alarm
 isn't acknowledged, and `*` stands before it. `>` marks the selected row. Marks: F its area is flooded, S it is stale, C it chatters.
@@ -24,25 +25,28 @@ While the plant's clock doesn't move, as where no clock runs or the server can't
 The names are the plant's own, asked at each new connection. Where a connection ends it is made again, also to a plant that was restored
 or whose table was changed: that is said. Where a table file is given, a plant that isn't that file's, or is on another device than before,
 ends it with status 1. A slot serves one client after another: give each console its own.
+
+Several servers are one list, with --port or --sockets once for each. PLANT is a server's --name, or else its port or the last part of its folder.
+An action goes to the row's own server. Above the list each has a line with its counts, and another one if its clock stands or an area is flooded.
+If a server gives no answer, its line says so and `?` stands before its rows: they are of then, and nothing is asked. `f` takes a plant, an area, or both.
+What is annunciated is by priority, then by when this console saw it come, since a server tells no times. What stood there before the console
+began is behind that, server by server. The rows of the other views are server by server.
 """
+import argparse
 import curses
-import enum
 import sys
 import time
-from dataclasses import dataclass, field
 from typing import Callable, Optional
 
-from alarm_client import PRIORITIES, Client, Lost, OtherPlant, Plant, Refusal, Refused, State
-from arguments import add_port, add_slot, add_table, new_parser
-from table_file import NoTable, Table
+from alarm_client import CONSOLES, Client, Lost, OtherPlant, Plant, Refusal, Refused
+from arguments import add_places, name_of, names_of_servers, new_parser, of_each, places_of_servers
+from boards import PATIENCE, Board, NotAsked, Row, Server, View, rows_of
+from table_file import Alarm, NoTable
 
 PERIOD = 1.0
-PATIENCE = 2.0
+# Seconds for which one of several servers is waited for.
+MOMENT = 0.5
 DAY = 86_400
-# Seconds after which a plant's clock that hasn't moved stands still.
-STANDS = 5
-# How many states a look asks for a view that goes by the states of all alarms.
-PART = 2048
 HELP = "a A ack  r reset  s u shelve  o oos  p prio  t setp  f area  1-7 v view  q quit"
 # Why an action was refused, for an operator.
 REASONS = {
@@ -59,93 +63,10 @@ REASONS = {
     Refusal.PRIORITY_RANGE: "a priority is 1 to 4",
     Refusal.SAME_VALUE: "it has that already",
 }
-# Rows of the screen above the list, and below it.
-ABOVE, BELOW = 3, 1
+# The line above the list, with room for one more column, and how many lines are below it.
+HEADING, BELOW = "   P{} TAG            STATE AR FSC UNTIL    TEXT", 1
 COLOURS = {1: curses.COLOR_RED, 2: curses.COLOR_YELLOW, 3: curses.COLOR_CYAN, 4: curses.COLOR_GREEN}
-
-
-class View(enum.Enum):
-    ANNUNCIATED = "annunciated"
-    SHELVED = "shelved"
-    BY_DESIGN = "suppressed by design"
-    OUT_OF_SERVICE = "out of service"
-    CHATTERING = "chattering"
-    STALE = "stale"
-    ALL = "all alarms"
-
-    def next(self) -> "View":
-        views = list(View)
-        return views[(views.index(self) + 1) % len(views)]
-
-
 VIEW_KEYS = {ord("1") + place: view for place, view in enumerate(View)}
-# The letter of the flag that each alarm of a view has.
-FLAG_OF = {View.BY_DESIGN: "D", View.OUT_OF_SERVICE: "O"}
-
-
-@dataclass
-class Board:
-    """What the server showed last."""
-
-    table: Table
-    count: int = 0
-    moment: int = -1
-    moved: float = 0.0
-    priorities: dict[int, int] = field(default_factory=dict)
-    shelved: list[int] = field(default_factory=list)
-    flooded: set[int] = field(default_factory=set)
-    stale: dict[int, None] = field(default_factory=dict)
-    chattering: dict[int, None] = field(default_factory=dict)
-    flags: dict[int, str] = field(default_factory=dict)
-
-    def look(self, client: Client, view: View) -> None:
-        """Asks for the plant's moment, the lists and the marks."""
-        moment = client.plant().moment
-        if moment != self.moment:
-            self.moment, self.moved = moment, time.monotonic()
-        self.priorities = {}
-        for priority in PRIORITIES:
-            listing = client.priority_list(priority)
-            self.count = listing.count
-            self.priorities.update(dict.fromkeys(reversed(listing.alarms), priority))
-        self.shelved = client.shelved()
-        self.flooded = {area for area, flood in enumerate(client.floods()) if flood.flooded}
-        self.stale, self.chattering = dict.fromkeys(client.stale().alarms), dict.fromkeys(client.chattering().alarms)
-        if view in FLAG_OF:
-            self.ask_flags(client)
-
-    def ask_flags(self, client: Client) -> None:
-        """Asks for the flags of all alarms, then at each look for those whose answers are the oldest."""
-        number = len(self.table.alarms)
-        alarms = list(self.flags)[:PART] if len(self.flags) == number else list(range(number))
-        for alarm, state in zip(alarms, client.states(alarms)):
-            self.flags.pop(alarm, None)
-            self.flags[alarm] = state.flags
-
-    def rows(self, view: View, area: Optional[int]) -> list[int]:
-        """The alarms of a view, in its order."""
-        if view in FLAG_OF:
-            alarms = sorted(alarm for alarm, flags in self.flags.items() if FLAG_OF[view] in flags)
-        else:
-            alarms = {View.ANNUNCIATED: self.priorities, View.SHELVED: self.shelved, View.CHATTERING: self.chattering,
-                      View.STALE: self.stale, View.ALL: range(len(self.table.alarms))}[view]
-        return [alarm for alarm in alarms if area is None or self.table.alarms[alarm].area == area]
-
-    def marks(self, alarm: int) -> str:
-        """The marks of an alarm, each in its place."""
-        flood = self.table.alarms[alarm].area in self.flooded and alarm in self.priorities
-        return ("F" if flood else " ") + ("S" if alarm in self.stale else " ") + ("C" if alarm in self.chattering else " ")
-
-    def clock(self) -> str:
-        """For how long the plant's clock has stood still, where it does."""
-        seconds = int(time.monotonic() - self.moved)
-        return f"CLOCK STANDS STILL for {seconds} s   " if self.moment >= 0 and seconds >= STANDS else ""
-
-    def head(self) -> str:
-        """How many there are of each."""
-        held = list(self.priorities.values())
-        counts = "  ".join(f"P{priority} {held.count(priority)}" for priority in PRIORITIES)
-        return f"{counts}   shelved {len(self.shelved)}  stale {len(self.stale)}  chatter {len(self.chattering)}"
 
 
 def moment(deadline: Optional[int]) -> str:
@@ -157,8 +78,17 @@ def moment(deadline: Optional[int]) -> str:
     return str(deadline)
 
 
-def tags(table: Table) -> list[str]:
-    return [alarm.tag for alarm in table.alarms]
+def alarm_of(row: Row) -> Alarm:
+    """The attributes of a row's alarm."""
+    return row.server.board.table.alarms[row.alarm]
+
+
+def number_in(typed: str) -> Optional[int]:
+    """The number that was typed; none where it is none."""
+    try:
+        return int(typed)
+    except ValueError:
+        return None
 
 
 def set_colours() -> None:
@@ -170,67 +100,121 @@ def set_colours() -> None:
 
 
 class Console:
-    """The screen, the connection, and what is selected."""
+    """The screen, the servers, and what is selected."""
 
-    def __init__(self, screen: "curses.window", plant: Plant):
-        self.screen, self.plant = screen, plant
-        self.board = Board(plant.table)
-        self.client: Optional[Client] = None
+    def __init__(self, screen: "curses.window", servers: list[Server]):
+        self.screen, self.servers = screen, servers
         self.view, self.area = View.ANNUNCIATED, None
-        self.rows: list[int] = []
-        self.states: dict[int, State] = {}
+        # The one server whose rows are shown; none where those of all are.
+        self.only: Optional[Server] = None
+        self.rows: list[Row] = []
         self.selected = self.top = 0
         self.message = ""
+        self.head: list[tuple[str, int]] = []
         set_colours()
 
     @property
-    def height(self) -> int:
-        return max(1, self.screen.getmaxyx()[0] - ABOVE - BELOW)
+    def are_several(self) -> bool:
+        return len(self.servers) > 1
 
     @property
-    def on_screen(self) -> list[int]:
-        """The alarms of the rows on the screen."""
+    def height(self) -> int:
+        return max(1, self.screen.getmaxyx()[0] - len(self.head) - BELOW)
+
+    @property
+    def on_screen(self) -> list[Row]:
+        """The rows on the screen."""
         return self.rows[self.top:self.top + self.height]
 
     def look(self, whole: bool) -> None:
-        """Asks the server, with a new connection where there is none: for the lists, or for the rows on the screen alone."""
+        """Asks the servers, with a new connection where there is none: for the lists, or for the rows on the screen alone."""
+        if whole or not any(server.is_there for server in self.servers):
+            self.gather(lambda server: server.begin_look(self.view))
+            self.arrange()
+        self.set_head()
+        rows = self.on_screen
+        self.gather(lambda server: server.begin_states([row.alarm for row in rows if row.server is server]))
+
+    def gather(self, begin: Callable[[Server], None]) -> None:
+        """Lets each server begin, and takes what comes. Of several none is waited for longer than a moment, and one that is lost not at all."""
+        for server in self.servers:
+            self.take(server)
+            begin(server)
+        until = time.monotonic() + MOMENT
+        for server in self.servers:
+            if not self.are_several:
+                server.wait(None)
+            elif not server.lost:
+                server.wait(max(0.0, until - time.monotonic()))
+            self.take(server)
+
+    def take(self, server: Server) -> None:
+        """Takes what came of a server."""
+        before = server.board
         try:
-            if self.client is None:
-                self.begin()
-                whole = True
-            if whole:
-                self.board.look(self.client, self.view)
-                self.arrange()
-            self.states = dict(zip(self.on_screen, self.client.states(self.on_screen)))
-        except Lost as lost:
-            self.lose(lost)
+            server.take()
         except Refused as refused:
-            self.message = str(refused)
+            self.message = self.of(server, str(refused))
+        except (OtherPlant, NoTable) as error:
+            raise type(error)(self.of(server, str(error))) from None
+        if server.board.connection != before.connection:
+            self.take_connection(server, before)
 
-    def begin(self) -> None:
-        """Connects. With another table nothing stays of what was shown before: its numbers were other alarms'."""
-        self.client = self.plant.connect()
-        if self.plant.other or tags(self.plant.table) != tags(self.board.table):
-            self.rows, self.states, self.selected, self.top = [], {}, 0, 0
-        self.board, self.message = Board(self.plant.table), self.plant.other or ""
+    def take_connection(self, server: Server, before: Board) -> None:
+        """A connection began. With another table nothing stays of what was shown before: its numbers were other alarms'."""
+        if server.board.is_other_than(before):
+            self.rows, self.selected, self.top = [], 0, 0
+        if server.board.other or not self.are_several:
+            self.message = self.of(server, server.board.other or "")
 
-    def lose(self, lost: Lost) -> None:
-        if self.client is not None:
-            self.client.close()
-        self.client, self.message = None, f"no connection, trying again: {lost}"
+    def of(self, server: Server, text: str) -> str:
+        """A text with the name of its server, where there are several."""
+        return f"{server.name}: {text}" if self.are_several else text
 
     def arrange(self) -> None:
         """The rows of the view; the same alarm stays selected where it is still there."""
         chosen = self.rows[self.selected] if self.selected < len(self.rows) else None
-        self.rows = self.board.rows(self.view, self.area)
-        if chosen in self.rows and self.selected:
+        self.rows = [row for row in rows_of(self.servers, self.view) if self.is_listed(row)]
+        if self.selected and chosen in self.rows:
             self.selected = self.rows.index(chosen)
         self.select(0)
+
+    def is_listed(self, row: Row) -> bool:
+        """Whether the filter lets a row through."""
+        return (self.only is None or row.server is self.only) and (self.area is None or alarm_of(row).area == self.area)
 
     def select(self, step: int) -> None:
         """Moves the selection, and the list so that it is on the screen."""
         self.selected = max(0, min(len(self.rows) - 1, self.selected + step))
         self.top = min(max(self.top, self.selected - self.height + 1), self.selected)
+
+    # ---- drawing
+
+    def set_head(self) -> None:
+        """The lines above the list, and their styles. They stay until the next look, and with them which rows are on the screen."""
+        area = "all areas" if self.area is None else f"area {self.area}"
+        if self.are_several:
+            self.head = [line for server in self.servers for line in self.lines_of(server)]
+            where = f"{area} of {self.only.name}" if self.only else area
+            self.head += [(f"{self.view.value}, {where}", curses.A_BOLD), (HEADING.format(f" {'PLANT':{self.width}}"), curses.A_UNDERLINE)]
+        else:
+            board = self.servers[0].board
+            self.head = [(board.head(), 0), (f"{self.view.value}, {area}   {board.clock()}{board.floods()}", curses.A_BOLD),
+                         (HEADING.format(""), curses.A_UNDERLINE)]
+        self.select(0)
+
+    def lines_of(self, server: Server) -> list[tuple[str, int]]:
+        """What is so of one of several servers: its counts, or why its rows may be old; and below what else an operator should know."""
+        name, board, trouble = f"{server.name:{self.width}}", server.board, server.trouble()
+        if trouble:
+            return [(f"{name}  {trouble}", curses.A_BOLD)]
+        more = board.clock() + board.floods()
+        return [(f"{name}  {board.head()}", 0)] + ([(f"{name}  {more}", curses.A_BOLD)] if more else [])
+
+    @property
+    def width(self) -> int:
+        """How wide the column of the servers' names is."""
+        return max(len("PLANT"), *(len(server.name) for server in self.servers))
 
     def put(self, row: int, text: str, style: int = 0) -> None:
         """Writes a line of the screen, as wide as that is."""
@@ -240,73 +224,95 @@ class Console:
 
     def draw(self) -> None:
         self.screen.erase()
-        self.put(0, self.board.head())
-        area = "all areas" if self.area is None else f"area {self.area}"
-        floods = "FLOOD in areas " + " ".join(map(str, sorted(self.board.flooded))) if self.board.flooded else ""
-        self.put(1, f"{self.view.value}, {area}   {self.board.clock()}{floods}", curses.A_BOLD)
-        self.put(2, "   P TAG            STATE AR FSC UNTIL    TEXT", curses.A_UNDERLINE)
-        for row, alarm in enumerate(self.on_screen):
-            chosen = self.top + row == self.selected
-            self.put(ABOVE + row, (">" if chosen else " ") + self.line(alarm), self.style(alarm) | (curses.A_BOLD if chosen else 0))
-        self.put(ABOVE + self.height, self.message or HELP, curses.A_BOLD if self.message else 0)
+        for place, (text, style) in enumerate(self.head):
+            self.put(place, text, style)
+        for place, row in enumerate(self.on_screen):
+            chosen = self.top + place == self.selected
+            self.put(len(self.head) + place, (">" if chosen else " ") + self.line(row), self.style(row) | (curses.A_BOLD if chosen else 0))
+        said = self.said()
+        self.put(len(self.head) + self.height, said or HELP, curses.A_BOLD if said else 0)
         self.screen.refresh()
 
-    def style(self, alarm: int) -> int:
-        """The colour of an annunciated alarm's priority, in reverse while it isn't acknowledged."""
-        state = self.states.get(alarm)
-        colour = curses.color_pair(self.board.priorities.get(alarm, 0)) if curses.has_colors() else 0
+    def said(self) -> str:
+        """What stands below the list. Of several servers a lost one has its line above it."""
+        lost = "" if self.are_several else self.servers[0].lost
+        return f"no connection, trying again: {lost}" if lost else self.message
+
+    def is_old(self, row: Row) -> bool:
+        """Whether a row of one of several servers is shown as it was when that last answered."""
+        return self.are_several and bool(row.server.trouble())
+
+    def style(self, row: Row) -> int:
+        """The colour of an annunciated alarm's priority, in reverse while it isn't acknowledged; dim where the row is old."""
+        if self.is_old(row):
+            return curses.A_DIM
+        state = row.server.states.get(row.alarm)
+        colour = curses.color_pair(row.server.board.priorities.get(row.alarm, 0)) if curses.has_colors() else 0
         return colour | (curses.A_REVERSE if state and state.is_unacknowledged else 0)
 
-    def line(self, alarm: int) -> str:
+    def line(self, row: Row) -> str:
         """The line of an alarm."""
-        entry, state = self.board.table.alarms[alarm], self.states.get(alarm)
+        entry, state, board = alarm_of(row), row.server.states.get(row.alarm), row.server.board
         shown, until = (state.shown, moment(state.deadline)) if state else ("", "")
-        mark = "*" if state and state.is_unacknowledged else " "
-        priority = self.board.priorities.get(alarm, "-")
-        return f"{mark} {priority} {entry.tag:14.14} {shown:5} {entry.area:2} {self.board.marks(alarm)} {until:8.8} {entry.text}"
+        mark = "?" if self.is_old(row) else "*" if state and state.is_unacknowledged else " "
+        name = f" {row.server.name:{self.width}}" if self.are_several else ""
+        priority = board.priorities.get(row.alarm, "-")
+        return f"{mark} {priority}{name} {entry.tag:14.14} {shown:5} {entry.area:2} {board.marks(row.alarm)} {until:8.8} {entry.text}"
 
-    def ask(self, prompt: str) -> str:
+    # ---- what an operator types
+
+    def ask(self, prompt: str, most: int = 14) -> str:
         """What the operator types."""
-        row = min(ABOVE + self.height, self.screen.getmaxyx()[0] - 1)
+        row = min(len(self.head) + self.height, self.screen.getmaxyx()[0] - 1)
         self.put(row, prompt)
         self.screen.move(row, min(len(prompt), self.screen.getmaxyx()[1] - 1))
         curses.echo()
         self.screen.timeout(-1)
-        typed = self.screen.getstr(14).decode("ascii", "replace")
+        typed = self.screen.getstr(most).decode("ascii", "replace")
         curses.noecho()
         return typed.strip()
 
     def ask_number(self, prompt: str) -> Optional[int]:
         """A number that the operator types; none where it is none."""
-        try:
-            return int(self.ask(prompt))
-        except ValueError:
-            return None
+        return number_in(self.ask(prompt))
+
+    @property
+    def row(self) -> Row:
+        """The selected row."""
+        return self.rows[self.selected]
 
     @property
     def tag(self) -> str:
-        """The selected alarm's tag."""
-        return self.board.table.alarms[self.rows[self.selected]].tag
+        """The selected alarm's tag, with the name of its server where there are several."""
+        tag = alarm_of(self.row).tag
+        return f"{tag} of {self.row.server.name}" if self.are_several else tag
 
     def act(self, words: str, action: Callable[[Client, int], int]) -> None:
         """Does an action on the selected alarm, and says what came of it."""
-        tag = self.tag
+        tag, (server, alarm) = self.tag, self.row
         try:
-            self.message = f"{tag} {words} as action {action(self.client, self.rows[self.selected])}"
+            self.message = f"{tag} {words} as action {server.call(lambda client: action(client, alarm))}"
         except Refused as refused:
             self.message = f"{tag} not {words}: {REASONS.get(refused.refusal, refused.refusal.name)}"
         except Lost as lost:
-            self.lose(lost)
+            self.message = f"{tag}: {lost}"
+        except NotAsked as why:
+            self.message = f"{tag}: nothing was asked: {why}"
 
     def acknowledge_all(self) -> None:
         """Acknowledges those alarms on the screen that are shown there as unacknowledged, and no others."""
-        alarms = [alarm for alarm in self.on_screen if alarm in self.states and self.states[alarm].is_unacknowledged]
-        try:
-            replies = list(self.client.ask_all(f"ACK {alarm}" for alarm in alarms))
-        except Lost as lost:
-            return self.lose(lost)
-        refused = sum(isinstance(reply, Refused) for reply in replies)
-        self.message = f"{len(alarms) - refused} acknowledged" + (f", {refused} not" if refused else "")
+        done, not_done, lost = 0, 0, []
+        rows = [row for row in self.on_screen if not self.is_old(row) and row.alarm in row.server.states and row.server.states[row.alarm].is_unacknowledged]
+        for server in self.servers:
+            requests = [f"ACK {row.alarm}" for row in rows if row.server is server]
+            try:
+                replies = server.call(lambda client: list(client.ask_all(requests))) if requests else []
+            except (Lost, NotAsked) as fault:
+                lost.append(f"; {server.name}: {fault}")
+                continue
+            refused = sum(isinstance(reply, Refused) for reply in replies)
+            done, not_done = done + len(replies) - refused, not_done + refused
+        self.message = f"{done} acknowledged" + (f", {not_done} not" if not_done else "") + "".join(lost)
 
     def shelve(self) -> None:
         seconds = self.ask_number(f"{self.tag}: shelve for seconds: ")
@@ -315,7 +321,7 @@ class Console:
 
     def service(self) -> None:
         """Puts the alarm out of service, or back where it is shown as out of service."""
-        state = self.states.get(self.rows[self.selected])
+        state = self.row.server.states.get(self.row.alarm)
         if state and "O" in state.flags:
             self.act("back in service", lambda client, alarm: client.oos(alarm, False))
         elif self.ask(f"{self.tag}: out of service? y or n: ") == "y":
@@ -332,7 +338,17 @@ class Console:
             self.act(f"given setpoint {value}", lambda client, alarm: client.setpoint(alarm, value))
 
     def filter(self) -> None:
-        self.area, self.selected = self.ask_number("area (none for all): "), 0
+        """Shows one area alone; of several servers one of these alone, or an area of it."""
+        if self.are_several:
+            words = self.ask("plant, area, or both (none for all): ", 32).split()
+            self.only = next((server for server in self.servers if server.name in words[:1]), None)
+            words = words[1:] if self.only else words
+            self.area = number_in(words[0]) if words else None
+            if words and self.area is None:
+                self.message = f"there is neither a plant {words[0]} nor such an area"
+        else:
+            self.area = self.ask_number("area (none for all): ")
+        self.selected = 0
 
     def turn(self, view: View) -> None:
         self.view, self.selected = view, 0
@@ -343,9 +359,17 @@ class Console:
                 "r": lambda: self.act("reset", Client.reset), "s": self.shelve, "u": lambda: self.act("unshelved", Client.unshelve),
                 "o": self.service, "p": self.priority, "t": self.setpoint}
 
+    def do(self, letter: str) -> None:
+        """Does an action, unless the row's server is lost."""
+        if letter != "A" and not self.row.server.is_there:
+            self.message = f"{self.row.server.name} gives no answer: nothing was asked"
+        else:
+            self.actions()[letter]()
+
     def press(self, key: int) -> bool:
         """Does what a key asks; whether the lists may be others then. What was said of the key before goes."""
-        if self.client is not None:
+        is_there = any(server.is_there for server in self.servers)
+        if is_there:
             self.message = ""
         moves = {curses.KEY_UP: -1, curses.KEY_DOWN: 1, curses.KEY_PPAGE: -self.height, curses.KEY_NPAGE: self.height,
                  curses.KEY_HOME: -len(self.rows), curses.KEY_END: len(self.rows)}
@@ -357,8 +381,8 @@ class Console:
             self.turn(VIEW_KEYS.get(key) or self.view.next())
         elif letter == "f":
             self.filter()
-        elif letter in self.actions() and self.client is not None and self.rows:
-            self.actions()[letter]()
+        elif letter in self.actions() and is_there and self.rows:
+            self.do(letter)
         else:
             return False
         return True
@@ -379,15 +403,28 @@ class Console:
             key = self.screen.getch()
 
 
+def given_servers(words: argparse.ArgumentParser, chosen: argparse.Namespace) -> list[Server]:
+    """The servers that the arguments name."""
+    places = places_of_servers(words, chosen)
+    names = of_each(words, "--name", chosen.names, len(places)) if chosen.names else [name_of(place) for place in places]
+    slots = of_each(words, "--slot", chosen.slots, len(places), 0, shared=True)
+    tables = of_each(words, "--table", chosen.tables, len(places))
+    plants = [Plant(place, slot, table, PATIENCE) for place, slot, table in zip(places, slots, tables)]
+    return [Server(name, plant) for name, plant in zip(names_of_servers(words, names), plants)]
+
+
 def main() -> None:
     words = new_parser(__doc__)
-    add_port(words)
-    add_slot(words, 0)
-    add_table(words)
+    add_places(words)
+    words.add_argument("--name", dest="names", action="append", default=[], metavar="NAME", help="with several servers: what each is called, in their order")
+    words.add_argument("--slot", type=int, dest="slots", action="append", choices=CONSOLES, default=[], metavar="K",
+                       help="the console's slot, 0 to 15; 0 where it is left out; once for all servers, or once for each")
+    words.add_argument("--table", dest="tables", action="append", default=[], metavar="TABLE.toml",
+                       help="a table file: a plant that isn't that file's ends this tool; of several servers once for each")
     chosen = words.parse_args()
     try:
-        plant = Plant(chosen.port, chosen.slot, chosen.table, PATIENCE)
-        curses.wrapper(lambda screen: Console(screen, plant).run())
+        servers = given_servers(words, chosen)
+        curses.wrapper(lambda screen: Console(screen, servers).run())
     except (OtherPlant, NoTable) as error:
         sys.exit(f"console: {error}")
     except KeyboardInterrupt:
