@@ -4,7 +4,7 @@
     tests/browser.py PROGRAM [--short] [--only CHECK,..]
 
 Each control is used as an operator does, and the server is asked at another slot what came of it. Two browsers stand side by side; servers are killed
-and held; tables change; pages of another origin try each request; nginx authenticates; 16,384 alarms are listed; a flood is drawn over the refinery.
+and held, and one page has two of them; tables change; pages of another origin try each request; nginx authenticates; 16,384 alarms are listed; a flood is drawn over the refinery.
 
 It needs aiohttp, selenium and Chromium (Debian: python3-aiohttp, python3-selenium, chromium, chromium-driver), and is left out where they aren't
 there. What wants nginx is left out alone. CHECKS of the parts, check_*.py, have the names. --shots FOLDER also writes the screenshots of docs/.
@@ -20,7 +20,7 @@ import time
 # This Python, or that of the system, whose packages Debian's are.
 PYTHONS = (sys.executable, "/usr/bin/python3")
 LIBRARIES = ("aiohttp", "selenium")
-PARTS = ("check_list", "check_looks", "check_lost", "check_doors", "check_flood", "check_brief")
+PARTS = ("check_list", "check_looks", "check_lost", "check_several", "check_doors", "check_flood", "check_brief")
 # What a short run is, and a whole one isn't.
 SHORT = ("brief",)
 

@@ -14,6 +14,7 @@ from drawn_plants import AT_CLIENTS, module  # first: it finds examples/ and cli
 from alarm_client import CLOCK, FEED, Client
 from program import Wrong, check
 from selenium import webdriver
+from selenium.common.exceptions import StaleElementReferenceException
 from selenium.webdriver import ActionChains, Keys
 from selenium.webdriver.chrome.options import Options
 from selenium.webdriver.chrome.service import Service
@@ -143,11 +144,19 @@ class Page:
     def choose(self, *tags: str) -> None:
         """Selects alarms by clicks."""
         for place, tag in enumerate(tags):
+            self.until(f"a click on {tag}", lambda: self.click_tag(tag, is_more=bool(place)))
+
+    def click_tag(self, tag: str, is_more: bool) -> bool:
+        """Clicks on the tag of a row; whether the row wasn't drawn again just then."""
+        try:
             cell = self.driver.find_element(By.XPATH, f"//tbody[@id='rows']//td[contains(@class, 'tag') and text()='{tag}']")
-            if place:
+            if is_more:
                 ActionChains(self.driver).key_down(Keys.CONTROL).click(cell).key_up(Keys.CONTROL).perform()
             else:
                 cell.click()
+        except StaleElementReferenceException:
+            return False
+        return True
 
     def act(self, name: str) -> None:
         self.click(f"#actions [data-act='{name}']")

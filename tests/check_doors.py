@@ -133,7 +133,7 @@ def doors(yard: Yard, _count: int) -> str:
 def attacks(plant: Plant, page: Page, host: str, listed: List) -> int:
     """Opens a page of another origin: another port of the same host, which is the same site, and another host."""
     number = plant.numbers["TI-101"]
-    values = {"PLACE": listed.place, "ERA": page.js("return plant.era") if page.driver.current_url == listed.place else "0", "NUMBER": str(number), "STAMP": "1", "KEY": "guess"}
+    values = {"PLACE": listed.place, "ERA": page.js("return plants[0].era") if page.driver.current_url == listed.place else "0", "NUMBER": str(number), "STAMP": "1", "KEY": "guess"}
     text = ATTACK
     for name, value in values.items():
         text = text.replace(name, value)
@@ -214,7 +214,7 @@ def roles(yard: Yard, _count: int) -> str:
         check(found == offered, role, "is offered", found)
         raw = Raw(listed)
         raw.enter()
-        raw.era = page.js("return plant.era")
+        raw.era = page.js("return plants[0].era")
         for word, more in (("ACK", {}), ("RESET", {}), ("SHELVE", {"value": 60, "reason": "x"}), ("UNSHELVE", {}), ("OOS", {"value": 0, "reason": "x"}), ("PRIO", {"value": 3, "reason": "x"}),
                            ("SETP", {"value": 3, "reason": "x"})):
             status, _, said = raw.ask("POST", "/do", raw.order(word=word, alarms=[[199, 0]], **more))
@@ -339,7 +339,8 @@ def words(yard: Yard, _count: int) -> str:
                 ((*at, "--listen", "0", "--slots", "16"), 2, "invalid choice"), ((*at, "--listen", str(other.getsockname()[1])), 1, "in use"),
                 ((*at, "--socket", taken, "--proxy", "https://a.example"), 1, "in use"), ((*at, "--socket", text, "--proxy", "https://a.example"), 1, "in use"),
                 ((*at, "--listen", "0", "--notes", text), 1, "not a database"), ((*at, "--listen", "0", "--areas", yard.path("none")), 1, "No such file"),
-                ((*at, "--listen", "0", "--group", "root"), 2, "--group wants --socket")):
+                ((*at, "--listen", "0", "--group", "root"), 2, "--group wants --socket"), ((plant.device, *at, "--listen", "0"), 2, "each device has its --port"),
+                ((*at, plant.device, *at, "--listen", "0"), 2, "2 servers are called plant"), ((*at, "other.device", *at, "--listen", "0", "--name", "x"), 2, "--name is given 1 times")):
             run = subprocess.run(module("browser", plant.device, *given), env=AT_CLIENTS, capture_output=True, text=True, timeout=60)
             check(run.returncode == status and said in run.stderr and "Traceback" not in run.stderr and (status == 0 or run.stderr.count("\n") == 1), given, run.returncode, run.stderr)
     other.close()

@@ -72,7 +72,7 @@ def held(process: object, page: Page, what: str) -> float:
     began = time.time()
     process.send_signal(signal.SIGSTOP)
     if what == "the server":  # also with an order under way
-        page.js("ask('ACK', [plant.rows.findIndex(row => tagOf(row[N]) === 'TI-102')])")
+        page.js("ask('ACK', [plants[0].rows.findIndex(row => tagOf(row[ID]) === 'TI-102')])")
     try:
         page.until(f"{what} that hangs", lambda: page.js("return window.oldAt"))
         took = page.js("return window.oldAt") / 1000 - began
@@ -138,9 +138,9 @@ def seen(yard: Yard, _count: int) -> str:
     was_seen = page.js("return screen_.seen.get(arguments[0]).stamp", number)
     plant.goes("TI-101")
     plant.comes("TI-101")
-    page.until("another annunciation", lambda: page.js("return plant.rows[arguments[0]][STAMP]", number) != was_seen)
+    page.until("another annunciation", lambda: page.js("return plants[0].rows[arguments[0]][STAMP]", number) != was_seen)
     # the screen had the older annunciation as it was pressed; then the newer one, for less than a glance
-    for on_screen in ("{stamp: arguments[1], at: 0, before: 0}", "{stamp: plant.rows[arguments[0]][STAMP], at: performance.now() - 100, before: arguments[1]}"):
+    for on_screen in ("{stamp: arguments[1], at: 0, before: 0}", "{stamp: plants[0].rows[arguments[0]][STAMP], at: performance.now() - 100, before: arguments[1]}"):
         page.js(f"say('', false); screen_.seen.set(arguments[0], {on_screen}); ask('ACK', [arguments[0]])", number, was_seen)
         page.says("TI-101: it has come again since it was seen")
         check(plant.shown("TI-101") == "UNACK", "an annunciation that nobody saw was acknowledged")

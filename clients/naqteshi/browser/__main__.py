@@ -2,6 +2,7 @@
 
     alm_browser DEVICE --port P --listen 8090
     alm_browser DEVICE --sockets FOLDER --socket SOCKET --proxy https://alarms.example
+    alm_browser north.device --port 5000 south.device --port 5020 --listen 8090
 
 It reads the device file, and asks the server at one console's slot: 12, or the first of --slots K.. that answers. With --listen it is at
 http://127.0.0.1:8090, and prints the address with the token that lets a browser in. With --socket it is at a Unix socket. There it wants the token
@@ -9,9 +10,13 @@ too, or with --proxy trusts the headers X-Alarms-User and X-Alarms-Role of a pro
 be anybody: give it to the proxy's group alone, by --group.
 
 Who asked for an action and why is kept by the action's number, with --notes FILE in a file of SQLite, else until it ends.
+
+Several plants are one list. Each has its device, its --port or --sockets, and if any has its --name and its --areas, in the same order. Slots and
+notes are for all. An action goes to the alarm's own server, and one server that is lost is said by its plant's name while the others go on.
 """
 import argparse
 import asyncio
+import functools
 import getpass
 import grp
 import os
@@ -19,12 +24,13 @@ import secrets
 import signal
 import socket
 import sys
+from dataclasses import dataclass
 from pathlib import Path
-from typing import Optional
+from typing import Callable, Optional
 from urllib.parse import urlsplit
 
-from arguments import add_port
-from alarm_client import CONSOLES, HOST
+from arguments import add_places, names_of_servers, of_each, places_of_servers
+from alarm_client import CONSOLES, HOST, Place
 
 from ..words import Words, end_of, sayer
 
@@ -46,6 +52,17 @@ MODE = 0o660
 
 class Ended(Exception):
     """It can't go on; in one line."""
+
+
+@dataclass(frozen=True)
+class Given:
+    """A plant that is shown: its device and server, its name in the notes and on the page, and the file of its areas' names."""
+
+    device: str
+    place: Place
+    name: str
+    short: str
+    areas: Optional[str]
 
 
 def listen_port(text: str) -> int:
@@ -71,10 +88,10 @@ def group_of(text: str) -> int:
 
 def arguments() -> Words:
     words = Words("alm_browser", __doc__)
-    words.add_argument("device", metavar="DEVICE", help="the device file")
-    add_port(words)
+    words.add_argument("devices", metavar="DEVICE", nargs="+", help="the device file; of several plants that of each")
+    add_places(words)
     words.add_argument("--slots", type=int, choices=CONSOLES, nargs="+", default=[12], metavar="K", help="consoles' slots, of which one is taken; 12 where it is left out")
-    places = words.add_mutually_exclusive_group(required=True)
+    places = words.add_mutually_exclusive_group()
     places.add_argument("--listen", type=listen_port, metavar="PORT", help="a port of loopback; 0 for any that is free")
     places.add_argument("--socket", metavar="SOCKET", help="the path of a Unix socket")
     words.add_argument("--origin", type=origin, metavar="ORIGIN", help="how browsers name it, if that isn't http://127.0.0.1:PORT")
@@ -83,13 +100,26 @@ def arguments() -> Words:
     words.add_argument("--role", choices=ROLES, default="operator", help="what the token lets one do; %(default)s where it is left out")
     words.add_argument("--user", default=None, metavar="NAME", help="with a token: the name that is kept with an action; the user's who starts it where it is left out")
     words.add_argument("--notes", metavar="FILE", help="a file of SQLite for who asked, and why; it is made if it isn't there")
-    words.add_argument("--name", metavar="PLANT", help="the plant's name in the notes; the device file's where it is left out")
-    words.add_argument("--areas", metavar="FILE", help="the names of the areas, one a line")
+    words.add_argument("--name", dest="names", action="append", default=[], metavar="PLANT",
+                       help="the plant's name in the notes; the device file's where it is left out")
+    words.add_argument("--areas", action="append", default=[], metavar="FILE", help="the names of the areas, one a line")
     return words
+
+
+def given_plants(words: Words, chosen: argparse.Namespace) -> list[Given]:
+    """The plants that the words name."""
+    places = places_of_servers(words, chosen)
+    if len(places) != len(chosen.devices):
+        words.error(f"each device has its --port or --sockets: of devices there are {len(chosen.devices)}, and of these {len(places)}")
+    names = of_each(words, "--name", chosen.names, len(places)) if chosen.names else [Path(device).stem for device in chosen.devices]
+    short = names_of_servers(words, names) if len(names) > 1 else names
+    return [Given(*one) for one in zip(chosen.devices, places, names, short, of_each(words, "--areas", chosen.areas, len(places)))]
 
 
 def judge(words: Words, chosen: argparse.Namespace) -> None:
     """Refuses words that don't go together."""
+    if chosen.socket is None and chosen.listen is None:
+        words.error("one of the arguments --listen --socket is required")
     if chosen.proxy and not chosen.socket:
         words.error("--proxy wants --socket: headers are trusted over a Unix socket alone")
     if chosen.proxy and chosen.origin:
@@ -160,40 +190,48 @@ def user_of(chosen: argparse.Namespace) -> str:
         return str(os.getuid())
 
 
-async def serve(chosen: argparse.Namespace) -> None:
-    """Serves until a signal, or until the thread that follows the plant has failed."""
+def follow(number: int, plant: Given, chosen: argparse.Namespace, say_of: Callable[..., None], fail: Callable[[Exception], None]) -> tuple[Board, Watch]:
+    """What browsers are told of a plant, and the thread that will follow it."""
+    loop, shown = asyncio.get_running_loop(), Shown(plant.place, chosen.slots, say_of)
+    board = Board(number, plant.short, read_areas(plant.areas), lambda: shown.answered)
+    notes = Notes(chosen.notes or ":memory:", plant.name)
+    return board, Watch(plant.device, shown, notes, lambda batch: loop.call_soon_threadsafe(board.take, batch), fail)
+
+
+async def serve(chosen: argparse.Namespace, plants: list[Given]) -> None:
+    """Serves until a signal, or until a thread that follows a plant has failed."""
     listening = open_port(chosen.listen) if chosen.socket is None else open_socket(chosen.socket, chosen.group)
     place = chosen.proxy or chosen.origin or f"http://{HOST}:{listening.getsockname()[1]}"
     door = Door(place, None if chosen.proxy else secrets.token_urlsafe(32), user_of(chosen), chosen.role)
     loop, ended = asyncio.get_running_loop(), asyncio.get_running_loop().create_future()
-    shown = Shown(chosen.port, chosen.slots, say)
-    board = Board(read_areas(chosen.areas), lambda: shown.answered)
-    notes = Notes(chosen.notes or ":memory:", chosen.name or Path(chosen.device).stem)
-    tell = lambda batch: loop.call_soon_threadsafe(board.take, batch)
     fail = lambda fault: loop.call_soon_threadsafe(lambda: ended.done() or ended.set_exception(fault))
-    watch = Watch(chosen.device, shown, notes, tell, fail)
+    says = [functools.partial(say, f"{plant.name}:") if len(plants) > 1 else say for plant in plants]
+    boards, watches = zip(*(follow(number, plant, chosen, says[number], fail) for number, plant in enumerate(plants)))
     for number in (signal.SIGTERM, signal.SIGINT):
         loop.add_signal_handler(number, lambda: ended.done() or ended.set_result(None))
-    runner = web.AppRunner(Site(door, board, watch).application(), access_log=None)
+    runner = web.AppRunner(Site(door, boards, watches).application(), access_log=None)
     await runner.setup()
     await web.SockSite(runner, listening, shutdown_timeout=1).start()
-    watch.thread.start()
+    for watch in watches:
+        watch.thread.start()
     print(f"alm_browser: {place}/" + (f"?token={door.token}" if door.token else ""), flush=True)
     try:
         await ended
     finally:
-        watch.orders.put(STOP)
+        for watch in watches:
+            watch.orders.put(STOP)
         await runner.cleanup()
-        await loop.run_in_executor(None, watch.thread.join, 3)
+        await asyncio.gather(*(loop.run_in_executor(None, watch.thread.join, 3) for watch in watches))
         if chosen.socket:
             Path(chosen.socket).unlink(missing_ok=True)
 
 
 def main() -> None:
     words = arguments()
-    chosen = words.parse_args()
+    chosen = words.parse_intermixed_args()
+    plants = given_plants(words, chosen)
     judge(words, chosen)
-    end_of("alm_browser", lambda: asyncio.run(serve(chosen)), (Ended, NoNotes))
+    end_of("alm_browser", lambda: asyncio.run(serve(chosen, plants)), (Ended, NoNotes))
 
 
 if __name__ == "__main__":

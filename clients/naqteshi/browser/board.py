@@ -6,7 +6,7 @@ import asyncio
 import collections
 import json
 import time
-from typing import Any, Callable, Optional
+from typing import Any, Callable, Optional, Sequence
 
 from .watch import EVENTS, Batch
 
@@ -21,12 +21,29 @@ def written(value: Any) -> str:
     return json.dumps(value, separators=(",", ":"))
 
 
-class Reader:
-    """A browser's place: what it hasn't been told."""
+class Place:
+    """What a browser hasn't been told of a plant."""
 
-    def __init__(self, at: int):
+    def __init__(self, news: asyncio.Event, at: int):
         self.needs_whole, self.changed, self.at = True, set(), at
+        self.news = news
+
+
+class Reader:
+    """A browser, with its place at each board."""
+
+    def __init__(self, boards: Sequence["Board"]):
         self.news = asyncio.Event()
+        self.places = [(board, board.join(self.news)) for board in boards]
+
+    def leave(self) -> None:
+        for board, place in self.places:
+            board.places.discard(place)
+
+    def told(self) -> str:
+        """What it hasn't been told, as events of the stream."""
+        self.news.clear()
+        return "".join(board.news(place) for board, place in self.places)
 
     async def wait(self) -> None:
         """Waits for news, no longer than a tick."""
@@ -37,17 +54,17 @@ class Reader:
 
 
 class Board:
-    """The plant as its rows' texts, and the readers."""
+    """A plant as its rows' texts, and the browsers' places. By its number it is known among the others."""
 
-    def __init__(self, areas: list[str], answered: Callable[[], float]):
-        self.areas, self.answered = areas, answered
+    def __init__(self, number: int, name: str, areas: list[str], answered: Callable[[], float]):
+        self.number, self.name, self.areas, self.answered = number, name, areas, answered
         self.era: Optional[str] = None
         self.table, self.rows = "[]", {}
         self.events: collections.deque[list[Any]] = collections.deque(maxlen=EVENTS)
         self.told = 0
         self.head: dict[str, Any] = {"trouble": READING, "fault": ""}
         self.now, self.moved = None, time.monotonic()
-        self.readers: set[Reader] = set()
+        self.places: set[Place] = set()
 
     def take(self, batch: Batch) -> None:
         """Takes what is new."""
@@ -61,18 +78,16 @@ class Board:
         self.head = batch.head
         if batch.head.get("now") != self.now:
             self.now, self.moved = batch.head.get("now"), time.monotonic()
-        for reader in self.readers:
-            reader.needs_whole |= batch.is_whole
-            reader.changed.update(batch.rows)
-            reader.news.set()
+        for place in self.places:
+            place.needs_whole |= batch.is_whole
+            place.changed.update(batch.rows)
+            place.news.set()
 
-    def join(self) -> Reader:
-        reader = Reader(self.told)
-        self.readers.add(reader)
-        return reader
-
-    def leave(self, reader: Reader) -> None:
-        self.readers.discard(reader)
+    def join(self, news: asyncio.Event) -> Place:
+        """A browser's place, whose news there is an event for."""
+        place = Place(news, self.told)
+        self.places.add(place)
+        return place
 
     def head_now(self) -> dict[str, Any]:
         """The head with what time alone changes: since when the server hasn't answered, and for how long the plant's clock has stood still."""
@@ -80,17 +95,16 @@ class Board:
         still = int(now - self.moved)
         return {**self.head, "age": round(min(now - self.answered(), 1e6), 1), "still": still if still >= STANDS and self.now is not None else 0}
 
-    def news(self, reader: Reader) -> str:
-        """What a reader hasn't been told, as an event of the stream."""
-        reader.news.clear()
+    def news(self, place: Place) -> str:
+        """What a browser hasn't been told of the plant, as an event of the stream."""
         head = written(self.head_now())
-        if reader.needs_whole:
+        if place.needs_whole:
             kind, numbers, events = "all", list(self.rows), list(self.events)
             more = f',"era":{written(self.era)},"areas":{written(self.areas)},"table":{self.table}'
         else:
-            kind, numbers, more = "news", sorted(reader.changed), ""
-            missed = min(self.told - reader.at, len(self.events))
+            kind, numbers, more = "news", sorted(place.changed), ""
+            missed = min(self.told - place.at, len(self.events))
             events = list(self.events)[len(self.events) - missed:]
         rows = ",".join(self.rows[number] for number in numbers)
-        reader.needs_whole, reader.changed, reader.at = False, set(), self.told
-        return f'event: {kind}\ndata: {{"rows":[{rows}],"events":{written(events)},"head":{head}{more}}}\n\n'
+        place.needs_whole, place.changed, place.at = False, set(), self.told
+        return f'event: {kind}\ndata: {{"plant":{self.number},"rows":[{rows}],"events":{written(events)},"head":{head}{more}}}\n\n'

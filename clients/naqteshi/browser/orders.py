@@ -62,8 +62,9 @@ class NotAllowed(Exception):
 
 @dataclass
 class Order:
-    """An action of some alarms, each with the stamp of the annunciation that was seen."""
+    """An action of some alarms of a plant, each with the stamp of the annunciation that was seen."""
 
+    plant: int
     era: str
     word: str
     alarms: list[tuple[int, int]]
@@ -87,8 +88,8 @@ def is_number(value: Any, least: int, most: int) -> bool:
     return isinstance(value, int) and not isinstance(value, bool) and least <= value <= most
 
 
-def read_order(asked: Any, user: str, role: str, answer: Callable[[list[Answer]], None]) -> Order:
-    """The order in what a page sent."""
+def read_order(asked: Any, user: str, role: str, answer: Callable[[list[Answer]], None], plants: int) -> Order:
+    """The order in what a page sent, to one of so many plants: the first where none is named."""
     if not isinstance(asked, dict) or asked.get("word") not in ACTIONS:
         raise BadOrder("no such action")
     word, value, reason, alarms = asked["word"], asked.get("value"), asked.get("reason", ""), asked.get("alarms")
@@ -103,9 +104,10 @@ def read_order(asked: Any, user: str, role: str, answer: Callable[[list[Answer]]
         raise BadOrder("a reason is wanted")
     if not isinstance(alarms, list) or not 0 < len(alarms) <= MOST_ALARMS or not all(is_seen(one) for one in alarms):
         raise BadOrder("no alarms, or too many")
-    if not isinstance(asked.get("era"), str):
+    plant = asked.get("plant", 0)
+    if not isinstance(asked.get("era"), str) or not is_number(plant, 0, plants - 1):
         raise BadOrder("no plant")
-    return Order(asked["era"], word, [(alarm, stamp) for alarm, stamp in alarms], value, Asker(user, role, reason.strip()), answer)
+    return Order(plant, asked["era"], word, [(alarm, stamp) for alarm, stamp in alarms], value, Asker(user, role, reason.strip()), answer)
 
 
 def is_seen(one: Any) -> bool:

@@ -2,7 +2,7 @@
 import asyncio
 import json
 from pathlib import Path
-from typing import Any
+from typing import Any, Sequence
 
 from aiohttp import web
 
@@ -20,8 +20,9 @@ MOST_STREAMS, MOST_BYTES, PATIENCE = 32, 65_536, 20
 class Site:
     """The handlers, and what they stand on."""
 
-    def __init__(self, door: Door, board: Board, watch: Watch):
-        self.door, self.board, self.watch = door, board, watch
+    def __init__(self, door: Door, boards: Sequence[Board], watches: Sequence[Watch]):
+        self.door, self.boards, self.watches = door, boards, watches
+        self.readers: set[Reader] = set()
         self.is_ending = False
         self.files = {path.name: path.read_bytes() for path in PAGE.iterdir()}
 
@@ -38,7 +39,7 @@ class Site:
 
     async def end(self, _site: web.Application) -> None:
         self.is_ending = True
-        for reader in self.board.readers:
+        for reader in self.readers:
             reader.news.set()
 
     @web.middleware
@@ -86,23 +87,25 @@ class Site:
         session = self.door.session(request)
         if session is None:
             raise web.HTTPUnauthorized(text="no session\n")
-        if len(self.board.readers) >= MOST_STREAMS:
+        if len(self.readers) >= MOST_STREAMS:
             raise web.HTTPServiceUnavailable(text="too many browsers\n")
         response = web.StreamResponse(headers={**HEADERS, "Content-Type": "text/event-stream", "X-Accel-Buffering": "no"})
-        reader = self.board.join()
+        reader = Reader(self.boards)
+        self.readers.add(reader)
         try:
             await response.prepare(request)
-            await response.write(hello(session).encode())
+            await response.write(hello(session, [board.name for board in self.boards]).encode())
             await self.tell(response, reader)
         except (ConnectionError, asyncio.TimeoutError):
             pass
         finally:
-            self.board.leave(reader)
+            self.readers.discard(reader)
+            reader.leave()
         return response
 
     async def tell(self, response: web.StreamResponse, reader: Reader) -> None:
         while not self.is_ending:
-            await asyncio.wait_for(response.write(self.board.news(reader).encode()), PATIENCE)
+            await asyncio.wait_for(response.write(reader.told().encode()), PATIENCE)
             await asyncio.sleep(REST)
             await reader.wait()
 
@@ -116,7 +119,8 @@ class Site:
             loop.call_soon_threadsafe(lambda: answered.done() or answered.set_result(answers))
 
         try:
-            self.watch.orders.put(read_order(await read_json(request), session.user, session.role, answer))
+            order = read_order(await read_json(request), session.user, session.role, answer, len(self.watches))
+            self.watches[order.plant].orders.put(order)
         except BadOrder as bad:
             raise web.HTTPBadRequest(text=f"{bad}\n") from None
         except NotAllowed as refused:
@@ -124,9 +128,9 @@ class Site:
         return web.json_response({"answers": await answered}, dumps=written)
 
 
-def hello(session: Session) -> str:
-    """The first event of a stream: who the operator is, and the key of the session."""
-    return f"event: hello\ndata: {written({'user': session.user, 'role': session.role, 'key': session.key})}\n\n"
+def hello(session: Session, plants: list[str]) -> str:
+    """The first event of a stream: who the operator is, the key of the session, and what the plants are called."""
+    return f"event: hello\ndata: {written({'user': session.user, 'role': session.role, 'key': session.key, 'plants': plants})}\n\n"
 
 
 async def read_json(request: web.Request) -> Any:

@@ -1,11 +1,13 @@
-// The alarm list of a plant. The stream tells rows as they change; what an operator asks goes out by /do, bound to the annunciation that was on the
-// screen. Nothing is kept here that the server hasn't shown.
+// The alarm list of a plant, or of several. The stream tells rows as they change; what an operator asks goes out by /do, bound to the annunciation that
+// was on the screen. Nothing is kept here that the servers haven't shown.
 "use strict";
 
-// The places of a row, and of an alarm in the table.
-const [N, PRIORITY, AREA, SHOWN, FLAGS, ACTIVE, SINCE, THIRD, DEADLINE, STAMP, VALUE, LIMIT] = Array(12).keys();
+// The places of a row, of an alarm in the table, and of an event. The plant and the id, which no other plant's alarm has, are put behind what is told.
+const [N, PRIORITY, AREA, SHOWN, FLAGS, ACTIVE, SINCE, THIRD, DEADLINE, STAMP, VALUE, LIMIT, PLANT, ID] = Array(14).keys();
 const [TAG, TEXT, KIND, DEADBAND, MAX_SHELVE, LATCHING] = Array(6).keys();
-const [E_NUMBER, E_MOMENT, E_ALARM, E_WORD, E_VALUE, E_BEFORE, E_AFTER, E_USER, E_REASON] = Array(9).keys();
+const [E_NUMBER, E_MOMENT, E_ALARM, E_WORD, E_VALUE, E_BEFORE, E_AFTER, E_USER, E_REASON, E_PLANT] = Array(10).keys();
+// How many alarms and areas a plant has at most: by these the ids of several plants go on.
+const ALARMS = 16384, AREAS = 64;
 const SHELVED = 1, BY_DESIGN = 2, OUT_OF_SERVICE = 4;
 const WORDS = {NORM: "Normal", UNACK: "Unack", ACKED: "Acked", RTNUN: "RTN unack", LATUN: "Latch unack", LATAK: "Latched",
   SHLVD: "Shelved", DSUPR: "By design", OOSRV: "Out of service"};
@@ -30,15 +32,19 @@ function kept(name, value) {
   }
 }
 
-const plant = {era: null, areas: [], table: [], rows: [], events: [], head: {trouble: "the plant is being read", age: 0, still: 0, fault: ""}};
+function newPlant(name, place) {
+  return {name, place, era: null, areas: [], table: [], rows: [], events: [], counts: [0, 0], isOld: false, head: {trouble: "the plant is being read", age: 0, still: 0, fault: ""}};
+}
+
+let plants = [newPlant("", 0)];
 const me = {user: "", role: "viewer", key: ""};
-const look = {view: "alarms", sort: "order", down: false, area: "", state: "", text: "", priorities: new Set()};
+const look = {view: "alarms", sort: "order", down: false, area: "", state: "", text: "", priorities: new Set(), plants: new Set()};
 const screen_ = {items: [], counts: {}, chosen: new Set(), anchor: null, cursor: 0, seen: new Map(), drawn: new Map(), due: 0, last: 0};
-const link = {heard: performance.now(), signedOut: false, wasOld: false, again: () => 0};
+const link = {heard: performance.now(), signedOut: false, again: () => 0};
 const sound = {on: kept("sound") !== "off", context: null, silenced: new Map(), next: 0, priority: 0};
 
-const isChattering = row => row[THIRD] !== null && row[THIRD] > plant.head.now - 60;
-const isStale = row => ANNUNCIATED.has(row[SHOWN]) && row[SINCE] <= plant.head.now - DAY;
+const isChattering = row => row[THIRD] !== null && row[THIRD] > row[PLANT].head.now - 60;
+const isStale = row => ANNUNCIATED.has(row[SHOWN]) && row[SINCE] <= row[PLANT].head.now - DAY;
 const VIEWS = {
   alarms: ["Alarms", row => ANNUNCIATED.has(row[SHOWN])],
   shelved: ["Shelved", row => row[FLAGS] & SHELVED],
@@ -59,10 +65,19 @@ const STATES = {
 
 // ---- words
 
-const areaName = area => plant.areas[area] || `Area ${area}`;
-const tagOf = n => plant.table[n][TAG];
+const areSeveral = () => plants.length > 1;
+const idOf = (plant, n) => plant.place * ALARMS + n;
+const plantOf = id => plants[Math.floor(id / ALARMS)];
+const rowOf = id => plantOf(id).rows[id % ALARMS];
+const alarmOf = row => row[PLANT].table[row[N]];
+const tagOf = id => plantOf(id).table[id % ALARMS][TAG];
+// A text with the name of its plant, where there are several.
+const of_ = (plant, text) => areSeveral() ? `${plant.name}: ${text}` : text;
+const tagAndPlant = id => areSeveral() ? `${tagOf(id)} (${plantOf(id).name})` : tagOf(id);
+const areaOf = (plant, area) => plant.place * AREAS + area;
+const areaName = (plant, area) => plant.areas[area] || `Area ${area}`;
 
-function time(moment) {
+function time(moment, plant) {
   if (moment === null || moment === undefined) return "";
   if (moment < DATES) return `${moment} s`;
   const date = new Date(moment * 1000), clock = date.toLocaleTimeString("en-GB");
@@ -93,8 +108,8 @@ function happening(event) {
     case "DESIGN": return value ? "suppressed by design" : "no longer suppressed by design";
     case "PRIO": return `given priority ${value}`;
     case "SETP": return `given setpoint ${value}`;
-    case "FLOOD": return `${areaName(value)}: a flood began`;
-    case "FLOOD END": return `${areaName(value)}: the flood ended`;
+    case "FLOOD": return `${areaName(event[E_PLANT], value)}: a flood began`;
+    case "FLOOD END": return `${areaName(event[E_PLANT], value)}: the flood ended`;
     default: return `${value} actions aren't known: the file no longer has them`;
   }
 }
@@ -106,29 +121,38 @@ const COLUMNS = {
   mark: ["P", "c-mark", row => row[PRIORITY]],
   time: ["Time", "c-time", row => row[SINCE] ?? -1],
   state: ["State", "c-state", row => WORDS[row[SHOWN]]],
-  tag: ["Tag", "c-tag", row => tagOf(row[N])],
-  text: ["Text", "c-text", row => plant.table[row[N]][TEXT]],
+  plant: ["Plant", "c-plant", row => row[PLANT].name],
+  tag: ["Tag", "c-tag", row => alarmOf(row)[TAG]],
+  text: ["Text", "c-text", row => alarmOf(row)[TEXT]],
   value: ["Value", "c-value number", row => row[VALUE] ?? -Infinity],
   limit: ["Limit", "c-limit number", row => row[LIMIT]],
   area: ["Area", "c-area", row => row[AREA]],
   left: ["Left", "c-left number", row => row[DEADLINE] ?? Infinity],
   marks: ["Marks", "c-marks", null],
 };
-const JOURNAL = [["Time", "c-time"], ["Action", "c-number number"], ["Tag", "c-tag"], ["What happened", "c-what"], ["Became", "c-state"], ["By", "c-user"], ["Reason", "c-reason"]];
+const JOURNAL = [["Time", "c-time"], ["Action", "c-number number"], ["Plant", "c-plant"], ["Tag", "c-tag"], ["What happened", "c-what"], ["Became", "c-state"], ["By", "c-user"], ["Reason", "c-reason"]];
 
 function columns() {
-  return Object.keys(COLUMNS).filter(name => (name !== "left" || look.view === "shelved" || look.view === "all") && (name !== "value" || look.view !== "shelved"));
+  return Object.keys(COLUMNS).filter(name => (name !== "left" || look.view === "shelved" || look.view === "all") && (name !== "value" || look.view !== "shelved") &&
+    (name !== "plant" || areSeveral()));
 }
 
+const isOfPlant = plant => !look.plants.size || look.plants.has(plant.place);
+const isInArea = (plant, area) => look.area === "" || (plant.place === Math.floor(look.area / AREAS) && area === look.area % AREAS);
+
 function isFiltered(row) {
-  const alarm = plant.table[row[N]];
-  return (look.area === "" || row[AREA] === Number(look.area)) && (!look.priorities.size || look.priorities.has(row[PRIORITY])) &&
+  const alarm = alarmOf(row);
+  return isOfPlant(row[PLANT]) && isInArea(row[PLANT], row[AREA]) && (!look.priorities.size || look.priorities.has(row[PRIORITY])) &&
     STATES[look.state](row) && (!look.text || `${alarm[TAG]} ${alarm[TEXT]}`.toLowerCase().includes(look.text));
 }
 
+// The moment of an annunciation. Of one plant a later stamp has no earlier moment; stamps of two say nothing of each other.
+const annunciatedAt = row => row[STAMP] ? row[SINCE] : -1;
+
 // Unacknowledged first, then by priority, then the newest.
 function inOrder(one, other) {
-  return UNACKNOWLEDGED.has(other[SHOWN]) - UNACKNOWLEDGED.has(one[SHOWN]) || one[PRIORITY] - other[PRIORITY] || other[STAMP] - one[STAMP] || one[N] - other[N];
+  return UNACKNOWLEDGED.has(other[SHOWN]) - UNACKNOWLEDGED.has(one[SHOWN]) || one[PRIORITY] - other[PRIORITY] || annunciatedAt(other) - annunciatedAt(one) ||
+    one[PLANT].place - other[PLANT].place || other[STAMP] - one[STAMP] || one[N] - other[N];
 }
 
 function sorted(rows) {
@@ -137,11 +161,16 @@ function sorted(rows) {
   return rows.map(row => [key(row), row]).sort((one, other) => (one[0] < other[0] ? -sign : one[0] > other[0] ? sign : inOrder(one[1], other[1]))).map(pair => pair[1]);
 }
 
+// The events of all plants, the oldest first.
+function events() {
+  return areSeveral() ? plants.flatMap(plant => plant.events).sort((one, other) => one[E_MOMENT] - other[E_MOMENT]) : plants[0].events;
+}
+
 function isListed(event) {
-  const row = event[E_ALARM] === null ? null : plant.rows[event[E_ALARM]];
+  const plant = event[E_PLANT], row = event[E_ALARM] === null ? null : plant.rows[event[E_ALARM]];
   const area = row ? row[AREA] : event[E_VALUE];
-  const words = `${row ? tagOf(row[N]) + " " + plant.table[row[N]][TEXT] : ""} ${happening(event)} ${event[E_USER] ?? ""} ${event[E_REASON] ?? ""}`;
-  return (look.area === "" || area === Number(look.area)) && (!look.text || words.toLowerCase().includes(look.text)) && (!look.priorities.size || (row && look.priorities.has(row[PRIORITY])));
+  const words = `${row ? alarmOf(row)[TAG] + " " + alarmOf(row)[TEXT] : ""} ${happening(event)} ${event[E_USER] ?? ""} ${event[E_REASON] ?? ""}`;
+  return isOfPlant(plant) && isInArea(plant, area) && (!look.text || words.toLowerCase().includes(look.text)) && (!look.priorities.size || (row && look.priorities.has(row[PRIORITY])));
 }
 
 // Which rows the view has, in their order, and how many there are of each kind.
@@ -149,24 +178,30 @@ function arrange() {
   const counts = Object.fromEntries(Object.keys(VIEWS).map(view => [view, 0]));
   const priorities = [null, [0, 0], [0, 0], [0, 0], [0, 0]], listed = [];
   const kinds = Object.entries(VIEWS).filter(([, kind]) => kind[1]);
-  for (const row of plant.rows) {
-    for (const [view, [, has]] of kinds) {
-      if (has(row)) {
-        counts[view]++;
-        if (view === look.view) listed.push(row);
+  for (const plant of plants) {
+    plant.counts = [0, 0];
+    for (const row of plant.rows) {
+      for (const [view, [, has]] of kinds) {
+        if (has(row)) {
+          counts[view]++;
+          if (view === look.view) listed.push(row);
+        }
       }
-    }
-    if (ANNUNCIATED.has(row[SHOWN])) {
-      priorities[row[PRIORITY]][1]++;
-      if (UNACKNOWLEDGED.has(row[SHOWN])) priorities[row[PRIORITY]][0]++;
+      if (ANNUNCIATED.has(row[SHOWN])) for (const pair of [priorities[row[PRIORITY]], plant.counts]) count(row, pair);
     }
   }
-  const items = look.view === "journal" ? plant.events.filter(isListed).reverse() : sorted(listed.filter(isFiltered));
-  const total = look.view === "journal" ? plant.events.length : listed.length;
-  Object.assign(screen_, {items, counts, priorities, hidden: total - items.length});
-  const there = look.view === "journal" ? new Set() : new Set(items.map(row => row[N]));
-  for (const n of screen_.chosen) if (!there.has(n)) screen_.chosen.delete(n);
+  const all = look.view === "journal" ? events() : listed;
+  const items = look.view === "journal" ? all.filter(isListed).reverse() : sorted(listed.filter(isFiltered));
+  Object.assign(screen_, {items, counts, priorities, hidden: all.length - items.length});
+  const there = look.view === "journal" ? new Set() : new Set(items.map(row => row[ID]));
+  for (const id of screen_.chosen) if (!there.has(id)) screen_.chosen.delete(id);
   screen_.cursor = Math.max(0, Math.min(screen_.cursor, items.length - 1));
+}
+
+// Counts an annunciated alarm in a pair: of how many how many nobody has acknowledged.
+function count(row, pair) {
+  if (UNACKNOWLEDGED.has(row[SHOWN])) pair[0]++;
+  pair[1]++;
 }
 
 // ---- drawing
@@ -181,8 +216,9 @@ function draw() {
   screen_.due = 0;
   screen_.last = performance.now();
   arrange();
-  if (cursor && screen_.chosen.has(cursor[N])) screen_.cursor = screen_.items.findIndex(row => row[N] === cursor[N]);
+  if (cursor && screen_.chosen.has(cursor[ID])) screen_.cursor = screen_.items.findIndex(row => row[ID] === cursor[ID]);
   drawHead();
+  drawPlants();
   drawFloods();
   drawTabs();
   drawFilters();
@@ -206,7 +242,7 @@ function drawHead() {
     button.setAttribute("aria-pressed", look.priorities.has(priority));
     button.setAttribute("aria-label", `Priority ${priority}: ${unacknowledged} unacknowledged of ${all}`);
   }
-  put($("clock"), plant.era ? `Plant ${time(plant.head.now)}` : "");
+  put($("clock"), plants[0].era && !areSeveral() ? `Plant ${time(plants[0].head.now, plants[0])}` : "");
   put($("who"), me.user ? `${me.user} (${me.role})` : "");
   put($("sound"), !sound.on ? "Sound off" : sound.context?.state === "running" ? "Sound on" : "Sound: press to allow");
   $("sound").setAttribute("aria-pressed", sound.on);
@@ -215,33 +251,67 @@ function drawHead() {
   document.title = unacknowledged ? `(${unacknowledged}) Alarm list` : "Alarm list";
 }
 
-// Why the list may be old; empty while it isn't.
-function oldness() {
+// Of several plants: how many alarms nobody has acknowledged, of how many, and the plant's clock.
+function drawPlants() {
+  const place = $("plants");
+  for (const one of [place, ...document.querySelectorAll("[data-several]")]) one.hidden = !areSeveral();
+  if (!areSeveral()) return place.replaceChildren();
+  while (place.children.length > plants.length) place.lastElementChild.remove();
+  while (place.children.length < plants.length) place.append(Object.assign(document.createElement("button"), {type: "button"}));
+  plants.forEach((plant, at) => {
+    const button = place.children[at], [unacknowledged, all] = plant.counts;
+    button.dataset.plant = at;
+    put(button, `${plant.name}  ${unacknowledged} / ${all}  ${plant.isOld ? "no server" : time(plant.head.now, plant)}`);
+    button.classList.toggle("old", plant.isOld);
+    button.setAttribute("aria-pressed", look.plants.has(at));
+    button.setAttribute("aria-label", `${plant.name}: ${unacknowledged} unacknowledged of ${all}${plant.isOld ? ", no server" : ""}`);
+  });
+}
+
+// Why nothing is heard of alm_browser itself; empty while something is.
+function silentSince() {
   const silent = performance.now() - link.heard;
   if (link.signedOut) return "SIGNED OUT, the list may be old. Open the address that alm_browser printed last.";
-  if (silent > SILENCE) return `NO SERVER, the list may be old: nothing heard for ${Math.round(silent / 1000)} s`;
-  if (plant.head.age > OLD) return `NO SERVER, the list may be old: no answer for ${Math.round(plant.head.age)} s${plant.head.trouble ? ` (${plant.head.trouble})` : ""}`;
-  if (plant.head.trouble) return `NO SERVER, the list may be old: ${plant.head.trouble}`;
+  return silent > SILENCE ? `NO SERVER, the list may be old: nothing heard for ${Math.round(silent / 1000)} s` : "";
+}
+
+// Why a plant's rows may be old; empty while they aren't.
+function oldness(plant) {
+  const {age, trouble} = plant.head, what = areSeveral() ? "its rows" : "the list";
+  if (age > OLD) return `NO SERVER, ${what} may be old: no answer for ${Math.round(age)} s${trouble ? ` (${trouble})` : ""}`;
+  if (trouble) return `NO SERVER, ${what} may be old: ${trouble}`;
   return plant.era ? "" : "NO SERVER, there is no list yet";
 }
 
 function drawTrouble() {
-  const old = oldness(), lines = [old];
-  if (!old && plant.head.still) lines.push(`The plant's clock has stood still for ${span(plant.head.still)}: no shelving and no flood ends`);
-  if (plant.head.fault) lines.push(`Who does what isn't kept: ${plant.head.fault}`);
+  const silent = silentSince(), lines = [silent], lost = [], back = [];
+  for (const plant of plants) {
+    const old = silent || oldness(plant);
+    if (old && !silent) lines.push(of_(plant, old));
+    if (!old && plant.head.still) lines.push(of_(plant, `The plant's clock has stood still for ${span(plant.head.still)}: no shelving and no flood ends`));
+    if (plant.head.fault) lines.push(of_(plant, `Who does what isn't kept: ${plant.head.fault}`));
+    if (Boolean(old) !== plant.isOld) (old ? lost : back).push(plant);
+    plant.isOld = Boolean(old);
+  }
   put($("trouble"), lines.filter(Boolean).join(". "));
   $("trouble").hidden = !$("trouble").textContent;
-  put($("connection"), old ? "No server" : "Server answers");
-  if (document.body.classList.toggle("old", Boolean(old)) !== link.wasOld) {
-    link.wasOld = Boolean(old);
-    if (old) play("lost");
+  drawConnection();
+  if (lost.length) play("lost");
+  if (lost.length || back.length) {
     drawActions();
+    touch();
   }
 }
 
+function drawConnection() {
+  const answering = plants.filter(plant => !plant.isOld).length;
+  put($("connection"), areSeveral() ? `${answering} of ${plants.length} servers answer` : answering ? "Server answers" : "No server");
+  document.body.classList.toggle("old", !answering);
+}
+
 function drawFloods() {
-  const floods = (plant.head.floods ?? []).map(([total, flooded], area) => [area, total, flooded]).filter(flood => flood[2]);
-  const texts = floods.map(([area, total]) => [area, `${areaName(area)}: ${total} in 10 min`]);
+  const floods = plants.flatMap(plant => (plant.head.floods ?? []).map(([total, flooded], area) => [plant, area, total, flooded])).filter(flood => flood[3]);
+  const texts = floods.map(([plant, area, total]) => [areaOf(plant, area), of_(plant, `${areaName(plant, area)}: ${total} in 10 min`)]);
   const place = $("floods");
   place.hidden = !floods.length;
   if (place.dataset.said === JSON.stringify(texts)) return;
@@ -267,22 +337,23 @@ function drawTabs() {
 
 function drawFilters() {
   put($("hidden"), screen_.hidden ? `${screen_.hidden} hidden by filters` : "");
-  const areas = plant.head.floods?.length ?? 0, select = $("area");
-  const names = ["all", ...Array.from({length: areas}, (_, area) => areaName(area))];
+  const select = $("area"), countOf = plant => plant?.head.floods?.length ?? 0;
+  const names = [["all", ""], ...plants.flatMap(plant => Array.from({length: countOf(plant)}, (_, area) => [of_(plant, areaName(plant, area)), areaOf(plant, area)]))];
   if (select.dataset.names !== JSON.stringify(names)) {
     select.dataset.names = JSON.stringify(names);
-    select.replaceChildren(...names.map((name, place) => new Option(name, place ? place - 1 : "")));
+    select.replaceChildren(...names.map(([name, area]) => new Option(name, area)));
   }
-  if (look.area !== "" && look.area >= areas && plant.era) look.area = "";
+  const plant = plants[Math.floor(look.area / AREAS)];
+  if (look.area !== "" && look.area % AREAS >= countOf(plant) && (!plant || plant.era)) look.area = "";
   select.value = look.area;
   $("state").disabled = look.view === "journal";
-  const row = look.view === "journal" ? null : screen_.items[screen_.cursor], alarm = row && plant.table[row[N]];
-  put($("detail"), !row || !screen_.chosen.has(row[N]) ? "" : `${alarm[TAG]}: ${alarm[KIND]} ${row[LIMIT]}, deadband ${alarm[DEADBAND]}` +
+  const row = look.view === "journal" ? null : screen_.items[screen_.cursor], alarm = row && alarmOf(row);
+  put($("detail"), !row || !screen_.chosen.has(row[ID]) ? "" : `${alarm[TAG]}: ${alarm[KIND]} ${row[LIMIT]}, deadband ${alarm[DEADBAND]}` +
     `${alarm[LATCHING] ? ", latches" : ""}, ${alarm[MAX_SHELVE] ? `shelved for ${length(alarm[MAX_SHELVE])} at most` : "isn't shelved"}. ${alarm[TEXT]}`);
 }
 
 function drawColumns() {
-  const names = look.view === "journal" ? JOURNAL.map(([text, kind]) => [null, text, kind]) : columns().map(name => [name, ...COLUMNS[name]]);
+  const names = look.view === "journal" ? JOURNAL.filter(([text]) => text !== "Plant" || areSeveral()).map(([text, kind]) => [null, text, kind]) : columns().map(name => [name, ...COLUMNS[name]]);
   const key = JSON.stringify([names, look.sort, look.down]);
   if ($("columns").dataset.key === key) return;
   const focused = document.activeElement?.dataset.sort;
@@ -322,7 +393,7 @@ function drawRows() {
   const first = Math.max(0, Math.floor(list.scrollTop / height) - SPARE);
   const items = screen_.items.slice(first, Math.ceil((list.scrollTop + list.clientHeight) / height) + SPARE);
   const kept = new Map(), wanted = items.map((item, place) => {
-    const key = isJournal ? `${item[E_NUMBER]} ${item[E_ALARM]} ${item[E_WORD]}` : item[N];
+    const key = isJournal ? `${item[E_PLANT].place} ${item[E_NUMBER]} ${item[E_ALARM]} ${item[E_WORD]}` : item[ID];
     const drawn = screen_.drawn.get(key) ?? newRow(isJournal ? null : key);
     kept.set(key, drawn);
     (isJournal ? fillEvent : fillRow)(drawn, item, first + place);
@@ -341,12 +412,12 @@ function drawRows() {
   noteSeen();
 }
 
-function newRow(n) {
+function newRow(id) {
   const element = document.createElement("tr");
   element.setAttribute("role", "row");
-  if (n !== null) {
-    element.id = `row-${n}`;
-    element.dataset.n = n;
+  if (id !== null) {
+    element.id = `row-${id}`;
+    element.dataset.n = id;
   }
   return {element, key: ""};
 }
@@ -363,8 +434,8 @@ function cell(kind, text) {
 
 function tips(row) {
   const all = Object.assign(document.createElement("span"), {className: "two"});
-  const flood = ANNUNCIATED.has(row[SHOWN]) && plant.head.floods?.[row[AREA]]?.[1];
-  for (const [word, has] of [["Flood", flood], ["Stale", isStale(row)], ["Chatter", isChattering(row)], ["Shelved", row[FLAGS] & SHELVED && row[SHOWN] !== "SHLVD"],
+  const flood = ANNUNCIATED.has(row[SHOWN]) && row[PLANT].head.floods?.[row[AREA]]?.[1];
+  for (const [word, has] of [["No server", isLeftOut(row)], ["Flood", flood], ["Stale", isStale(row)], ["Chatter", isChattering(row)], ["Shelved", row[FLAGS] & SHELVED && row[SHOWN] !== "SHLVD"],
     ["By design", row[FLAGS] & BY_DESIGN && row[SHOWN] !== "DSUPR"], ["Holds", row[FLAGS] && row[ACTIVE]]]) {
     if (!has) continue;
     const tip = document.createElement("span");
@@ -378,31 +449,33 @@ function tips(row) {
 const CELLS = {
   box: (row, isChosen) => cell("box", isChosen ? "☑" : "☐"),
   mark: row => cell("mark-cell", mark(row[PRIORITY])),
-  time: row => cell("time", time(row[SINCE])),
+  time: row => cell("time", time(row[SINCE], row[PLANT])),
   state: row => cell("state", WORDS[row[SHOWN]]),
-  tag: row => cell("tag", tagOf(row[N])),
-  text: row => cell("text", plant.table[row[N]][TEXT]),
+  plant: row => cell("plant", row[PLANT].name),
+  tag: row => cell("tag", alarmOf(row)[TAG]),
+  text: row => cell("text", alarmOf(row)[TEXT]),
   value: row => cell("value number", row[VALUE] === null ? "" : String(row[VALUE])),
   limit: row => cell("limit number", String(row[LIMIT])),
-  area: row => cell("area", areaName(row[AREA])),
-  left: row => cell("left number", row[DEADLINE] === null ? "" : span(Math.max(0, row[DEADLINE] - plant.head.now))),
+  area: row => cell("area", areaName(row[PLANT], row[AREA])),
+  left: row => cell("left number", row[DEADLINE] === null ? "" : span(Math.max(0, row[DEADLINE] - row[PLANT].head.now))),
   marks: row => cell("marks", tips(row)),
 };
 
 function fillRow(drawn, row, place) {
-  const isChosen = screen_.chosen.has(row[N]), isCursor = place === screen_.cursor, element = drawn.element;
+  const isChosen = screen_.chosen.has(row[ID]), isCursor = place === screen_.cursor, element = drawn.element;
   const cells = columns().map(name => CELLS[name](row, isChosen));
   const key = cells.map(one => one.textContent).join("\n") + row[PRIORITY];
   if (key !== drawn.key) element.replaceChildren(...cells);
   drawn.key = key;
-  element.className = [UNACKNOWLEDGED.has(row[SHOWN]) ? "unacknowledged" : "", !row[ACTIVE] || row[FLAGS] ? "quiet" : "", isChosen ? "chosen" : "", isCursor ? "cursor" : ""].filter(Boolean).join(" ");
+  element.className = [UNACKNOWLEDGED.has(row[SHOWN]) ? "unacknowledged" : "", !row[ACTIVE] || row[FLAGS] ? "quiet" : "", isLeftOut(row) ? "old" : "", isChosen ? "chosen" : "", isCursor ? "cursor" : ""].filter(Boolean).join(" ");
   element.setAttribute("aria-selected", isChosen);
   element.setAttribute("aria-rowindex", place + 2);
   if (isCursor) $("list").setAttribute("aria-activedescendant", element.id);
 }
 
 function fillEvent(drawn, event, place) {
-  const texts = [["time", time(event[E_MOMENT])], ["number", String(event[E_NUMBER])], ["tag", event[E_ALARM] === null ? "" : tagOf(event[E_ALARM])], ["text", happening(event)],
+  const plant = event[E_PLANT], tag = event[E_ALARM] === null ? "" : plant.table[event[E_ALARM]][TAG];
+  const texts = [["time", time(event[E_MOMENT], plant)], ["number", String(event[E_NUMBER])], ...(areSeveral() ? [["plant", plant.name]] : []), ["tag", tag], ["text", happening(event)],
     ["state", WORDS[event[E_AFTER]] ?? ""], ["user", event[E_USER] ?? ""], ["reason", event[E_REASON] ?? ""]];
   const key = JSON.stringify(texts);
   if (key !== drawn.key) drawn.element.replaceChildren(...texts.map(([kind, text]) => cell(kind, text)));
@@ -415,21 +488,23 @@ function noteSeen() {
   if (document.visibilityState !== "visible" || look.view === "journal") return;
   const [first, end] = onScreen(), now = performance.now();
   for (const row of screen_.items.slice(first, end)) {
-    const before = screen_.seen.get(row[N]);
-    if (before?.stamp !== row[STAMP]) screen_.seen.set(row[N], {stamp: row[STAMP], at: now, before: before?.stamp ?? 0});
+    const before = screen_.seen.get(row[ID]);
+    if (before?.stamp !== row[STAMP]) screen_.seen.set(row[ID], {stamp: row[STAMP], at: now, before: before?.stamp ?? 0});
   }
 }
 
 // The annunciation of an alarm that an operator has seen: what came onto the screen just now nobody has.
-function stampSeen(n) {
-  const one = screen_.seen.get(n);
+function stampSeen(id) {
+  const one = screen_.seen.get(id);
   return !one ? 0 : performance.now() - one.at >= GLANCE ? one.stamp : one.before;
 }
 
 // ---- actions
 
-const unacknowledgedShown = () => look.view === "journal" ? [] : screen_.items.slice(...onScreen()).filter(row => UNACKNOWLEDGED.has(row[SHOWN])).map(row => row[N]);
-const chosenRows = () => [...screen_.chosen].map(n => plant.rows[n]);
+// Of several plants one that may be old is asked nothing, and the others go on.
+const isLeftOut = row => areSeveral() && row[PLANT].isOld;
+const unacknowledgedShown = () => look.view === "journal" ? [] : screen_.items.slice(...onScreen()).filter(row => UNACKNOWLEDGED.has(row[SHOWN]) && !isLeftOut(row)).map(row => row[ID]);
+const chosenRows = () => [...screen_.chosen].map(rowOf).filter(row => !isLeftOut(row));
 const mayDo = word => me.role === "engineer" || (me.role === "operator" && word !== "PRIO" && word !== "SETP");
 
 // Which of the selected alarms each action is for.
@@ -445,11 +520,11 @@ const FOR = {
 };
 
 function drawActions() {
-  const chosen = look.view === "journal" ? [] : chosenRows(), shown = unacknowledgedShown();
+  const chosen = look.view === "journal" ? [] : chosenRows(), shown = unacknowledgedShown(), isOld = plants.every(plant => plant.isOld);
   for (const button of $("actions").querySelectorAll("button")) {
     const act = button.dataset.act;
     button.hidden = !mayDo(act);
-    button.disabled = link.wasOld || (act === "SHOWN" ? !shown.length : !chosen.some(FOR[act]));
+    button.disabled = isOld || (act === "SHOWN" ? !shown.length : !chosen.some(FOR[act]));
   }
   const button = $("actions").querySelector("[data-act=SHOWN]");
   put(button.firstChild, shown.length ? `Acknowledge ${shown.length} shown ` : "Acknowledge shown ");
@@ -462,54 +537,61 @@ function say(text, isBad) {
 
 const DONE = {ACK: "acknowledged", RESET: "reset", SHELVE: "shelved", UNSHELVE: "unshelved", PRIO: "given another priority", SETP: "given another setpoint"};
 
-function sayAnswers(word, value, answers) {
+function sayAnswers(word, value, answers, faults) {
   const done = answers.filter(answer => answer[1] === "done"), said = answers.filter(answer => answer[3]);
   const which = word === "OOS" ? (value ? "out of service" : "back in service") : DONE[word];
-  const head = done.length === 1 ? `${tagOf(done[0][0])} ${which}` : `${done.length} ${which}`;
+  const head = done.length === 1 ? `${tagAndPlant(done[0][0])} ${which}` : `${done.length} ${which}`;
   const reasons = new Map();
-  for (const [n, , , why] of said) reasons.set(why, [...(reasons.get(why) ?? []), tagOf(n)]);
-  const rest = [...reasons].map(([why, tags]) => `${tags.slice(0, 4).join(", ")}${tags.length > 4 ? ` and ${tags.length - 4} more` : ""}: ${why}`);
+  for (const [id, , , why] of said) reasons.set(why, [...(reasons.get(why) ?? []), tagAndPlant(id)]);
+  const rest = [...reasons].map(([why, tags]) => `${tags.slice(0, 4).join(", ")}${tags.length > 4 ? ` and ${tags.length - 4} more` : ""}: ${why}`).concat(faults);
   say([done.length || !rest.length ? head : "", ...rest].filter(Boolean).join("; "), rest.length);
 }
 
-// Asks for an action of some alarms.
-async function ask(word, numbers, value, reason) {
-  if (!numbers.length || numbers.length > MOST_ALARMS) return say(numbers.length ? `choose at most ${MOST_ALARMS} alarms` : "nothing to do", true);
-  const body = JSON.stringify({era: plant.era, word, alarms: numbers.map(n => [n, stampSeen(n)]), value, reason});
-  say("..", false);
+// Asks a plant for an action of some of its alarms: what came of each, or why nothing is known of them.
+async function askPlant(plant, word, ids, value, reason) {
+  const body = JSON.stringify({plant: plant.place, era: plant.era, word, alarms: ids.map(id => [id % ALARMS, stampSeen(id)]), value, reason});
   try {
     const reply = await fetch("/do", {method: "POST", headers: {"Content-Type": "application/json", "X-Alarms-Key": me.key}, body});
     if (reply.status === 401) link.again();
-    if (!reply.ok) return say(`not done: ${(await reply.text()).trim().slice(0, 100)}`, true);
-    sayAnswers(word, value, (await reply.json()).answers);
+    if (!reply.ok) return {fault: of_(plant, `not done: ${(await reply.text()).trim().slice(0, 100)}`)};
+    return {answers: (await reply.json()).answers.map(([n, ...rest]) => [idOf(plant, n), ...rest])};
   } catch (error) {
-    say("no reply came: look whether it was done", true);
+    return {fault: of_(plant, "no reply came: look whether it was done")};
   }
+}
+
+// Asks for an action of some alarms, each at its own plant.
+async function ask(word, ids, value, reason) {
+  if (!ids.length || ids.length > MOST_ALARMS) return say(ids.length ? `choose at most ${MOST_ALARMS} alarms` : "nothing to do", true);
+  say("..", false);
+  const orders = plants.map(plant => [plant, ids.filter(id => plantOf(id) === plant)]).filter(([, own]) => own.length);
+  const results = await Promise.all(orders.map(([plant, own]) => askPlant(plant, word, own, value, reason)));
+  sayAnswers(word, value, results.flatMap(result => result.answers ?? []), results.flatMap(result => result.fault ?? []));
 }
 
 function act(name) {
   const button = $("actions").querySelector(`[data-act="${name}"]`);
   if (!button || button.disabled || button.hidden) return;
   if (name === "SHOWN") return ask("ACK", unacknowledgedShown());
-  const numbers = chosenRows().filter(FOR[name]).map(row => row[N]);
-  if (name === "ACK" || name === "RESET" || name === "UNSHELVE") return ask(name, numbers);
-  open_(name, numbers);
+  const ids = chosenRows().filter(FOR[name]).map(row => row[ID]);
+  if (name === "ACK" || name === "RESET" || name === "UNSHELVE") return ask(name, ids);
+  open_(name, ids);
 }
 
 // ---- what an action wants to know
 
-const asking = {name: "", numbers: [], era: null};
+const asking = {name: "", ids: [], eras: []};
 const TITLES = {SHELVE: "Shelve", "OOS ON": "Put out of service", "OOS OFF": "Put back in service", PRIO: "Another priority", SETP: "Another setpoint"};
 
-function open_(name, numbers) {
-  const tags = numbers.map(tagOf), row = plant.rows[numbers[0]];
-  Object.assign(asking, {name, numbers, era: plant.era});
+function open_(name, ids) {
+  const tags = ids.map(tagAndPlant), row = rowOf(ids[0]);
+  Object.assign(asking, {name, ids, eras: plants.map(plant => plant.era)});
   put($("asking-what"), TITLES[name]);
-  put($("asking-whom"), `${tags.length === 1 ? `${tags[0]}, ${plant.table[numbers[0]][TEXT]}` : `${tags.length} alarms: ${tags.slice(0, 30).join(", ")}${tags.length > 30 ? " .." : ""}`}`);
+  put($("asking-whom"), `${tags.length === 1 ? `${tags[0]}, ${alarmOf(row)[TEXT]}` : `${tags.length} alarms: ${tags.slice(0, 30).join(", ")}${tags.length > 30 ? " .." : ""}`}`);
   put($("asking-said"), "");
   for (const part of ["duration", "minutes", "priority", "setpoint"]) $(`asking-${part}`).hidden = true;
   $("reason").value = "";
-  if (name === "SHELVE") offerDurations(numbers);
+  if (name === "SHELVE") offerDurations(ids);
   $("asking-priority").hidden = name !== "PRIO";
   $("asking-setpoint").hidden = name !== "SETP";
   $("priority").value = String(row[PRIORITY]);
@@ -519,8 +601,8 @@ function open_(name, numbers) {
   ($("asking").querySelector("label:not([hidden]) :is(select, input)") ?? $("reason")).focus();
 }
 
-function offerDurations(numbers) {
-  const limits = numbers.map(n => plant.table[n][MAX_SHELVE]).filter(Boolean);
+function offerDurations(ids) {
+  const limits = ids.map(id => alarmOf(rowOf(id))[MAX_SHELVE]).filter(Boolean);
   if (!limits.length) return put($("asking-said"), "The table doesn't let them be shelved.");
   const most = Math.min(...limits), fit = DURATIONS.filter(seconds => seconds <= most);
   if (!fit.includes(most)) fit.push(most);
@@ -528,7 +610,7 @@ function offerDurations(numbers) {
   $("duration").value = fit.includes(3600) ? 3600 : fit[0];
   $("asking-duration").hidden = false;
   $("minutes").max = Math.floor(most / 60);
-  if (limits.length < numbers.length) put($("asking-said"), `The table doesn't let ${numbers.length - limits.length} of them be shelved.`);
+  if (limits.length < ids.length) put($("asking-said"), `The table doesn't let ${ids.length - limits.length} of them be shelved.`);
 }
 
 // The number that an action has, as it was typed; undefined where it has none.
@@ -542,16 +624,18 @@ function submit(event) {
   if (!$("reason").value.trim()) return put($("asking-said"), "A reason is wanted.");
   if (!Number.isSafeInteger(typed()) || (asking.name === "SHELVE" && typed() < 1)) return put($("asking-said"), "That is no number.");
   $("asking").close();
-  if (asking.era !== plant.era) return say("the plant is another one than was seen: look again", true);
-  ask(asking.name.split(" ")[0], asking.numbers, typed(), $("reason").value.trim());
+  if (asking.ids.some(id => asking.eras[plantOf(id).place] !== plantOf(id).era)) return say("the plant is another one than was seen: look again", true);
+  ask(asking.name.split(" ")[0], asking.ids, typed(), $("reason").value.trim());
 }
 
 // ---- sound
 
 function loudest() {
   let least = 0;
-  for (const row of plant.rows) {
-    if (UNACKNOWLEDGED.has(row[SHOWN]) && sound.silenced.get(row[N]) !== row[STAMP] && (!least || row[PRIORITY] < least)) least = row[PRIORITY];
+  for (const plant of plants) {
+    for (const row of plant.rows) {
+      if (UNACKNOWLEDGED.has(row[SHOWN]) && sound.silenced.get(row[ID]) !== row[STAMP] && (!least || row[PRIORITY] < least)) least = row[PRIORITY];
+    }
   }
   return least;
 }
@@ -592,7 +676,7 @@ function allowSound() {
 }
 
 function silence() {
-  for (const row of plant.rows) if (UNACKNOWLEDGED.has(row[SHOWN])) sound.silenced.set(row[N], row[STAMP]);
+  for (const plant of plants) for (const row of plant.rows) if (UNACKNOWLEDGED.has(row[SHOWN])) sound.silenced.set(row[ID], row[STAMP]);
   hear();
   touch();
 }
@@ -610,20 +694,20 @@ function select(place, event) {
   screen_.cursor = place;
   if (look.view === "journal" || !row) return touch();
   if (event.shiftKey && screen_.anchor !== null) {
-    const from = screen_.items.findIndex(one => one[N] === screen_.anchor);
-    screen_.chosen = new Set(screen_.items.slice(Math.min(from < 0 ? place : from, place), Math.max(from, place) + 1).map(one => one[N]));
+    const from = screen_.items.findIndex(one => one[ID] === screen_.anchor);
+    screen_.chosen = new Set(screen_.items.slice(Math.min(from < 0 ? place : from, place), Math.max(from, place) + 1).map(one => one[ID]));
   } else if (event.ctrlKey || event.metaKey) {
-    toggle(row[N]);
+    toggle(row[ID]);
   } else {
-    screen_.chosen = new Set([row[N]]);
-    screen_.anchor = row[N];
+    screen_.chosen = new Set([row[ID]]);
+    screen_.anchor = row[ID];
   }
   draw();
 }
 
-function toggle(n) {
-  if (!screen_.chosen.delete(n)) screen_.chosen.add(n);
-  screen_.anchor = n;
+function toggle(id) {
+  if (!screen_.chosen.delete(id)) screen_.chosen.add(id);
+  screen_.anchor = id;
 }
 
 function reveal(place) {
@@ -642,11 +726,11 @@ function press(event) {
     reveal(place);
     select(place, {shiftKey: event.shiftKey});
   } else if ((event.ctrlKey || event.metaKey) && event.key === "a" && !isJournal) {
-    screen_.chosen = new Set(screen_.items.map(one => one[N]));
+    screen_.chosen = new Set(screen_.items.map(one => one[ID]));
   } else if (event.ctrlKey || event.metaKey || event.altKey) {
     return;
   } else if (event.key === " " && row && !isJournal) {
-    toggle(row[N]);
+    toggle(row[ID]);
   } else if (event.key === "Escape") {
     screen_.chosen.clear();
   } else if (keys[event.key]) {
@@ -681,21 +765,35 @@ function sortBy(name) {
 }
 
 function clearFilters() {
-  Object.assign(look, {area: "", state: "", text: "", priorities: new Set()});
+  Object.assign(look, {area: "", state: "", text: "", priorities: new Set(), plants: new Set()});
   $("state").value = $("text").value = "";
   draw();
 }
 
 // ---- the stream
 
+// A stream begins: who the operator is, and which plants there are. Of the same plants nothing that is shown goes.
+function greet(hello) {
+  Object.assign(me, hello);
+  if (JSON.stringify(hello.plants) === JSON.stringify(plants.map(plant => plant.name))) return;
+  plants.forEach(forget);
+  plants = hello.plants.map(newPlant);
+  clearFilters();
+}
+
 function take(news, isWhole) {
+  const plant = plants[news.plant];
   link.heard = performance.now();
   link.signedOut = false;
   if (isWhole) {
-    if (news.era !== plant.era) forget();
+    if (news.era !== plant.era) forget(plant);
     Object.assign(plant, {era: news.era, areas: news.areas, table: news.table, rows: [], events: []});
   }
-  for (const row of news.rows) plant.rows[row[N]] = row;
+  for (const row of news.rows) {
+    row.push(plant, idOf(plant, row[N]));
+    plant.rows[row[N]] = row;
+  }
+  for (const event of news.events) event.push(plant);
   plant.events = plant.events.concat(news.events).slice(-MOST_EVENTS);
   plant.head = news.head;
   hear();
@@ -704,16 +802,18 @@ function take(news, isWhole) {
 }
 
 // Another plant: nothing that was selected, seen or silenced is of it.
-function forget() {
-  for (const one of [screen_.chosen, screen_.seen, screen_.drawn, sound.silenced]) one.clear();
+function forget(plant) {
+  for (const one of [screen_.chosen, screen_.seen, sound.silenced]) for (const id of [...one.keys()]) if (plantOf(id) === plant) one.delete(id);
+  screen_.drawn.clear();
+  screen_.items = [];
   $("rows").replaceChildren();
-  if ($("asking").open) $("asking").close();
-  if (plant.era) say("the plant is another one than before", true);
+  if ($("asking").open && asking.ids.some(id => plantOf(id) === plant)) $("asking").close();
+  if (plant.era) say(of_(plant, "the plant is another one than before"), true);
 }
 
 function connect() {
   const source = new EventSource("/stream");
-  source.addEventListener("hello", event => Object.assign(me, JSON.parse(event.data)));
+  source.addEventListener("hello", event => greet(JSON.parse(event.data)));
   source.addEventListener("all", event => take(JSON.parse(event.data), true));
   source.addEventListener("news", event => take(JSON.parse(event.data), false));
   const again = link.again = () => {
@@ -769,6 +869,11 @@ function listenToControls() {
     if (priority && !look.priorities.delete(priority)) look.priorities.add(priority);
     draw();
   });
+  $("plants").addEventListener("click", event => {
+    const place = event.target.closest("button")?.dataset.plant;
+    if (place !== undefined && !look.plants.delete(Number(place))) look.plants.add(Number(place));
+    draw();
+  });
   $("tabs").addEventListener("click", event => event.target.dataset.view && turn(event.target.dataset.view));
   $("tabs").addEventListener("keydown", event => {
     const views = Object.keys(VIEWS), step = {ArrowRight: 1, ArrowLeft: -1}[event.key];
@@ -801,7 +906,7 @@ function listenToList() {
   $("rows").addEventListener("click", event => {
     const n = event.target.closest("tr")?.dataset.n;
     if (n === undefined) return;
-    const place = screen_.items.findIndex(row => row[N] === Number(n));
+    const place = screen_.items.findIndex(row => row[ID] === Number(n));
     select(place, event.target.classList.contains("box") ? {ctrlKey: true} : event);
     $("list").focus({preventScroll: true});
   });
