@@ -21,7 +21,8 @@ CLAIMS = {
     "A receipt and a look: `what_is_told_stays_stored`": ["alm_moments.Moments:StaysStored", "alm_moments.Moments:AreHeld"],
     "One thread: `life`": [
         "alm_bench.StandOnly:StandOnly", "alm_bench.Traced:KeepsTold", "alm_pipeline.Headline:IsRun", "alm_pipeline.Headline:device_alone",
-        "alm_pipeline.World:first", "alm_pipeline.World:closed_world", "alm_keeper.AsStore:StandsFor", "alm_keeper.AsStore:IsLastEpoch"],
+        "alm_pipeline.World:first", "alm_pipeline.World:closed_world", "alm_pipeline.Pace:PacesAll", "alm_pipeline.Pace:most_more",
+        "alm_keeper.AsStore:StandsFor", "alm_keeper.AsStore:IsLastEpoch"],
 }
 LAWS = ["alm_laws", "alm_progress"]
 MARK = "-- For the proofs.\n"

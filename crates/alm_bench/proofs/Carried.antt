@@ -1,5 +1,5 @@
 -- Steps that leave the device alone, and what is true of a bench, carried over.
-use Rattle.std.proofs.Common.{◌≡◌, true, false, ℕ, List, refl, sym, ap, ◌∙◌, subst, inl}
+use Rattle.std.proofs.Common.{◌≡◌, true, false, ℕ, List, refl, sym, ap, ◌∙◌, subst, inl, arith}
 use Rattle.std.proofs.lemmas.Bool.{true≢false}
 use Rattle.alm_disk.specs.Device.{DeviceState}
 use Rattle.alm_disk.specs.declared.disk.Disk
@@ -15,11 +15,28 @@ use Rattle.alm_bench.specs.declared.setup.Setup.TheVariants.{Open, Shut, Gone}
 use Rattle.alm_pipeline.specs.declared.step.Step.{Step}
 use Rattle.alm_pipeline.specs.declared.step.Step.TheVariants.{Send, Take, Seal, Fetch, Call, Publish, Release, GiveBack, Receive, Look, Crash, Reopen}
 use Rattle.alm_pipeline.specs.declared.event.Event.{Event}
-use Rattle.alm_pipeline.specs.declared.event.Event.TheVariants.{Failed, Skipped}
+use Rattle.alm_pipeline.specs.declared.event.Event.TheVariants.{Failed, Crashed, Opened, Skipped}
 use Rattle.alm_pipeline.specs.World.{World, Answers, after_step}
 use Rattle.alm_pipeline.specs.Headline.{Sight, Moves}
 use Rattle.alm_pipeline.specs.Matches.{IsInner}
-use Rattle.alm_bench.specs.Stands.{IsSetup, sight, IsThere, serves_well, Reopens}
+use Rattle.alm_pipeline.specs.Pace.{most_more}
+use Rattle.alm_pipeline.proofs.Paced.{none_few, skipped_paces}
+use Rattle.alm_pipeline.specs.declared.pipeline.Pipeline.{Pipeline}
+use Rattle.alm_bench.specs.Stands.{IsSetup, sight, IsThere, serves_well, Reopens, ends_after, steps_paced}
+
+pub after_skipped : (w : World) (step : Step) → after_step w step Skipped ≡ w
+after_skipped w (Send slot a) = refl
+after_skipped w (Take slot) = refl
+after_skipped w Seal = refl
+after_skipped w Fetch = refl
+after_skipped w Call = refl
+after_skipped w Publish = refl
+after_skipped w Release = refl
+after_skipped w GiveBack = refl
+after_skipped w (Receive slot) = refl
+after_skipped w (Look slot query) = refl
+after_skipped w (Crash bytes) = refl
+after_skipped w Reopen = refl
 
 module _ {D : Type 0} {g : Ghosts (Keeper D) D} {d : Disk.Ghosts D} where
   pub carried : (w : World) (step : Step) (event : Event) (n n' k k' : ℕ) (s s' t t' : T.Setup D D g d) → n ≡ n' → k ≡ k' → s ≡ s' → t ≡ t'
@@ -32,6 +49,24 @@ module _ {D : Type 0} {g : Ghosts (Keeper D) D} {d : Disk.Ghosts D} where
 
   pub still : (w : World) (s t : T.Setup D D g d) → s ≡ t → IsSetup w s → IsSetup w t
   still w s t same stands = subst (λ (x : T.Setup D D g d). IsSetup w x) same stands
+
+  pub paced_as : (more : ℕ) (w : World) (s t : T.Setup D D g d) → s ≡ t → ends_after more w s → ends_after more w t
+  paced_as more w s t same paced = subst (λ (x : T.Setup D D g d). ends_after more w x) same paced
+
+  pub steps_as : (w : World) (step : Step) (event : Event) (more : ℕ) (s t : T.Setup D D g d) → s ≡ t → steps_paced w step event more s → steps_paced w step event more t
+  steps_as w step event more s t same paced = subst (λ (x : T.Setup D D g d). steps_paced w step event more x) same paced
+
+  -- a step that is skipped leaves it in the same pace
+  pub skips_paced : (w : World) (step : Step) (more : ℕ) (s t : T.Setup D D g d) → s ≡ t → ends_after more w s → steps_paced w step Skipped more t
+  skips_paced w step more s t same paced = (more, skipped_paces most_more w step more, subst (λ (v : World). ends_after more v t) (sym (after_skipped w step)) (paced_as more w s t same paced))
+
+  -- after a crash no batch is held
+  pub crash_paced : (w : World) (bytes : _) (more : ℕ) (disk : D) (t : T.Setup D D g d) → Shut disk ≡ t → steps_paced w (Crash bytes) Crashed more t
+  crash_paced w bytes more disk t same = steps_as w (Crash bytes) Crashed more (Shut disk) t same (more, omega arith, none_few w)
+
+  -- nor after a reopening
+  pub open_paced : (w : World) (n more : ℕ) (pipeline : Pipeline (Keeper D) D g d) → steps_paced w Reopen (Opened n) more (Open pipeline)
+  open_paced w n more pipeline = (more, omega arith, record { few = none_few w; ends = λ held. absurd held })
 
   pub failed_between : (n k : ℕ) (s s' t t' : T.Setup D D g d) → s ≡ s' → t ≡ t' → HasFailed (sight n s).failures (sight k t).failures → HasFailed (sight n s').failures (sight k t').failures
   failed_between n k s s' t t' from to failed =
@@ -81,20 +116,6 @@ inner_skips w (Look slot query) inner shut = inl (λ possible. shut_not_open w.c
 inner_skips w Call inner shut = absurd inner
 inner_skips w (Crash bytes) inner shut = absurd inner
 inner_skips w Reopen inner shut = absurd inner
-
-pub after_skipped : (w : World) (step : Step) → after_step w step Skipped ≡ w
-after_skipped w (Send slot a) = refl
-after_skipped w (Take slot) = refl
-after_skipped w Seal = refl
-after_skipped w Fetch = refl
-after_skipped w Call = refl
-after_skipped w Publish = refl
-after_skipped w Release = refl
-after_skipped w GiveBack = refl
-after_skipped w (Receive slot) = refl
-after_skipped w (Look slot query) = refl
-after_skipped w (Crash bytes) = refl
-after_skipped w Reopen = refl
 
 -- .. and leaves all as it was
 pub inner_stays : (recovers : List ℕ → Condensed → Type 0) (spent : DeviceState → Type 0) (w : World) (step : Step) (d : Sight) → IsInner step → w.closed ≡ true → Moves recovers spent w step Skipped d d

@@ -4,3 +4,4 @@ pub mod Carried
 pub mod Order
 pub mod Told
 pub mod Traces
+pub mod Answering

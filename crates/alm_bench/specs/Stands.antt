@@ -10,9 +10,11 @@ use Rattle.alm_bench.specs.declared.bench.Bench.{Bench}
 use Rattle.alm_store.specs.Calls.{OpensBy, IsRefusedBy}
 use Rattle.alm_pipeline.specs.declared.event.Event.{Event}
 use Rattle.alm_pipeline.specs.declared.event.Event.TheVariants.{Opened, Unopened}
-use Rattle.alm_pipeline.specs.World.{World}
+use Rattle.alm_pipeline.specs.declared.step.Step.{Step}
+use Rattle.alm_pipeline.specs.World.{World, after_step}
+use Rattle.alm_pipeline.specs.Pace.{FitsBatches, Paces, most_more}
 use Rattle.alm_pipeline.specs.Headline.{Headline, Sight, device_alone}
-use Rattle.alm_pipeline.specs.Matches.{CallsSurely, MatchesOpenWorld, sight_in}
+use Rattle.alm_pipeline.specs.Matches.{CallsSurely, EndsAfter, MatchesOpenWorld, sight_in}
 
 module _ {D : Type 0} {g : Ghosts (Keeper D) D} {d : Disk.Ghosts D} where
   -- its device is honest: an open bench has the world's pipeline; of a closed one each image encodes what the world has
@@ -59,6 +61,23 @@ module _ {D : Type 0} {g : Ghosts (Keeper D) D} {d : Disk.Ghosts D} where
 
   abbrev pub NextIsSure : Bench D D g d → Type 0
   NextIsSure bench = is_sure bench.setup
+
+  -- The commit of the batch that it holds ends after at most this number of calls that return More. It says nothing of a bench
+  -- without such a batch
+  abbrev pub ends_after : (more : ℕ) → World → T.Setup D D g d → Type 0
+  ends_after more w (Open pipeline) = EndsAfter more w pipeline
+  ends_after more w (Shut disk) = FitsBatches w
+  ends_after more w Gone = ⊥
+
+  abbrev pub IsPaced : (more : ℕ) → World → Bench D D g d → Type 0
+  IsPaced more w bench = ends_after more w bench.setup
+
+  -- this step with this answer meets the pace, and leaves a bench that is paced
+  abbrev pub steps_paced : World → Step → Event → (more : ℕ) → T.Setup D D g d → Type 0
+  steps_paced w step event more setup = (next : ℕ) × Paces most_more w step event more next × ends_after next (after_step w step event) setup
+
+  abbrev pub StepsPaced : World → Step → Event → (more : ℕ) → Bench D D g d → Type 0
+  StepsPaced w step event more bench = steps_paced w step event more bench.setup
 
   -- it was opened over this device by a sync and reads, and no other calls were made on it
   abbrev pub OpensFrom : D → T.Setup D D g d → Type 0

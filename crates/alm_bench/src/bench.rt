@@ -1,11 +1,12 @@
 //! A bench: all parts over a device, driven step by step.
 
-ghost use Rattle.std.specs.Prelude.{◌≡◌, ◌↔◌, ℕ, List, false, IfOk, IfErr, MatchResult, OnErr};
+ghost use Rattle.std.specs.Prelude.{◌≡◌, ◌↔◌, ◌≤◌, ℕ, List, length, false, IfOk, IfErr, MatchResult, OnErr};
 ghost use Rattle.alm_disk.specs.Device.{IsImage};
 ghost use Rattle.alm_model.specs.Plant.{Condensed};
 ghost use Rattle.alm_keeper.specs.AsStore.{StandsFor, IsLastEpoch};
 ghost use Rattle.alm_store.specs.Opening.{HasCause};
 ghost use Rattle.alm_pipeline.specs.World.{World, Answers, after_step, first, closed_world};
+ghost use Rattle.alm_pipeline.specs.declared.step.Step.{Step};
 ghost use Rattle.alm_pipeline.specs.declared.step.Step.TheVariants as S;
 
 use crate::named::crashed;
@@ -34,8 +35,10 @@ impl<D: Crashable + Drop> Bench<D> {
     ghost use Rattle.alm_pipeline.specs.Matches.{IsInner};
     ghost use Rattle.alm_disk.specs.Failures.{HasFailed};
     ghost use Rattle.alm_store.specs.Calls.{IsRefusedBy};
-    ghost use Rattle.alm_bench.specs.Stands.{MatchesBench, bench_sight, HasDevice, IsHonest, NextIsSure, IsOpenedFrom, IsReopened};
+    ghost use Rattle.alm_bench.specs.Stands.{MatchesBench, bench_sight, HasDevice, IsHonest, IsPaced, StepsPaced, NextIsSure, IsOpenedFrom, IsReopened};
     ghost use Rattle.alm_pipeline.specs.Headline.{Headline, Moves, IsRun, after_steps, device_alone};
+    ghost use Rattle.alm_pipeline.specs.Pace.{Paces, PacesAll, most_more};
+    ghost use Rattle.alm_progress.specs.Progress.{AreReceived, AreRounds, LosesNothing, NoneFails, left_to_do, steps_of};
     ghost use Rattle.alm_bench.specs.StandOnly.{StandOnly};
     ghost use Rattle.alm_pipeline.specs.declared.step.Step.TheVariants as S;
     ghost use Rattle.alm_pipeline.specs.declared.event.Event.TheVariants as E;
@@ -44,6 +47,7 @@ impl<D: Crashable + Drop> Bench<D> {
     pub fn closed(alloc: Global, disk: D) -> Bench<D>
         ensures stands { D.honest disk → (plant : Condensed) → StandOnly (D.state disk) plant →
             MatchesBench (closed_world (first plant)) result }
+        ensures paced { (plant : Condensed) → IsPaced 0 (closed_world (first plant)) result }
         ensures device { bench_sight result ≡ device_alone (D.state disk) (D.failures disk) 0 }
         ensures honest { D.honest disk ↔ IsHonest result }
         ensures there { HasDevice result }
@@ -60,6 +64,7 @@ impl<D: Crashable + Drop> Bench<D> {
     pub fn new(alloc: Global, disk: D) -> Result<Bench<D>, (OpenFault, D)>
         ensures stands { D.honest disk → (plant : Condensed) → StandOnly (D.state disk) plant →
             IfOk result (λ bench. MatchesBench (first plant) bench) }
+        ensures paced { IfOk result (λ bench. (plant : Condensed) → IsPaced 0 (first plant) bench) }
         /// The calls made on this device are a sync and reads, and no others; if it is refused, up to its fault.
         ensures made { MatchResult result (IsOpenedFrom disk)
             (λ e. IsRefusedBy e.0 D.serves disk e.1) }
@@ -137,6 +142,8 @@ impl<D: Crashable + Drop> Bench<D> {
         ensures moves { (w : World) → MatchesBench w self.old →
             Moves StandsFor IsLastEpoch w (S.Crash bytes.now) result (bench_sight self.old)
             (bench_sight self.new) }
+        ensures paces { (w : World) (more : ℕ) → MatchesBench w self.old → IsPaced more w self.old →
+            StepsPaced w (S.Crash bytes.now) result more self.new }
         ensures there { HasDevice self.old → HasDevice self.new }
     {
         match self.take() {
@@ -161,6 +168,8 @@ impl<D: Crashable + Drop> Bench<D> {
             MatchesBench (after_step w S.Reopen result) self.new }
         ensures moves { (w : World) → MatchesBench w self.old →
             Moves StandsFor IsLastEpoch w S.Reopen result (bench_sight self.old) (bench_sight self.new) }
+        ensures paces { (w : World) (more : ℕ) → MatchesBench w self.old → IsPaced more w self.old →
+            StepsPaced w S.Reopen result more self.new }
         ensures reopened { IsReopened self.old result self.new }
         ensures there { HasDevice self.old → HasDevice self.new }
     {
@@ -191,6 +200,8 @@ impl<D: Crashable + Drop> Bench<D> {
             MatchesBench (after_step w S.Call result) self.new }
         ensures moves { (w : World) → MatchesBench w self.old →
             Moves StandsFor IsLastEpoch w S.Call result (bench_sight self.old) (bench_sight self.new) }
+        ensures paces { (w : World) (more : ℕ) → MatchesBench w self.old → IsPaced more w self.old →
+            StepsPaced w S.Call result more self.new }
         ensures sure { result ≡ E.Failed → NextIsSure self.old → (w : World) → MatchesBench w self.old →
             HasFailed (bench_sight self.old).failures (bench_sight self.new).failures }
         ensures there { HasDevice self.old → HasDevice self.new }
@@ -231,6 +242,8 @@ impl<D: Crashable + Drop> Bench<D> {
             MatchesBench (after_step w step.now result) self.new }
         ensures moves { (w : World) → MatchesBench w self.old →
             Moves StandsFor IsLastEpoch w step.now result (bench_sight self.old) (bench_sight self.new) }
+        ensures paces { (w : World) (more : ℕ) → MatchesBench w self.old → IsPaced more w self.old →
+            StepsPaced w step.now result more self.new }
         ensures there { HasDevice self.old → HasDevice self.new }
     {
         match self.take() {
@@ -254,6 +267,8 @@ impl<D: Crashable + Drop> Bench<D> {
             MatchesBench (after_step w step.now result) self.new }
         ensures moves { (w : World) → MatchesBench w self.old →
             Moves StandsFor IsLastEpoch w step.now result (bench_sight self.old) (bench_sight self.new) }
+        ensures paces { (w : World) (more : ℕ) → MatchesBench w self.old → IsPaced more w self.old →
+            StepsPaced w step.now result more self.new }
         ensures sure { step.now ≡ S.Call → result ≡ E.Failed → NextIsSure self.old → (w : World) →
             MatchesBench w self.old →
             HasFailed (bench_sight self.old).failures (bench_sight self.new).failures }
@@ -283,6 +298,10 @@ impl<D: Crashable + Drop> Bench<D> {
             MatchesBench (after_step w step.now result) self.new }
         ensures moves { (w : World) → MatchesBench w self.old →
             Moves StandsFor IsLastEpoch w step.now result (bench_sight self.old) (bench_sight self.new) }
+        /// The commit of a held batch ends: at most `most_more` of its calls return More, and each leaves one less.
+        ensures paces { (w : World) (more : ℕ) → MatchesBench w self.old → IsPaced more w self.old →
+            (next : ℕ) × Paces most_more w step.now result more next ×
+            IsPaced next (after_step w step.now result) self.new }
         // A call of the device fails only if the device failed in it, or if the last epoch has no room for the held batch.
         ensures sure { step.now ≡ S.Call → result ≡ E.Failed → NextIsSure self.old → (w : World) →
             MatchesBench w self.old →
@@ -314,6 +333,20 @@ impl<D: Crashable + Drop> Bench<D> {
         ensures stands { IfOk result
             (λ trace. (w : World) → MatchesBench w self.old →
             MatchesBench (after_steps w steps.now trace.items) self.new) }
+        /// Each commit in it ends: at most `most_more` of a batch's calls return More.
+        ensures paces { IfOk result
+            (λ trace. (w : World) (more : ℕ) → MatchesBench w self.old → IsPaced more w self.old →
+            (last : ℕ) × PacesAll most_more w more steps.now trace.items last ×
+            IsPaced last (after_steps w steps.now trace.items) self.new) }
+        /// So every fair schedule answers all. If the steps are as many rounds as steps were left, and no call fails, each
+        /// request that was sent before them is received.
+        ensures answered { IfOk result
+            (λ trace. (slots more : ℕ) (w : World) (rounds : List (List Step)) →
+            MatchesBench w self.old → IsPaced more w self.old → LosesNothing w →
+            AreRounds slots most_more rounds →
+            left_to_do slots most_more w more ≤ length rounds → steps.now ≡ steps_of rounds →
+            NoneFails trace.items →
+            AreReceived slots most_more w (after_steps w steps.now trace.items)) }
         ensures there { HasDevice self.old → HasDevice self.new }
         ensures memory { OnErr result (self.new ≡ self.old) }
     {

@@ -10,6 +10,8 @@ ghost use Rattle.alm_board.specs.Fronts.{IsFront};
 ghost use Rattle.alm_keeper.specs.AsStore.{StandsFor, IsLastEpoch};
 ghost use Rattle.alm_pipeline.specs.World.{first, closed_world};
 ghost use Rattle.alm_pipeline.specs.Headline.{Sight, IsRun, after_steps};
+ghost use Rattle.alm_pipeline.specs.Pace.{PacesAll, most_more};
+ghost use Rattle.alm_progress.specs.Progress.{AreReceived, AreRounds, NoneFails, left_to_do, steps_of};
 ghost use Rattle.alm_bench.specs.Told.{Tells};
 ghost use Rattle.alm_bench.specs.Traced.{KeepsTold, told_in};
 ghost use Rattle.alm_pipeline.specs.declared.step.Step.{Step};
@@ -60,4 +62,20 @@ pub fn looks_never_go_back()
         IsRun StandsFor IsLastEpoch (closed_world (first plant)) d
         (steps ++ Look slot query ∷ behind) (trace ++ Looked count ∷ rest) last →
         told_in trace ≤ count }
+{}
+
+/// The parts answer all. After any steps, crashes and reopenings let rounds follow, as many as steps are left, in which no call
+/// fails. In a round each step of sequencer, flusher and receivers comes at least once, in any order. Then each request that was
+/// sent before them is received.
+pub fn fair_rounds_answer_all()
+    ensures { (slots pace : ℕ) (plant : Condensed) (d last : Sight) (steps : List Step)
+        (rounds : List (List Step)) (trace rest : List Event) → length steps ≡ length trace →
+        IsRun StandsFor IsLastEpoch (closed_world (first plant)) d (steps ++ steps_of rounds)
+        (trace ++ rest) last →
+        PacesAll most_more (closed_world (first plant)) 0 (steps ++ steps_of rounds)
+        (trace ++ rest) pace → AreRounds slots most_more rounds → NoneFails rest →
+        left_to_do slots most_more (after_steps (closed_world (first plant)) steps trace)
+        most_more ≤ length rounds →
+        AreReceived slots most_more (after_steps (closed_world (first plant)) steps trace)
+        (after_steps (closed_world (first plant)) (steps ++ steps_of rounds) (trace ++ rest)) }
 {}

@@ -14,14 +14,15 @@
 //! | [`Event`] | what came of it; the events of a run are its trace |
 //! | [`life`] | a run from a formatted device, which is returned |
 //! | [`whole_life`] | a run from a device that is formatted first, and returned |
-//! | [`laws`] | what was reported or shown in a run is recovered ever after |
+//! | [`laws`] | what was reported or shown in a run is recovered ever after; fair rounds answer all |
 //!
 //! The one contract that is used above is that of [`Bench::run`], and [`life`] says it in one call. The trace is that
 //! of a world of plain lists (alm_pipeline, specs/World.antt): each event is the answer of its step. Skipped means that
 //! the step isn't possible or a look is refused. Before the first step and after each, every image that a crash may
 //! leave of the device encodes the plant that a prefix of the accepted actions makes. The prefix contains each action
 //! that a look showed or whose reply was released. Each list of that plant consists of the alarms that belong to it,
-//! sorted by stamp (alm_pipeline, specs/Headline.antt).
+//! sorted by stamp (alm_pipeline, specs/Headline.antt). Each commit ends (alm_pipeline, specs/Pace.antt), so the laws of
+//! alm_progress apply to its runs.
 //!
 //! The premise is that the device does what its trait says of it, and that it was formatted. Not covered: that any step is
 //! possible again after a failure, that memory suffices, and threads that run concurrently.
@@ -29,6 +30,8 @@
 //! Proved:
 //! - the headline: for any steps, crashes and reopenings the trace is a run of alm_pipeline's world, and nothing reported is
 //!   lost (by `life`, `whole_life`, `Bench::new`, `step`, `run`; `laws`)
+//! - each commit ends: at most 646 calls of a held batch return More. So rounds of steps in which no call fails receive all
+//!   that was sent before them (by `life`, `whole_life`, `step`, `run`; `laws`)
 //! - opening then returns a plant, Disk or out of memory, never Unformatted or Damaged; no Call is more than one device
 //!   call (by `life`, `step`, `run`)
 #![tactic(auto)]

@@ -10,6 +10,7 @@ ghost use Rattle.alm_keeper.specs.AsStore.{StandsFor, IsLastEpoch};
 ghost use Rattle.alm_pipeline.specs.World.{first, closed_world};
 ghost use Rattle.alm_store.specs.declared.phase.Phase.{Phase};
 ghost use Rattle.alm_pipeline.specs.Headline.{IsRun, device_alone};
+ghost use Rattle.alm_pipeline.specs.Pace.{PacesAll, most_more};
 ghost use Rattle.alm_bench.specs.StandOnly.{StandOnly};
 ghost use Rattle.alm_bench.specs.Traced.{KeepsTold};
 
@@ -42,6 +43,11 @@ pub fn life<D: Crashable + Drop>(
         IfOk result
         (λ lived.
         (image : List ℕ) → IsImage (D.state lived.1) image → KeepsTold plant lived.0.items image) }
+    // Each commit in it ends: at most `most_more` of a batch's calls return More.
+    ensures paces { D.honest disk → (plant : Condensed) → StandOnly (D.state disk) plant →
+        IfOk result
+        (λ lived. (last : ℕ) ×
+        PacesAll most_more (closed_world (first plant)) 0 steps.now lived.0.items last) }
     ensures refused { IfErr result
         (λ e. (D.honest disk ↔ D.honest e.1) × (D.state e.1 ≡ D.state disk) ×
         (D.failures e.1 ≡ D.failures disk)) }
@@ -77,6 +83,11 @@ pub fn whole_life<D: Crashable + Drop>(
         IfOk result
         (λ lived. (image : List ℕ) → IsImage (D.state lived.1) image →
         KeepsTold (new_plant table.now) lived.0.items image) }
+    ensures paces { D.honest disk →
+        IfOk result
+        (λ lived. (last : ℕ) ×
+        PacesAll most_more (closed_world (first (new_plant table.now))) 0 steps.now lived.0.items
+        last) }
     // The formatting was refused, or memory ran out when the device was formatted.
     ensures refused { IfErr result
         (λ e. IsLeftBy e.0 D.serves D.state D.honest D.size D.failures table.now disk e.1 ⊎

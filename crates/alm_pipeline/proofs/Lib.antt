@@ -8,3 +8,4 @@ pub mod Shown
 pub mod Placing
 pub mod Counts
 pub mod Opened
+pub mod Paced

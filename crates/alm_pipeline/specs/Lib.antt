@@ -1,4 +1,5 @@
 pub mod Named
 pub mod World
+pub mod Pace
 pub mod Matches
 pub mod Headline

@@ -31,7 +31,8 @@ use Rattle.alm_pipeline.specs.declared.step.Step.{Step}
 use Rattle.alm_pipeline.specs.declared.step.Step.TheVariants.{Call, Crash, Reopen}
 use Rattle.alm_pipeline.specs.declared.event.Event.{Event}
 use Rattle.alm_pipeline.specs.declared.event.Event.TheVariants.{More, Committed, Failed, Skipped}
-use Rattle.alm_pipeline.specs.World.{World, BatchStage, Nothing, Held, Stored, Shown, Note, after_step}
+use Rattle.alm_pipeline.specs.World.{World, BatchStage, Nothing, Held, Stored, Shown, Note, IsHeld, after_step}
+use Rattle.alm_pipeline.specs.Pace.{FitsBatches, Paces, most_more}
 use Rattle.alm_pipeline.specs.Headline.{Sight}
 use Rattle.alm_types.specs.Sizes.{most_out}
 
@@ -149,6 +150,15 @@ module _ {K D : Type 0} {g : Ghosts K D} {d : Disk.Ghosts D} where
   -- the commit of the fetched batch is done in at most m calls
   abbrev pub CommitsIn : ℕ → Pipeline K D g d → Type 0
   CommitsIn m p = let actions = to_commit p.flusher.held in let s = p.flusher.store in Within m (g.state s).phase (g.state s).left (g.takes s actions) (g.will_take s actions) (length actions)
+
+  -- .. and after at most `more` calls that return More, if a batch is held
+  pub record EndsAfter (more : ℕ) (w : World) (p : Pipeline K D g d) : Type 0 where
+    pub few : FitsBatches w
+    pub ends : IsHeld w.stage → CommitsIn (more + 1) p
+
+  -- this step with this answer meets the pace, and the commit ends after as many calls as it leaves
+  abbrev pub StepsInPace : World → Step → Event → (more : ℕ) → Pipeline K D g d → Type 0
+  StepsInPace w step event more p = (next : ℕ) × Paces most_more w step event more next × EndsAfter next (after_step w step event) p
 
   -- the ends of a slot, and those of the batch rings, know what the others did
   abbrev pub KnowsAtSlot : ℕ → Pipeline K D g d → Type 0

@@ -17,7 +17,8 @@
 //! The pipeline is then that of the world after it (`answer` and `fits` of each step). Skipped means that the step isn't possible
 //! or a look is refused. What a call does to the device is said by `moves`, and what a crash leaves by [`Pipeline::images`]. Each
 //! image encodes the plant that a prefix of the accepted actions makes, and the prefix contains all that was reported
-//! (specs/Headline.antt).
+//! (specs/Headline.antt). How often the calls of a commit return More is said by `paces` of `fetch`, `call` and `go`
+//! (specs/Pace.antt).
 //!
 //! Not covered: that memory suffices to open one, and threads that run concurrently.
 //!
@@ -26,6 +27,7 @@
 //!   it (by `Pipeline::open`, `send` .. `receive`, `look`)
 //! - honest device: each image holds a prefix of the accepted actions with all that was reported; why a call fails or is
 //!   skipped (by `call`, `images`)
+//! - over any device the calls of a held batch's commit return More at most 646 times (by `fetch`, `call`, `go`)
 #![tactic(auto)]
 
 mod event;

@@ -44,7 +44,7 @@ impl<K: Store> Pipeline<K> {
     ghost use Rattle.std.specs.Prelude.{◌≡◌, ◌↔◌, ◌≤◌, ◌<◌, ◌+◌, ℕ, length, slice_get, IsSome};
     ghost use Rattle.alm_disk.specs.Failures.{HasFailed};
     ghost use Rattle.alm_flush.specs.HeldBatch.{to_commit};
-    ghost use Rattle.alm_pipeline.specs.Matches.{MatchesWorld, MatchesOpenWorld, KnowsAtSlot, KnowsAll, CallFits, CallsSurely, CommitsIn, event_of_call, IsInner, sight_in};
+    ghost use Rattle.alm_pipeline.specs.Matches.{MatchesWorld, MatchesOpenWorld, KnowsAtSlot, KnowsAll, CallFits, CallsSurely, CommitsIn, EndsAfter, StepsInPace, event_of_call, IsInner, sight_in};
     ghost use Rattle.alm_pipeline.specs.declared.step.Step.TheVariants as S;
     ghost use Rattle.alm_pipeline.specs.Headline.{Moves, Headline};
     ghost use Rattle.alm_rings.specs.Batches.{emptied_of, given_of};
@@ -155,13 +155,20 @@ impl<K: Store> Pipeline<K> {
             (K.Device.failures (K.disk self.new.flusher.store) ≡
             K.Device.failures (K.disk self.old.flusher.store)) ×
             ((K.state self.new.flusher.store).phase ≡ (K.state self.old.flusher.store).phase) }
+        // The commit of a batch ends after at most `most_more` calls that return More.
+        ensures paces { (w : World) (more : ℕ) → MatchesOpenWorld w self.old →
+            EndsAfter more w self.old → StepsInPace w S.Fetch result more self.new }
     {
         self.tell_batches();
         if !self.flusher.waits() {
             return Event::Skipped;
         }
         match self.flusher.fetch() {
-            Fetch::Got => Event::Fetched,
+            Fetch::Got => {
+                // for the proof: how many calls are left of the store's work, by the contract of `images`
+                self.flusher.keeper().images();
+                Event::Fetched
+            }
             Fetch::Empty => Event::Skipped,
             Fetch::Held => Event::Skipped,
         }
@@ -194,6 +201,9 @@ impl<K: Store> Pipeline<K> {
         ensures ends { (m : ℕ) → result ≡ Advance.More →
             0 < length (to_commit self.old.flusher.held) → CommitsIn (m + 1) self.old →
             CommitsIn m self.new }
+        ensures paces { (w : World) (more : ℕ) → MatchesOpenWorld w self.old →
+            EndsAfter more w self.old →
+            StepsInPace w S.Call (event_of_call result) more self.new }
     {
         self.tell_batches();
         self.flusher.keeper().images();
@@ -309,6 +319,8 @@ impl<K: Store> Pipeline<K> {
         ensures moves { (w : World) → MatchesOpenWorld w self.old →
             Moves K.recovers K.spent w step.now result (sight_in answer.old.refused self.old)
             (sight_in answer.new.refused self.new) }
+        ensures paces { (w : World) (more : ℕ) → MatchesOpenWorld w self.old →
+            EndsAfter more w self.old → StepsInPace w step.now result more self.new }
     {
         match step {
             Step::Send(slot, action) => self.send(*slot, *action),

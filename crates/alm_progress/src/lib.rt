@@ -9,21 +9,23 @@
 //! | [`nothing_gets_lost`] | what was taken is released or under way, in each world of a run, crashes included |
 //! | [`all_is_answered_in_time`], [`a_way_leads_to_the_end`] | such steps alone lead to a world in which every request is received, and there are such steps |
 //! | [`every_fair_schedule_answers_all`] | rounds in any order, each step once or more in a round, receive all |
+//! | [`every_fair_run_answers_all`] | so of a run with its answers, if its commits end |
 //! | [`rounds_in_order_answer_all`] | from a settled world rounds in the threads' order receive a share of each slot: five for 18 slots with 64 each |
 //!
-//! One premise is added, `Paces`: the steps of a held batch's commit return More a bounded number of times. Not covered: that the
-//! calls of a bench or a desk meet it.
+//! One premise is added, `Paces` (alm_pipeline, specs/Pace.antt): the steps of a held batch's commit return More a bounded number
+//! of times. The runs of a bench meet it with 646 (`paces` of `Bench::step` and `Bench::run`), and so does a request to a stack
+//! (`paced` in the clause `run` of `submit`).
 //!
 //! Not covered: that a thread runs, since a part that is never driven does nothing; and requests that never stop coming. Then a
 //! slot can be starved by others if the order of steps is free, and the threads' shares are what prevents it. Five rounds hold
 //! only from a settled world: after seven sealed batches a request is received in the eighth.
 //!
 //! Proved:
-//! - laws of that world: nothing is stuck or lost while its parts step and no call fails. Their premise, `Paces`, is no
-//!   clause of a bench (by `nothing_is_stuck`, `nothing_gets_lost`, `all_is_answered_in_time`)
+//! - laws of that world: nothing is stuck or lost while its parts step and no call fails. A bench and a stack meet their
+//!   premise, `Paces` (by `nothing_is_stuck`, `nothing_gets_lost`, `all_is_answered_in_time`)
 #![tactic(auto)]
 
-ghost use Rattle.std.specs.Prelude.{◌≡◌, ◌<◌, ◌≤◌, ◌+◌, ◌*◌, ◌⊎◌, ℕ, List, length};
+ghost use Rattle.std.specs.Prelude.{◌≡◌, ◌<◌, ◌≤◌, ◌+◌, ◌*◌, ◌⊎◌, ◌++◌, ℕ, List, length};
 ghost use Rattle.alm_types.specs.declared.action.Action.{Action};
 ghost use Rattle.alm_types.specs.declared.query.Query.{Query};
 ghost use Rattle.alm_model.specs.Plant.{Condensed};
@@ -33,15 +35,16 @@ ghost use Rattle.alm_pipeline.specs.declared.event.Event.{Event};
 ghost use Rattle.alm_pipeline.specs.declared.event.Event.TheVariants.{Sent};
 ghost use Rattle.alm_pipeline.specs.World.{World, Answers, Possible, after_step, closed_world, first, new_world};
 ghost use Rattle.alm_pipeline.specs.Headline.{after_steps};
+ghost use Rattle.alm_pipeline.specs.Pace.{Paces, PacesAll};
 ghost use Rattle.alm_types.specs.Sizes.{most_entries};
 ghost use Rattle.alm_progress.specs.Schedule.{HasNothingUnderWay, DrivesInOrder};
-ghost use Rattle.alm_progress.specs.Progress.{AllServe, AnswersAll, Drives, LosesNothing, Serves, Paces, StepsPossibly, DrivesRounds, IsAtRest, AreReceived, left_to_do};
+ghost use Rattle.alm_progress.specs.Progress.{AllServe, AnswersAll, AreRounds, Drives, LosesNothing, NoneFails, Serves, StepsPossibly, DrivesRounds, IsAtRest, AreReceived, left_to_do, steps_of};
 
 /// Each step of sequencer, flusher or a receiver that is possible leaves less to do, whatever it is answered.
 pub fn each_step_leaves_less()
     ensures { (slots calls more more_then : ℕ) (w : World) (step : Step) (event : Event) →
         Serves slots calls step → Possible w step → Answers w step event →
-        Paces slots calls w step event more more_then →
+        Paces calls w step event more more_then →
         left_to_do slots calls (after_step w step event) more_then <
         left_to_do slots calls w more }
 {}
@@ -112,6 +115,30 @@ pub fn every_fair_schedule_answers_all()
     ensures { (slots calls more last : ℕ) (w end : World) (rounds : List (List Step)) →
         LosesNothing w → left_to_do slots calls w more ≤ length rounds →
         DrivesRounds slots calls w more rounds end last → AreReceived slots calls w end }
+{}
+
+/// So of a run with its answers, as a bench has it. If its steps are theirs, no call fails and its commits end, it is driven. If
+/// they are as many rounds as steps were left, each request that was sent before them is received. This holds from any world that
+/// lost nothing, and so after any steps of a life.
+pub fn every_fair_run_answers_all()
+    ensures driven { (slots calls more last : ℕ) (w : World) (steps : List Step) (trace : List Event) →
+        AllServe slots calls steps → AnswersAll w steps trace → NoneFails trace →
+        PacesAll calls w more steps trace last →
+        Drives slots calls w more steps trace (after_steps w steps trace) last }
+    ensures rounds { (slots calls more last : ℕ) (w : World) (rounds : List (List Step))
+        (trace : List Event) → LosesNothing w → AreRounds slots calls rounds →
+        left_to_do slots calls w more ≤ length rounds → AnswersAll w (steps_of rounds) trace →
+        NoneFails trace → PacesAll calls w more (steps_of rounds) trace last →
+        AreReceived slots calls w (after_steps w (steps_of rounds) trace) }
+    ensures lives { (slots calls last : ℕ) (plant : Condensed) (steps : List Step)
+        (rounds : List (List Step)) (trace rest : List Event) → length steps ≡ length trace →
+        AnswersAll (closed_world (first plant)) (steps ++ steps_of rounds) (trace ++ rest) →
+        PacesAll calls (closed_world (first plant)) 0 (steps ++ steps_of rounds) (trace ++ rest)
+        last → AreRounds slots calls rounds → NoneFails rest →
+        left_to_do slots calls (after_steps (closed_world (first plant)) steps trace) calls ≤
+        length rounds →
+        AreReceived slots calls (after_steps (closed_world (first plant)) steps trace)
+        (after_steps (closed_world (first plant)) (steps ++ steps_of rounds) (trace ++ rest)) }
 {}
 
 /// The bound in rounds. In the threads' order a round takes a share of each slot, brings the batch all the way and lets each slot

@@ -4,3 +4,4 @@ pub mod Worlds
 pub mod Leading
 pub mod Rests
 pub mod Looking
+pub mod Pace

@@ -1,5 +1,5 @@
 -- What a world says of its pipeline.
-use Rattle.std.proofs.Common.{zero, suc, Some, slice_get, ◌≡◌, inl, inr, ◌∙◌, ◌++◌, ◌∷◌, [], ◌≤◌, ◌<◌, ◌≢◌, ℕ, List, length, refl, sym, ap, arith}
+use Rattle.std.proofs.Common.{zero, suc, Some, slice_get, ◌≡◌, inl, inr, ◌∙◌, ◌++◌, ◌∷◌, [], ◌≤◌, ◌<◌, ℕ, List, length, refl, sym, ap, arith}
 use Rattle.std.proofs.Props.{props}
 use Rattle.std.proofs.Math.Logic.{∥∥₁_elim}
 use Rattle.std.proofs.lemmas.Bool.{cases_lt}
@@ -12,12 +12,9 @@ use Rattle.alm_disk.specs.Failures.{HasFailed}
 use Rattle.alm_disk.specs.declared.disk.Disk
 use Rattle.alm_rings.specs.Batches.{fetched_of}
 use Rattle.alm_store.specs.declared.store.Store.{Ghosts}
-use Rattle.alm_store.specs.declared.phase.Phase.{Phase}
-use Rattle.alm_store.specs.declared.phase.Phase.TheVariants.{Idle, Committing, Copying, Paused, Stopped}
 use Rattle.alm_seq.specs.Sequences.{live_of, history_of}
 use Rattle.alm_flush.specs.declared.held.Held as H
 use Rattle.alm_flush.specs.declared.held.Held.TheVariants as V
-use Rattle.alm_flush.specs.Advances.{Within}
 use Rattle.alm_flush.specs.HeldBatch.{stored_of, to_commit, waiting_of}
 use Rattle.alm_pipeline.specs.declared.pipeline.Pipeline.{Pipeline}
 use Rattle.alm_pipeline.specs.World.{World, Nothing, Held, live}
@@ -70,22 +67,6 @@ held_commits (V.Fetched b) entries trying is = let same : b.entries ≡ entries 
 held_commits (V.Failed b) entries trying is = absurd (trying tt)
 held_commits (V.Committed b) entries trying is = absurd (cc is)
 held_commits (V.Published b n) entries trying is = absurd (cc is)
-
--- ---- a commit ends
-
-pub ends_in_time : (p : Phase) (left n : ℕ) (takes will_take : Type 0) → p ≢ Stopped → left ≤ 320 → n ≤ 256 → Within 647 p left takes will_take n
-ends_in_time Idle left n takes will_take going few short = inr (short, omega arith)
-ends_in_time Committing left n takes will_take going few short = omega (arith, few)
-ends_in_time Copying left n takes will_take going few short = inr (short, omega (arith, few))
-ends_in_time Paused left n takes will_take going few short = inr (short, omega (arith, few))
-ends_in_time Stopped left n takes will_take going few short = absurd (going refl)
-
-pub no_time : (p : Phase) (left n : ℕ) (takes will_take : Type 0) → ¬ (Within 0 p left takes will_take n)
-no_time Idle left n takes will_take is = elim is [ inl x ↦ absurd (omega (arith, x.1)) | inr x ↦ absurd (omega (arith, x.1)) ]
-no_time Committing left n takes will_take is = absurd (omega (arith, is))
-no_time Copying left n takes will_take is = elim is [ inl x ↦ absurd (omega (arith, x.1)) | inr x ↦ absurd (omega (arith, x.1)) ]
-no_time Paused left n takes will_take is = elim is [ inl x ↦ absurd (omega (arith, x.1)) | inr x ↦ absurd (omega (arith, x.1)) ]
-no_time Stopped left n takes will_take is = is
 
 -- a failure since an earlier count
 pub fails_since : (a b c : ℕ) → a ≤ b → b ≤ c → HasFailed b c → HasFailed a c

@@ -18,6 +18,7 @@ use Rattle.alm_pipeline.specs.declared.event.Event.{Event}
 use Rattle.alm_pipeline.specs.declared.event.Event.TheVariants.{Sent, Busy, Took, Sealed, Fetched, More, Committed, Failed, Published, Released, GaveBack, Received}
 use Rattle.alm_pipeline.specs.declared.pipeline.Pipeline.{Pipeline}
 use Rattle.alm_pipeline.specs.World.{World, Nothing, Held, Answers, after_step, with_at}
+use Rattle.alm_pipeline.specs.Pace.{PacesAll, most_more}
 use Rattle.alm_pipeline.specs.Headline.{Sight, Headline, Moves, IsRun, after_steps}
 use Rattle.alm_pipeline.specs.Matches.{MatchesOpenWorld, sight_in}
 
@@ -36,9 +37,9 @@ pub record IsIdle (w : World) : Type 0 where
 
 -- ---- the steps of a request, and their answers
 
--- the most device calls of a commit: if a checkpoint is open, and another one has to make the room
+-- the most device calls of a commit: the last one doesn't return More
 abbrev pub commit_calls : ℕ
-commit_calls = 647
+commit_calls = most_more + 1
 
 -- n device calls that return More
 abbrev pub calls : ℕ → List Step
@@ -130,11 +131,13 @@ module _ {K D : Type 0} {g : Ghosts K D} {d : Disk.Ghosts D} where
   abbrev pub IsWay : World → List Step → List Event → World → (old new : Pipeline K D g d) → Type 0
   IsWay w steps trace w' old new = Leads g.recovers g.spent (d.honest (g.disk old.flusher.store)) w (sight_of old) steps trace w' (sight_of new)
 
-  -- a slot's request went through it as a run of the world's steps, and with an honest device as one of the headline's
+  -- A slot's request went through it as a run of the world's steps, and with an honest device as one of the headline's. The calls of
+  -- its commit meet the pace
   pub record IsExchange (w : World) (slot : ℕ) (want : Action) (old new : Pipeline K D g d) (result : Result JudgedRequest Stopped) : Type 0 where
     pub steps : List Step
     pub trace : List Event
     pub comes : ComesTo slot want result steps trace
     pub answers : IsTrace w steps trace
     pub run : (d.honest (g.disk old.flusher.store)) → IsRun g.recovers g.spent w (sight_of old) steps trace (sight_of new)
+    pub paced : (last : ℕ) × PacesAll most_more w 0 steps trace last
     pub rests : OnOk result (Rests (after_steps w steps trace) new)

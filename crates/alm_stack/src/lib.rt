@@ -18,9 +18,10 @@
 //! What is used above is that it is a [`Backend`](alm_desk::Backend): an answer is what the plant answers, and it is returned
 //! after the action is stored. `submit` also says that it is the reply of a run of those steps in the world that the stack has
 //! (`run`; [`Stack::open`] says with which it begins). With an honest device the headline holds before the first of them and
-//! after each. What a crash leaves between requests is said by [`Stack::images`]: each image of the device encodes the plant
-//! while the stack runs. After its storage has stopped, an image encodes the plant before, without the action that met the stop
-//! or with it. It stops only if a device call of that request failed, if the last epoch is used up, or if a slot's serials are.
+//! after each. The calls of its commit meet the pace that a bench's meet (`paced`). What a crash leaves between requests is
+//! said by [`Stack::images`]: each image of the device encodes the plant while the stack runs. After its storage has stopped,
+//! an image encodes the plant before, without the action that met the stop or with it. It stops only if a device call of that
+//! request failed, if the last epoch is used up, or if a slot's serials are.
 //!
 //! The premise of what is said of images is that the device does what its trait says. Not covered: that memory suffices to open
 //! it, and a device that has failed.

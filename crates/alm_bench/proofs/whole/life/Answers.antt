@@ -29,3 +29,8 @@ returns-in-Ok-clause-told g c = λ honest plant all.
     let run = returns-in-Ok-clause-run g c honest plant all in
     let at : DeviceState = g.D.Disk.state c.into_disk.result in
     safe_by_trace StandsFor IsLastEpoch (closed_world (first plant)) _ (record { state = at; failures = g.D.Disk.failures c.into_disk.result; phase = run.1; refused = run.2 }) c.args.steps.now c.in-Ok.trace.items run.3 (λ slot. refl)
+
+pub returns-in-Ok-clause-paces : goal.returns-in-Ok-clause-paces
+returns-in-Ok-clause-paces g c = λ honest plant all.
+    let paced = c.in-Ok.ensures.paces (closed_world (first plant)) 0 (c.closed-bench.ensures.stands honest plant all) (c.closed-bench.ensures.paced plant) in
+    (paced.0, paced.1)

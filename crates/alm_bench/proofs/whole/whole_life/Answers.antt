@@ -30,3 +30,11 @@ returns-in-Err-life-clause-refused g c =
 
 pub returns-in-Err-clause-refused : goal.returns-in-Err-clause-refused
 returns-in-Err-clause-refused g c = inl c.in-Err.ensures.refused
+
+pub returns-in-Ok-life-clause-paces : goal.returns-in-Ok-life-clause-paces
+returns-in-Ok-life-clause-paces g c = λ honest.
+    let state = g.D.Disk.state c.in-Ok.disk in
+    let plant = new_plant c.args.table.now in
+    let settled = c.in-Ok.ensures.formatted.settled honest in
+    let only : StandOnly state plant = λ image is. subst (λ (bytes : List ℕ). StandsFor bytes plant) (sym (settled_image state state.bytes image settled is)) (1, (c.in-Ok.ensures.formatted.stands honest).stands) in
+    c.in-Ok-life.ensures.paces (c.in-Ok.ensures.formatted.same.honest.0 honest) plant only

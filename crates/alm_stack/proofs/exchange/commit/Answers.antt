@@ -9,7 +9,8 @@ use Rattle.alm_pipeline.specs.World.{BatchStage, IsHeld, entries_at, after_step,
 use Rattle.alm_pipeline.specs.Matches.{CommitsIn}
 use Rattle.alm_stack.specs.Exchanges.{Leads, calls, went_on, sight_of}
 use Rattle.alm_stack.proofs.Leading.{leads_then, calls_more, went_more}
-use Rattle.alm_stack.proofs.Rests.{fails_since, held_commits, ends_in_time, no_time}
+use Rattle.alm_pipeline.proofs.Paced.{at_first, never_in_none}
+use Rattle.alm_stack.proofs.Rests.{fails_since, held_commits}
 use Rattle.alm_stack.proofs.exchange.commit.Goals as goal
 
 pub loop-step-init : goal.loop-step-init
@@ -22,7 +23,7 @@ loop-step-init g c = record {
       let left = subst (λ k. (g.K.Store.state k).left ≤ 320) c.keeper.ensures.keeper c.images.ensures.few in
       let many = held_commits p.flusher.held entries o.trying (o.fits.batches.held ∙ at) in (
         o,
-        ends_in_time (g.K.Store.state st).phase (g.K.Store.state st).left (length (to_commit p.flusher.held)) (g.K.Store.takes st (to_commit p.flusher.held)) (g.K.Store.will_take st (to_commit p.flusher.held)) o.going left (omega (arith, ap length many, few)),
+        at_first (g.K.Store.state st).phase (g.K.Store.state st).left (g.K.Store.takes st (to_commit p.flusher.held)) (g.K.Store.will_take st (to_commit p.flusher.held)) (length (to_commit p.flusher.held)) o.going left (omega (arith, ap length many, few)),
         (refl, refl),
       );
 }
@@ -118,11 +119,11 @@ returns-clause-failed g c = λ _ w entries o at few.
     let p = c.loop-step.pipeline in
     let was = c.loop-step.invariant.going w entries o at few in
     let none : 647 - c.loop-step._step ≡ 0 = omega (arith, c.loop-step-test.false) in
-    absurd (no_time _ _ _ _ _ (subst (λ (n : ℕ). CommitsIn n p) none was.1))
+    absurd (never_in_none _ _ _ _ _ (subst (λ (n : ℕ). CommitsIn n p) none was.1))
 
 pub returns-clause-cause : goal.returns-clause-cause
 returns-clause-cause g c = λ _ w entries o at few unspent.
     let p = c.loop-step.pipeline in
     let was = c.loop-step.invariant.going w entries o at few in
     let none : 647 - c.loop-step._step ≡ 0 = omega (arith, c.loop-step-test.false) in
-    absurd (no_time _ _ _ _ _ (subst (λ (n : ℕ). CommitsIn n p) none was.1))
+    absurd (never_in_none _ _ _ _ _ (subst (λ (n : ℕ). CommitsIn n p) none was.1))

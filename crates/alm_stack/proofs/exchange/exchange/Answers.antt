@@ -1,4 +1,4 @@
-use Rattle.std.proofs.Common.{◌≡◌, ◌+◌, ◌∙◌, ◌++◌, ◌∷◌, [], inl, inr, List, ℕ, length, refl, sym, ap, subst, arith, append_assoc}
+use Rattle.std.proofs.Common.{◌≡◌, ◌+◌, ◌∙◌, ◌++◌, ◌∷◌, [], inl, inr, List, ℕ, Ok, length, refl, sym, ap, subst, arith, append_assoc}
 use Rattle.std.proofs.lemmas.List.{append-nil}
 use Rattle.alm_model.specs.Plant.{Condensed}
 use Rattle.alm_model.specs.Step.{run}
@@ -11,8 +11,9 @@ use Rattle.alm_pipeline.specs.declared.step.Step.TheVariants as S
 use Rattle.alm_pipeline.specs.declared.event.Event.{Event}
 use Rattle.alm_pipeline.specs.declared.event.Event.TheVariants as E
 use Rattle.alm_pipeline.specs.World.{World, live, closed_world}
-use Rattle.alm_stack.specs.Exchanges.{Rests, answer_events, answer_steps, calls, entry_at, hand_in_events, handed_in, hand_in_steps, sight_of, stored_world, went_on}
+use Rattle.alm_stack.specs.Exchanges.{ComesTo, Rests, answer_events, answer_steps, calls, entry_at, hand_in_events, handed_in, hand_in_steps, sight_of, stored_world, went_on}
 use Rattle.alm_stack.proofs.Leading.{leads_after, leads_if, leads_run, leads_then, leads_trace}
+use Rattle.alm_stack.proofs.Pace.{busy_paced, done_paced, failed_paced}
 use Rattle.alm_stack.proofs.Rests.{held_waits, none_waits, stored_as}
 use Rattle.alm_stack.proofs.Verdicts.{after_is, few_entry, judged_is, live_after}
 use Rattle.alm_stack.proofs.exchange.exchange.Goals as goal
@@ -43,6 +44,7 @@ returns-then-not-hand_in-clause-run g c = λ w m.
       comes = inl (refl, refl);
       answers = leads_trace s.recovers s.spent honest w (sight_of p) steps trace w (sight_of q) spent.2;
       run = λ h. leads_run s.recovers s.spent honest w (sight_of p) steps trace w (sight_of q) h (c.images.ensures.headline (c.if-not-hand_in.ensures.honest.0 h) w spent.1.fits) spent.2;
+      paced = busy_paced w c.args.slot c.args.want;
       rests = tt;
     }
 
@@ -94,6 +96,7 @@ returns-then-not-commit-clause-run g c = λ w m.
       comes = inr (n, hi.0, v, f.1.1, refl, refl);
       answers = leads_trace s.recovers s.spent honest w (sight_of p) steps trace (closed_world y) (sight_of q) way;
       run = λ h. leads_run s.recovers s.spent honest w (sight_of p) steps trace (closed_world y) (sight_of q) h (c.images-then-not-commit.ensures.headline (c.commit.ensures.honest.0 (still h)) y f.0) way;
+      paced = failed_paced w slot want hi.0 v n f.1.1;
       rests = tt;
     }
 
@@ -144,18 +147,20 @@ returns-in-Some-clause-run g c = λ w m.
     let steps = hand_in_steps slot want ++ (steps2 ++ answer_steps slot) in
     let trace = hand_in_events hi.0 v ++ (trace2 ++ trace3) in
     let way = leads_then s.recovers s.spent honest w (sight_of p) (hand_in_steps slot want) (hand_in_events hi.0 v) y (sight_of mid) (steps2 ++ answer_steps slot) (trace2 ++ trace3) out.1 (sight_of q) hi.5 behind in
+    let comes : ComesTo slot want (Ok j) steps trace = (
+      n,
+      serial,
+      done.1.1,
+      ap (λ (l : List Step). hand_in_steps slot want ++ l) (append_assoc (calls n) (S.Call ∷ []) (answer_steps slot)),
+      (λ i. hand_in_events (hi.3 i) (sym out.0 i) ++ (trace2 ++ answer_events slot serial (sym out.0 i) j.number)) ∙ ap (λ (l : List Event). hand_in_events serial j.verdict ++ l) (append_assoc (went_on n) (E.Committed ∷ []) (answer_events slot serial j.verdict j.number)),
+    ) in
     record {
       steps = steps;
       trace = trace;
-      comes = (
-        n,
-        serial,
-        done.1.1,
-        ap (λ (l : List Step). hand_in_steps slot want ++ l) (append_assoc (calls n) (S.Call ∷ []) (answer_steps slot)),
-        (λ i. hand_in_events (hi.3 i) (sym out.0 i) ++ (trace2 ++ answer_events slot serial (sym out.0 i) j.number)) ∙ ap (λ (l : List Event). hand_in_events serial j.verdict ++ l) (append_assoc (went_on n) (E.Committed ∷ []) (answer_events slot serial j.verdict j.number)),
-      );
+      comes = comes;
       answers = leads_trace s.recovers s.spent honest w (sight_of p) steps trace out.1 (sight_of q) way;
       run = λ h. leads_run s.recovers s.spent honest w (sight_of p) steps trace out.1 (sight_of q) h (c.images-in-Some.ensures.headline (subst (λ k. g.K.Device.Disk.honest (s.disk k)) (sym c.hand_out.ensures.store) (two h)) out.1 out.2.0.fits) way;
+      paced = done_paced w slot want j steps trace comes;
       rests = subst (λ (x : World). Rests x q) (leads_after s.recovers s.spent honest w (sight_of p) steps trace out.1 (sight_of q) way) out.2;
     }
 

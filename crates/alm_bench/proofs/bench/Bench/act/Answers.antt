@@ -3,7 +3,7 @@ use Rattle.std.proofs.Common.{sym, subst}
 use Rattle.alm_pipeline.specs.declared.step.Step.{Step}
 use Rattle.alm_pipeline.specs.World.{Answers, after_step}
 use Rattle.alm_pipeline.specs.Headline.{Moves}
-use Rattle.alm_bench.specs.Stands.{MatchesBench, bench_sight}
+use Rattle.alm_bench.specs.Stands.{MatchesBench, StepsPaced, bench_sight}
 use Rattle.alm_bench.proofs.bench.Bench.act.Goals as goal
 
 pub returns-in-Crash-clause-answer : goal.returns-in-Crash-clause-answer
@@ -32,3 +32,12 @@ returns-in-Reopen-clause-moves g c = λ w m. subst (λ (s : Step). Moves StandsF
 
 pub returns-in-Call-clause-moves : goal.returns-in-Call-clause-moves
 returns-in-Call-clause-moves g c = λ w m. subst (λ (s : Step). Moves StandsFor IsLastEpoch w s c.call.result (bench_sight c.args.self.now) (bench_sight c.call.new.self)) (sym c.in-Call.is) (c.call.ensures.moves w m)
+
+pub returns-in-Crash-clause-paces : goal.returns-in-Crash-clause-paces
+returns-in-Crash-clause-paces g c = λ w more m e. subst (λ (s : Step). StepsPaced w s c.crash.result more c.crash.new.self) (sym c.in-Crash.is) (c.crash.ensures.paces w more m e)
+
+pub returns-in-Reopen-clause-paces : goal.returns-in-Reopen-clause-paces
+returns-in-Reopen-clause-paces g c = λ w more m e. subst (λ (s : Step). StepsPaced w s c.reopen.result more c.reopen.new.self) (sym c.in-Reopen.is) (c.reopen.ensures.paces w more m e)
+
+pub returns-in-Call-clause-paces : goal.returns-in-Call-clause-paces
+returns-in-Call-clause-paces g c = λ w more m e. subst (λ (s : Step). StepsPaced w s c.call.result more c.call.new.self) (sym c.in-Call.is) (c.call.ensures.paces w more m e)

@@ -1,4 +1,4 @@
-use Rattle.std.proofs.Common.{sym, refl, subst}
+use Rattle.std.proofs.Common.{◌∙◌, sym, refl, subst}
 use Rattle.alm_pipeline.specs.World.{after_step, closed_world}
 use Rattle.alm_disk.specs.Failures.{HasFailed}
 use Rattle.alm_pipeline.specs.Headline.{device_alone}
@@ -8,7 +8,7 @@ use Rattle.alm_bench.specs.declared.setup.Setup as T
 use Rattle.alm_bench.specs.declared.setup.Setup.TheVariants.{Open}
 use Rattle.alm_pipeline.specs.declared.step.Step.TheVariants as S
 use Rattle.alm_pipeline.specs.declared.event.Event.TheVariants as E
-use Rattle.alm_bench.proofs.Carried.{carried, failed_alike, failed_between, same_count, still, there, shut_not_open}
+use Rattle.alm_bench.proofs.Carried.{carried, failed_alike, failed_between, paced_as, same_count, skips_paced, steps_as, still, there, shut_not_open}
 use Rattle.alm_bench.proofs.bench.Bench.call.Goals as goal
 
 pub returns-in-More-clause-answer : goal.returns-in-More-clause-answer
@@ -92,6 +92,7 @@ returns-in-Gone g c = record {
   stands = λ w m. absurd (still w _ _ (sym c.in-Gone.ensures.setup) m);
   moves = λ w m. absurd (still w _ _ (sym c.in-Gone.ensures.setup) m);
   sure = λ _ _ w m. absurd (still w _ _ (sym c.in-Gone.ensures.setup) m);
+  paces = λ w more m e. absurd (still w _ _ (sym c.in-Gone.ensures.setup) m);
   there = λ h. absurd (there _ _ (sym c.in-Gone.ensures.setup) h);
 }
 
@@ -109,3 +110,27 @@ returns-in-Failed-clause-there g c = λ h. there _ _ (sym c.put-in-Failed.ensure
 
 pub returns-in-Shut-clause-there : goal.returns-in-Shut-clause-there
 returns-in-Shut-clause-there g c = λ h. there _ _ (sym c.put-in-Shut.ensures.setup) tt
+
+pub returns-in-More-clause-paces : goal.returns-in-More-clause-paces
+returns-in-More-clause-paces g c = λ w more m e.
+    let setup = sym c.in-Open.ensures.setup in
+    steps_as w S.Call E.More more _ _ (sym c.put.ensures.setup) (c.in-More.ensures.paces w more (still w _ _ setup m).0 (paced_as more w _ _ setup e))
+
+pub returns-in-Committed-clause-paces : goal.returns-in-Committed-clause-paces
+returns-in-Committed-clause-paces g c = λ w more m e.
+    let setup = sym c.in-Open.ensures.setup in
+    steps_as w S.Call E.Committed more _ _ (sym c.put-in-Committed.ensures.setup) (c.in-Committed.ensures.paces w more (still w _ _ setup m).0 (paced_as more w _ _ setup e))
+
+pub returns-in-Nothing-clause-paces : goal.returns-in-Nothing-clause-paces
+returns-in-Nothing-clause-paces g c = λ w more m e.
+    let setup = sym c.in-Open.ensures.setup in
+    steps_as w S.Call E.Skipped more _ _ (sym c.put-in-Nothing.ensures.setup) (c.in-Nothing.ensures.paces w more (still w _ _ setup m).0 (paced_as more w _ _ setup e))
+
+pub returns-in-Failed-clause-paces : goal.returns-in-Failed-clause-paces
+returns-in-Failed-clause-paces g c = λ w more m e.
+    let setup = sym c.in-Open.ensures.setup in
+    let paces = c.in-Failed.ensures.paces w more (still w _ _ setup m).0 (paced_as more w _ _ setup e) in
+    steps_as w S.Call E.Failed more _ _ (sym c.put-in-Failed.ensures.setup) (paces.0, paces.1, paces.2.few)
+
+pub returns-in-Shut-clause-paces : goal.returns-in-Shut-clause-paces
+returns-in-Shut-clause-paces g c = λ w more m e. skips_paced w S.Call more _ _ (sym c.in-Shut.ensures.setup ∙ sym c.put-in-Shut.ensures.setup) e

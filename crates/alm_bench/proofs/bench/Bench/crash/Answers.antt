@@ -2,7 +2,7 @@ use Rattle.std.proofs.Common.{sym, subst, refl}
 use Rattle.alm_pipeline.specs.World.{closed_world}
 use Rattle.alm_bench.specs.Stands.{IsSetup}
 use Rattle.alm_bench.specs.declared.setup.Setup as T
-use Rattle.alm_bench.proofs.Carried.{there}
+use Rattle.alm_bench.proofs.Carried.{crash_paced, still, there}
 use Rattle.alm_bench.proofs.bench.Bench.crash.Goals as goal
 
 pub returns-in-Open-clause-stands : goal.returns-in-Open-clause-stands
@@ -20,3 +20,12 @@ returns-in-Shut-clause-there g c = λ h. there _ _ (sym c.put-in-Shut.ensures.se
 
 pub returns-in-Gone-clause-there : goal.returns-in-Gone-clause-there
 returns-in-Gone-clause-there g c = λ h. absurd (there _ _ (sym c.in-Gone.ensures.setup) h)
+
+pub returns-in-Open-clause-paces : goal.returns-in-Open-clause-paces
+returns-in-Open-clause-paces g c = λ w more m e. crash_paced w c.args.bytes.now more _ _ (sym c.put.ensures.setup)
+
+pub returns-in-Shut-clause-paces : goal.returns-in-Shut-clause-paces
+returns-in-Shut-clause-paces g c = λ w more m e. crash_paced w c.args.bytes.now more _ _ (sym c.put-in-Shut.ensures.setup)
+
+pub returns-in-Gone-clause-paces : goal.returns-in-Gone-clause-paces
+returns-in-Gone-clause-paces g c = λ w more m e. absurd (still w _ _ (sym c.in-Gone.ensures.setup) m)

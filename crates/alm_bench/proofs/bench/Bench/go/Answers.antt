@@ -1,10 +1,10 @@
-use Rattle.std.proofs.Common.{refl, ap, sym, subst}
+use Rattle.std.proofs.Common.{◌∙◌, refl, ap, sym, subst}
 use Rattle.alm_types.specs.declared.answer.Answer.{Answer}
 use Rattle.alm_keeper.specs.AsStore.{StandsFor, IsLastEpoch}
 use Rattle.alm_pipeline.specs.World.{World, after_step}
 use Rattle.alm_bench.specs.Stands.{IsSetup}
 use Rattle.alm_pipeline.specs.declared.event.Event.TheVariants.{Skipped}
-use Rattle.alm_bench.proofs.Carried.{carried, same_count, still, there, inner_skips, inner_stays, after_skipped}
+use Rattle.alm_bench.proofs.Carried.{carried, paced_as, same_count, skips_paced, steps_as, still, there, inner_skips, inner_stays, after_skipped}
 use Rattle.alm_bench.proofs.bench.Bench.go.Goals as goal
 
 pub go-event-requires : goal.go-event-requires
@@ -43,6 +43,7 @@ returns-in-Gone g c = record {
   answer = λ w m. absurd (still w _ _ (sym c.in-Gone.ensures.setup) m);
   stands = λ w m. absurd (still w _ _ (sym c.in-Gone.ensures.setup) m);
   moves = λ w m. absurd (still w _ _ (sym c.in-Gone.ensures.setup) m);
+  paces = λ w more m e. absurd (still w _ _ (sym c.in-Gone.ensures.setup) m);
   there = λ h. absurd (there _ _ (sym c.in-Gone.ensures.setup) h);
 }
 
@@ -51,3 +52,11 @@ returns-in-Open-clause-there g c = λ h. there _ _ (sym c.put.ensures.setup) tt
 
 pub returns-in-Shut-clause-there : goal.returns-in-Shut-clause-there
 returns-in-Shut-clause-there g c = λ h. there _ _ (sym c.put-in-Shut.ensures.setup) tt
+
+pub returns-in-Open-clause-paces : goal.returns-in-Open-clause-paces
+returns-in-Open-clause-paces g c = λ w more m e.
+    let setup = sym c.in-Open.ensures.setup in
+    steps_as w c.args.step.now c.go-event.result more _ _ (sym c.put.ensures.setup) (c.go-event.ensures.paces w more (still w _ _ setup m).0 (paced_as more w _ _ setup e))
+
+pub returns-in-Shut-clause-paces : goal.returns-in-Shut-clause-paces
+returns-in-Shut-clause-paces g c = λ w more m e. skips_paced w c.args.step.now more _ _ (sym c.in-Shut.ensures.setup ∙ sym c.put-in-Shut.ensures.setup) e

@@ -1,5 +1,7 @@
 use Rattle.std.proofs.Common.{◌≡◌, [], arith}
 use Rattle.alm_keeper.specs.StoreLaws.{stands_for_one}
+use Rattle.alm_pipeline.specs.World.{first}
+use Rattle.alm_pipeline.proofs.Paced.{none_few}
 use Rattle.alm_bench.proofs.bench.Bench.new.Goals as goal
 
 pub returns-in-Ok-clause-stands : goal.returns-in-Ok-clause-stands
@@ -13,3 +15,6 @@ returns-in-Ok-clause-stands g c = λ honest plant all.
 
 pub returns-in-Ok-clause-device : goal.returns-in-Ok-clause-device
 returns-in-Ok-clause-device g c = λ honest. let opened = c.in-Ok.ensures.opened honest in (opened.0, c.in-Ok.ensures.settled honest)
+
+pub returns-in-Ok-clause-paced : goal.returns-in-Ok-clause-paced
+returns-in-Ok-clause-paced g c = λ plant. record { few = none_few (first plant); ends = λ held. absurd held }

@@ -1,11 +1,11 @@
-use Rattle.std.proofs.Common.{◌-◌, take, sym, refl, subst, arith}
+use Rattle.std.proofs.Common.{◌-◌, ◌∙◌, take, sym, refl, subst, arith}
 use Rattle.alm_model.specs.Plant.{Condensed}
 use Rattle.alm_keeper.specs.AsStore.{StandsFor}
 use Rattle.alm_pipeline.specs.World.{after_step}
 use Rattle.alm_store.specs.Recovery.{IsFrontPlant}
 use Rattle.alm_pipeline.specs.declared.step.Step.TheVariants as S
 use Rattle.alm_pipeline.specs.declared.event.Event.TheVariants as E
-use Rattle.alm_bench.proofs.Carried.{carried, same_count, still, there, reopened_between, shut_not_open}
+use Rattle.alm_bench.proofs.Carried.{carried, open_paced, paced_as, same_count, skips_paced, steps_as, still, there, reopened_between, shut_not_open}
 use Rattle.alm_bench.proofs.Reopened.{storage_fault, found, reaches}
 use Rattle.alm_bench.proofs.bench.Bench.reopen.Goals as goal
 
@@ -73,6 +73,7 @@ returns-in-Gone g c = record {
   answer = λ w m. absurd (still w _ _ (sym c.in-Gone.ensures.setup) m);
   stands = λ w m. absurd (still w _ _ (sym c.in-Gone.ensures.setup) m);
   moves = λ w m. absurd (still w _ _ (sym c.in-Gone.ensures.setup) m);
+  paces = λ w more m e. absurd (still w _ _ (sym c.in-Gone.ensures.setup) m);
   reopened = reopened_between E.Skipped _ _ _ _ c.in-Gone.ensures.setup refl tt;
   there = λ h. absurd (there _ _ (sym c.in-Gone.ensures.setup) h);
 }
@@ -94,3 +95,12 @@ returns-in-Err-clause-reopened g c = reopened_between (E.Unopened c.in-Err.fault
 
 pub returns-in-Open-clause-reopened : goal.returns-in-Open-clause-reopened
 returns-in-Open-clause-reopened g c = reopened_between E.Skipped _ _ _ _ c.in-Open.ensures.setup (sym c.put-in-Open.ensures.setup) refl
+
+pub returns-in-Ok-clause-paces : goal.returns-in-Ok-clause-paces
+returns-in-Ok-clause-paces g c = λ w more m e. steps_as w S.Reopen (E.Opened c.count-count.result) more _ _ (sym c.put.ensures.setup) (open_paced w c.count-count.result more c.in-Ok.pipeline)
+
+pub returns-in-Err-clause-paces : goal.returns-in-Err-clause-paces
+returns-in-Err-clause-paces g c = λ w more m e. steps_as w S.Reopen (E.Unopened c.in-Err.fault) more _ _ (sym c.put-in-Err.ensures.setup) (more, omega arith, paced_as more w _ _ (sym c.in-Shut.ensures.setup) e)
+
+pub returns-in-Open-clause-paces : goal.returns-in-Open-clause-paces
+returns-in-Open-clause-paces g c = λ w more m e. skips_paced w S.Reopen more _ _ (sym c.in-Open.ensures.setup ∙ sym c.put-in-Open.ensures.setup) e

@@ -5,8 +5,13 @@ use Rattle.alm_pipeline.specs.declared.step.Step.{Step}
 use Rattle.alm_pipeline.specs.declared.event.Event.{Event}
 use Rattle.alm_pipeline.specs.World.{World}
 use Rattle.alm_pipeline.specs.Headline.{IsRun, after_steps}
-use Rattle.alm_bench.specs.Stands.{MatchesBench, bench_sight}
+use Rattle.alm_pipeline.specs.Pace.{PacesAll, most_more}
+use Rattle.alm_progress.specs.Progress.{AnswersAll, AreReceived}
+use Rattle.alm_progress.proofs.Fair.{fair_run}
+use Rattle.alm_bench.specs.Stands.{MatchesBench, IsPaced, bench_sight}
 use Rattle.alm_pipeline.proofs.Runs.{run_more, after_more}
+use Rattle.alm_pipeline.proofs.Paced.{paces_more}
+use Rattle.alm_bench.proofs.Answering.{run_answers}
 use Rattle.alm_bench.proofs.bench.Bench.run.Goals as goal
 
 pub loop-step-preserved : goal.loop-step-preserved
@@ -35,6 +40,19 @@ loop-step-preserved g c =
           subst (λ (v : World). MatchesBench v c.step-event.new.self)
           (sym (after_more StandsFor IsLastEpoch w first last (take i ss) tr s e (inv.run w m)) ∙ (ap (after_steps w (take i ss ++ s ∷ [])) (sym items) ∙ ap (λ (l : List Step). after_steps w l c.push_reserved.new.self.items) (sym more)))
           (c.step-event.ensures.stands (after_steps w (take i ss) tr) (inv.stands w m));
+      paces = λ w pace m held.
+          let at = after_steps w (take i ss) tr in
+          let before = inv.paces w pace m held in
+          let next = c.step-event.ensures.paces at before.0 (inv.stands w m) before.2 in
+          let steps : take i ss ++ s ∷ [] ≡ take (i + 1) ss = sym more in
+          let trace : tr ++ e ∷ [] ≡ c.push_reserved.new.self.items = sym items in (
+            next.0,
+            subst (λ (l : List Step). PacesAll most_more w pace l c.push_reserved.new.self.items next.0) steps
+                (subst (λ (t : List Event). PacesAll most_more w pace (take i ss ++ s ∷ []) t next.0) trace (paces_more most_more w pace before.0 next.0 (take i ss) tr s e before.1 next.1)),
+            subst (λ (v : World). IsPaced next.0 v c.step-event.new.self)
+                (sym (after_more StandsFor IsLastEpoch w first last (take i ss) tr s e (inv.run w m)) ∙ (ap (after_steps w (take i ss ++ s ∷ [])) trace ∙ ap (λ (l : List Step). after_steps w l c.push_reserved.new.self.items) steps))
+                next.2,
+          );
       there = λ h. c.step-event.ensures.there (inv.there h);
     }
 
@@ -46,6 +64,7 @@ loop-step-init g c =
       room = search rules;
       run = λ w m. subst (λ (t : List Event). IsRun StandsFor IsLastEpoch w here [] t here) (sym c.in_ok-trace.ensures.items) (c.images.ensures.headline w m, refl);
       stands = λ w m. m;
+      paces = λ w pace m e. (pace, subst (λ (t : List Event). PacesAll most_more w pace [] t pace) (sym c.in_ok-trace.ensures.items) refl, e);
       there = λ h. h;
     }
 
@@ -58,3 +77,21 @@ pub returns-clause-stands : goal.returns-clause-stands
 returns-clause-stands g c = λ w m.
     let all : take c.loop-step.step-index c.args.steps.now ≡ c.args.steps.now = take_all c.loop-step.step-index c.args.steps.now (omega (arith, c.loop-step-test.false)) in
     subst (λ (l : List Step). MatchesBench (after_steps w l c.loop-step.trace.items) c.loop-step.self) all (c.loop-step.invariant.stands w m)
+
+pub returns-clause-paces : goal.returns-clause-paces
+returns-clause-paces g c = λ w pace m e.
+    let all : take c.loop-step.step-index c.args.steps.now ≡ c.args.steps.now = take_all c.loop-step.step-index c.args.steps.now (omega (arith, c.loop-step-test.false)) in
+    let paced = c.loop-step.invariant.paces w pace m e in (
+      paced.0,
+      subst (λ (l : List Step). PacesAll most_more w pace l c.loop-step.trace.items paced.0) all paced.1,
+      subst (λ (l : List Step). IsPaced paced.0 (after_steps w l c.loop-step.trace.items) c.loop-step.self) all paced.2,
+    )
+
+pub returns-clause-answered : goal.returns-clause-answered
+returns-clause-answered g c = λ slots pace w rounds m e l are most steps sound.
+    let trace = c.loop-step.trace.items in
+    let run = returns-clause-run g c w m in
+    let answers = run_answers StandsFor IsLastEpoch w (bench_sight c.args.self.now) (bench_sight c.loop-step.self) c.args.steps.now trace run in
+    let paced = returns-clause-paces g c w pace m e in
+    subst (λ (ss : List Step). AreReceived slots most_more w (after_steps w ss trace)) (sym steps)
+    (fair_run slots most_more w pace rounds trace paced.0 l are most (subst (λ (ss : List Step). AnswersAll w ss trace) steps answers) sound (subst (λ (ss : List Step). PacesAll most_more w pace ss trace paced.0) steps paced.1))

@@ -6,12 +6,13 @@ use Rattle.alm_flush.specs.declared.held.Held as H
 use Rattle.alm_flush.specs.Advances.{IsSure, Within}
 use Rattle.alm_flush.specs.HeldBatch.{stored_of, published_entries, to_commit}
 use Rattle.alm_flush.proofs.HeldLaws.{accepted_more}
-use Rattle.alm_pipeline.specs.World.{Held, entries_at, stores}
+use Rattle.alm_pipeline.specs.World.{Held, IsHeld, entries_at, stores}
 use Rattle.alm_pipeline.specs.Headline.{Sight}
 use Rattle.alm_flush.specs.Flushes.{IsGivenUp}
 use Rattle.alm_pipeline.specs.Matches.{stage_of, entries_of, notes_of, batch_held_at, sight_in}
-use Rattle.alm_pipeline.proofs.Calls.{committed_batch, failed_batch, fails_with, goes_with, may_call, may_not_call, sure_working}
+use Rattle.alm_pipeline.proofs.Calls.{committed_batch, failed_batch, fails_with, goes_with, may_call, may_not_call, no_batch, sure_working}
 use Rattle.alm_pipeline.proofs.Moved.{opened_as}
+use Rattle.alm_pipeline.proofs.Paced.{committed_in_pace, failed_in_pace, held_some, more_in_pace, same_in_pace}
 use Rattle.alm_disk.specs.Failures.{HasFailed}
 use Rattle.alm_store.specs.Calls.{IsCall}
 use Rattle.alm_store.specs.Advancing.{IsCalls}
@@ -158,3 +159,25 @@ returns-in-More-clause-ends g c = λ m _ some within.
     c.in-More.ensures.ends m refl (subst (λ (x : H.Held). 0 < length (to_commit x)) (sym t.same.3) some)
     (subst (λ (x : H.Held). Within (m + 1) (s.state c.tell_batches.new.self.flusher.store).phase (s.state c.tell_batches.new.self.flusher.store).left (s.takes c.tell_batches.new.self.flusher.store (to_commit x)) (s.will_take c.tell_batches.new.self.flusher.store (to_commit x)) (length (to_commit x))) (sym t.same.3)
     (subst (λ k. Within (m + 1) (s.state k).phase (s.state k).left (s.takes k (to_commit h)) (s.will_take k (to_commit h)) (length (to_commit h))) (sym t.store) within))
+
+pub returns-in-More-clause-paces : goal.returns-in-More-clause-paces
+returns-in-More-clause-paces g c = λ w more m e.
+    let p = c.tell_batches.new.self in
+    let o = c.tell_batches.ensures.«open» w m in
+    more_in_pace w more c.args.self.now _
+    (λ held k within.
+    let some = held_some (g.K.Store.state p.flusher.store).phase p.flusher.held c.advance.new.self.held o.trying (subst IsHeld (sym o.fits.batches.held) held) c.in-More.ensures.held in
+    returns-in-More-clause-ends g c k refl (subst (λ (x : H.Held). 0 < length (to_commit x)) c.tell_batches.ensures.same.3 some) within)
+    e
+
+pub returns-in-Committed-clause-paces : goal.returns-in-Committed-clause-paces
+returns-in-Committed-clause-paces g c = λ w more m e. committed_in_pace w more c.args.self.now _ e
+
+pub returns-in-Failed-clause-paces : goal.returns-in-Failed-clause-paces
+returns-in-Failed-clause-paces g c = λ w more m e. failed_in_pace w more _
+
+pub returns-in-Nothing-clause-paces : goal.returns-in-Nothing-clause-paces
+returns-in-Nothing-clause-paces g c = λ w more m e.
+    let p = c.tell_batches.new.self in
+    let held = no_batch (g.K.Store.state p.flusher.store).phase p.flusher.held c.advance.new.self.held c.in-Nothing.ensures.held in
+    (more, omega arith, same_in_pace w more c.args.self.now _ (c.in-Nothing.ensures.nothing.0 refl ∙ c.tell_batches.ensures.store) (held ∙ c.tell_batches.ensures.same.3) e)

@@ -1,14 +1,16 @@
-use Rattle.std.proofs.Common.{◌≡◌, ◌∙◌, ◌++◌, length, ap, sym, subst, refl, arith}
+use Rattle.std.proofs.Common.{◌≡◌, ◌≤◌, ◌∙◌, ◌++◌, length, ap, sym, subst, refl, arith}
 use Rattle.alm_model.specs.Judging.{accepted_of, entries_in}
 use Rattle.alm_rings.specs.Placed.{released_by}
 use Rattle.alm_rings.specs.Batches.{fetched_of, sealed_of, coming_in}
 use Rattle.alm_store.specs.State.{StoreState}
+use Rattle.alm_store.specs.Pace.{most_calls}
 use Rattle.alm_flush.specs.HeldBatch.{stored_of, published_entries}
 use Rattle.alm_pipeline.specs.World.{Nothing, fetches}
 use Rattle.alm_flush.specs.Flushes.{IsGivenUp}
 use Rattle.alm_pipeline.specs.Matches.{stage_of, entries_of, notes_of, batch_held_at}
 use Rattle.alm_pipeline.proofs.Lists.{next_sealed, none_sealed}
 use Rattle.alm_pipeline.proofs.Moved.{opened_as}
+use Rattle.alm_pipeline.proofs.Paced.{fetched_in_pace, same_in_pace}
 use Rattle.alm_pipeline.proofs.pipeline.Pipeline.fetch.Goals as goal
 
 pub returns-then-not-waits-clause-answer : goal.returns-then-not-waits-clause-answer
@@ -66,3 +68,20 @@ returns-in-Got-clause-fits g c = λ w m.
         };
       };
     })
+
+pub returns-then-not-waits-clause-paces : goal.returns-then-not-waits-clause-paces
+returns-then-not-waits-clause-paces g c = λ w more m e. (more, omega arith, same_in_pace w more c.args.self.now _ c.tell_batches.ensures.store c.tell_batches.ensures.same.3 e)
+
+pub returns-in-Got-clause-paces : goal.returns-in-Got-clause-paces
+returns-in-Got-clause-paces g c = λ w more m e.
+    let left = subst (λ k. (g.K.Store.state k).left ≤ most_calls) c.keeper.ensures.keeper c.images.ensures.few in
+    fetched_in_pace w more _ e.few (returns-in-Got-clause-fits g c w m) left
+
+pub returns-in-Empty-clause-paces : goal.returns-in-Empty-clause-paces
+returns-in-Empty-clause-paces g c = λ w more m e.
+    let answer = c.in-Empty.ensures.answer in
+    (more, omega arith, same_in_pace w more c.args.self.now _ (c.in-Empty.ensures.kept (λ is. absurd (cc is)) ∙ c.tell_batches.ensures.store) (answer.1 ∙ (sym answer.0 ∙ c.tell_batches.ensures.same.3)) e)
+
+pub returns-in-Held-clause-paces : goal.returns-in-Held-clause-paces
+returns-in-Held-clause-paces g c = λ w more m e.
+    (more, omega arith, same_in_pace w more c.args.self.now _ (c.in-Held.ensures.kept (λ is. absurd (cc is)) ∙ c.tell_batches.ensures.store) (c.in-Held.ensures.answer.1 ∙ c.tell_batches.ensures.same.3) e)
