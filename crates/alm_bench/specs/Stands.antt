@@ -62,8 +62,8 @@ module _ {D : Type 0} {g : Ghosts (Keeper D) D} {d : Disk.Ghosts D} where
   abbrev pub NextIsSure : Bench D D g d → Type 0
   NextIsSure bench = is_sure bench.setup
 
-  -- The commit of the batch that it holds ends after at most this number of calls that return More. It says nothing of a bench
-  -- without such a batch
+  -- The commit of the batch that it holds, if it holds one, ends after at most this number of calls that return More. No batch has
+  -- more entries than fit
   abbrev pub ends_after : (more : ℕ) → World → T.Setup D D g d → Type 0
   ends_after more w (Open pipeline) = EndsAfter more w pipeline
   ends_after more w (Shut disk) = FitsBatches w
