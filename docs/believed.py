@@ -29,7 +29,7 @@ MARK = "-- For the proofs.\n"
 HEAD = """# What the headline unfolds to
 
 Whoever believes these definitions, and the Rust types that they name, need not read the code to know what [HEADLINE.md](HEADLINE.md) says. The
-page is made by `docs/believed.py`; a case or a field counts as the definition that it belongs to.
+page is made by `docs/believed.py`; a case or a field counts as the definition that it belongs to. *All* are all definitions of a file.
 """
 BEGINS = re.compile(r"\s*(?:(?:pub|abbrev|unfoldable|opaque) )*(?:(?:pub|abbrev|unfoldable|opaque|record|data) )(\S+)")
 IMPORT = re.compile(r"\s*use Rattle\.(\w+)\.specs\.(\w+)\.\{(.*)\}")
@@ -128,7 +128,10 @@ def table(specs, names):
         count = sum(len(specs[file].lines[name]) for name in named)
         total += count
         crate, stem = file.split(".")
-        lines.append(f"| [{crate}: {stem}](../crates/{crate}/specs/{stem}.antt) | {', '.join(f'`{name}`' for name in named)} | {count} |")
+        others = sorted(specs[file].lines.keys() - set(named))
+        quoted = lambda names: ", ".join(f"`{name}`" for name in names)
+        which = "all" if not others else f"all but {quoted(others)}" if len(others) < len(named) else quoted(named)
+        lines.append(f"| [{crate}: {stem}](../crates/{crate}/specs/{stem}.antt) | {which} | {count} |")
     return [*lines, "", f"{len(files)} files, {len(seen)} definitions, {total} lines"]
 
 
