@@ -76,7 +76,8 @@ def unfold(specs, names):
         if name is None or (file, name) in seen:
             continue
         seen.add((file, name))
-        for used in set(WORD.findall(" ".join(specs[file].lines[name]))) - {name}:
+        words = set(WORD.findall(" ".join(specs[file].lines[name])))
+        for used in (words | {f"◌{word}◌" for word in words}) - {name}:  # an operator is used without its places
             if used in specs[file].lines:
                 left.append((file, used))
             elif used in specs[file].brings:
