@@ -30,8 +30,9 @@
 //! Proved:
 //! - the headline: for any steps, crashes and reopenings the trace is a run of alm_pipeline's world, and nothing reported is
 //!   lost (by `life`, `whole_life`, `Bench::new`, `step`, `run`; `laws`)
-//! - each commit ends: at most 646 calls of a held batch return More. So rounds of steps in which no call fails receive all
-//!   that was sent before them (by `life`, `whole_life`, `step`, `run`; `laws`)
+//! - each commit ends: at most 646 calls of a held batch return More (by `life`, `whole_life`, `step`, `run`)
+//! - fair rounds, as many as steps were left, in which no call fails, receive all that was sent before them (by `run`;
+//!   `laws::fair_rounds_answer_all`)
 //! - opening then returns a plant, Disk or out of memory, never Unformatted or Damaged; no Call is more than one device
 //!   call (by `life`, `step`, `run`)
 #![tactic(auto)]

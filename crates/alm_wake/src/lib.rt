@@ -1,4 +1,4 @@
-//! When the server's threads sleep, and who wakes them. No contract above rests on it, but that each wait is bounded.
+//! When the server's threads sleep, and who wakes them. No contract above rests on it.
 //!
 //! ```text
 //! let flags = Flags::new(Bells::new(&slots, bells));
@@ -12,9 +12,11 @@
 //! | the sequencer's | a [`SequencerPace`] | it has nothing to take or seal, or the open batch waits for others to join |
 //! | the flusher's | a [`FlusherPace`] | no sealed batch is there, or a console has no room for a receipt |
 //!
-//! [`Flags`] are what they share: hints, each read before the step that it bounds. A lost wake-up costs 100 milliseconds, after which
-//! each thread checks by itself. docs/WAKING.md has the states of the two threads, and who reads and writes each atomic. All numbers
-//! stand in `bounds`.
+//! [`Flags`] are what they share: hints, each read before the step that it bounds. A lost wake-up costs 100 milliseconds, and a
+//! second at a slot: then each thread checks by itself. docs/WAKING.md has the states of the two threads, and who reads and writes
+//! each atomic. All numbers stand in `bounds`.
+//!
+//! Not covered: how long anything takes, since no contract speaks of time that passes.
 //!
 //! Proved:
 //! - the open batch waits only for slots that the last one answered, once, and for half of its time or 500 microseconds (by
