@@ -1,4 +1,6 @@
+pub mod Causes
 pub mod Closed
+pub mod Finished
 pub mod Histories
 pub mod Moments
 pub mod Opened
@@ -7,5 +9,6 @@ pub mod Placed
 pub mod Recorded
 pub mod Removed
 pub mod Sames
+pub mod Sent
 pub mod Serves
 pub mod Tied

@@ -52,7 +52,7 @@ front_on xs ys zs p q = (p.0 ++ q.0, sym (append_assoc xs p.0 q.0) ∙ (ap (λ l
 pub entries_front : (xs ys : List Batch) → IsPrefix xs ys → IsPrefix (entries_in xs) (entries_in ys)
 entries_front xs ys p = (entries_in p.0, sym (entries_append xs p.0) ∙ ap entries_in p.1)
 
-was_in : (a : Option Inbox) (j : Inbox) → SameInboxAt a (Some j) → (i : Inbox) × ((a ≡ Some i) × SameInbox i j)
+pub was_in : (a : Option Inbox) (j : Inbox) → SameInboxAt a (Some j) → (i : Inbox) × ((a ≡ Some i) × SameInbox i j)
 was_in None j same = absurd same
 was_in (Some i) j same = (i, (refl, same))
 
@@ -74,7 +74,7 @@ module _ {T : Type 0} {g : Ghosts T} where
   same_slots (x ∷ cs) [] all = absurd all
   same_slots (x ∷ cs) (y ∷ ds) all = rw (all.0.2, same_slots cs ds all.1) refl
 
-  pair_on : (c d : Console T g) (i j : Inbox) → SameConsole c d → SameInbox i j → IsPair c.requests i.requests → IsPair d.requests j.requests
+  pub pair_on : (c d : Console T g) (i j : Inbox) → SameConsole c d → SameInbox i j → IsPair c.requests i.requests → IsPair d.requests j.requests
   pair_on c d i j same same' pair = search rules
 
   pair_back : (c d : Console T g) (o p : Outbox T g) → SameConsole c d → SameOutbox o p → IsPair o.replies c.replies → IsPair p.replies d.replies

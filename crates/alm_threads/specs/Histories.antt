@@ -6,7 +6,9 @@ use Rattle.alm_types.specs.declared.action.Action.{Action}
 use Rattle.alm_types.specs.declared.entry.Entry.{Entry}
 use Rattle.alm_disk.specs.Device.{DeviceState, IsImage}
 use Rattle.alm_model.specs.Plant.{Condensed}
-use Rattle.alm_model.specs.Judging.{IsLegal, accepted_of, entries_in, of_slot, serials_of, wants_of}
+use Rattle.alm_model.specs.Judging.{IsLegal, accepted_of, entries_in, firsts_from, firsts_of, of_slot, serials_of, wants_of}
+use Rattle.alm_model.specs.Rules.{AllAdmitted}
+use Rattle.alm_types.specs.Batches.{Judged}
 use Rattle.alm_model.specs.Step.{run}
 use Rattle.alm_rings.specs.declared.inbox.Inbox.{Inbox}
 use Rattle.alm_rings.specs.declared.outbox.Outbox.{Outbox}
@@ -18,6 +20,11 @@ use Rattle.alm_rings.specs.Batches.{sealed_of, fetched_of}
 use Rattle.alm_rings.specs.Placed.{taken_by, released_by}
 use Rattle.alm_flush.specs.Replies.{replies_in, replies_to}
 
+-- from this base: each batch begins after the accepted actions of those before it, and the accepted actions of all are admitted
+pub record AreInOrder (base : Condensed) (batches : List Judged) : Type 0 where
+  pub firsts : firsts_of batches ≡ firsts_from (base.panel.count + 1) batches
+  pub admitted : AllAdmitted base (accepted_of (entries_in batches))
+
 -- from this base: the entries of the sealed batches, and those that were not sealed, are one legal history, as of a single
 -- thread. Of each slot they answer the requests that were taken, each once, in order
 pub record JudgesAll (base : Condensed) (inboxes : List Inbox) (ends : SealEnds) : Type 0 where
@@ -26,6 +33,7 @@ pub record JudgesAll (base : Condensed) (inboxes : List Inbox) (ends : SealEnds)
   pub legal : IsLegal base entries
   pub wants : (s : ℕ) → wants_of (of_slot s entries) ≡ taken_by s inboxes
   pub serials : (s : ℕ) → serials_of (of_slot s entries) ≡ range_with_len 1 (length (taken_by s inboxes))
+  pub in_order : AreInOrder base (sealed_of ends)
 
 -- a device that does what its trait says still does, and each image that a crash may leave of it encodes one of these two plants
 abbrev pub LeavesOneOf : Type 0 → Type 0 → (List ℕ → Condensed → Type 0) → DeviceState → Condensed → Condensed → Type 0

@@ -1,9 +1,12 @@
 pub mod Answered
+pub mod Causes
+pub mod Finished
 pub mod Histories
 pub mod Moments
 pub mod Outages
 pub mod Parts
 pub mod Runs
 pub mod Same
+pub mod Sequencing
 pub mod Serving
 pub mod Slots

@@ -18,6 +18,7 @@ use Rattle.alm_store.specs.declared.store.Store
 use Rattle.alm_threads.specs.declared.report.RunReport.{RunReport}
 use Rattle.alm_threads.specs.Histories.{LeavesOneOf}
 use Rattle.alm_threads.specs.Moments.{Endures}
+use Rattle.alm_threads.specs.Parts.{FailsForCause}
 
 -- how many requests of a slot were sent, and how many of them taken; how many receipts were released, and how many of them
 -- received
@@ -61,8 +62,10 @@ pub record IsServerRun (leaves : Condensed → Condensed → Type 0) (endures : 
   pub each : (k s : ℕ) → slice_get slots k ≡ Some s → (sent received : ℕ) × HasReport reports k sent (length (of_slot s entries)) (length (of_slot s told)) received
 
 module _ {K D : Type 0} (k : Store.Ghosts K D) (d : Disk.Ghosts D) where
-  -- a run of these slots over this store, by its report
-  abbrev pub IsRunOver : K → (slots : List ℕ) → RunReport K D k d → Type 0
-  IsRunOver store slots report = IsServerRun (LeavesOneOf (d.honest (k.disk store)) (d.honest (k.disk report.keeper)) k.recovers (d.state (k.disk report.keeper)))
-      (Endures (d.honest (k.disk store)) k.recovers (k.state store).stored (d.state (k.disk store)) (d.state (k.disk report.keeper)))
-      (k.state store).stored slots (k.state report.keeper).stored report.slots.items
+  -- a run of these slots over this store, by its report. It stopped because a step of the store failed only if the device failed,
+  -- or in the last epoch
+  pub record IsRunOver (store : K) (slots : List ℕ) (report : RunReport K D k d) : Type 0 where
+    pub run : IsServerRun (LeavesOneOf (d.honest (k.disk store)) (d.honest (k.disk report.keeper)) k.recovers (d.state (k.disk report.keeper)))
+        (Endures (d.honest (k.disk store)) k.recovers (k.state store).stored (d.state (k.disk store)) (d.state (k.disk report.keeper)))
+        (k.state store).stored slots (k.state report.keeper).stored report.slots.items
+    pub failed : FailsForCause k d report.cause store report.keeper

@@ -1,65 +1,184 @@
-//! The flusher from its parts.
-ghost use Rattle.std.specs.Prelude.{◌≡◌, ℕ, []};
-ghost use Rattle.alm_rings.specs.Batches.{fetched_of};
-ghost use Rattle.alm_rings.specs.Placed.{AreApart, released_by};
-ghost use Rattle.alm_threads.specs.Parts.{AreFlushed};
-ghost use Rattle.alm_moments.specs.Naming.{IsNamedAfter};
+//! Finishes what the threads of a run left.
+ghost use Rattle.std.specs.Prelude.{◌≡◌, ◌↔◌, ℕ, false, true, Some, None, IfSome, IsSome};
+ghost use Rattle.rtrb.specs.Ring.{IsPair};
+ghost use Rattle.alm_rings.specs.declared.inbox.Inbox.{Inbox};
+ghost use Rattle.alm_rings.specs.Batches.{AreBatchEnds, SameFetchEnds, SameSealEnds};
+ghost use Rattle.alm_rings.specs.Ends.{SameConsole};
+ghost use Rattle.alm_rings.specs.Placed.{SameOutboxAt, inbox_at, outbox_at, taken_by};
+ghost use Rattle.alm_seq.specs.Sequences.{SameInboxes, live_base};
+ghost use Rattle.alm_threads.specs.Causes.{StopsFor};
+ghost use Rattle.alm_threads.specs.Finished.{AreTaken, HaveInboxes, IsAllAnswered, IsTaken};
+ghost use Rattle.alm_threads.specs.Same.{AllSame};
 
-use crate::closes::Closes;
-use crate::flusher_parts::FlusherParts;
-use crate::flushing::flush;
 use crate::recorded_flusher::RecordedFlusher;
+use crate::stop_cause::StopCause;
 use alm_board::{Board, Publish};
-use alm_moments::{Moments, MomentsLength, RunId};
-use alm_rings::Told;
-use alm_store::{Phase, Store};
-use alm_wake::{Bell, Flags};
+use alm_flush::Fetch;
+use alm_model::Alarms;
+use alm_moments::{Moments, RunId};
+use alm_rings::{Console, Told};
+use alm_seq::{Seal, Sequencer, Take};
+use alm_store::Store;
 use std::sync::Wait;
 
-/// Runs a flusher over these ends until no work is left, and returns them. The board is closed. Whatever a crash leaves of the
-/// device then encodes what is stored, or that with the batch whose commit wasn't done. Before and after each of its calls it
-/// encodes a prefix of what was fetched, which contains all that had been released or published by then.
-pub fn run_flusher<
+// Takes the next request of a console's slot: whether there may have been one.
+fn take_one<T: Told + Drop, P: Alarms + Drop>(
+    console: &mut Console<T>,
+    sequencer: &mut Sequencer<P>,
+) -> bool
+    requires there { IsSome (inbox_at console.old.slot sequencer.old.inboxes.items) }
+    requires pair { (i : Inbox) → inbox_at console.old.slot sequencer.old.inboxes.items ≡ Some i →
+        IsPair console.old.requests i.requests }
+    ensures console { SameConsole console.old console.new }
+    ensures inboxes { SameInboxes sequencer.old.inboxes.items sequencer.new.inboxes.items }
+    ensures ends { sequencer.new.ends ≡ sequencer.old.ends }
+    ensures base { live_base sequencer.new ≡ live_base sequencer.old }
+    ensures none { result ≡ false → IsTaken console.new sequencer.new.inboxes.items ×
+        ((s : ℕ) → taken_by s sequencer.new.inboxes.items ≡ taken_by s sequencer.old.inboxes.items) }
+{
+    let slot = console.slot();
+    sequencer.requests_beside(slot, console);
+    sequencer.take(slot) != Take::Empty
+}
+
+// Takes a request of each slot: whether there may have been one.
+fn take_each<T: Told + Drop, P: Alarms + Drop>(
+    consoles: &mut [Console<T>],
+    sequencer: &mut Sequencer<P>,
+) -> bool
+    requires tied { HaveInboxes consoles.old sequencer.old.inboxes.items }
+    ensures consoles { AllSame consoles.old consoles.new }
+    ensures inboxes { SameInboxes sequencer.old.inboxes.items sequencer.new.inboxes.items }
+    ensures ends { sequencer.new.ends ≡ sequencer.old.ends }
+    ensures base { live_base sequencer.new ≡ live_base sequencer.old }
+    ensures none { result ≡ false → AreTaken consoles.new sequencer.new.inboxes.items }
+{
+    let mut found = false;
+    for console in consoles.iter_mut() {
+        if take_one(console, sequencer) {
+            found = true;
+        }
+    }
+    found
+}
+
+// Whether anything may be left, by what was taken, sealed and fetched.
+fn is_left(found: bool, sealed: Seal, fetched: Fetch) -> bool
+    ensures { result ≡ false →
+        (found ≡ false) × (sealed ≡ Seal.NothingToSeal) × (fetched ≡ Fetch.Empty) }
+{
+    found || sealed != Seal::NothingToSeal || fetched != Fetch::Empty
+}
+
+// A step of each kind by the flusher.
+fn flush_one<
     K: Store,
     T: Told + Drop,
-    B: Board<Told = T> + Publish<R, Moments<J>> + Closes<R>,
+    B: Board<Told = T> + Publish<R, Moments<J>>,
     J: RunId,
-    E: Bell + Drop,
+    R: Wait,
+>(rt: &R, flusher: &mut RecordedFlusher<K, T, B, J>)
+    ensures fetch { SameFetchEnds flusher.old.flusher.fetch flusher.new.flusher.fetch }
+    ensures outboxes { (s : ℕ) →
+        SameOutboxAt (outbox_at s flusher.old.flusher.outboxes.items)
+        (outbox_at s flusher.new.flusher.outboxes.items) }
+    ensures base { B.Board.base flusher.new.flusher.board ≡ B.Board.base flusher.old.flusher.board }
+    ensures honest { K.Device.honest (K.disk flusher.old.flusher.store) ↔
+        K.Device.honest (K.disk flusher.new.flusher.store) }
+    ensures first { flusher.new.first ≡ flusher.old.first }
+{
+    flusher.advance();
+    flusher.publish::<R>(rt);
+    flusher.release();
+    flusher.give_back();
+}
+
+// A step of each kind by the sequencer and the flusher: whether nothing was left.
+fn finish_some<
+    K: Store,
+    T: Told + Drop,
+    B: Board<Told = T> + Publish<R, Moments<J>>,
+    J: RunId,
+    P: Alarms + Drop,
     R: Wait,
 >(
     rt: &R,
-    flags: &Flags<E>,
-    board: B,
-    parts: FlusherParts<K, T>,
-    recorder: MomentsLength<J>,
-    moments: Moments<J>,
-) -> FlusherParts<K, T>
-    requires apart { AreApart (λ o. o.slot) parts.outboxes.items }
-    requires released { (s : ℕ) → released_by s parts.outboxes.items ≡ [] }
-    requires fetched { fetched_of parts.fetch ≡ [] }
-    requires idle { (K.state parts.store).phase ≡ Phase.Idle }
-    requires stored { (K.state parts.store).stored ≡ B.Board.base board }
-    requires published { B.Board.published board ≡ [] }
-    requires pending { B.Board.pending board ≡ [] }
-    requires named { IsNamedAfter J.RunId K.Store K.Device.Disk parts.store }
-    requires moments { moments ≡ [] }
-    ensures { AreFlushed K.Store K.Device.Disk parts result }
+    consoles: &mut [Console<T>],
+    sequencer: &mut Sequencer<P>,
+    flusher: &mut RecordedFlusher<K, T, B, J>,
+) -> bool
+    requires tied { HaveInboxes consoles.old sequencer.old.inboxes.items }
+    requires batches { AreBatchEnds sequencer.old.ends flusher.old.flusher.fetch }
+    ensures consoles { AllSame consoles.old consoles.new }
+    ensures inboxes { SameInboxes sequencer.old.inboxes.items sequencer.new.inboxes.items }
+    ensures ends { SameSealEnds sequencer.old.ends sequencer.new.ends }
+    ensures live { live_base sequencer.new ≡ live_base sequencer.old }
+    ensures fetch { SameFetchEnds flusher.old.flusher.fetch flusher.new.flusher.fetch }
+    ensures outboxes { (s : ℕ) →
+        SameOutboxAt (outbox_at s flusher.old.flusher.outboxes.items)
+        (outbox_at s flusher.new.flusher.outboxes.items) }
+    ensures base { B.Board.base flusher.new.flusher.board ≡ B.Board.base flusher.old.flusher.board }
+    ensures honest { K.Device.honest (K.disk flusher.old.flusher.store) ↔
+        K.Device.honest (K.disk flusher.new.flusher.store) }
+    ensures first { flusher.new.first ≡ flusher.old.first }
+    ensures cause { result ≡ true → flusher.old.failed ≡ false → flusher.new.failed ≡ false }
+    ensures done { result ≡ true →
+        IsAllAnswered consoles.new sequencer.new.inboxes.items flusher.new.flusher.outboxes.items }
 {
-    let FlusherParts {
-        store,
-        outboxes,
-        fetch,
-    } = parts;
-    let mut flusher = RecordedFlusher::new(store, board, outboxes, fetch, recorder, moments);
-    flush(rt, flags, &mut flusher);
-    // for the proof: the contracts of `keeper` and `images` say what is stored, and what a crash leaves
-    let stored = flusher.keeper();
-    stored.images();
-    let (store, board, outboxes, fetch) = flusher.into_ends();
-    board.close(rt);
-    FlusherParts {
-        store,
-        outboxes,
-        fetch,
+    let found = take_each(consoles, sequencer);
+    let sealed = sequencer.seal();
+    flusher.batches_beside(&mut sequencer.ends);
+    let fetched = flusher.fetch();
+    if is_left(found, sealed, fetched) {
+        flush_one(rt, flusher);
+        return false;
     }
+    true
+}
+
+/// Takes, seals, commits, publishes and releases until nothing is left, or there is a cause to stop. All ends are in one thread.
+/// If the threads of a run ended by themselves, or for a cause, there is nothing to do.
+pub fn finish<
+    K: Store,
+    T: Told + Drop,
+    B: Board<Told = T> + Publish<R, Moments<J>>,
+    J: RunId,
+    P: Alarms + Drop,
+    R: Wait,
+>(
+    rt: &R,
+    consoles: &mut [Console<T>],
+    sequencer: &mut Sequencer<P>,
+    flusher: &mut RecordedFlusher<K, T, B, J>,
+) -> Option<StopCause>
+    requires tied { HaveInboxes consoles.old sequencer.old.inboxes.items }
+    requires batches { AreBatchEnds sequencer.old.ends flusher.old.flusher.fetch }
+    ensures consoles { AllSame consoles.old consoles.new }
+    ensures inboxes { SameInboxes sequencer.old.inboxes.items sequencer.new.inboxes.items }
+    ensures ends { SameSealEnds sequencer.old.ends sequencer.new.ends }
+    ensures live { live_base sequencer.new ≡ live_base sequencer.old }
+    ensures fetch { SameFetchEnds flusher.old.flusher.fetch flusher.new.flusher.fetch }
+    ensures outboxes { (s : ℕ) →
+        SameOutboxAt (outbox_at s flusher.old.flusher.outboxes.items)
+        (outbox_at s flusher.new.flusher.outboxes.items) }
+    ensures base { B.Board.base flusher.new.flusher.board ≡ B.Board.base flusher.old.flusher.board }
+    ensures honest { K.Device.honest (K.disk flusher.old.flusher.store) ↔
+        K.Device.honest (K.disk flusher.new.flusher.store) }
+    ensures first { flusher.new.first ≡ flusher.old.first }
+    ensures stopped { IfSome result
+        (λ why. StopsFor why flusher.new.failed flusher.new.lost flusher.new.refused) }
+    ensures failed { flusher.new.failed ≡ true → result ≡ Some StopCause.Store }
+    ensures done { result ≡ None → (flusher.new.failed ≡ false) ×
+        IsAllAnswered consoles.new sequencer.new.inboxes.items flusher.new.flusher.outboxes.items }
+{
+    for _ in rt.forever() {
+        let cause = flusher.cause();
+        if cause.is_some() {
+            return cause;
+        }
+        if finish_some(rt, consoles, sequencer, flusher) {
+            return None;
+        }
+    }
+    unreachable!()
 }

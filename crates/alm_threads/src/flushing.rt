@@ -13,9 +13,6 @@ use alm_types::MOST_ENTRIES;
 use alm_wake::{Bell, Flags, FlusherPace};
 use std::sync::Wait;
 
-/// How often the same publish is refused before the run stops.
-const REFUSALS: u64 = 1000;
-
 // What a pass found.
 #[derive(Clone, Copy, Debug, PartialEq, Eq)]
 enum Pass {
@@ -35,12 +32,7 @@ fn commit<
     J: RunId,
     E: Bell + Drop,
     R: Wait,
->(
-    rt: &R,
-    flusher: &mut RecordedFlusher<K, T, B, J>,
-    pace: &mut FlusherPace<'_, E>,
-    refused: &mut u64,
-) -> Pass
+>(rt: &R, flusher: &mut RecordedFlusher<K, T, B, J>, pace: &mut FlusherPace<'_, E>) -> Pass
     ensures fetch { SameFetchEnds flusher.old.flusher.fetch flusher.new.flusher.fetch }
     ensures outboxes { flusher.new.flusher.outboxes ≡ flusher.old.flusher.outboxes }
     ensures base { B.Board.base flusher.new.flusher.board ≡ B.Board.base flusher.old.flusher.board }
@@ -52,13 +44,9 @@ fn commit<
         return Pass::Stopped;
     }
     match flusher.publish::<R>(rt) {
-        Publishes::Published => {
-            *refused = 0;
-            pace.publish();
-        }
+        Publishes::Published => pace.publish(),
         Publishes::OutOfMemory => {
-            *refused = u64::saturating_add(*refused, 1);
-            if *refused >= REFUSALS {
+            if flusher.cause().is_some() {
                 return Pass::Stopped;
             }
         }
@@ -104,12 +92,7 @@ fn step<
     J: RunId,
     E: Bell + Drop,
     R: Wait,
->(
-    rt: &R,
-    flusher: &mut RecordedFlusher<K, T, B, J>,
-    pace: &mut FlusherPace<'_, E>,
-    refused: &mut u64,
-) -> Pass
+>(rt: &R, flusher: &mut RecordedFlusher<K, T, B, J>, pace: &mut FlusherPace<'_, E>) -> Pass
     ensures fetch { SameFetchEnds flusher.old.flusher.fetch flusher.new.flusher.fetch }
     ensures outboxes { (s : ℕ) →
         SameOutboxAt (outbox_at s flusher.old.flusher.outboxes.items)
@@ -131,7 +114,7 @@ fn step<
     }
     // Replies that wait come before the pieces of a checkpoint.
     if flusher.next().is_none() {
-        let pass = commit(rt, flusher, pace, refused);
+        let pass = commit(rt, flusher, pace);
         if pass == Pass::Stopped {
             return pass;
         }
@@ -159,13 +142,12 @@ pub fn flush<
     ensures first { flusher.new.first ≡ flusher.old.first }
 {
     let mut pace = FlusherPace::new(flags);
-    let mut refused: u64 = 0;
     for _ in rt.forever() {
         if pace.is_stopped() {
             break;
         }
         let last = pace.is_last();
-        match step(rt, flusher, &mut pace, &mut refused) {
+        match step(rt, flusher, &mut pace) {
             Pass::Work => {
                 pace.work();
                 continue;

@@ -36,7 +36,7 @@
 //!
 //! Proved:
 //! - each thread returns the ends that it was given, at the join too; a source takes its turns at its own slot's console
-//!   (by `run_source`, `start_all`, `join_all`, `start_rings`)
+//!   (by `run_source`, `start_all`, `join_all`, `start_sequencer`)
 //! - what was taken and sealed is one legal history; what was stored a prefix of what was fetched, what was released a
 //!   prefix of that (by `run_sequencer`, `run_flusher`)
 //! - honest device, at the end: each image holds what is stored, or that with the one batch whose commit wasn't done (by
@@ -61,6 +61,7 @@ mod closes;
 mod closing;
 mod closing_board;
 mod console_back;
+mod ending;
 mod ends;
 mod finishing;
 mod flusher_parts;
@@ -68,13 +69,15 @@ mod flushing;
 mod go;
 pub mod laws;
 mod middle;
+mod not_started;
 mod opening;
 mod parts;
 mod recorded_flusher;
 mod report;
+mod reporting;
 mod rings;
 mod running;
-mod sequencer_ends;
+mod sequencer_back;
 mod sequencing;
 mod slot_parts;
 mod slots;
@@ -83,31 +86,35 @@ mod source_thread;
 mod start;
 mod start_fault;
 mod starting;
+mod stop_cause;
 mod storage;
 mod watched_look;
 
 pub use closes::Closes;
 pub use closing_board::ClosingBoard;
 pub use console_back::ConsoleBack;
+pub use ending::{close_flusher, end_run};
 pub use ends::Ends;
-pub use finishing::run_flusher;
+pub use finishing::finish;
 pub use flusher_parts::FlusherParts;
 pub use flushing::flush;
 pub use go::Go;
 pub use middle::Middle;
+pub use not_started::NotStarted;
 pub use opening::parts_of;
 pub use parts::Parts;
 pub use recorded_flusher::RecordedFlusher;
 pub use report::RunReport;
 pub use rings::Rings;
 pub use running::{run_threads, run_with_bells};
-pub use sequencer_ends::SequencerEnds;
+pub use sequencer_back::SequencerBack;
 pub use sequencing::sequence;
 pub use slot_parts::SlotParts;
 pub use source::Source;
 pub use source_thread::run_source;
 pub use start::{join_all, start_all, start_one};
 pub use start_fault::StartFault;
-pub use starting::{run_sequencer, start_rings};
+pub use starting::{run_sequencer, start_sequencer};
+pub use stop_cause::StopCause;
 pub use storage::Storage;
 pub use watched_look::WatchedLook;

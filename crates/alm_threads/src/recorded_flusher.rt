@@ -1,21 +1,49 @@
 //! A flusher, with the moments of its run.
-ghost use Rattle.std.specs.Prelude.{◌≡◌, ◌↔◌, ◌+◌, ◌≤◌, ◌++◌, ℕ, List, false, length};
+ghost use Rattle.std.specs.Prelude.{◌≡◌, ◌≢◌, ◌↔◌, ◌+◌, ◌<◌, ◌≤◌, ◌++◌, ℕ, List, false, true, length, MatchBool};
 ghost use Rattle.alm_model.specs.Plant.{Condensed};
 ghost use Rattle.alm_model.specs.Judging.{accepted_of, entries_in};
+ghost use Rattle.alm_disk.specs.Failures.{HasFailed};
 ghost use Rattle.alm_rings.specs.Batches.{fetched_of};
+ghost use Rattle.alm_store.specs.declared.phase.Phase.TheVariants.{Stopped};
+ghost use Rattle.alm_flush.specs.Flushes.{IsGivenUp};
 ghost use Rattle.alm_flush.specs.HeldBatch.{stored_of};
+ghost use Rattle.alm_threads.specs.Histories.{AreInOrder};
 ghost use Rattle.alm_moments.specs.Moments.{moment_of, now_of};
 ghost use Rattle.alm_threads.specs.Moments.{RunMoment, FollowUpTo, IsSafeAt, at_first, at_moment};
 ghost use Rattle.alm_moments.specs.Naming.{IsNamedAfter};
 
+use crate::stop_cause::StopCause;
 use alm_board::{Board, Publish};
 use alm_flush::{Advance, Fetch, Flusher, Publishes, Release};
 use alm_moments::{CurrentState, Moments, MomentsLength, RunId};
-use alm_rings::{FetchEnds, Outbox, Told};
+use alm_rings::{FetchEnds, Outbox, SealEnds, Told};
 use alm_store::{Phase, Store};
 use alm_types::Entry;
 use std::snapshot::Snapshot;
 use std::sync::Wait;
+
+/// How often in a row a publish is refused before the run stops.
+const REFUSALS: u64 = 1000;
+
+// Whether a step failed.
+fn has_failed(advanced: Advance) -> bool
+    ensures { MatchBool result (advanced ≡ Advance.Failed) (advanced ≢ Advance.Failed) }
+{
+    advanced == Advance::Failed
+}
+
+// How many publishes in a row were refused, after one more or none.
+fn refused_after(published: Publishes, refused: u64) -> u64
+    ensures more { result ≤ refused + 1 }
+    ensures refused { refused < result → published ≡ Publishes.OutOfMemory }
+    ensures published { published ≡ Publishes.Published → result ≡ 0 }
+{
+    match published {
+        Publishes::Published => 0,
+        Publishes::OutOfMemory => refused.saturating_add(1),
+        Publishes::NotYet => refused,
+    }
+}
 
 /// A flusher, with the moments of its run. Before each of its steps whatever a crash leaves of an honest device is safe, and a
 /// step makes one device call, or none. Each call, each batch that is fetched and each publish adds a moment to the run's history.
@@ -31,6 +59,10 @@ pub struct RecordedFlusher<K: Store, T: Told + Drop, B: Board<Told = T>, J: RunI
     floor: u64,
     // The history took no further moment: nothing continues then. No run meets it.
     lost: bool,
+    // A step of the store has failed: nothing continues then.
+    failed: bool,
+    // How many publishes in a row were refused.
+    refused: u64,
     pub ghost base: { J.base ≡ B.base flusher.board },
     pub ghost honest: { ∥ (J.honest → K.Device.honest (K.disk flusher.store)) ∥₁ },
     pub ghost recovers: { ∥ ((b : List ℕ) (p : Condensed) → (J.recovers b p ↔ K.recovers b p)) ∥₁ },
@@ -44,13 +76,23 @@ pub struct RecordedFlusher<K: Store, T: Told + Drop, B: Board<Told = T>, J: RunI
         × FollowUpTo (IsSafeAt K.recovers (B.base flusher.board) (accepted_of (entries_in (fetched_of flusher.fetch))))
         (at_first (B.base flusher.board) (K.Device.state (K.disk first.value))) moments
         (at_moment (B.base flusher.board) (K.Device.state (K.disk flusher.store)) flusher.number (B.published flusher.board))) ∥₁ },
+    /// A store that has stopped failed in a step, and so did one whose commit has failed.
+    pub ghost stopped: { (K.state flusher.store).phase ≡ Stopped → failed ≡ true },
+    pub ghost given_up: { IsGivenUp flusher.held → failed ≡ true },
+    pub ghost count: { K.Device.failures (K.disk first.value) ≤ K.Device.failures (K.disk flusher.store) },
+    /// It failed because the device did, but in the last epoch.
+    pub ghost cause: { failed ≡ true → ¬ (K.exhausted flusher.store) →
+        AreInOrder (B.base flusher.board) (fetched_of flusher.fetch) →
+        ∥ HasFailed (K.Device.failures (K.disk first.value)) (K.Device.failures (K.disk flusher.store)) ∥₁ },
 }
 
 impl<K: Store, T: Told + Drop, B: Board<Told = T>, J: RunId> RecordedFlusher<K, T, B, J> {
-    ghost use Rattle.std.specs.Prelude.{◌≡◌, ◌↔◌, ◌+◌, ◌≤◌, [], ℕ, List, slice_get, Some};
-    ghost use Rattle.alm_rings.specs.Batches.{SameFetchEnds};
+    ghost use Rattle.std.specs.Prelude.{◌≡◌, ◌↔◌, ◌+◌, ◌<◌, ◌≤◌, ◌++◌, [], ℕ, List, slice_get, true, false, IfSome, Some, None};
+    ghost use Rattle.alm_rings.specs.Batches.{AreBatchEnds, SameFetchEnds, SameSealEnds, coming_in, fetched_of, sealed_of};
+    ghost use Rattle.alm_flush.specs.declared.held.Held.TheVariants.{Nothing};
     ghost use Rattle.alm_rings.specs.Placed.{AreApart, SameOutboxAt, outbox_at, released_by};
     ghost use Rattle.alm_flush.specs.HeldBatch.{next_entry_of};
+    ghost use Rattle.alm_threads.specs.Causes.{StopsFor};
     ghost use Rattle.alm_rings.specs.declared.receipt.Receipt.{Receipt};
 
     /// No batch is held at first. The store has no work begun, and the board shows the plant that is stored.
@@ -85,7 +127,44 @@ impl<K: Store, T: Told + Drop, B: Board<Told = T>, J: RunId> RecordedFlusher<K, 
             moments,
             floor,
             lost: false,
+            failed: false,
+            refused: 0,
         }
+    }
+
+    /// Why no further work is done, if there is a cause.
+    pub fn cause(&self) -> Option<StopCause>
+        ensures some { IfSome result
+            (λ why. StopsFor why self.now.failed self.now.lost self.now.refused) }
+        ensures none { result ≡ None → self.now.failed ≡ false }
+        ensures failed { self.now.failed ≡ true → result ≡ Some StopCause.Store }
+    {
+        if self.failed {
+            Some(StopCause::Store)
+        } else if self.lost {
+            Some(StopCause::History)
+        } else if self.refused >= REFUSALS {
+            Some(StopCause::Publishing)
+        } else {
+            None
+        }
+    }
+
+    /// Synchronises the ends of both batch rings, which must be in the same thread: each learns what the other did.
+    pub fn batches_beside(&mut self, seal: &mut SealEnds)
+        requires { AreBatchEnds seal.old self.old.flusher.fetch }
+        ensures same { (self.new.flusher.store ≡ self.old.flusher.store) ×
+            (self.new.flusher.board ≡ self.old.flusher.board) ×
+            (self.new.flusher.outboxes ≡ self.old.flusher.outboxes) ×
+            (self.new.first ≡ self.old.first) × (self.new.failed ≡ self.old.failed) ×
+            (self.new.lost ≡ self.old.lost) × (self.new.refused ≡ self.old.refused) }
+        ensures ends { AreBatchEnds seal.new self.new.flusher.fetch × SameSealEnds seal.old seal.new ×
+            SameFetchEnds self.old.flusher.fetch self.new.flusher.fetch }
+        ensures sealed { sealed_of seal.new ≡ sealed_of seal.old }
+        ensures fetched { fetched_of self.new.flusher.fetch ++ coming_in self.new.flusher.fetch ≡
+            sealed_of seal.new }
+    {
+        self.flusher.batches_beside(seal);
     }
 
     /// Fetches the next sealed batch.
@@ -93,11 +172,17 @@ impl<K: Store, T: Told + Drop, B: Board<Told = T>, J: RunId> RecordedFlusher<K, 
         ensures fetch { SameFetchEnds self.old.flusher.fetch self.new.flusher.fetch }
         ensures same { (self.new.flusher.board ≡ self.old.flusher.board) ×
             (self.new.flusher.outboxes ≡ self.old.flusher.outboxes) ×
-            (self.new.first ≡ self.old.first) }
+            (self.new.first ≡ self.old.first) × (self.new.failed ≡ self.old.failed) }
         ensures honest { K.Device.honest (K.disk self.old.flusher.store) ↔
             K.Device.honest (K.disk self.new.flusher.store) }
+        ensures empty { result ≡ Fetch.Empty → (self.new.flusher.held ≡ Nothing) ×
+            (fetched_of self.new.flusher.fetch ≡ fetched_of self.old.flusher.fetch) ×
+            (coming_in self.old.flusher.fetch ≡ []) }
     {
         if self.lost {
+            return Fetch::Held;
+        }
+        if self.failed {
             return Fetch::Held;
         }
         self.moments.stands();
@@ -123,6 +208,9 @@ impl<K: Store, T: Told + Drop, B: Board<Told = T>, J: RunId> RecordedFlusher<K, 
         if self.lost {
             return Advance::Failed;
         }
+        if self.failed {
+            return Advance::Failed;
+        }
         self.moments.stands();
         self.flusher.keeper().images();
         let advanced = self.flusher.advance();
@@ -134,6 +222,7 @@ impl<K: Store, T: Told + Drop, B: Board<Told = T>, J: RunId> RecordedFlusher<K, 
             floor: self.floor,
         };
         self.lost = !self.moments.extend(&self.recorder, &now);
+        self.failed = has_failed(advanced);
         advanced
     }
 
@@ -145,6 +234,8 @@ impl<K: Store, T: Told + Drop, B: Board<Told = T>, J: RunId> RecordedFlusher<K, 
             (self.new.flusher.outboxes ≡ self.old.flusher.outboxes) ×
             (self.new.flusher.fetch ≡ self.old.flusher.fetch) × (self.new.first ≡ self.old.first) }
         ensures base { B.Board.base self.new.flusher.board ≡ B.Board.base self.old.flusher.board }
+        ensures refused { (self.new.refused ≤ self.old.refused + 1) ×
+            (self.old.refused < self.new.refused → result ≡ Publishes.OutOfMemory) }
     {
         if self.lost {
             return Publishes::NotYet;
@@ -163,7 +254,9 @@ impl<K: Store, T: Told + Drop, B: Board<Told = T>, J: RunId> RecordedFlusher<K, 
             return Publishes::NotYet;
         }
         self.floor = stored;
-        self.flusher.publish::<R, Moments<J>>(rt, &self.moments)
+        let published = self.flusher.publish::<R, Moments<J>>(rt, &self.moments);
+        self.refused = refused_after(published, self.refused);
+        published
     }
 
     /// The entry whose verdict is the next to be released.

@@ -1,9 +1,10 @@
 //! What a run leaves.
-ghost use Rattle.std.specs.Prelude.{◌≡◌, ◌≢◌};
+ghost use Rattle.std.specs.Prelude.{◌≡◌, ◌≢◌, IsSome, None};
 ghost use Rattle.alm_store.specs.declared.phase.Phase.TheVariants.{Stopped};
-ghost use Rattle.alm_threads.specs.declared.storage.Storage.TheVariants.{Whole};
+ghost use Rattle.alm_threads.specs.declared.storage.Storage.TheVariants as variant;
 ghost use Rattle.alm_threads.specs.Answered.{AllAnswered};
 
+use crate::stop_cause::StopCause;
 use crate::storage::Storage;
 use alm_rings::SlotReport;
 use alm_store::Store;
@@ -16,8 +17,12 @@ pub struct RunReport<K: Store> {
     pub storage: Storage,
     /// What went through each slot, in the order of the slots.
     pub slots: Vec<Option<SlotReport>>,
-    pub ghost goes_on: { storage ≡ Whole → (K.state keeper).phase ≢ Stopped },
-    pub ghost answered: { storage ≡ Whole → ∥ AllAnswered slots.items ∥₁ },
+    /// Why it isn't whole.
+    pub cause: Option<StopCause>,
+    pub ghost goes_on: { storage ≡ variant.Whole → (K.state keeper).phase ≢ Stopped },
+    pub ghost answered: { storage ≡ variant.Whole → ∥ AllAnswered slots.items ∥₁ },
     pub ghost whole: { (K.state keeper).phase ≢ Stopped → AllAnswered slots.items →
-        storage ≡ Whole },
+        storage ≡ variant.Whole },
+    pub ghost caused: { storage ≡ variant.Stopped → IsSome cause },
+    pub ghost uncaused: { storage ≡ variant.Whole → cause ≡ None },
 }

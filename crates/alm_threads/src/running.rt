@@ -1,35 +1,32 @@
 //! A run.
-ghost use Rattle.std.specs.Prelude.{◌≡◌, ◌≢◌, ◌↔◌, ◌≤◌, ℕ, [], length, map, slice_get, Some, vec_len, vec_capacity, IfOk, IsTrue};
-ghost use mathlib.Core.List.{IsPrefix};
-ghost use Rattle.alm_rings.specs.Batches.{AreBatchEnds, fetched_of, sealed_of};
-ghost use Rattle.alm_rings.specs.Placed.{AreApart};
-ghost use Rattle.alm_threads.specs.Answered.{AllAnswered, IsSlotAnswered};
+ghost use Rattle.std.specs.Prelude.{◌≡◌, ◌≤◌, ℕ, [], length, map, slice_get, Some, vec_len, vec_capacity, IfErr, IfOk};
 ghost use Rattle.alm_threads.specs.Parts.{AreBack};
-ghost use Rattle.alm_threads.specs.Runs.{AreClosed, IsRunOver};
+ghost use Rattle.alm_threads.specs.Runs.{IsRunOver};
 ghost use Rattle.alm_threads.specs.Serving.{ServesSlots};
 ghost use Rattle.alm_threads.specs.Slots.{AreTied};
 
 use crate::closes::Closes;
-use crate::closing::close_all;
 use crate::closing_board::ClosingBoard;
+use crate::ending::end_run;
 use crate::ends::Ends;
-use crate::finishing::run_flusher;
 use crate::flusher_parts::FlusherParts;
+use crate::flushing::flush;
 use crate::middle::Middle;
+use crate::not_started::NotStarted;
 use crate::parts::Parts;
+use crate::recorded_flusher::RecordedFlusher;
 use crate::report::RunReport;
-use crate::rings::Rings;
+use crate::reporting::report_of;
 use crate::slot_parts::{SlotParts, slot_parts_of};
 use crate::source::Source;
 use crate::start::{join_all, start_all};
 use crate::start_fault::StartFault;
-use crate::starting::start_rings;
-use crate::storage::Storage;
+use crate::starting::start_sequencer;
 use alm_board::{Board, Look, Publish};
 use alm_disk::Hold;
 use alm_moments::{Moments, RunId};
-use alm_rings::{Console, SlotReport, Told, batches_beside};
-use alm_store::{Phase, Store};
+use alm_rings::{Console, SlotReport, Told};
+use alm_store::Store;
 use alm_types::Slot;
 use alm_wake::{Bell, Bells, Flags, ThreadBell};
 use std::alloc::{AllocError, Global};
@@ -62,7 +59,7 @@ fn run_all<
     room: Vec<Console<T>>,
     board: B,
     middle: Middle<K, T, J>,
-) -> Result<Ends<K, T>, StartFault>
+) -> Result<Ends<K, T>, NotStarted<K>>
 where
     T: 's,
     L: 's,
@@ -70,12 +67,15 @@ where
     E: 's,
     H: 's,
     requires serves { ServesSlots slots.now.items middle.rings.inboxes.items }
+    requires tied { AreTied (map (λ p. p.console) slot_parts.items) middle.rings.inboxes.items
+        middle.flusher.outboxes.items }
     requires base { (K.state middle.flusher.store).stored ≡ B.Board.base board }
     requires fresh { (B.Board.published board ≡ []) × (B.Board.pending board ≡ []) }
     requires room { (room.items ≡ []) × (vec_len slot_parts ≤ vec_capacity room) }
-    ensures { IfOk result
+    ensures back { IfOk result
         (λ e. AreBack K.Store K.Device.Disk (map (λ p. p.console) slot_parts.items) middle.rings
         middle.flusher e) }
+    ensures refused { IfErr result (λ e. e.store ≡ middle.flusher.store) }
 {
     let Middle {
         plant,
@@ -84,98 +84,29 @@ where
         recorder,
         moments,
     } = middle;
-    let sequencer = match start_rings(scope, rt, flags, slots, hold, plant, rings) {
+    let FlusherParts {
+        store,
+        outboxes,
+        fetch,
+    } = flusher;
+    let sequencer = match start_sequencer(scope, rt, flags, slots, hold, plant, rings) {
         Ok(handle) => handle,
         Err(fault) => {
             board.close(rt);
-            return Err(fault);
+            return Err(NotStarted { fault, store });
         }
     };
     let sources = match start_all(scope, rt, alloc, flags, slot_parts) {
         Ok(handles) => handles,
         Err(fault) => {
             board.close(rt);
-            return Err(fault);
+            return Err(NotStarted { fault, store });
         }
     };
-    let flusher = run_flusher(rt, flags, board, flusher, recorder, moments);
+    let mut flusher = RecordedFlusher::new(store, board, outboxes, fetch, recorder, moments);
+    flush(rt, flags, &mut flusher);
     let consoles = join_all(rt, sources, room);
-    let rings = sequencer.join(rt);
-    Ok(Ends {
-        consoles,
-        rings,
-        flusher,
-    })
-}
-
-// Whether all that was sent was taken, and all that was taken was answered.
-fn is_answered(slot: &Option<SlotReport>) -> bool
-    ensures { IsTrue result ↔ IsSlotAnswered slot.now }
-{
-    match slot {
-        Some(report) => report.sent == report.taken && report.taken == report.released,
-        None => false,
-    }
-}
-
-// Whether that is so of each slot.
-fn are_answered(slots: &[Option<SlotReport>]) -> bool
-    ensures { IsTrue result ↔ AllAnswered slots.now }
-{
-    for slot in slots {
-        if !is_answered(slot) {
-            return false;
-        }
-    }
-    true
-}
-
-// The run is whole exactly if the store has not stopped and no request or receipt is left.
-fn storage_of(phase: Phase, is_answered: bool) -> Storage
-    ensures whole { result ≡ Storage.Whole → (phase ≢ Phase.Stopped) × IsTrue is_answered }
-    ensures stopped { phase ≢ Phase.Stopped → IsTrue is_answered → result ≡ Storage.Whole }
-{
-    if is_answered && phase != Phase::Stopped {
-        Storage::Whole
-    } else {
-        Storage::Stopped
-    }
-}
-
-// Closes all rings, and says what went through them.
-fn report_of<K: Store, T: Told + Drop>(
-    ends: Ends<K, T>,
-    room: Vec<Option<SlotReport>>,
-) -> RunReport<K>
-    requires apart { AreApart (λ c. c.slot) ends.consoles.items }
-    requires tied { AreTied ends.consoles.items ends.rings.inboxes.items
-        ends.flusher.outboxes.items }
-    requires batches { AreBatchEnds ends.rings.ends ends.flusher.fetch }
-    requires room { (room.items ≡ []) × (vec_len ends.consoles ≤ vec_capacity room) }
-    ensures keeper { result.keeper ≡ ends.flusher.store }
-    ensures closed { AreClosed ends.consoles.items ends.rings.inboxes.items
-        ends.flusher.outboxes.items result.slots.items }
-    ensures fetched { IsPrefix (fetched_of ends.flusher.fetch) (sealed_of ends.rings.ends) }
-{
-    let Ends {
-        consoles,
-        rings,
-        flusher,
-    } = ends;
-    let Rings { inboxes, mut ends } = rings;
-    let FlusherParts {
-        store,
-        outboxes,
-        mut fetch,
-    } = flusher;
-    batches_beside(&mut ends, &mut fetch);
-    let slots = close_all(consoles, inboxes, outboxes, room);
-    let storage = storage_of(store.phase(), are_answered(&slots));
-    RunReport {
-        keeper: store,
-        storage,
-        slots,
-    }
+    Ok(end_run(rt, consoles, sequencer.join(rt), flusher))
 }
 
 // The same, in a scope of its own that joins all threads that were started.
@@ -200,27 +131,32 @@ fn in_scope<
     room: Vec<Console<T>>,
     board: B,
     middle: Middle<K, T, J>,
-) -> Result<Ends<K, T>, StartFault>
+) -> Result<Ends<K, T>, NotStarted<K>>
     requires serves { ServesSlots slots.now.items middle.rings.inboxes.items }
+    requires tied { AreTied (map (λ p. p.console) slot_parts.items) middle.rings.inboxes.items
+        middle.flusher.outboxes.items }
     requires base { (K.state middle.flusher.store).stored ≡ B.Board.base board }
     requires fresh { (B.Board.published board ≡ []) × (B.Board.pending board ≡ []) }
     requires room { (room.items ≡ []) × (vec_len slot_parts ≤ vec_capacity room) }
-    ensures { IfOk result
+    ensures back { IfOk result
         (λ e. AreBack K.Store K.Device.Disk (map (λ p. p.console) slot_parts.items) middle.rings
         middle.flusher e) }
+    ensures refused { IfErr result (λ e. e.store ≡ middle.flusher.store) }
 {
     let closing = ClosingBoard::new(board, rt);
     thread::scope(
         thread::scope_env(),
         rt,
-        |scope| -> Result<Ends<K, T>, StartFault>
+        |scope| -> Result<Ends<K, T>, NotStarted<K>>
             requires { ServesSlots slots.now.items middle.rings.inboxes.items ×
-                ((K.state middle.flusher.store).stored ≡ B.Board.base closing.board) ×
+                AreTied (map (λ p. p.console) slot_parts.items) middle.rings.inboxes.items
+                middle.flusher.outboxes.items × ((K.state middle.flusher.store).stored ≡ B.Board.base closing.board) ×
                 (B.Board.published closing.board ≡ []) × (B.Board.pending closing.board ≡ []) ×
                 (room.items ≡ []) × (vec_len slot_parts ≤ vec_capacity room) }
-            ensures { IfOk result
+            ensures back { IfOk result
                 (λ e. AreBack K.Store K.Device.Disk (map (λ p. p.console) slot_parts.items)
                 middle.rings middle.flusher e) }
+            ensures refused { IfErr result (λ e. e.store ≡ middle.flusher.store) }
         {
             run_all(
                 scope,
@@ -271,7 +207,8 @@ fn room_for<T: Told + Drop, L: Look<Told = T> + Drop, S: Source<T, L> + Drop>(
 /// for each source and one for the sequencer; the flusher runs in the caller's.
 ///
 /// It ends when all sources have ended and no work is left, or when the storage is stopped; no further turns are taken after
-/// that. A fault if out of memory or no thread can be made: the parts are lost, and the device must be opened again.
+/// that. Once the threads are joined it finishes what they left: so a run isn't whole only for its cause. If out of memory or no
+/// thread can be made, the store is returned as it was, and the other parts are lost.
 pub fn run_with_bells<
     K: Store,
     T: Told + Drop + Send,
@@ -289,12 +226,13 @@ pub fn run_with_bells<
     hold: &H,
     bells: Vec<E>,
     sources: Vec<S>,
-) -> Result<RunReport<K>, StartFault>
+) -> Result<RunReport<K>, NotStarted<K>>
     requires sources { length sources.items ≡ length parts.slots.items }
     requires place { (k n : ℕ) (s : _) → slice_get sources.items k ≡ Some s → S.slot s ≡ Some n →
         slice_get parts.slots.items k ≡ Some n }
     ensures run { IfOk result
         (IsRunOver K.Store K.Device.Disk parts.middle.flusher.store parts.slots.items) }
+    ensures refused { IfErr result (λ e. e.store ≡ parts.middle.flusher.store) }
 {
     let Ok(
         Room {
@@ -304,8 +242,7 @@ pub fn run_with_bells<
         },
     ) = room_for(alloc, parts.slots.len())
     else {
-        drop(parts.close(rt));
-        return Err(StartFault::OutOfMemory);
+        return Err(NotStarted::out_of_memory(parts.close(rt)));
     };
     let Parts {
         slots,
@@ -322,7 +259,8 @@ pub fn run_with_bells<
     Ok(report_of(ends, reports))
 }
 
-/// Runs these parts with a source for each slot, in the order of the slots, each woken when a receipt is released to it.
+/// Runs these parts with a source for each slot, in the order of the slots, each woken when a receipt is released to it. A fault
+/// if out of memory or no thread can be made: the parts are lost, and the device must be opened again.
 pub fn run_threads<
     K: Store,
     T: Told + Drop + Send,
@@ -355,5 +293,8 @@ pub fn run_threads<
             return Err(StartFault::OutOfMemory);
         }
     }
-    run_with_bells(rt, alloc, parts, hold, bells, sources)
+    match run_with_bells(rt, alloc, parts, hold, bells, sources) {
+        Ok(report) => Ok(report),
+        Err(NotStarted { fault, store: _ }) => Err(fault),
+    }
 }

@@ -1,9 +1,10 @@
 //! Starts the sequencer's thread from its parts.
 ghost use Rattle.std.specs.Prelude.{◌≡◌, IfOk};
-ghost use Rattle.alm_threads.specs.Parts.{AreFresh, AreJudged};
+ghost use Rattle.alm_threads.specs.Parts.{AreFresh};
+ghost use Rattle.alm_threads.specs.Sequencing.{IsSequencerOver};
 
 use crate::rings::Rings;
-use crate::sequencer_ends::SequencerEnds;
+use crate::sequencer_back::SequencerBack;
 use crate::sequencing::sequence;
 use crate::start_fault::StartFault;
 use alm_disk::Hold;
@@ -16,7 +17,7 @@ use std::sync::Wait;
 use std::thread::{PromisedHandle, Scope};
 use std::time::Clock;
 
-/// Runs a sequencer over these ends until all sources have ended and no work is left, and returns them.
+/// Runs a sequencer over these ends until all sources have ended and no work is left, and returns it.
 pub fn run_sequencer<P: Alarms + Drop, B: Bell + Drop, H: Hold, R: Wait + Clock>(
     rt: &R,
     flags: &Flags<B>,
@@ -24,21 +25,17 @@ pub fn run_sequencer<P: Alarms + Drop, B: Bell + Drop, H: Hold, R: Wait + Clock>
     hold: &H,
     plant: P,
     rings: Rings,
-) -> Rings
+) -> Sequencer<P>
     requires { AreFresh slots.now (P.plant plant) rings }
-    ensures { AreJudged (P.plant plant) rings result }
+    ensures { IsSequencerOver (P.plant plant) rings result }
 {
     let Rings { inboxes, ends } = rings;
     let sequencer = Sequencer::new(plant, inboxes, ends);
-    let sequencer = sequence(rt, flags, slots, hold, sequencer);
-    // for the proof: the contract of `live` says that what was judged is one legal history
-    let _live = sequencer.live();
-    let (inboxes, ends) = sequencer.into_ends();
-    Rings { inboxes, ends }
+    sequence(rt, flags, slots, hold, sequencer)
 }
 
 /// Starts it in a thread of its own, over these ends.
-pub fn start_rings<
+pub fn start_sequencer<
     's,
     E,
     P: Alarms + Drop + Send,
@@ -53,7 +50,7 @@ pub fn start_rings<
     hold: &'s H,
     plant: P,
     rings: Rings,
-) -> Result<PromisedHandle<Rings, SequencerEnds<P>>, StartFault>
+) -> Result<PromisedHandle<Sequencer<P>, SequencerBack<P>>, StartFault>
 where
     P: 's,
     B: 's,
@@ -62,15 +59,15 @@ where
     ensures { IfOk result
         (λ handle. (handle.promise.rings.value ≡ rings) × (handle.promise.plant.value ≡ plant)) }
 {
-    let promise = SequencerEnds {
+    let promise = SequencerBack {
         rings: Snapshot::of(&rings),
         plant: Snapshot::of(&plant),
     };
     match scope.spawn_with(
         promise,
-        move || -> Rings
+        move || -> Sequencer<P>
             requires { AreFresh slots.now.items (P.plant plant) rings }
-            ensures { AreJudged (P.plant plant) rings result }
+            ensures { IsSequencerOver (P.plant plant) rings result }
         { run_sequencer(rt, flags, slots.as_slice(), hold, plant, rings) },
     ) {
         Ok(handle) => Ok(handle),

@@ -14,7 +14,7 @@ use alm_plant::Plant;
 use alm_rings::SlotReport;
 use alm_shared::{Durable, NewRun, SharedBoard, SharedLook};
 use alm_store::Store;
-use alm_threads::{Parts, RunReport, Storage, WatchedLook, parts_of, run_threads};
+use alm_threads::{Parts, RunReport, StopCause, Storage, WatchedLook, parts_of, run_threads};
 use alm_types::Slot;
 use std::alloc::Global;
 use std::marker::Brand;
@@ -26,6 +26,7 @@ use std::time::Clock;
 #[derive(Drop)]
 pub struct Left<D: Drop> {
     pub storage: Storage,
+    pub cause: Option<StopCause>,
     /// How many actions are stored.
     pub count: u64,
     pub slots: Vec<Option<SlotReport>>,
@@ -37,9 +38,11 @@ fn left_of<K: Store>(report: RunReport<K>) -> Left<K::Device> {
         keeper,
         storage,
         slots,
+        cause,
     } = report;
     Left {
         storage,
+        cause,
         count: keeper.count(),
         slots,
         disk: keeper.into_device(),

@@ -8,7 +8,7 @@ use crate::notes::Notes;
 use alm_desk::worked_table;
 use alm_disk::{Free, MemDisk, OnceDisk};
 use alm_keeper::Keeper;
-use alm_threads::Storage;
+use alm_threads::{StopCause, Storage};
 use alm_types::Slot;
 use std::alloc::Global;
 use std::sync::atomic::Ordering;
@@ -24,6 +24,7 @@ const EACH: u64 = 1000;
 #[derive(Drop)]
 struct Found {
     storage: Storage,
+    cause: Option<StopCause>,
     /// How many receipts or looks were wrong.
     wrong: u64,
     /// The greatest number that was reported.
@@ -49,7 +50,12 @@ fn run_failing<R: Threads + Wait + Clock + Sync>(
     let sources = callers(alloc, &slots, only, EACH, &notes).ok()?;
     let disk = OnceDisk::new(formatted(alloc, &table)?, call);
     let left = run_on::<Keeper<OnceDisk<MemDisk>>, _, _>(rt, alloc, disk, slots, &Free, sources)?;
-    let Left { storage, disk, .. } = left;
+    let Left {
+        storage,
+        cause,
+        disk,
+        ..
+    } = left;
     let accepted = match only {
         Some(slot) => Accepted::Alone(slot),
         None => Accepted::Noted(&notes),
@@ -57,6 +63,7 @@ fn run_failing<R: Threads + Wait + Clock + Sync>(
     let (count, is_fold) = reopened::<Keeper<OnceDisk<MemDisk>>>(alloc, disk, &table, accepted)?;
     Some(Found {
         storage,
+        cause,
         wrong: notes.wrong.load(Ordering::SeqCst),
         told: notes.told.load(Ordering::SeqCst),
         count,
@@ -72,8 +79,8 @@ fn what_was_answered_is_kept_where_a_call_fails(rt: HostRuntime) -> Result<(), F
     for call in CALLS {
         let found = run_failing(&rt, rt.alloc(), None, call).ok_or("run")?;
         assert_eq!(rt;
-            (found.storage, found.wrong),
-            (Storage::Stopped, 0),
+            (found.storage, found.cause, found.wrong),
+            (Storage::Stopped, Some(StopCause::Store), 0),
             "call {call}"
         );
         assert!(rt; found.told <= found.count, "call {call}");
@@ -87,8 +94,8 @@ fn a_front_of_what_was_accepted_is_kept_where_a_call_fails(rt: HostRuntime) -> R
     for call in CALLS {
         let found = run_failing(&rt, rt.alloc(), Some(feed), call).ok_or("run")?;
         assert_eq!(rt;
-            (found.storage, found.wrong),
-            (Storage::Stopped, 0),
+            (found.storage, found.cause, found.wrong),
+            (Storage::Stopped, Some(StopCause::Store), 0),
             "call {call}"
         );
         assert!(rt; found.told <= found.count, "call {call}");

@@ -13,7 +13,7 @@ use alm_moments::{NewMoments, RunId};
 use alm_plant::Plant;
 use alm_rings::{SealEnds, SlotEnds, batches_beside, open_batches, open_slots};
 use alm_store::{Phase, Store};
-use alm_threads::{Closes, FlusherParts, run_flusher};
+use alm_threads::{Closes, RecordedFlusher, close_flusher, flush};
 use alm_types::{Action, Batch, Entry, Moment, Slot, Verdict};
 use alm_wake::{Bells, Flags, ThreadBell};
 use std::alloc::{AllocError, Global};
@@ -111,12 +111,9 @@ fn told_behind<J: RunId, K: Store, R: Wait>(
         inboxes: _,
         outboxes,
     } = slot_ends;
-    let parts = FlusherParts {
-        store,
-        outboxes,
-        fetch,
-    };
-    drop(run_flusher(rt, &flags, board, parts, recorder, moments));
+    let mut flusher = RecordedFlusher::new(store, board, outboxes, fetch, recorder, moments);
+    flush(rt, &flags, &mut flusher);
+    drop(close_flusher(rt, flusher));
     let told = match consoles.get_mut(17) {
         Some(console) => console.receive().map(|receipt| receipt.number),
         None => None,

@@ -100,6 +100,7 @@ fn found_over<K: Store, R: Threads + Wait + Clock + Sync>(
         count,
         slots,
         disk,
+        cause: _,
     } = left;
     drop(disk);
     let [one, other] = row.slots;

@@ -76,6 +76,7 @@ fn run_over<K: Store, R: Threads + Wait + Clock + Sync>(
         count,
         slots,
         disk,
+        cause: _,
     } = run_callers::<K, R>(rt, alloc, disk, notes)?;
     Some(Found {
         storage,

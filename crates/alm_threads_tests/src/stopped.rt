@@ -20,7 +20,9 @@ use alm_moments::RunId;
 use alm_plant::Plant;
 use alm_shared::{Durable, NewRun, SharedBoard, SharedLook};
 use alm_store::Store;
-use alm_threads::{Closes, Parts, RunReport, Storage, WatchedLook, parts_of, run_threads};
+use alm_threads::{
+    Closes, Parts, RunReport, StopCause, Storage, WatchedLook, parts_of, run_threads,
+};
 use alm_types::{Action, Batch, Moment, Slot};
 use std::alloc::{AllocError, Global};
 use std::marker::Brand;
@@ -131,13 +133,13 @@ fn run_short<J: RunId + Send + Sync, K: Store, H: Hold + Sync, R: Threads + Wait
     }
 }
 
-/// What a run over a device reports whose clock sends an action: its storage, and how many actions are stored.
+/// What a run over a device reports whose clock sends an action: its storage, why it stopped, and how many actions are stored.
 fn left_over<K: Store, R: Threads + Wait + Clock + Sync>(
     rt: &R,
     alloc: Global,
     disk: K::Device,
     refusals: u64,
-) -> Option<(Storage, u64)> {
+) -> Option<(Storage, Option<StopCause>, u64)> {
     let Ok(slots) = all_slots(alloc) else {
         return None;
     };
@@ -152,20 +154,20 @@ fn left_over<K: Store, R: Threads + Wait + Clock + Sync>(
     let report = run_short::<Brand, K, _, R>(
         rt, alloc, new, store, slots, &Free, sources, refusals,
     )?;
-    Some((report.storage, report.keeper.count()))
+    Some((report.storage, report.cause, report.keeper.count()))
 }
 
 #[test]
 fn storage_is_stopped_behind_a_thousand_refused_publishes(rt: HostRuntime) -> Result<(), Fail> {
     let table = worked_table(rt.alloc())?;
-    for (refusals, storage) in [
-        (0, Storage::Whole),
-        (999, Storage::Whole),
-        (1_000, Storage::Stopped),
+    for (refusals, storage, cause) in [
+        (0, Storage::Whole, None),
+        (999, Storage::Whole, None),
+        (1_000, Storage::Stopped, Some(StopCause::Publishing)),
     ] {
         let disk = formatted(rt.alloc(), &table).ok_or("formatted")?;
         let left = left_over::<Keeper<MemDisk>, _>(&rt, rt.alloc(), disk, refusals);
-        assert_eq!(rt; left, Some((storage, 1)), "{refusals} refusals");
+        assert_eq!(rt; left, Some((storage, cause, 1)), "{refusals} refusals");
     }
     Ok(())
 }

@@ -1,25 +1,67 @@
-use Rattle.std.proofs.Common.{◌∙◌, rules, subst}
+use Rattle.std.proofs.Common.{◌∙◌, ℕ, ap, rules, subst, sym}
 use Rattle.alm_model.specs.Plant.{Condensed}
-use Rattle.alm_rings.specs.Batches.{SameSealEnds}
+use Rattle.alm_rings.specs.Batches.{SameFetchEnds, SameSealEnds}
+use Rattle.alm_rings.specs.Placed.{SameOutboxAt, inbox_at, outbox_at}
 use Rattle.alm_seq.specs.Sequences.{SameInboxes}
 use Rattle.alm_threads.specs.Histories.{JudgesAll}
+use Rattle.alm_threads.specs.Parts.{FailsForCause, HaveFlushed}
+use Rattle.alm_threads.specs.Same.{AllSame}
 use Rattle.alm_threads.specs.declared.rings.Rings.{Rings}
+use Rattle.alm_threads.proofs.Finished.{all_same_on}
+use Rattle.alm_threads.proofs.Serves.{out_trans, same_at_trans}
+use Rattle.alm_threads.proofs.Tied.{tied_still}
 use Rattle.alm_threads.proofs.running.run_all.Goals as goal
 
-pub returns : goal.returns
-returns g c =
-    let back = c.join-rings.result in
-    record {
-      same = search rules;
-      judged = record {
-        inboxes = subst (λ (r : Rings). SameInboxes r.inboxes.items back.inboxes.items) c.in-Ok.ensures.0 c.join-rings.ensures.inboxes;
-        ends = subst (λ (r : Rings). SameSealEnds r.ends back.ends) c.in-Ok.ensures.0 c.join-rings.ensures.ends;
-        judged = subst (λ (q : Condensed). JudgesAll q back.inboxes.items back.ends) (c.in-Ok.ensures.1 ∙ c.args.middle.live) c.join-rings.ensures.judged;
-      };
-      flushed = search rules;
-    }
-
-pub run_flusher-flusher-requires-clause-named : goal.run_flusher-flusher-requires-clause-named
-run_flusher-flusher-requires-clause-named g c =
+pub new-flusher-requires-clause-named : goal.new-flusher-requires-clause-named
+new-flusher-requires-clause-named g c =
     let m = c.args.middle in
     record { base = m.base; device = m.device; honest = m.honest; recovers = m.recovers }
+
+pub end_run-requires-clause-tied : goal.end_run-requires-clause-tied
+end_run-requires-clause-tied g c =
+    let m = c.args.middle in
+    let back = c.join.result in
+    let consoles = c.join_all-consoles.result.items in
+    let flushed = c.flush.new.flusher.flusher.outboxes.items in
+    tied_still _ consoles m.rings.inboxes.items back.inboxes.items m.flusher.outboxes.items flushed
+    (subst (λ cs. AllSame cs consoles) c.in-Ok-start_all.ensures.each c.join_all-consoles.ensures.each)
+    (subst (λ (r : Rings). SameInboxes r.inboxes.items back.inboxes.items) c.in-Ok.ensures.0 c.join.ensures.inboxes)
+    (λ s. subst (λ o. SameOutboxAt (outbox_at s o.items) (outbox_at s flushed)) c.new-flusher.ensures.parts.2 (c.flush.ensures.outboxes s)) c.requires.tied
+
+pub returns-clause-back : goal.returns-clause-back
+returns-clause-back g c =
+    let s = g.K.Store in
+    let d = g.K.Device.Disk in
+    let m = c.args.middle in
+    let back = c.join.result in
+    let end = c.end_run.result in
+    let e = c.end_run.ensures in
+    let consoles = c.join_all-consoles.result.items in
+    let flushed = c.flush.new.flusher.flusher in
+    let joined = subst (λ cs. AllSame cs consoles) c.in-Ok-start_all.ensures.each c.join_all-consoles.ensures.each in
+    let all = all_same_on _ consoles end.consoles.items joined e.consoles in
+    let first = ap (λ x. x.value) c.flush.ensures.first ∙ c.new-flusher.ensures.first in
+    let inboxes : SameInboxes m.rings.inboxes.items end.rings.inboxes.items = λ n.
+    same_at_trans (inbox_at n m.rings.inboxes.items) (inbox_at n back.inboxes.items) (inbox_at n end.rings.inboxes.items)
+    (subst (λ (r : Rings). SameInboxes r.inboxes.items back.inboxes.items) c.in-Ok.ensures.0 c.join.ensures.inboxes n) (e.inboxes n) in
+    let outboxes : (n : ℕ) → SameOutboxAt (outbox_at n m.flusher.outboxes.items) (outbox_at n end.flusher.outboxes.items) = λ n.
+    out_trans (outbox_at n m.flusher.outboxes.items) (outbox_at n flushed.outboxes.items) (outbox_at n end.flusher.outboxes.items)
+    (subst (λ o. SameOutboxAt (outbox_at n o.items) (outbox_at n flushed.outboxes.items)) c.new-flusher.ensures.parts.2 (c.flush.ensures.outboxes n)) (e.outboxes n) in
+    let sealed = subst (λ (r : Rings). SameSealEnds r.ends back.ends) c.in-Ok.ensures.0 c.join.ensures.ends in
+    record {
+      same = all;
+      judged = record {
+        inboxes = inboxes;
+        ends = search rules;
+        judged = subst (λ (q : Condensed). JudgesAll q end.rings.inboxes.items end.rings.ends) (c.join.ensures.base ∙ (c.in-Ok.ensures.1 ∙ m.live)) e.judged;
+      };
+      flushed = record {
+        outboxes = outboxes;
+        fetch = search rules;
+        flushed = subst (λ k. HaveFlushed s d k end.flusher) first e.flushed;
+      };
+      tied = tied_still _ end.consoles.items m.rings.inboxes.items end.rings.inboxes.items m.flusher.outboxes.items end.flusher.outboxes.items all inboxes outboxes c.requires.tied;
+      batches = search rules;
+      end = e.end;
+      failed = subst (λ k. FailsForCause s d end.cause k end.flusher.store) first e.failed;
+    }

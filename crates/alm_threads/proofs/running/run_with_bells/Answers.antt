@@ -7,10 +7,13 @@ use Rattle.alm_rings.specs.Batches.{fetched_of, sealed_of}
 use Rattle.alm_rings.specs.Placed.{inbox_at, taken_by, released_by}
 use Rattle.alm_rings.specs.Ends.{sent_of, received_of}
 use Rattle.alm_threads.specs.Histories.{LeavesOneOf}
+use Rattle.alm_threads.proofs.Causes.{failed_by}
 use Rattle.alm_threads.proofs.Moments.{accepted_prefix, endures_on}
 use Rattle.alm_threads.specs.Same.{AllSame}
+use Rattle.alm_threads.specs.Parts.{FailsForCause}
 use Rattle.alm_threads.specs.Runs.{HasReport}
-use Rattle.alm_threads.proofs.Tied.{stands_at, apart_by, map_count, wants_count, replies_count, received_count, front_on, entries_front, same_slots, tied_still}
+use Rattle.alm_threads.specs.Slots.{AreTied}
+use Rattle.alm_threads.proofs.Tied.{stands_at, apart_by, map_count, wants_count, replies_count, received_count, front_on, entries_front, same_slots}
 use Rattle.alm_threads.proofs.running.run_with_bells.Goals as goal
 
 pub slot_parts_of-slot_parts-requires-clause-place : goal.slot_parts_of-slot_parts-requires-clause-place
@@ -20,38 +23,36 @@ pub in_scope-requires-clause-serves : goal.in_scope-requires-clause-serves
 in_scope-requires-clause-serves g c = λ _ _ k s at. (let d = stands_at (λ (x : Console _ _). x.slot) c.args.parts.consoles.items c.args.parts.slots.items k s c.args.parts.order at in
     subst (λ n. IsSome (inbox_at n c.args.parts.middle.rings.inboxes.items)) d.1.1 (c.args.parts.inboxes k d.0 d.1.0))
 
-pub report_of-requires-clause-apart : goal.report_of-requires-clause-apart
-report_of-requires-clause-apart g c =
+pub in_scope-requires-clause-tied : goal.in_scope-requires-clause-tied
+in_scope-requires-clause-tied g c = λ _ _.
     let p = c.args.parts in
-    let back = c.in_ok-ends.ends.consoles.items in
-    let all = subst (λ cs. AllSame cs back) c.slot_parts_of-slot_parts.ensures.consoles c.in_ok-ends.ensures.same in
-    apart_by (λ (x : Console _ _). x.slot) back p.slots.items (same_slots p.consoles.items back all ∙ p.order) p.apart
-
-pub report_of-requires-clause-tied : goal.report_of-requires-clause-tied
-report_of-requires-clause-tied g c =
-    let p = c.args.parts in
-    let e = c.in_ok-ends.ends in
-    let all = subst (λ cs. AllSame cs e.consoles.items) c.slot_parts_of-slot_parts.ensures.consoles c.in_ok-ends.ensures.same in
-    tied_still p.consoles.items e.consoles.items p.middle.rings.inboxes.items e.rings.inboxes.items p.middle.flusher.outboxes.items e.flusher.outboxes.items all c.in_ok-ends.ensures.judged.inboxes c.in_ok-ends.ensures.flushed.outboxes (record {
+    subst (λ cs. AreTied cs p.middle.rings.inboxes.items p.middle.flusher.outboxes.items) (sym c.slot_parts_of-slot_parts.ensures.consoles) (record {
       has_inbox = p.inboxes;
       has_outbox = p.outboxes;
       requests = p.requests;
       replies = p.replies;
     })
 
+pub report_of-requires-clause-apart : goal.report_of-requires-clause-apart
+report_of-requires-clause-apart g c =
+    let p = c.args.parts in
+    let back = c.in_ok-ends.ends.consoles.items in
+    let all = subst (λ cs. AllSame cs back) c.slot_parts_of-slot_parts.ensures.consoles c.in_ok-ends.ensures.back.same in
+    apart_by (λ (x : Console _ _). x.slot) back p.slots.items (same_slots p.consoles.items back all ∙ p.order) p.apart
+
 pub report_of-requires-clause-room : goal.report_of-requires-clause-room
 report_of-requires-clause-room g c =
     let p = c.args.parts in
     let back = c.in_ok-ends.ends.consoles in
-    let all = subst (λ cs. AllSame cs back.items) c.slot_parts_of-slot_parts.ensures.consoles c.in_ok-ends.ensures.same in
+    let all = subst (λ cs. AllSame cs back.items) c.slot_parts_of-slot_parts.ensures.consoles c.in_ok-ends.ensures.back.same in
     let order = same_slots p.consoles.items back.items all ∙ p.order in
     (c.in-Ok.ensures.reports.0, omega (arith, c.in-Ok.ensures.reports.1, c.len.ensures, back.ok, p.slots.ok, map_count (λ (x : Console _ _). x.slot) back.items, ap length order))
 
-pub returns : goal.returns
-returns g c =
+pub returns-clause-run : goal.returns-clause-run
+returns-clause-run g c =
     let p = c.args.parts in
     let e = c.in_ok-ends.ends in
-    let f = c.in_ok-ends.ensures in
+    let f = c.in_ok-ends.ensures.back in
     let all = subst (λ cs. AllSame cs e.consoles.items) c.slot_parts_of-slot_parts.ensures.consoles f.same in
     let order = same_slots p.consoles.items e.consoles.items all ∙ p.order in
     let entries = f.judged.judged.entries in
@@ -85,4 +86,6 @@ returns g c =
                   (subst (λ n. HasReport reports k (length (sent_of d.0)) n (length (released_by d.0.slot e.flusher.outboxes.items)) (length (received_of d.0))) taken closes),
             ));
       };
+      failed = failed_by c.report_of.result.storage c.report_of.result.cause e.cause (λ stopped. c.report_of.ensures.cause stopped) c.report_of.result.uncaused
+          (subst (λ k. FailsForCause g.K.Store g.K.Device.Disk e.cause p.middle.flusher.store k) (sym c.report_of.ensures.keeper) f.failed);
     }

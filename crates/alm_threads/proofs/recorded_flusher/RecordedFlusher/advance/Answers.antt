@@ -1,16 +1,18 @@
-use Rattle.std.proofs.Common.{◌≡◌, ◌⊎◌, ⊎_elim, inl, inr, ◌≤◌, ◌+◌, ◌++◌, ◌∙◌, ℕ, List, length, refl, sym, ap, subst, arith}
+use Rattle.std.proofs.Common.{◌≡◌, ◌≢◌, ◌⊎◌, ⊎_elim, inl, inr, ◌≤◌, ◌+◌, ◌++◌, ◌∙◌, ℕ, List, length, refl, sym, ap, subst, arith}
 use Rattle.std.specs.Prelude.{not}
 use Rattle.std.proofs.Props.{props}
 use Rattle.std.proofs.Math.Logic.{∥∥₁_elim, ∥∥₁_map}
 use Rattle.alm_disk.specs.Device.{IsImage}
 use Rattle.alm_model.specs.Judging.{accepted_of, entries_in}
 use Rattle.alm_rings.specs.Batches.{fetched_of}
+use Rattle.alm_store.specs.declared.phase.Phase.TheVariants.{Stopped}
 use Rattle.alm_flush.specs.HeldBatch.{released_entries, stored_of}
 use Rattle.alm_model.specs.Step.{run}
 use Rattle.alm_moments.specs.Moments.{moment_of, now_of}
 use Rattle.alm_moments.proofs.Courses.{goes_on, by_call, by_none, last_taken, prefix_self}
 use Rattle.alm_threads.specs.Moments.{at_first, at_moment}
 use Rattle.alm_threads.proofs.Moments.{at_safe, passed_on, told_by_advance}
+use Rattle.alm_threads.proofs.Causes.{clash, failed_as, failed_since, given_up_by_advance, held_cases, must_fail, next_held}
 use Rattle.alm_threads.proofs.Recorded.{named_safe, stored_by_advance}
 use Rattle.alm_threads.proofs.recorded_flusher.RecordedFlusher.advance.Goals as goal
 
@@ -92,4 +94,15 @@ invariant_of-self g c =
             passed_on s.recovers base all first last (at_moment base (g.K.Device.Disk.state (s.disk n.store)) n.number (b.published o.board)) p.1 safe
                 (⊎_elim (λ same. inr (same, omega (arith, number), omega arith)) (λ call. inl (call, number, refl)) (e.device.call p.0)),
           )));
+      stopped = λ phase. must_fail c.has_failed-self.result c.advance-advanced.result c.has_failed-self.ensures (λ fine. e.going (λ was. clash r.failed (r.stopped was) c.if-self-2.false) fine phase);
+      given_up = λ up. must_fail c.has_failed-self.result c.advance-advanced.result c.has_failed-self.ensures (λ fine. fine (given_up_by_advance c.advance-advanced.result (s.state o.store).phase o.held n.held e.held up (λ was. clash r.failed (r.given_up was) c.if-self-2.false)));
+      count = omega (arith, r.count, e.device.count);
+      cause = rw (e.same.0, e.same.3) (λ failed spent order.
+          let no = failed_as c.has_failed-self.result c.advance-advanced.result c.has_failed-self.ensures failed in
+          let going : (s.state o.store).phase ≢ Stopped = λ was. clash r.failed (r.stopped was) c.if-self-2.false in
+          ∣ failed_since (g.K.Device.Disk.failures (s.disk r.first.value)) (g.K.Device.Disk.failures (s.disk o.store)) (g.K.Device.Disk.failures (s.disk n.store)) r.count e.device.count
+          (⊎_elim
+          (λ waits. e.causes.cause no going (λ ex. spent (e.device.exhausted ex)) (next_held o.held waits.0 base (s.state o.store).stored before (fetched_of o.fetch) waits.1 o.held_is o.stored order))
+          (⊎_elim (λ up. clash r.failed (r.given_up up) c.if-self-2.false) (λ free. e.broken no going free))
+          (held_cases o.held)) ∣₁);
     }

@@ -11,6 +11,7 @@ use Rattle.alm_moments.specs.Moments.{moment_of, now_of}
 use Rattle.alm_moments.proofs.Courses.{goes_on, by_none, last_taken}
 use Rattle.alm_threads.specs.Moments.{at_first, at_moment}
 use Rattle.alm_threads.proofs.Moments.{at_safe, passed_on, passed_of_prefix, accepted_prefix, entries_prefix, told_by_fetch, fetched_more}
+use Rattle.alm_threads.proofs.Causes.{clash, given_up_by_fetch}
 use Rattle.alm_threads.proofs.Recorded.{named_safe, safe_with_more, stored_by_fetch}
 use Rattle.alm_threads.proofs.recorded_flusher.RecordedFlusher.fetch.Goals as goal
 
@@ -85,4 +86,8 @@ invariant_of-self g c =
             passed_of_prefix s.recovers base all (accepted_of (entries_in (fetched_of n.fetch))) first next more
                 (passed_on s.recovers base all first last next p.1 safe (inr (ap g.K.Device.Disk.state e.store.disk, omega (arith, number), omega arith))),
           )));
+      stopped = λ phase. r.stopped (ap (λ x. x.phase) (sym e.store.state) ∙ phase);
+      given_up = λ up. r.given_up (given_up_by_fetch c.fetch-fetched.result o.held n.held o.fetch n.fetch e.answer up);
+      count = omega (arith, r.count, ap g.K.Device.Disk.failures e.store.disk);
+      cause = λ failed. clash r.failed failed c.if-self-2.false;
     }

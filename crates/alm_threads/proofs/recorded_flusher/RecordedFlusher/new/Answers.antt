@@ -2,6 +2,7 @@ use Rattle.std.proofs.Common.{◌≡◌, ◌∙◌, [], sym, ap, subst, arith}
 use Rattle.std.proofs.Math.Logic.{∥∥₁_map}
 use Rattle.alm_model.specs.Judging.{accepted_of, entries_in}
 use Rattle.alm_moments.specs.Moments.{moment_of, now_of}
+use Rattle.alm_flush.specs.Flushes.{IsGivenUp}
 use Rattle.alm_rings.specs.Batches.{fetched_of}
 use Rattle.alm_threads.proofs.recorded_flusher.RecordedFlusher.new.Goals as goal
 
@@ -31,3 +32,12 @@ invariant_of-result-clause-last g c = λ lost.
 pub invariant_of-result-clause-stored : goal.invariant_of-result-clause-stored
 invariant_of-result-clause-stored g c =
     omega (arith, c.count-floor.ensures, ap (λ q. q.panel.count) c.requires.named.base)
+
+pub invariant_of-result-clause-stopped : goal.invariant_of-result-clause-stopped
+invariant_of-result-clause-stopped g c = λ phase. absurd (cc (sym c.requires.idle ∙ (ap (λ k. (g.K.Store.state k).phase) (sym c.new-flusher.ensures.parts.0) ∙ phase)))
+
+pub invariant_of-result-clause-given_up : goal.invariant_of-result-clause-given_up
+invariant_of-result-clause-given_up g c = λ up. absurd (subst IsGivenUp c.new-flusher.ensures.held.0 up)
+
+pub invariant_of-result-clause-count : goal.invariant_of-result-clause-count
+invariant_of-result-clause-count g c = omega (arith, ap (λ k. g.K.Device.Disk.failures (g.K.Store.disk k)) (c.of-first.ensures ∙ sym c.new-flusher.ensures.parts.0))

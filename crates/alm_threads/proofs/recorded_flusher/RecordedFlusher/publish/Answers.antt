@@ -16,6 +16,7 @@ use Rattle.alm_flush.specs.HeldBatch.{published_entries, ready_of, released_entr
 use Rattle.alm_threads.specs.Moments.{at_first, at_moment}
 use Rattle.alm_threads.proofs.Histories.{kept_front}
 use Rattle.alm_threads.proofs.Moments.{at_safe, passed_on, told_by_publish, shown_by_publish, accepted_prefix}
+use Rattle.alm_threads.proofs.Causes.{given_up_by_publish}
 use Rattle.alm_threads.proofs.Recorded.{named_safe, stored_by_publish, shown_next}
 use Rattle.alm_threads.proofs.recorded_flusher.RecordedFlusher.publish.Goals as goal
 
@@ -48,8 +49,8 @@ extend-requires g c =
           o.held_is (o.stored ∙ ap (λ q. run q list) (sym r.base)) o.either (omega (arith, floor)) (stands (p h))));
     })
 
-pub publish-requires : goal.publish-requires
-publish-requires g c =
+pub publish-published-requires : goal.publish-published-requires
+publish-published-requires g c =
     let j = g.J.RunId in
     let s = g.K.Store in
     let b = g.B.Board in
@@ -88,14 +89,14 @@ invariant_of-self-2 g c =
     let j = g.J.RunId in
     let r = c.args.self.now in
     let o = r.flusher in
-    let n = c.publish.new.self in
-    let e = c.publish.ensures in
+    let n = c.publish-published.new.self in
+    let e = c.publish-published.ensures in
     let base = b.base o.board in
     let before = fetched_of o.before.value in
     let all = accepted_of (entries_in (fetched_of o.fetch)) in
     let first = at_first base (g.K.Device.Disk.state (s.disk c.args.self.now.first.value)) in
     let last = at_moment base (g.K.Device.Disk.state (s.disk o.store)) o.number (b.published o.board) in
-    let told : released_entries n.held ≡ released_entries o.held = told_by_publish c.publish.result o.held n.held e.held in
+    let told : released_entries n.held ≡ released_entries o.held = told_by_publish c.publish-published.result o.held n.held e.held in
     let number : n.number ≡ o.number =
     omega (
       arith,
@@ -108,7 +109,7 @@ invariant_of-self-2 g c =
     let shown : length (b.published o.board) ≤ length (b.published n.board) =
     omega (
       arith,
-      shown_by_publish c.publish.result o.held n.held e.held,
+      shown_by_publish c.publish-published.result o.held n.held e.held,
       ap length o.published,
       ap length n.published,
       ap (λ x. length (accepted_of (entries_in (fetched_of x) ++ published_entries n.held))) e.same.2,
@@ -138,7 +139,7 @@ invariant_of-self-2 g c =
       stored = omega (
         arith,
         floor,
-        stored_by_publish (entries_in before) c.publish.result o.held n.held e.held,
+        stored_by_publish (entries_in before) c.publish-published.result o.held n.held e.held,
         ap (λ x. length (accepted_of (entries_in (fetched_of x) ++ stored_of n.held))) e.same.2,
       );
       course = rw (e.same.0, e.same.3, e.base) (λ h. ∥∥₁_map (c.args.self.now.course h) (λ p.
@@ -149,4 +150,25 @@ invariant_of-self-2 g c =
             passed_on s.recovers base all first last (at_moment base (g.K.Device.Disk.state (s.disk o.store)) n.number (b.published n.board)) p.1 safe
                 (inr (refl, omega (arith, number), omega (arith, shown))),
           )));
+      stopped = λ phase. r.stopped (ap (λ x. (s.state x).phase) (sym e.same.0) ∙ phase);
+      given_up = λ up. r.given_up (given_up_by_publish c.publish-published.result o.held n.held e.held up);
+      count = omega (arith, r.count, ap (λ x. g.K.Device.Disk.failures (s.disk x)) e.same.0);
+      cause = rw (e.same.0, e.same.3, e.base) r.cause;
+    }
+
+-- the history took no further moment
+pub invariant_of-self : goal.invariant_of-self
+invariant_of-self g c =
+    let r = c.args.self.now in
+    record {
+      base = r.base;
+      honest = r.honest;
+      recovers = r.recovers;
+      last = λ lost. absurd (cc lost);
+      stored = r.stored;
+      course = r.course;
+      stopped = r.stopped;
+      given_up = r.given_up;
+      count = r.count;
+      cause = r.cause;
     }

@@ -8,6 +8,7 @@ use Rattle.alm_flush.specs.HeldBatch.{released_entries, stored_of}
 use Rattle.alm_moments.specs.Moments.{moment_of}
 use Rattle.alm_threads.specs.Moments.{at_first, at_moment}
 use Rattle.alm_threads.proofs.Moments.{at_safe, passed_on, told_by_release}
+use Rattle.alm_threads.proofs.Causes.{given_up_by_release}
 use Rattle.alm_threads.proofs.Recorded.{stored_by_release}
 use Rattle.alm_threads.proofs.recorded_flusher.RecordedFlusher.release.Goals as goal
 
@@ -55,4 +56,8 @@ invariant_of-self g c =
             p.0,
             passed_on s.recovers base all first last (at_moment base (g.K.Device.Disk.state (s.disk o.store)) n.number (b.published o.board)) p.1 safe (inr (refl, omega (arith, number), omega arith)),
           )));
+      stopped = λ phase. r.stopped (ap (λ x. (s.state x).phase) (sym e.same.0) ∙ phase);
+      given_up = λ up. r.given_up (given_up_by_release c.release.result o.held n.held o.outboxes.items n.outboxes.items base (s.state o.store).stored (b.published o.board) e.answer up);
+      count = omega (arith, r.count, ap (λ x. g.K.Device.Disk.failures (s.disk x)) e.same.0);
+      cause = rw (e.same.0, e.same.1, e.same.3) r.cause;
     }

@@ -1,7 +1,7 @@
 use Rattle.std.specs.Prelude.{◌≡◌, ℕ, ◌<◌, Option, Some, slice_get}
 use Rattle.alm_rings.specs.declared.slot_report.SlotReport.{SlotReport}
 use Rattle.alm_threads.specs.Answered.{IsSlotAnswered}
-use Rattle.alm_threads.proofs.running.are_answered.Given as goal
+use Rattle.alm_threads.proofs.reporting.are_answered.Given as goal
 
 -- the slots so far are answered
 abbrev pub invariant-loop-slot : goal.invariant-loop-slot
