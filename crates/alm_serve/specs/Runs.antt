@@ -1,19 +1,24 @@
 -- What a server's run has done.
-use Rattle.std.specs.Prelude.{◌≡◌, ◌≢◌, ◌⊎◌, ℕ, false, List, length, Option, Some, None, Result, Ok, Err, slice_get}
+use Rattle.std.specs.Prelude.{◌≡◌, ◌≢◌, ◌⊎◌, ◌↔◌, ℕ, false, List, length, Option, Some, Result, Ok, Err, slice_get}
 use Rattle.alm_disk.specs.Device.{DeviceState, IsImage}
-use Rattle.alm_disk.specs.declared.call.Call.{Call}
-use Rattle.alm_disk.specs.declared.disk_fault.DiskFault.{DiskFault}
+use Rattle.alm_disk.specs.Failures.{HasFailed}
+use Rattle.alm_disk.specs.declared.disk.Disk
 use Rattle.alm_model.specs.Plant.{Condensed}
 use Rattle.alm_rings.specs.declared.slot_report.SlotReport.{SlotReport}
-use Rattle.alm_store.specs.Calls.{OpensBy}
+use Rattle.alm_store.specs.Calls.{IsRefusedBy, OpensBy}
+use Rattle.alm_store.specs.Opening.{HasCause}
 use Rattle.alm_store.specs.declared.phase.Phase.{Phase}
 use Rattle.alm_store.specs.declared.phase.Phase.TheVariants.{Stopped}
 use Rattle.alm_store.specs.declared.open_fault.OpenFault.{OpenFault}
-use Rattle.alm_threads.specs.Moments.{Endures}
+use Rattle.alm_store.specs.declared.open_fault.OpenFault.TheVariants as fault
 use Rattle.alm_threads.specs.Answered.{AllAnswered}
+use Rattle.alm_threads.specs.Histories.{LeavesOneOf}
+use Rattle.alm_threads.specs.Moments.{Endures}
 use Rattle.alm_threads.specs.Runs.{IsServerRun}
+use Rattle.alm_threads.specs.declared.stop_cause.StopCause.{StopCause}
+use Rattle.alm_threads.specs.declared.stop_cause.StopCause.TheVariants as cause
 use Rattle.alm_serve.specs.declared.serve_fault.ServeFault.{ServeFault}
-use Rattle.alm_serve.specs.declared.serve_fault.ServeFault.TheVariants.{Open, Storage}
+use Rattle.alm_serve.specs.declared.serve_fault.ServeFault.TheVariants.{Open, Write, Storage}
 use Rattle.alm_types.specs.Sizes.{slot_count}
 
 -- the 18 slots, in their order
@@ -25,9 +30,10 @@ pub record AreAllSlots (slots : List ℕ) : Type 0 where
 abbrev pub IsWhole : Phase → List (Option SlotReport) → Type 0
 IsWhole phase reports = (phase ≢ Stopped) × ∥ AllAnswered reports ∥₁
 
-module _ (honest : Type 0) (recovers : List ℕ → Condensed → Type 0) where
-  -- all slots were served in one run from this plant and this device, at whose end `count` actions are stored, and which ended so
-  pub record ServesRun (base : Condensed) (from : DeviceState) (ended : Phase → List (Option SlotReport) → Type 0) (count : ℕ) : Type 0 where
+module _ {D : Type 0} (d : Disk.Ghosts D) (recovers : List ℕ → Condensed → Type 0) where
+  -- all slots were served in one run from this plant, over this device up to that one. At its end `count` actions are stored, and it
+  -- ended so
+  pub record ServesRun (base : Condensed) (from to : D) (ended : Phase → List (Option SlotReport) → Type 0) (count : ℕ) : Type 0 where
     pub slots : List ℕ
     pub all : AreAllSlots slots
     pub stored : Condensed
@@ -35,35 +41,44 @@ module _ (honest : Type 0) (recovers : List ℕ → Condensed → Type 0) where
     pub phase : Phase
     pub reports : List (Option SlotReport)
     pub end : ended phase reports
-    pub to : DeviceState
-    pub run : IsServerRun (λ p q. honest → (b : List ℕ) → IsImage to b → ∥ recovers b p ⊎ recovers b q ∥₁) (Endures honest recovers base from to) base slots stored reports
+    pub run : IsServerRun (LeavesOneOf (d.honest from) (d.honest to) recovers (d.state to)) (Endures (d.honest from) recovers base (d.state from) (d.state to)) base slots stored reports
 
-  -- .. by what is returned: how many actions are stored if the run was whole
-  abbrev pub RunsTo : Condensed → DeviceState → Option ℕ → Type 0
-  RunsTo base from (Some count) = ServesRun base from IsWhole count
-  RunsTo base from None = (count : ℕ) × ServesRun base from (λ phase reports. ¬ (IsWhole phase reports)) count
+  -- it was whole
+  abbrev pub RunsWhole : Condensed → (from to : D) → (count : ℕ) → Type 0
+  RunsWhole base from to count = ServesRun base from to IsWhole count
 
--- what a device becomes by an opening's calls
-abbrev pub OpensTo : {D : Type 0} → (D → Call → Result Unit DiskFault → D → Type 0) → (D → DeviceState) → D → DeviceState → Type 0
-OpensTo {D} serves state old to = (now : D) × OpensBy serves old now × (to ≡ state now)
-
-module _ (honest : Type 0) (recovers : List ℕ → Condensed → Type 0) (opens : DeviceState → Type 0) where
   -- the device was opened by an opening's calls. What was read is an image of it, which encodes the plant that the run begins with
-  pub record IsOpened (device : DeviceState) : Type 0 where
-    pub opened : DeviceState
+  pub record IsOpened (device : D) : Type 0 where
+    pub opened : D
     pub base : Condensed
-    pub by : opens opened
-    pub image : honest → IsImage device opened.bytes
-    pub stands : honest → recovers opened.bytes base
-    pub settled : honest → (place : ℕ) → opened.pending place ≡ false
+    pub by : OpensBy d.serves device opened
+    pub honest : d.honest device ↔ d.honest opened
+    pub image : d.honest device → IsImage (d.state device) (d.state opened).bytes
+    pub stands : d.honest device → recovers (d.state opened).bytes base
+    pub settled : d.honest device → (place : ℕ) → (d.state opened).pending place ≡ false
 
-  -- .. and was run to this end
-  abbrev pub OpensAndRuns : DeviceState → Option ℕ → Type 0
-  OpensAndRuns device told = (o : IsOpened device) × RunsTo honest recovers o.base o.opened told
+  -- it wasn't opened, for its cause
+  pub record IsRefused (device back : D) (why : OpenFault) : Type 0 where
+    pub by : IsRefusedBy why d.serves device back
+    pub failed : why ≡ fault.Disk → HasFailed (d.failures device) (d.failures back)
+    pub cause : d.honest device → HasCause recovers (d.state device) why (d.failures device) (d.failures back)
 
-  -- by how the server ends; of a device that isn't opened, why
-  abbrev pub ServeEnds : DeviceState → (is_refused : OpenFault → Type 0) → Result ℕ ServeFault → Type 0
-  ServeEnds device is_refused (Ok count) = OpensAndRuns device (Some count)
-  ServeEnds device is_refused (Err Storage) = OpensAndRuns device None
-  ServeEnds device is_refused (Err (Open why)) = is_refused why
-  ServeEnds device is_refused (Err other) = IsOpened device
+module _ {D : Type 0} (d : Disk.Ghosts D) (recovers : List ℕ → Condensed → Type 0) (spent : DeviceState → Type 0) where
+  -- it wasn't whole, for this cause. If a step of the store failed, the device failed, or it is at the last epoch
+  pub record RunsUpTo (base : Condensed) (from to : D) (why : StopCause) : Type 0 where
+    pub count : ℕ
+    pub run : ServesRun d recovers base from to (λ phase reports. ¬ (IsWhole phase reports)) count
+    pub failed : why ≡ cause.Store → d.honest to → ¬ (spent (d.state to)) → ∥ HasFailed (d.failures from) (d.failures to) ∥₁
+
+  -- what a server has done with an open device, by its result: a whole run, a run that stopped for a cause, or nothing at all
+  abbrev pub RunsBy : Condensed → (from to : D) → Option StopCause → Result ℕ ServeFault → Type 0
+  RunsBy base from to why (Ok count) = RunsWhole d recovers base from to count
+  RunsBy base from to why (Err Storage) = (cause : StopCause) × (why ≡ Some cause) × RunsUpTo base from to cause
+  RunsBy base from to why (Err Write) = (to ≡ from) ⊎ ((count : ℕ) × RunsWhole d recovers base from to count)
+  RunsBy base from to why (Err (Open fault)) = ⊥
+  RunsBy base from to why (Err other) = to ≡ from
+
+  -- what became of a server's device, by its result
+  abbrev pub ServeEnds : (device back : D) → Option StopCause → Result ℕ ServeFault → Type 0
+  ServeEnds device back why (Err (Open fault)) = IsRefused d recovers device back fault
+  ServeEnds device back why result = (o : IsOpened d recovers device) × RunsBy o.base o.opened back why result

@@ -63,6 +63,7 @@ mod opening;
 mod port_fault;
 mod ports;
 mod serve_fault;
+mod server_end;
 mod serving;
 mod slot_bell;
 mod slot_listener;
@@ -73,4 +74,5 @@ mod sockets;
 mod stream_wire;
 
 pub use serve_fault::ServeFault;
-pub use serving::{serve_run, serve_sockets};
+pub use server_end::ServerEnd;
+pub use serving::{serve_device, serve_run, serve_sockets};

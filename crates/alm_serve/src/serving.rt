@@ -1,15 +1,13 @@
 //! Serves the slots of a device.
 
-ghost use Rattle.std.specs.Prelude.{◌≡◌, ◌≢◌, ◌≤◌, ◌<◌, decimal, length, map, IfOk, IfErr, Some, None};
+ghost use Rattle.std.specs.Prelude.{◌≡◌, ◌≤◌, ◌<◌, ◌^◌, decimal, length, map, Option, Ok, Err, IfOk};
 ghost use Rattle.alm_lines.specs.Written.{Prints};
 ghost use Rattle.alm_rings.specs.Placed.{AreApart};
-ghost use Rattle.alm_disk.specs.Failures.{HasFailed};
-ghost use Rattle.alm_keeper.specs.AsStore.{StandsFor};
-ghost use Rattle.alm_store.specs.Calls.{IsRefusedBy};
-ghost use Rattle.alm_store.specs.Opening.{HasCause};
-ghost use Rattle.alm_serve.specs.Runs.{AreAllSlots, OpensAndRuns, OpensTo, ServeEnds, RunsTo};
+ghost use Rattle.alm_keeper.specs.AsStore.{IsLastEpoch, StandsFor};
+ghost use Rattle.alm_serve.specs.Runs.{AreAllSlots, IsOpened, RunsBy, RunsWhole, ServeEnds};
 ghost use Rattle.alm_serve.specs.Serving.{serving_line, stopped_line, ServeWrites};
 ghost use Rattle.alm_types.specs.Sizes.{most_actions, slot_count};
+ghost use Rattle.alm_threads.specs.declared.stop_cause.StopCause.{StopCause};
 ghost use Rattle.alm_moments.specs.Naming.{IsNamedAfter};
 
 use crate::listen::Listen;
@@ -17,16 +15,17 @@ use crate::opening::SlotPorts;
 use crate::port_fault::PortFault;
 use crate::ports::Ports;
 use crate::serve_fault::ServeFault;
+use crate::server_end::ServerEnd;
 use crate::sockets::Sockets;
 use alm_disk::{Disk, Free};
-use alm_keeper::{Keeper, OpenFault, Phase};
+use alm_keeper::{Keeper, Phase};
 use alm_lines::{Part, put_parts};
 use alm_model::Alarms;
 use alm_moments::RunId;
 use alm_plant::Plant;
 use alm_shared::{Durable, NewRun, SharedBoard, SharedLook};
 use alm_store::Store;
-use alm_threads::{Parts, StartFault, Storage, WatchedLook, parts_of, run_with_bells};
+use alm_threads::{Parts, RunReport, Storage, WatchedLook, parts_of, run_with_bells};
 use alm_types::{SLOTS, Slot};
 use std::alloc::{AllocError, Global};
 use std::fs::{File, Files};
@@ -78,7 +77,36 @@ fn all_slots(alloc: Global) -> Result<Vec<Slot>, AllocError>
     Ok(slots)
 }
 
-/// Runs these parts with these ports. Returns how many actions are stored when all have ended, `None` if the storage has stopped.
+/// How a run has ended, by its report.
+fn end_of<K: Store>(report: RunReport<K>) -> ServerEnd<K>
+    ensures whole { report.storage ≡ Storage.Whole →
+        result.served ≡ Ok (K.state report.keeper).stored.panel.count }
+    ensures stopped { report.storage ≡ Storage.Stopped → result.served ≡ Err ServeFault.Storage }
+    ensures cause { result.cause ≡ report.cause }
+    ensures store { result.back ≡ report.keeper }
+    ensures spent { K.Device.honest (K.disk report.keeper) → K.exhausted report.keeper →
+        K.spent (K.Device.state (K.disk report.keeper)) }
+{
+    let RunReport {
+        keeper,
+        storage,
+        slots: _,
+        cause,
+    } = report;
+    // for the proof: the contract of `images` says when a device is at its last epoch
+    keeper.images();
+    let served = match storage {
+        Storage::Whole => Ok(keeper.count()),
+        Storage::Stopped => Err(ServeFault::Storage),
+    };
+    ServerEnd {
+        served,
+        cause,
+        back: keeper,
+    }
+}
+
+/// Runs these parts with these ports.
 fn run_parts<
     'h,
     J: RunId + Send + Sync,
@@ -90,24 +118,21 @@ fn run_parts<
     alloc: Global,
     parts: Parts<Durable<J>, WatchedLook<'h, SharedLook<J, P>, Free>, SharedBoard<J, P>, K, J>,
     ports: SlotPorts,
-) -> Result<Option<u64>, StartFault>
+) -> ServerEnd<K>
     requires ports { map (λ port. port.slot) ports.ports.items ≡ parts.slots.items }
     requires slots { AreAllSlots parts.slots.items }
-    ensures { IfOk result
-        (λ told. RunsTo (K.Device.honest (K.disk parts.entry.middle.flusher.store)) K.recovers
+    ensures { RunsBy K.Device.Disk K.recovers K.spent
         (K.state parts.entry.middle.flusher.store).stored
-        (K.Device.state (K.disk parts.entry.middle.flusher.store)) told) }
+        (K.disk parts.entry.middle.flusher.store) (K.disk result.back) result.cause result.served }
 {
     let SlotPorts { ports, bells } = ports;
-    let report = run_with_bells(rt, alloc, parts, &Free, bells, ports)?;
-    match report.storage {
-        Storage::Whole => Ok(Some(report.keeper.count())),
-        Storage::Stopped => Ok(None),
+    match run_with_bells(rt, alloc, parts, &Free, bells, ports) {
+        Ok(report) => end_of(report),
+        Err(started) => ServerEnd::unserved(ServeFault::Memory, started.store),
     }
 }
 
-/// Runs the parts over a store with these ports. Returns how many actions are stored when all have ended, `None` if the storage
-/// has stopped.
+/// Runs the parts over a store with these ports.
 fn run_behind<J: RunId + Send + Sync, K: Store, R: Threads + Wait + Clock + Sync>(
     rt: &R,
     alloc: Global,
@@ -115,25 +140,25 @@ fn run_behind<J: RunId + Send + Sync, K: Store, R: Threads + Wait + Clock + Sync
     store: K,
     slots: Vec<Slot>,
     ports: SlotPorts,
-) -> Result<Option<u64>, StartFault>
+) -> ServerEnd<K>
     requires books { (new.history.seen.book ≡ J.book) × (new.moments.seen.book ≡ J.moments) }
     requires named { IsNamedAfter J.RunId K.Store K.Device.Disk store }
     requires idle { (K.state store).phase ≡ Phase.Idle }
     requires limit { (K.state store).stored.panel.count ≤ most_actions }
-    requires slots { AreAllSlots slots.items }
+    requires some { (0 < length slots.items) × (length slots.items < 2 ^ 32) }
     requires apart { AreApart (λ s. s) slots.items }
+    requires slots { AreAllSlots slots.items }
     requires ports { map (λ port. port.slot) ports.ports.items ≡ slots.items }
-    ensures { IfOk result
-        (λ told. RunsTo (K.Device.honest (K.disk store)) K.recovers (K.state store).stored
-        (K.Device.state (K.disk store)) told) }
+    ensures { RunsBy K.Device.Disk K.recovers K.spent (K.state store).stored (K.disk store)
+        (K.disk result.back) result.cause result.served }
 {
     match parts_of::<J, K, Free, R>(rt, alloc, new, store, slots, &Free) {
         Ok(parts) => run_parts::<J, Plant, K, R>(rt, alloc, parts, ports),
-        Err(_) => Err(StartFault::OutOfMemory),
+        Err(store) => ServerEnd::unserved(ServeFault::Memory, store),
     }
 }
 
-/// Serves the slots of a store.
+/// Serves the slots of an open store.
 fn serve_over<
     J: RunId + Send + Sync,
     K: Store,
@@ -148,84 +173,95 @@ fn serve_over<
     listen: &L,
     conns: u32,
     writer: &mut W,
-) -> Result<u64, ServeFault>
+) -> ServerEnd<K>
     requires books { (new.history.seen.book ≡ J.book) × (new.moments.seen.book ≡ J.moments) }
     requires named { IsNamedAfter J.RunId K.Store K.Device.Disk store }
     requires idle { (K.state store).phase ≡ Phase.Idle }
     requires limit { (K.state store).stored.panel.count ≤ most_actions }
     ensures writes { ServeWrites
-        (λ count. RunsTo (K.Device.honest (K.disk store)) K.recovers (K.state store).stored
-        (K.Device.state (K.disk store)) (Some count)) (L.name listen.now) (W.contents writer.old)
-        (W.contents writer.new) result }
-    ensures ran { IfOk result
-        (λ count. RunsTo (K.Device.honest (K.disk store)) K.recovers (K.state store).stored
-        (K.Device.state (K.disk store)) (Some count)) }
-    ensures stopped { IfErr result
-        (λ fault. fault ≡ ServeFault.Storage →
-        RunsTo (K.Device.honest (K.disk store)) K.recovers (K.state store).stored
-        (K.Device.state (K.disk store)) None) }
-    ensures opened { IfErr result (λ fault. (why : OpenFault) → fault ≢ ServeFault.Open why) }
+        (RunsWhole K.Device.Disk K.recovers (K.state store).stored (K.disk store)
+        (K.disk result.back)) (L.name listen.now) (W.contents writer.old)
+        (W.contents writer.new) result.served }
+    ensures ends { RunsBy K.Device.Disk K.recovers K.spent (K.state store).stored (K.disk store)
+        (K.disk result.back) result.cause result.served }
 {
     let slots = match all_slots(alloc) {
         Ok(slots) => slots,
-        Err(_) => return Err(ServeFault::Memory),
+        Err(_) => return ServerEnd::unserved(ServeFault::Memory, store),
     };
     let ports = match listen.open(rt, alloc, slots.as_slice(), conns) {
         Ok(ports) => ports,
-        Err(PortFault::Net) => return Err(ServeFault::Net),
-        Err(PortFault::OutOfMemory) => return Err(ServeFault::Memory),
+        Err(PortFault::Net) => return ServerEnd::unserved(ServeFault::Net, store),
+        Err(PortFault::OutOfMemory) => return ServerEnd::unserved(ServeFault::Memory, store),
     };
     match print_serving::<R, L, W>(listen, writer) {
         Ok(()) => {}
-        Err(_) => return Err(ServeFault::Write),
+        Err(_) => return ServerEnd::unserved(ServeFault::Write, store),
     }
-    let count = match run_behind::<J, K, R>(rt, alloc, new, store, slots, ports) {
-        Ok(Some(count)) => count,
-        Ok(None) => return Err(ServeFault::Storage),
-        Err(_) => return Err(ServeFault::Memory),
+    let ServerEnd {
+        served,
+        cause,
+        back,
+    } = run_behind::<J, K, R>(rt, alloc, new, store, slots, ports);
+    let served = match served {
+        Ok(count) => match print_stopped(count, writer) {
+            Ok(()) => Ok(count),
+            Err(_) => Err(ServeFault::Write),
+        },
+        Err(fault) => Err(fault),
     };
-    match print_stopped(count, writer) {
-        Ok(()) => Ok(count),
-        Err(_) => Err(ServeFault::Write),
+    ServerEnd {
+        served,
+        cause,
+        back,
     }
 }
 
-/// Opens a device, and serves its slots.
-fn serve_at<D: Disk + Drop, L: Listen<R>, W: io::Write, R: Threads + Wait + Clock + Sync>(
+/// Opens a device, serves its slots for `conns` connections in all, 0 without end, and returns the device.
+///
+/// The steps, in this order: it opens the device, opens the slots, writes `serving` and what they listen at, starts the threads,
+/// and at the end writes `stopped N`: how many actions are stored.
+///
+/// In between the server's threads run. At each moment of that run, what a power failure leaves of an honest device
+/// encodes a prefix of the run's one history. The prefix contains every number that was released by then and all that a
+/// query can have shown. If nothing was run, the device is as an opening leaves it.
+pub fn serve_device<
+    D: Disk + Drop,
+    L: Listen<R>,
+    W: io::Write,
+    R: Threads + Wait + Clock + Sync,
+>(
     rt: &R,
     alloc: Global,
     disk: D,
     listen: &L,
     conns: u32,
     writer: &mut W,
-) -> Result<u64, ServeFault>
+) -> ServerEnd<D>
     ensures writes { ServeWrites
-        (λ count. OpensAndRuns (D.honest disk) StandsFor (OpensTo D.serves D.state disk) (D.state disk)
-        (Some count)) (L.name listen.now) (W.contents writer.old) (W.contents writer.new) result }
-    ensures ends { ServeEnds (D.honest disk) StandsFor (OpensTo D.serves D.state disk)
-        (D.state disk)
-        (λ why. (now : D) × IsRefusedBy why D.serves disk now ×
-        (why ≡ OpenFault.Disk → HasFailed (D.failures disk) (D.failures now)) ×
-        (D.honest disk →
-        HasCause StandsFor (D.state disk) why (D.failures disk) (D.failures now))) result }
+        (λ count. (o : IsOpened D.Disk StandsFor disk) ×
+        RunsWhole D.Disk StandsFor o.base o.opened result.back count) (L.name listen.now)
+        (W.contents writer.old) (W.contents writer.new) result.served }
+    ensures ends { ServeEnds D.Disk StandsFor IsLastEpoch disk result.back result.cause
+        result.served }
 {
     match <Keeper<D> as Store>::open(alloc, disk) {
         Ok(keeper) => {
             let new = NewRun::new();
-            serve_over::<Brand, Keeper<D>, L, W, R>(rt, alloc, new, keeper, listen, conns, writer)
+            let end = serve_over::<Brand, Keeper<D>, L, W, R>(
+                rt, alloc, new, keeper, listen, conns, writer,
+            );
+            ServerEnd {
+                served: end.served,
+                cause: end.cause,
+                back: end.back.into_device(),
+            }
         }
-        Err((fault, _)) => Err(ServeFault::Open(fault)),
+        Err((fault, disk)) => ServerEnd::unserved(ServeFault::Open(fault), disk),
     }
 }
 
-/// Serves the slots of a device on the 18 ports of loopback from this one on, for `conns` connections in all; 0 is without end.
-///
-/// The steps, in this order: it opens the device, binds the ports, writes `serving P`, starts the threads, and at the
-/// end writes `stopped N`: how many actions are stored.
-///
-/// In between the server's threads run. At each moment of that run, what a power failure leaves of an honest device
-/// encodes a prefix of the run's one history. The prefix contains every number that was released by then and all that a
-/// query can have shown.
+/// Serves the slots of a device on the 18 ports of loopback from this one on. It writes `serving P`.
 pub fn serve_run<D: Disk + Drop, W: io::Write, R: Net + Threads + Wait + Clock + Sync>(
     rt: &R,
     alloc: Global,
@@ -235,17 +271,15 @@ pub fn serve_run<D: Disk + Drop, W: io::Write, R: Net + Threads + Wait + Clock +
     writer: &mut W,
 ) -> Result<u64, ServeFault>
     requires { port ≤ 65518 }
-    ensures writes { ServeWrites
-        (λ count. OpensAndRuns (D.honest disk) StandsFor (OpensTo D.serves D.state disk) (D.state disk)
-        (Some count)) (decimal port) (W.contents writer.old) (W.contents writer.new) result }
-    ensures ends { ServeEnds (D.honest disk) StandsFor (OpensTo D.serves D.state disk)
-        (D.state disk)
-        (λ why. (now : D) × IsRefusedBy why D.serves disk now ×
-        (why ≡ OpenFault.Disk → HasFailed (D.failures disk) (D.failures now)) ×
-        (D.honest disk →
-        HasCause StandsFor (D.state disk) why (D.failures disk) (D.failures now))) result }
+    ensures { (back : D) × (cause : Option StopCause) ×
+        ServeEnds D.Disk StandsFor IsLastEpoch disk back cause result ×
+        ServeWrites
+        (λ count. (o : IsOpened D.Disk StandsFor disk) ×
+        RunsWhole D.Disk StandsFor o.base o.opened back count) (decimal port)
+        (W.contents writer.old) (W.contents writer.new) result }
 {
-    serve_at(rt, alloc, disk, &Ports { first: port }, conns, writer)
+    let listen = Ports { first: port };
+    serve_device(rt, alloc, disk, &listen, conns, writer).served
 }
 
 /// The same at 18 Unix sockets in this folder, which must exist: slot k at the socket k. It writes `serving FOLDER`, the folder as
@@ -266,15 +300,12 @@ pub fn serve_sockets<
     conns: u32,
     writer: &mut W,
 ) -> Result<u64, ServeFault>
-    ensures writes { ServeWrites
-        (λ count. OpensAndRuns (D.honest disk) StandsFor (OpensTo D.serves D.state disk) (D.state disk)
-        (Some count)) folder.now (W.contents writer.old) (W.contents writer.new) result }
-    ensures ends { ServeEnds (D.honest disk) StandsFor (OpensTo D.serves D.state disk)
-        (D.state disk)
-        (λ why. (now : D) × IsRefusedBy why D.serves disk now ×
-        (why ≡ OpenFault.Disk → HasFailed (D.failures disk) (D.failures now)) ×
-        (D.honest disk →
-        HasCause StandsFor (D.state disk) why (D.failures disk) (D.failures now))) result }
+    ensures { (back : D) × (cause : Option StopCause) ×
+        ServeEnds D.Disk StandsFor IsLastEpoch disk back cause result ×
+        ServeWrites
+        (λ count. (o : IsOpened D.Disk StandsFor disk) ×
+        RunsWhole D.Disk StandsFor o.base o.opened back count) folder.now (W.contents writer.old)
+        (W.contents writer.new) result }
 {
-    serve_at(rt, alloc, disk, &Sockets { folder }, conns, writer)
+    serve_device(rt, alloc, disk, &Sockets { folder }, conns, writer).served
 }
