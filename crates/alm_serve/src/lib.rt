@@ -20,7 +20,8 @@
 //! `Memory`, if memory or a thread can't be had, may come at any step after the first.
 //!
 //! Slot k listens on the k-th port after the first one, or at the socket k of the folder. A [`slot_port::SlotPort`] is the source
-//! of a slot: it accepts one connection after another and gives each its turns.
+//! of a slot: it accepts one connection after another and gives each its turns. What of it is apart from sockets and polls is a
+//! [`SlotService`], whose contract names the bytes of any wire that has them.
 //!
 //! | a port | does in a turn |
 //! |---|---|
@@ -41,12 +42,17 @@
 //! that wasn't whole. `Open` says what the device became by an opening's calls, and is the device's fault only if a
 //! failure was counted. `Net`, `Write` and `Memory` are returned only after the device was opened.
 //!
-//! Not covered: what a socket gives or takes, that a wake comes, that the server ever ends, and time. There are no
-//! accounts: a client that reaches a port of loopback, or may open a socket, has the role of its slot.
+//! Not covered: what a socket gives or takes, that a wake comes, that the server ever ends, and time. Nor that a port makes no other
+//! calls on a socket than its service's. There are no accounts: a client that
+//! reaches a port of loopback, or may open a socket, has the role of its slot.
 //!
 //! Proved:
-//! - a port is the source of its slot alone, whatever its clients do; a port and a bell for each slot asked for, in order
-//!   (by `SlotPort`, `StreamWire`, `open_ports`, `open_sockets`)
+//! - over any wire a slot's service writes and sends what its session does in its turns, and nothing else (by `SlotService`)
+//! - a connection begins fresh over the given wire, once all requests of the last one are answered (by `SlotService`)
+//! - as long as no whole line has come nothing is sent and nothing written (by `laws::nothing_goes_out_unasked`)
+//! - a port is the source of its slot alone, whatever its clients do, and sends what its service does (by `SlotPort`,
+//!   `StreamWire`)
+//! - a port and a bell for each slot asked for, in order (by `open_ports`, `open_sockets`)
 //! - a connection has ended that begins as a request of HTTP, and no other has ended for its first bytes (by `FirstBytes`)
 //! - what the server writes, by how it ends, or a prefix if the writer fails; why a device isn't opened (by `serve_run`,
 //!   `serve_sockets`)
@@ -58,19 +64,24 @@ mod bound;
 mod connection;
 mod connection_count;
 mod first_bytes;
+pub mod laws;
 mod listen;
 mod opening;
 mod port_fault;
 mod ports;
 mod serve_fault;
+mod served;
 mod serving;
 mod slot_bell;
 mod slot_listener;
 mod slot_port;
+mod slot_service;
 mod slot_stream;
 mod socket_folder;
 mod sockets;
 mod stream_wire;
 
 pub use serve_fault::ServeFault;
+pub use served::Served;
 pub use serving::{serve_run, serve_sockets};
+pub use slot_service::SlotService;
