@@ -44,6 +44,11 @@ module _ {W : Type 0} where
         ((result ≡ served.Over) × (connection ≡ Awaited) × (length (sent_of console) ≤ length (received_of console)))
         ⊎ ((result ≡ served.Idle) × (connection ≡ Ended) × (length (received_of console) < length (sent_of console)))
 
+-- an open connection has ended
+abbrev pub without_wire : Connection (Unit {0}) → Connection (Unit {0})
+without_wire (Open wire) = Ended
+without_wire other = other
+
 -- what a port does to its slot's side in a turn, by what its connection was and is, regardless of wires. Without a connection
 -- nothing is sent, received or learnt, and one that begins is fresh. With an open one it is a turn of the session. What an ended one
 -- leaves is received and dropped, nothing is sent, and the next one is awaited once no request is unanswered

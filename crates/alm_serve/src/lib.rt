@@ -3,7 +3,7 @@
 //! ```text
 //! let disk = FileDisk::open(rt, "plant.device")?;
 //! let all_connections = 0;
-//! let count = serve_run(rt, alloc, disk, 5000, all_connections, &mut stdout)?;
+//! let count = serve_run(rt, alloc, disk, 5000, all_connections, None, &mut stdout)?;
 //! ```
 //!
 //! [`serve_run`] serves at ports of loopback, [`serve_sockets`] at Unix sockets in a folder. It is the same server with the
@@ -29,6 +29,7 @@
 //! | with a connection | a turn of its session; if that has ended or failed, it closes the connection |
 //! | whose connection has ended | drops the receipts of its requests, until all are answered; then the connection counts as ended |
 //! | without work | has its bell wake it, checks once more, and waits for its sockets and the bell, a second at most |
+//! | while a device call takes longer than its [`Patience`] | closes its connection and each that comes |
 //! | after the last of its connections has ended | says that it has ended |
 //!
 //! A connection takes no memory beyond the buffers of its slot's session and those of the system: no more is read while
@@ -42,8 +43,11 @@
 //! that wasn't whole. `Open` says what the device became by an opening's calls, and is the device's fault only if a
 //! failure was counted. `Net`, `Write` and `Memory` are returned only after the device was opened.
 //!
+//! A device call that hangs can't be ended. With a [`Patience`] the calls of a [`CountedDisk`] are counted, and the ports serve
+//! nobody while one takes too long. Requests that were sent before stay: they are done if the call comes back well.
+//!
 //! Not covered: what a socket gives or takes, that a wake comes, that the server ever ends, and time. Nor that a port makes no other
-//! calls on a socket than its service's. There are no accounts: a client that
+//! calls on a socket than its service's, and closes while a device call takes too long. There are no accounts: a client that
 //! reaches a port of loopback, or may open a socket, has the role of its slot.
 //!
 //! Proved:
@@ -61,12 +65,16 @@
 #![tactic(auto)]
 
 mod bound;
+mod call_count;
+mod call_watch;
 mod connection;
 mod connection_count;
+mod counted_disk;
 mod first_bytes;
 pub mod laws;
 mod listen;
 mod opening;
+mod patience;
 mod port_fault;
 mod ports;
 mod serve_fault;
@@ -81,6 +89,8 @@ mod socket_folder;
 mod sockets;
 mod stream_wire;
 
+pub use counted_disk::CountedDisk;
+pub use patience::Patience;
 pub use serve_fault::ServeFault;
 pub use served::Served;
 pub use serving::{serve_run, serve_sockets};

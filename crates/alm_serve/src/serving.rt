@@ -14,6 +14,7 @@ ghost use Rattle.alm_moments.specs.Naming.{IsNamedAfter};
 
 use crate::listen::Listen;
 use crate::opening::SlotPorts;
+use crate::patience::Patience;
 use crate::port_fault::PortFault;
 use crate::ports::Ports;
 use crate::serve_fault::ServeFault;
@@ -89,7 +90,7 @@ fn run_parts<
     rt: &R,
     alloc: Global,
     parts: Parts<Durable<J>, WatchedLook<'h, SharedLook<J, P>, Free>, SharedBoard<J, P>, K, J>,
-    ports: SlotPorts,
+    ports: SlotPorts<'_, R>,
 ) -> Result<Option<u64>, StartFault>
     requires ports { map (λ port. port.slot) ports.ports.items ≡ parts.slots.items }
     requires slots { AreAllSlots parts.slots.items }
@@ -114,7 +115,7 @@ fn run_behind<J: RunId + Send + Sync, K: Store, R: Threads + Wait + Clock + Sync
     new: NewRun,
     store: K,
     slots: Vec<Slot>,
-    ports: SlotPorts,
+    ports: SlotPorts<'_, R>,
 ) -> Result<Option<u64>, StartFault>
     requires books { (new.history.seen.book ≡ J.book) × (new.moments.seen.book ≡ J.moments) }
     requires named { IsNamedAfter J.RunId K.Store K.Device.Disk store }
@@ -219,6 +220,7 @@ fn serve_at<D: Disk + Drop, L: Listen<R>, W: io::Write, R: Threads + Wait + Cloc
 }
 
 /// Serves the slots of a device on the 18 ports of loopback from this one on, for `conns` connections in all; 0 is without end.
+/// With a `patience` it serves no client while a call of the patience's device takes longer than that.
 ///
 /// The steps, in this order: it opens the device, binds the ports, writes `serving P`, starts the threads, and at the
 /// end writes `stopped N`: how many actions are stored.
@@ -232,6 +234,7 @@ pub fn serve_run<D: Disk + Drop, W: io::Write, R: Net + Threads + Wait + Clock +
     disk: D,
     port: u16,
     conns: u32,
+    patience: Option<&Patience>,
     writer: &mut W,
 ) -> Result<u64, ServeFault>
     requires { port ≤ 65518 }
@@ -245,7 +248,11 @@ pub fn serve_run<D: Disk + Drop, W: io::Write, R: Net + Threads + Wait + Clock +
         (D.honest disk →
         HasCause StandsFor (D.state disk) why (D.failures disk) (D.failures now))) result }
 {
-    serve_at(rt, alloc, disk, &Ports { first: port }, conns, writer)
+    let listen = Ports {
+        first: port,
+        patience,
+    };
+    serve_at(rt, alloc, disk, &listen, conns, writer)
 }
 
 /// The same at 18 Unix sockets in this folder, which must exist: slot k at the socket k. It writes `serving FOLDER`, the folder as
@@ -264,6 +271,7 @@ pub fn serve_sockets<
     disk: D,
     folder: &str,
     conns: u32,
+    patience: Option<&Patience>,
     writer: &mut W,
 ) -> Result<u64, ServeFault>
     ensures writes { ServeWrites
@@ -276,5 +284,6 @@ pub fn serve_sockets<
         (D.honest disk →
         HasCause StandsFor (D.state disk) why (D.failures disk) (D.failures now))) result }
 {
-    serve_at(rt, alloc, disk, &Sockets { folder }, conns, writer)
+    let listen = Sockets { folder, patience };
+    serve_at(rt, alloc, disk, &listen, conns, writer)
 }

@@ -4,6 +4,7 @@ ghost use Rattle.std.specs.Prelude.{◌≡◌};
 ghost use Rattle.alm_serve.specs.Service.{stage};
 
 use crate::bound::Bound;
+use crate::call_watch::CallWatch;
 use crate::connection_count::ConnectionCount;
 use crate::served::Served;
 use crate::slot_bell::SlotBell;
@@ -19,7 +20,7 @@ use alm_types::Slot;
 use mio::{Events, Poll, Token};
 use std::io;
 use std::sync::Arc;
-use std::time::Duration;
+use std::time::{Clock, Duration};
 
 /// The tokens of what is polled. That of the stream alone is read: after each poll all else is tried.
 const LISTENER: Token = Token(0);
@@ -28,6 +29,14 @@ const STREAM: Token = Token(1);
 
 /// How long a poll takes at most, in milliseconds.
 const SLEEP: u64 = 1000;
+
+/// Whether a device call takes longer than it may.
+fn is_stuck<R: Clock>(watch: &mut Option<CallWatch<'_, R>>) -> bool {
+    match watch {
+        Some(watch) => watch.is_over(),
+        None => false,
+    }
+}
 
 /// Passes to the wire what a poll found of its stream.
 fn find_ready(events: &Events, service: &mut SlotService<StreamWire<SlotStream>>)
@@ -44,29 +53,32 @@ fn find_ready(events: &Events, service: &mut SlotService<StreamWire<SlotStream>>
 
 /// One slot's port: one connection after another, each answered by the slot's session.
 #[derive(Drop)]
-pub struct SlotPort {
+pub struct SlotPort<'r, R> {
     pub slot: Slot,
     listener: SlotListener,
     poll: Poll,
     events: Events,
     bell: SlotBell,
     count: Arc<ConnectionCount>,
+    // None if a device call may take any time.
+    watch: Option<CallWatch<'r, R>>,
     service: SlotService<StreamWire<SlotStream>>,
 }
 
-impl SlotPort {
+impl<'r, R: Clock> SlotPort<'r, R> {
     ghost use Rattle.std.specs.Prelude.{◌≡◌, IfOk, None};
     ghost use Rattle.alm_rings.specs.Ends.{SameConsole, sent_of};
     ghost use Rattle.alm_session.specs.Sides.{slot_state, heard_by};
     ghost use Rattle.alm_session.specs.Turns.{between};
     ghost use Rattle.alm_serve.specs.declared.connection.Connection.TheVariants as connection;
-    ghost use Rattle.alm_serve.specs.Service.{Attends, IsFresh, stage};
+    ghost use Rattle.alm_serve.specs.Service.{Attends, IsFresh, stage, without_wire};
 
     /// A port with nobody connected, whose listener is polled from now on.
     pub fn new(
         bound: Bound,
         events: Events,
         count: Arc<ConnectionCount>,
+        watch: Option<CallWatch<'r, R>>,
         session: Session,
     ) -> io::Result<Self>
         ensures slot { IfOk result (λ port. port.slot ≡ bound.slot) }
@@ -85,6 +97,7 @@ impl SlotPort {
             events,
             bell,
             count,
+            watch,
             service: SlotService::new(session),
         })
     }
@@ -110,7 +123,20 @@ impl SlotPort {
         true
     }
 
-    /// Does what can be done without waiting: whether there was something.
+    /// Ends the connection, or else closes the next one that waits: whether there was one.
+    fn turn_away(&mut self) -> bool
+        ensures slot { self.new.slot ≡ self.old.slot }
+        ensures session { self.new.service.session ≡ self.old.service.session }
+        ensures stage { stage self.new.service.connection ≡
+            without_wire (stage self.old.service.connection) }
+    {
+        if !self.service.is_awaited() && self.service.close().is_some() {
+            return true;
+        }
+        self.listener.accept().is_ok()
+    }
+
+    /// Does what can be done without waiting, or turns clients away while a device call is stuck: whether there was something.
     fn step<T: Told + Drop, L: FreeLook<Told = T>>(
         &mut self,
         console: &mut Console<T>,
@@ -126,6 +152,9 @@ impl SlotPort {
             (slot_state self.new.service.session (L.Look.knows look.new) None None
             (sent_of console.new) (heard_by console.new)) }
     {
+        if is_stuck(&mut self.watch) {
+            return self.turn_away();
+        }
         if self.service.is_awaited() {
             return self.accept();
         }
@@ -161,7 +190,7 @@ impl SlotPort {
     }
 }
 
-impl<T: Told + Drop, L: FreeLook<Told = T>> Source<T, L> for SlotPort {
+impl<R: Clock, T: Told + Drop, L: FreeLook<Told = T>> Source<T, L> for SlotPort<'_, R> {
     ghost use Rattle.std.specs.Prelude.{◌≡◌, Some, None};
     ghost use Rattle.alm_rings.specs.Ends.{SameConsole, sent_of};
     ghost use Rattle.alm_session.specs.Sides.{slot_state, heard_by};

@@ -55,7 +55,7 @@ fn a_request_of_http_is_neither_answered_nor_done(rt: HostRuntime) -> Result<(),
     let disk = worked_disk(rt.alloc())?.ok_or("format")?;
     let clients = thread::spawn(&rt, move || browse(&rt, port))?;
     let mut output = Vec::new(rt.alloc());
-    let served = serve_run(&rt, rt.alloc(), disk, port, 11, &mut output);
+    let served = serve_run(&rt, rt.alloc(), disk, port, 11, None, &mut output);
     assert!(rt; served == Ok(1));
     assert!(rt; clients.join(&rt)?);
     Ok(())

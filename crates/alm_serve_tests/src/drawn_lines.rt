@@ -68,7 +68,7 @@ fn the_device_keeps_what_eighteen_clients_were_answered(rt: HostRuntime) -> Resu
     let noted = Arc::try_clone(&notes)?;
     let clients = thread::spawn(&rt, move || all_converse(&rt, rt, port, &noted))?;
     let mut output = Vec::new(alloc);
-    let served = serve_run(&rt, alloc, disk, port, 18, &mut output);
+    let served = serve_run(&rt, alloc, disk, port, 18, None, &mut output);
     assert!(rt; clients.join(&rt)?);
     assert_eq!(rt; notes.wrong.load(Ordering::SeqCst), 0);
     let disk = FileDisk::open(&rt, PATH)?;

@@ -51,7 +51,7 @@ fn two_connections(rt: HostRuntime) -> Result<(), Fail> {
     let disk = worked_disk(rt.alloc())?.ok_or("format")?;
     let clients = thread::spawn(&rt, move || two_clients(&rt, port))?;
     let mut output = Vec::new(rt.alloc());
-    let served = serve_run(&rt, rt.alloc(), disk, port, 2, &mut output);
+    let served = serve_run(&rt, rt.alloc(), disk, port, 2, None, &mut output);
     assert!(rt; served == Ok(2));
     let said = format!(in rt.alloc(); "serving {port}\nstopped 2\n")?;
     assert_eq!(rt; output.as_slice(), said.as_bytes());
@@ -90,7 +90,7 @@ fn each_slot_at_its_port(rt: HostRuntime) -> Result<(), Fail> {
         let disk = worked_disk(rt.alloc())?.ok_or("format")?;
         let clients = thread::spawn(&rt, move || client_of_each_slot(&rt, first))?;
         let mut output = Vec::new(rt.alloc());
-        let served = serve_run(&rt, rt.alloc(), disk, first, 18, &mut output);
+        let served = serve_run(&rt, rt.alloc(), disk, first, 18, None, &mut output);
         assert!(rt; served == Ok(2));
         assert!(rt; clients.join(&rt)?);
     }
@@ -109,7 +109,7 @@ fn a_port_that_is_taken(rt: HostRuntime) -> Result<(), Fail> {
     let disk = worked_disk(rt.alloc())?.ok_or("format")?;
     let taken = take_port(&rt, port.saturating_add(5))?;
     let mut output = Vec::new(rt.alloc());
-    let served = serve_run(&rt, rt.alloc(), disk, port, 1, &mut output);
+    let served = serve_run(&rt, rt.alloc(), disk, port, 1, None, &mut output);
     assert!(rt; served == Err(ServeFault::Net));
     assert!(rt; output.is_empty());
     drop(taken);
@@ -123,7 +123,7 @@ fn a_device_that_is_not_formatted(rt: HostRuntime) -> Result<(), Fail> {
     let port = free_ports(&rt)?;
     let taken = take_port(&rt, port)?;
     let mut output = Vec::new(rt.alloc());
-    let served = serve_run(&rt, rt.alloc(), disk, port, 1, &mut output);
+    let served = serve_run(&rt, rt.alloc(), disk, port, 1, None, &mut output);
     assert!(rt; served == Err(ServeFault::Open(OpenFault::Unformatted)));
     assert!(rt; output.is_empty());
     drop(taken);
@@ -165,7 +165,7 @@ fn clients_that_mean_no_good(rt: HostRuntime) -> Result<(), Fail> {
     let disk = worked_disk(rt.alloc())?.ok_or("format")?;
     let clients = thread::spawn(&rt, move || hostile_clients(&rt, port))?;
     let mut output = Vec::new(rt.alloc());
-    let served = serve_run(&rt, rt.alloc(), disk, port, 4, &mut output);
+    let served = serve_run(&rt, rt.alloc(), disk, port, 4, None, &mut output);
     assert!(rt; served == Ok(0));
     let said = format!(in rt.alloc(); "serving {port}\nstopped 0\n")?;
     assert_eq!(rt; output.as_slice(), said.as_bytes());
@@ -194,7 +194,7 @@ fn a_connection_behind_a_lost_one(rt: HostRuntime) -> Result<(), Fail> {
     let disk = HeldDisk::new(disk, Arc::try_clone(&latch)?);
     let clients = thread::spawn(&rt, move || two_in_a_row(&rt, port, &latch))?;
     let mut output = Vec::new(rt.alloc());
-    let served = serve_run(&rt, rt.alloc(), disk, port, 2, &mut output);
+    let served = serve_run(&rt, rt.alloc(), disk, port, 2, None, &mut output);
     assert!(rt; served == Ok(1));
     let said = format!(in rt.alloc(); "serving {port}\nstopped 1\n")?;
     assert_eq!(rt; output.as_slice(), said.as_bytes());
@@ -217,7 +217,7 @@ fn a_device_that_fails_while_it_is_served(rt: HostRuntime) -> Result<(), Fail> {
     let disk = HeldDisk::new(disk, OneSync::new());
     let clients = thread::spawn(&rt, move || unanswered_client(&rt, port))?;
     let mut output = Vec::new(rt.alloc());
-    let served = serve_run(&rt, rt.alloc(), disk, port, 1, &mut output);
+    let served = serve_run(&rt, rt.alloc(), disk, port, 1, None, &mut output);
     assert!(rt; served == Err(ServeFault::Storage));
     let said = format!(in rt.alloc(); "serving {port}\n")?;
     assert_eq!(rt; output.as_slice(), said.as_bytes());
@@ -233,7 +233,7 @@ fn a_device_that_fails_as_it_is_opened(rt: HostRuntime) -> Result<(), Fail> {
     for call in 1..=OPENING_CALLS {
         let disk = OnceDisk::new(worked_disk(rt.alloc())?.ok_or("format")?, call);
         let mut output = Vec::new(rt.alloc());
-        let served = serve_run(&rt, rt.alloc(), disk, port, 1, &mut output);
+        let served = serve_run(&rt, rt.alloc(), disk, port, 1, None, &mut output);
         assert!(rt;
             served == Err(ServeFault::Open(OpenFault::Disk)),
             "call {call}"
@@ -254,7 +254,7 @@ fn a_device_that_fails_one_call_of_an_action(rt: HostRuntime) -> Result<(), Fail
         let disk = OnceDisk::new(disk, OPENING_CALLS.saturating_add(call));
         let clients = thread::spawn(&rt, move || unanswered_client(&rt, port))?;
         let mut output = Vec::new(rt.alloc());
-        let served = serve_run(&rt, rt.alloc(), disk, port, 1, &mut output);
+        let served = serve_run(&rt, rt.alloc(), disk, port, 1, None, &mut output);
         assert!(rt; served == Err(ServeFault::Storage), "call {call}");
         let said = format!(in rt.alloc(); "serving {port}\n")?;
         assert_eq!(rt; output.as_slice(), said.as_bytes(), "call {call}");

@@ -7,7 +7,7 @@ use Rattle.alm_serve.proofs.Runs.{run_by}
 use Rattle.alm_serve.proofs.serving.run_parts.Goals as goal
 
 pub run_with_bells-requires-clause-place : goal.run_with_bells-requires-clause-place
-run_with_bells-requires-clause-place g c κs within = λ k n s at is. subst (λ l. slice_get l k ≡ Some n) c.requires.ports (numbered (λ (p : SlotPort). p.slot) c.args.ports.ports.items k s at ∙ is)
+run_with_bells-requires-clause-place g c κs within = λ k n s at is. subst (λ l. slice_get l k ≡ Some n) c.requires.ports (numbered (λ (p : SlotPort _). p.slot) c.args.ports.ports.items k s at ∙ is)
 
 pub returns-in-Whole : goal.returns-in-Whole
 returns-in-Whole g c =
