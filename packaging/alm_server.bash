@@ -6,10 +6,10 @@ _alm_server() {
         mapfile -t COMPREPLY < <(compgen -W "desk export format serve show" -- "$cur")
     elif [ "$prev" = --sockets ]; then
         mapfile -t COMPREPLY < <(compgen -d -- "$cur")
-    elif [ "$prev" = --port ] || [ "$prev" = --conns ]; then
+    elif [ "$prev" = --port ] || [ "$prev" = --conns ] || [ "$prev" = --patience ]; then
         :
     elif [ "${COMP_WORDS[1]}" = serve ] && [ "$COMP_CWORD" -gt 2 ]; then
-        mapfile -t COMPREPLY < <(compgen -W "--port --sockets --conns" -- "$cur")
+        mapfile -t COMPREPLY < <(compgen -W "--port --sockets --conns --patience" -- "$cur")
     elif [ "${COMP_WORDS[1]}" = format ] && [ "$COMP_CWORD" -eq 3 ]; then
         mapfile -t COMPREPLY < <(compgen -f -X '!*.toml' -- "$cur"; compgen -d -- "$cur")
     elif [ "$COMP_CWORD" -eq 2 ]; then

@@ -18,6 +18,7 @@
  *     eio, enospc   the call does nothing and fails so (of memory or a thread: it is refused)
  *     disk          while the call runs the file ALM_DISK exists, which makes the disk below fail (badfs.c)
  *     from          this request for memory and all behind it are refused
+ *     held          the call waits while the file ALM_MET exists, then goes on
  *     short         a write or read of half the bytes, where it has more than one
  *     kill          the process is killed before the call
  *     old new zeros a5 ff alternating mixed
@@ -243,6 +244,10 @@ static void tell_met(void) {
 static bool fails(void) {
     tell_met();
     if (!strcmp(kind, "kill")) die();
+    if (!strcmp(kind, "held")) {
+        while (met && !syscall(SYS_access, met, F_OK)) usleep(10000);
+        return false;
+    }
     if (!strcmp(kind, "eio") || !strcmp(kind, "enospc")) {
         errno = kind[1] == 'i' ? EIO : ENOSPC;
         return true;

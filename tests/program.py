@@ -89,7 +89,7 @@ class Fault:
 
     def __init__(self, library, call, at, kind, seed=0):
         self.text, self.call, self.at, self.kind = f"{call}:{at}:{kind}:{seed}", call, at, kind
-        self.kills = kind not in ("eio", "enospc", "short", "from", "disk")
+        self.kills = kind not in ("eio", "enospc", "short", "from", "disk", "held")
         self.met = os.path.join(os.path.dirname(library), "met")
         self.loaded = {"LD_PRELOAD": library, "ALM_FAULT": self.text, "ALM_MET": self.met}
         self.forget()

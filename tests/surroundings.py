@@ -1,11 +1,12 @@
 #!/usr/bin/env python3
-"""What surrounds the process: limits, locks, modes, a full disk, other addresses, urgent data, browsers.
+"""What surrounds the process: limits, locks, modes, a full disk, a sync that hangs, other addresses, urgent data, browsers.
 
     tests/surroundings.py PROGRAM [--short]
 
 A server is asked by requests of HTTP, cut at each byte, and by a real browser (Debian: chromium), which is left out with a word where it isn't
 there. It is started at each limit of descriptors, and with too small a limit of a file's size. `format` is tried beside a server, on a disk that is
-full (root, for a small file system) and for its modes and its room; `show` and `export` beside a server that starts.
+full (root, for a small file system) and for its modes and its room; `show` and `export` beside a server that starts. A sync hangs, with a patience and
+without one.
 """
 import os
 import resource
@@ -16,7 +17,7 @@ import subprocess
 import sys
 import time
 
-from program import PLANT, Wrong, begin, check, finish, free_ports, run_words
+from program import PLANT, Fault, Wrong, begin, check, finish, free_ports, preload, run_words
 
 TOP = os.path.join(os.path.dirname(os.path.abspath(__file__)), "..")
 REFINERY = os.path.join(TOP, "examples", "refinery.toml")
@@ -52,10 +53,11 @@ def limited(limits):
 class Served:
     """A server over a device, with limits, to the end of a block."""
 
-    def __init__(self, program, device, limits=None):
+    def __init__(self, program, device, limits=None, options=(), loaded=None):
         self.port = free_ports()
-        words = [program, "serve", device, "--port", str(self.port)]
-        self.process = subprocess.Popen(words, stdout=subprocess.PIPE, stderr=subprocess.PIPE, preexec_fn=limited(limits or {}))
+        words = [program, "serve", device, "--port", str(self.port), *options]
+        self.process = subprocess.Popen(words, stdout=subprocess.PIPE, stderr=subprocess.PIPE, preexec_fn=limited(limits or {}),
+                                        env={**os.environ, **(loaded or {})})
         self.serves = self.process.stdout.readline() == f"serving {self.port}\n".encode()
 
     def __enter__(self):
@@ -155,6 +157,57 @@ class Surroundings:
         except TimeoutError:
             pass
         check(came == b"1 STATE 0 NORM 0 - -\n2 STATE 0 NORM 0 - -\n", "urgent data", came)
+
+    def hanging_sync(self):
+        """A sync hangs for seconds. With a patience the clients are closed, and each new one at once, until it comes back. Without one nobody is closed. What
+        was answered stays, and only connections that were served count."""
+        library = preload(self.folder)
+        for options in ((), ("--patience", "1")):
+            device = os.path.join(self.folder, "hangs.device")
+            self.format(device, PLANT)
+            fault = Fault(library, "fdatasync", self.first_sync(library, device) + 1, "held")
+            with Served(self.program, device, options=("--conns", "4", *options), loaded=fault.loaded) as server:
+                self.hang(server, fault, bool(options))
+            shown = run_words(self.program, ["show", device]).stdout
+            check(shown.startswith(b"NOW 1002 COUNT 3 "), options, "what was answered", shown)
+
+    def first_sync(self, library, device):
+        """How many syncs there are until one action is answered, on a copy."""
+        copy, counts = device + ".copy", os.path.join(self.folder, "counts")
+        shutil.copyfile(device, copy)
+        with Served(self.program, copy, options=("--conns", "1"), loaded={"LD_PRELOAD": library, "ALM_COUNTS": counts}) as server:
+            check(server.ask(CLOCK, b"1 CLOCK 1000\n") == b"1 OK 1\n", "one action")
+            server.process.wait(timeout=20)
+        with open(counts, encoding="ascii") as file:
+            return int(dict(line.split() for line in file)["fdatasync"])
+
+    def hang(self, server, fault, is_patient):
+        """Two clients are served, a sync hangs and comes back, and two more are served: the last of four."""
+        clock, console = server.connect(CLOCK), server.connect(0)
+        check(asked(clock, b"1 CLOCK 1000\n") == b"1 OK 1\n", "an action")
+        check(asked(console, b"1 STATE 0\n") == b"1 STATE 1 NORM 0 - -\n", "a query")
+        clock.sendall(b"2 CLOCK 1001\n")
+        until(fault.was_met, "no sync hung")
+        began = time.monotonic()
+        if is_patient:
+            check(came(console) == b"" and came(clock) == b"", "a client was answered while a sync hung")
+            check(0.9 < time.monotonic() - began < 6, "the clients were closed after", time.monotonic() - began)
+            for slot in (0, 5, CLOCK):
+                began = time.monotonic()
+                with server.connect(slot) as late:
+                    check(came(late) == b"" and time.monotonic() - began < 1, "slot", slot, "was not closed at once")
+        else:
+            time.sleep(4)
+            check(asked(console, b"2 STATE 0\n") == b"2 STATE 1 NORM 0 - -\n", "a query while a sync hangs")
+        fault.forget()
+        if not is_patient:
+            check(came(clock) == b"2 OK 2\n", "the action behind a sync that hung")
+        clock.close()
+        console.close()
+        until(lambda: answers(server, CLOCK, b"3 CLOCK 1002\n") == b"3 OK 3\n", "no clock is served after the sync")
+        check(answers(server, 5, b"1 STATE 0\n") == b"1 STATE 3 NORM 0 - -\n", "a console after the sync")
+        check(server.process.wait(timeout=20) == 0 and server.process.stdout.read() == b"stopped 3\n", "the end after four connections")
+        self.done += 1
 
     def descriptors(self, step):
         """With each limit either nothing is served, or all slots are."""
@@ -268,6 +321,40 @@ class Surroundings:
         self.done += 3
 
 
+def came(client):
+    """What comes next, or nothing where the connection has ended."""
+    try:
+        return client.recv(64)
+    except ConnectionResetError:
+        return b""
+    except TimeoutError:
+        raise Wrong("a client was neither answered nor closed") from None
+
+
+def asked(client, line):
+    """What comes after a line, or nothing where the connection has ended."""
+    try:
+        client.sendall(line)
+    except (BrokenPipeError, ConnectionResetError):
+        return b""
+    return came(client)
+
+
+def answers(server, slot, line):
+    """What a new connection is answered, or nothing where it is closed."""
+    with server.connect(slot) as client:
+        return asked(client, line)
+
+
+def until(holds, *said):
+    """Waits until it holds, for ten seconds."""
+    for _ in range(100):
+        if holds():
+            return
+        time.sleep(0.1)
+    raise Wrong(" ".join(str(word) for word in said))
+
+
 def own_addresses():
     """The machine's addresses but those of loopback, without a word where they can't be had."""
     found = subprocess.run(["hostname", "-I"], capture_output=True, check=False).stdout.decode().split()
@@ -300,6 +387,7 @@ def main(argv):
     around = Surroundings(program, folder)
     around.requests_of_http(step)
     around.urgent(60 // step)
+    around.hanging_sync()
     around.descriptors(step)
     around.sizes()
     around.modes()

@@ -2,7 +2,7 @@
 use Rattle.std.proofs.Common.{◌≡◌, refl, sym, ap, Bor, ℕ, Option, Some, None, MatchResult, option_map, ok_or, codes, true, List, Err, Ok}
 use Rattle.std.specs.Str.{bytes_eq}
 use Rattle.clap.specs.Words.{Row, Text}
-use Rattle.alm_program.specs.Orders.{At, conns_in, desk, device_in, order_at, endpoints_by, serve, serve_by}
+use Rattle.alm_program.specs.Orders.{At, conns_in, patience_in, desk, device_in, order_at, endpoints_by, serve, serve_by}
 use Rattle.alm_program.specs.declared.words_fault.WordsFault.{WordsFault}
 use Rattle.alm_program.specs.declared.words_fault.WordsFault.TheVariants.{Usage}
 
@@ -17,26 +17,31 @@ pub desk_at : (name : Text) (rows : List Row) (at : Option Text) → bytes_eq na
 desk_at name rows at is e = rw is (ap (λ (d : Option Text). Some (desk d)) (sym e))
 
 -- a number that was read, and one that wasn't
-pub read : (n : Option ℕ) (at : ℕ) → Ok at ≡ ok_or n Usage → n ≡ Some at
-read None at e = cc
-read (Some m) at e = cc
+module _ {A : Type 0} where
+  pub read : (n : Option A) (at : A) → Ok at ≡ ok_or n Usage → n ≡ Some at
+  read None at e = cc
+  read (Some m) at e = cc
 
-pub unread : (n : Option ℕ) (fault : WordsFault) → Err fault ≡ ok_or n Usage → (fault ≡ Usage) × (n ≡ None)
-unread None fault e = (cc, refl)
-unread (Some m) fault e = absurd cc
+  pub unread : (n : Option A) (fault : WordsFault) → Err fault ≡ ok_or n Usage → (fault ≡ Usage) × (n ≡ None)
+  unread None fault e = (cc, refl)
+  unread (Some m) fault e = absurd cc
 
--- what a server is asked, if all its words are read, and if its connections aren't
-pub served : (d c : Option Text) (p : Option At) (device : Text) (at : At) (conns : ℕ) → d ≡ Some device → p ≡ Some at
-    → conns_in c ≡ Some conns → serve_by d p c ≡ Some (serve device at conns)
-served d c p device at conns d_is p_is conns_is = rw (d_is, p_is, conns_is) refl
+-- what a server is asked, if all its words are read, and if its patience or its connections aren't
+pub served : (d c s : Option Text) (p : Option At) (device : Text) (at : At) (conns : ℕ) (patience : Option ℕ) → d ≡ Some device → p ≡ Some at
+    → conns_in c ≡ Some conns → patience_in s ≡ Some patience → serve_by d p c s ≡ Some (serve device at conns patience)
+served d c s p device at conns patience d_is p_is conns_is patience_is = rw (d_is, p_is, conns_is, patience_is) refl
 
-pub not_served : (d c : Option Text) (p : Option At) (device : Text) (at : At) → d ≡ Some device → p ≡ Some at
-    → conns_in c ≡ None → serve_by d p c ≡ None
-not_served d c p device at d_is p_is conns_is = rw (d_is, p_is, conns_is) refl
+pub not_patient : (d c s : Option Text) (p : Option At) (device : Text) (at : At) (conns : ℕ) → d ≡ Some device → p ≡ Some at
+    → conns_in c ≡ Some conns → patience_in s ≡ None → serve_by d p c s ≡ None
+not_patient d c s p device at conns d_is p_is conns_is patience_is = rw (d_is, p_is, conns_is, patience_is) refl
+
+pub not_served : (d c s : Option Text) (p : Option At) (device : Text) (at : At) → d ≡ Some device → p ≡ Some at
+    → conns_in c ≡ None → serve_by d p c s ≡ None
+not_served d c s p device at d_is p_is conns_is = rw (d_is, p_is, conns_is) refl
 
 -- .. and if its endpoints aren't
-pub not_placed : (d c : Option Text) (p : Option At) (device : Text) → d ≡ Some device → p ≡ None → serve_by d p c ≡ None
-not_placed d c p device d_is p_is = rw (d_is, p_is) refl
+pub not_placed : (d c s : Option Text) (p : Option At) (device : Text) → d ≡ Some device → p ≡ None → serve_by d p c s ≡ None
+not_placed d c s p device d_is p_is = rw (d_is, p_is) refl
 
 -- the endpoints, by words that were found
 pub placed : (p p' f f' : Option Text) (at : Option At) → p ≡ p' → f ≡ f' → endpoints_by p f ≡ at → endpoints_by p' f' ≡ at

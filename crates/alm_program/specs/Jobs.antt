@@ -12,6 +12,10 @@ least_port = 1024
 abbrev pub greatest_port : ℕ
 greatest_port = 65518
 
+-- the most seconds of a patience: a day
+abbrev pub most_patience : ℕ
+most_patience = 86400
+
 -- the port of the first slot and those of the 17 after it are ports
 abbrev pub AreEndpoints : Endpoints → Type 0
 AreEndpoints (Ports port) = (least_port ≤ port) × (port ≤ greatest_port)
@@ -23,4 +27,4 @@ IsJob (Desk device) = ⊤
 IsJob (Format device table) = ⊤
 IsJob (Show device) = ⊤
 IsJob (Export device) = ⊤
-IsJob (Serve device endpoints conns) = AreEndpoints endpoints
+IsJob (Serve device endpoints conns patience) = AreEndpoints endpoints

@@ -5,7 +5,7 @@ use Rattle.std.specs.Str.{bytes_eq}
 use Rattle.clap.specs.Words.{Kinds, Row, Text, fault_of, first_of, subcommand_of}
 use Rattle.alm_lines.specs.Line.{number}
 use Rattle.alm_program.specs.Commands.{commands}
-use Rattle.alm_program.specs.Jobs.{greatest_port, least_port}
+use Rattle.alm_program.specs.Jobs.{greatest_port, least_port, most_patience}
 use Rattle.alm_program.specs.declared.job.Job.{Job}
 use Rattle.alm_program.specs.declared.job.Job.TheVariants as job
 use Rattle.alm_program.specs.declared.endpoints.Endpoints.{Endpoints}
@@ -28,7 +28,7 @@ pub data JobOrder : Type 0 where
   format : Text → Text → JobOrder
   show : Text → JobOrder
   export : Text → JobOrder
-  serve : Text → At → ℕ → JobOrder
+  serve : Text → At → ℕ → Option ℕ → JobOrder
 
 -- a job's own order
 abbrev pub order_of : Job → JobOrder
@@ -36,7 +36,7 @@ order_of (job.Desk device) = desk (option_map (λ d. d.now) device)
 order_of (job.Format device table) = format device.now table.now
 order_of (job.Show device) = show device.now
 order_of (job.Export device) = export device.now
-order_of (job.Serve device endpoints conns) = serve device.now (endpoints_of endpoints) conns
+order_of (job.Serve device endpoints conns patience) = serve device.now (endpoints_of endpoints) conns patience
 
 -- the port of the first slot, if the 17 after it are ports as well
 abbrev pub port_in : Text → Option ℕ
@@ -56,6 +56,13 @@ abbrev pub conns_in : Option Text → Option ℕ
 conns_in None = Some 0
 conns_in (Some digits) = number (2 ^ 32) digits
 
+-- the seconds of a patience, none if it is missing
+abbrev pub patience_in : Option Text → Option (Option ℕ)
+patience_in None = Some None
+patience_in (Some digits) =
+    option_and_then (λ seconds. if nat_le 1 seconds then Some (Some seconds) else None)
+    (number (most_patience + 1) digits)
+
 -- the device, what a format is asked, and what a server is asked
 abbrev pub device_in : List Row → Option Text
 device_in = first_of (codes "device")
@@ -65,15 +72,15 @@ format_in rows =
     option_and_then (λ device. option_map (format device) (first_of (codes "table") rows))
     (device_in rows)
 
-abbrev pub serve_by : Option Text → Option At → Option Text → Option JobOrder
-serve_by device at conns =
-    option_and_then (λ d. option_and_then (λ p. option_map (serve d p) (conns_in conns))
-    at) device
+abbrev pub serve_by : Option Text → Option At → Option Text → Option Text → Option JobOrder
+serve_by device at conns patience =
+    option_and_then (λ d. option_and_then (λ p. option_and_then (λ n. option_map (serve d p n) (patience_in patience))
+    (conns_in conns)) at) device
 
 abbrev pub serve_in : List Row → Option JobOrder
 serve_in rows =
     serve_by (device_in rows) (endpoints_by (first_of (codes "port") rows) (first_of (codes "sockets") rows))
-    (first_of (codes "conns") rows)
+    (first_of (codes "conns") rows) (first_of (codes "patience") rows)
 
 -- what a command is asked by its words
 abbrev pub order_at : Text → List Row → Option JobOrder

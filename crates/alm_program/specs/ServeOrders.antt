@@ -4,10 +4,11 @@ use Rattle.alm_program.specs.Orders.{JobOrder, desk, export, format, order_in, s
 use Rattle.alm_program.specs.OwnedEndpoints.{at_of}
 use Rattle.alm_program.specs.declared.serve_order.ServeOrder.{ServeOrder}
 
--- an order to serve is answered by exactly its device, endpoints and number of connections, every other order by none
+-- an order to serve is answered by exactly its device, endpoints, number of connections and patience, every other order by none
 abbrev pub IsOrderOf : JobOrder → Option ServeOrder → Type 0
-IsOrderOf (serve device at conns) (Some asked) = (string_bytes asked.device ≡ device) × (at_of asked.endpoints ≡ at) × (asked.conns ≡ conns)
-IsOrderOf (serve device at conns) None = ⊥
+IsOrderOf (serve device at conns patience) (Some asked) =
+    (string_bytes asked.device ≡ device) × (at_of asked.endpoints ≡ at) × (asked.conns ≡ conns) × (asked.patience ≡ patience)
+IsOrderOf (serve device at conns patience) None = ⊥
 IsOrderOf (desk device) asked = IsNone asked
 IsOrderOf (format device table) asked = IsNone asked
 IsOrderOf (show device) asked = IsNone asked

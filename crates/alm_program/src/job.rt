@@ -16,10 +16,12 @@ pub enum Job<'a> {
     Show(&'a str),
     /// Prints the table of a device's plant as a table file.
     Export(&'a str),
-    /// Serves the slots there, `conns` connections in all; 0 is without end.
+    /// Serves the slots there, `conns` connections in all; 0 is without end. If a device call takes longer than `patience`
+    /// seconds, no client is served until it ends.
     Serve {
         device: &'a str,
         endpoints: Endpoints<'a>,
         conns: u32,
+        patience: Option<u32>,
     },
 }

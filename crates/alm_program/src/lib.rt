@@ -13,11 +13,13 @@
 //! | `format DEVICE TABLE` | makes the file of a device, and formats it for a table file |
 //! | `show DEVICE` | prints the plant on a device |
 //! | `export DEVICE` | prints the table of that plant as a table file, with the size, priorities and setpoints in force |
-//! | `serve DEVICE --port P [--conns N]` | a [`ServeOrder`]: the slots of a formatted device at 18 ports |
-//! | `serve DEVICE --sockets FOLDER [--conns N]` | the same at 18 Unix sockets in a folder |
+//! | `serve DEVICE --port P ..` | a [`ServeOrder`]: the slots of a formatted device at 18 ports |
+//! | `serve DEVICE --sockets FOLDER ..` | the same at 18 Unix sockets in a folder |
+//! | `.. --conns N` | for N connections in all |
+//! | `.. --patience SECONDS` | how long a device call may take while clients are served |
 //!
-//! Options may come in any order. P (1024 to 65518) and N (below 2^32, 0 if it is missing) are decimal digits without a leading
-//! zero. Every other word, and a request for help, is wrong usage.
+//! Options may come in any order. P (1024 to 65518), N (below 2^32) and SECONDS (1 to 86400) are decimal digits without a leading
+//! zero. Without `--conns` N is 0, without `--patience` there is no limit. Every other word, and a request for help, is wrong usage.
 //!
 //! | fault | status | its line on standard error |
 //! |---|---|---|
@@ -28,8 +30,8 @@
 //! | of the device later | 3 | `fault stopped` |
 //! | of memory, files, streams, ports or sockets | 3 | `fault memory`, `fault io`, `fault net` |
 //!
-//! What is used above: [`run_words`] returns the order to serve that some words ask for, with their device, endpoints
-//! and number of connections. Not covered: that these are the process's own words. [`end_of`] ends with status 0 and no
+//! What is used above: [`run_words`] returns the order to serve that some words ask for, with their device, endpoints,
+//! number of connections and patience. Not covered: that these are the process's own words. [`end_of`] ends with status 0 and no
 //! line, or with the status and the line of the fault.
 //!
 //! Within: over any reader, writer and device, a desk, the print of a plant or of its table and a refused opening end by the fault
@@ -44,8 +46,8 @@
 //!   or 2^32 reads gave no end (by `run_local`, `end_of`)
 //! - what is printed of a plant and of its table, or a prefix; `io` is reported exactly if the writer counted a failure (by
 //!   `print_plant`, `print_table`)
-//! - only a job to serve is answered by an order, with its device, place and connections. Which words the process was
-//!   given, no contract says (by `run_job`, `run_between`)
+//! - only a job to serve is answered by an order, with its device, place, connections and patience. Which words the
+//!   process was given, no contract says (by `run_job`, `run_between`)
 //! - a device is refused by the cause of its opening; format takes the longest segment that fits, and refuses only if none
 //!   does (by `open_to_print`, `open_stack`, `layout_for`)
 #![tactic(auto)]

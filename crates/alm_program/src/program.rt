@@ -54,11 +54,13 @@ fn order_to(
     device: &str,
     endpoints: Endpoints<'_>,
     conns: u32,
+    patience: Option<u32>,
 ) -> Result<ServeOrder, Fault>
     requires { AreEndpoints endpoints }
     ensures { IfOk result
         (λ order. (string_bytes order.device ≡ device.now) ×
-        (at_of order.endpoints ≡ endpoints_of endpoints.entry) × (order.conns ≡ conns)) }
+        (at_of order.endpoints ≡ endpoints_of endpoints.entry) × (order.conns ≡ conns) ×
+        (order.patience ≡ patience)) }
 {
     let device = String::from_str(alloc, device)?;
     let endpoints = owned(alloc, endpoints)?;
@@ -66,6 +68,7 @@ fn order_to(
         device,
         endpoints,
         conns,
+        patience,
     })
 }
 
@@ -87,8 +90,10 @@ fn run_job<'a, R: Input + Print + Files<File = File> + AllocGlobal>(
             device,
             endpoints,
             conns,
+            patience,
         } => {
-            return Ok(Some(order_to(rt.alloc(), device, endpoints, conns)?));
+            let order = order_to(rt.alloc(), device, endpoints, conns, patience)?;
+            return Ok(Some(order));
         }
     }
     Ok(None)

@@ -5,7 +5,7 @@ ghost use Rattle.std.specs.String.{string_bytes};
 ghost use Rattle.clap.specs.Words.{App, first_of, found_of, rows_of, with_rule, with_subcommand};
 ghost use Rattle.alm_program.specs.Commands.{IsCommand, IsWord, desk, export, format, named, optional, serve, show, commands, wanted};
 ghost use Rattle.alm_program.specs.Jobs.{IsJob, AreEndpoints, greatest_port, least_port};
-ghost use Rattle.alm_program.specs.Orders.{IsJobOf, conns_in, format_in, order_at, order_in, endpoints_by, endpoints_of, port_in, serve_in};
+ghost use Rattle.alm_program.specs.Orders.{IsJobOf, conns_in, format_in, patience_in, order_at, order_in, endpoints_by, endpoints_of, port_in, serve_in};
 ghost use Rattle.alm_program.specs.declared.words_fault.WordsFault.TheVariants.{Usage};
 
 use crate::endpoints::Endpoints;
@@ -71,7 +71,8 @@ fn serve_command<'a>(alloc: Global) -> Result<Command<'a>, AllocError>
     let above = Command::new(alloc, "serve").arg(wanted(alloc, "device"))?;
     let above = with_option(alloc, above, "port")?;
     let above = with_option(alloc, above, "sockets")?;
-    with_option(alloc, above, "conns")
+    let above = with_option(alloc, above, "conns")?;
+    with_option(alloc, above, "patience")
 }
 
 /// A command with one more below it.
@@ -160,6 +161,19 @@ fn conns_of(digits: Option<&str>) -> Result<u32, WordsFault>
     u32::try_from(conns).map_err(|_| WordsFault::Usage)
 }
 
+/// How many seconds a device call may take while clients are served.
+fn patience_of(digits: Option<&str>) -> Result<Option<u32>, WordsFault>
+    ensures { result ≡ ok_or (patience_in (option_map (λ text. text.now) digits.entry)) Usage }
+{
+    let Some(digits) = digits else {
+        return Ok(None);
+    };
+    match number(digits.as_bytes(), 86_401) {
+        Some(seconds) if 1 <= seconds => Ok(Some(seconds as u32)),
+        _ => Err(WordsFault::Usage),
+    }
+}
+
 /// What a server is asked.
 fn serve_of<'a>(matches: &ArgMatches<'a>) -> Result<Job<'a>, WordsFault>
     ensures asked { IsJobOf (serve_in (rows_of (found_of matches.now))) result }
@@ -169,6 +183,7 @@ fn serve_of<'a>(matches: &ArgMatches<'a>) -> Result<Job<'a>, WordsFault>
         device: word(matches, "device")?,
         endpoints: endpoints_of(matches.get_str("port"), matches.get_str("sockets"))?,
         conns: conns_of(matches.get_str("conns"))?,
+        patience: patience_of(matches.get_str("patience"))?,
     })
 }
 

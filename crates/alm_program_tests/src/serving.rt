@@ -2,21 +2,23 @@
 
 use crate::process::Process;
 use crate::script::Script;
-use alm_program::{Fault, OwnedEndpoints, run_words};
+use alm_program::{Fault, OwnedEndpoints, ServeOrder, run_words};
 
-/// The endpoints and the connections that a server is asked for.
+/// The endpoints, the connections and the patience that a server is asked for.
 #[derive(Clone, Copy, Debug)]
 enum Wanted<'a> {
     Ports(u16, u32),
     Sockets(&'a str, u32),
+    /// Ports, without an end.
+    Patient(u16, u32),
     /// The words are wrong.
     Nothing,
 }
 
-use Wanted::{Nothing, Ports, Sockets};
+use Wanted::{Nothing, Patient, Ports, Sockets};
 
 /// Words, and how the device `d` is to be served with them.
-const ASKED: [(&[u8], Wanted<'static>); 16] = [
+const ASKED: [(&[u8], Wanted<'static>); 24] = [
     (b"serve\nd\n--port\n1024\n", Ports(1024, 0)),
     (b"serve\n--port\n65518\nd\n--conns\n7\n", Ports(65518, 7)),
     (
@@ -42,14 +44,31 @@ const ASKED: [(&[u8], Wanted<'static>); 16] = [
     (b"serve\nd\n--sockets\nhere\n--conns\n01\n", Nothing),
     (b"serve\nd\n--sockets\n", Nothing),
     (b"serve\n--sockets\nhere\n", Nothing),
+    (b"serve\nd\n--port\n5000\n--patience\n1\n", Patient(5000, 1)),
+    (
+        b"serve\n--patience\n86400\n--port\n5000\nd\n",
+        Patient(5000, 86400),
+    ),
+    (b"serve\n--patience=30\nd\n--port=5000\n", Patient(5000, 30)),
+    (b"serve\nd\n--port\n5000\n--patience\n0\n", Nothing),
+    (b"serve\nd\n--port\n5000\n--patience\n86401\n", Nothing),
+    (b"serve\nd\n--port\n5000\n--patience\n5s\n", Nothing),
+    (b"serve\nd\n--sockets\nhere\n--patience\n", Nothing),
+    (b"desk\nd\n--patience\n5\n", Nothing),
 ];
 
-/// Whether an order has these endpoints and these connections.
-fn has(endpoints: &OwnedEndpoints, conns: u32, wanted: Wanted<'_>) -> bool {
-    match (endpoints, wanted) {
-        (OwnedEndpoints::Ports(port), Ports(first, most)) => *port == first && conns == most,
-        (OwnedEndpoints::Sockets(folder), Sockets(path, most)) => folder.as_str() == path
+/// Whether an order has these endpoints, connections and patience.
+fn has(order: &ServeOrder, wanted: Wanted<'_>) -> bool {
+    let served = (&order.endpoints, order.conns, order.patience);
+    match (served, wanted) {
+        ((OwnedEndpoints::Ports(port), conns, None), Ports(first, most)) => *port == first
             && conns == most,
+        ((OwnedEndpoints::Sockets(folder), conns, None), Sockets(path, most)) => folder.as_str()
+            == path
+            && conns == most,
+        ((OwnedEndpoints::Ports(port), 0, Some(patience)), Patient(first, seconds)) => *port
+            == first
+            && patience == seconds,
         _ => false,
     }
 }
@@ -61,16 +80,14 @@ fn is_asked(rt: &HostRuntime, words: &[u8], wanted: Wanted<'_>) -> bool {
     };
     let process = Process::new(rt, all.as_slice(), Script::new(&[]), 100);
     match run_words(&process) {
-        Ok(Some(order)) => {
-            order.device.as_str() == "d" && has(&order.endpoints, order.conns, wanted)
-        }
+        Ok(Some(order)) => order.device.as_str() == "d" && has(&order, wanted),
         Ok(None) => false,
         Err(fault) => matches!(wanted, Nothing) && fault == Fault::Usage,
     }
 }
 
 #[test]
-fn a_server_is_asked_for_its_endpoints_and_its_connections(rt: HostRuntime) {
+fn a_server_is_asked_for_its_endpoints_and_its_options(rt: HostRuntime) {
     for (row, (words, wanted)) in ASKED.iter().enumerate() {
         assert!(rt; is_asked(&rt, words, *wanted), "row {row}");
     }

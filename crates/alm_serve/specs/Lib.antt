@@ -1,3 +1,4 @@
 pub mod Runs
 pub mod Serving
 pub mod Http
+pub mod Service

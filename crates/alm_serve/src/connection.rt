@@ -1,14 +1,12 @@
 //! The connection of a slot.
 
-use crate::slot_stream::SlotStream;
-use crate::stream_wire::StreamWire;
-
 /// The connection of a slot.
 #[derive(Drop)]
-pub enum Connection {
-    /// There is none: the next one may come.
+pub enum Connection<W> {
+    /// There is none: the next one may begin.
     Awaited,
-    Open(StreamWire<SlotStream>),
+    /// Its wire.
+    Open(W),
     /// It has ended, and its requests may still be unanswered.
     Ended,
 }

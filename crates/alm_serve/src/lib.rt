@@ -6,8 +6,9 @@
 //! let count = serve_run(rt, alloc, disk, 5000, all_connections, &mut stdout)?;
 //! ```
 //!
-//! [`serve_run`] serves at ports of loopback, [`serve_sockets`] at Unix sockets in a folder. It is the same server with the
-//! same contract; the first line names the port or the folder.
+//! [`serve_ports`] serves at ports of loopback, [`serve_sockets`] at Unix sockets in a folder. It is the same server with the
+//! same contract; the first line names the port or the folder. Both return the device. [`serve_run`] is the first of them without a
+//! patience, and drops the device.
 //!
 //! | step | if it fails | what is written by then |
 //! |---|---|---|
@@ -20,7 +21,8 @@
 //! `Memory`, if memory or a thread can't be had, may come at any step after the first.
 //!
 //! Slot k listens on the k-th port after the first one, or at the socket k of the folder. A [`slot_port::SlotPort`] is the source
-//! of a slot: it accepts one connection after another and gives each its turns.
+//! of a slot: it accepts one connection after another and gives each its turns. What of it is apart from sockets and polls is a
+//! [`SlotService`], whose contract names the bytes of any wire that has them.
 //!
 //! | a port | does in a turn |
 //! |---|---|
@@ -28,6 +30,7 @@
 //! | with a connection | a turn of its session; if that has ended or failed, it closes the connection |
 //! | whose connection has ended | drops the receipts of its requests, until all are answered; then the connection counts as ended |
 //! | without work | has its bell wake it, checks once more, and waits for its sockets and the bell, a second at most |
+//! | while a device call takes longer than its [`Patience`] | closes its connection and each that comes |
 //! | after the last of its connections has ended | says that it has ended |
 //!
 //! A connection takes no memory beyond the buffers of its slot's session and those of the system: no more is read while
@@ -36,43 +39,65 @@
 //!
 //! What is used above: what is written, by how it ends; N is how many actions are stored. Also what was run: all slots
 //! in threads, from the plant of an image of the device. At each moment of that run, whatever a crash leaves of an
-//! honest device encodes a prefix of the run's history, which contains all that had been reported by then. `Ok` is
-//! returned only after a whole run, and `stopped N` is written only after one; `Storage` is returned only after a run
-//! that wasn't whole. `Open` says what the device became by an opening's calls, and is the device's fault only if a
-//! failure was counted. `Net`, `Write` and `Memory` are returned only after the device was opened.
+//! honest device encodes a prefix of the run's history, which contains all that had been reported by then. It leads to the
+//! device that is returned. `Ok` is returned only after a whole run, and `stopped N` is written only after one; `Storage` is
+//! returned only after a run that stopped for a cause, which is returned too. `Open` says what the device became by an opening's
+//! calls, and is the device's fault only if a failure was counted. After `Net`, `Memory`, and `Write` without a whole run, the
+//! device is as an opening left it.
 //!
-//! Not covered: what a socket gives or takes, that a wake comes, that the server ever ends, and time. There are no
-//! accounts: a client that reaches a port of loopback, or may open a socket, has the role of its slot.
+//! A device call that hangs can't be ended. With a [`Patience`] the calls of a [`CountedDisk`] are counted, and the ports serve
+//! nobody while one takes too long. Requests that were sent before stay: they are done if the call comes back well.
+//!
+//! Not covered: what a socket gives or takes, that a wake comes, that the server ever ends, and time. Nor that a port makes no other
+//! calls on a socket than its service's, and closes while a device call takes too long. There are no accounts: a client that
+//! reaches a port of loopback, or may open a socket, has the role of its slot.
 //!
 //! Proved:
-//! - a port is the source of its slot alone, whatever its clients do; a port and a bell for each slot asked for, in order
-//!   (by `SlotPort`, `StreamWire`, `open_ports`, `open_sockets`)
+//! - over any wire a slot's service writes and sends what its session does in its turns, and nothing else (by `SlotService`)
+//! - a connection begins fresh over the given wire, once all requests of the last one are answered (by `SlotService`)
+//! - as long as no whole line has come nothing is sent and nothing written (by `laws::nothing_goes_out_unasked`)
+//! - a port is the source of its slot alone, whatever its clients do, and sends what its service does (by `SlotPort`,
+//!   `StreamWire`)
+//! - a port and a bell for each slot asked for, in order (by `open_ports`, `open_sockets`)
 //! - a connection has ended that begins as a request of HTTP, and no other has ended for its first bytes (by `FirstBytes`)
-//! - what the server writes, by how it ends, or a prefix if the writer fails; why a device isn't opened (by `serve_run`,
+//! - what the server writes, by how it ends, or a prefix if the writer fails; why a device isn't opened (by `serve_ports`,
 //!   `serve_sockets`)
-//! - from a plant that an image of its device holds, a run of all 18 slots as said of alm_threads, which ended as is
-//!   reported (by `serve_run`, `serve_sockets`)
+//! - **from a plant that an image of its device holds, a run of all 18 slots as said of alm_threads, up to the device that is
+//!   returned, which ended as is reported; else nothing was done with the open device** (by `serve_ports`, `serve_sockets`)
+//! - it says that the storage stopped only with the run's cause; if that is a failed step, an honest device failed or is at its
+//!   last epoch (by `serve_ports`, `serve_sockets`)
 #![tactic(auto)]
 
 mod bound;
+mod call_count;
+mod call_watch;
 mod connection;
 mod connection_count;
+mod counted_disk;
 mod first_bytes;
+pub mod laws;
 mod listen;
 mod opening;
+mod patience;
 mod port_fault;
 mod ports;
 mod serve_fault;
+mod served;
 mod server_end;
 mod serving;
 mod slot_bell;
 mod slot_listener;
 mod slot_port;
+mod slot_service;
 mod slot_stream;
 mod socket_folder;
 mod sockets;
 mod stream_wire;
 
+pub use counted_disk::CountedDisk;
+pub use patience::Patience;
 pub use serve_fault::ServeFault;
+pub use served::Served;
 pub use server_end::ServerEnd;
-pub use serving::{serve_device, serve_run, serve_sockets};
+pub use serving::{serve_ports, serve_run, serve_sockets};
+pub use slot_service::SlotService;

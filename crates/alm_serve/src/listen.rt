@@ -19,13 +19,13 @@ pub trait Listen<R> {
         ensures { part_text result ≡ name self.now };
 
     /// Opens these slots, for `conns` connections in all; 0 is without end.
-    fn open(
+    fn open<'r>(
         &self,
-        rt: &R,
+        rt: &'r R,
         alloc: Global,
         slots: &[Slot],
         conns: u32,
-    ) -> Result<SlotPorts, PortFault>
+    ) -> Result<SlotPorts<'r, R>, PortFault>
         ensures ports { IfOk result (λ d. map (λ port. port.slot) d.ports.items ≡ slots.now) }
         ensures bells { IfOk result (λ d. vec_len d.bells ≡ length slots.now) };
 }

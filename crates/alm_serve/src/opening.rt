@@ -4,6 +4,7 @@ ghost use Rattle.std.specs.Prelude.{◌≡◌, ◌≤◌, IfOk, length, map, vec
 
 use crate::bound::Bound;
 use crate::connection_count::ConnectionCount;
+use crate::patience::Patience;
 use crate::port_fault::PortFault;
 use crate::slot_bell::SlotBell;
 use crate::slot_port::SlotPort;
@@ -15,6 +16,7 @@ use std::alloc::Global;
 use std::fs::{File, Files};
 use std::net::Net;
 use std::sync::Arc;
+use std::time::Clock;
 
 /// How many events one poll reports at most: of the listener, the connection and the bell.
 const EVENTS: usize = 4;
@@ -55,8 +57,8 @@ fn bells_of(alloc: Global, bounds: &[Bound]) -> Result<Vec<SlotBell>, PortFault>
 
 /// The ports of slots, in their order, with their bells.
 #[derive(Drop)]
-pub struct SlotPorts {
-    pub ports: Vec<SlotPort>,
+pub struct SlotPorts<'r, R> {
+    pub ports: Vec<SlotPort<'r, R>>,
     pub bells: Vec<SlotBell>,
 }
 
@@ -71,30 +73,38 @@ fn count_of(
 }
 
 /// The port of a slot that is bound.
-fn open_port(
+fn open_port<'r, R: Clock>(
+    rt: &'r R,
     alloc: Global,
     bound: Bound,
     count: &Arc<ConnectionCount>,
-) -> Result<SlotPort, PortFault>
+    patience: Option<&Patience>,
+) -> Result<SlotPort<'r, R>, PortFault>
     ensures { IfOk result (λ port. port.slot ≡ bound.slot) }
 {
     let session = Session::new(alloc)?;
     let events = Events::with_capacity(alloc, EVENTS)?;
-    Ok(SlotPort::new(bound, events, count.clone()?, session)?)
+    let watch = match patience {
+        Some(patience) => Some(patience.watch(rt)?),
+        None => None,
+    };
+    Ok(SlotPort::new(bound, events, count.clone()?, watch, session)?)
 }
 
 /// The same for each of these.
-fn ports_of(
+fn ports_of<'r, R: Clock>(
+    rt: &'r R,
     alloc: Global,
     bounds: Vec<Bound>,
     count: &Arc<ConnectionCount>,
-) -> Result<Vec<SlotPort>, PortFault>
+    patience: Option<&Patience>,
+) -> Result<Vec<SlotPort<'r, R>>, PortFault>
     ensures { IfOk result
         (λ ports. map (λ p. p.slot) ports.items ≡ map (λ b. b.slot) bounds.items) }
 {
     let mut ports = Vec::with_capacity(alloc, bounds.len())?;
     for bound in bounds {
-        match ports.push(open_port(alloc, bound, count)?) {
+        match ports.push(open_port(rt, alloc, bound, count, patience)?) {
             Ok(()) => {}
             Err(_) => return Err(PortFault::OutOfMemory),
         }
@@ -116,12 +126,13 @@ fn try_descriptors<R: Net>(rt: &R, alloc: Global, bounds: &[Bound]) -> Result<()
 }
 
 /// Opens all that is bound, for `conns` connections in all; 0 is without end. There are descriptors for a connection of each.
-fn open_all<R: Net>(
-    rt: &R,
+fn open_all<'r, R: Net + Clock>(
+    rt: &'r R,
     alloc: Global,
     bounds: Vec<Bound>,
     conns: u32,
-) -> Result<SlotPorts, PortFault>
+    patience: Option<&Patience>,
+) -> Result<SlotPorts<'r, R>, PortFault>
     ensures ports { IfOk result
         (λ d. map (λ port. port.slot) d.ports.items ≡ map (λ b. b.slot) bounds.items) }
     ensures bells { IfOk result (λ d. vec_len d.bells ≡ vec_len bounds) }
@@ -129,39 +140,41 @@ fn open_all<R: Net>(
     try_descriptors(rt, alloc, &bounds)?;
     let count = count_of(alloc, conns, &bounds)?;
     let bells = bells_of(alloc, &bounds)?;
-    let ports = ports_of(alloc, bounds, &count)?;
+    let ports = ports_of(rt, alloc, bounds, &count, patience)?;
     Ok(SlotPorts { ports, bells })
 }
 
 /// Binds the ports of these slots on loopback, the first slot's given, for `conns` connections in all; 0 is without end.
-pub fn open_ports<R: Net>(
-    rt: &R,
+pub fn open_ports<'r, R: Net + Clock>(
+    rt: &'r R,
     alloc: Global,
     slots: &[Slot],
     port: u16,
     conns: u32,
-) -> Result<SlotPorts, PortFault>
+    patience: Option<&Patience>,
+) -> Result<SlotPorts<'r, R>, PortFault>
     requires port { port ≤ 65518 }
     ensures ports { IfOk result (λ d. map (λ port. port.slot) d.ports.items ≡ slots.now) }
     ensures bells { IfOk result (λ d. vec_len d.bells ≡ length slots.now) }
 {
     let bounds = bind_ports(rt, alloc, slots, port)?;
-    open_all(rt, alloc, bounds, conns)
+    open_all(rt, alloc, bounds, conns, patience)
 }
 
 /// Makes the sockets of these slots in a folder that exists, each by its slot's number, for `conns` connections in all; 0 is
 /// without end. Only the owner and the group of a socket may open it. A dead server's socket is replaced. One that answers is
 /// refused, and so is anything else at its path, which stays as it is. The sockets stay after the server's end.
-pub fn open_sockets<R: Net + Files<File = File>>(
-    rt: &R,
+pub fn open_sockets<'r, R: Net + Clock + Files<File = File>>(
+    rt: &'r R,
     alloc: Global,
     slots: &[Slot],
     folder: &str,
     conns: u32,
-) -> Result<SlotPorts, PortFault>
+    patience: Option<&Patience>,
+) -> Result<SlotPorts<'r, R>, PortFault>
     ensures ports { IfOk result (λ d. map (λ port. port.slot) d.ports.items ≡ slots.now) }
     ensures bells { IfOk result (λ d. vec_len d.bells ≡ length slots.now) }
 {
     let bounds = bind_sockets(rt, alloc, slots, folder)?;
-    open_all(rt, alloc, bounds, conns)
+    open_all(rt, alloc, bounds, conns, patience)
 }

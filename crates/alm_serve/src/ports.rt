@@ -4,20 +4,24 @@ ghost use Rattle.std.specs.Prelude.{◌≤◌};
 
 use crate::listen::Listen;
 use crate::opening::{SlotPorts, open_ports};
+use crate::patience::Patience;
 use crate::port_fault::PortFault;
 use alm_lines::Part;
 use alm_types::Slot;
 use std::alloc::Global;
 use std::net::Net;
+use std::time::Clock;
 
 /// Ports of loopback, from this one on.
-#[derive(Clone, Copy, Debug)]
-pub struct Ports {
+#[derive(Clone, Copy)]
+pub struct Ports<'a> {
     pub first: u16,
+    /// How long a device call may take; without a limit if it is missing.
+    pub patience: Option<&'a Patience>,
     pub ghost ports: { first ≤ 65518 },
 }
 
-impl<R: Net> Listen<R> for Ports {
+impl<R: Net + Clock> Listen<R> for Ports<'_> {
     ghost use Rattle.std.specs.Prelude.{decimal};
 
     ghost name = { λ ports. decimal ports.first };
@@ -26,13 +30,13 @@ impl<R: Net> Listen<R> for Ports {
         Part::Number(u64::from(self.first))
     }
 
-    fn open(
+    fn open<'r>(
         &self,
-        rt: &R,
+        rt: &'r R,
         alloc: Global,
         slots: &[Slot],
         conns: u32,
-    ) -> Result<SlotPorts, PortFault> {
-        open_ports(rt, alloc, slots, self.first, conns)
+    ) -> Result<SlotPorts<'r, R>, PortFault> {
+        open_ports(rt, alloc, slots, self.first, conns, self.patience)
     }
 }

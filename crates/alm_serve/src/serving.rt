@@ -12,6 +12,7 @@ ghost use Rattle.alm_moments.specs.Naming.{IsNamedAfter};
 
 use crate::listen::Listen;
 use crate::opening::SlotPorts;
+use crate::patience::Patience;
 use crate::port_fault::PortFault;
 use crate::ports::Ports;
 use crate::serve_fault::ServeFault;
@@ -117,7 +118,7 @@ fn run_parts<
     rt: &R,
     alloc: Global,
     parts: Parts<Durable<J>, WatchedLook<'h, SharedLook<J, P>, Free>, SharedBoard<J, P>, K, J>,
-    ports: SlotPorts,
+    ports: SlotPorts<'_, R>,
 ) -> ServerEnd<K>
     requires ports { map (λ port. port.slot) ports.ports.items ≡ parts.slots.items }
     requires slots { AreAllSlots parts.slots.items }
@@ -139,7 +140,7 @@ fn run_behind<J: RunId + Send + Sync, K: Store, R: Threads + Wait + Clock + Sync
     new: NewRun,
     store: K,
     slots: Vec<Slot>,
-    ports: SlotPorts,
+    ports: SlotPorts<'_, R>,
 ) -> ServerEnd<K>
     requires books { (new.history.seen.book ≡ J.book) × (new.moments.seen.book ≡ J.moments) }
     requires named { IsNamedAfter J.RunId K.Store K.Device.Disk store }
@@ -225,12 +226,7 @@ fn serve_over<
 /// In between the server's threads run. At each moment of that run, what a power failure leaves of an honest device
 /// encodes a prefix of the run's one history. The prefix contains every number that was released by then and all that a
 /// query can have shown. If nothing was run, the device is as an opening leaves it.
-pub fn serve_device<
-    D: Disk + Drop,
-    L: Listen<R>,
-    W: io::Write,
-    R: Threads + Wait + Clock + Sync,
->(
+fn serve_device<D: Disk + Drop, L: Listen<R>, W: io::Write, R: Threads + Wait + Clock + Sync>(
     rt: &R,
     alloc: Global,
     disk: D,
@@ -261,25 +257,32 @@ pub fn serve_device<
     }
 }
 
-/// Serves the slots of a device on the 18 ports of loopback from this one on. It writes `serving P`.
-pub fn serve_run<D: Disk + Drop, W: io::Write, R: Net + Threads + Wait + Clock + Sync>(
+/// Serves the slots of a device on the 18 ports of loopback from this one on, and returns the device. It writes `serving P`.
+///
+/// `conns` is the number of connections in all; 0 is without end. With a `patience` no client is served while a call of the
+/// patience's device takes longer than that.
+pub fn serve_ports<D: Disk + Drop, W: io::Write, R: Net + Threads + Wait + Clock + Sync>(
     rt: &R,
     alloc: Global,
     disk: D,
     port: u16,
     conns: u32,
+    patience: Option<&Patience>,
     writer: &mut W,
-) -> Result<u64, ServeFault>
+) -> ServerEnd<D>
     requires { port ≤ 65518 }
-    ensures { (back : D) × (cause : Option StopCause) ×
-        ServeEnds D.Disk StandsFor IsLastEpoch disk back cause result ×
-        ServeWrites
+    ensures writes { ServeWrites
         (λ count. (o : IsOpened D.Disk StandsFor disk) ×
-        RunsWhole D.Disk StandsFor o.base o.opened back count) (decimal port)
-        (W.contents writer.old) (W.contents writer.new) result }
+        RunsWhole D.Disk StandsFor o.base o.opened result.back count) (decimal port)
+        (W.contents writer.old) (W.contents writer.new) result.served }
+    ensures ends { ServeEnds D.Disk StandsFor IsLastEpoch disk result.back result.cause
+        result.served }
 {
-    let listen = Ports { first: port };
-    serve_device(rt, alloc, disk, &listen, conns, writer).served
+    let listen = Ports {
+        first: port,
+        patience,
+    };
+    serve_device(rt, alloc, disk, &listen, conns, writer)
 }
 
 /// The same at 18 Unix sockets in this folder, which must exist: slot k at the socket k. It writes `serving FOLDER`, the folder as
@@ -298,14 +301,42 @@ pub fn serve_sockets<
     disk: D,
     folder: &str,
     conns: u32,
+    patience: Option<&Patience>,
+    writer: &mut W,
+) -> ServerEnd<D>
+    ensures writes { ServeWrites
+        (λ count. (o : IsOpened D.Disk StandsFor disk) ×
+        RunsWhole D.Disk StandsFor o.base o.opened result.back count) folder.now
+        (W.contents writer.old) (W.contents writer.new) result.served }
+    ensures ends { ServeEnds D.Disk StandsFor IsLastEpoch disk result.back result.cause
+        result.served }
+{
+    serve_device(
+        rt,
+        alloc,
+        disk,
+        &Sockets { folder, patience },
+        conns,
+        writer,
+    )
+}
+
+/// What [`serve_ports`] without a patience has served, without the device.
+pub fn serve_run<D: Disk + Drop, W: io::Write, R: Net + Threads + Wait + Clock + Sync>(
+    rt: &R,
+    alloc: Global,
+    disk: D,
+    port: u16,
+    conns: u32,
     writer: &mut W,
 ) -> Result<u64, ServeFault>
+    requires { port ≤ 65518 }
     ensures { (back : D) × (cause : Option StopCause) ×
         ServeEnds D.Disk StandsFor IsLastEpoch disk back cause result ×
         ServeWrites
         (λ count. (o : IsOpened D.Disk StandsFor disk) ×
-        RunsWhole D.Disk StandsFor o.base o.opened back count) folder.now (W.contents writer.old)
-        (W.contents writer.new) result }
+        RunsWhole D.Disk StandsFor o.base o.opened back count) (decimal port)
+        (W.contents writer.old) (W.contents writer.new) result }
 {
-    serve_device(rt, alloc, disk, &Sockets { folder }, conns, writer).served
+    serve_ports(rt, alloc, disk, port, conns, None, writer).served
 }

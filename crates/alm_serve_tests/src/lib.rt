@@ -12,10 +12,14 @@ mod drawn_lines;
 #[cfg(test)]
 mod latch;
 #[cfg(test)]
+mod one_slot;
+#[cfg(test)]
 mod one_sync;
 #[cfg(test)]
 mod ports;
 #[cfg(test)]
 mod rows;
+#[cfg(test)]
+mod services;
 #[cfg(test)]
 mod sockets;

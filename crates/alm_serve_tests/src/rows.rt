@@ -59,6 +59,44 @@ fn two_connections(rt: HostRuntime) -> Result<(), Fail> {
     Ok(())
 }
 
+/// Whether the client of each slot is answered at its port as its role has it: 16 consoles, the feed, the clock.
+fn client_of_each_slot(rt: &HostRuntime, first: u16) -> io::Result<bool> {
+    let mut answered = true;
+    for number in 0..16_u16 {
+        let mut console = connect(rt, first.saturating_add(number))?;
+        let lines = b"1 ACK 0\n2 VAL 0 800\n3 CLOCK 1000\n";
+        answered &= asks(&mut console, lines, b"1 NO 2\n2 NO 11\n3 NO 11\n")?;
+    }
+    let mut feed = connect(rt, first.saturating_add(16))?;
+    answered &= asks(&mut feed, b"1 ACK 0\n2 VAL 0 800\n", b"1 NO 11\n2 OK 1\n")?;
+    let mut clock = connect(rt, first.saturating_add(17))?;
+    answered &= asks(
+        &mut clock,
+        b"1 VAL 0 800\n2 CLOCK 1000\n",
+        b"1 NO 11\n2 OK 2\n",
+    )?;
+    Ok(answered)
+}
+
+/// Slot k answers at the k-th port after the first one, whichever that is.
+#[test]
+fn each_slot_at_its_port(rt: HostRuntime) -> Result<(), Fail> {
+    let port = free_ports(&rt)?;
+    let taken = take_port(&rt, port)?;
+    let other = free_ports(&rt)?;
+    drop(taken);
+    assert_ne!(rt; port, other);
+    for first in [port, other] {
+        let disk = worked_disk(rt.alloc())?.ok_or("format")?;
+        let clients = thread::spawn(&rt, move || client_of_each_slot(&rt, first))?;
+        let mut output = Vec::new(rt.alloc());
+        let served = serve_run(&rt, rt.alloc(), disk, first, 18, &mut output);
+        assert!(rt; served == Ok(2));
+        assert!(rt; clients.join(&rt)?);
+    }
+    Ok(())
+}
+
 /// Takes a port of loopback.
 fn take_port(rt: &HostRuntime, port: u16) -> io::Result<TcpListener> {
     TcpListener::bind(rt, SocketAddr::from((Ipv4Addr::LOCALHOST, port)))

@@ -72,7 +72,7 @@ fn two_connections_at_sockets(rt: HostRuntime) -> Result<(), Fail> {
         let disk = worked_disk(rt.alloc())?.ok_or("format")?;
         let clients = thread::spawn(&rt, move || two_clients(&rt, folder))?;
         let mut output = Vec::new(rt.alloc());
-        let served = serve_sockets(&rt, rt.alloc(), disk, folder, 2, &mut output);
+        let served = serve_sockets(&rt, rt.alloc(), disk, folder, 2, None, &mut output).served;
         assert!(rt; served == Ok(2));
         let said = format!(in rt.alloc(); "serving {folder}\nstopped 2\n")?;
         assert_eq!(rt; output.as_slice(), said.as_bytes());
@@ -90,7 +90,7 @@ fn is_refused<R: Net + Files<File = File> + Threads + Wait + Clock + Sync + Allo
 ) -> Result<bool, Fail> {
     let disk = worked_disk(rt.alloc())?.ok_or("format")?;
     let mut output = Vec::new(rt.alloc());
-    let served = serve_sockets(rt, rt.alloc(), disk, folder, 1, &mut output);
+    let served = serve_sockets(rt, rt.alloc(), disk, folder, 1, None, &mut output).served;
     Ok(served == Err(ServeFault::Net) && output.is_empty())
 }
 

@@ -1,5 +1,5 @@
 -- Consoles that are written one after the other, and rings in which nothing is left.
-use Rattle.std.proofs.Common.{◌≡◌, ◌≢◌, ◌<◌, ◌⊎◌, inl, inr, ◌∙◌, ◌++◌, ℕ, zero, suc, List, [], ◌∷◌, length, Option, Some, None, slice_get, refl, sym, ap, subst, rules, arith}
+use Rattle.std.proofs.Common.{◌≡◌, ◌≢◌, ◌<◌, ◌⊎◌, inl, inr, ◌∙◌, ◌++◌, ℕ, zero, suc, List, [], ◌∷◌, length, Option, Some, slice_get, refl, sym, ap, subst, rules, arith}
 use Rattle.std.specs.Prelude.{slice_set, IsSome}
 use Rattle.std.proofs.lemmas.List.{append-nil}
 use Rattle.std.proofs.lemmas.Option.{none-some, same_Some, slice_get_within}
@@ -22,7 +22,7 @@ use Rattle.alm_rings.specs.Placed.{SameInboxAt, inbox_at, taken_by, released_by}
 use Rattle.alm_seq.specs.Sequences.{SameInboxes}
 use Rattle.alm_threads.specs.Answered.{AllAnswered, IsSlotAnswered}
 use Rattle.alm_threads.specs.Finished.{HaveInboxes, IsAllAnswered, IsTaken}
-use Rattle.alm_threads.specs.Runs.{AreClosed, HasReport, IsClosed}
+use Rattle.alm_threads.specs.Runs.{AreClosed, IsClosed}
 use Rattle.alm_threads.specs.Same.{AllSame}
 use Rattle.alm_threads.specs.Slots.{AreTied}
 use Rattle.alm_threads.proofs.Serves.{some_still}

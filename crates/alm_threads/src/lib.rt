@@ -16,7 +16,7 @@
 //! |---|---|---|
 //! | of each slot | [`run_source`]: one turn of its [`Source`] after another | after a turn that returns [`Go::End`], or before one if all are to stop |
 //! | the sequencer's | [`run_sequencer`]: takes requests from each slot in turn, 14 in a row at most, and seals batches | all sources had ended, a pass took nothing, and the open batch is empty; or all are to stop |
-//! | the flusher's | [`run_flusher`]: commits, publishes and releases batches, and wakes the slots | no batch will be sealed and a fetch gave none; the device failed; or 1,000 publishes in a row were refused |
+//! | the flusher's | [`flush`]: commits, publishes and releases batches, and wakes the slots | no batch will be sealed and a fetch gave none; the device failed; or 1,000 publishes in a row were refused |
 //!
 //! When they seal, sleep and wake each other is alm_wake's, and no contract here rests on it.
 //!
@@ -28,21 +28,24 @@
 //! moment is in the run's history before anything is published by it. So each receipt and each look says of itself that what it
 //! reports stays on the device, whether the run ever returns or not.
 //!
-//! How that is had: each thread returns the ends that it was given. So the caller that joins them all has both ends of each ring
-//! again and may close the slots. A sequencer and a flusher are made in their threads, and what their types say holds throughout.
+//! A run that isn't whole has a [`StopCause`]. A failed step of the store is one only if the device failed, or in the last epoch.
 //!
-//! Not covered: that a run or a thread ever ends, that a request is ever answered, and time. After a fault the parts are lost, and
-//! the device must be opened again.
+//! How that is had: each thread returns the ends that it was given, the sequencer's in its sequencer. So the caller that joins
+//! them all has both ends of each ring again. It finishes what is left there ([`finish`]), until all is answered or the flusher
+//! has a cause, and closes the slots. If the threads ended by themselves nothing is left.
+//!
+//! Not covered: that a run or a thread ever ends, that a request is ever answered, and time. If the threads can't be started,
+//! [`run_with_bells`] returns the store as it was.
 //!
 //! Proved:
 //! - each thread returns the ends that it was given, at the join too; a source takes its turns at its own slot's console
 //!   (by `run_source`, `start_all`, `join_all`, `start_sequencer`)
 //! - what was taken and sealed is one legal history; what was stored a prefix of what was fetched, what was released a
-//!   prefix of that (by `run_sequencer`, `run_flusher`)
+//!   prefix of that (by `sequence`, `end_run`)
 //! - honest device, at the end: each image holds what is stored, or that with the one batch whose commit wasn't done (by
-//!   `run_flusher`)
+//!   `close_flusher`)
 //! - before and after each device call of the flusher's thread each image of an honest device holds a prefix of what was
-//!   fetched (by `run_flusher`)
+//!   fetched (by `close_flusher`)
 //! - the last moment is the one that is now; a moment comes before a publish, with all that it shows (by the type
 //!   `RecordedFlusher`, `publish`)
 //! - of a run that ended: one legal history of all that was taken; what is stored is a prefix of it, what was released a
@@ -53,6 +56,10 @@
 //!   and looks say it (by `run_with_bells`)
 //! - reports stand in the order of slots; whole is said exactly if the store goes on and all that was sent was taken and
 //!   answered (by `run_with_bells`, the type `RunReport`)
+//! - **a run that isn't whole has its cause: a failed step of the store, 1,000 refused publishes in a row, or no further
+//!   moment** (by `finish`, `RecordedFlusher::cause`, the type `RunReport`)
+//! - a step of the store fails only if the device failed, or in the last epoch (by `run_with_bells`)
+//! - a run that can't be started returns its store as it was (by `run_with_bells`)
 //! - any number of runs that ended, each opened on what a crash left of the one before, keep all that was reported (by
 //!   `laws::what_was_told_outlasts_outages`)
 #![tactic(auto)]

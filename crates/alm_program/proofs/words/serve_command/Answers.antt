@@ -8,4 +8,5 @@ returns c =
     let device : IsCommand (with_rule (new_app (codes "serve")) (wanted (codes "device"))) c.in_ok-above.above = search rules in
     let port = c.in_ok-above-2.ensures _ device in
     let sockets = c.in_ok-above-3.ensures _ port in
-    c.with_option-3.ensures _ sockets
+    let conns = c.in_ok-above-4.ensures _ sockets in
+    c.with_option-4.ensures _ conns

@@ -1,5 +1,4 @@
 use Rattle.std.proofs.Common.{◌⊎◌, ℕ, List, ◌++◌, ◌+◌, ◌∙◌, length, ap, refl, subst, sym}
-use Rattle.std.specs.Prelude.{◌↔◌}
 use Rattle.std.proofs.Math.Logic.{∥∥₁_map}
 use Rattle.alm_disk.specs.Device.{IsImage}
 use Rattle.alm_model.specs.Judging.{accepted_of, entries_in}

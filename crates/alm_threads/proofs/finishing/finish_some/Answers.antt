@@ -1,6 +1,6 @@
 use Rattle.std.proofs.Common.{◌≡◌, ◌∙◌, ◌++◌, [], sym, ap, subst}
 use Rattle.std.proofs.lemmas.List.{append-nil}
-use Rattle.alm_rings.specs.Batches.{coming_in, fetched_of, sealed_of}
+use Rattle.alm_rings.specs.Batches.{fetched_of, sealed_of}
 use Rattle.alm_rings.specs.Placed.{released_by, taken_by}
 use Rattle.alm_seq.specs.Sequences.{SealAnswers}
 use Rattle.alm_threads.specs.Finished.{AreTaken}

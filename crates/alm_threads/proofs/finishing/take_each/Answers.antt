@@ -1,11 +1,11 @@
-use Rattle.std.proofs.Common.{◌≡◌, ◌≢◌, ◌<◌, ◌+◌, ◌∙◌, ℕ, inl, inr, Some, refl, sym, ap, subst, arith, false}
-use Rattle.std.specs.Prelude.{IsSome, slice_get}
+use Rattle.std.proofs.Common.{◌≡◌, ◌<◌, ◌∙◌, inl, inr, Some, refl, sym, subst, arith}
+use Rattle.std.specs.Prelude.{IsSome}
 use Rattle.std.proofs.lemmas.Option.{slice_get_read, slice_get_within}
 use Rattle.rtrb.specs.Ring.{IsPair}
 use Rattle.alm_rings.specs.declared.console.Console.{Console}
 use Rattle.alm_rings.specs.declared.inbox.Inbox.{Inbox}
 use Rattle.alm_rings.specs.Ends.{SameConsole}
-use Rattle.alm_rings.specs.Placed.{inbox_at, taken_by}
+use Rattle.alm_rings.specs.Placed.{inbox_at}
 use Rattle.alm_rings.proofs.Slots.{same_inbox_at}
 use Rattle.alm_threads.specs.Finished.{IsTaken}
 use Rattle.alm_threads.proofs.Causes.{clash}

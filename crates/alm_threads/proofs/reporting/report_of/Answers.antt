@@ -1,4 +1,4 @@
-use Rattle.std.proofs.Common.{◌≡◌, ◌≢◌, ◌∙◌, Some, None, ap, sym, subst}
+use Rattle.std.proofs.Common.{◌≡◌, ◌≢◌, ◌∙◌, None, sym, subst}
 use Rattle.alm_store.specs.declared.phase.Phase.TheVariants.{Stopped}
 use Rattle.alm_threads.specs.Answered.{AllAnswered}
 use Rattle.alm_threads.proofs.Causes.{some_unless}

@@ -1,6 +1,6 @@
-use Rattle.std.proofs.Common.{◌∙◌, ℕ, ap, rules, subst, sym}
+use Rattle.std.proofs.Common.{◌∙◌, ℕ, ap, rules, subst}
 use Rattle.alm_model.specs.Plant.{Condensed}
-use Rattle.alm_rings.specs.Batches.{SameFetchEnds, SameSealEnds}
+use Rattle.alm_rings.specs.Batches.{SameSealEnds}
 use Rattle.alm_rings.specs.Placed.{SameOutboxAt, inbox_at, outbox_at}
 use Rattle.alm_seq.specs.Sequences.{SameInboxes}
 use Rattle.alm_threads.specs.Histories.{JudgesAll}

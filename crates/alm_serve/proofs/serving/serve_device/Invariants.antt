@@ -1,5 +1,5 @@
 use Rattle.alm_keeper.specs.AsStore.{StandsFor}
-use Rattle.alm_serve.proofs.serving.serve_at.Given as goal
+use Rattle.alm_serve.proofs.serving.serve_device.Given as goal
 
 -- the histories that were made, and what the store begins with
 abbrev pub ghosts-serve_over : goal.ghosts-serve_over

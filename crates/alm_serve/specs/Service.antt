@@ -1,0 +1,59 @@
+-- What a slot's service does in a step.
+use Rattle.std.specs.Prelude.{◌≡◌, ◌≢◌, ◌⊎◌, ◌≤◌, ◌<◌, ℕ, List, [], Option, None, Some, length}
+use Rattle.alm_model.specs.Plant.{Condensed}
+use Rattle.alm_rings.specs.declared.told.Told.{Ghosts}
+use Rattle.alm_rings.specs.declared.console.Console.{Console}
+use Rattle.alm_rings.specs.Ends.{sent_of, received_of}
+use Rattle.alm_session.specs.Draining.{IsDrained}
+use Rattle.alm_session.specs.Intakes.{Untaken}
+use Rattle.alm_session.specs.Turns.{IsTurn, Looks, SlotState}
+use Rattle.alm_session.specs.declared.turn.Turn.{Turn}
+use Rattle.alm_session.specs.declared.turn.Turn.TheVariants as turn
+use Rattle.alm_serve.specs.declared.connection.Connection.{Connection}
+use Rattle.alm_serve.specs.declared.connection.Connection.TheVariants.{Awaited, Open, Ended}
+use Rattle.alm_serve.specs.declared.served.Served.{Served}
+use Rattle.alm_serve.specs.declared.served.Served.TheVariants as served
+
+-- no byte has come, no action waits, and no byte is to be written
+abbrev pub IsFresh : Untaken → List ℕ → List ℕ → Type 0
+IsFresh held waiting left = (held ≡ record { line = None; held = []; rest = [] }) × (waiting ≡ []) × (left ≡ [])
+
+module _ {W : Type 0} where
+  -- the wire of an open connection
+  abbrev pub wire_of : Connection W → Option W
+  wire_of (Open wire) = Some wire
+  wire_of other = None
+
+  -- a connection, regardless of its wire
+  abbrev pub stage : Connection W → Connection (Unit {0})
+  stage Awaited = Awaited
+  stage (Open wire) = Open tt
+  stage Ended = Ended
+
+  -- what a turn of an open connection is to the caller, and what the connection is then, by the wire after the turn
+  abbrev pub TurnServes : Turn → W → Served W → Connection W → Type 0
+  TurnServes turn.Went now result connection = (result ≡ served.Went) × (connection ≡ Open now)
+  TurnServes turn.Idle now result connection = (result ≡ served.Idle) × (connection ≡ Open now)
+  TurnServes turn.Ended now result connection = (result ≡ served.Closed now) × (connection ≡ Ended)
+  TurnServes turn.Fault now result connection = (result ≡ served.Closed now) × (connection ≡ Ended)
+
+  module _ {T : Type 0} {g : Ghosts T} where
+    -- the next connection may begin once no request is unanswered
+    abbrev pub Settles : Served W → Connection W → Console T g → Type 0
+    Settles result connection console =
+        ((result ≡ served.Over) × (connection ≡ Awaited) × (length (sent_of console) ≤ length (received_of console)))
+        ⊎ ((result ≡ served.Idle) × (connection ≡ Ended) × (length (received_of console) < length (sent_of console)))
+
+-- an open connection has ended
+abbrev pub without_wire : Connection (Unit {0}) → Connection (Unit {0})
+without_wire (Open wire) = Ended
+without_wire other = other
+
+-- what a port does to its slot's side in a turn, by what its connection was and is, regardless of wires. Without a connection
+-- nothing is sent, received or learnt, and one that begins is fresh. With an open one it is a turn of the session. What an ended one
+-- leaves is received and dropped, nothing is sent, and the next one is awaited once no request is unanswered
+abbrev pub Attends : Looks → Condensed → (was now : Connection (Unit {0})) → (a b : SlotState) → Type 0
+Attends looks base Awaited now a b = (b.sent ≡ a.sent) × (b.heard ≡ a.heard) × (b.known ≡ a.known) × (now ≡ Open tt → IsFresh b.held b.waiting b.left)
+Attends looks base (Open wire) now a b = IsTurn looks base 0 a b × (now ≢ Awaited)
+Attends looks base Ended now a b =
+    (b.sent ≡ a.sent) × IsDrained base a.known a.heard b.known b.heard × (now ≢ Open tt) × (now ≡ Awaited → length b.sent ≤ length b.heard)
