@@ -16,7 +16,7 @@ PAGE = TOP / "docs" / "PROVED.md"
 GROUPS = {
     "Values, alarms, plants": ["alm_types", "alm_state", "alm_model", "alm_laws", "alm_links", "alm_wheel", "alm_measure", "alm_plant"],
     "Lines, the desk, the program": ["alm_lines", "alm_desk", "alm_export", "alm_table", "alm_program", "alm_server"],
-    "The device and what is stored": ["alm_disk", "alm_file", "alm_codec", "alm_segment", "alm_checkpoint", "alm_keeper", "alm_store"],
+    "The device and what is stored": ["alm_disk", "alm_file", "alm_codec", "alm_segment", "alm_checkpoint", "alm_store", "alm_keeper"],
     "From request to receipt": ["alm_rings", "alm_board", "alm_shared", "alm_seq", "alm_flush"],
     "One thread": ["alm_pipeline", "alm_bench", "alm_progress", "alm_stack"],
     "Threads and the server": ["alm_wake", "alm_moments", "alm_threads", "alm_session", "alm_serve"],
