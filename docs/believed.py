@@ -10,9 +10,10 @@ import re
 import sys
 from pathlib import Path
 
+import proved
+
 CRATES = Path(__file__).resolve().parent.parent / "crates"
 PAGE = Path(__file__).resolve().parent / "BELIEVED.md"
-PROVED = Path(__file__).resolve().parent / "PROVED.md"
 # The words that the contract of each call cites.
 CLAIMS = {
     "The server: `serve_run`": [
@@ -100,14 +101,12 @@ def cited(crate, call):
 
 
 def needed(specs):
-    """The files of definitions that a claim of docs/PROVED.md needs, or the headline."""
+    """The files of definitions that a claim of a root file needs, or the headline."""
     names = [name for names in CLAIMS.values() for name in names] + [name for crate in LAWS for name in cited(crate, "")]
-    for line in PROVED.read_text(encoding="utf-8").splitlines():
-        if line.startswith("| alm_"):
-            cells = line.split("|")
-            crates = re.findall(r"alm_\w+", cells[1] + cells[-2])
-            calls = {call for quoted in re.findall(r"`([^`]+)`", cells[-2]) for call in re.findall(r"\w+", quoted)}
-            names += [name for crate in crates for call in calls for name in cited(crate, call)]
+    for claimed in proved.crates():
+        for _, by in proved.claims(claimed):
+            calls = {call for quoted in re.findall(r"`([^`]+)`", by) for call in re.findall(r"\w+", quoted)}
+            names += [name for crate in [claimed, *re.findall(r"alm_\w+", by)] for call in calls for name in cited(crate, call)]
     return {file for file, _ in unfold(specs, names)}
 
 

@@ -4,7 +4,8 @@
     docs/proved.py             the page
     docs/proved.py --write     writes it
 
-A line is a claim, and in brackets the public calls or laws whose contracts carry it.
+A line is a claim, and in brackets the public calls or laws whose contracts carry it. The page has the first claim of each crate, or those of
+CHOSEN, each with the first calls that carry it; the root file has all.
 """
 import re
 import sys
@@ -15,11 +16,23 @@ PAGE = TOP / "docs" / "PROVED.md"
 GROUPS = {
     "Values, alarms, plants": ["alm_types", "alm_state", "alm_model", "alm_laws", "alm_links", "alm_wheel", "alm_measure", "alm_plant"],
     "Lines, the desk, the program": ["alm_lines", "alm_desk", "alm_export", "alm_table", "alm_program", "alm_server"],
-    "The device and what is stored": ["alm_disk", "alm_file", "alm_codec", "alm_segment", "alm_checkpoint", "alm_keeper", "alm_store"],
+    "The device and what is stored": ["alm_disk", "alm_file", "alm_codec", "alm_segment", "alm_checkpoint", "alm_store", "alm_keeper"],
     "From request to receipt": ["alm_rings", "alm_board", "alm_shared", "alm_seq", "alm_flush"],
     "One thread": ["alm_pipeline", "alm_bench", "alm_progress", "alm_stack"],
     "Threads and the server": ["alm_wake", "alm_moments", "alm_threads", "alm_session", "alm_serve"],
 }
+# How each claim begins that stands on the page in place of its crate's first one.
+CHOSEN = {
+    "alm_export": ["a plant is written as a table file"],
+    "alm_keeper": ["a crash at any moment of a commit", "opening returns the plant"],
+    "alm_shared": ["a look of the threads", "**what a receipt reports"],
+    "alm_flush": ["a verdict is released only if", "a commit waits for"],
+    "alm_bench": ["the headline", "fair rounds"],
+    "alm_moments": ["a moment follows the last", "**what is held at moments"],
+    "alm_threads": ["of a run that ended", "**its device went by single calls", "**at the end that prefix holds", "**a run that isn't whole"],
+    "alm_serve": ["over any wire a slot's service", "what the server writes", "**from a plant that an image", "it says that the storage stopped"],
+}
+MOST_CALLS = 3
 LISTED = re.compile(r"^//! Proved:\n((?://!.*\n)*)", re.MULTILINE)
 CLAIM = re.compile(r"(.*) \(by (.*)\)")
 # Where the tables stand on the page: after the first line and before the second.
@@ -43,16 +56,37 @@ def claims(crate):
         yield found.groups()
 
 
+def crates():
+    """The crates of which anything is claimed, in the order of the page."""
+    return [crate for group in GROUPS.values() for crate in group]
+
+
+def chosen(crate):
+    """Each claim of a crate that stands on the page, with what carries it."""
+    every = list(claims(crate)) or sys.exit(f"proved.py: {crate}: its root file claims nothing")
+    for begins in CHOSEN.get(crate, [every[0][0]]):
+        found = [(claim, by) for claim, by in every if claim.startswith(begins)]
+        if len(found) != 1:
+            sys.exit(f"proved.py: {crate}: {len(found)} claims begin: {begins}")
+        yield from found
+
+
+def shortened(by):
+    """The first calls of those that carry a claim."""
+    calls = by.split(", ")
+    return by if len(calls) <= MOST_CALLS else ", ".join(calls[:MOST_CALLS]) + " .."
+
+
 def tables():
     """The tables, each after its title."""
     unlisted = {path.parent.parent.name for path in TOP.glob("crates/*/src/*.rt") if LISTED.search(path.read_text(encoding="utf-8"))}
-    unlisted -= {crate for crates in GROUPS.values() for crate in crates}
+    unlisted -= set(crates())
     if unlisted:
         sys.exit(f"proved.py: in no group: {', '.join(sorted(unlisted))}")
-    for title, crates in GROUPS.items():
+    for title, group in GROUPS.items():
         yield f"\n**{title}**\n\n| crate | what is proved | by |\n|---|---|---|\n"
-        for crate in crates:
-            yield from (f"| {crate} | {claim} | {by} |\n" for claim, by in claims(crate))
+        for crate in group:
+            yield from (f"| {crate} | {claim} | {shortened(by)} |\n" for claim, by in chosen(crate))
 
 
 def page():

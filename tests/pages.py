@@ -5,7 +5,8 @@
 
 Each link to a file of the repository leads to one, and to a heading of it where it names one. Each block of Rust that a page of docs/ quotes
 stands in a source, whatever its spaces. The counts of wrong bodies and of crates below the program are the tree's, docs/BELIEVED.md is what the
-definitions unfold to, and its sums stand in docs/HEADLINE.md. Each call that docs/PROVED.md names as carrying a claim is one of its crate's sources.
+definitions unfold to, and its sums stand in docs/HEADLINE.md. docs/PROVED.md is what docs/proved.py makes of the root files, and each call that a
+root file names as carrying a claim is in the code of its crate or of those below it.
 """
 import re
 import subprocess
@@ -13,10 +14,14 @@ import sys
 from pathlib import Path
 
 TOP = Path(__file__).resolve().parent.parent
+sys.path.insert(0, str(TOP / "docs"))
+import proved as root_files  # noqa: E402
+
 PAGES = sorted([*TOP.glob("*.md"), *TOP.glob("docs/*.md"), *TOP.glob("tests/*.md"), *TOP.glob("examples/*.md"), *TOP.glob("clients/*.md"), *TOP.glob("bench/*.md")])
 LINK = re.compile(r"\[[^\]]*\]\(([^)\s]+)\)")
 RUST = re.compile(r"```rust\n(.*?)```", re.DOTALL)
 FENCE = re.compile(r"```.*?```", re.DOTALL)
+COMMENT = re.compile(r"//.*")
 QUOTED = re.compile(r"`([A-Za-z_][A-Za-z_0-9:]*)`")
 
 
@@ -107,16 +112,11 @@ def proved(found):
 
 
 def claims(found):
-    """The words in the last column of PROVED's table, each of a row's crates or of those below it."""
-    for line in text_of(TOP / "docs" / "PROVED.md").splitlines():
-        if not line.startswith("| alm_"):
-            continue
-        crates, by = line.split("|")[1].replace(",", " ").split(), line.split("|")[-2]
-        named = [*crates, *re.findall(r"in (alm_\w+)", by)]
-        below = set().union(*(crates_below(crate) for crate in named))
-        source = "".join(text_of(path) for crate in below for path in TOP.glob(f"crates/{crate}/src/**/*.rt"))
-        for word in {word for name in QUOTED.findall(by) for word in name.split("::")}:
-            found.check(re.search(rf"\b{word}\b", source), "docs/PROVED.md:", ", ".join(crates), "has no", word)
+    """The calls that carry the claims of each root file, each in the code of its crate or of those below it."""
+    for claimed in root_files.crates():
+        source = COMMENT.sub("", "".join(text_of(path) for crate in crates_below(claimed) for path in TOP.glob(f"crates/{crate}/src/**/*.rt")))
+        for word in {word for _, by in root_files.claims(claimed) for name in QUOTED.findall(by) for word in name.split("::")}:
+            found.check(re.search(rf"\b{word}\b", source), "the root file of", claimed, "names as what carries a claim:", word)
 
 
 def main():
