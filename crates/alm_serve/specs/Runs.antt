@@ -58,7 +58,7 @@ module _ {D : Type 0} (d : Disk.Ghosts D) (recovers : List ℕ → Condensed →
     pub settled : d.honest device → (place : ℕ) → (d.state opened).pending place ≡ false
 
   -- it wasn't opened, for its cause
-  pub record IsRefused (device back : D) (why : OpenFault) : Type 0 where
+  pub record IsNotOpened (device back : D) (why : OpenFault) : Type 0 where
     pub by : IsRefusedBy why d.serves device back
     pub failed : why ≡ fault.Disk → HasFailed (d.failures device) (d.failures back)
     pub cause : d.honest device → HasCause recovers (d.state device) why (d.failures device) (d.failures back)
@@ -80,5 +80,5 @@ module _ {D : Type 0} (d : Disk.Ghosts D) (recovers : List ℕ → Condensed →
 
   -- what became of a server's device, by its result
   abbrev pub ServeEnds : (device back : D) → Option StopCause → Result ℕ ServeFault → Type 0
-  ServeEnds device back why (Err (Open fault)) = IsRefused d recovers device back fault
+  ServeEnds device back why (Err (Open fault)) = IsNotOpened d recovers device back fault
   ServeEnds device back why result = (o : IsOpened d recovers device) × RunsBy o.base o.opened back why result

@@ -62,8 +62,9 @@
 //! - a connection has ended that begins as a request of HTTP, and no other has ended for its first bytes (by `FirstBytes`)
 //! - what the server writes, by how it ends, or a prefix if the writer fails; why a device isn't opened (by `serve_ports`,
 //!   `serve_sockets`)
-//! - **from a plant that an image of its device holds, a run of all 18 slots as said of alm_threads, up to the device that is
-//!   returned, which ended as is reported; else nothing was done with the open device** (by `serve_ports`, `serve_sockets`)
+//! - **from a plant that an image of its device holds, a run of all 18 slots as said of alm_threads, up to the device
+//!   returned** (by `serve_ports`, `serve_sockets`)
+//! - if nothing was run, the device is as an opening left it (by `serve_ports`, `serve_sockets`)
 //! - it says that the storage stopped only with the run's cause; if that is a failed step, an honest device failed or is at its
 //!   last epoch (by `serve_ports`, `serve_sockets`)
 #![tactic(auto)]

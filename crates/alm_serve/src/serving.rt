@@ -220,8 +220,8 @@ fn serve_over<
 
 /// Opens a device, serves its slots for `conns` connections in all, 0 without end, and returns the device.
 ///
-/// The steps, in this order: it opens the device, opens the slots, writes `serving` and what they listen at, starts the threads,
-/// and at the end writes `stopped N`: how many actions are stored.
+/// The steps, in this order: it opens the device, opens the slots, writes `serving` and what they listen at, and starts the threads.
+/// At the end it writes `stopped N`: how many actions are stored.
 ///
 /// In between the server's threads run. At each moment of that run, what a power failure leaves of an honest device
 /// encodes a prefix of the run's one history. The prefix contains every number that was released by then and all that a

@@ -7,7 +7,7 @@ use Rattle.alm_threads.specs.declared.stop_cause.StopCause.TheVariants.{Store, P
 abbrev pub most_refusals : ℕ
 most_refusals = 1000
 
--- a step of the store failed; so many publishes were refused in a row; or the history of moments took no further one
+-- a step of the store failed; 1,000 publishes in a row were refused; or the history of moments took no further one
 abbrev pub StopsFor : StopCause → (failed lost : Bool) → (refused : ℕ) → Type 0
 StopsFor Store failed lost refused = failed ≡ true
 StopsFor Publishing failed lost refused = most_refusals ≤ refused

@@ -18,10 +18,10 @@ module _ {T : Type 0} {g : Ghosts T} where
   abbrev pub IsTaken : Console T g → List Inbox → Type 0
   IsTaken c inboxes = (taken_by c.slot inboxes ≡ sent_of c) × (length (sent_of c) < 2 ^ 64)
 
-  abbrev pub AreTaken : List (Console T g) → List Inbox → Type 0
-  AreTaken consoles inboxes = (k : ℕ) (c : Console T g) → slice_get consoles k ≡ Some c → IsTaken c inboxes
+  abbrev pub AreAllTaken : List (Console T g) → List Inbox → Type 0
+  AreAllTaken consoles inboxes = (k : ℕ) (c : Console T g) → slice_get consoles k ≡ Some c → IsTaken c inboxes
 
   -- and all that was taken was answered
   pub record IsAllAnswered (consoles : List (Console T g)) (inboxes : List Inbox) (outboxes : List (Outbox T g)) : Type 0 where
-    pub taken : AreTaken consoles inboxes
+    pub taken : AreAllTaken consoles inboxes
     pub answered : (s : ℕ) → length (released_by s outboxes) ≡ length (taken_by s inboxes)

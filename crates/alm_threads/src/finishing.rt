@@ -7,7 +7,7 @@ ghost use Rattle.alm_rings.specs.Ends.{SameConsole};
 ghost use Rattle.alm_rings.specs.Placed.{SameOutboxAt, inbox_at, outbox_at, taken_by};
 ghost use Rattle.alm_seq.specs.Sequences.{SameInboxes, live_base};
 ghost use Rattle.alm_threads.specs.Causes.{StopsFor};
-ghost use Rattle.alm_threads.specs.Finished.{AreTaken, HaveInboxes, IsAllAnswered, IsTaken};
+ghost use Rattle.alm_threads.specs.Finished.{AreAllTaken, HaveInboxes, IsAllAnswered, IsTaken};
 ghost use Rattle.alm_threads.specs.Same.{AllSame};
 
 use crate::recorded_flusher::RecordedFlusher;
@@ -51,7 +51,7 @@ fn take_each<T: Told + Drop, P: Alarms + Drop>(
     ensures inboxes { SameInboxes sequencer.old.inboxes.items sequencer.new.inboxes.items }
     ensures ends { sequencer.new.ends ≡ sequencer.old.ends }
     ensures base { live_base sequencer.new ≡ live_base sequencer.old }
-    ensures none { result ≡ false → AreTaken consoles.new sequencer.new.inboxes.items }
+    ensures none { result ≡ false → AreAllTaken consoles.new sequencer.new.inboxes.items }
 {
     let mut found = false;
     for console in consoles.iter_mut() {
