@@ -1,6 +1,6 @@
 //! Serves the slots of a device.
 
-ghost use Rattle.std.specs.Prelude.{◌≡◌, ◌≤◌, ◌<◌, ◌^◌, decimal, length, map, Option, Ok, Err, IfOk};
+ghost use Rattle.std.specs.Prelude.{◌≡◌, ◌≢◌, ◌≤◌, ◌<◌, ◌^◌, decimal, length, map, Option, Ok, Err, IfOk};
 ghost use Rattle.alm_lines.specs.Written.{Prints};
 ghost use Rattle.alm_rings.specs.Placed.{AreApart};
 ghost use Rattle.alm_keeper.specs.AsStore.{IsLastEpoch, StandsFor};
@@ -122,9 +122,10 @@ fn run_parts<
 ) -> ServerEnd<K>
     requires ports { map (λ port. port.slot) ports.ports.items ≡ parts.slots.items }
     requires slots { AreAllSlots parts.slots.items }
-    ensures { RunsBy K.Device.Disk K.recovers K.spent
+    ensures ends { RunsBy K.Device.Disk K.recovers K.spent
         (K.state parts.entry.middle.flusher.store).stored
         (K.disk parts.entry.middle.flusher.store) (K.disk result.back) result.cause result.served }
+    ensures net { result.served ≢ Err ServeFault.Net }
 {
     let SlotPorts { ports, bells } = ports;
     match run_with_bells(rt, alloc, parts, &Free, bells, ports) {
@@ -150,8 +151,9 @@ fn run_behind<J: RunId + Send + Sync, K: Store, R: Threads + Wait + Clock + Sync
     requires apart { AreApart (λ s. s) slots.items }
     requires slots { AreAllSlots slots.items }
     requires ports { map (λ port. port.slot) ports.ports.items ≡ slots.items }
-    ensures { RunsBy K.Device.Disk K.recovers K.spent (K.state store).stored (K.disk store)
+    ensures ends { RunsBy K.Device.Disk K.recovers K.spent (K.state store).stored (K.disk store)
         (K.disk result.back) result.cause result.served }
+    ensures net { result.served ≢ Err ServeFault.Net }
 {
     match parts_of::<J, K, Free, R>(rt, alloc, new, store, slots, &Free) {
         Ok(parts) => run_parts::<J, Plant, K, R>(rt, alloc, parts, ports),

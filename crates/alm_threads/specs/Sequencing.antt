@@ -1,3 +1,4 @@
+-- For the proofs.
 -- A sequencer by the ends that it was made from.
 use Rattle.std.specs.Prelude.{◌≡◌}
 use Rattle.alm_model.specs.declared.alarms.Alarms.{Ghosts}

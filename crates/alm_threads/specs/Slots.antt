@@ -1,4 +1,3 @@
--- For the proofs.
 -- The ends of some slots.
 use Rattle.std.specs.Prelude.{◌≡◌, ℕ, List, [], slice_get, Some, IsSome}
 use Rattle.rtrb.specs.Ring.{IsPair}
