@@ -8,7 +8,10 @@ each call that they make and each way in which it may go wrong (preload.c lists 
 
 - the failure was reported, by the fault line that is due and its status, and the device wasn't called any more;
 - no reply was given that the device didn't keep: it stands for what was answered, or for that with the one line in doubt;
-- a desk over it goes on with the replies that it owes.
+- a desk over it goes on with the replies that it owes;
+- a `format` that was cut short can be done again.
+
+`format` also runs on a full disk, as root.
 
 Last, the script itself is tested: programs that ignore failures are refused.
 """
