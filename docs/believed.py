@@ -1,7 +1,8 @@
 #!/usr/bin/env python3
-"""Writes what a reader of the headline has to believe: each definition of specs/ to which its contracts unfold, by file.
+"""Writes what a reader of the headline has to believe: the definitions of specs/ to which its contracts unfold, counted by file.
 
     docs/believed.py > docs/BELIEVED.md        the page
+    docs/believed.py --names                   the same by name, for each contract apart
     docs/believed.py --check                   whether the page is that, and which files of specs/ no claim needs
     docs/believed.py --mark                    begins each of these files with the line that says so
     docs/believed.py CRATE.FILE:NAME ..        what these definitions unfold to
@@ -30,7 +31,7 @@ MARK = "-- For the proofs.\n"
 HEAD = """# What the headline unfolds to
 
 Whoever believes these definitions, and the Rust types that they name, need not read the code to know what [HEADLINE.md](HEADLINE.md) says. The
-page is made by `docs/believed.py`; a case or a field counts as the definition that it belongs to. *All* are all definitions of a file.
+page is made by `docs/believed.py`; with `--names` that prints which definitions they are. A case or a field counts as the definition that it belongs to.
 """
 BEGINS = re.compile(r"\s*(?:(?:pub|abbrev|unfoldable|opaque) )*(?:(?:pub|abbrev|unfoldable|opaque|record|data) )(\S+)")
 IMPORT = re.compile(r"\s*use Rattle\.(\w+)\.specs\.(\w+)\.\{(.*)\}")
@@ -118,27 +119,41 @@ def misplaced(specs, paths):
             yield file, path, file in wanted
 
 
-def table(specs, names):
+def by_file(specs, names):
+    """The definitions to which these unfold, in the order of their files: the names of each, and their lines."""
+    found = {}
+    for file, name in sorted(unfold(specs, names)):
+        found.setdefault(file, []).append(name)
+    return {file: (named, sum(len(specs[file].lines[name]) for name in named)) for file, named in found.items()}
+
+
+def sums(found):
+    """How much that is."""
+    return f"{len(found)} files, {sum(len(named) for named, _ in found.values())} definitions, {sum(lines for _, lines in found.values())} lines"
+
+
+def named_table(specs, names):
     """The files to which these definitions unfold, each with its definitions, and their counts."""
-    seen = unfold(specs, names)
-    lines, total = ["| file | definitions | lines |", "|---|---|---|"], 0
-    files = sorted({file for file, _ in seen})
-    for file in files:
-        named = sorted(name for holder, name in seen if holder == file)
-        count = sum(len(specs[file].lines[name]) for name in named)
-        total += count
-        crate, stem = file.split(".")
+    lines, found = ["| file | definitions | lines |", "|---|---|---|"], by_file(specs, names)
+    for file, (named, count) in found.items():
         others = sorted(specs[file].lines.keys() - set(named))
         quoted = lambda names: ", ".join(f"`{name}`" for name in names)
         which = "all" if not others else f"all but {quoted(others)}" if len(others) < len(named) else quoted(named)
-        lines.append(f"| [{crate}: {stem}](../crates/{crate}/specs/{stem}.antt) | {which} | {count} |")
-    return [*lines, "", f"{len(files)} files, {len(seen)} definitions, {total} lines"]
+        lines.append(f"| {file} | {which} | {count} |")
+    return [*lines, "", sums(found)]
 
 
 def page(specs):
-    """The whole page."""
-    parts = [line for title, names in CLAIMS.items() for line in ("", f"## {title}", "", *table(specs, names))]
-    return HEAD + "\n".join(parts) + "\n"
+    """The whole page: how much each contract unfolds to, and a line a file."""
+    found = {title: by_file(specs, names) for title, names in CLAIMS.items()}
+    lines = [line for title in found for line in ("", f"## {title}", "", sums(found[title]))]
+    lines += ["", "## By file", "", "Of the definitions of a file each contract needs this many:", ""]
+    lines += [f"| file | has | {' | '.join(title.partition(':')[0] for title in found)} |", "|---" * (len(found) + 2) + "|"]
+    for file in sorted({file for files in found.values() for file in files}):
+        crate, stem = file.split(".")
+        cells = [str(len(files[file][0])) if file in files else "" for files in found.values()]
+        lines.append(f"| [{crate} {stem}](../crates/{crate}/specs/{stem}.antt) | {len(specs[file].lines)} | {' | '.join(cells)} |")
+    return HEAD + "\n".join(lines) + "\n"
 
 
 def main(words):
@@ -154,8 +169,10 @@ def main(words):
         for _, path, is_needed in misplaced(specs, paths):
             text = path.read_text(encoding="utf-8")
             path.write_text(text.removeprefix(MARK) if is_needed else MARK + text, encoding="utf-8")
+    elif words == ["--names"]:
+        print("\n".join(line for title, names in CLAIMS.items() for line in (f"## {title}", "", *named_table(specs, names), "")))
     elif words:
-        print("\n".join(table(specs, words)))
+        print("\n".join(named_table(specs, words)))
     else:
         print(page(specs), end="")
 
