@@ -27,12 +27,11 @@ CHOSEN = {
     "alm_keeper": ["a crash at any moment of a commit", "opening returns the plant"],
     "alm_shared": ["a look of the threads", "**what a receipt reports"],
     "alm_flush": ["a verdict is released only if", "a commit waits for"],
-    "alm_bench": ["the headline", "fair rounds"],
     "alm_moments": ["a moment follows the last", "**what is held at moments"],
     "alm_threads": ["of a run that ended", "**its device went by single calls", "**at the end that prefix holds", "**a run that isn't whole"],
-    "alm_serve": ["over any wire a slot's service", "what the server writes", "**from a plant that an image", "it says that the storage stopped"],
+    "alm_serve": ["over any wire a slot's service", "what the server writes", "**from a plant that an image"],
 }
-MOST_CALLS = 3
+MOST_CALLS = 2
 LISTED = re.compile(r"^//! Proved:\n((?://!.*\n)*)", re.MULTILINE)
 CLAIM = re.compile(r"(.*) \(by (.*)\)")
 # Where the tables stand on the page: after the first line and before the second.
