@@ -26,8 +26,8 @@ CHOSEN = {
     "alm_export": ["a plant is written as a table file"],
     "alm_keeper": ["a crash at any moment of a commit", "opening returns the plant"],
     "alm_shared": ["a look of the threads", "**what a receipt reports"],
-    "alm_flush": ["a verdict is released only if", "a commit waits for"],
-    "alm_moments": ["a moment follows the last", "**what is held at moments"],
+    "alm_flush": ["a verdict is released only if"],
+    "alm_moments": ["**what is held at moments"],
     "alm_threads": ["of a run that ended", "**its device went by single calls", "**at the end that prefix holds", "**a run that isn't whole"],
     "alm_serve": ["over any wire a slot's service", "what the server writes", "**from a plant that an image"],
 }
