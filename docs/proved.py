@@ -28,7 +28,7 @@ CHOSEN = {
     "alm_shared": ["a look of the threads", "**what a receipt reports"],
     "alm_flush": ["a verdict is released only if"],
     "alm_moments": ["**what is held at moments"],
-    "alm_threads": ["of a run that ended", "**its device went by single calls", "**at the end that prefix holds", "**a run that isn't whole"],
+    "alm_threads": ["of a run that ended", "**single calls led from", "**that prefix reaches", "**a run that isn't whole"],
     "alm_serve": ["over any wire a slot's service", "what the server writes", "**from a plant that an image"],
 }
 MOST_CALLS = 2

@@ -65,7 +65,7 @@ leads_on safe m (n ∷ moments) next l follows is = (l.0, l.1, leads_on safe n m
 
 -- the floor never falls
 rises : (m n : RecordedMoment) → IsNextMoment m n → m.floor ≤ n.floor
-rises m n f = ⊎_elim (λ c. omega (arith, c.2)) (λ s. s.3) f
+rises m n f = ⊎_elim (λ c. omega (arith, c.2)) (λ s. s.4) f
 
 last_rises : (safe : RecordedMoment → Type 0) (m : RecordedMoment) (moments : List RecordedMoment) → FollowOn safe m moments → m.floor ≤ (last_of m moments).floor
 last_rises safe m [] l = omega arith
@@ -83,7 +83,7 @@ prefix_trans xs ys zs p q = (p.0 ++ q.0, sym (append_assoc xs p.0 q.0) ∙ (ap (
 
 -- and so does what was accepted
 grows : (m n : RecordedMoment) → IsNextMoment m n → IsPrefix m.accepted n.accepted
-grows m n f = ⊎_elim (λ c. subst (λ (l : List Action). IsPrefix m.accepted l) (sym c.1) (prefix_self m.accepted)) (λ s. s.2) f
+grows m n f = ⊎_elim (λ c. subst (λ (l : List Action). IsPrefix m.accepted l) (sym c.1) (prefix_self m.accepted)) (λ s. s.3) f
 
 last_grows : (safe : RecordedMoment → Type 0) (m : RecordedMoment) (moments : List RecordedMoment) → FollowOn safe m moments → IsPrefix m.accepted (last_of m moments).accepted
 last_grows safe m [] l = prefix_self m.accepted
@@ -137,7 +137,7 @@ last_is m (n ∷ moments) next = last_is n moments next
 
 -- one call of the device was made
 pub by_call : (m : RecordedMoment) (d e : DeviceState) (accepted : List Action) (floor : ℕ) → m ≡ moment_of d accepted floor → IsCall d e → IsNextMoment m (moment_of e accepted floor)
-by_call m d e accepted floor is call = inl ((d, e, (ap (λ x. x.bytes) is, ap (λ x. x.pending) is), (refl, refl), call), sym (ap (λ x. x.accepted) is), sym (ap (λ x. x.floor) is))
+by_call m d e accepted floor is call = inl ((d, e, (ap (λ x. x.bytes) is, ap (λ x. x.pending) is, ap (λ x. x.faulted) is), (refl, refl, refl), call), sym (ap (λ x. x.accepted) is), sym (ap (λ x. x.floor) is))
 
 -- none was made: more may have been accepted, and the floor raised
 pub by_none : (m : RecordedMoment) (d e : DeviceState) (accepted more : List Action) (floor higher : ℕ) → m ≡ moment_of d accepted floor → e ≡ d → IsPrefix accepted more → floor ≤ higher → IsNextMoment m (moment_of e more higher)
@@ -145,6 +145,7 @@ by_none m d e accepted more floor higher is same front le =
     inr (
       ap (λ x. x.bytes) same ∙ sym (ap (λ x. x.bytes) is),
       ap (λ x. first_values (length x.bytes) x.pending) same ∙ sym (ap (λ x. x.pending) is),
+      ap (λ x. x.faulted) same ∙ sym (ap (λ x. x.faulted) is),
       subst (λ (l : List Action). IsPrefix l more) (sym (ap (λ x. x.accepted) is)) front,
       omega (arith, ap (λ x. x.floor) is, le),
     )
@@ -153,6 +154,13 @@ by_none m d e accepted more floor higher is same front le =
 pub last_taken : (base : Condensed) (first : DeviceState) (old new : List RecordedMoment) (m : RecordedMoment) (taken lost : Bool) → lost ≡ not taken → MatchBool taken (new ≡ old ++ m ∷ []) (new ≡ old) → lost ≡ false → now_of base first new ≡ m
 last_taken base first old new m true lost is grown stays = ap (λ (l : List RecordedMoment). now_of base first l) grown ∙ last_is (opening_moment base first) old m
 last_taken base first old new m false lost is grown stays = absurd (cc (is, stays))
+
+-- a moment that the history didn't take follows all the same
+pub last_lost : (honest : Type 0) (recovers : List ℕ → Condensed → Type 0) (base : Condensed) (first : DeviceState) (old new : List RecordedMoment) (m : RecordedMoment) (taken lost : Bool)
+    → lost ≡ not taken → MatchBool taken (new ≡ old ++ m ∷ []) (new ≡ old) → AreMoments honest recovers base first (old ++ m ∷ []) → lost ≡ true
+    → AreMoments honest recovers base first (new ++ m ∷ [])
+last_lost honest recovers base first old new m true lost is grown safe set = absurd (cc (is, set))
+last_lost honest recovers base first old new m false lost is stays safe set = subst (λ (l : List RecordedMoment). AreMoments honest recovers base first (l ++ m ∷ [])) (sym stays) safe
 
 -- what a store says of its images, of a run that is named after it
 pub stands_safe : (recovers kept : List ℕ → Condensed → Type 0)

@@ -16,15 +16,15 @@ first_values (suc n) f = f 0 ∷ first_values n (λ k. f (suc k))
 
 -- this device, with these accepted actions and this floor
 abbrev pub moment_of : DeviceState → List Action → ℕ → RecordedMoment
-moment_of d accepted floor = record { bytes = d.bytes; pending = first_values (length d.bytes) d.pending; accepted = accepted; floor = floor }
+moment_of d accepted floor = record { bytes = d.bytes; pending = first_values (length d.bytes) d.pending; faulted = d.faulted; accepted = accepted; floor = floor }
 
 -- the device at a moment
 abbrev pub device_at : RecordedMoment → DeviceState
-device_at m = record { bytes = m.bytes; pending = λ place. get_or m.pending place false; faulted = false }
+device_at m = record { bytes = m.bytes; pending = λ place. get_or m.pending place false; faulted = m.faulted }
 
 -- a device is this one at the moment
 abbrev pub IsDevice : DeviceState → RecordedMoment → Type 0
-IsDevice d m = (m.bytes ≡ d.bytes) × (m.pending ≡ first_values (length d.bytes) d.pending)
+IsDevice d m = (m.bytes ≡ d.bytes) × (m.pending ≡ first_values (length d.bytes) d.pending) × (m.faulted ≡ d.faulted)
 
 -- one call of the device was made
 abbrev pub IsCalled : RecordedMoment → RecordedMoment → Type 0
@@ -33,7 +33,7 @@ IsCalled m n = (d e : DeviceState) × IsDevice d m × IsDevice e n × IsCall d e
 -- the next moment: one call of the device was made; or none, and actions may have been accepted, or the floor raised
 abbrev pub IsNextMoment : RecordedMoment → RecordedMoment → Type 0
 IsNextMoment m n = (IsCalled m n × (n.accepted ≡ m.accepted) × (n.floor ≡ m.floor))
-    ⊎ ((n.bytes ≡ m.bytes) × (n.pending ≡ m.pending) × IsPrefix m.accepted n.accepted × (m.floor ≤ n.floor))
+    ⊎ ((n.bytes ≡ m.bytes) × (n.pending ≡ m.pending) × (n.faulted ≡ m.faulted) × IsPrefix m.accepted n.accepted × (m.floor ≤ n.floor))
 
 -- these moments follow one another after the first, each of them safe
 abbrev pub FollowOn : (RecordedMoment → Type 0) → RecordedMoment → List RecordedMoment → Type 0

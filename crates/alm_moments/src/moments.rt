@@ -93,15 +93,19 @@ impl<J: RunId> Moments<J> {
         }
     }
 
-    /// Adds the moment that is now. Nothing changes if the history is longer than this prefix, or has no room.
+    /// Adds the moment that is now. Nothing changes if the history is longer than this prefix, or has no room; the moment follows
+    /// then all the same.
     pub fn extend<K: Store>(&mut self, length: &MomentsLength<J>, now: &CurrentState<'_, K>) -> bool
         requires moments { AreMoments J.honest J.recovers J.base J.first
             (self.old ++ moment_of (K.Device.state (K.disk now.now.store.now))
             (accepted_of (entries_in (fetched_of now.now.fetch.now))) now.now.floor ∷ []) }
-        ensures { MatchBool result
+        ensures taken { MatchBool result
             (self.new ≡ self.old ++ moment_of (K.Device.state (K.disk now.now.store.now))
             (accepted_of (entries_in (fetched_of now.now.fetch.now))) now.now.floor ∷ [])
             (self.new ≡ self.old) }
+        ensures safe { AreMoments J.honest J.recovers J.base J.first
+            (self.old ++ moment_of (K.Device.state (K.disk now.now.store.now))
+            (accepted_of (entries_in (fetched_of now.now.fetch.now))) now.now.floor ∷ []) }
     {
         let len = self.len;
         if len == u64::MAX {

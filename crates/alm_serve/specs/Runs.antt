@@ -4,6 +4,7 @@ use Rattle.alm_disk.specs.Device.{DeviceState, IsImage}
 use Rattle.alm_disk.specs.Failures.{HasFailed}
 use Rattle.alm_disk.specs.declared.disk.Disk
 use Rattle.alm_model.specs.Plant.{Condensed}
+use Rattle.alm_moments.specs.declared.recorded_moment.RecordedMoment.{RecordedMoment}
 use Rattle.alm_rings.specs.declared.slot_report.SlotReport.{SlotReport}
 use Rattle.alm_store.specs.Calls.{IsRefusedBy, OpensBy}
 use Rattle.alm_store.specs.Opening.{HasCause}
@@ -41,7 +42,8 @@ module _ {D : Type 0} (d : Disk.Ghosts D) (recovers : List ℕ → Condensed →
     pub phase : Phase
     pub reports : List (Option SlotReport)
     pub end : ended phase reports
-    pub run : IsServerRun (LeavesOneOf (d.honest from) (d.honest to) recovers (d.state to)) (Endures (d.honest from) recovers base (d.state from) (d.state to)) base slots stored reports
+    pub history : List RecordedMoment
+    pub run : IsServerRun (LeavesOneOf (d.honest from) (d.honest to) recovers (d.state to)) (Endures (d.honest from) recovers base (d.state from) (d.state to) history) base slots stored reports
 
   -- it was whole
   abbrev pub RunsWhole : Condensed → (from to : D) → (count : ℕ) → Type 0

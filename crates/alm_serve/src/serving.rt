@@ -79,7 +79,7 @@ fn all_slots(alloc: Global) -> Result<Vec<Slot>, AllocError>
 }
 
 /// How a run has ended, by its report.
-fn end_of<K: Store>(report: RunReport<K>) -> ServerEnd<K>
+fn end_of<K: Store, J: RunId>(report: RunReport<K, J>) -> ServerEnd<K>
     ensures whole { report.storage ≡ Storage.Whole →
         result.served ≡ Ok (K.state report.keeper).stored.panel.count }
     ensures stopped { report.storage ≡ Storage.Stopped → result.served ≡ Err ServeFault.Storage }
@@ -93,6 +93,7 @@ fn end_of<K: Store>(report: RunReport<K>) -> ServerEnd<K>
         storage,
         slots: _,
         cause,
+        moments: _,
     } = report;
     // for the proof: the contract of `images` says when a device is at its last epoch
     keeper.images();
@@ -226,7 +227,7 @@ fn serve_over<
 /// At the end it writes `stopped N`: how many actions are stored.
 ///
 /// In between the server's threads run. At each moment of that run, what a power failure leaves of an honest device
-/// encodes a prefix of the run's one history. The prefix contains every number that was released by then and all that a
+/// encodes a prefix of what was accepted by then. The prefix contains every number that was released by then and all that a
 /// query can have shown. If nothing was run, the device is as an opening leaves it.
 fn serve_device<D: Disk + Drop, L: Listen<R>, W: io::Write, R: Threads + Wait + Clock + Sync>(
     rt: &R,

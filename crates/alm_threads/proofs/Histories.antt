@@ -7,7 +7,7 @@ use Rattle.alm_types.specs.Batches.{Judged}
 use Rattle.alm_model.specs.Judging.{entries_in}
 use Rattle.alm_model.specs.Plant.{Condensed}
 use Rattle.alm_model.proofs.Legal.{entries_append}
-use Rattle.alm_flush.specs.HeldBatch.{batches_of, stored_of, released_entries, waiting_of}
+use Rattle.alm_flush.specs.HeldBatch.{batches_of, published_entries, stored_of, released_entries, waiting_of}
 use Rattle.alm_flush.specs.declared.held.Held.{Held}
 use Rattle.alm_flush.specs.declared.held.Held.TheVariants.{Nothing, Fetched, Failed, Committed, Published}
 
@@ -25,6 +25,13 @@ told_front (Failed b) = ([], refl)
 told_front (Committed b) = (b.entries, refl)
 told_front (Published b n) = (drop n b.entries, take-append-drop n b.entries)
 
+shown_front : (h : Held) → IsPrefix (released_entries h) (published_entries h)
+shown_front Nothing = ([], refl)
+shown_front (Fetched b) = ([], refl)
+shown_front (Failed b) = ([], refl)
+shown_front (Committed b) = ([], refl)
+shown_front (Published b n) = (drop n b.entries, take-append-drop n b.entries)
+
 behind : {A : Type 0} (xs ys zs : List A) → IsPrefix ys zs → IsPrefix (xs ++ ys) (xs ++ zs)
 behind xs ys zs front = (front.0, append_assoc xs ys front.0 ∙ ap (λ l. xs ++ l) front.1)
 
@@ -35,6 +42,9 @@ kept_front before h fetched is =
 
 pub told_kept : (before : List Judged) (h : Held) → IsPrefix (entries_in before ++ released_entries h) (entries_in before ++ stored_of h)
 told_kept before h = behind (entries_in before) (released_entries h) (stored_of h) (told_front h)
+
+pub told_shown : (before : List Judged) (h : Held) → IsPrefix (entries_in before ++ released_entries h) (entries_in before ++ published_entries h)
+told_shown before h = behind (entries_in before) (released_entries h) (published_entries h) (shown_front h)
 
 waiting_front : (h : Held) → IsPrefix (stored_of h ++ waiting_of h) (entries_in (batches_of h))
 waiting_front Nothing = ([], refl)

@@ -98,25 +98,23 @@ advance_le A.TheVariants.Nothing p (Published b n) new a = same_le (Published b 
 pub stored_by_advance : (before : List Entry) (r : A.Advance) (p : Phase) (old new : Held) → AdvanceAnswers r p old new → length (accepted_of (before ++ stored_of old)) ≤ length (accepted_of (before ++ stored_of new))
 stored_by_advance before r p old new a = kept_le before old new (advance_le r p old new a)
 
-publish_le : (r : P.Publishes) (old new : Held) → PublishAnswers r old new → length (accepted_of (stored_of old)) ≤ length (accepted_of (stored_of new))
-publish_le P.TheVariants.Published Nothing new a = absurd a
-publish_le P.TheVariants.Published (Fetched b) new a = absurd a
-publish_le P.TheVariants.Published (Failed b) new a = absurd a
-publish_le P.TheVariants.Published (Committed b) new a = omega (arith, ap (λ x. length (accepted_of (stored_of x))) a)
-publish_le P.TheVariants.Published (Published b n) new a = absurd a
-publish_le P.TheVariants.OutOfMemory Nothing new a = absurd a
-publish_le P.TheVariants.OutOfMemory (Fetched b) new a = absurd a
-publish_le P.TheVariants.OutOfMemory (Failed b) new a = absurd a
-publish_le P.TheVariants.OutOfMemory (Committed b) new a = same_le (Committed b) new a
-publish_le P.TheVariants.OutOfMemory (Published b n) new a = absurd a
-publish_le P.TheVariants.NotYet Nothing new a = same_le Nothing new a
-publish_le P.TheVariants.NotYet (Fetched b) new a = same_le (Fetched b) new a
-publish_le P.TheVariants.NotYet (Failed b) new a = same_le (Failed b) new a
-publish_le P.TheVariants.NotYet (Committed b) new a = absurd a
-publish_le P.TheVariants.NotYet (Published b n) new a = same_le (Published b n) new a
-
-pub stored_by_publish : (before : List Entry) (r : P.Publishes) (old new : Held) → PublishAnswers r old new → length (accepted_of (before ++ stored_of old)) ≤ length (accepted_of (before ++ stored_of new))
-stored_by_publish before r old new a = kept_le before old new (publish_le r old new a)
+-- a publish leaves what is stored
+pub stored_by_publish : (r : P.Publishes) (old new : Held) → PublishAnswers r old new → stored_of new ≡ stored_of old
+stored_by_publish P.TheVariants.Published Nothing new a = absurd a
+stored_by_publish P.TheVariants.Published (Fetched b) new a = absurd a
+stored_by_publish P.TheVariants.Published (Failed b) new a = absurd a
+stored_by_publish P.TheVariants.Published (Committed b) new a = ap stored_of a
+stored_by_publish P.TheVariants.Published (Published b n) new a = absurd a
+stored_by_publish P.TheVariants.OutOfMemory Nothing new a = absurd a
+stored_by_publish P.TheVariants.OutOfMemory (Fetched b) new a = absurd a
+stored_by_publish P.TheVariants.OutOfMemory (Failed b) new a = absurd a
+stored_by_publish P.TheVariants.OutOfMemory (Committed b) new a = ap stored_of a
+stored_by_publish P.TheVariants.OutOfMemory (Published b n) new a = absurd a
+stored_by_publish P.TheVariants.NotYet Nothing new a = ap stored_of a
+stored_by_publish P.TheVariants.NotYet (Fetched b) new a = ap stored_of a
+stored_by_publish P.TheVariants.NotYet (Failed b) new a = ap stored_of a
+stored_by_publish P.TheVariants.NotYet (Committed b) new a = absurd a
+stored_by_publish P.TheVariants.NotYet (Published b n) new a = ap stored_of a
 
 pass_same : (h : Held) → stored_of (after_release h) ≡ stored_of h
 pass_same Nothing = refl

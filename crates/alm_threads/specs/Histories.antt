@@ -43,7 +43,7 @@ module _ {T : Type 0} {g : Ghosts T} where
   -- from this base: what is stored is a prefix of the fetched entries, what was released a prefix of those that are stored. Of
   -- each slot the receipts have the serials and verdicts of its entries, in order, and no number above what is stored. The device
   -- is left with the stored plant, or with that and the entries that come next, of the batch whose commit wasn't done. It came
-  -- there by moments at each of which it encodes a prefix of the fetched actions that contains all that was released
+  -- there by moments at each of which it encodes a prefix of what was fetched by then, at the last one with all that was released
   pub record Flushed (leaves : Condensed → Condensed → Type 0) (endures : List Action → ℕ → Type 0) (base stored : Condensed) (outboxes : List (Outbox T g)) (fetch : FetchEnds) : Type 0 where
     pub kept : List Entry
     pub fetched : IsPrefix kept (entries_in (fetched_of fetch))

@@ -17,6 +17,7 @@ use Rattle.alm_threads.specs.declared.stop_cause.StopCause.{StopCause}
 use Rattle.alm_threads.specs.declared.stop_cause.StopCause.TheVariants as cause
 use Rattle.alm_threads.specs.Finished.{IsAllAnswered}
 use Rattle.alm_threads.specs.Histories.{JudgesAll, Flushed, LeavesOneOf}
+use Rattle.alm_moments.specs.declared.recorded_moment.RecordedMoment.{RecordedMoment}
 use Rattle.alm_threads.specs.Moments.{Endures}
 use Rattle.alm_threads.specs.Same.{AllSame}
 use Rattle.alm_threads.specs.Serving.{ServesSlots}
@@ -44,28 +45,29 @@ module _ {K D : Type 0} (k : Ghosts K D) (d : Disk.Ghosts D) where
   FailsForCause why before after = why ≡ Some cause.Store → ¬ (k.exhausted after) → ∥ HasFailed (d.failures (k.disk before)) (d.failures (k.disk after)) ∥₁
 
 module _ {K D T : Type 0} (k : Ghosts K D) (d : Disk.Ghosts D) {t : Told.Ghosts T} where
-  -- a flusher's parts after a run that began with this store
-  abbrev pub HaveFlushed : K → FlusherParts K T D t → Type 0
-  HaveFlushed before after = Flushed (LeavesOneOf (d.honest (k.disk before)) (d.honest (k.disk after.store)) k.recovers (d.state (k.disk after.store)))
-      (Endures (d.honest (k.disk before)) k.recovers (k.state before).stored (d.state (k.disk before)) (d.state (k.disk after.store)))
+  -- a flusher's parts after a run that began with this store and has this history of moments
+  abbrev pub HaveFlushed : K → List RecordedMoment → FlusherParts K T D t → Type 0
+  HaveFlushed before history after = Flushed (LeavesOneOf (d.honest (k.disk before)) (d.honest (k.disk after.store)) k.recovers (d.state (k.disk after.store)))
+      (Endures (d.honest (k.disk before)) k.recovers (k.state before).stored (d.state (k.disk before)) (d.state (k.disk after.store)) history)
       (k.state before).stored (k.state after.store).stored after.outboxes.items after.fetch
 
   -- a flusher's ends are the same, and the store went from the one to the other
-  pub record AreFlushed (before after : FlusherParts K T D t) : Type 0 where
+  pub record AreFlushed (history : List RecordedMoment) (before after : FlusherParts K T D t) : Type 0 where
     pub outboxes : (s : ℕ) → SameOutboxAt (outbox_at s before.outboxes.items) (outbox_at s after.outboxes.items)
     pub fetch : SameFetchEnds before.fetch after.fetch
-    pub flushed : HaveFlushed before.store after
+    pub flushed : HaveFlushed before.store history after
 
+module _ {K D T J : Type 0} (k : Ghosts K D) (d : Disk.Ghosts D) {t : Told.Ghosts T} where
   -- a run ended for its cause, or all was answered. A store that has stopped is the cause
-  pub record EndForCause (ends : Ends K T D t) : Type 0 where
+  pub record EndForCause (ends : Ends K T J D t) : Type 0 where
     pub stopped : (k.state ends.flusher.store).phase ≡ Stopped → ends.cause ≡ Some cause.Store
     pub answered : ends.cause ≡ None → IsAllAnswered ends.consoles.items ends.rings.inboxes.items ends.flusher.outboxes.items
 
   -- all ends of a run, as its threads returned them
-  pub record AreBack (consoles : List (Console T t)) (rings : Rings) (flusher : FlusherParts K T D t) (ends : Ends K T D t) : Type 0 where
+  pub record AreBack (consoles : List (Console T t)) (rings : Rings) (flusher : FlusherParts K T D t) (ends : Ends K T J D t) : Type 0 where
     pub same : AllSame consoles ends.consoles.items
     pub judged : AreJudged (k.state flusher.store).stored rings ends.rings
-    pub flushed : AreFlushed flusher ends.flusher
+    pub flushed : AreFlushed k d ends.moments flusher ends.flusher
     pub tied : AreTied ends.consoles.items ends.rings.inboxes.items ends.flusher.outboxes.items
     pub batches : AreBatchEnds ends.rings.ends ends.flusher.fetch
     pub end : EndForCause ends

@@ -14,6 +14,7 @@ use Rattle.alm_rings.specs.declared.slot_report.SlotReport.{SlotReport}
 use Rattle.alm_rings.specs.declared.told.Told.{Ghosts}
 use Rattle.alm_rings.specs.Ends.{sent_of, received_of}
 use Rattle.alm_rings.specs.Placed.{taken_by, released_by}
+use Rattle.alm_moments.specs.declared.run_id.RunId
 use Rattle.alm_store.specs.declared.store.Store
 use Rattle.alm_threads.specs.declared.report.RunReport.{RunReport}
 use Rattle.alm_threads.specs.Histories.{LeavesOneOf}
@@ -44,8 +45,8 @@ module _ {T : Type 0} {g : Ghosts T} where
 -- from this base: what was taken of all slots is one legal history, as of a single thread. The store holds a prefix of it, and
 -- what was released is a prefix of that. Each slot's report, in the order of the slots, counts its entries in these lists. The
 -- device is left with the stored plant, or with that and the next entries of the history, of the one batch whose commit wasn't
--- done. It came there by moments at each of which it encodes a prefix of the history that contains all that was released or
--- published by then
+-- done. It came there by moments at each of which it encodes a prefix of what was accepted by then. The prefix contains all that
+-- may be reported by then, at the last all that was released
 pub record IsServerRun (leaves : Condensed → Condensed → Type 0) (endures : List Action → ℕ → Type 0) (base : Condensed) (slots : List ℕ) (stored : Condensed) (reports : List (Option SlotReport)) : Type 0 where
   pub entries : List Entry
   pub legal : IsLegal base entries
@@ -61,11 +62,11 @@ pub record IsServerRun (leaves : Condensed → Condensed → Type 0) (endures : 
   pub count : length reports ≡ length slots
   pub each : (k s : ℕ) → slice_get slots k ≡ Some s → (sent received : ℕ) × HasReport reports k sent (length (of_slot s entries)) (length (of_slot s told)) received
 
-module _ {K D : Type 0} (k : Store.Ghosts K D) (d : Disk.Ghosts D) where
+module _ {K D J : Type 0} (k : Store.Ghosts K D) (d : Disk.Ghosts D) {j : RunId.Ghosts J} where
   -- a run of these slots over this store, by its report. It stopped because a step of the store failed only if the device failed,
   -- or in the last epoch
-  pub record IsRunOver (store : K) (slots : List ℕ) (report : RunReport K D k d) : Type 0 where
+  pub record IsRunOver (store : K) (slots : List ℕ) (report : RunReport K J D k d j) : Type 0 where
     pub run : IsServerRun (LeavesOneOf (d.honest (k.disk store)) (d.honest (k.disk report.keeper)) k.recovers (d.state (k.disk report.keeper)))
-        (Endures (d.honest (k.disk store)) k.recovers (k.state store).stored (d.state (k.disk store)) (d.state (k.disk report.keeper)))
+        (Endures (d.honest (k.disk store)) k.recovers (k.state store).stored (d.state (k.disk store)) (d.state (k.disk report.keeper)) report.moments)
         (k.state store).stored slots (k.state report.keeper).stored report.slots.items
     pub failed : FailsForCause k d report.cause store report.keeper

@@ -34,33 +34,32 @@ fn rings_of<P: Alarms + Drop>(sequencer: Sequencer<P>) -> Rings
     Rings { inboxes, ends }
 }
 
-/// Closes the board, and returns the other parts of a flusher. Whatever a crash leaves of the device then encodes what is stored,
-/// or that with the batch whose commit wasn't done. Before and after each of its calls it encoded a prefix of what was fetched,
-/// which contains all that had been released or published by then.
+/// Closes the board, and returns the other parts of a flusher, and its history. Whatever a crash leaves of the device then encodes
+/// what is stored, or that with the batch whose commit wasn't done. Before and after each of its calls it encoded a prefix of what
+/// had been fetched by then, which contains all that had been released or published.
 pub fn close_flusher<
     K: Store,
     T: Told + Drop,
     B: Board<Told = T> + Publish<R, Moments<J>> + Closes<R>,
     J: RunId,
     R: Wait,
->(rt: &R, flusher: RecordedFlusher<K, T, B, J>) -> FlusherParts<K, T>
+>(rt: &R, flusher: RecordedFlusher<K, T, B, J>) -> (FlusherParts<K, T>, Moments<J>)
     requires base { (K.state flusher.first.value).stored ≡ B.Board.base flusher.flusher.board }
     requires honest { K.Device.honest (K.disk flusher.first.value) ↔
         K.Device.honest (K.disk flusher.flusher.store) }
-    ensures parts { (result.store ≡ flusher.flusher.store) ×
-        (result.outboxes ≡ flusher.flusher.outboxes) × (result.fetch ≡ flusher.flusher.fetch) }
-    ensures flushed { HaveFlushed K.Store K.Device.Disk flusher.first.value result }
+    ensures parts { (result.0.store ≡ flusher.flusher.store) ×
+        (result.0.outboxes ≡ flusher.flusher.outboxes) × (result.0.fetch ≡ flusher.flusher.fetch) }
+    ensures moments { result.1 ≡ flusher.moments }
+    ensures flushed { HaveFlushed K.Store K.Device.Disk flusher.first.value result.1 result.0 }
 {
     // for the proof: the contracts of `keeper` and `images` say what is stored, and what a crash leaves
     let stored = flusher.keeper();
     stored.images();
-    let (store, board, outboxes, fetch) = flusher.into_ends();
+    let (board, parts, moments) = flusher.into_ends();
+    // for the proof: the contract of `stands` says that the moments follow one another
+    moments.stands();
     board.close(rt);
-    FlusherParts {
-        store,
-        outboxes,
-        fetch,
-    }
+    (parts, moments)
 }
 
 /// Finishes what the threads of a run left, closes the board and returns all ends, which are in one thread.
@@ -76,7 +75,7 @@ pub fn end_run<
     consoles: Vec<Console<T>>,
     sequencer: Sequencer<P>,
     flusher: RecordedFlusher<K, T, B, J>,
-) -> Ends<K, T>
+) -> Ends<K, T, J>
     requires tied { AreTied consoles.items sequencer.inboxes.items flusher.flusher.outboxes.items }
     requires batches { AreBatchEnds sequencer.ends flusher.flusher.fetch }
     requires base { (K.state flusher.first.value).stored ≡ B.Board.base flusher.flusher.board }
@@ -92,7 +91,8 @@ pub fn end_run<
         SameOutboxAt (outbox_at s flusher.flusher.outboxes.items)
         (outbox_at s result.flusher.outboxes.items) }
     ensures fetch { SameFetchEnds flusher.flusher.fetch result.flusher.fetch }
-    ensures flushed { HaveFlushed K.Store K.Device.Disk flusher.first.value result.flusher }
+    ensures flushed { HaveFlushed K.Store K.Device.Disk flusher.first.value result.moments
+        result.flusher }
     ensures end { EndForCause K.Store K.Device.Disk result }
     ensures failed { FailsForCause K.Store K.Device.Disk result.cause flusher.first.value
         result.flusher.store }
@@ -101,11 +101,12 @@ pub fn end_run<
     let cause = finish(rt, &mut consoles, &mut sequencer, &mut flusher);
     flusher.batches_beside(&mut sequencer.ends);
     let rings = rings_of(sequencer);
-    let flusher = close_flusher(rt, flusher);
+    let (flusher, moments) = close_flusher(rt, flusher);
     Ends {
         consoles,
         rings,
         flusher,
+        moments,
         cause,
     }
 }

@@ -24,9 +24,9 @@
 //! the plant that was stored at first. What the store holds at the end is a prefix of it, and what was released is a prefix of
 //! that. Each slot's report, in the order of the slots, counts its entries in them. [`Storage::Whole`] is returned exactly if the
 //! store hasn't stopped and no request or receipt is left. At each moment of the run whatever a crash leaves of an honest device
-//! encodes a prefix of that history. The prefix contains all that had been released or published by then ([`RecordedFlusher`]). A
-//! moment is in the run's history before anything is published by it. So each receipt and each look says of itself that what it
-//! reports stays on the device, whether the run ever returns or not.
+//! encodes a prefix of what was accepted by then. The prefix contains all that may be reported by then ([`RecordedFlusher`]). The
+//! report has the history of these moments, and a moment is in it before anything is published by it. So each receipt and each
+//! look says of itself that what it reports stays on the device, whether the run ever returns or not.
 //!
 //! A run that isn't whole has a [`StopCause`]. A failed step of the store is one only if the device failed, or in the last epoch.
 //!
@@ -45,23 +45,23 @@
 //! - honest device, at the end: each image holds what is stored, or that with the one batch whose commit wasn't done (by
 //!   `close_flusher`)
 //! - before and after each device call of the flusher's thread each image of an honest device holds a prefix of what was
-//!   fetched (by `close_flusher`)
+//!   fetched by then (by `close_flusher`)
 //! - the last moment is the one that is now; a moment comes before a publish, with all that it shows (by the type
 //!   `RecordedFlusher`, `publish`)
 //! - of a run that ended: one legal history of all that was taken; what is stored is a prefix of it, what was released a
 //!   prefix of that (by `parts_of`, `run_threads`, `run_with_bells`)
-//! - **its device went by single calls from what was opened to the report's; at each state each image of an honest one
-//!   holds a prefix of that history** (by `run_with_bells`)
-//! - **at the end that prefix holds every number released and all that was published.** Of a moment within, its receipts
-//!   and looks say it (by `run_with_bells`)
+//! - **single calls led from the opened device to the report's. At each state each image of an honest one holds a prefix of
+//!   what was accepted by then** (by `run_with_bells`)
+//! - **that prefix reaches all that may be reported by then, at the end every number released. The report has the history of
+//!   these moments** (by `run_with_bells`, the type `RunReport`)
 //! - reports stand in the order of slots; whole is said exactly if the store goes on and all that was sent was taken and
 //!   answered (by `run_with_bells`, the type `RunReport`)
 //! - **a run that isn't whole has its cause: a failed step of the store, 1,000 refused publishes in a row, or no further
 //!   moment** (by `finish`, `RecordedFlusher::cause`, the type `RunReport`)
 //! - a step of the store fails only if the device failed, or in the last epoch (by `run_with_bells`)
 //! - a run that can't be started returns its store as it was (by `run_with_bells`)
-//! - any number of runs that ended, each opened on what a crash left of the one before, keep all that was reported (by
-//!   `laws::what_was_told_outlasts_outages`)
+//! - any number of runs, each opened on what a crash at any moment left of the one before, keep all actions that were
+//!   reported, run after run (by `laws::what_was_told_outlasts_outages`)
 #![tactic(auto)]
 
 mod closes;

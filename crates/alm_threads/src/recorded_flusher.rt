@@ -1,5 +1,5 @@
 //! A flusher, with the moments of its run.
-ghost use Rattle.std.specs.Prelude.{◌≡◌, ◌≢◌, ◌↔◌, ◌+◌, ◌<◌, ◌≤◌, ◌++◌, ℕ, List, false, true, length, MatchBool};
+ghost use Rattle.std.specs.Prelude.{◌≡◌, ◌≢◌, ◌↔◌, ◌+◌, ◌<◌, ◌≤◌, ◌++◌, ◌∷◌, [], ℕ, List, false, true, length, MatchBool};
 ghost use Rattle.alm_model.specs.Plant.{Condensed};
 ghost use Rattle.alm_model.specs.Judging.{accepted_of, entries_in};
 ghost use Rattle.alm_disk.specs.Failures.{HasFailed};
@@ -8,10 +8,10 @@ ghost use Rattle.alm_store.specs.declared.phase.Phase.TheVariants.{Stopped};
 ghost use Rattle.alm_flush.specs.Flushes.{IsGivenUp};
 ghost use Rattle.alm_flush.specs.HeldBatch.{stored_of};
 ghost use Rattle.alm_threads.specs.Histories.{AreInOrder};
-ghost use Rattle.alm_moments.specs.Moments.{moment_of, now_of};
-ghost use Rattle.alm_threads.specs.Moments.{RunMoment, FollowUpTo, IsSafeAt, at_first, at_moment};
+ghost use Rattle.alm_moments.specs.Moments.{AreMoments, moment_of, now_of};
 ghost use Rattle.alm_moments.specs.Naming.{IsNamedAfter};
 
+use crate::flusher_parts::FlusherParts;
 use crate::stop_cause::StopCause;
 use alm_board::{Board, Publish};
 use alm_flush::{Advance, Fetch, Flusher, Publishes, Release};
@@ -63,6 +63,9 @@ pub struct RecordedFlusher<K: Store, T: Told + Drop, B: Board<Told = T>, J: RunI
     failed: bool,
     // How many publishes in a row were refused.
     refused: u64,
+    /// The run is named after the store with which it began.
+    pub ghost device: { J.first ≡ K.Device.state (K.disk first.value) },
+    pub ghost premise: { ∥ (J.honest ↔ K.Device.honest (K.disk first.value)) ∥₁ },
     pub ghost base: { J.base ≡ B.base flusher.board },
     pub ghost honest: { ∥ (J.honest → K.Device.honest (K.disk flusher.store)) ∥₁ },
     pub ghost recovers: { ∥ ((b : List ℕ) (p : Condensed) → (J.recovers b p ↔ K.recovers b p)) ∥₁ },
@@ -70,12 +73,14 @@ pub struct RecordedFlusher<K: Store, T: Told + Drop, B: Board<Told = T>, J: RunI
     pub ghost last: { lost ≡ false → now_of J.base J.first moments ≡
         moment_of (K.Device.state (K.disk flusher.store))
         (accepted_of (entries_in (fetched_of flusher.fetch))) floor },
+    /// If the history didn't take it, it follows all the same.
+    pub ghost untaken: { lost ≡ true → AreMoments J.honest J.recovers J.base J.first
+        (moments ++ moment_of (K.Device.state (K.disk flusher.store))
+        (accepted_of (entries_in (fetched_of flusher.fetch))) floor ∷ []) },
+    /// What is published may be reported, and what may be reported is stored.
+    pub ghost shown: { J.base.panel.count + length (B.published flusher.board) ≤ floor },
     pub ghost stored: { floor ≤ J.base.panel.count +
         length (accepted_of (entries_in (fetched_of flusher.before.value) ++ stored_of flusher.held)) },
-    pub ghost course: { K.Device.honest (K.disk first.value) → ∥ K.Device.honest (K.disk flusher.store) × ((moments : List RunMoment)
-        × FollowUpTo (IsSafeAt K.recovers (B.base flusher.board) (accepted_of (entries_in (fetched_of flusher.fetch))))
-        (at_first (B.base flusher.board) (K.Device.state (K.disk first.value))) moments
-        (at_moment (B.base flusher.board) (K.Device.state (K.disk flusher.store)) flusher.number (B.published flusher.board))) ∥₁ },
     /// A store that has stopped failed in a step, and so did one whose commit has failed.
     pub ghost stopped: { (K.state flusher.store).phase ≡ Stopped → failed ≡ true },
     pub ghost given_up: { IsGivenUp flusher.held → failed ≡ true },
@@ -212,7 +217,6 @@ impl<K: Store, T: Told + Drop, B: Board<Told = T>, J: RunId> RecordedFlusher<K, 
             return Advance::Failed;
         }
         self.moments.stands();
-        self.flusher.keeper().images();
         let advanced = self.flusher.advance();
         let store = self.flusher.keeper();
         store.images();
@@ -249,11 +253,11 @@ impl<K: Store, T: Told + Drop, B: Board<Told = T>, J: RunId> RecordedFlusher<K, 
             fetch: self.flusher.fetch_ends(),
             floor: stored,
         };
+        self.floor = stored;
         if !self.moments.extend(&self.recorder, &now) {
             self.lost = true;
             return Publishes::NotYet;
         }
-        self.floor = stored;
         let published = self.flusher.publish::<R, Moments<J>>(rt, &self.moments);
         self.refused = refused_after(published, self.refused);
         published
@@ -275,7 +279,6 @@ impl<K: Store, T: Told + Drop, B: Board<Told = T>, J: RunId> RecordedFlusher<K, 
             (self.new.flusher.board ≡ self.old.flusher.board) ×
             (self.new.flusher.fetch ≡ self.old.flusher.fetch) × (self.new.first ≡ self.old.first) }
     {
-        self.flusher.keeper().images();
         self.flusher.release()
     }
 
@@ -287,7 +290,6 @@ impl<K: Store, T: Told + Drop, B: Board<Told = T>, J: RunId> RecordedFlusher<K, 
             (self.new.flusher.outboxes ≡ self.old.flusher.outboxes) ×
             (self.new.first ≡ self.old.first) }
     {
-        self.flusher.keeper().images();
         self.flusher.give_back()
     }
 
@@ -301,12 +303,24 @@ impl<K: Store, T: Told + Drop, B: Board<Told = T>, J: RunId> RecordedFlusher<K, 
         self.flusher.keeper()
     }
 
-    /// Its store, its board and its ends, as they are.
-    pub fn into_ends(self) -> (K, B, Vec<Outbox<T>>, FetchEnds)
-        ensures { (result.0 ≡ self.flusher.store) × (result.1 ≡ self.flusher.board) ×
-            (result.2 ≡ self.flusher.outboxes) × (result.3 ≡ self.flusher.fetch) }
+    /// Its board, its other parts and its history, as they are.
+    pub fn into_ends(self) -> (B, FlusherParts<K, T>, Moments<J>)
+        ensures board { result.0 ≡ self.flusher.board }
+        ensures parts { (result.1.store ≡ self.flusher.store) ×
+            (result.1.outboxes ≡ self.flusher.outboxes) × (result.1.fetch ≡ self.flusher.fetch) }
+        ensures moments { result.2 ≡ self.moments }
     {
-        let RecordedFlusher { flusher, .. } = self;
-        flusher.into_ends()
+        let RecordedFlusher {
+            flusher,
+            moments,
+            ..
+        } = self;
+        let (store, board, outboxes, fetch) = flusher.into_ends();
+        let parts = FlusherParts {
+            store,
+            outboxes,
+            fetch,
+        };
+        (board, parts, moments)
     }
 }

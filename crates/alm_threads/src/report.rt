@@ -6,12 +6,13 @@ ghost use Rattle.alm_threads.specs.Answered.{AllAnswered};
 
 use crate::stop_cause::StopCause;
 use crate::storage::Storage;
+use alm_moments::{Moments, RunId};
 use alm_rings::SlotReport;
 use alm_store::Store;
 
 /// What a run leaves. Its storage is whole exactly if the store has not stopped, and all that was sent was taken and answered.
 #[derive(Drop)]
-pub struct RunReport<K: Store> {
+pub struct RunReport<K: Store, J: RunId> {
     /// The flusher's store.
     pub keeper: K,
     pub storage: Storage,
@@ -19,6 +20,8 @@ pub struct RunReport<K: Store> {
     pub slots: Vec<Option<SlotReport>>,
     /// Why it isn't whole.
     pub cause: Option<StopCause>,
+    /// The history of the run's moments, up to its end. What a receipt or a look of the run carries is a prefix of it, or it of that.
+    pub moments: Moments<J>,
     pub ghost goes_on: { storage ≡ variant.Whole → (K.state keeper).phase ≢ Stopped },
     pub ghost answered: { storage ≡ variant.Whole → ∥ AllAnswered slots.items ∥₁ },
     pub ghost whole: { (K.state keeper).phase ≢ Stopped → AllAnswered slots.items →

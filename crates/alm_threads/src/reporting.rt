@@ -14,6 +14,7 @@ use crate::flusher_parts::FlusherParts;
 use crate::report::RunReport;
 use crate::rings::Rings;
 use crate::storage::Storage;
+use alm_moments::RunId;
 use alm_rings::{SlotReport, Told, batches_beside};
 use alm_store::{Phase, Store};
 
@@ -52,10 +53,10 @@ fn storage_of(phase: Phase, is_answered: bool) -> Storage
 }
 
 /// Closes all rings, and says what went through them.
-pub fn report_of<K: Store, T: Told + Drop>(
-    ends: Ends<K, T>,
+pub fn report_of<K: Store, T: Told + Drop, J: RunId>(
+    ends: Ends<K, T, J>,
     room: Vec<Option<SlotReport>>,
-) -> RunReport<K>
+) -> RunReport<K, J>
     requires apart { AreApart (λ c. c.slot) ends.consoles.items }
     requires tied { AreTied ends.consoles.items ends.rings.inboxes.items
         ends.flusher.outboxes.items }
@@ -63,6 +64,7 @@ pub fn report_of<K: Store, T: Told + Drop>(
     requires end { EndForCause K.Store K.Device.Disk ends }
     requires room { (room.items ≡ []) × (vec_len ends.consoles ≤ vec_capacity room) }
     ensures keeper { result.keeper ≡ ends.flusher.store }
+    ensures moments { result.moments ≡ ends.moments }
     ensures closed { AreClosed ends.consoles.items ends.rings.inboxes.items
         ends.flusher.outboxes.items result.slots.items }
     ensures fetched { IsPrefix (fetched_of ends.flusher.fetch) (sealed_of ends.rings.ends) }
@@ -72,6 +74,7 @@ pub fn report_of<K: Store, T: Told + Drop>(
         consoles,
         rings,
         flusher,
+        moments,
         cause,
     } = ends;
     let Rings { inboxes, mut ends } = rings;
@@ -92,5 +95,6 @@ pub fn report_of<K: Store, T: Told + Drop>(
         storage,
         slots,
         cause,
+        moments,
     }
 }

@@ -59,7 +59,7 @@ fn run_all<
     room: Vec<Console<T>>,
     board: B,
     middle: Middle<K, T, J>,
-) -> Result<Ends<K, T>, NotStarted<K>>
+) -> Result<Ends<K, T, J>, NotStarted<K>>
 where
     T: 's,
     L: 's,
@@ -131,7 +131,7 @@ fn in_scope<
     room: Vec<Console<T>>,
     board: B,
     middle: Middle<K, T, J>,
-) -> Result<Ends<K, T>, NotStarted<K>>
+) -> Result<Ends<K, T, J>, NotStarted<K>>
     requires serves { ServesSlots slots.now.items middle.rings.inboxes.items }
     requires tied { AreTied (map (λ p. p.console) slot_parts.items) middle.rings.inboxes.items
         middle.flusher.outboxes.items }
@@ -147,7 +147,7 @@ fn in_scope<
     thread::scope(
         thread::scope_env(),
         rt,
-        |scope| -> Result<Ends<K, T>, NotStarted<K>>
+        |scope| -> Result<Ends<K, T, J>, NotStarted<K>>
             requires { ServesSlots slots.now.items middle.rings.inboxes.items ×
                 AreTied (map (λ p. p.console) slot_parts.items) middle.rings.inboxes.items
                 middle.flusher.outboxes.items × ((K.state middle.flusher.store).stored ≡ B.Board.base closing.board) ×
@@ -226,7 +226,7 @@ pub fn run_with_bells<
     hold: &H,
     bells: Vec<E>,
     sources: Vec<S>,
-) -> Result<RunReport<K>, NotStarted<K>>
+) -> Result<RunReport<K, J>, NotStarted<K>>
     requires sources { length sources.items ≡ length parts.slots.items }
     requires place { (k n : ℕ) (s : _) → slice_get sources.items k ≡ Some s → S.slot s ≡ Some n →
         slice_get parts.slots.items k ≡ Some n }
@@ -276,7 +276,7 @@ pub fn run_threads<
     parts: Parts<T, L, B, K, J>,
     hold: &H,
     sources: Vec<S>,
-) -> Result<RunReport<K>, StartFault>
+) -> Result<RunReport<K, J>, StartFault>
     requires sources { length sources.items ≡ length parts.slots.items }
     requires place { (k n : ℕ) (s : _) → slice_get sources.items k ≡ Some s → S.slot s ≡ Some n →
         slice_get parts.slots.items k ≡ Some n }

@@ -33,12 +33,13 @@ pub struct Left<D: Drop> {
     pub disk: D,
 }
 
-fn left_of<K: Store>(report: RunReport<K>) -> Left<K::Device> {
+fn left_of<K: Store, J: RunId>(report: RunReport<K, J>) -> Left<K::Device> {
     let RunReport {
         keeper,
         storage,
         slots,
         cause,
+        moments: _,
     } = report;
     Left {
         storage,
@@ -63,10 +64,13 @@ fn run_parts<
     parts: Parts<Durable<J>, WatchedLook<'h, SharedLook<J, P>, H>, SharedBoard<J, P>, K, J>,
     hold: &'h H,
     sources: Vec<Player>,
-) -> Option<RunReport<K>>
+) -> Option<Left<K::Device>>
     requires { length sources.items ≡ length parts.slots.items }
 {
-    run_threads(rt, alloc, parts, hold, sources).ok()
+    match run_threads(rt, alloc, parts, hold, sources) {
+        Ok(report) => Some(left_of(report)),
+        Err(_) => None,
+    }
 }
 
 /// Runs these sources over a store. `None` if out of memory or no thread can be made.
@@ -78,7 +82,7 @@ fn run_over<J: RunId + Send + Sync, K: Store, H: Hold + Sync, R: Threads + Wait 
     slots: Vec<Slot>,
     hold: &H,
     sources: Vec<Player>,
-) -> Option<RunReport<K>>
+) -> Option<Left<K::Device>>
     requires books { (new.history.seen.book ≡ J.book) × (new.moments.seen.book ≡ J.moments) }
     requires named { IsNamedAfter J.RunId K.Store K.Device.Disk store }
     requires idle { (K.state store).phase ≡ Phase.Idle }
@@ -112,8 +116,7 @@ pub fn run_on<K: Store, H: Hold + Sync, R: Threads + Wait + Clock + Sync>(
     match K::open(alloc, disk) {
         Ok(store) => {
             let new = NewRun::new();
-            let report = run_over::<Brand, K, H, R>(rt, alloc, new, store, slots, hold, sources)?;
-            Some(left_of(report))
+            run_over::<Brand, K, H, R>(rt, alloc, new, store, slots, hold, sources)
         }
         Err(_) => None,
     }

@@ -117,7 +117,7 @@ fn course_of<
     let committed = sealed && commits(&mut flusher);
     let first = shows(rt, &mut flusher, &mut looks, answer);
     let second = shows(rt, &mut flusher, &mut looks, answer);
-    let (_store, board, _outboxes, _fetch) = flusher.into_ends();
+    let (board, _parts, _moments) = flusher.into_ends();
     board.close(rt);
     if committed {
         Some([first, second])

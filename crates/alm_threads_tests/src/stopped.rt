@@ -20,9 +20,7 @@ use alm_moments::RunId;
 use alm_plant::Plant;
 use alm_shared::{Durable, NewRun, SharedBoard, SharedLook};
 use alm_store::Store;
-use alm_threads::{
-    Closes, Parts, RunReport, StopCause, Storage, WatchedLook, parts_of, run_threads,
-};
+use alm_threads::{Closes, Parts, StopCause, Storage, WatchedLook, parts_of, run_threads};
 use alm_types::{Action, Batch, Moment, Slot};
 use std::alloc::{AllocError, Global};
 use std::marker::Brand;
@@ -70,6 +68,9 @@ impl<C, B: Board + Closes<C>> Closes<C> for ShortBoard<B> {
     }
 }
 
+/// What a run reports: its storage, why it stopped, and how many actions are stored.
+type Left = (Storage, Option<StopCause>, u64);
+
 /// Runs these sources over parts whose board refuses a number of publishes. `None` if out of memory or no thread can be made.
 fn run_parts<
     'h,
@@ -85,7 +86,7 @@ fn run_parts<
     hold: &'h H,
     sources: Vec<Player>,
     refusals: u64,
-) -> Option<RunReport<K>>
+) -> Option<Left>
     requires { length sources.items ≡ length parts.slots.items }
 {
     let Parts {
@@ -102,7 +103,10 @@ fn run_parts<
         board: ShortBoard { board, refusals },
         middle,
     };
-    run_threads(rt, alloc, parts, hold, sources).ok()
+    match run_threads(rt, alloc, parts, hold, sources) {
+        Ok(report) => Some((report.storage, report.cause, report.keeper.count())),
+        Err(_) => None,
+    }
 }
 
 /// The same over a store.
@@ -115,7 +119,7 @@ fn run_short<J: RunId + Send + Sync, K: Store, H: Hold + Sync, R: Threads + Wait
     hold: &H,
     sources: Vec<Player>,
     refusals: u64,
-) -> Option<RunReport<K>>
+) -> Option<Left>
     requires books { (new.history.seen.book ≡ J.book) × (new.moments.seen.book ≡ J.moments) }
     requires named { IsNamedAfter J.RunId K.Store K.Device.Disk store }
     requires idle { (K.state store).phase ≡ Phase.Idle }
@@ -133,13 +137,13 @@ fn run_short<J: RunId + Send + Sync, K: Store, H: Hold + Sync, R: Threads + Wait
     }
 }
 
-/// What a run over a device reports whose clock sends an action: its storage, why it stopped, and how many actions are stored.
+/// What a run over a device reports whose clock sends an action.
 fn left_over<K: Store, R: Threads + Wait + Clock + Sync>(
     rt: &R,
     alloc: Global,
     disk: K::Device,
     refusals: u64,
-) -> Option<(Storage, Option<StopCause>, u64)> {
+) -> Option<Left> {
     let Ok(slots) = all_slots(alloc) else {
         return None;
     };
@@ -151,10 +155,7 @@ fn left_over<K: Store, R: Threads + Wait + Clock + Sync>(
         return None;
     };
     let new = NewRun::new();
-    let report = run_short::<Brand, K, _, R>(
-        rt, alloc, new, store, slots, &Free, sources, refusals,
-    )?;
-    Some((report.storage, report.cause, report.keeper.count()))
+    run_short::<Brand, K, _, R>(rt, alloc, new, store, slots, &Free, sources, refusals)
 }
 
 #[test]

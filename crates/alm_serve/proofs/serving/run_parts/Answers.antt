@@ -28,6 +28,7 @@ returns-in-Ok-clause-ends g c =
       phase = (s.state r.keeper).phase;
       reports = r.slots.items;
       end = (r.goes_on whole, r.answered whole);
+      history = r.moments;
       run = run.run;
     }))
     (λ stopped.
@@ -45,6 +46,7 @@ returns-in-Ok-clause-ends g c =
           phase = (s.state r.keeper).phase;
           reports = r.slots.items;
           end = λ whole. ∥∥₁_elim whole.1 (hlevel props) (λ answered. absurd (cc (sym (r.whole whole.0 answered) ∙ stopped)));
+          history = r.moments;
           run = run.run;
         };
         failed = λ is honest notspent. run.failed (why.1 ∙ ap Some is) (λ ex. notspent (e.spent honest ex));

@@ -21,7 +21,7 @@ returns-clause-end g c =
     with_items_is c.args.consoles new (omega (arith, all_same_length c.deref_mut.result.now new c.finish-cause.ensures.consoles, ap length c.deref_mut.ensures.value, c.args.consoles.ok)) in
     record {
       stopped = λ phase. c.finish-cause.ensures.failed (sym same.4 ∙ b.stopped (ap (λ k. (g.K.Store.state k).phase) (sym parts.0) ∙ phase));
-      answered = λ none. subst (λ cs. IsAllAnswered cs c.rings_of-rings.result.inboxes.items c.close_flusher-flusher.result.outboxes.items) (sym consoles)
+      answered = λ none. subst (λ cs. IsAllAnswered cs c.rings_of-rings.result.inboxes.items c.close_flusher-flusher.result.0.outboxes.items) (sym consoles)
           (rw (c.rings_of-rings.ensures.inboxes, parts.1, same.2) (c.finish-cause.ensures.done none).1);
     }
 

@@ -58,7 +58,7 @@ returns-clause-back g c =
       flushed = record {
         outboxes = outboxes;
         fetch = search rules;
-        flushed = subst (λ k. HaveFlushed s d k end.flusher) first e.flushed;
+        flushed = subst (λ k. HaveFlushed s d k end.moments end.flusher) first e.flushed;
       };
       tied = tied_still _ end.consoles.items m.rings.inboxes.items end.rings.inboxes.items m.flusher.outboxes.items end.flusher.outboxes.items all inboxes outboxes c.requires.tied;
       batches = search rules;

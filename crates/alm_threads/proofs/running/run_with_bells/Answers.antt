@@ -72,8 +72,8 @@ returns-clause-run g c =
             (sym c.report_of.ensures.keeper) f.flushed.flushed.device;
         told = f.flushed.flushed.told;
         within = f.flushed.flushed.within;
-        course = endures_on g.K.Store.recovers (g.K.Store.state p.middle.flusher.store).stored (g.K.Device.Disk.honest (g.K.Store.disk p.middle.flusher.store)) (g.K.Device.Disk.state (g.K.Store.disk p.middle.flusher.store)) (g.K.Device.Disk.state (g.K.Store.disk e.flusher.store)) (g.K.Device.Disk.state (g.K.Store.disk c.report_of.result.keeper)) (accepted_of (entries_in fetched)) (accepted_of entries) _
-            (ap (λ k. g.K.Device.Disk.state (g.K.Store.disk k)) (sym c.report_of.ensures.keeper)) (accepted_prefix (entries_in fetched) entries (front_on (entries_in fetched) (entries_in sealed) entries (entries_front fetched sealed c.report_of.ensures.fetched) f.judged.judged.sealed)) f.flushed.flushed.course;
+        course = endures_on g.K.Store.recovers (g.K.Store.state p.middle.flusher.store).stored (g.K.Device.Disk.honest (g.K.Store.disk p.middle.flusher.store)) (g.K.Device.Disk.state (g.K.Store.disk p.middle.flusher.store)) (g.K.Device.Disk.state (g.K.Store.disk e.flusher.store)) (g.K.Device.Disk.state (g.K.Store.disk c.report_of.result.keeper)) e.moments c.report_of.result.moments (accepted_of (entries_in fetched)) (accepted_of entries) _
+            (ap (λ k. g.K.Device.Disk.state (g.K.Store.disk k)) (sym c.report_of.ensures.keeper)) (sym c.report_of.ensures.moments) (accepted_prefix (entries_in fetched) entries (front_on (entries_in fetched) (entries_in sealed) entries (entries_front fetched sealed c.report_of.ensures.fetched) f.judged.judged.sealed)) f.flushed.flushed.course;
         count = c.report_of.ensures.closed.0 ∙ (sym (map_count (λ (x : Console _ _). x.slot) e.consoles.items) ∙ ap length order);
         each = λ k s at. (
             let d = stands_at (λ (x : Console _ _). x.slot) e.consoles.items p.slots.items k s order at in

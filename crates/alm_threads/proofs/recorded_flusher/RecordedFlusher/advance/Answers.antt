@@ -1,4 +1,4 @@
-use Rattle.std.proofs.Common.{◌≡◌, ◌≢◌, ◌⊎◌, ⊎_elim, inl, inr, ◌≤◌, ◌+◌, ◌++◌, ◌∙◌, ℕ, List, length, refl, sym, ap, subst, arith}
+use Rattle.std.proofs.Common.{◌≡◌, ◌≢◌, ◌⊎◌, ⊎_elim, ◌≤◌, ◌+◌, ◌++◌, ◌∙◌, ℕ, List, length, refl, sym, ap, subst, arith}
 use Rattle.std.specs.Prelude.{not}
 use Rattle.std.proofs.Props.{props}
 use Rattle.std.proofs.Math.Logic.{∥∥₁_elim, ∥∥₁_map}
@@ -6,12 +6,10 @@ use Rattle.alm_disk.specs.Device.{IsImage}
 use Rattle.alm_model.specs.Judging.{accepted_of, entries_in}
 use Rattle.alm_rings.specs.Batches.{fetched_of}
 use Rattle.alm_store.specs.declared.phase.Phase.TheVariants.{Stopped}
-use Rattle.alm_flush.specs.HeldBatch.{released_entries, stored_of}
+use Rattle.alm_flush.specs.HeldBatch.{stored_of}
 use Rattle.alm_model.specs.Step.{run}
 use Rattle.alm_moments.specs.Moments.{moment_of, now_of}
-use Rattle.alm_moments.proofs.Courses.{goes_on, by_call, by_none, last_taken, prefix_self}
-use Rattle.alm_threads.specs.Moments.{at_first, at_moment}
-use Rattle.alm_threads.proofs.Moments.{at_safe, passed_on, told_by_advance}
+use Rattle.alm_moments.proofs.Courses.{goes_on, by_call, by_none, last_lost, last_taken, prefix_self}
 use Rattle.alm_threads.proofs.Causes.{clash, failed_as, failed_since, given_up_by_advance, held_cases, must_fail, next_held}
 use Rattle.alm_threads.proofs.Recorded.{named_safe, stored_by_advance}
 use Rattle.alm_threads.proofs.recorded_flusher.RecordedFlusher.advance.Goals as goal
@@ -39,7 +37,7 @@ extend-requires g c =
       stored_by_advance (entries_in (fetched_of o.before.value)) c.advance-advanced.result (s.state o.store).phase o.held n.held e.held,
       ap (λ x. length (accepted_of (entries_in (fetched_of x) ++ stored_of n.held))) e.same.2,
     ) in
-    let stands = subst (λ (k : _). (g.K.Device.Disk.honest (s.disk k)) → (i : List ℕ) → IsImage (g.K.Device.Disk.state (s.disk k)) i → ∥ s.recovers i (s.state k).stored ⊎ s.recovers i (s.state k).next ∥₁) c.keeper-store.ensures.keeper c.images-2.ensures.stands in
+    let stands = subst (λ (k : _). (g.K.Device.Disk.honest (s.disk k)) → (i : List ℕ) → IsImage (g.K.Device.Disk.state (s.disk k)) i → ∥ s.recovers i (s.state k).stored ⊎ s.recovers i (s.state k).next ∥₁) c.keeper-store.ensures.keeper c.images.ensures.stands in
     rw (c.keeper-store.ensures.keeper, c.fetch_ends.ensures) (record {
       moments = goes_on j.honest j.recovers j.base j.first r.moments (moment_of new all r.floor) c.stands.ensures
           (λ h. ∥∥₁_map r.honest (λ p. ⊎_elim
@@ -61,39 +59,23 @@ invariant_of-self g c =
     let e = c.advance-advanced.ensures in
     let base = b.base o.board in
     let before = fetched_of o.before.value in
-    let all = accepted_of (entries_in (fetched_of o.fetch)) in
-    let first = at_first base (g.K.Device.Disk.state (s.disk c.args.self.now.first.value)) in
-    let last = at_moment base (g.K.Device.Disk.state (s.disk o.store)) o.number (b.published o.board) in
-    let told : released_entries n.held ≡ released_entries o.held = told_by_advance c.advance-advanced.result (s.state o.store).phase o.held n.held e.held in
-    let number : n.number ≡ o.number =
-    omega (
-      arith,
-      n.number_is,
-      o.number_is,
-      ap (λ x. (b.base x).panel.count) e.same.0,
-      ap (λ x. length (accepted_of (entries_in (fetched_of x) ++ released_entries n.held))) e.same.2,
-      ap (λ t. length (accepted_of (entries_in before ++ t))) told,
-    ) in
     record {
+      device = r.device;
+      premise = r.premise;
       base = r.base ∙ sym (ap b.base e.same.0);
       honest = ∥∥₁_map r.honest (λ p h. e.device.honest.0 (p h));
       recovers = r.recovers;
+      shown = omega (arith, r.shown, ap (λ x. length (b.published x)) e.same.0);
       last = last_taken j.base j.first r.moments c.extend.new.self (moment_of (g.K.Device.Disk.state (s.disk n.store)) (accepted_of (entries_in (fetched_of n.fetch))) r.floor)
-          c.extend.result (not c.extend.result) refl (rw (c.keeper-store.ensures.keeper, c.fetch_ends.ensures) at c.extend.ensures);
+          c.extend.result (not c.extend.result) refl (rw (c.keeper-store.ensures.keeper, c.fetch_ends.ensures) at c.extend.ensures.taken);
+      untaken = last_lost j.honest j.recovers j.base j.first r.moments c.extend.new.self (moment_of (g.K.Device.Disk.state (s.disk n.store)) (accepted_of (entries_in (fetched_of n.fetch))) r.floor)
+          c.extend.result (not c.extend.result) refl (rw (c.keeper-store.ensures.keeper, c.fetch_ends.ensures) at c.extend.ensures.taken) (rw (c.keeper-store.ensures.keeper, c.fetch_ends.ensures) at c.extend.ensures.safe);
       stored = omega (
         arith,
         r.stored,
         stored_by_advance (entries_in before) c.advance-advanced.result (s.state o.store).phase o.held n.held e.held,
         ap (λ x. length (accepted_of (entries_in (fetched_of x) ++ stored_of n.held))) e.same.2,
       );
-      course = rw (e.same.0, e.same.3) (λ h. ∥∥₁_map (c.args.self.now.course h) (λ p.
-          let stands = subst (λ (k : _). (g.K.Device.Disk.honest (s.disk k)) → (i : List ℕ) → IsImage (g.K.Device.Disk.state (s.disk k)) i → ∥ s.recovers i (s.state k).stored ⊎ s.recovers i (s.state k).next ∥₁) c.keeper.ensures.keeper c.images.ensures.stands p.0 in
-          let safe = at_safe s.recovers g.met.K.Store.one g.met.K.Store.rules base (g.K.Device.Disk.state (s.disk o.store)) o.number (b.published o.board) before (fetched_of o.fetch) o.held (s.state o.store).stored (s.state o.store).next
-          o.held_is o.stored o.either o.number_is o.published stands in (
-            e.device.honest.0 p.0,
-            passed_on s.recovers base all first last (at_moment base (g.K.Device.Disk.state (s.disk n.store)) n.number (b.published o.board)) p.1 safe
-                (⊎_elim (λ same. inr (same, omega (arith, number), omega arith)) (λ call. inl (call, number, refl)) (e.device.call p.0)),
-          )));
       stopped = λ phase. must_fail c.has_failed-self.result c.advance-advanced.result c.has_failed-self.ensures (λ fine. e.going (λ was. clash r.failed (r.stopped was) c.if-self-2.false) fine phase);
       given_up = λ up. must_fail c.has_failed-self.result c.advance-advanced.result c.has_failed-self.ensures (λ fine. fine (given_up_by_advance c.advance-advanced.result (s.state o.store).phase o.held n.held e.held up (λ was. clash r.failed (r.given_up was) c.if-self-2.false)));
       count = omega (arith, r.count, e.device.count);

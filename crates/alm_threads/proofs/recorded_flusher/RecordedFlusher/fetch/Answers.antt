@@ -1,16 +1,15 @@
-use Rattle.std.proofs.Common.{◌≡◌, ◌⊎◌, inr, ◌++◌, ◌∙◌, ℕ, List, length, refl, ap, sym, subst, arith}
+use Rattle.std.proofs.Common.{◌⊎◌, ◌++◌, ◌∙◌, ℕ, List, length, refl, ap, sym, subst, arith}
 use Rattle.std.specs.Prelude.{not}
 use Rattle.std.proofs.Props.{props}
 use Rattle.std.proofs.Math.Logic.{∥∥₁_elim, ∥∥₁_map}
 use Rattle.alm_disk.specs.Device.{IsImage}
 use Rattle.alm_model.specs.Judging.{accepted_of, entries_in}
 use Rattle.alm_rings.specs.Batches.{fetched_of}
-use Rattle.alm_flush.specs.HeldBatch.{released_entries, stored_of}
+use Rattle.alm_flush.specs.HeldBatch.{stored_of}
 use Rattle.alm_model.specs.Step.{run}
 use Rattle.alm_moments.specs.Moments.{moment_of, now_of}
-use Rattle.alm_moments.proofs.Courses.{goes_on, by_none, last_taken}
-use Rattle.alm_threads.specs.Moments.{at_first, at_moment}
-use Rattle.alm_threads.proofs.Moments.{at_safe, passed_on, passed_of_prefix, accepted_prefix, entries_prefix, told_by_fetch, fetched_more}
+use Rattle.alm_moments.proofs.Courses.{goes_on, by_none, last_lost, last_taken}
+use Rattle.alm_threads.proofs.Moments.{accepted_prefix, entries_prefix, fetched_more}
 use Rattle.alm_threads.proofs.Causes.{clash, given_up_by_fetch}
 use Rattle.alm_threads.proofs.Recorded.{named_safe, safe_with_more, stored_by_fetch}
 use Rattle.alm_threads.proofs.recorded_flusher.RecordedFlusher.fetch.Goals as goal
@@ -49,43 +48,24 @@ invariant_of-self g c =
     let o = r.flusher in
     let n = c.fetch-fetched.new.self in
     let e = c.fetch-fetched.ensures in
-    let base = b.base o.board in
     let before = fetched_of o.before.value in
-    let all = accepted_of (entries_in (fetched_of o.fetch)) in
-    let first = at_first base (g.K.Device.Disk.state (s.disk c.args.self.now.first.value)) in
-    let last = at_moment base (g.K.Device.Disk.state (s.disk o.store)) o.number (b.published o.board) in
-    let told : released_entries n.held ≡ released_entries o.held = told_by_fetch c.fetch-fetched.result o.held n.held o.fetch n.fetch e.answer in
-    let number : n.number ≡ o.number =
-    omega (
-      arith,
-      n.number_is,
-      o.number_is,
-      ap (λ x. (b.base x).panel.count) e.same.0,
-      ap (λ x. length (accepted_of (entries_in (fetched_of x) ++ released_entries n.held))) e.same.2,
-      ap (λ t. length (accepted_of (entries_in before ++ t))) told,
-    ) in
-    let more = accepted_prefix (entries_in (fetched_of o.fetch)) (entries_in (fetched_of n.fetch)) (entries_prefix (fetched_of o.fetch) (fetched_of n.fetch) (fetched_more c.fetch-fetched.result o.held n.held o.fetch n.fetch e.answer)) in
-    let next = at_moment base (g.K.Device.Disk.state (s.disk n.store)) n.number (b.published o.board) in
     record {
+      device = r.device;
+      premise = r.premise;
       base = r.base ∙ sym (ap b.base e.same.0);
       honest = ∥∥₁_map r.honest (λ p h. subst g.K.Device.Disk.honest (sym e.store.disk) (p h));
       recovers = r.recovers;
+      shown = omega (arith, r.shown, ap (λ x. length (b.published x)) e.same.0);
       last = last_taken j.base j.first r.moments c.extend.new.self (moment_of (g.K.Device.Disk.state (s.disk n.store)) (accepted_of (entries_in (fetched_of n.fetch))) r.floor)
-          c.extend.result (not c.extend.result) refl (rw (c.keeper-2.ensures.keeper, c.fetch_ends.ensures) at c.extend.ensures);
+          c.extend.result (not c.extend.result) refl (rw (c.keeper-2.ensures.keeper, c.fetch_ends.ensures) at c.extend.ensures.taken);
+      untaken = last_lost j.honest j.recovers j.base j.first r.moments c.extend.new.self (moment_of (g.K.Device.Disk.state (s.disk n.store)) (accepted_of (entries_in (fetched_of n.fetch))) r.floor)
+          c.extend.result (not c.extend.result) refl (rw (c.keeper-2.ensures.keeper, c.fetch_ends.ensures) at c.extend.ensures.taken) (rw (c.keeper-2.ensures.keeper, c.fetch_ends.ensures) at c.extend.ensures.safe);
       stored = omega (
         arith,
         r.stored,
         stored_by_fetch (entries_in before) c.fetch-fetched.result o.held n.held o.fetch n.fetch e.answer,
         ap (λ x. length (accepted_of (entries_in (fetched_of x) ++ stored_of n.held))) e.same.2,
       );
-      course = rw e.same.0 (λ h. ∥∥₁_map (c.args.self.now.course h) (λ p.
-          let stands = subst (λ (k : _). (g.K.Device.Disk.honest (s.disk k)) → (i : List ℕ) → IsImage (g.K.Device.Disk.state (s.disk k)) i → ∥ s.recovers i (s.state k).stored ⊎ s.recovers i (s.state k).next ∥₁) c.keeper.ensures.keeper c.images.ensures.stands p.0 in
-          let safe = at_safe s.recovers g.met.K.Store.one g.met.K.Store.rules base (g.K.Device.Disk.state (s.disk o.store)) o.number (b.published o.board) before (fetched_of o.fetch) o.held (s.state o.store).stored (s.state o.store).next
-          o.held_is o.stored o.either o.number_is o.published stands in (
-            subst g.K.Device.Disk.honest (sym e.store.disk) p.0,
-            passed_of_prefix s.recovers base all (accepted_of (entries_in (fetched_of n.fetch))) first next more
-                (passed_on s.recovers base all first last next p.1 safe (inr (ap g.K.Device.Disk.state e.store.disk, omega (arith, number), omega arith))),
-          )));
       stopped = λ phase. r.stopped (ap (λ x. x.phase) (sym e.store.state) ∙ phase);
       given_up = λ up. r.given_up (given_up_by_fetch c.fetch-fetched.result o.held n.held o.fetch n.fetch e.answer up);
       count = omega (arith, r.count, ap g.K.Device.Disk.failures e.store.disk);

@@ -1,12 +1,8 @@
-use Rattle.std.proofs.Common.{◌⊎◌, inr, ◌≤◌, ◌∙◌, ℕ, List, refl, sym, ap, subst, arith}
+use Rattle.std.proofs.Common.{◌∙◌, length, sym, ap, subst, arith}
 use Rattle.std.proofs.Math.Logic.{∥∥₁_map}
-use Rattle.alm_disk.specs.Device.{IsImage}
 use Rattle.alm_model.specs.Judging.{accepted_of, entries_in}
-use Rattle.alm_rings.specs.Batches.{fetched_of}
-use Rattle.alm_rings.specs.Batches.{given_of}
+use Rattle.alm_rings.specs.Batches.{fetched_of, given_of}
 use Rattle.alm_moments.specs.Moments.{moment_of}
-use Rattle.alm_threads.specs.Moments.{at_first, at_moment}
-use Rattle.alm_threads.proofs.Moments.{at_safe, passed_on, told_by_giving}
 use Rattle.alm_threads.proofs.Causes.{given_up_by_giving}
 use Rattle.alm_threads.proofs.Recorded.{stored_by_giving}
 use Rattle.alm_threads.proofs.recorded_flusher.RecordedFlusher.give_back.Goals as goal
@@ -19,36 +15,20 @@ invariant_of-self g c =
     let o = r.flusher in
     let n = c.give_back.new.self in
     let e = c.give_back.ensures in
-    let base = b.base o.board in
-    let before = fetched_of o.before.value in
-    let all = accepted_of (entries_in (fetched_of o.fetch)) in
-    let first = at_first base (g.K.Device.Disk.state (s.disk c.args.self.now.first.value)) in
-    let last = at_moment base (g.K.Device.Disk.state (s.disk o.store)) o.number (b.published o.board) in
-    let number : o.number ≤ n.number =
-    omega (
-      arith,
-      told_by_giving c.give_back.result o.before.value n.before.value (fetched_of o.fetch) (fetched_of n.fetch) o.held n.held (given_of o.fetch) (given_of n.fetch) _ o.held_is n.held_is e.ends.1 e.given,
-      n.number_is,
-      o.number_is,
-      ap (λ x. (b.base x).panel.count) e.same.1,
-    ) in
     record {
+      device = r.device;
+      premise = r.premise;
       base = r.base ∙ sym (ap b.base e.same.1);
       honest = ∥∥₁_map r.honest (λ p h. subst (λ x. g.K.Device.Disk.honest (s.disk x)) (sym e.same.0) (p h));
       recovers = r.recovers;
       last = λ lost. r.last lost ∙ ap (λ x. moment_of (g.K.Device.Disk.state (s.disk x)) (accepted_of (entries_in (fetched_of o.fetch))) r.floor) (sym e.same.0) ∙ ap (λ l. moment_of (g.K.Device.Disk.state (s.disk n.store)) (accepted_of (entries_in l)) r.floor) (sym e.ends.1);
+      untaken = rw (e.same.0, e.ends.1) r.untaken;
+      shown = omega (arith, r.shown, ap (λ x. length (b.published x)) e.same.1);
       stored = omega (
         arith,
         r.stored,
         stored_by_giving c.give_back.result o.before.value n.before.value (fetched_of o.fetch) (fetched_of n.fetch) o.held n.held (given_of o.fetch) (given_of n.fetch) _ o.held_is n.held_is e.ends.1 e.given,
       );
-      course = rw (e.same.0, e.same.1, e.ends.1) (λ h. ∥∥₁_map (c.args.self.now.course h) (λ p.
-          let stands = subst (λ (k : _). (g.K.Device.Disk.honest (s.disk k)) → (i : List ℕ) → IsImage (g.K.Device.Disk.state (s.disk k)) i → ∥ s.recovers i (s.state k).stored ⊎ s.recovers i (s.state k).next ∥₁) c.keeper.ensures.keeper c.images.ensures.stands p.0 in
-          let safe = at_safe s.recovers g.met.K.Store.one g.met.K.Store.rules base (g.K.Device.Disk.state (s.disk o.store)) o.number (b.published o.board) before (fetched_of o.fetch) o.held (s.state o.store).stored (s.state o.store).next
-          o.held_is o.stored o.either o.number_is o.published stands in (
-            p.0,
-            passed_on s.recovers base all first last (at_moment base (g.K.Device.Disk.state (s.disk o.store)) n.number (b.published o.board)) p.1 safe (inr (refl, omega (arith, number), omega arith)),
-          )));
       stopped = λ phase. r.stopped (ap (λ x. (s.state x).phase) (sym e.same.0) ∙ phase);
       given_up = λ up. r.given_up (given_up_by_giving c.give_back.result o.held n.held (given_of o.fetch) (given_of n.fetch) _ _ e.given up);
       count = omega (arith, r.count, ap (λ x. g.K.Device.Disk.failures (s.disk x)) e.same.0);

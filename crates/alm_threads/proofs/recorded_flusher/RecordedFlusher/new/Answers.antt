@@ -1,4 +1,4 @@
-use Rattle.std.proofs.Common.{◌≡◌, ◌∙◌, [], sym, ap, subst, arith}
+use Rattle.std.proofs.Common.{◌≡◌, ◌↔◌, ◌∙◌, [], length, sym, ap, subst, arith}
 use Rattle.std.proofs.Math.Logic.{∥∥₁_map}
 use Rattle.alm_model.specs.Judging.{accepted_of, entries_in}
 use Rattle.alm_moments.specs.Moments.{moment_of, now_of}
@@ -41,3 +41,21 @@ invariant_of-result-clause-given_up g c = λ up. absurd (subst IsGivenUp c.new-f
 
 pub invariant_of-result-clause-count : goal.invariant_of-result-clause-count
 invariant_of-result-clause-count g c = omega (arith, ap (λ k. g.K.Device.Disk.failures (g.K.Store.disk k)) (c.of-first.ensures ∙ sym c.new-flusher.ensures.parts.0))
+
+pub invariant_of-result-clause-device : goal.invariant_of-result-clause-device
+invariant_of-result-clause-device g c = c.requires.named.device ∙ ap (λ k. g.K.Device.Disk.state (g.K.Store.disk k)) (sym c.of-first.ensures)
+
+pub invariant_of-result-clause-premise : goal.invariant_of-result-clause-premise
+invariant_of-result-clause-premise g c = subst (λ (k : _). ∥ (g.J.RunId.honest ↔ g.K.Device.Disk.honest (g.K.Store.disk k)) ∥₁) (sym c.of-first.ensures) c.requires.named.honest
+
+pub invariant_of-result-clause-untaken : goal.invariant_of-result-clause-untaken
+invariant_of-result-clause-untaken g c = λ lost. absurd (cc lost)
+
+pub invariant_of-result-clause-shown : goal.invariant_of-result-clause-shown
+invariant_of-result-clause-shown g c =
+    omega (
+      arith,
+      c.count-floor.ensures,
+      ap (λ q. q.panel.count) c.requires.named.base,
+      ap length (ap g.B.Board.published c.new-flusher.ensures.parts.1 ∙ c.requires.published),
+    )
