@@ -16,7 +16,7 @@ use Rattle.alm_store.specs.Recovery.{IsFrontPlant, IsSafe}
 use Rattle.alm_store.proofs.Recovery.{safe_by, front_is}
 use Rattle.alm_model.specs.Step.{run}
 use Rattle.alm_moments.specs.declared.recorded_moment.RecordedMoment.{RecordedMoment}
-use Rattle.alm_moments.specs.Moments.{first_values, moment_of, device_at, IsNextMoment, FollowOn, last_of, opening_moment, IsSafeMoment, AreMoments, AreHeld, StaysStored, now_of}
+use Rattle.alm_moments.specs.Moments.{first_values, moment_of, device_at, IsDevice, IsNextMoment, FollowOn, last_of, opening_moment, IsSafeMoment, AreMoments, AreHeld, StaysStored, now_of}
 
 get_first : (n : ℕ) (f : ℕ → Bool) (k : ℕ) → k < n → get_or (first_values n f) k false ≡ f k
 get_first zero f k lt = absurd (omega (arith, lt))
@@ -52,12 +52,19 @@ back_at d image i place not false is =
     beyond image place (omega (arith, i.size, out)) ∙ sym (beyond d.bytes place out)
 
 -- and what it may leave of the device it may leave at the moment
-pub image_back : (d : DeviceState) (accepted : List Action) (number : ℕ) (image : List ℕ) → IsImage d image → IsImage (device_at (moment_of d accepted number)) image
+image_back : (d : DeviceState) (accepted : List Action) (number : ℕ) (image : List ℕ) → IsImage d image → IsImage (device_at (moment_of d accepted number)) image
 image_back d accepted number image i = record {
   size = i.size;
   bytes = i.bytes;
   stable = λ place not. back_at d image i place not (nat_lt place (length d.bytes)) refl;
 }
+
+-- a crash may leave at a moment exactly what it may leave of its device
+pub images_at : (d : DeviceState) (m : RecordedMoment) → IsDevice d m → (image : List ℕ) → (IsImage d image ↔ IsImage (device_at m) image)
+images_at d m is image = (
+  λ i. rw (is.0, is.1, is.2) (image_back d [] 0 image i),
+  λ i. image_of d [] 0 image (rw (is.0, is.1, is.2) at i),
+)
 
 leads_on : (safe : RecordedMoment → Type 0) (m : RecordedMoment) (moments : List RecordedMoment) (next : RecordedMoment) → FollowOn safe m moments → IsNextMoment (last_of m moments) next → safe next → FollowOn safe m (moments ++ next ∷ [])
 leads_on safe m [] next l follows is = (follows, is, tt)

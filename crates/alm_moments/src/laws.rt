@@ -1,7 +1,9 @@
 //! Laws of a history of moments: each function does nothing, and its contract is the law.
-ghost use Rattle.std.specs.Prelude.{List};
+ghost use Rattle.std.specs.Prelude.{◌↔◌, ℕ, List};
 ghost use Rattle.alm_types.specs.declared.action.Action.{Action};
-ghost use Rattle.alm_moments.specs.Moments.{AreHeld, StaysStored};
+ghost use Rattle.alm_disk.specs.Device.{DeviceState, IsImage};
+ghost use Rattle.alm_moments.specs.Moments.{AreHeld, IsDevice, StaysStored, device_at};
+ghost use Rattle.alm_moments.specs.declared.recorded_moment.RecordedMoment.{RecordedMoment};
 
 use crate::moments::Moments;
 use crate::run_id::RunId;
@@ -13,3 +15,9 @@ pub fn what_is_held_stays_stored<J: RunId>(seen: &Moments<J>)
 {
     let _seen = seen;
 }
+
+/// What a crash may leave at a moment is what it may leave of the device at that moment.
+pub fn a_moment_has_the_images_of_its_device()
+    ensures { (d : DeviceState) (m : RecordedMoment) → IsDevice d m → (image : List ℕ) →
+        (IsImage d image ↔ IsImage (device_at m) image) }
+{}

@@ -25,6 +25,8 @@
 //!   reaches its floor (by `Moments::extend`)
 //! - **what is held at moments that were seen is held at each later one, whenever power fails** (by
 //!   `laws::what_is_held_stays_stored`)
+//! - what a crash may leave at a moment is what it may leave of the device then (by
+//!   `laws::a_moment_has_the_images_of_its_device`)
 #![tactic(auto)]
 
 mod append_moment;

@@ -3,7 +3,7 @@ ghost use Rattle.std.specs.Prelude.{◌≡◌, ◌++◌, ◌⊎◌, ◌∷◌, [
 ghost use mathlib.Core.List.{IsPrefix};
 ghost use Rattle.alm_model.specs.Judging.{accepted_of, entries_in};
 ghost use Rattle.alm_rings.specs.Batches.{fetched_of};
-ghost use Rattle.alm_moments.specs.Moments.{AreMoments, moment_of};
+ghost use Rattle.alm_moments.specs.Moments.{AreMoments, IsNextMoment, IsSafeMoment, moment_of, now_of};
 
 use crate::append_moment::AppendMoment;
 use crate::current_state::CurrentState;
@@ -93,17 +93,20 @@ impl<J: RunId> Moments<J> {
         }
     }
 
-    /// Adds the moment that is now. Nothing changes if the history is longer than this prefix, or has no room; the moment follows
-    /// then all the same.
+    /// Adds the moment that is now, which follows the last one. Nothing changes if the history is longer than this prefix, or has no
+    /// room; the moment follows it then all the same.
     pub fn extend<K: Store>(&mut self, length: &MomentsLength<J>, now: &CurrentState<'_, K>) -> bool
-        requires moments { AreMoments J.honest J.recovers J.base J.first
-            (self.old ++ moment_of (K.Device.state (K.disk now.now.store.now))
-            (accepted_of (entries_in (fetched_of now.now.fetch.now))) now.now.floor ∷ []) }
+        requires follows { J.honest → ∥ IsNextMoment (now_of J.base J.first self.old)
+            (moment_of (K.Device.state (K.disk now.now.store.now))
+            (accepted_of (entries_in (fetched_of now.now.fetch.now))) now.now.floor) ∥₁ }
+        requires safe { J.honest → ∥ IsSafeMoment J.recovers J.base
+            (moment_of (K.Device.state (K.disk now.now.store.now))
+            (accepted_of (entries_in (fetched_of now.now.fetch.now))) now.now.floor) ∥₁ }
         ensures taken { MatchBool result
             (self.new ≡ self.old ++ moment_of (K.Device.state (K.disk now.now.store.now))
             (accepted_of (entries_in (fetched_of now.now.fetch.now))) now.now.floor ∷ [])
             (self.new ≡ self.old) }
-        ensures safe { AreMoments J.honest J.recovers J.base J.first
+        ensures moments { AreMoments J.honest J.recovers J.base J.first
             (self.old ++ moment_of (K.Device.state (K.disk now.now.store.now))
             (accepted_of (entries_in (fetched_of now.now.fetch.now))) now.now.floor ∷ []) }
     {

@@ -39,7 +39,7 @@
 //!
 //! What is used above: what is written, by how it ends; N is how many actions are stored. Also what was run: all slots
 //! in threads, from the plant of an image of the device. At each moment of that run, whatever a crash leaves of an
-//! honest device encodes a prefix of what was accepted by then. It contains all that may be reported by then. The run leads to the
+//! honest device encodes a prefix of what was accepted by then. It reaches the moment's floor: what may be reported. The run leads to the
 //! device that is returned. `Ok` is returned only after a whole run, and `stopped N` is written only after one; `Storage` is
 //! returned only after a run that stopped for a cause, which is returned too. `Open` says what the device became by an opening's
 //! calls, and is the device's fault only if a failure was counted. After `Net`, `Memory`, and `Write` without a whole run, the

@@ -227,8 +227,8 @@ fn serve_over<
 /// At the end it writes `stopped N`: how many actions are stored.
 ///
 /// In between the server's threads run. At each moment of that run, what a power failure leaves of an honest device
-/// encodes a prefix of what was accepted by then. The prefix contains every number that was released by then and all that a
-/// query can have shown. If nothing was run, the device is as an opening leaves it.
+/// encodes a prefix of what was accepted by then. The prefix reaches the moment's floor, at the end every number that was released.
+/// If nothing was run, the device is as an opening leaves it.
 fn serve_device<D: Disk + Drop, L: Listen<R>, W: io::Write, R: Threads + Wait + Clock + Sync>(
     rt: &R,
     alloc: Global,

@@ -24,7 +24,6 @@ use Rattle.alm_threads.specs.Answered.{AllAnswered, IsSlotAnswered}
 use Rattle.alm_threads.specs.Finished.{HaveInboxes, IsAllAnswered, IsTaken}
 use Rattle.alm_threads.specs.Runs.{AreClosed, IsClosed}
 use Rattle.alm_threads.specs.Same.{AllSame}
-use Rattle.alm_threads.specs.Slots.{AreTied}
 use Rattle.alm_threads.proofs.Serves.{some_still}
 use Rattle.alm_threads.proofs.Tied.{all_same_at, pair_on, received_count, replies_count, wants_count, was_in}
 
@@ -81,9 +80,6 @@ module _ {T : Type 0} {g : Ghosts T} where
         let i = was_in (inbox_at c.0.slot is) j (subst (λ o. SameInboxAt (inbox_at c.0.slot is) o) (ap (λ s. inbox_at s js) (sym c.1.1.2) ∙ its) (ins c.0.slot)) in
         pair_on c.0 d i.0 j c.1.1 i.1.1 (have.requests k c.0 i.0 c.1.0 i.1.0));
   }
-
-  pub have_tied : (cs : List (Console T g)) (is : List Inbox) (os : List (Outbox T g)) → AreTied cs is os → HaveInboxes cs is
-  have_tied cs is os tied = record { has_inbox = tied.has_inbox; requests = tied.requests }
 
   -- all that was fetched was released, and it is all that was taken
   pub answered_all : (s : ℕ) (before fetched sealed : List Batch) (open' : List Entry) (h : Held) (released : List (Receipt T g)) (taken : List Action)

@@ -1,5 +1,5 @@
 -- A run's moments, and what a flusher's device encodes at each.
-use Rattle.std.proofs.Common.{◌≡◌, ◌⊎◌, ⊎_elim, ◌↔◌, ◌≤◌, ◌+◌, ◌∙◌, ℕ, List, [], ◌∷◌, ◌++◌, length, refl, sym, ap, subst, arith, length-append}
+use Rattle.std.proofs.Common.{◌≡◌, ◌≢◌, ◌⊎◌, ⊎_elim, ◌↔◌, ◌≤◌, ◌+◌, ◌∙◌, ℕ, List, [], ◌∷◌, ◌++◌, length, refl, sym, ap, subst, arith, length-append}
 use Rattle.std.specs.Prelude.{Bool, true, false}
 use Rattle.std.proofs.lemmas.List.{append_assoc, append-nil}
 use Rattle.std.proofs.Props.{props}
@@ -44,6 +44,11 @@ pub fetched_more : (r : F.Fetch) (old new : Held) (from to : FetchEnds) → Fetc
 fetched_more F.TheVariants.Got old new from to a = (a.1.batch ∷ [], sym a.1.fetched)
 fetched_more F.TheVariants.Empty old new from to a = ([], append-nil (fetched_of from) ∙ sym a.2)
 fetched_more F.TheVariants.Held old new from to a = ([], append-nil (fetched_of from) ∙ sym (ap fetched_of a.2))
+
+pub not_fetched : (r : F.Fetch) (old new : Held) (from to : FetchEnds) → FetchAnswers r old new from to → r ≢ F.TheVariants.Got → fetched_of to ≡ fetched_of from
+not_fetched F.TheVariants.Got old new from to a not = absurd (not refl)
+not_fetched F.TheVariants.Empty old new from to a not = a.2
+not_fetched F.TheVariants.Held old new from to a not = ap fetched_of a.2
 
 -- what is published is stored
 held_le : (h : Held) → length (accepted_of (published_entries h)) ≤ length (accepted_of (stored_of h))

@@ -36,7 +36,7 @@ fn rings_of<P: Alarms + Drop>(sequencer: Sequencer<P>) -> Rings
 
 /// Closes the board, and returns the other parts of a flusher, and its history. Whatever a crash leaves of the device then encodes
 /// what is stored, or that with the batch whose commit wasn't done. Before and after each of its calls it encoded a prefix of what
-/// had been fetched by then, which contains all that had been released or published.
+/// had been fetched by then, which reaches the moment's floor. At the end the floor reaches all that was released.
 pub fn close_flusher<
     K: Store,
     T: Told + Drop,

@@ -122,8 +122,8 @@ fn step<
     answer(flusher, pace)
 }
 
-/// Commits, publishes and releases until no batch will be sealed and none is left, or the store has stopped, or a publish was
-/// refused 1,000 times in a row. The threads that wait for what it does are woken.
+/// Commits, publishes and releases until no batch will be sealed and none is left, or there is a cause to stop. The threads that
+/// wait for what it does are woken.
 pub fn flush<
     K: Store,
     T: Told + Drop,

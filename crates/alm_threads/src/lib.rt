@@ -16,7 +16,7 @@
 //! |---|---|---|
 //! | of each slot | [`run_source`]: one turn of its [`Source`] after another | after a turn that returns [`Go::End`], or before one if all are to stop |
 //! | the sequencer's | [`run_sequencer`]: takes requests from each slot in turn, 14 in a row at most, and seals batches | all sources had ended, a pass took nothing, and the open batch is empty; or all are to stop |
-//! | the flusher's | [`flush`]: commits, publishes and releases batches, and wakes the slots | no batch will be sealed and a fetch gave none; the device failed; or 1,000 publishes in a row were refused |
+//! | the flusher's | [`flush`]: commits, publishes and releases batches, and wakes the slots | no batch will be sealed and a fetch gave none; or there is a [`StopCause`] |
 //!
 //! When they seal, sleep and wake each other is alm_wake's, and no contract here rests on it.
 //!
@@ -52,8 +52,9 @@
 //!   prefix of that (by `parts_of`, `run_threads`, `run_with_bells`)
 //! - **single calls led from the opened device to the report's. At each state each image of an honest one holds a prefix of
 //!   what was accepted by then** (by `run_with_bells`)
-//! - **that prefix reaches all that may be reported by then, at the end every number released. The report has the history of
-//!   these moments** (by `run_with_bells`, the type `RunReport`)
+//! - **that prefix reaches the moment's floor, at the end every number released. The report has the history of these
+//!   moments** (by `run_with_bells`, the type `RunReport`)
+//! - no receipt or look has more than the floor of its moments says (by the types `Durable`, `RecordedFlusher`)
 //! - reports stand in the order of slots; whole is said exactly if the store goes on and all that was sent was taken and
 //!   answered (by `run_with_bells`, the type `RunReport`)
 //! - **a run that isn't whole has its cause: a failed step of the store, 1,000 refused publishes in a row, or no further

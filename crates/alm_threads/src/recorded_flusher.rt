@@ -46,7 +46,8 @@ fn refused_after(published: Publishes, refused: u64) -> u64
 }
 
 /// A flusher, with the moments of its run. Before each of its steps whatever a crash leaves of an honest device is safe, and a
-/// step makes one device call, or none. Each call, each batch that is fetched and each publish adds a moment to the run's history.
+/// step makes one device call, or none. Each step of a commit and each batch that is fetched add a moment to the run's history, and
+/// so does what is stored before it is published.
 #[derive(Drop)]
 pub struct RecordedFlusher<K: Store, T: Told + Drop, B: Board<Told = T>, J: RunId> {
     flusher: Flusher<K, T, B>,
@@ -172,12 +173,13 @@ impl<K: Store, T: Told + Drop, B: Board<Told = T>, J: RunId> RecordedFlusher<K, 
         self.flusher.batches_beside(seal);
     }
 
-    /// Fetches the next sealed batch.
+    /// Fetches the next sealed batch. One that is fetched adds a moment.
     pub fn fetch(&mut self) -> Fetch
         ensures fetch { SameFetchEnds self.old.flusher.fetch self.new.flusher.fetch }
         ensures same { (self.new.flusher.board ≡ self.old.flusher.board) ×
             (self.new.flusher.outboxes ≡ self.old.flusher.outboxes) ×
-            (self.new.first ≡ self.old.first) × (self.new.failed ≡ self.old.failed) }
+            (self.new.first ≡ self.old.first) × (self.new.failed ≡ self.old.failed) ×
+            (self.new.refused ≡ self.old.refused) }
         ensures honest { K.Device.honest (K.disk self.old.flusher.store) ↔
             K.Device.honest (K.disk self.new.flusher.store) }
         ensures empty { result ≡ Fetch.Empty → (self.new.flusher.held ≡ Nothing) ×
@@ -190,9 +192,11 @@ impl<K: Store, T: Told + Drop, B: Board<Told = T>, J: RunId> RecordedFlusher<K, 
         if self.failed {
             return Fetch::Held;
         }
-        self.moments.stands();
         self.flusher.keeper().images();
         let fetched = self.flusher.fetch();
+        if fetched != Fetch::Got {
+            return fetched;
+        }
         let now = CurrentState {
             store: self.flusher.keeper(),
             fetch: self.flusher.fetch_ends(),
@@ -206,7 +210,8 @@ impl<K: Store, T: Told + Drop, B: Board<Told = T>, J: RunId> RecordedFlusher<K, 
     pub fn advance(&mut self) -> Advance
         ensures same { (self.new.flusher.board ≡ self.old.flusher.board) ×
             (self.new.flusher.outboxes ≡ self.old.flusher.outboxes) ×
-            (self.new.flusher.fetch ≡ self.old.flusher.fetch) × (self.new.first ≡ self.old.first) }
+            (self.new.flusher.fetch ≡ self.old.flusher.fetch) × (self.new.first ≡ self.old.first) ×
+            (self.new.refused ≡ self.old.refused) }
         ensures honest { K.Device.honest (K.disk self.old.flusher.store) ↔
             K.Device.honest (K.disk self.new.flusher.store) }
     {
@@ -216,7 +221,6 @@ impl<K: Store, T: Told + Drop, B: Board<Told = T>, J: RunId> RecordedFlusher<K, 
         if self.failed {
             return Advance::Failed;
         }
-        self.moments.stands();
         let advanced = self.flusher.advance();
         let store = self.flusher.keeper();
         store.images();
@@ -230,7 +234,31 @@ impl<K: Store, T: Told + Drop, B: Board<Told = T>, J: RunId> RecordedFlusher<K, 
         advanced
     }
 
-    /// Shows the committed batch. A moment comes first, from which on all that is stored may be reported.
+    // Lets all that is stored be reported: if that is more than before, by a moment. Whether the history has it.
+    fn raise_floor(&mut self) -> bool
+        requires { self.old.lost ≡ false }
+        ensures same { (self.new.flusher ≡ self.old.flusher) × (self.new.first ≡ self.old.first) ×
+            (self.new.failed ≡ self.old.failed) × (self.new.refused ≡ self.old.refused) }
+        ensures raised { result ≡ true → (self.new.lost ≡ false) ×
+            (self.new.floor ≡ (K.state self.old.flusher.store).stored.panel.count) }
+    {
+        let store = self.flusher.keeper();
+        store.images();
+        let stored = store.count();
+        if stored == self.floor {
+            return true;
+        }
+        let now = CurrentState {
+            store,
+            fetch: self.flusher.fetch_ends(),
+            floor: stored,
+        };
+        self.floor = stored;
+        self.lost = !self.moments.extend(&self.recorder, &now);
+        !self.lost
+    }
+
+    /// Shows the committed batch. All that is stored may be reported before it.
     pub fn publish<R: Wait>(&mut self, rt: &R) -> Publishes
     where
         B: Publish<R, Moments<J>>,
@@ -239,23 +267,13 @@ impl<K: Store, T: Told + Drop, B: Board<Told = T>, J: RunId> RecordedFlusher<K, 
             (self.new.flusher.fetch ≡ self.old.flusher.fetch) × (self.new.first ≡ self.old.first) }
         ensures base { B.Board.base self.new.flusher.board ≡ B.Board.base self.old.flusher.board }
         ensures refused { (self.new.refused ≤ self.old.refused + 1) ×
-            (self.old.refused < self.new.refused → result ≡ Publishes.OutOfMemory) }
+            (self.old.refused < self.new.refused → result ≡ Publishes.OutOfMemory) ×
+            (result ≡ Publishes.Published → self.new.refused ≡ 0) }
     {
         if self.lost {
             return Publishes::NotYet;
         }
-        self.moments.stands();
-        let store = self.flusher.keeper();
-        store.images();
-        let stored = store.count();
-        let now = CurrentState {
-            store,
-            fetch: self.flusher.fetch_ends(),
-            floor: stored,
-        };
-        self.floor = stored;
-        if !self.moments.extend(&self.recorder, &now) {
-            self.lost = true;
+        if !self.raise_floor() {
             return Publishes::NotYet;
         }
         let published = self.flusher.publish::<R, Moments<J>>(rt, &self.moments);
@@ -277,7 +295,8 @@ impl<K: Store, T: Told + Drop, B: Board<Told = T>, J: RunId> RecordedFlusher<K, 
             (outbox_at s self.new.flusher.outboxes.items) }
         ensures same { (self.new.flusher.store ≡ self.old.flusher.store) ×
             (self.new.flusher.board ≡ self.old.flusher.board) ×
-            (self.new.flusher.fetch ≡ self.old.flusher.fetch) × (self.new.first ≡ self.old.first) }
+            (self.new.flusher.fetch ≡ self.old.flusher.fetch) × (self.new.first ≡ self.old.first) ×
+            (self.new.refused ≡ self.old.refused) }
     {
         self.flusher.release()
     }
@@ -288,7 +307,7 @@ impl<K: Store, T: Told + Drop, B: Board<Told = T>, J: RunId> RecordedFlusher<K, 
         ensures same { (self.new.flusher.store ≡ self.old.flusher.store) ×
             (self.new.flusher.board ≡ self.old.flusher.board) ×
             (self.new.flusher.outboxes ≡ self.old.flusher.outboxes) ×
-            (self.new.first ≡ self.old.first) }
+            (self.new.first ≡ self.old.first) × (self.new.refused ≡ self.old.refused) }
     {
         self.flusher.give_back()
     }

@@ -9,7 +9,7 @@ use Rattle.alm_store.specs.declared.phase.Phase.TheVariants.{Stopped}
 use Rattle.alm_flush.specs.HeldBatch.{stored_of}
 use Rattle.alm_model.specs.Step.{run}
 use Rattle.alm_moments.specs.Moments.{moment_of, now_of}
-use Rattle.alm_moments.proofs.Courses.{goes_on, by_call, by_none, last_lost, last_taken, prefix_self}
+use Rattle.alm_moments.proofs.Courses.{by_call, by_none, last_lost, last_taken, prefix_self}
 use Rattle.alm_threads.proofs.Causes.{clash, failed_as, failed_since, given_up_by_advance, held_cases, must_fail, next_held}
 use Rattle.alm_threads.proofs.Recorded.{named_safe, stored_by_advance}
 use Rattle.alm_threads.proofs.recorded_flusher.RecordedFlusher.advance.Goals as goal
@@ -39,13 +39,12 @@ extend-requires g c =
     ) in
     let stands = subst (λ (k : _). (g.K.Device.Disk.honest (s.disk k)) → (i : List ℕ) → IsImage (g.K.Device.Disk.state (s.disk k)) i → ∥ s.recovers i (s.state k).stored ⊎ s.recovers i (s.state k).next ∥₁) c.keeper-store.ensures.keeper c.images.ensures.stands in
     rw (c.keeper-store.ensures.keeper, c.fetch_ends.ensures) (record {
-      moments = goes_on j.honest j.recovers j.base j.first r.moments (moment_of new all r.floor) c.stands.ensures
-          (λ h. ∥∥₁_map r.honest (λ p. ⊎_elim
+      follows = λ h. ∥∥₁_map r.honest (λ p. ⊎_elim
           (λ same. by_none now old new all all r.floor r.floor last same (prefix_self all) (omega arith))
-          (λ call. by_call now old new all r.floor last call) (e.device.call (p h))))
-          (λ h. ∥∥₁_elim r.honest (hlevel props) (λ p.
+          (λ call. by_call now old new all r.floor last call) (e.device.call (p h)));
+      safe = λ h. ∥∥₁_elim r.honest (hlevel props) (λ p.
           named_safe j.recovers s.recovers g.met.K.Store.one g.met.K.Store.rules r.recovers j.base before (fetched_of n.fetch) n.held r.floor new (s.state n.store).stored (s.state n.store).next
-          n.held_is (n.stored ∙ ap (λ q. run q (accepted_of (entries_in before ++ stored_of n.held))) (sym base)) n.either enough (stands (e.device.honest.0 (p h)))));
+          n.held_is (n.stored ∙ ap (λ q. run q (accepted_of (entries_in before ++ stored_of n.held))) (sym base)) n.either enough (stands (e.device.honest.0 (p h))));
     })
 
 pub invariant_of-self : goal.invariant_of-self
@@ -69,7 +68,7 @@ invariant_of-self g c =
       last = last_taken j.base j.first r.moments c.extend.new.self (moment_of (g.K.Device.Disk.state (s.disk n.store)) (accepted_of (entries_in (fetched_of n.fetch))) r.floor)
           c.extend.result (not c.extend.result) refl (rw (c.keeper-store.ensures.keeper, c.fetch_ends.ensures) at c.extend.ensures.taken);
       untaken = last_lost j.honest j.recovers j.base j.first r.moments c.extend.new.self (moment_of (g.K.Device.Disk.state (s.disk n.store)) (accepted_of (entries_in (fetched_of n.fetch))) r.floor)
-          c.extend.result (not c.extend.result) refl (rw (c.keeper-store.ensures.keeper, c.fetch_ends.ensures) at c.extend.ensures.taken) (rw (c.keeper-store.ensures.keeper, c.fetch_ends.ensures) at c.extend.ensures.safe);
+          c.extend.result (not c.extend.result) refl (rw (c.keeper-store.ensures.keeper, c.fetch_ends.ensures) at c.extend.ensures.taken) (rw (c.keeper-store.ensures.keeper, c.fetch_ends.ensures) at c.extend.ensures.moments);
       stored = omega (
         arith,
         r.stored,
