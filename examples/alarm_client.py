@@ -308,9 +308,9 @@ class Client:
         """The annunciated alarms of an area, the oldest annunciation first."""
         return self.listing(f"LIST A {area}")
 
-    def wheel_list(self, slot: int) -> Listing:
-        """The shelved alarms whose deadline is this slot modulo 256, in the order of their shelving."""
-        return self.listing(f"LIST S {slot}")
+    def wheel_list(self, number: int) -> Listing:
+        """The shelved alarms whose deadline modulo 256 is this number, in the order of their shelving."""
+        return self.listing(f"LIST S {number}")
 
     def shelved(self) -> list[int]:
         """All shelved alarms."""

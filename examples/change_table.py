@@ -8,7 +8,8 @@ It asks `alm_server export OLD` and `alm_server show OLD`, and prints desk lines
 every tag that both tables have they bring the condition, the acknowledgement, what is left of a shelving, the flags, the priority and
 the setpoint. Annunciated alarms come in the order of the old lists. After the lines `show NEW` says of these alarms what `show OLD` said.
 
-Where the new table can't hold something, as a shelving longer than its max_shelve, standard error says so, and the status is 1.
+If the new table can't hold something, as a shelving longer than its max_shelve, standard error says so, and the status is 4: all else is
+brought. With any other status but 0 nothing is.
 
 Not brought: the count of actions, which begins anew; the moments of annunciations, so FLOOD, STALE and CHATTER begin without them; the order
 within LIST S. With --new-values priorities and setpoints are those of the new table.
@@ -37,6 +38,8 @@ PROGRAM = pathlib.Path(__file__).resolve().parent.parent / "alm_server"
 CONSOLE = 0
 # A plant's clock stands below this.
 MOMENTS = 2**40
+# The status if the new table can't hold something.
+KEPT_BACK = 4
 # How long an annunciation counts in FLOOD and CHATTER, in seconds: what is brought stands farther back than that.
 WINDOW = 600
 GONE = ("RTNUN", "LATUN", "LATAK")
@@ -223,7 +226,7 @@ def main() -> None:
     for line in change.lines():
         print(line)
     report(change)
-    sys.exit(1 if change.kept_back else 0)
+    sys.exit(KEPT_BACK if change.kept_back else 0)
 
 
 if __name__ == "__main__":

@@ -168,6 +168,19 @@ def bring(yard: Yard, old: str, table: str, words: list[object], said: str) -> i
     return len(replies)
 
 
+def kept_back(yard: Yard) -> str:
+    """What a new table can't hold has a status of its own, and all else is brought. Without a table to go by nothing is."""
+    alarms = [Alarm("high", 10, 1, 0, f"T-{number}", max_shelve=3600) for number in range(2)]
+    old = yard.format("held.device", yard.write("held.toml", toml(Table(device_size(2, 1), 1, alarms))))
+    yard.run("desk", old, lines="17 1 CLOCK 1000\n0 2 SHELVE 0 3000\n0 3 OOS 1 ON\n")
+    shorter = yard.write("shorter.toml", toml(Table(device_size(2, 1), 1, [replace(alarms[0], max_shelve=60), alarms[1]])))
+    run = tool("change_table.py", old, shorter, "--program", yard.program)
+    check(run.returncode == 4 and "T-0: " in run.stderr and "SHELVE 0 60\n" in run.stdout and "OOS 1 ON\n" in run.stdout, run)
+    run = tool("change_table.py", old, yard.write("broken.toml", "size = "), "--program", yard.program)
+    check(run.returncode == 1 and "change_table: " in run.stderr and not run.stdout, run)
+    return "a shelving that a new table can't hold"
+
+
 def draw_lines(dice: random.Random, alarms: list[Alarm]) -> Iterator[str]:
     """Desk lines that bring about each state."""
     clock = dice.choice([0, 100, 5000])

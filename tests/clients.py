@@ -102,6 +102,7 @@ CHECKS: dict[str, Callable[[Yard, int], str]] = {
     "served": lambda yard, step: check_tables.export_served(yard, 60 // step),
     "largest": lambda yard, _: check_tables.export_largest(yard),
     "changes": lambda yard, step: check_tables.changes(yard, 100 // step),
+    "kept_back": lambda yard, _: check_tables.kept_back(yard),
     "feed": lambda yard, _: check_feed.feed(yard),
     "machines": lambda yard, _: check_feed.two_machines(yard),
     "takeover": lambda yard, _: check_feed.takeover(yard),
