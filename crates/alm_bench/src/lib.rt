@@ -33,8 +33,8 @@
 //! - each commit ends: at most 646 calls of a held batch return More (by `life`, `whole_life`, `step`, `run`)
 //! - fair rounds, as many as steps were left, in which no call fails, receive all that was sent before them (by `run`;
 //!   `laws::fair_rounds_answer_all`)
-//! - opening then returns a plant, Disk or out of memory, never Unformatted or Damaged; no Call is more than one device
-//!   call (by `life`, `step`, `run`)
+//! - opening then returns a plant, Disk or out of memory, never Unformatted or Damaged; a Call does to the device what one
+//!   device call does, or nothing (by `life`, `step`, `run`)
 #![tactic(auto)]
 
 mod bench;

@@ -33,6 +33,6 @@ Outages recovers base [] last = last ≡ base
 Outages recovers base (one ∷ more) last = (next : Condensed) × Outage recovers base one next × Outages recovers next more last
 
 -- run after run what it had reported was done, and then others of what it had accepted
-abbrev pub Keeps : Condensed → List ByOutage → Condensed → Type 0
-Keeps base [] last = last ≡ base
-Keeps base (one ∷ more) last = (others : List Action) × IsPrefix (one.told ++ others) one.accepted × Keeps (run base (one.told ++ others)) more last
+abbrev pub KeepsReported : Condensed → List ByOutage → Condensed → Type 0
+KeepsReported base [] last = last ≡ base
+KeepsReported base (one ∷ more) last = (others : List Action) × IsPrefix (one.told ++ others) one.accepted × KeepsReported (run base (one.told ++ others)) more last

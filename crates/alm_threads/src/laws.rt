@@ -2,7 +2,7 @@
 
 ghost use Rattle.std.specs.Prelude.{List};
 ghost use Rattle.alm_model.specs.Plant.{Condensed};
-ghost use Rattle.alm_threads.specs.Outages.{ByOutage, Keeps, Outages};
+ghost use Rattle.alm_threads.specs.Outages.{ByOutage, KeepsReported, Outages};
 
 use alm_store::Store;
 
@@ -11,5 +11,5 @@ use alm_store::Store;
 /// those of each come others that it had accepted, or none.
 pub fn what_was_told_outlasts_outages<K: Store>()
     ensures { (base last : Condensed) (runs : List ByOutage) →
-        Outages K.recovers base runs last → ∥ Keeps base runs last ∥₁ }
+        Outages K.recovers base runs last → ∥ KeepsReported base runs last ∥₁ }
 {}
