@@ -93,11 +93,13 @@ pub struct RecordedFlusher<K: Store, T: Told + Drop, B: Board<Told = T>, J: RunI
 }
 
 impl<K: Store, T: Told + Drop, B: Board<Told = T>, J: RunId> RecordedFlusher<K, T, B, J> {
-    ghost use Rattle.std.specs.Prelude.{◌≡◌, ◌↔◌, ◌+◌, ◌<◌, ◌≤◌, ◌++◌, [], ℕ, List, slice_get, true, false, IfSome, Some, None};
-    ghost use Rattle.alm_rings.specs.Batches.{AreBatchEnds, SameFetchEnds, SameSealEnds, coming_in, fetched_of, sealed_of};
+    ghost use Rattle.std.specs.Prelude.{◌≡◌, ◌↔◌, ◌+◌, ◌<◌, ◌≤◌, ◌++◌, [], ℕ, List, slice_get, true, false, IfSome, MatchBool, Some, None};
+    ghost use Rattle.alm_rings.specs.Batches.{AreBatchEnds, SameFetchEnds, SameSealEnds, coming_in, fetched_of, given_of, sealed_of};
     ghost use Rattle.alm_flush.specs.declared.held.Held.TheVariants.{Nothing};
     ghost use Rattle.alm_rings.specs.Placed.{AreApart, SameOutboxAt, outbox_at, released_by};
-    ghost use Rattle.alm_flush.specs.HeldBatch.{next_entry_of};
+    ghost use Rattle.alm_flush.specs.Flushes.{AdvanceAnswers, FetchAnswers, GivesBack, PublishAnswers, ReleaseAnswers};
+    ghost use Rattle.alm_flush.specs.HeldBatch.{next_entry_of, to_commit};
+    ghost use Rattle.alm_flush.specs.Steps.{CallsDevice};
     ghost use Rattle.alm_threads.specs.Causes.{StopsFor};
     ghost use Rattle.alm_rings.specs.declared.receipt.Receipt.{Receipt};
 
@@ -185,6 +187,9 @@ impl<K: Store, T: Told + Drop, B: Board<Told = T>, J: RunId> RecordedFlusher<K, 
         ensures empty { result ≡ Fetch.Empty → (self.new.flusher.held ≡ Nothing) ×
             (fetched_of self.new.flusher.fetch ≡ fetched_of self.old.flusher.fetch) ×
             (coming_in self.old.flusher.fetch ≡ []) }
+        ensures answer { self.old.lost ≡ false → self.old.failed ≡ false →
+            FetchAnswers result self.old.flusher.held self.new.flusher.held self.old.flusher.fetch
+            self.new.flusher.fetch }
     {
         if self.lost {
             return Fetch::Held;
@@ -214,6 +219,12 @@ impl<K: Store, T: Told + Drop, B: Board<Told = T>, J: RunId> RecordedFlusher<K, 
             (self.new.refused ≡ self.old.refused) }
         ensures honest { K.Device.honest (K.disk self.old.flusher.store) ↔
             K.Device.honest (K.disk self.new.flusher.store) }
+        ensures answer { self.old.lost ≡ false → self.old.failed ≡ false →
+            AdvanceAnswers result (K.state self.old.flusher.store).phase self.old.flusher.held
+            self.new.flusher.held }
+        ensures device { self.old.lost ≡ false → self.old.failed ≡ false →
+            CallsDevice K.Store K.Device.Disk result (to_commit self.old.flusher.held)
+            self.old.flusher.store self.new.flusher.store }
     {
         if self.lost {
             return Advance::Failed;
@@ -241,6 +252,7 @@ impl<K: Store, T: Told + Drop, B: Board<Told = T>, J: RunId> RecordedFlusher<K, 
             (self.new.failed ≡ self.old.failed) × (self.new.refused ≡ self.old.refused) }
         ensures raised { result ≡ true → (self.new.lost ≡ false) ×
             (self.new.floor ≡ (K.state self.old.flusher.store).stored.panel.count) }
+        ensures lost { result ≡ false → self.new.lost ≡ true }
     {
         let store = self.flusher.keeper();
         store.images();
@@ -269,6 +281,8 @@ impl<K: Store, T: Told + Drop, B: Board<Told = T>, J: RunId> RecordedFlusher<K, 
         ensures refused { (self.new.refused ≤ self.old.refused + 1) ×
             (self.old.refused < self.new.refused → result ≡ Publishes.OutOfMemory) ×
             (result ≡ Publishes.Published → self.new.refused ≡ 0) }
+        ensures answer { self.new.lost ≡ false →
+            PublishAnswers result self.old.flusher.held self.new.flusher.held }
     {
         if self.lost {
             return Publishes::NotYet;
@@ -297,6 +311,10 @@ impl<K: Store, T: Told + Drop, B: Board<Told = T>, J: RunId> RecordedFlusher<K, 
             (self.new.flusher.board ≡ self.old.flusher.board) ×
             (self.new.flusher.fetch ≡ self.old.flusher.fetch) × (self.new.first ≡ self.old.first) ×
             (self.new.refused ≡ self.old.refused) }
+        ensures answer { ReleaseAnswers result self.old.flusher.held self.new.flusher.held
+            self.old.flusher.outboxes.items self.new.flusher.outboxes.items
+            (B.base self.old.flusher.board) (K.state self.old.flusher.store).stored
+            (B.published self.old.flusher.board) }
     {
         self.flusher.release()
     }
@@ -308,6 +326,10 @@ impl<K: Store, T: Told + Drop, B: Board<Told = T>, J: RunId> RecordedFlusher<K, 
             (self.new.flusher.board ≡ self.old.flusher.board) ×
             (self.new.flusher.outboxes ≡ self.old.flusher.outboxes) ×
             (self.new.first ≡ self.old.first) × (self.new.refused ≡ self.old.refused) }
+        ensures given { MatchBool result
+            (GivesBack self.old.flusher.held self.new.flusher.held
+            (given_of self.old.flusher.fetch) (given_of self.new.flusher.fetch))
+            (self.new.flusher.held ≡ self.old.flusher.held) }
     {
         self.flusher.give_back()
     }
