@@ -1,5 +1,5 @@
 //! A flusher, with the moments of its run.
-ghost use Rattle.std.specs.Prelude.{◌≡◌, ◌≢◌, ◌↔◌, ◌+◌, ◌<◌, ◌≤◌, ◌++◌, ◌∷◌, [], ℕ, List, false, true, length, MatchBool};
+ghost use Rattle.std.specs.Prelude.{◌≡◌, ◌≢◌, ◌↔◌, ◌+◌, ◌-◌, ◌^◌, ◌<◌, ◌≤◌, ◌++◌, ◌∷◌, [], ℕ, List, false, true, length, MatchBool};
 ghost use Rattle.alm_model.specs.Plant.{Condensed};
 ghost use Rattle.alm_model.specs.Judging.{accepted_of, entries_in};
 ghost use Rattle.alm_disk.specs.Failures.{HasFailed};
@@ -37,6 +37,8 @@ fn refused_after(published: Publishes, refused: u64) -> u64
     ensures more { result ≤ refused + 1 }
     ensures refused { refused < result → published ≡ Publishes.OutOfMemory }
     ensures published { published ≡ Publishes.Published → result ≡ 0 }
+    ensures counted { published ≡ Publishes.OutOfMemory → refused < 2 ^ 64 - 1 →
+        result ≡ refused + 1 }
 {
     match published {
         Publishes::Published => 0,
@@ -93,11 +95,11 @@ pub struct RecordedFlusher<K: Store, T: Told + Drop, B: Board<Told = T>, J: RunI
 }
 
 impl<K: Store, T: Told + Drop, B: Board<Told = T>, J: RunId> RecordedFlusher<K, T, B, J> {
-    ghost use Rattle.std.specs.Prelude.{◌≡◌, ◌↔◌, ◌+◌, ◌<◌, ◌≤◌, ◌++◌, [], ℕ, List, slice_get, true, false, IfSome, MatchBool, Some, None};
-    ghost use Rattle.alm_rings.specs.Batches.{AreBatchEnds, SameFetchEnds, SameSealEnds, coming_in, fetched_of, given_of, sealed_of};
+    ghost use Rattle.std.specs.Prelude.{◌≡◌, ◌↔◌, ◌+◌, ◌-◌, ◌^◌, ◌<◌, ◌≤◌, ◌++◌, [], ℕ, List, slice_get, true, false, IfSome, MatchBool, Some, None};
+    ghost use Rattle.alm_rings.specs.Batches.{AreBatchEnds, SameFetchEnds, SameSealEnds, coming_in, fetched_of, given_of, places_in, sealed_of};
     ghost use Rattle.alm_flush.specs.declared.held.Held.TheVariants.{Nothing};
     ghost use Rattle.alm_rings.specs.Placed.{AreApart, SameOutboxAt, outbox_at, released_by};
-    ghost use Rattle.alm_flush.specs.Flushes.{AdvanceAnswers, FetchAnswers, GivesBack, PublishAnswers, ReleaseAnswers};
+    ghost use Rattle.alm_flush.specs.Flushes.{AdvanceAnswers, AreAllReleased, FetchAnswers, GivesBack, PublishAnswers, ReleaseAnswers};
     ghost use Rattle.alm_flush.specs.HeldBatch.{next_entry_of, to_commit};
     ghost use Rattle.alm_flush.specs.Steps.{CallsDevice};
     ghost use Rattle.alm_threads.specs.Causes.{StopsFor};
@@ -281,6 +283,8 @@ impl<K: Store, T: Told + Drop, B: Board<Told = T>, J: RunId> RecordedFlusher<K, 
         ensures refused { (self.new.refused ≤ self.old.refused + 1) ×
             (self.old.refused < self.new.refused → result ≡ Publishes.OutOfMemory) ×
             (result ≡ Publishes.Published → self.new.refused ≡ 0) }
+        ensures counted { result ≡ Publishes.OutOfMemory → self.old.refused < 2 ^ 64 - 1 →
+            self.new.refused ≡ self.old.refused + 1 }
         ensures answer { self.new.lost ≡ false →
             PublishAnswers result self.old.flusher.held self.new.flusher.held }
     {
@@ -330,6 +334,8 @@ impl<K: Store, T: Told + Drop, B: Board<Told = T>, J: RunId> RecordedFlusher<K, 
             (GivesBack self.old.flusher.held self.new.flusher.held
             (given_of self.old.flusher.fetch) (given_of self.new.flusher.fetch))
             (self.new.flusher.held ≡ self.old.flusher.held) }
+        ensures cause { result ≡ false → AreAllReleased self.old.flusher.held →
+            ¬ (0 < places_in self.old.flusher.fetch) }
     {
         self.flusher.give_back()
     }
