@@ -24,6 +24,7 @@ use alm_lines::{Part, put_parts};
 use alm_model::Alarms;
 use alm_moments::RunId;
 use alm_plant::Plant;
+use alm_rings::Told;
 use alm_shared::{Durable, NewRun, SharedBoard, SharedLook};
 use alm_store::Store;
 use alm_threads::{Parts, RunReport, Storage, WatchedLook, parts_of, run_with_bells};
@@ -79,7 +80,7 @@ fn all_slots(alloc: Global) -> Result<Vec<Slot>, AllocError>
 }
 
 /// How a run has ended, by its report.
-fn end_of<K: Store, J: RunId>(report: RunReport<K, J>) -> ServerEnd<K>
+fn end_of<K: Store, T: Told + Drop, J: RunId>(report: RunReport<K, T, J>) -> ServerEnd<K>
     ensures whole { report.storage ≡ Storage.Whole →
         result.served ≡ Ok (K.state report.keeper).stored.panel.count }
     ensures stopped { report.storage ≡ Storage.Stopped → result.served ≡ Err ServeFault.Storage }
@@ -92,6 +93,7 @@ fn end_of<K: Store, J: RunId>(report: RunReport<K, J>) -> ServerEnd<K>
         keeper,
         storage,
         slots: _,
+        consoles: _,
         cause,
         moments: _,
     } = report;

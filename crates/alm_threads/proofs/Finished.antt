@@ -102,5 +102,5 @@ module _ {T : Type 0} {g : Ghosts T} where
   pub answered_by : (cs : List (Console T g)) (is : List Inbox) (os : List (Outbox T g)) (reports : List (Option SlotReport)) → AreClosed cs is os reports → IsAllAnswered cs is os → AllAnswered reports
   answered_by cs is os reports closed done k report at =
       let c = has_at cs k (omega (arith, slice_get_within reports k report at, closed.0)) in
-      let h = closed.1 k c.0 c.1 in
+      let h = (closed.1 k c.0 c.1).report in
       subst IsSlotAnswered (same_Some (Some h.report) report (sym h.at ∙ at)) (slot_answered c.0 is os h.report _ (done.taken k c.0 c.1) (done.answered c.0.slot) h.is)

@@ -1,3 +1,4 @@
+pub mod Answering
 pub mod Causes
 pub mod Closed
 pub mod Finished

@@ -61,6 +61,13 @@ module _ {T : Type 0} {g : Ghosts T} where
   received_count [] = refl
   received_count (r ∷ rs) = ap suc (received_count rs)
 
+  replies_append : (rs ss : List (Receipt T g)) → replies_in (rs ++ ss) ≡ replies_in rs ++ replies_in ss
+  replies_append [] ss = refl
+  replies_append (r ∷ rs) ss = ap (λ l. record { serial = r.serial; verdict = r.verdict } ∷ l) (replies_append rs ss)
+
+  pub replies_front : (rs ss : List (Receipt T g)) → IsPrefix rs ss → IsPrefix (replies_in rs) (replies_in ss)
+  replies_front rs ss p = (replies_in p.0, sym (replies_append rs p.0) ∙ ap replies_in p.1)
+
   pub all_same_at : (cs ds : List (Console T g)) → AllSame cs ds → (k : ℕ) (d : Console T g) → slice_get ds k ≡ Some d → (c : Console T g) × ((slice_get cs k ≡ Some c) × SameConsole c d)
   all_same_at [] [] all k d at = absurd (none-some d at)
   all_same_at [] (y ∷ ds) all k d at = absurd all

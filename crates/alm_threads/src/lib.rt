@@ -22,11 +22,13 @@
 //!
 //! What is used above is the contract of a run. All that was taken of the slots is one legal history, as of a single thread, from
 //! the plant that was stored at first. What the store holds at the end is a prefix of it, and what was released is a prefix of
-//! that. Each slot's report, in the order of the slots, counts its entries in them. [`Storage::Whole`] is returned exactly if the
-//! store hasn't stopped and no request or receipt is left. At each moment of the run whatever a crash leaves of an honest device
-//! encodes a prefix of what was accepted by then. The prefix contains all that may be reported by then ([`RecordedFlusher`]). The
-//! report has the history of these moments, and a moment is in it before anything is published by it. So each receipt and each
-//! look says of itself that what it reports stays on the device, whether the run ever returns or not.
+//! that. The entries of a slot are the requests that its console sent, in order, as far as they were taken. The receipts that the
+//! console received have their serials and verdicts. Each slot's report, in the order of the slots, counts these.
+//! [`Storage::Whole`] is returned exactly if the store hasn't stopped and no request or receipt is left. At each moment of the
+//! run whatever a crash leaves of an honest device encodes a prefix of what was accepted by then. The prefix contains all that
+//! may be reported by then ([`RecordedFlusher`]). The report has the history of these moments, and a moment is in it before
+//! anything is published by it. So each receipt and each look says of itself that what it reports stays on the device, whether
+//! the run ever returns or not.
 //!
 //! A run that isn't whole has a [`StopCause`]. A failed step of the store is one only if the device failed, or in the last epoch.
 //!
@@ -50,6 +52,8 @@
 //!   `RecordedFlusher`, `publish`)
 //! - of a run that ended: one legal history of all that was taken; what is stored is a prefix of it, what was released a
 //!   prefix of that (by `parts_of`, `run_threads`, `run_with_bells`)
+//! - **that history answers each console: its slot's entries are the requests that it sent, in order; its receipts have their
+//!   serials and verdicts** (by `run_with_bells`)
 //! - **single calls led from the opened device to the report's. At each state each image of an honest one holds a prefix of
 //!   what was accepted by then** (by `run_with_bells`)
 //! - **that prefix reaches the moment's floor, at the end every number released. The report has the history of these

@@ -7,17 +7,20 @@ ghost use Rattle.alm_threads.specs.Answered.{AllAnswered};
 use crate::stop_cause::StopCause;
 use crate::storage::Storage;
 use alm_moments::{Moments, RunId};
-use alm_rings::SlotReport;
+use alm_rings::{Console, SlotReport, Told};
 use alm_store::Store;
+use std::snapshot::Snapshot;
 
 /// What a run leaves. Its storage is whole exactly if the store has not stopped, and all that was sent was taken and answered.
 #[derive(Drop)]
-pub struct RunReport<K: Store, J: RunId> {
+pub struct RunReport<K: Store, T: Told + Drop, J: RunId> {
     /// The flusher's store.
     pub keeper: K,
     pub storage: Storage,
     /// What went through each slot, in the order of the slots.
     pub slots: Vec<Option<SlotReport>>,
+    /// The consoles of the slots as the run ended, for contracts alone: what each sent, and what it received.
+    pub consoles: Snapshot<Vec<Console<T>>>,
     /// Why it isn't whole.
     pub cause: Option<StopCause>,
     /// The history of the run's moments, up to its end. What a receipt or a look of the run carries is a prefix of it, or it of that.

@@ -17,6 +17,7 @@ use crate::storage::Storage;
 use alm_moments::RunId;
 use alm_rings::{SlotReport, Told, batches_beside};
 use alm_store::{Phase, Store};
+use std::snapshot::Snapshot;
 
 // Whether all that was sent was taken, and all that was taken was answered.
 fn is_answered(slot: &Option<SlotReport>) -> bool
@@ -56,7 +57,7 @@ fn storage_of(phase: Phase, is_answered: bool) -> Storage
 pub fn report_of<K: Store, T: Told + Drop, J: RunId>(
     ends: Ends<K, T, J>,
     room: Vec<Option<SlotReport>>,
-) -> RunReport<K, J>
+) -> RunReport<K, T, J>
     requires apart { AreApart (λ c. c.slot) ends.consoles.items }
     requires tied { AreTied ends.consoles.items ends.rings.inboxes.items
         ends.flusher.outboxes.items }
@@ -65,6 +66,7 @@ pub fn report_of<K: Store, T: Told + Drop, J: RunId>(
     requires room { (room.items ≡ []) × (vec_len ends.consoles ≤ vec_capacity room) }
     ensures keeper { result.keeper ≡ ends.flusher.store }
     ensures moments { result.moments ≡ ends.moments }
+    ensures consoles { result.consoles.value ≡ ends.consoles }
     ensures closed { AreClosed ends.consoles.items ends.rings.inboxes.items
         ends.flusher.outboxes.items result.slots.items }
     ensures fetched { IsPrefix (fetched_of ends.flusher.fetch) (sealed_of ends.rings.ends) }
@@ -84,6 +86,7 @@ pub fn report_of<K: Store, T: Told + Drop, J: RunId>(
         mut fetch,
     } = flusher;
     batches_beside(&mut ends, &mut fetch);
+    let closed = Snapshot::of(&consoles);
     let slots = close_all(consoles, inboxes, outboxes, room);
     let storage = storage_of(store.phase(), are_answered(&slots));
     let cause = match storage {
@@ -94,6 +97,7 @@ pub fn report_of<K: Store, T: Told + Drop, J: RunId>(
         keeper: store,
         storage,
         slots,
+        consoles: closed,
         cause,
         moments,
     }

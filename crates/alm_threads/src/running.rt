@@ -226,12 +226,13 @@ pub fn run_with_bells<
     hold: &H,
     bells: Vec<E>,
     sources: Vec<S>,
-) -> Result<RunReport<K, J>, NotStarted<K>>
+) -> Result<RunReport<K, T, J>, NotStarted<K>>
     requires sources { length sources.items ≡ length parts.slots.items }
     requires place { (k n : ℕ) (s : _) → slice_get sources.items k ≡ Some s → S.slot s ≡ Some n →
         slice_get parts.slots.items k ≡ Some n }
     ensures run { IfOk result
-        (IsRunOver K.Store K.Device.Disk parts.middle.flusher.store parts.slots.items) }
+        (IsRunOver K.Store K.Device.Disk parts.middle.flusher.store parts.slots.items
+        parts.consoles.items) }
     ensures refused { IfErr result (λ e. e.store ≡ parts.middle.flusher.store) }
 {
     let Ok(
@@ -276,12 +277,13 @@ pub fn run_threads<
     parts: Parts<T, L, B, K, J>,
     hold: &H,
     sources: Vec<S>,
-) -> Result<RunReport<K, J>, StartFault>
+) -> Result<RunReport<K, T, J>, StartFault>
     requires sources { length sources.items ≡ length parts.slots.items }
     requires place { (k n : ℕ) (s : _) → slice_get sources.items k ≡ Some s → S.slot s ≡ Some n →
         slice_get parts.slots.items k ≡ Some n }
     ensures run { IfOk result
-        (IsRunOver K.Store K.Device.Disk parts.middle.flusher.store parts.slots.items) }
+        (IsRunOver K.Store K.Device.Disk parts.middle.flusher.store parts.slots.items
+        parts.consoles.items) }
 {
     let Ok(mut bells) = Vec::with_capacity(alloc, sources.len()) else {
         drop(parts.close(rt));

@@ -11,7 +11,7 @@ use alm_keeper::Phase;
 use alm_model::Alarms;
 use alm_moments::RunId;
 use alm_plant::Plant;
-use alm_rings::SlotReport;
+use alm_rings::{SlotReport, Told};
 use alm_shared::{Durable, NewRun, SharedBoard, SharedLook};
 use alm_store::Store;
 use alm_threads::{Parts, RunReport, StopCause, Storage, WatchedLook, parts_of, run_threads};
@@ -33,11 +33,12 @@ pub struct Left<D: Drop> {
     pub disk: D,
 }
 
-fn left_of<K: Store, J: RunId>(report: RunReport<K, J>) -> Left<K::Device> {
+fn left_of<K: Store, T: Told + Drop, J: RunId>(report: RunReport<K, T, J>) -> Left<K::Device> {
     let RunReport {
         keeper,
         storage,
         slots,
+        consoles: _,
         cause,
         moments: _,
     } = report;

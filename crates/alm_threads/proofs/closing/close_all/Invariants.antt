@@ -1,9 +1,8 @@
 use Rattle.std.specs.Prelude.{◌≡◌, ◌≢◌, ◌≤◌, ◌++◌, ℕ, length, slice_get, Some, vec_capacity}
 use Rattle.std.specs.Vec.Iter.{into_iter_items}
 use Rattle.alm_rings.specs.declared.console.Console.{Console}
-use Rattle.alm_rings.specs.Ends.{sent_of, received_of}
-use Rattle.alm_rings.specs.Placed.{inbox_at, outbox_at, taken_by, released_by}
-use Rattle.alm_threads.specs.Runs.{HasReport}
+use Rattle.alm_rings.specs.Placed.{inbox_at, outbox_at}
+use Rattle.alm_threads.specs.Runs.{IsSlotClosed}
 use Rattle.alm_threads.proofs.closing.close_all.Given as goal
 
 -- the slots so far are closed, and the others have their ends
@@ -14,5 +13,5 @@ invariant-loop-console g l = record {
   room : length l.fn.consoles.items ≤ vec_capacity l.reports;
   inboxes : (s : ℕ) → ((j : ℕ) (c : Console _ _) → slice_get l.yielded j ≡ Some c → c.slot ≢ s) → inbox_at s l.inboxes.items ≡ inbox_at s l.fn.inboxes.items;
   outboxes : (s : ℕ) → ((j : ℕ) (c : Console _ _) → slice_get l.yielded j ≡ Some c → c.slot ≢ s) → outbox_at s l.outboxes.items ≡ outbox_at s l.fn.outboxes.items;
-  closed : (k : ℕ) (c : Console _ _) → slice_get l.yielded k ≡ Some c → HasReport l.reports.items k (length (sent_of c)) (length (taken_by c.slot l.fn.inboxes.items)) (length (released_by c.slot l.fn.outboxes.items)) (length (received_of c));
+  closed : (k : ℕ) (c : Console _ _) → slice_get l.yielded k ≡ Some c → IsSlotClosed l.fn.inboxes.items l.fn.outboxes.items l.reports.items k c;
 }

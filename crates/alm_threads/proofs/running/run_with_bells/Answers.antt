@@ -1,19 +1,20 @@
-use Rattle.std.proofs.Common.{◌≡◌, ◌∙◌, ◌++◌, Some, slice_get, length, ap, sym, subst, arith}
+use Rattle.std.proofs.Common.{◌≡◌, ◌∙◌, ◌++◌, ℕ, Some, slice_get, length, ap, sym, subst, arith}
 use Rattle.std.specs.Prelude.{IsSome}
 use Rattle.alm_model.specs.Judging.{accepted_of, entries_in, of_slot}
 use Rattle.alm_model.specs.Step.{run}
 use Rattle.alm_rings.specs.declared.console.Console.{Console}
 use Rattle.alm_rings.specs.Batches.{fetched_of, sealed_of}
-use Rattle.alm_rings.specs.Placed.{inbox_at, taken_by, released_by}
+use Rattle.alm_rings.specs.Placed.{inbox_at}
 use Rattle.alm_rings.specs.Ends.{sent_of, received_of}
 use Rattle.alm_threads.specs.Histories.{LeavesOneOf}
 use Rattle.alm_threads.proofs.Causes.{failed_by}
 use Rattle.alm_threads.proofs.Moments.{accepted_prefix, endures_on}
 use Rattle.alm_threads.specs.Same.{AllSame}
 use Rattle.alm_threads.specs.Parts.{FailsForCause}
-use Rattle.alm_threads.specs.Runs.{HasReport}
+use Rattle.alm_threads.specs.Runs.{AnswersConsole, HasReport}
 use Rattle.alm_threads.specs.Slots.{AreTied}
-use Rattle.alm_threads.proofs.Tied.{stands_at, apart_by, map_count, wants_count, replies_count, received_count, front_on, entries_front, same_slots}
+use Rattle.alm_threads.proofs.Answering.{answers_by}
+use Rattle.alm_threads.proofs.Tied.{stands_at, apart_by, map_count, front_on, entries_front, same_slots}
 use Rattle.alm_threads.proofs.running.run_with_bells.Goals as goal
 
 pub slot_parts_of-slot_parts-requires-clause-place : goal.slot_parts_of-slot_parts-requires-clause-place
@@ -59,6 +60,8 @@ returns-clause-run g c =
     let fetched = fetched_of e.flusher.fetch in
     let sealed = sealed_of e.rings.ends in
     let reports = c.report_of.result.slots.items in
+    let answers : (k : ℕ) (d : Console _ _) → slice_get e.consoles.items k ≡ Some d → AnswersConsole entries f.flushed.flushed.told reports k d = λ k d at. answers_by entries f.flushed.flushed.told e.rings.inboxes.items e.flusher.outboxes.items reports k d
+    (f.judged.judged.wants d.slot) (f.flushed.flushed.released d.slot) (c.report_of.ensures.closed.1 k d at) in
     record {
       run = record {
         entries = entries;
@@ -76,16 +79,14 @@ returns-clause-run g c =
             (ap (λ k. g.K.Device.Disk.state (g.K.Store.disk k)) (sym c.report_of.ensures.keeper)) (sym c.report_of.ensures.moments) (accepted_prefix (entries_in fetched) entries (front_on (entries_in fetched) (entries_in sealed) entries (entries_front fetched sealed c.report_of.ensures.fetched) f.judged.judged.sealed)) f.flushed.flushed.course;
         count = c.report_of.ensures.closed.0 ∙ (sym (map_count (λ (x : Console _ _). x.slot) e.consoles.items) ∙ ap length order);
         each = λ k s at. (
-            let d = stands_at (λ (x : Console _ _). x.slot) e.consoles.items p.slots.items k s order at in
-            let taken : length (taken_by d.0.slot e.rings.inboxes.items) ≡ length (of_slot s entries) = ap (λ n. length (taken_by n e.rings.inboxes.items)) d.1.1 ∙ (ap length (sym (f.judged.judged.wants s)) ∙ wants_count (of_slot s entries)) in
-            let told : length (released_by d.0.slot e.flusher.outboxes.items) ≡ length (of_slot s f.flushed.flushed.told) = ap (λ n. length (released_by n e.flusher.outboxes.items)) d.1.1 ∙ (sym (received_count (released_by s e.flusher.outboxes.items)) ∙ (ap length (f.flushed.flushed.released s) ∙ replies_count (of_slot s f.flushed.flushed.told))) in
-            let closes = c.report_of.ensures.closed.1 k d.0 d.1.0 in (
+            let d = stands_at (λ (x : Console _ _). x.slot) e.consoles.items p.slots.items k s order at in (
               length (sent_of d.0),
               length (received_of d.0),
-              subst (λ n. HasReport reports k (length (sent_of d.0)) (length (of_slot s entries)) n (length (received_of d.0))) told
-                  (subst (λ n. HasReport reports k (length (sent_of d.0)) n (length (released_by d.0.slot e.flusher.outboxes.items)) (length (received_of d.0))) taken closes),
+              subst (λ n. HasReport reports k (length (sent_of d.0)) (length (of_slot n entries)) (length (of_slot n f.flushed.flushed.told)) (length (received_of d.0))) d.1.1 (answers k d.0 d.1.0).report,
             ));
       };
+      same = subst (λ (cs : _). AllSame p.consoles.items cs.items) (sym c.report_of.ensures.consoles) all;
+      answers = λ k d at. answers k d (ap (λ (cs : _). slice_get cs.items k) (sym c.report_of.ensures.consoles) ∙ at);
       failed = failed_by c.report_of.result.storage c.report_of.result.cause e.cause (λ stopped. c.report_of.ensures.cause stopped) c.report_of.result.uncaused
           (subst (λ k. FailsForCause g.K.Store g.K.Device.Disk e.cause p.middle.flusher.store k) (sym c.report_of.ensures.keeper) f.failed);
     }
