@@ -5,7 +5,7 @@
 
 A mirror is what `show` prints, over drawn plants and each word of an action. Archiver and server are killed at drawn moments, and the archive has each
 accepted action once, as the server numbered it. The figures of reports are those of a slow count over what the program itself shows. What
-wants a library or a program that isn't here is left out, and that is said. CHECKS of the parts, check_*.py, have the names.
+wants a library or a program that isn't here (matplotlib, PostgreSQL) is left out, and that is said. CHECKS of the parts, check_*.py, have the names.
 """
 import concurrent.futures
 import importlib

@@ -6,6 +6,7 @@
 Modes, whatever the umask; a second server at the same folder; sockets of a server that was killed; files, folders, links and other sockets at a
 socket's path; folders that aren't there; paths that are too long; descriptors that a client passes; servers that start at the same time. The same
 lines at all slots give the same replies over sockets and over ports. As root: other users, who are in a socket's group or not.
+No browser is among the clients: a page can't name a Unix socket.
 """
 import fcntl
 import grp
