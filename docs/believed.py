@@ -1,7 +1,7 @@
 #!/usr/bin/env python3
 """Writes what a reader of the headline has to believe: the definitions of specs/ to which its contracts unfold, counted by file.
 
-    docs/believed.py > docs/BELIEVED.md        the page
+    docs/believed.py > docs/BELIEVED.md        the page, a line a crate
     docs/believed.py --names                   the same by name, for each contract apart
     docs/believed.py --check                   whether the page is that, and which files of specs/ no claim needs
     docs/believed.py --mark                    begins each of these files with the line that says so
@@ -144,16 +144,21 @@ def named_table(specs, names):
 
 
 def page(specs):
-    """The whole page: how much each contract unfolds to, and a line a file."""
+    """The whole page: how much each contract unfolds to, and a line a crate."""
     found = {title: by_file(specs, names) for title, names in CLAIMS.items()}
     lines = [line for title in found for line in ("", f"## {title}", "", sums(found[title]))]
-    lines += ["", "## By file", "", "Of the definitions of a file each contract needs this many:", ""]
-    lines += [f"| file | has | {' | '.join(title.partition(':')[0] for title in found)} |", "|---" * (len(found) + 2) + "|"]
-    for file in sorted({file for files in found.values() for file in files}):
-        crate, stem = file.split(".")
-        cells = [str(len(files[file][0])) if file in files else "" for files in found.values()]
-        lines.append(f"| [{crate} {stem}](../crates/{crate}/specs/{stem}.antt) | {len(specs[file].lines)} | {' | '.join(cells)} |")
+    lines += ["", "## By crate", "", "Of each file in specs/, how many definitions a contract needs: `6` is all six of a file, `14/18` is 14 of 18.", ""]
+    lines += [f"| crate | {' | '.join(title.partition(':')[0] for title in found)} |", "|---" * (len(found) + 1) + "|"]
+    for crate in sorted({file.partition(".")[0] for files in found.values() for file in files}):
+        cells = [", ".join(counted(specs, file, named) for file, (named, _) in files.items() if file.startswith(f"{crate}.")) for files in found.values()]
+        lines.append(f"| [{crate}](../crates/{crate}/specs) | {' | '.join(cells)} |")
     return HEAD + "\n".join(lines) + "\n"
+
+
+def counted(specs, file, named):
+    """A file with the count of the definitions that are needed, and of all if there are more."""
+    has = len(specs[file].lines)
+    return f"{file.partition('.')[2]} {len(named)}" + (f"/{has}" if has > len(named) else "")
 
 
 def main(words):
