@@ -1,11 +1,11 @@
 #!/usr/bin/env python3
-"""Writes the tables of docs/PROVED.md from the lines under `Proved:` in the root file of each crate.
+"""Writes the table of docs/PROVED.md from the lines under `Proved:` in the root file of each crate.
 
     docs/proved.py             the page
     docs/proved.py --write     writes it
 
-A line is a claim, and in brackets the public calls or laws whose contracts carry it. The page has the first claim of each crate, or those of
-CHOSEN, each with the first calls that carry it; the root file has all.
+A line is a claim, and in brackets the public calls or laws whose contracts carry it. The page has the first claim of a crate, or those of
+CHOSEN, each with the first call that carries it; the root file has all.
 """
 import re
 import sys
@@ -21,21 +21,27 @@ GROUPS = {
     "One thread": ["alm_pipeline", "alm_bench", "alm_progress", "alm_stack"],
     "Threads and the server": ["alm_wake", "alm_moments", "alm_threads", "alm_session", "alm_serve"],
 }
-# How each claim begins that stands on the page in place of its crate's first one.
+# How each claim begins that stands on the page in place of its crate's first one; none, if what a crate is for is said by the claims of those
+# above it, or by another page.
 CHOSEN = {
-    "alm_export": ["a plant is written as a table file"],
+    "alm_laws": [],
+    "alm_links": [],
+    "alm_wheel": [],
+    "alm_measure": [],
+    "alm_export": [],
+    "alm_progress": [],
+    "alm_wake": [],
+    "alm_moments": [],
     "alm_keeper": ["a crash at any moment of a commit", "opening returns the plant"],
     "alm_shared": ["a look of the threads", "**what a receipt reports"],
     "alm_flush": ["a verdict is released only if"],
-    "alm_moments": ["**what is held at moments"],
     "alm_threads": ["of a run that ended", "**single calls led from", "**that prefix reaches", "**a run that isn't whole"],
-    "alm_serve": ["over any wire a slot's service", "what the server writes", "**from a plant that an image"],
+    "alm_serve": ["what the server writes", "**from a plant that an image"],
 }
-MOST_CALLS = 2
 LISTED = re.compile(r"^//! Proved:\n((?://!.*\n)*)", re.MULTILINE)
 CLAIM = re.compile(r"(.*) \(by (.*)\)")
-# Where the tables stand on the page: after the first line and before the second.
-BEGIN, END = "tables from there.\n", "\nThe rows of alm_threads and alm_serve"
+# Where the table stands on the page: after the first line and before the second.
+BEGIN, END = "table from there.\n", "\nThe rows of alm_threads and alm_serve"
 
 
 def root(crate):
@@ -71,28 +77,29 @@ def chosen(crate):
 
 
 def shortened(by):
-    """The first calls of those that carry a claim."""
-    calls = by.split(", ")
-    return by if len(calls) <= MOST_CALLS else ", ".join(calls[:MOST_CALLS]) + " .."
+    """The first call of those that carry a claim."""
+    first, *others = by.split(", ")
+    return first + " .." * bool(others)
 
 
-def tables():
-    """The tables, each after its title."""
+def table():
+    """The table, each group of crates after its title."""
     unlisted = {path.parent.parent.name for path in TOP.glob("crates/*/src/*.rt") if LISTED.search(path.read_text(encoding="utf-8"))}
     unlisted -= set(crates())
     if unlisted:
         sys.exit(f"proved.py: in no group: {', '.join(sorted(unlisted))}")
+    yield "\n| crate | what is proved | by |\n|---|---|---|\n"
     for title, group in GROUPS.items():
-        yield f"\n**{title}**\n\n| crate | what is proved | by |\n|---|---|---|\n"
+        yield f"| **{title}** | | |\n"
         for crate in group:
             yield from (f"| {crate} | {claim} | {shortened(by)} |\n" for claim, by in chosen(crate))
 
 
 def page():
-    """The page, its tables made again."""
+    """The page, its table made again."""
     before, _, rest = PAGE.read_text(encoding="utf-8").partition(BEGIN)
     _, _, after = rest.partition(END)
-    return before + BEGIN + "".join(tables()) + END + after
+    return before + BEGIN + "".join(table()) + END + after
 
 
 def main():
