@@ -1,11 +1,12 @@
 -- What a run leaves of its slots and its device.
 use Rattle.std.specs.Prelude.{◌≡◌, ◌≤◌, ◌+◌, ◌-◌, ◌^◌, ◌++◌, ℕ, List, Option, Some, length, min, slice_get}
+use Rattle.std.specs.List.{range_with_len}
 use mathlib.Core.List.{IsPrefix}
 use Rattle.alm_types.specs.declared.action.Action.{Action}
 use Rattle.alm_types.specs.declared.entry.Entry.{Entry}
 use Rattle.alm_disk.specs.declared.disk.Disk
 use Rattle.alm_model.specs.Plant.{Condensed}
-use Rattle.alm_model.specs.Judging.{IsLegal, accepted_of, of_slot, wants_of}
+use Rattle.alm_model.specs.Judging.{IsLegal, accepted_of, of_slot, serials_of, wants_of}
 use Rattle.alm_model.specs.Step.{run}
 use Rattle.alm_rings.specs.declared.console.Console.{Console}
 use Rattle.alm_rings.specs.declared.inbox.Inbox.{Inbox}
@@ -51,10 +52,12 @@ module _ {T : Type 0} {g : Told.Ghosts T} where
   abbrev pub AreClosed : List (Console T g) → List Inbox → List (Outbox T g) → List (Option SlotReport) → Type 0
   AreClosed consoles inboxes outboxes reports = (length reports ≡ length consoles) × ((k : ℕ) (c : Console T g) → slice_get consoles k ≡ Some c → IsSlotClosed inboxes outboxes reports k c)
 
-  -- the entries of a console's slot are the requests that it sent, in order, as far as they were taken. The receipts that it received
-  -- have the serials and verdicts of these entries, in order, as far as they were released. Its report has these numbers
+  -- the entries of a console's slot are the requests that it sent, in order, as far as they were taken, with serials from 1. The
+  -- receipts that it received have the serials and verdicts of these entries, in order, as far as they were released. Its report has
+  -- these numbers
   pub record AnswersConsole (entries told : List Entry) (reports : List (Option SlotReport)) (k : ℕ) (c : Console T g) : Type 0 where
     pub requests : IsPrefix (wants_of (of_slot c.slot entries)) (sent_of c)
+    pub serials : serials_of (of_slot c.slot entries) ≡ range_with_len 1 (length (of_slot c.slot entries))
     pub receipts : IsPrefix (replies_in (received_of c)) (replies_to (of_slot c.slot told))
     pub report : HasReport reports k (length (sent_of c)) (length (of_slot c.slot entries)) (length (of_slot c.slot told)) (length (received_of c))
 

@@ -61,7 +61,7 @@ returns-clause-run g c =
     let sealed = sealed_of e.rings.ends in
     let reports = c.report_of.result.slots.items in
     let answers : (k : ℕ) (d : Console _ _) → slice_get e.consoles.items k ≡ Some d → AnswersConsole entries f.flushed.flushed.told reports k d = λ k d at. answers_by entries f.flushed.flushed.told e.rings.inboxes.items e.flusher.outboxes.items reports k d
-    (f.judged.judged.wants d.slot) (f.flushed.flushed.released d.slot) (c.report_of.ensures.closed.1 k d at) in
+    (f.judged.judged.wants d.slot) (f.judged.judged.serials d.slot) (f.flushed.flushed.released d.slot) (c.report_of.ensures.closed.1 k d at) in
     record {
       run = record {
         entries = entries;
