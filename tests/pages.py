@@ -6,7 +6,8 @@
 Each link to a file of the repository leads to one, and to a heading of it where it names one. Each block of Rust that a page of docs/ quotes
 stands in a source, whatever its spaces. The counts of wrong bodies and of crates below the program are the tree's, docs/BELIEVED.md is what the
 definitions unfold to, and its sums stand in docs/HEADLINE.md. docs/PROVED.md is what docs/proved.py makes of the root files, and each call that a
-root file names as carrying a claim is in the code of its crate or of those below it.
+root file names as carrying a claim is in the code of its crate or of those below it. Each wrong body applies: `rt ci` passes over one that doesn't. It
+changes code alone, but in alm_laws, which has none.
 """
 import re
 import subprocess
@@ -95,6 +96,23 @@ def counts(found):
     found.check(f"it proves {crates} crates" in readme, "README.md: the program stands on", crates, "crates, itself among them")
 
 
+def edits(found):
+    """Each wrong body applies to its files, in each of which an old text stands once, and it changes no contract."""
+    for edit in sorted([*TOP.glob("crates/*/must-fail/*.edit"), *TOP.glob("crates/*/wrong/*.edit")]):
+        crate = edit.parent.parent
+        where, name, source, old = f"{crate.name}/{edit.parent.name}/{edit.name}", "", "", ""
+        for kind, _, text in (line.partition(": ") for line in text_of(edit).split("\n")):
+            if kind == "file":
+                name, source = text, text_of(crate / text) if (crate / text).is_file() else ""
+                found.check(name.startswith("src/") or crate.name == "alm_laws", where, "changes what isn't code:", name)
+            elif kind == "old":
+                old = text
+                found.check(source.count(old) == 1, where, "has an old text that stands", source.count(old), "times in", f"{name}:", old)
+                found.check(not old.strip().startswith(("ensures ", "requires ")), where, "changes a contract:", old)
+            elif kind == "new":
+                source = source.replace(old, text)
+
+
 def believed(found):
     made = subprocess.run([TOP / "docs" / "believed.py"], capture_output=True, check=True).stdout.decode()
     page = text_of(TOP / "docs" / "BELIEVED.md")
@@ -121,7 +139,7 @@ def claims(found):
 
 def main():
     found = Found()
-    for look in (links, quotes, counts, believed, proved, claims):
+    for look in (links, quotes, counts, edits, believed, proved, claims):
         look(found)
     if found.wrong:
         sys.exit("\n".join(f"pages.py: {wrong}" for wrong in found.wrong))
