@@ -37,13 +37,13 @@
 //! a reply is still to be written. So a client that stalls or never reads keeps its own slot busy, and no other. A port
 //! keeps its console's end, whatever its clients do.
 //!
-//! What is used above: what is written, by how it ends; N is how many actions are stored. Also what was run: all slots
-//! in threads, from the plant of an image of the device. At each moment of that run, whatever a crash leaves of an
-//! honest device encodes a prefix of what was accepted by then. It reaches the moment's floor: what may be reported. The run leads to the
+//! What is used above: what is written, by how it ends; N is how many actions are stored. Also what was run: all slots in
+//! threads, from the plant of an image of the device. At each moment of that run, whatever a crash leaves of an honest device
+//! encodes a prefix of what was accepted by then. It reaches the moment's floor: what may be reported. The run leads to the
 //! device that is returned. `Ok` is returned only after a whole run, and `stopped N` is written only after one; `Storage` is
-//! returned only after a run that stopped for a cause, which is returned too. `Open` says what the device became by an opening's
-//! calls, and is the device's fault only if a failure was counted. After `Net`, `Memory`, and `Write` without a whole run, the
-//! device is as an opening left it.
+//! returned only after a run that stopped, with its cause. Of the reports by which a run is whole the contract says only that
+//! there are such ones. `Open` says what the device became by an opening's calls, and is the device's fault only if a failure
+//! was counted. After `Net`, `Memory`, and `Write` without a whole run, the device is as an opening left it.
 //!
 //! A device call that hangs can't be ended. With a [`Patience`] the calls of a [`CountedDisk`] are counted, and the ports serve
 //! nobody while one takes too long. Requests that were sent before stay: they are done if the call comes back well.
@@ -53,7 +53,8 @@
 //! reaches a port of loopback, or may open a socket, has the role of its slot.
 //!
 //! Proved:
-//! - over any wire a slot's service writes and sends what its session does in its turns, and nothing else (by `SlotService`)
+//! - over any wire that has its bytes a slot's service writes and sends what its session does in its turns, and nothing else
+//!   (by `SlotService`)
 //! - a connection begins fresh over the given wire, once all requests of the last one are answered (by `SlotService`)
 //! - as long as no whole line has come nothing is sent and nothing written (by `laws::nothing_goes_out_unasked`)
 //! - a port is the source of its slot alone, whatever its clients do, and sends what its service does (by `SlotPort`,
@@ -62,8 +63,8 @@
 //! - a connection has ended that begins as a request of HTTP, and no other has ended for its first bytes (by `FirstBytes`)
 //! - what the server writes, by how it ends, or a prefix if the writer fails; why a device isn't opened (by `serve_ports`,
 //!   `serve_sockets`)
-//! - **from a plant that an image of its device holds, a run of all 18 slots as said of alm_threads, up to the device
-//!   returned** (by `serve_ports`, `serve_sockets`)
+//! - **from a plant that an image of its device holds, a run of all 18 slots, up to the device returned; it names no
+//!   consoles** (by `serve_ports`, `serve_sockets`)
 //! - if nothing was run, the device is as an opening left it (by `serve_ports`, `serve_sockets`)
 //! - it says that the storage stopped only with the run's cause; if that is a failed step, an honest device failed or is at its
 //!   last epoch (by `serve_ports`, `serve_sockets`)

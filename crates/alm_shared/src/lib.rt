@@ -30,8 +30,8 @@
 //! Not covered: that a look sees the newest of what is published, that a publish ever gets its memory, and time.
 //!
 //! Proved:
-//! - a look of the threads shows such a prefix too, and waits for nobody. Once the owner is gone it says Stopped, of an alarm
-//!   or a list that exists (by `open_board`, `Look::look`, `learn` at `SharedLook`)
+//! - a look of the threads shows such a prefix too, and waits for nobody. It says Stopped only of an alarm or a list that
+//!   exists (by `open_board`, `Look::look`, `learn` at `SharedLook`)
 //! - a refused publish shows nothing new and leaves a prefix of its batch; a granted one shows all of it (by
 //!   `Publish::publish` at `SharedBoard`, `Publisher::take`)
 //! - **what a receipt reports or a look has shown stays stored, whether the run ever returns or not** (by

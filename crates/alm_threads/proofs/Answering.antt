@@ -1,5 +1,5 @@
 -- A history answers the consoles of a run.
-use Rattle.std.proofs.Common.{◌≡◌, ◌∙◌, ℕ, List, Option, length, ap, sym, subst}
+use Rattle.std.proofs.Common.{◌≡◌, ◌∙◌, ℕ, List, [], ◌∷◌, Option, Some, None, length, refl, ap, sym, subst}
 use Rattle.std.specs.List.{range_with_len}
 use mathlib.Core.List.{IsPrefix}
 use Rattle.alm_types.specs.declared.entry.Entry.{Entry}
@@ -11,9 +11,16 @@ use Rattle.alm_rings.specs.declared.outbox.Outbox.{Outbox}
 use Rattle.alm_rings.specs.declared.slot_report.SlotReport.{SlotReport}
 use Rattle.alm_rings.specs.declared.told.Told.{Ghosts}
 use Rattle.alm_rings.specs.Ends.{sent_of, received_of}
-use Rattle.alm_rings.specs.Placed.{taken_by, released_by}
+use Rattle.alm_rings.specs.Placed.{SameInboxAt, taken_in, taken_by, released_by}
 use Rattle.alm_threads.specs.Runs.{AnswersConsole, HasReport, IsSlotClosed}
 use Rattle.alm_threads.proofs.Tied.{received_count, replies_count, replies_front, wants_count}
+
+-- a slot without an inbox has no entries
+pub nobody_asked : (a b : Option Inbox) (es : List Entry) → SameInboxAt a b → a ≡ None → wants_of es ≡ taken_in b → es ≡ []
+nobody_asked a b [] same none wants = refl
+nobody_asked None None (e ∷ es) same none wants = absurd (cc wants)
+nobody_asked None (Some j) (e ∷ es) same none wants = absurd same
+nobody_asked (Some i) b (e ∷ es) same none wants = absurd (cc none)
 
 module _ {T : Type 0} {g : Ghosts T} where
   -- what was taken of a closed slot are its entries, what was released to it are their replies

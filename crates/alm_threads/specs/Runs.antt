@@ -1,5 +1,5 @@
 -- What a run leaves of its slots and its device.
-use Rattle.std.specs.Prelude.{◌≡◌, ◌≤◌, ◌+◌, ◌-◌, ◌^◌, ◌++◌, ℕ, List, Option, Some, length, min, slice_get}
+use Rattle.std.specs.Prelude.{◌≡◌, ◌≢◌, ◌≤◌, ◌+◌, ◌-◌, ◌^◌, ◌++◌, ℕ, List, [], Option, Some, length, min, slice_get}
 use Rattle.std.specs.List.{range_with_len}
 use mathlib.Core.List.{IsPrefix}
 use Rattle.alm_types.specs.declared.action.Action.{Action}
@@ -61,8 +61,8 @@ module _ {T : Type 0} {g : Told.Ghosts T} where
     pub receipts : IsPrefix (replies_in (received_of c)) (replies_to (of_slot c.slot told))
     pub report : HasReport reports k (length (sent_of c)) (length (of_slot c.slot entries)) (length (of_slot c.slot told)) (length (received_of c))
 
--- from this base: what was taken of all slots is one legal history, as of a single thread. The store holds a prefix of it, and
--- what was released is a prefix of that. Each slot's report, in the order of the slots, counts its entries in these lists. The
+-- from this base: what was taken of all slots is one legal history, as of a single thread. It has no entries of other slots. The
+-- store holds a prefix of it, and what was released is a prefix of that. Each slot's report, in the order of the slots, counts its entries in these lists. The
 -- device is left with the stored plant, or with that and the next entries of the history, of the one batch whose commit wasn't
 -- done. It came there by moments at each of which it encodes a prefix of what was accepted by then. The prefix contains all that
 -- may be reported by then, at the last all that was released
@@ -78,6 +78,7 @@ pub record IsServerRun (leaves : Condensed → Condensed → Type 0) (endures : 
   pub told : List Entry
   pub within : IsPrefix told kept
   pub course : endures (accepted_of entries) (base.panel.count + length (accepted_of told))
+  pub only : (s : ℕ) → ((k : ℕ) → slice_get slots k ≢ Some s) → of_slot s entries ≡ []
   pub count : length reports ≡ length slots
   pub each : (k s : ℕ) → slice_get slots k ≡ Some s → (sent received : ℕ) × HasReport reports k sent (length (of_slot s entries)) (length (of_slot s told)) received
 

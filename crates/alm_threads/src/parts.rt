@@ -5,6 +5,7 @@ ghost use Rattle.alm_rings.specs.declared.console.Console.{Console};
 ghost use Rattle.alm_rings.specs.declared.inbox.Inbox.{Inbox};
 ghost use Rattle.alm_rings.specs.declared.outbox.Outbox.{Outbox};
 ghost use Rattle.alm_rings.specs.Placed.{AreApart, inbox_at, outbox_at};
+ghost use Rattle.alm_threads.specs.Serving.{ServesNoOthers};
 
 use crate::closes::Closes;
 use crate::flusher_parts::FlusherParts;
@@ -32,6 +33,7 @@ pub struct Parts<T: Told + Drop, L: Look<Told = T> + Drop, B: Board<Told = T>, K
     pub ghost pending: { B.pending board ≡ [] },
     pub ghost inboxes: { (k : ℕ) (c : Console _ _) → slice_get consoles.items k ≡ Some c →
         IsSome (inbox_at c.slot middle.rings.inboxes.items) },
+    pub ghost only: { ServesNoOthers slots.items middle.rings.inboxes.items },
     pub ghost outboxes: { (k : ℕ) (c : Console _ _) → slice_get consoles.items k ≡ Some c →
         IsSome (outbox_at c.slot middle.flusher.outboxes.items) },
     pub ghost requests: { (k : ℕ) (c : Console _ _) (i : Inbox) →

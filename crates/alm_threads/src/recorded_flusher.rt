@@ -126,6 +126,7 @@ impl<K: Store, T: Told + Drop, B: Board<Told = T>, J: RunId> RecordedFlusher<K, 
         ensures parts { (result.flusher.store ≡ store) × (result.flusher.board ≡ board) ×
             (result.flusher.outboxes ≡ outboxes) × (result.flusher.fetch ≡ fetch) }
         ensures first { result.first.value ≡ store }
+        ensures counts { (result.failed ≡ false) × (result.lost ≡ false) × (result.refused ≡ 0) }
     {
         let first = Snapshot::of(&store);
         let floor = store.count();

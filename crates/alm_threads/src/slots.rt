@@ -1,6 +1,7 @@
 //! The ends of some slots.
 ghost use Rattle.std.specs.Prelude.{◌≡◌, map, IfOk};
 ghost use Rattle.alm_rings.specs.Placed.{AreApart};
+ghost use Rattle.alm_threads.specs.Serving.{ServesNoOthers};
 ghost use Rattle.alm_threads.specs.Slots.{AreNew, AreTied};
 
 use alm_rings::{SlotEnds, Told, open_slot};
@@ -13,6 +14,7 @@ pub fn open_some<T: Told + Drop>(alloc: Global, slots: &[Slot]) -> Result<SlotEn
     ensures order { IfOk result (λ e. map (λ c. c.slot) e.consoles.items ≡ slots.now) }
     ensures new { IfOk result (λ e. AreNew e.inboxes.items e.outboxes.items) }
     ensures tied { IfOk result (λ e. AreTied e.consoles.items e.inboxes.items e.outboxes.items) }
+    ensures only { IfOk result (λ e. ServesNoOthers slots.now e.inboxes.items) }
 {
     let mut consoles = Vec::with_capacity(alloc, slots.len())?;
     let mut inboxes = Vec::with_capacity(alloc, slots.len())?;

@@ -13,7 +13,7 @@ use Rattle.alm_threads.specs.Same.{AllSame}
 use Rattle.alm_threads.specs.Parts.{FailsForCause}
 use Rattle.alm_threads.specs.Runs.{AnswersConsole, HasReport}
 use Rattle.alm_threads.specs.Slots.{AreTied}
-use Rattle.alm_threads.proofs.Answering.{answers_by}
+use Rattle.alm_threads.proofs.Answering.{answers_by, nobody_asked}
 use Rattle.alm_threads.proofs.Tied.{stands_at, apart_by, map_count, front_on, entries_front, same_slots}
 use Rattle.alm_threads.proofs.running.run_with_bells.Goals as goal
 
@@ -77,6 +77,7 @@ returns-clause-run g c =
         within = f.flushed.flushed.within;
         course = endures_on g.K.Store.recovers (g.K.Store.state p.middle.flusher.store).stored (g.K.Device.Disk.honest (g.K.Store.disk p.middle.flusher.store)) (g.K.Device.Disk.state (g.K.Store.disk p.middle.flusher.store)) (g.K.Device.Disk.state (g.K.Store.disk e.flusher.store)) (g.K.Device.Disk.state (g.K.Store.disk c.report_of.result.keeper)) e.moments c.report_of.result.moments (accepted_of (entries_in fetched)) (accepted_of entries) _
             (ap (λ k. g.K.Device.Disk.state (g.K.Store.disk k)) (sym c.report_of.ensures.keeper)) (sym c.report_of.ensures.moments) (accepted_prefix (entries_in fetched) entries (front_on (entries_in fetched) (entries_in sealed) entries (entries_front fetched sealed c.report_of.ensures.fetched) f.judged.judged.sealed)) f.flushed.flushed.course;
+        only = λ s none. nobody_asked (inbox_at s p.middle.rings.inboxes.items) (inbox_at s e.rings.inboxes.items) (of_slot s entries) (f.judged.inboxes s) (p.only s none) (f.judged.judged.wants s);
         count = c.report_of.ensures.closed.0 ∙ (sym (map_count (λ (x : Console _ _). x.slot) e.consoles.items) ∙ ap length order);
         each = λ k s at. (
             let d = stands_at (λ (x : Console _ _). x.slot) e.consoles.items p.slots.items k s order at in (

@@ -98,3 +98,12 @@ returns-clause-tied g c =
       requests = λ k x i at there. (let e = inbox k x at in subst (λ (i : Inbox). IsPair x.requests i.requests) (same_Some e.0 i (sym e.1.1 ∙ there)) (inv.requests k x e.0 at e.1.0));
       replies = λ k x o at there. (let e = outbox k x at in subst (λ (o : Outbox _ _). IsPair o.replies x.replies) (same_Some e.0 o (sym e.1.1 ∙ there)) (inv.replies k x e.0 at e.1.0));
     }
+
+pub returns-clause-only : goal.returns-clause-only
+returns-clause-only g c =
+    let l = c.loop-slot in
+    λ s none. elim (opt_cases (inbox_at s l.inboxes.items)) [
+      | inl free ↦ free
+      | inr there ↦ (let at = place_of (λ (i : Inbox). i.slot) l.inboxes.items s there.0 there.1 in
+          absurd (none at.0 (subst (λ n. slice_get c.args.slots.now at.0 ≡ Some n) at.1.1 (l.invariant.in_order at.0 there.0 at.1.0).0)))
+    ]
