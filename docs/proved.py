@@ -36,7 +36,7 @@ CHOSEN = {
     "alm_shared": ["a look of the threads", "**what a receipt reports"],
     "alm_flush": ["a verdict is released only if"],
     "alm_threads": ["of a run that ended", "**that history answers each", "**single calls led from", "**that prefix reaches", "**a run that isn't whole"],
-    "alm_serve": ["over any wire a slot's service", "what the server writes", "**from a plant that an image"],
+    "alm_serve": ["over any wire that has its bytes a slot's service", "what the server writes", "**from a plant that an image"],
 }
 LISTED = re.compile(r"^//! Proved:\n((?://!.*\n)*)", re.MULTILINE)
 CLAIM = re.compile(r"(.*) \(by (.*)\)")
