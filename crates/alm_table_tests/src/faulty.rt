@@ -10,6 +10,8 @@ const HIGH: &str =
 
 const NO_PRIORITY: &str = "[[alarm]]\nkind = \"low\"\nsetpoint = 100\narea = 0\ntag = \"PI-102\"\n";
 
+const BARE: &str = "[[alarm]]\nkind = \"low\"\nsetpoint = 100\n";
+
 const NO_KIND: &str = "[[alarm]]\nsetpoint = 100\npriority = 2\narea = 0\ntag = \"PI-102\"\n";
 
 #[test]
@@ -54,7 +56,7 @@ fn the_fault_of_a_file_is_told(rt: HostRuntime) -> Result<(), Fail> {
 #[test]
 fn of_several_faults_the_first_is_told(rt: HostRuntime) -> Result<(), Fail> {
     let alloc = rt.alloc();
-    let files: [(&[&str], Outcome<'_>); 7] = [
+    let files: [(&[&str], Outcome<'_>); 9] = [
         // Unknown keys come first, in the order of their bytes.
         (
             &["size = 0\nzeta = 1\nbeta = 1\n", HIGH],
@@ -79,6 +81,15 @@ fn of_several_faults_the_first_is_told(rt: HostRuntime) -> Result<(), Fail> {
         (
             &[SIZES, "[[alarm]]\ntag = \"\"\narea = 2\nprio = 1\n"],
             Outcome::Key(Some(0), "prio"),
+        ),
+        // Of an alarm the numbers come first, and then its tag.
+        (
+            &[SIZES, BARE, "tag = \"T\"\narea = 2\npriority = 5\n"],
+            Outcome::Key(Some(0), "priority"),
+        ),
+        (
+            &[SIZES, BARE, "deadband = -1\narea = 0\npriority = 1\n"],
+            Outcome::Key(Some(0), "deadband"),
         ),
     ];
     for (parts, wanted) in files {
