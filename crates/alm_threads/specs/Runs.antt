@@ -62,10 +62,10 @@ module _ {T : Type 0} {g : Told.Ghosts T} where
     pub report : HasReport reports k (length (sent_of c)) (length (of_slot c.slot entries)) (length (of_slot c.slot told)) (length (received_of c))
 
 -- from this base: what was taken of all slots is one legal history, as of a single thread. It has no entries of other slots. The
--- store holds a prefix of it, and what was released is a prefix of that. Each slot's report, in the order of the slots, counts its entries in these lists. The
--- device is left with the stored plant, or with that and the next entries of the history, of the one batch whose commit wasn't
--- done. It came there by moments at each of which it encodes a prefix of what was accepted by then. The prefix contains all that
--- may be reported by then, at the last all that was released
+-- store holds a prefix of it, and what was released is a prefix of that. Each slot's report, in the order of the slots, counts its
+-- entries in these lists. The device is left with the stored plant, or with that and the next entries of the history, of the one
+-- batch whose commit wasn't done. It came there by moments at each of which it encodes a prefix of what was accepted by then. The
+-- prefix contains all that may be reported by then, at the last all that was released
 pub record IsServerRun (leaves : Condensed → Condensed → Type 0) (endures : List Action → ℕ → Type 0) (base : Condensed) (slots : List ℕ) (stored : Condensed) (reports : List (Option SlotReport)) : Type 0 where
   pub entries : List Entry
   pub legal : IsLegal base entries

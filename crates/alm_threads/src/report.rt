@@ -1,6 +1,7 @@
 //! What a run leaves.
-ghost use Rattle.std.specs.Prelude.{◌≡◌, ◌≢◌, IsSome, None};
+ghost use Rattle.std.specs.Prelude.{◌≡◌, ◌≢◌, IsSome, None, Some};
 ghost use Rattle.alm_store.specs.declared.phase.Phase.TheVariants.{Stopped};
+ghost use Rattle.alm_threads.specs.declared.stop_cause.StopCause.TheVariants as stop_cause;
 ghost use Rattle.alm_threads.specs.declared.storage.Storage.TheVariants as variant;
 ghost use Rattle.alm_threads.specs.Answered.{AllAnswered};
 
@@ -31,4 +32,5 @@ pub struct RunReport<K: Store, T: Told + Drop, J: RunId> {
         storage ≡ variant.Whole },
     pub ghost caused: { storage ≡ variant.Stopped → IsSome cause },
     pub ghost uncaused: { storage ≡ variant.Whole → cause ≡ None },
+    pub ghost stopped: { (K.state keeper).phase ≡ Stopped → cause ≡ Some stop_cause.Store },
 }

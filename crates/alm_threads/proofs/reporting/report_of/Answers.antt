@@ -25,3 +25,9 @@ invariant_of-result-clause-caused g c = λ stopped. elim c.match-storage.branch 
       let all = answered_by c.args.ends.consoles.items c.args.ends.rings.inboxes.items c.args.ends.flusher.outboxes.items c.close_all-slots.result.items c.close_all-slots.ensures.closed (c.requires.end.answered missing) in
       absurd (cc (sym (c.storage_of-storage.ensures.stopped goes (c.are_answered.ensures.1 (subst AllAnswered (sym c.deref.ensures.value) all))) ∙ stopped)))
 ]
+
+pub invariant_of-result-clause-stopped : goal.invariant_of-result-clause-stopped
+invariant_of-result-clause-stopped g c = λ stopped. elim c.match-storage.branch [
+  | in-Whole w ↦ absurd ((c.storage_of-storage.ensures.whole w.in-Whole.is).0 (c.phase.ensures ∙ stopped))
+  | in-Stopped w ↦ w.cause-is ∙ c.requires.end.stopped stopped
+]
