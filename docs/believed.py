@@ -18,8 +18,8 @@ PAGE = Path(__file__).resolve().parent / "BELIEVED.md"
 # The words that the contract of each call cites.
 CLAIMS = {
     "The server: `serve_ports`": [
-        "alm_serve.Serving:ServeWrites", "alm_serve.Runs:ServeEnds", "alm_serve.Runs:IsOpened", "alm_serve.Runs:RunsWhole", "alm_keeper.AsStore:StandsFor",
-        "alm_keeper.AsStore:IsLastEpoch"],
+        "alm_serve.Serving:ServeWrites", "alm_serve.Runs:ServeEnds", "alm_serve.Runs:IsLeftOpened", "alm_serve.Runs:HasServed",
+        "alm_keeper.AsStore:StandsFor", "alm_keeper.AsStore:IsLastEpoch"],
     "A receipt and a look: `what_is_told_stays_stored`": ["alm_moments.Moments:StaysStored", "alm_moments.Moments:AreHeld"],
     "One thread: `life`": [
         "alm_bench.StandOnly:StandOnly", "alm_bench.Traced:KeepsTold", "alm_pipeline.Headline:IsRun", "alm_pipeline.Headline:device_alone",

@@ -8,8 +8,6 @@ use Rattle.alm_moments.specs.declared.recorded_moment.RecordedMoment.{RecordedMo
 use Rattle.alm_rings.specs.declared.slot_report.SlotReport.{SlotReport}
 use Rattle.alm_store.specs.Calls.{IsRefusedBy, OpensBy}
 use Rattle.alm_store.specs.Opening.{HasCause}
-use Rattle.alm_store.specs.declared.phase.Phase.{Phase}
-use Rattle.alm_store.specs.declared.phase.Phase.TheVariants.{Stopped}
 use Rattle.alm_store.specs.declared.open_fault.OpenFault.{OpenFault}
 use Rattle.alm_store.specs.declared.open_fault.OpenFault.TheVariants as fault
 use Rattle.alm_threads.specs.Answered.{AllAnswered}
@@ -27,21 +25,20 @@ pub record AreAllSlots (slots : List ℕ) : Type 0 where
   pub count : length slots ≡ slot_count
   pub order : (k s : ℕ) → slice_get slots k ≡ Some s → s ≡ k
 
--- the store goes on, and all that was sent was taken and answered
-abbrev pub IsWhole : Phase → List (Option SlotReport) → Type 0
-IsWhole phase reports = (phase ≢ Stopped) × ∥ AllAnswered reports ∥₁
+-- all that was sent was taken and answered
+abbrev pub IsWhole : List (Option SlotReport) → Type 0
+IsWhole reports = ∥ AllAnswered reports ∥₁
 
 module _ {D : Type 0} (d : Disk.Ghosts D) (recovers : List ℕ → Condensed → Type 0) where
   -- all slots were served in one run from this plant, over this device up to that one. At its end `count` actions are stored, and it
   -- ended so
-  pub record ServesRun (base : Condensed) (from to : D) (ended : Phase → List (Option SlotReport) → Type 0) (count : ℕ) : Type 0 where
+  pub record ServesRun (base : Condensed) (from to : D) (ended : List (Option SlotReport) → Type 0) (count : ℕ) : Type 0 where
     pub slots : List ℕ
     pub all : AreAllSlots slots
     pub stored : Condensed
     pub counted : count ≡ stored.panel.count
-    pub phase : Phase
     pub reports : List (Option SlotReport)
-    pub end : ended phase reports
+    pub end : ended reports
     pub history : List RecordedMoment
     pub run : IsServerRun (LeavesOneOf (d.honest from) (d.honest to) recovers (d.state to)) (Endures (d.honest from) recovers base (d.state from) (d.state to) history) base slots stored reports
 
@@ -59,6 +56,14 @@ module _ {D : Type 0} (d : Disk.Ghosts D) (recovers : List ℕ → Condensed →
     pub stands : d.honest device → recovers (d.state opened).bytes base
     pub settled : d.honest device → (place : ℕ) → (d.state opened).pending place ≡ false
 
+  -- it was opened, and left so
+  abbrev pub IsLeftOpened : (device back : D) → Type 0
+  IsLeftOpened device back = (o : IsOpened device) × (back ≡ o.opened)
+
+  -- it was opened, and a whole run led to the other. At its end `count` actions are stored
+  abbrev pub HasServed : (device back : D) → (count : ℕ) → Type 0
+  HasServed device back count = (o : IsOpened device) × RunsWhole o.base o.opened back count
+
   -- it wasn't opened, for its cause
   pub record IsNotOpened (device back : D) (why : OpenFault) : Type 0 where
     pub by : IsRefusedBy why d.serves device back
@@ -66,10 +71,11 @@ module _ {D : Type 0} (d : Disk.Ghosts D) (recovers : List ℕ → Condensed →
     pub cause : d.honest device → HasCause recovers (d.state device) why (d.failures device) (d.failures back)
 
 module _ {D : Type 0} (d : Disk.Ghosts D) (recovers : List ℕ → Condensed → Type 0) (spent : DeviceState → Type 0) where
-  -- it wasn't whole, for this cause. If a step of the store failed, the device failed, or it is at the last epoch
+  -- it stopped for this cause. If a step of the store failed, the device failed, or it is at the last epoch. If none failed,
+  -- something that was sent is unanswered
   pub record RunsUpTo (base : Condensed) (from to : D) (why : StopCause) : Type 0 where
     pub count : ℕ
-    pub run : ServesRun d recovers base from to (λ phase reports. ¬ (IsWhole phase reports)) count
+    pub run : ServesRun d recovers base from to (λ reports. why ≢ cause.Store → ¬ (IsWhole reports)) count
     pub failed : why ≡ cause.Store → d.honest to → ¬ (spent (d.state to)) → ∥ HasFailed (d.failures from) (d.failures to) ∥₁
 
   -- what a server has done with an open device, by its result: a whole run, a run that stopped for a cause, or nothing at all

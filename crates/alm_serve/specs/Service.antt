@@ -18,6 +18,12 @@ use Rattle.alm_serve.specs.declared.served.Served.TheVariants as served
 abbrev pub IsFresh : Untaken → List ℕ → List ℕ → Type 0
 IsFresh held waiting left = (held ≡ record { line = None; held = []; rest = [] }) × (waiting ≡ []) × (left ≡ [])
 
+-- a connection, with this of its wire
+abbrev pub by_wire : {W X : Type 0} → (W → X) → Connection W → Connection X
+by_wire f Awaited = Awaited
+by_wire f (Open wire) = Open (f wire)
+by_wire f Ended = Ended
+
 module _ {W : Type 0} where
   -- the wire of an open connection
   abbrev pub wire_of : Connection W → Option W
@@ -26,9 +32,7 @@ module _ {W : Type 0} where
 
   -- a connection, regardless of its wire
   abbrev pub stage : Connection W → Connection (Unit {0})
-  stage Awaited = Awaited
-  stage (Open wire) = Open tt
-  stage Ended = Ended
+  stage connection = by_wire (λ _. tt) connection
 
   -- what a turn of an open connection is to the caller, and what the connection is then, by the wire after the turn
   abbrev pub TurnServes : Turn → W → Served W → Connection W → Type 0

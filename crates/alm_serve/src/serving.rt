@@ -4,7 +4,7 @@ ghost use Rattle.std.specs.Prelude.{◌≡◌, ◌≢◌, ◌≤◌, ◌<◌, �
 ghost use Rattle.alm_lines.specs.Written.{Prints};
 ghost use Rattle.alm_rings.specs.Placed.{AreApart};
 ghost use Rattle.alm_keeper.specs.AsStore.{IsLastEpoch, StandsFor};
-ghost use Rattle.alm_serve.specs.Runs.{AreAllSlots, IsOpened, RunsBy, RunsWhole, ServeEnds};
+ghost use Rattle.alm_serve.specs.Runs.{AreAllSlots, HasServed, IsLeftOpened, RunsBy, RunsWhole, ServeEnds};
 ghost use Rattle.alm_serve.specs.Serving.{serving_line, stopped_line, ServeWrites};
 ghost use Rattle.alm_types.specs.Sizes.{most_actions, slot_count};
 ghost use Rattle.alm_threads.specs.declared.stop_cause.StopCause.{StopCause};
@@ -184,7 +184,7 @@ fn serve_over<
     requires named { IsNamedAfter J.RunId K.Store K.Device.Disk store }
     requires idle { (K.state store).phase ≡ Phase.Idle }
     requires limit { (K.state store).stored.panel.count ≤ most_actions }
-    ensures writes { ServeWrites
+    ensures writes { ServeWrites (K.disk result.back ≡ K.disk store)
         (RunsWhole K.Device.Disk K.recovers (K.state store).stored (K.disk store)
         (K.disk result.back)) (L.name listen.now) (W.contents writer.old)
         (W.contents writer.new) result.served }
@@ -239,9 +239,8 @@ fn serve_device<D: Disk + Drop, L: Listen<R>, W: io::Write, R: Threads + Wait + 
     conns: u32,
     writer: &mut W,
 ) -> ServerEnd<D>
-    ensures writes { ServeWrites
-        (λ count. (o : IsOpened D.Disk StandsFor disk) ×
-        RunsWhole D.Disk StandsFor o.base o.opened result.back count) (L.name listen.now)
+    ensures writes { ServeWrites (IsLeftOpened D.Disk StandsFor disk result.back)
+        (HasServed D.Disk StandsFor disk result.back) (L.name listen.now)
         (W.contents writer.old) (W.contents writer.new) result.served }
     ensures ends { ServeEnds D.Disk StandsFor IsLastEpoch disk result.back result.cause
         result.served }
@@ -276,9 +275,8 @@ pub fn serve_ports<D: Disk + Drop, W: io::Write, R: Net + Threads + Wait + Clock
     writer: &mut W,
 ) -> ServerEnd<D>
     requires { port ≤ 65518 }
-    ensures writes { ServeWrites
-        (λ count. (o : IsOpened D.Disk StandsFor disk) ×
-        RunsWhole D.Disk StandsFor o.base o.opened result.back count) (decimal port)
+    ensures writes { ServeWrites (IsLeftOpened D.Disk StandsFor disk result.back)
+        (HasServed D.Disk StandsFor disk result.back) (decimal port)
         (W.contents writer.old) (W.contents writer.new) result.served }
     ensures ends { ServeEnds D.Disk StandsFor IsLastEpoch disk result.back result.cause
         result.served }
@@ -309,9 +307,8 @@ pub fn serve_sockets<
     patience: Option<&Patience>,
     writer: &mut W,
 ) -> ServerEnd<D>
-    ensures writes { ServeWrites
-        (λ count. (o : IsOpened D.Disk StandsFor disk) ×
-        RunsWhole D.Disk StandsFor o.base o.opened result.back count) folder.now
+    ensures writes { ServeWrites (IsLeftOpened D.Disk StandsFor disk result.back)
+        (HasServed D.Disk StandsFor disk result.back) folder.now
         (W.contents writer.old) (W.contents writer.new) result.served }
     ensures ends { ServeEnds D.Disk StandsFor IsLastEpoch disk result.back result.cause
         result.served }
@@ -338,10 +335,8 @@ pub fn serve_run<D: Disk + Drop, W: io::Write, R: Net + Threads + Wait + Clock +
     requires { port ≤ 65518 }
     ensures { (back : D) × (cause : Option StopCause) ×
         ServeEnds D.Disk StandsFor IsLastEpoch disk back cause result ×
-        ServeWrites
-        (λ count. (o : IsOpened D.Disk StandsFor disk) ×
-        RunsWhole D.Disk StandsFor o.base o.opened back count) (decimal port)
-        (W.contents writer.old) (W.contents writer.new) result }
+        ServeWrites (IsLeftOpened D.Disk StandsFor disk back) (HasServed D.Disk StandsFor disk back)
+        (decimal port) (W.contents writer.old) (W.contents writer.new) result }
 {
     serve_ports(rt, alloc, disk, port, conns, None, writer).served
 }

@@ -135,13 +135,15 @@ impl<W: Wire + Drop> SlotService<W> {
 }
 
 impl<S: Read + Write + Drop> SlotService<StreamWire<S>> {
-    ghost use Rattle.std.specs.Prelude.{◌≡◌, ◌↔◌};
-    ghost use Rattle.alm_serve.specs.Service.{stage};
+    ghost use Rattle.std.specs.Prelude.{◌≡◌};
+    ghost use Rattle.alm_serve.specs.Service.{by_wire, stage};
 
-    /// A poll found the stream ready, as [`StreamWire::find_ready`] has it.
+    /// A poll found the stream ready, as [`StreamWire::find_ready`] has it. Nothing is read or written.
     pub fn find_ready(&mut self, reads_on: bool)
         ensures session { self.new.session ≡ self.old.session }
         ensures stage { stage self.new.connection ≡ stage self.old.connection }
+        ensures stream { by_wire (λ wire. wire.stream) self.new.connection ≡
+            by_wire (λ wire. wire.stream) self.old.connection }
     {
         if let Connection::Open(wire) = &mut self.connection {
             wire.find_ready(reads_on);

@@ -41,8 +41,10 @@ impl<S: Read + Write + Drop> StreamWire<S> {
     }
 
     /// A poll found the stream ready to be read. From now on a short read may leave bytes in the stream if the other side has
-    /// ended its sending, or sent urgent data.
-    pub fn find_ready(&mut self, reads_on: bool) {
+    /// ended its sending, or sent urgent data. The stream itself isn't called.
+    pub fn find_ready(&mut self, reads_on: bool)
+        ensures stream { self.new.stream ≡ self.old.stream }
+    {
         self.is_dry = false;
         self.reads_on = self.reads_on || reads_on;
     }

@@ -25,9 +25,8 @@ returns-in-Ok-clause-ends g c =
       all = c.requires.slots;
       stored = (s.state r.keeper).stored;
       counted = refl;
-      phase = (s.state r.keeper).phase;
       reports = r.slots.items;
-      end = (r.goes_on whole, r.answered whole);
+      end = r.answered whole;
       history = r.moments;
       run = run.run;
     }))
@@ -43,9 +42,8 @@ returns-in-Ok-clause-ends g c =
           all = c.requires.slots;
           stored = (s.state r.keeper).stored;
           counted = refl;
-          phase = (s.state r.keeper).phase;
           reports = r.slots.items;
-          end = λ whole. ∥∥₁_elim whole.1 (hlevel props) (λ answered. absurd (cc (sym (r.whole whole.0 answered) ∙ stopped)));
+          end = λ other whole. ∥∥₁_elim whole (hlevel props) (λ answered. absurd (cc (sym (r.whole (λ phase. other (cc (why.1, r.stopped phase))) answered) ∙ stopped)));
           history = r.moments;
           run = run.run;
         };

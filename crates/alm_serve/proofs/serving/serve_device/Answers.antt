@@ -1,4 +1,4 @@
-use Rattle.std.proofs.Common.{sym, subst}
+use Rattle.std.proofs.Common.{◌∙◌, sym, subst}
 use Rattle.alm_keeper.specs.AsStore.{IsLastEpoch, StandsFor}
 use Rattle.alm_serve.specs.Runs.{IsOpened, RunsBy, RunsWhole}
 use Rattle.alm_serve.proofs.Runs.{ends_of, writes_map}
@@ -21,4 +21,4 @@ returns-in-Ok-clause-writes g c =
     let open' = c.in-Ok.ensures in
     let end = c.serve_over-end.result in
     let o : IsOpened d StandsFor c.args.disk = record { opened = k.disk; base = k.stored.plant; by = open'.made; honest = open'.honest; image = λ h. (open'.opened h).0; stands = λ h. (open'.opened h).1; settled = open'.settled } in
-    writes_map _ _ _ _ _ end.served (λ count whole. (o, subst (λ back. RunsWhole d StandsFor k.stored.plant k.disk back count) (sym c.into_device.ensures) whole)) c.serve_over-end.ensures.writes
+    writes_map _ _ _ _ _ _ _ end.served (λ same. (o, c.into_device.ensures ∙ same)) (λ count whole. (o, subst (λ back. RunsWhole d StandsFor k.stored.plant k.disk back count) (sym c.into_device.ensures) whole)) c.serve_over-end.ensures.writes

@@ -1,4 +1,4 @@
-use Rattle.std.proofs.Common.{◌∙◌, inr, ap, rules, subst, sym}
+use Rattle.std.proofs.Common.{◌≡◌, ◌∙◌, inr, ap, rules, subst, sym}
 use Rattle.std.specs.Prelude.{Err}
 use Rattle.std.specs.Io.KnownBytes.{Appends}
 use Rattle.std.proofs.KnownBytes.{Appends-trans}
@@ -19,6 +19,7 @@ returns-clause-writes g c =
     let mid = g.W.Write.contents c.print_serving.new.writer in
     let first : Appends old mid line = search rules in
     let run = c.run_behind-served in
+    let idle = s.disk run.result.back ≡ s.disk c.args.store in
     let whole = RunsWhole d s.recovers (s.state c.args.store).stored (s.disk c.args.store) (s.disk run.result.back) in
     let runs = λ (result : _). RunsBy d s.recovers s.spent (s.state c.args.store).stored (s.disk c.args.store) (s.disk run.result.back) run.result.cause result in
     elim c.match-served.branch [
@@ -30,8 +31,9 @@ returns-clause-writes g c =
             cut_behind old mid _ line (stopped_line w.in-Ok-served.count) first (as_cut _ _ _ w.print_stopped.result w.print_stopped.ensures),
           ))
       | in-Err-served w ↦
-          subst (λ result. ServeWrites whole name old (g.W.Write.contents c.match-served.writer) result) (sym w.served-is)
-          (subst (λ writer. ServeWrites whole name old (g.W.Write.contents writer) (Err w.in-Err-served.fault)) (sym w.writer-is)
-          (writes_first whole name old mid w.in-Err-served.fault (λ net. run.ensures.net (w.in-Err-served.is ∙ ap Err net))
-          (λ why is. subst runs (w.in-Err-served.is ∙ ap Err is) run.ensures.ends) first))
+          subst (λ result. ServeWrites idle whole name old (g.W.Write.contents c.match-served.writer) result) (sym w.served-is)
+          (subst (λ writer. ServeWrites idle whole name old (g.W.Write.contents writer) (Err w.in-Err-served.fault)) (sym w.writer-is)
+          (writes_first idle whole name old mid w.in-Err-served.fault (λ net. run.ensures.net (w.in-Err-served.is ∙ ap Err net))
+          (λ why is. subst runs (w.in-Err-served.is ∙ ap Err is) run.ensures.ends)
+          (λ is. subst runs (w.in-Err-served.is ∙ ap Err is) run.ensures.ends) first))
     ]
