@@ -6,6 +6,8 @@
     docs/believed.py --check                   whether the page is that, and which files of specs/ no claim needs
     docs/believed.py --mark                    begins each of these files with the line that says so
     docs/believed.py CRATE.FILE:NAME ..        what these definitions unfold to
+
+The words of a claim are read from the contract of its call. A call without one, and a word that its file doesn't define, is a fault.
 """
 import re
 import sys
@@ -15,16 +17,11 @@ import proved
 
 CRATES = Path(__file__).resolve().parent.parent / "crates"
 PAGE = Path(__file__).resolve().parent / "BELIEVED.md"
-# The words that the contract of each call cites.
+# The crate of each call, whose contract's words are read from its code. After it, words that a type which the call names says besides.
 CLAIMS = {
-    "The server: `serve_ports`": [
-        "alm_serve.Serving:ServeWrites", "alm_serve.Runs:ServeEnds", "alm_serve.Runs:IsLeftOpened", "alm_serve.Runs:HasServed",
-        "alm_keeper.AsStore:StandsFor", "alm_keeper.AsStore:IsLastEpoch"],
-    "A receipt and a look: `what_is_told_stays_stored`": ["alm_moments.Moments:StaysStored", "alm_moments.Moments:AreHeld"],
-    "One thread: `life`": [
-        "alm_bench.StandOnly:StandOnly", "alm_bench.Traced:KeepsTold", "alm_pipeline.Headline:IsRun", "alm_pipeline.Headline:device_alone",
-        "alm_pipeline.World:first", "alm_pipeline.World:closed_world", "alm_pipeline.Pace:PacesAll", "alm_pipeline.Pace:most_more",
-        "alm_keeper.AsStore:StandsFor", "alm_keeper.AsStore:IsLastEpoch"],
+    "The server: `serve_ports`": ["alm_serve"],
+    "A receipt and a look: `what_is_told_stays_stored`": ["alm_shared", "alm_moments.Moments:AreHeld"],
+    "One thread: `life`": ["alm_bench"],
 }
 LAWS = ["alm_laws", "alm_progress"]
 MARK = "-- For the proofs.\n"
@@ -34,10 +31,13 @@ Whoever believes these definitions, and the Rust types that they name, need not 
 page is made by `docs/believed.py`; with `--names` that prints which definitions they are. A case or a field counts as the definition that it belongs to.
 """
 BEGINS = re.compile(r"\s*(?:(?:pub|abbrev|unfoldable|opaque) )*(?:(?:pub|abbrev|unfoldable|opaque|record|data) )(\S+)")
-IMPORT = re.compile(r"\s*use Rattle\.(\w+)\.specs\.(\w+)\.\{(.*)\}")
+IMPORT = re.compile(r"\s*use Rattle\.(alm_\w+)\.specs\.(\w+)\.\{(.*)\}")
 WORD = re.compile(r"[^\s(){}\[\];,.]+")
-GHOST = re.compile(r"^\s*ghost use Rattle\.(\w+)\.specs\.(\w+)\.\{(.*)\}", re.MULTILINE)
-CONTRACT = re.compile(r"^ *(?:pub )?fn (\w+)(.*?)(?:^ *\{| \{$|;$)", re.MULTILINE | re.DOTALL)
+GHOST = re.compile(r"^\s*ghost use Rattle\.(alm_\w+)\.specs\.(\w+)\.\{(.*?)\}", re.MULTILINE | re.DOTALL)
+# A call and its clauses: they are indented deeper than it, and its body begins at its own depth.
+CALL = re.compile(r"^( *)(?:pub(?:\(\w+\))? )?fn (\w+).*\n((?:\1(?:[ )>]|where).*\n)*)", re.MULTILINE)
+CLAUSES = re.compile(r"^ *(?:requires|ensures)\b.*", re.MULTILINE | re.DOTALL)
+COMMENT = re.compile(r"//.*")
 
 
 class Specs:
@@ -69,17 +69,24 @@ class Specs:
         return next((name for name, lines in self.lines.items() if word in WORD.findall(" ".join(lines))), None)
 
 
+def words_in(text):
+    """The words of a text, each also as an operator, which is used without its places."""
+    words = set(WORD.findall(text))
+    return words | {f"◌{word}◌" for word in words}
+
+
 def unfold(specs, names):
     """All definitions to which these unfold."""
     seen, left = set(), [tuple(name.split(":")) for name in names]
     while left:
         file, word = left.pop()
         name = specs[file].holder(word) if file in specs else None
-        if name is None or (file, name) in seen:
+        if name is None:
+            sys.exit(f"believed.py: no definition {word} in {file}")
+        if (file, name) in seen:
             continue
         seen.add((file, name))
-        words = set(WORD.findall(" ".join(specs[file].lines[name])))
-        for used in (words | {f"◌{word}◌" for word in words}) - {name}:  # an operator is used without its places
+        for used in words_in(" ".join(specs[file].lines[name])) - {name}:
             if used in specs[file].lines:
                 left.append((file, used))
             elif used in specs[file].brings:
@@ -87,27 +94,43 @@ def unfold(specs, names):
     return seen
 
 
-def cited(crate, call):
-    """The definitions that the contract of a call cites, or those of all calls in the file of a type; the calls of laws are all claimed."""
+def contracts(text, call):
+    """The clauses of each function of this name."""
+    return [clauses for _, name, rest in CALL.findall(text) if name == call for clauses in CLAUSES.findall(COMMENT.sub("", rest))]
+
+
+def cited(crate, chosen):
+    """The definitions that parts of a crate's code cite, of each file those that are chosen by its path and its text."""
     for path in (CRATES / crate / "src").rglob("*.rt"):
         text = path.read_text(encoding="utf-8")
         brings = {}
         for holder, file, words in GHOST.findall(text):
-            for word in words.split(","):
+            for word in words.strip(", \n").split(","):
                 origin, _, here = word.strip().partition(" as ")
                 brings[here or origin] = f"{holder}.{file}:{origin}"
-        is_whole = path.stem == "laws" or crate in LAWS or re.search(rf"\b(?:struct|enum|trait) {call}\b", text)
-        texts = [text] if is_whole else [contract for name, contract in CONTRACT.findall(text) if name == call]
-        yield from (brings[word] for contract in texts for word in set(WORD.findall(contract)) & brings.keys())
+        yield from (brings[word] for part in chosen(path, text) for word in words_in(part) & brings.keys())
+
+
+def carried(crate, call):
+    """What the contract of a call cites, or those of all calls in the file of a type; the calls of laws are all claimed."""
+    is_whole = lambda path, text: path.stem == "laws" or crate in LAWS or re.search(rf"\b(?:struct|enum|trait) {call}\b", text)
+    return cited(crate, lambda path, text: [text] if is_whole(path, text) else contracts(text, call))
+
+
+def claimed(title):
+    """What the contract of a claim's call cites, and the words besides."""
+    (crate, *besides), call = CLAIMS[title], title.split("`")[1]
+    found = sorted(set(cited(crate, lambda _, text: contracts(text, call)))) or sys.exit(f"believed.py: no contract of {call} in {crate}")
+    return found + besides
 
 
 def needed(specs):
     """The files of definitions that a claim of a root file needs, or the headline."""
-    names = [name for names in CLAIMS.values() for name in names] + [name for crate in LAWS for name in cited(crate, "")]
-    for claimed in proved.crates():
-        for _, by in proved.claims(claimed):
+    names = [name for title in CLAIMS for name in claimed(title)] + [name for crate in LAWS for name in carried(crate, "")]
+    for claiming in proved.crates():
+        for _, by in proved.claims(claiming):
             calls = {call for quoted in re.findall(r"`([^`]+)`", by) for call in re.findall(r"\w+", quoted)}
-            names += [name for crate in [claimed, *re.findall(r"alm_\w+", by)] for call in calls for name in cited(crate, call)]
+            names += [name for crate in [claiming, *re.findall(r"alm_\w+", by)] for call in calls for name in carried(crate, call)]
     return {file for file, _ in unfold(specs, names)}
 
 
@@ -145,7 +168,7 @@ def named_table(specs, names):
 
 def page(specs):
     """The whole page: how much each contract unfolds to, and a line a crate."""
-    found = {title: by_file(specs, names) for title, names in CLAIMS.items()}
+    found = {title: by_file(specs, claimed(title)) for title in CLAIMS}
     lines = [line for title in found for line in ("", f"## {title}", "", sums(found[title]))]
     lines += ["", "## By crate", "", "Of each file in specs/, how many definitions a contract needs: `6` is all six of a file, `14/18` is 14 of 18.", ""]
     lines += [f"| crate | {' | '.join(title.partition(':')[0] for title in found)} |", "|---" * (len(found) + 1) + "|"]
@@ -175,7 +198,7 @@ def main(words):
             text = path.read_text(encoding="utf-8")
             path.write_text(text.removeprefix(MARK) if is_needed else MARK + text, encoding="utf-8")
     elif words == ["--names"]:
-        print("\n".join(line for title, names in CLAIMS.items() for line in (f"## {title}", "", *named_table(specs, names), "")))
+        print("\n".join(line for title in CLAIMS for line in (f"## {title}", "", *named_table(specs, claimed(title)), "")))
     elif words:
         print("\n".join(named_table(specs, words)))
     else:

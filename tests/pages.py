@@ -114,9 +114,7 @@ def edits(found):
 
 
 def believed(found):
-    made = subprocess.run([TOP / "docs" / "believed.py"], capture_output=True, check=True).stdout.decode()
     page = text_of(TOP / "docs" / "BELIEVED.md")
-    found.check(made == page, "docs/BELIEVED.md isn't what docs/believed.py prints")
     said = subprocess.run([TOP / "docs" / "believed.py", "--check"], capture_output=True, check=False)
     found.check(said.returncode == 0, said.stderr.decode().strip())
     headline = " ".join(text_of(TOP / "docs" / "HEADLINE.md").split())
