@@ -70,7 +70,7 @@ fi
 timeout --kill-after=30 "$longest" "$top/tests/clients.py" "$program" "${short[@]}" >"$log/clients" 2>&1 &
 clients=$!
 # power.py isn't among them: it starts virtual machines, wants packages unpacked, and takes an hour. Its page says how it is run.
-for script in pages prose streams examples sizes faults memory damage place writeback surroundings sockets firewall units package quarter lines serve values history browser refused; do
+for script in pages prose launcher streams examples sizes faults memory damage place writeback surroundings sockets firewall units package quarter lines serve values history browser refused; do
     why=$(lacks "$script")
     if [ -n "$why" ]; then
         echo "$script: left out: $why"
@@ -78,7 +78,7 @@ for script in pages prose streams examples sizes faults memory damage place writ
         continue
     fi
     words=("$program" "${short[@]}")
-    case $script in pages | prose) words=() ;; esac # these read the repository alone
+    case $script in pages | prose | launcher) words=() ;; esac # these read the repository alone
     case $script in units | package | quarter) [ -z "${DEBIAN_ROOT:-}" ] || words+=(--root "$DEBIAN_ROOT") ;; esac
     timeout "${bounds[@]}" "$longest" "$top/tests/$script.py" "${words[@]}"
     note "$script" $?
