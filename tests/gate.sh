@@ -4,7 +4,8 @@
 #
 #     tests/gate.sh
 #
-# The last line is `N passed, N failed` over both, and the status is 0 only where both are well. What the machine lacks is a failure.
+# The last line is `N passed, N failed` over both, and the status is 0 only where both are well. What the machine lacks is a failure. So is a
+# wrong body that `rt ci` accepts though it shows nothing: one that can't be read, or that is refused only because a proof file names what it took away.
 set -uo pipefail
 top=$(cd "$(dirname "$0")/.." && pwd)
 program=$top/crates/alm_server/out/alm_server
@@ -36,6 +37,12 @@ add() {
     if [ "$counted" = "0 0" ] && [ $status -eq 0 ]; then fail "\`$*\` counted nothing"; fi
 }
 
+# Fails for each wrong body that shows nothing, by what `rt ci` has said of it.
+look_at_edits() {
+    local line
+    while read -r line; do fail "$line"; done < <(sed -nE 's/^rt: ([^:]+): .*(BAD EDIT|only because a proof file names).*/\1 shows nothing: "\2"/p' "$room/said")
+}
+
 # Tells the launcher of which sources the program was built, so that it doesn't prove them again. If one was changed meanwhile, it does.
 keep_sum() {
     echo "$1" >"$program.sources"
@@ -56,6 +63,7 @@ touch "$room/begun"
 sum=$(. "$top/alm_server" && sum_of_sources)
 cd "$top" || exit 2
 add rt ci </dev/null
+look_at_edits
 if [ -x "$program" ] && [ "$program" -nt "$room/begun" ]; then
     keep_sum "$sum"
     add "$top/tests/all.sh" --short "$program"
