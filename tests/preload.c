@@ -5,7 +5,7 @@
  *     ALM_COUNTS=FILE                at the end of the program: how often each call was made, a line each
  *     ALM_MEMORY=FILE                while it runs: eight bytes, how many requests for memory were made so far
  *     ALM_CALLS=FILE                 the calls on files in their order, a line each: name and path, or name, place and length. Locks are there too:
- *                                    lock, lock-shared, unlock
+ *                                    lock, lock-shared, unlock. Of a socket: nodelay, if it was set to send at once, and each send
  *     ALM_READS=lines                each read of standard input gives a line, where one is there
  *     ALM_INTERRUPT=N                the N-th read of standard input is interrupted: EINTR
  *     ALM_BODY=ignores               stands for a program that ignores failed writes and syncs: to it they succeed
@@ -31,6 +31,8 @@
 #include <dlfcn.h>
 #include <errno.h>
 #include <fcntl.h>
+#include <netinet/in.h>
+#include <netinet/tcp.h>
 #include <pthread.h>
 #include <signal.h>
 #include <stdarg.h>
@@ -41,6 +43,7 @@
 #include <string.h>
 #include <sys/file.h>
 #include <sys/mman.h>
+#include <sys/socket.h>
 #include <sys/stat.h>
 #include <sys/syscall.h>
 #include <sys/types.h>
@@ -352,6 +355,16 @@ ssize_t pread64(int file, void *into, size_t length, off_t at) { return read_at(
 int flock(int file, int how) {
     list_as(how & LOCK_UN ? "unlock" : how & LOCK_SH ? "lock-shared" : "lock", file, NULL, 0, 0);
     return syscall(SYS_flock, file, how);
+}
+int setsockopt(int file, int level, int option, const void *value, socklen_t length) {
+    int answer = syscall(SYS_setsockopt, file, level, option, value, length), error = errno;
+    if (answer == 0 && level == IPPROTO_TCP && option == TCP_NODELAY && *(const int *)value) list_as("nodelay", file, NULL, 0, 0);
+    errno = error;
+    return answer;
+}
+ssize_t send(int file, const void *bytes, size_t length, int flags) {
+    list_as("send", file, NULL, 0, 0);
+    return syscall(SYS_sendto, file, bytes, length, flags, NULL, 0);
 }
 int fdatasync(int file) { return sync_by(FDATASYNC, SYS_fdatasync, file); }
 int fsync(int file) { return sync_by(FSYNC, SYS_fsync, file); }

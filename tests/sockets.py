@@ -5,7 +5,8 @@
 
 Modes, whatever the umask; a second server at the same folder; sockets of a server that was killed; files, folders, links and other sockets at a
 socket's path; folders that aren't there; paths that are too long; descriptors that a client passes; servers that start at the same time. The same
-lines at all slots give the same replies over sockets and over ports. As root: other users, who are in a socket's group or not.
+lines at all slots give the same replies over sockets and over ports. A port's connection is set to send at once before its first reply (TCP_NODELAY).
+As root: other users, who are in a socket's group or not.
 No browser is among the clients: a page can't name a Unix socket.
 """
 import fcntl
@@ -19,7 +20,8 @@ import sys
 import threading
 import time
 
-from program import PLANT, TESTS, Wrong, as_user, begin, check, finish, free_ports, run_words
+from calls import read_calls
+from program import PLANT, TESTS, Wrong, as_user, begin, check, finish, free_ports, preload, run_words
 
 EXAMPLES = os.path.join(TESTS, "..", "examples")
 SLOTS = range(18)
@@ -245,6 +247,24 @@ class Sockets:
             client.close()
         return said + again
 
+    def undelayed(self):
+        """Each connection at a port is set to send at once, before its first reply. A folder's sockets have no such option: of them the same look finds
+        none that is set, as it would of ports."""
+        library, folder = preload(self.top), self.new_folder("undelayed")
+        for place, first in ((free_ports(), "nodelay"), (folder, "send")):
+            words = ("--port", str(place)) if isinstance(place, int) else ("--sockets", place)
+            path = os.path.join(self.top, f"{first}.calls")
+            with self.served(*words, env={**os.environ, "LD_PRELOAD": library, "ALM_CALLS": path}):
+                for slot in [*SLOTS, *SLOTS]:
+                    ask(place, slot, b"1 STATE 0\n")
+            made = {}
+            for call, where, *_ in read_calls(path, self.device):
+                if str(where).startswith("socket:"):
+                    made.setdefault(where, []).append(call)
+            firsts = [calls[0] for calls in made.values() if "send" in calls]
+            check(firsts == [first] * 2 * len(SLOTS), "the first call at each connection of", place, firsts)
+            self.done += 1
+
     def at_once(self, rounds):
         """Two servers over two devices start at one folder: one serves all slots, the other is refused. So is one while another makes its sockets."""
         devices = [self.new_device("first.device"), self.new_device("second.device")]
@@ -325,6 +345,7 @@ def main():
     sockets.passed_descriptors()
     sockets.requests_of_http()
     sockets.same_replies()
+    sockets.undelayed()
     sockets.at_once(rounds)
     sockets.tools()
     sockets.users()
