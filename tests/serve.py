@@ -33,6 +33,8 @@ from program import PLANT, PORTS, Fault, Wrong, begin, check, ends, finish, prel
 
 SLOTS = (0, 5, 16, 17)
 LAYOUT = Layout(28_997, 4, 2)  # of the worked plant
+# The alarm of the worked plant that latches. Its condition comes at its setpoint alone, so it gets the setpoints that are drawn, and one more value.
+LATCHING, SETPOINTS = 2, [1, 49, 100, 800]
 OUT = 64  # so many requests of a connection may be unanswered
 SLOW = os.path.join(os.path.dirname(os.path.abspath(__file__)), "..", "bench", "serve", "sync.c")  # syncs that take their time
 FEW = [(b"1 SHELVE 0 60", b"1 OK 1\n"), (b"2 LIST P 1", b"2 LIST 1 0\n"), (b"3 OOS 1 ON", b"3 OK 2\n"), (b"4 LIST A 0", b"4 LIST 2 0\n"),
@@ -95,12 +97,12 @@ class Client(threading.Thread):
         if self.slot == 16 and self.dice.randrange(6) == 0:
             return f"{number} DESIGN {alarm} {self.dice.choice(['ON', 'OFF'])}"
         if self.slot == 16:
-            return f"{number} VAL {alarm} {self.dice.choice([0, 1, 49, 50, 90, 110, 790, 800, 900])}"
+            return f"{number} VAL {alarm} {self.dice.choice([0, *SETPOINTS] if alarm == LATCHING else [0, 1, 49, 50, 90, 110, 790, 800, 900])}"
         if self.slot == 17:
             return f"{number} CLOCK {int(time.monotonic() * 1000) + number}"
         words = [
             f"ACK {alarm}", f"SHELVE {alarm} {self.dice.randrange(1, 3000)}", f"OOS {alarm} {self.dice.choice(['ON', 'OFF'])}", f"STATE {alarm}",
-            f"UNSHELVE {alarm}", f"PRIO {alarm} {self.dice.randrange(1, 5)}", f"SETP {alarm} {self.dice.choice([1, 49, 100, 800])}"]
+            f"UNSHELVE {alarm}", f"RESET {LATCHING}", f"PRIO {alarm} {self.dice.randrange(1, 5)}", f"SETP {alarm} {self.dice.choice(SETPOINTS)}"]
         return f"{number} {self.dice.choice(words)}"
 
     def run(self):
