@@ -4,9 +4,9 @@
     tests/surroundings.py PROGRAM [--short]
 
 A server is asked by requests of HTTP, cut at each byte, and by a real browser (Debian: chromium), which is left out with a word where it isn't
-there. It is started at each limit of descriptors, and with too small a limit of a file's size. `format` is tried beside a server, on a disk that is
-full (root, for a small file system) and for its modes and its room; `show` and `export` beside a server that starts. A sync hangs, with a patience and
-without one.
+there. It is started at each limit of descriptors, and with too small a limit of a file's size. `format` is tried beside a server, a desk and a reader, on
+a disk that is full (root, for a small file system) and for its modes and its room; `show` and `export` beside a server that starts. A sync hangs, with a
+patience and without one.
 """
 import os
 import resource
@@ -17,7 +17,7 @@ import subprocess
 import sys
 import time
 
-from program import PLANT, Fault, Wrong, begin, check, finish, free_ports, preload, run_words
+from program import PLANT, Desk, Fault, Wrong, begin, check, finish, free_ports, preload, run_words
 
 TOP = os.path.join(os.path.dirname(os.path.abspath(__file__)), "..")
 REFINERY = os.path.join(TOP, "examples", "refinery.toml")
@@ -80,6 +80,7 @@ class Served:
 class Surroundings:
     def __init__(self, program, folder):
         self.program, self.folder, self.done = program, folder, 0
+        self.library = preload(folder)
         self.device = os.path.join(folder, "plant.device")
         self.format(self.device, PLANT)
 
@@ -161,21 +162,20 @@ class Surroundings:
     def hanging_sync(self):
         """A sync hangs for seconds. With a patience the clients are closed, and each new one at once, until it comes back. Without one nobody is closed. What
         was answered stays, and only connections that were served count."""
-        library = preload(self.folder)
         for options in ((), ("--patience", "1")):
             device = os.path.join(self.folder, "hangs.device")
             self.format(device, PLANT)
-            fault = Fault(library, "fdatasync", self.first_sync(library, device) + 1, "held")
+            fault = Fault(self.library, "fdatasync", self.first_sync(device) + 1, "held")
             with Served(self.program, device, options=("--conns", "4", *options), loaded=fault.loaded) as server:
                 self.hang(server, fault, bool(options))
             shown = run_words(self.program, ["show", device]).stdout
             check(shown.startswith(b"NOW 1002 COUNT 3 "), options, "what was answered", shown)
 
-    def first_sync(self, library, device):
+    def first_sync(self, device):
         """How many syncs there are until one action is answered, on a copy."""
         copy, counts = device + ".copy", os.path.join(self.folder, "counts")
         shutil.copyfile(device, copy)
-        with Served(self.program, copy, options=("--conns", "1"), loaded={"LD_PRELOAD": library, "ALM_COUNTS": counts}) as server:
+        with Served(self.program, copy, options=("--conns", "1"), loaded={"LD_PRELOAD": self.library, "ALM_COUNTS": counts}) as server:
             check(server.ask(CLOCK, b"1 CLOCK 1000\n") == b"1 OK 1\n", "one action")
             server.process.wait(timeout=20)
         with open(counts, encoding="ascii") as file:
@@ -269,14 +269,27 @@ class Surroundings:
         check(found.st_blocks * 512 >= found.st_size - 4_096, "room", found.st_blocks * 512, "of", found.st_size)
         self.done += 1
 
-    def format_beside_a_server(self):
-        """`format` is refused beside a server, a desk and a reader, and the device stands as it was."""
+    def format_beside_others(self):
+        """`format` is refused beside a server, a desk and a `show` that still reads, and the device stands as it was."""
         with open(self.device, "rb") as file:
             before = file.read()
-        with Served(self.program, self.device):
-            self.refused(["format", self.device, PLANT], b"fault io\n")
+        format_again = ["format", self.device, PLANT]
+        with Served(self.program, self.device) as server:
+            check(server.serves, "the server that format is tried beside")
+            self.refused(format_again, b"fault io\n")
+        with Desk(self.program, self.device) as desk:
+            check(desk.ask(b"0 1 STATE 0\n") == b"0 1 STATE 0 NORM 0 - -\n", "the desk that format is tried beside")
+            self.refused(format_again, b"fault io\n")
+        fault = Fault(self.library, "pread", 1, "held")
+        with subprocess.Popen([self.program, "show", self.device], stdout=subprocess.DEVNULL, env={**os.environ, **fault.loaded}) as reader:
+            try:
+                until(fault.was_met, "show reads nothing")
+                self.refused(format_again, b"fault io\n")
+            finally:
+                fault.forget()
+        check(reader.returncode == 0, "the show that format is tried beside", reader.returncode)
         with open(self.device, "rb") as file:
-            check(file.read() == before, "format beside a server", "the device")
+            check(file.read() == before, "format beside others", "the device")
 
     def readers(self):
         """A server starts while what `show` and `export` print waits for its reader."""
@@ -392,7 +405,7 @@ def main(argv):
     around.sizes()
     around.modes()
     around.room()
-    around.format_beside_a_server()
+    around.format_beside_others()
     around.readers()
     around.other_addresses()
     around.full_disk()
