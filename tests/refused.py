@@ -5,6 +5,7 @@
 
 These tests of the crates pass with ample memory in the gate, and have to pass as well where any one request is refused: a maker
 answers a whole value or none, and what was refused goes on when it is asked again. `rt ci` leaves the programs that run them.
+With --short at most 250 requests of a test are refused: of one that makes more every second, every third or so on, from a place that its name draws.
 """
 import glob
 import os
@@ -12,6 +13,7 @@ import shutil
 import subprocess
 import sys
 import time
+import zlib
 
 from program import TESTS, Fault, Wrong, begin, check, counts, finish, preload
 
@@ -39,19 +41,26 @@ def names_in(program):
     return [line.removesuffix(": test") for line in listed.splitlines() if line.startswith("refused::")]
 
 
-def refuse_each(program, name, library, folder, step):
+def places(name, made, most):
+    """The requests of a test that are refused: each, or evenly as many as may be, from a place that is drawn by its name."""
+    step = -(-made // most)
+    return range(1 + zlib.crc32(name.encode()) % step, made + 1, step)
+
+
+def refuse_each(program, name, library, folder, most):
     """How many requests of a test were refused."""
     made = counts(program, library, [name], folder)["memory"]
     check(made > 0, name, "takes no memory")
-    for at in range(1, made + 1, step):
+    chosen = places(name, made, most)
+    for at in chosen:
         fault = Fault(library, "memory", at, "enospc")
         run = run_test(program, name, fault.loaded)
         check(run.returncode == 0, name, "request", at, "of", made, run.stderr)
-    return len(range(1, made + 1, step))
+    return len(chosen)
 
 
 def main():
-    _, step, folder = begin("refused", sys.argv, 1, 7)
+    _, most, folder = begin("refused", sys.argv, sys.maxsize, 250)
     started = time.monotonic()
     library = preload(folder)
     tests = refused = 0
@@ -61,7 +70,7 @@ def main():
             check(names, crate, "has no test named so")
             for name in names:
                 tests += 1
-                refused += refuse_each(program, name, library, folder, step)
+                refused += refuse_each(program, name, library, folder, most)
     except Wrong as wrong:
         shutil.rmtree(folder)
         sys.exit(f"refused: {wrong}")
