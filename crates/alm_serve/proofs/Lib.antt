@@ -1,5 +1,6 @@
 mod Cut
+pub mod Beginnings
 pub mod Runs
 pub mod Taken
-pub mod Unasked
 pub mod Turned
+pub mod Unasked

@@ -1,4 +1,5 @@
-pub mod Runs
-pub mod Serving
+pub mod Beginnings
 pub mod Http
+pub mod Runs
 pub mod Service
+pub mod Serving

@@ -1,19 +1,20 @@
 //! How a connection begins.
 
-ghost use Rattle.std.specs.Prelude.{◌≡◌, ◌++◌, ◌-◌, ◌⊎◌, [], length, take, true, false};
+ghost use Rattle.std.specs.Prelude.{◌≡◌, ◌++◌, ◌-◌, ◌⊎◌, List, ℕ, [], length, take, true, false};
 ghost use Rattle.alm_session.specs.declared.wire.ReadGave.TheVariants as gave;
-ghost use Rattle.alm_serve.specs.Http.{begins_as_http};
+ghost use Rattle.alm_serve.specs.Http.{begins_as_http, begins_with_method};
+ghost use Rattle.alm_serve.specs.Beginnings.{Saw};
 
+use crate::first_line::FirstLine;
 use alm_session::ReadGave;
 use arrayvec::ArrayVec;
 
-/// How many bytes decide it: those of the longest method of HTTP and the space after it.
+/// How many bytes hold the longest of those methods and the space after it.
 const MOST: usize = 8;
 
-/// Whether these bytes begin with a method of HTTP and a space, as a browser's requests do (RFC 9110, section 9; PATCH: RFC 5789;
-/// PRI: RFC 9113, section 3.4). No line of the protocol begins with a letter.
-fn begins_as_http(bytes: &[u8]) -> bool
-    ensures { result ≡ begins_as_http bytes.now }
+/// Whether these bytes begin with a method of a browser's.
+fn begins_with_method(bytes: &[u8]) -> bool
+    ensures { result ≡ begins_with_method bytes.now }
 {
     bytes.starts_with(b"GET ")
         | bytes.starts_with(b"HEAD ")
@@ -27,27 +28,30 @@ fn begins_as_http(bytes: &[u8]) -> bool
         | bytes.starts_with(b"PRI ")
 }
 
-/// The first bytes of a connection, at most eight.
+/// What of a connection's first bytes tells whether it begins as a request of HTTP: the first eight, and its first line.
 #[derive(Drop)]
 pub struct FirstBytes {
     bytes: ArrayVec<u8, MOST>,
+    line: FirstLine,
 }
 
 impl FirstBytes {
     /// Those of a connection on which nothing came.
     pub fn new() -> Self
-        ensures { result.bytes.items ≡ [] }
+        ensures { Saw [] result.bytes.items result.line }
     {
         FirstBytes {
             bytes: ArrayVec::new(),
+            line: FirstLine::new(),
         }
     }
 
-    /// Takes what came next.
+    /// Takes what came next into the room for the first eight.
     #[tactic(auto, using(crate::proofs::Taken::taken))]
-    fn take(&mut self, came: &[u8])
-        ensures { self.new.bytes.items ≡
+    fn take_first(&mut self, came: &[u8])
+        ensures bytes { self.new.bytes.items ≡
             self.old.bytes.items ++ take (8 - length self.old.bytes.items) came.now }
+        ensures line { self.new.line ≡ self.old.line }
     {
         let count = self.bytes.remaining_capacity().min(came.len());
         match self.bytes.try_extend_from_slice(&came[..count]) {
@@ -56,17 +60,30 @@ impl FirstBytes {
         }
     }
 
-    /// What the read returns in which these bytes came: the end, if the connection began as a request of HTTP.
+    /// Takes what came next. Whether all that came begins as a request of HTTP.
+    fn is_http_with(&mut self, came: &[u8]) -> bool
+        ensures seen { (before : List ℕ) → Saw before self.old.bytes.items self.old.line →
+            Saw (before ++ came.now) self.new.bytes.items self.new.line }
+        ensures http { (before : List ℕ) → Saw before self.old.bytes.items self.old.line →
+            result ≡ begins_as_http (before ++ came.now) }
+    {
+        self.take_first(came);
+        self.line.take(came);
+        let begins = begins_with_method(self.bytes.as_slice());
+        begins | self.line.is_request()
+    }
+
+    /// What the read returns in which these bytes came: the end, if all that came begins as a request of HTTP.
     pub fn give(&mut self, came: &[u8]) -> ReadGave
-        ensures bytes { self.new.bytes.items ≡
-            self.old.bytes.items ++ take (8 - length self.old.bytes.items) came.now }
-        ensures http { begins_as_http self.new.bytes.items ≡ true → result ≡ gave.End }
-        ensures other { begins_as_http self.new.bytes.items ≡ false →
-            result ≡ gave.Got (length came.now) }
+        ensures seen { (before : List ℕ) → Saw before self.old.bytes.items self.old.line →
+            Saw (before ++ came.now) self.new.bytes.items self.new.line }
+        ensures http { (before : List ℕ) → Saw before self.old.bytes.items self.old.line →
+            begins_as_http (before ++ came.now) ≡ true → result ≡ gave.End }
+        ensures other { (before : List ℕ) → Saw before self.old.bytes.items self.old.line →
+            begins_as_http (before ++ came.now) ≡ false → result ≡ gave.Got (length came.now) }
         ensures either { (result ≡ gave.End) ⊎ (result ≡ gave.Got (length came.now)) }
     {
-        self.take(came);
-        if begins_as_http(self.bytes.as_slice()) {
+        if self.is_http_with(came) {
             ReadGave::End
         } else {
             ReadGave::Got(came.len())

@@ -60,7 +60,8 @@
 //! - a port is the source of its slot alone, whatever its clients do, and sends what its service does (by `SlotPort`,
 //!   `StreamWire`)
 //! - a port and a bell for each slot asked for, in order (by `open_ports`, `open_sockets`)
-//! - a connection has ended that begins as a request of HTTP, and no other has ended for its first bytes (by `FirstBytes`)
+//! - a connection has ended that begins as a request of HTTP, whatever its method, and no other has ended for its first bytes
+//!   (by `FirstBytes`)
 //! - what the server writes, by how it ends, or a prefix if the writer fails; why a device isn't opened (by `serve_ports`,
 //!   `serve_sockets`)
 //! - **from a plant that an image of its device holds, a run of all 18 slots, up to the device returned; it names no
@@ -77,6 +78,7 @@ mod connection;
 mod connection_count;
 mod counted_disk;
 mod first_bytes;
+mod first_line;
 pub mod laws;
 mod listen;
 mod opening;
