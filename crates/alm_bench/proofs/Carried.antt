@@ -80,6 +80,9 @@ module _ {D : Type 0} {g : Ghosts (Keeper D) D} {d : Disk.Ghosts D} where
   reopened_between event s s' t t' from to reopens =
       subst (λ (x : T.Setup D D g d). Reopens x event t') from (subst (λ (y : T.Setup D D g d). Reopens s event y) to reopens)
 
+  pub honest_as : (s t : T.Setup D D g d) → s ≡ t → serves_well s → serves_well t
+  honest_as s t same is = subst (λ (x : T.Setup D D g d). serves_well x) same is
+
   -- a bench that has the state of a world has an honest device
   pub stands_honest : (w : World) (s : T.Setup D D g d) → IsSetup w s → serves_well s
   stands_honest w (Open pipeline) is = is.1

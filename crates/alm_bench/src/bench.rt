@@ -62,25 +62,27 @@ impl<D: Crashable + Drop> Bench<D> {
     ///
     /// Refused, and the device is returned, if it encodes no plant, if it failed, or if out of memory.
     pub fn new(alloc: Global, disk: D) -> Result<Bench<D>, (OpenFault, D)>
-        ensures stands { D.honest disk → (plant : Condensed) → StandOnly (D.state disk) plant →
-            IfOk result (λ bench. MatchesBench (first plant) bench) }
+        // By what it has given at the end: a reopening reads, and what it reads may show that the device doesn't keep to the model.
+        ensures stands { (plant : Condensed) → StandOnly (D.state disk) plant →
+            IfOk result (λ bench. IsHonest bench → MatchesBench (first plant) bench) }
         ensures paced { IfOk result (λ bench. (plant : Condensed) → IsPaced 0 (first plant) bench) }
         /// The calls made on this device are a sync and reads, and no others; if it is refused, up to its fault.
         ensures made { MatchResult result (IsOpenedFrom disk)
             (λ e. IsRefusedBy e.0 D.serves disk e.1) }
-        /// What it reads is one of the images before, and no place is pending.
+        /// It reads as one of the images before, and no place is pending.
         ensures device { D.honest disk →
             IfOk result
             (λ bench. IsImage (D.state disk) (bench_sight bench).state.bytes ×
             ((place : ℕ) → (bench_sight bench).state.pending place ≡ false)) }
         ensures there { IfOk result (λ bench. HasDevice bench) }
-        ensures honest { IfErr result (λ e. D.honest disk ↔ D.honest e.1) }
+        ensures honest { MatchResult result (λ bench. IsHonest bench → D.honest disk)
+            (λ e. D.honest e.1 → D.honest disk) }
         ensures no_new_image { D.honest disk →
             IfErr result
             (λ e. (image : List ℕ) → IsImage (D.state e.1) image → IsImage (D.state disk) image) }
-        ensures cause { D.honest disk →
-            IfErr result
-            (λ e. HasCause StandsFor (D.state disk) e.0 (D.failures disk) (D.failures e.1)) }
+        ensures cause { IfErr result
+            (λ e. D.honest e.1 →
+            HasCause StandsFor (D.state disk) e.0 (D.failures disk) (D.failures e.1)) }
     {
         match Pipeline::<Keeper<D>>::open(alloc, disk) {
             Ok(pipeline) => Ok(Bench {
@@ -122,6 +124,7 @@ impl<D: Crashable + Drop> Bench<D> {
     fn take(&mut self) -> Setup<D>
         ensures setup { result ≡ self.old.setup }
         ensures answer { self.new.answer ≡ self.old.answer }
+        ensures gone { ¬ (IsHonest self.new) }
     {
         replace(&mut self.setup, Setup::Gone)
     }
@@ -136,6 +139,7 @@ impl<D: Crashable + Drop> Bench<D> {
 
     // The power fails.
     fn crash(&mut self, bytes: &Vec<(u64, u8)>) -> Event
+        ensures honest { IsHonest self.new → IsHonest self.old }
         ensures answer { (w : World) → MatchesBench w self.old → Answers w (S.Crash bytes.now) result }
         ensures stands { (w : World) → MatchesBench w self.old →
             MatchesBench (after_step w (S.Crash bytes.now) result) self.new }
@@ -163,13 +167,15 @@ impl<D: Crashable + Drop> Bench<D> {
 
     // The device is opened again, and all else starts again.
     fn reopen(&mut self, alloc: Global) -> Event
-        ensures answer { (w : World) → MatchesBench w self.old → Answers w S.Reopen result }
-        ensures stands { (w : World) → MatchesBench w self.old →
+        ensures honest { IsHonest self.new → IsHonest self.old }
+        ensures answer { IsHonest self.new → (w : World) → MatchesBench w self.old →
+            Answers w S.Reopen result }
+        ensures stands { IsHonest self.new → (w : World) → MatchesBench w self.old →
             MatchesBench (after_step w S.Reopen result) self.new }
-        ensures moves { (w : World) → MatchesBench w self.old →
+        ensures moves { IsHonest self.new → (w : World) → MatchesBench w self.old →
             Moves StandsFor IsLastEpoch w S.Reopen result (bench_sight self.old) (bench_sight self.new) }
-        ensures paces { (w : World) (more : ℕ) → MatchesBench w self.old → IsPaced more w self.old →
-            StepsPaced w S.Reopen result more self.new }
+        ensures paces { IsHonest self.new → (w : World) (more : ℕ) → MatchesBench w self.old →
+            IsPaced more w self.old → StepsPaced w S.Reopen result more self.new }
         ensures reopened { IsReopened self.old result self.new }
         ensures there { HasDevice self.old → HasDevice self.new }
     {
@@ -195,6 +201,7 @@ impl<D: Crashable + Drop> Bench<D> {
 
     // The one device call that is next. A failure closes the bench.
     fn call(&mut self) -> Event
+        ensures honest { IsHonest self.new → IsHonest self.old }
         ensures answer { (w : World) → MatchesBench w self.old → Answers w S.Call result }
         ensures stands { (w : World) → MatchesBench w self.old →
             MatchesBench (after_step w S.Call result) self.new }
@@ -237,6 +244,7 @@ impl<D: Crashable + Drop> Bench<D> {
     // A step that leaves the device alone.
     fn go(&mut self, step: &Step) -> Event
         requires { IsInner step.now }
+        ensures honest { IsHonest self.new → IsHonest self.old }
         ensures answer { (w : World) → MatchesBench w self.old → Answers w step.now result }
         ensures stands { (w : World) → MatchesBench w self.old →
             MatchesBench (after_step w step.now result) self.new }
@@ -262,13 +270,15 @@ impl<D: Crashable + Drop> Bench<D> {
 
     // One step.
     fn act(&mut self, alloc: Global, step: &Step) -> Event
-        ensures answer { (w : World) → MatchesBench w self.old → Answers w step.now result }
-        ensures stands { (w : World) → MatchesBench w self.old →
+        ensures honest { IsHonest self.new → IsHonest self.old }
+        ensures answer { IsHonest self.new → (w : World) → MatchesBench w self.old →
+            Answers w step.now result }
+        ensures stands { IsHonest self.new → (w : World) → MatchesBench w self.old →
             MatchesBench (after_step w step.now result) self.new }
-        ensures moves { (w : World) → MatchesBench w self.old →
+        ensures moves { IsHonest self.new → (w : World) → MatchesBench w self.old →
             Moves StandsFor IsLastEpoch w step.now result (bench_sight self.old) (bench_sight self.new) }
-        ensures paces { (w : World) (more : ℕ) → MatchesBench w self.old → IsPaced more w self.old →
-            StepsPaced w step.now result more self.new }
+        ensures paces { IsHonest self.new → (w : World) (more : ℕ) → MatchesBench w self.old →
+            IsPaced more w self.old → StepsPaced w step.now result more self.new }
         ensures sure { step.now ≡ S.Call → result ≡ E.Failed → NextIsSure self.old → (w : World) →
             MatchesBench w self.old →
             HasFailed (bench_sight self.old).failures (bench_sight self.new).failures }
@@ -293,14 +303,17 @@ impl<D: Crashable + Drop> Bench<D> {
 
     /// One step, before and after which the headline holds.
     pub fn step(&mut self, alloc: Global, step: &Step) -> Event
-        ensures answer { (w : World) → MatchesBench w self.old → Answers w step.now result }
-        ensures stands { (w : World) → MatchesBench w self.old →
+        /// A device that keeps to the model after the step did so before.
+        ensures honest { IsHonest self.new → IsHonest self.old }
+        ensures answer { IsHonest self.new → (w : World) → MatchesBench w self.old →
+            Answers w step.now result }
+        ensures stands { IsHonest self.new → (w : World) → MatchesBench w self.old →
             MatchesBench (after_step w step.now result) self.new }
-        ensures moves { (w : World) → MatchesBench w self.old →
+        ensures moves { IsHonest self.new → (w : World) → MatchesBench w self.old →
             Moves StandsFor IsLastEpoch w step.now result (bench_sight self.old) (bench_sight self.new) }
         /// The commit of a held batch ends: at most `most_more` of its calls return More, and each leaves one less.
-        ensures paces { (w : World) (more : ℕ) → MatchesBench w self.old → IsPaced more w self.old →
-            (next : ℕ) × Paces most_more w step.now result more next ×
+        ensures paces { IsHonest self.new → (w : World) (more : ℕ) → MatchesBench w self.old →
+            IsPaced more w self.old → (next : ℕ) × Paces most_more w step.now result more next ×
             IsPaced next (after_step w step.now result) self.new }
         // A call of the device fails only if the device failed in it, or if the last epoch has no room for the held batch.
         ensures sure { step.now ≡ S.Call → result ≡ E.Failed → NextIsSure self.old → (w : World) →
@@ -311,7 +324,7 @@ impl<D: Crashable + Drop> Bench<D> {
         ensures there { HasDevice self.old → HasDevice self.new }
         ensures before { (w : World) → MatchesBench w self.old →
             Headline StandsFor IsLastEpoch w (bench_sight self.old).state }
-        ensures headline { (w : World) → MatchesBench w self.old →
+        ensures headline { IsHonest self.new → (w : World) → MatchesBench w self.old →
             Headline StandsFor IsLastEpoch (after_step w step.now result)
             (bench_sight self.new).state }
     {
@@ -326,24 +339,26 @@ impl<D: Crashable + Drop> Bench<D> {
     /// The world's run of exactly these steps; the headline holds before the first of them and after each. Room for the trace was
     /// taken by then.
     pub fn run(&mut self, alloc: Global, steps: &[Step]) -> Result<Vec<Event>, AllocError>
+        /// A device that keeps to the model at the end did so at each point of the run, and what follows is said of such a run.
+        ensures honest { IsHonest self.new → IsHonest self.old }
         ensures run { IfOk result
-            (λ trace. (w : World) → MatchesBench w self.old →
+            (λ trace. IsHonest self.new → (w : World) → MatchesBench w self.old →
             IsRun StandsFor IsLastEpoch w (bench_sight self.old) steps.now trace.items
             (bench_sight self.new)) }
         ensures stands { IfOk result
-            (λ trace. (w : World) → MatchesBench w self.old →
+            (λ trace. IsHonest self.new → (w : World) → MatchesBench w self.old →
             MatchesBench (after_steps w steps.now trace.items) self.new) }
         /// Each commit in it ends: at most `most_more` of a batch's calls return More.
         ensures paces { IfOk result
-            (λ trace. (w : World) (more : ℕ) → MatchesBench w self.old → IsPaced more w self.old →
-            (last : ℕ) × PacesAll most_more w more steps.now trace.items last ×
+            (λ trace. IsHonest self.new → (w : World) (more : ℕ) → MatchesBench w self.old →
+            IsPaced more w self.old → (last : ℕ) × PacesAll most_more w more steps.now trace.items last ×
             IsPaced last (after_steps w steps.now trace.items) self.new) }
         /// So every fair schedule answers all. If the steps are as many rounds as steps were left, and no call fails, each
         /// request that was sent before them is received.
         ensures answered { IfOk result
-            (λ trace. (slots more : ℕ) (w : World) (rounds : List (List Step)) →
-            MatchesBench w self.old → IsPaced more w self.old → LosesNothing w →
-            AreRounds slots most_more rounds →
+            (λ trace. IsHonest self.new → (slots more : ℕ) (w : World)
+            (rounds : List (List Step)) → MatchesBench w self.old → IsPaced more w self.old →
+            LosesNothing w → AreRounds slots most_more rounds →
             left_to_do slots most_more w more ≤ length rounds → steps.now ≡ steps_of rounds →
             NoneFails trace.items →
             AreReceived slots most_more w (after_steps w steps.now trace.items)) }

@@ -24,7 +24,8 @@
 //! sorted by stamp (alm_pipeline, specs/Headline.antt). Each commit ends (alm_pipeline, specs/Pace.antt), so the laws of
 //! alm_progress apply to its runs.
 //!
-//! The premise is that the device does what its trait says of it, and that it was formatted. Not covered: that any step is
+//! The premise is that the device does what its trait says of it, up to the end of the run, and that it was formatted. What a
+//! reopening reads may show that it doesn't; a device in memory always does. Not covered: that any step is
 //! possible again after a failure, that memory suffices, and threads that run concurrently.
 //!
 //! Proved:

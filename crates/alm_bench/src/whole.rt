@@ -21,8 +21,9 @@ use alm_pipeline::{Event, Step};
 use alm_types::Table;
 use std::alloc::{AllocError, Global};
 
-/// The headline: an honest device encodes a plant, whatever a crash leaves of it. It goes through these steps, and is returned
-/// with their trace. The first of them that is possible is a crash or a reopening.
+/// The headline: a device encodes a plant, whatever a crash leaves of it. It goes through these steps, and is returned with their
+/// trace. The first of them that is possible is a crash or a reopening. What is said of a device that is honest at the end: it was
+/// at each point before, since only what a reopening reads may end that.
 ///
 /// Refused if out of memory, before the first step: the device is returned unchanged.
 pub fn life<D: Crashable + Drop>(
@@ -30,23 +31,24 @@ pub fn life<D: Crashable + Drop>(
     disk: D,
     steps: &[Step],
 ) -> Result<(Vec<Event>, D), (AllocError, D)>
-    ensures run { D.honest disk → (plant : Condensed) → StandOnly (D.state disk) plant →
+    ensures honest { IfOk result (λ lived. D.honest lived.1 → D.honest disk) }
+    ensures run { (plant : Condensed) → StandOnly (D.state disk) plant →
         IfOk result
-        (λ lived. D.honest lived.1 × (at : Phase) × (n : ℕ) ×
+        (λ lived. D.honest lived.1 → (at : Phase) × (n : ℕ) ×
         IsRun StandsFor IsLastEpoch (closed_world (first plant))
         (device_alone (D.state disk) (D.failures disk) 0) steps.now lived.0.items
         (record
         { state = D.state lived.1; failures = D.failures lived.1; phase = at; refused = n })) }
     // By the trace alone: whatever a crash leaves of it encodes the plant of a prefix of the actions that the trace accepted. The
     // prefix reaches all that it reported.
-    ensures told { D.honest disk → (plant : Condensed) → StandOnly (D.state disk) plant →
+    ensures told { (plant : Condensed) → StandOnly (D.state disk) plant →
         IfOk result
-        (λ lived.
+        (λ lived. D.honest lived.1 →
         (image : List ℕ) → IsImage (D.state lived.1) image → KeepsTold plant lived.0.items image) }
     // Each commit in it ends: at most `most_more` of a batch's calls return More.
-    ensures paces { D.honest disk → (plant : Condensed) → StandOnly (D.state disk) plant →
+    ensures paces { (plant : Condensed) → StandOnly (D.state disk) plant →
         IfOk result
-        (λ lived. (last : ℕ) ×
+        (λ lived. D.honest lived.1 → (last : ℕ) ×
         PacesAll most_more (closed_world (first plant)) 0 steps.now lived.0.items last) }
     ensures refused { IfErr result
         (λ e. (D.honest disk ↔ D.honest e.1) × (D.state e.1 ≡ D.state disk) ×
@@ -59,7 +61,7 @@ pub fn life<D: Crashable + Drop>(
     }
 }
 
-/// The headline from the first byte on: an honest device is formatted for a table, goes through these steps, and is returned with
+/// The headline from the first byte on: a device is formatted for a table, goes through these steps, and is returned with
 /// their trace. At first it encodes the table's new plant.
 ///
 /// Refused, and the device is returned, if `format` refuses, or if out of memory.
@@ -69,23 +71,21 @@ pub fn whole_life<D: Crashable + Drop>(
     table: &Table,
     steps: &[Step],
 ) -> Result<(Vec<Event>, D), (FormatFault, D)>
+    ensures honest { IfOk result (λ lived. D.honest lived.1 → D.honest disk) }
     // The run begins at what `format` makes of the device.
-    ensures run { D.honest disk →
-        IfOk result
-        (λ lived. D.honest lived.1 × (formatted : D) ×
+    ensures run { IfOk result
+        (λ lived. D.honest lived.1 → (formatted : D) ×
         IsFormatted D.serves D.state D.honest D.size V02 table.now disk formatted ×
         StandOnly (D.state formatted) (new_plant table.now) × (at : Phase) × (n : ℕ) ×
         IsRun StandsFor IsLastEpoch (closed_world (first (new_plant table.now)))
         (device_alone (D.state formatted) (D.failures formatted) 0) steps.now lived.0.items
         (record
         { state = D.state lived.1; failures = D.failures lived.1; phase = at; refused = n })) }
-    ensures told { D.honest disk →
-        IfOk result
-        (λ lived. (image : List ℕ) → IsImage (D.state lived.1) image →
+    ensures told { IfOk result
+        (λ lived. D.honest lived.1 → (image : List ℕ) → IsImage (D.state lived.1) image →
         KeepsTold (new_plant table.now) lived.0.items image) }
-    ensures paces { D.honest disk →
-        IfOk result
-        (λ lived. (last : ℕ) ×
+    ensures paces { IfOk result
+        (λ lived. D.honest lived.1 → (last : ℕ) ×
         PacesAll most_more (closed_world (first (new_plant table.now))) 0 steps.now lived.0.items
         last) }
     // The formatting was refused, or memory ran out when the device was formatted.

@@ -2,7 +2,7 @@
 use Rattle.std.proofs.Common.{◌≡◌, ⊎_elim, ◌<◌, ◌≤◌, ◌+◌, ℕ, false, ◌||◌, List, ◌++◌, length, get_or, take, drop, Result, Ok, Err, refl, sym, ◌∙◌, ap, subst, arith, length-append, length-drop, take-append-drop, append_assoc}
 use Rattle.std.proofs.lemmas.List.{get_or_append_left, get_or-append_right, get_or-append-add, get_or-take, get_or-drop, length-take-le, take_at, drop_at, drop-drop, ext_get_or}
 use Rattle.std.proofs.lemmas.Bool.{or_parts}
-use Rattle.alm_disk.specs.Device.{DeviceState, AreBytes, IsImage, Reads, Writes, Syncs, byte_at, is_within}
+use Rattle.alm_disk.specs.Device.{DeviceState, AreBytes, IsImage, IsSame, Writes, Syncs, byte_at, is_within}
 use Rattle.alm_disk.specs.Settled.{IsSettled, AwaitsSync}
 use Rattle.alm_disk.proofs.Places.{below, above, outside_cases}
 
@@ -123,10 +123,18 @@ synced_image (Ok _) state new image syncs left =
     subst (IsImage state) (sym same) syncs.one_image
 synced_image (Err e) state new image syncs left = syncs.no_new_image image left
 
--- a read changes no image
-pub read_image : {E : Type 0} (result : Result Unit E) (state new : DeviceState) (at : ℕ) (into image : List ℕ) → Reads at into result state new → IsImage new image → IsImage state image
-read_image result state new at into image reads left = record {
-  size = left.size ∙ ap length reads.bytes;
+-- a device that is the same has no other image
+pub same_image : (state new : DeviceState) (image : List ℕ) → IsSame state new → IsImage new image → IsImage state image
+same_image state new image same left = record {
+  size = left.size ∙ ap length same.bytes;
   bytes = left.bytes;
-  stable = λ i still. left.stable i (reads.pending i ∙ still) ∙ ap (λ (l : List ℕ). byte_at l i) reads.bytes;
+  stable = λ i still. left.stable i (same.pending i ∙ still) ∙ ap (λ (l : List ℕ). byte_at l i) same.bytes;
+}
+
+-- and it is as settled
+pub same_settled : (state new : DeviceState) (bytes : List ℕ) → IsSame state new → IsSettled state bytes → IsSettled new bytes
+same_settled state new bytes same settled = record {
+  reads = same.bytes ∙ settled.reads;
+  nothing_pending = λ i. same.pending i ∙ settled.nothing_pending i;
+  sound = same.faulted ∙ settled.sound;
 }

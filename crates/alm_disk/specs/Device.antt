@@ -27,12 +27,15 @@ pub record IsImage (state : DeviceState) (image : List ℕ) : Type 0 where
   pub bytes : AreBytes image
   pub stable : (place : ℕ) → state.pending place ≡ false → byte_at image place ≡ byte_at state.bytes place
 
--- a read from a place, into a buffer that then holds these bytes
-pub record Reads {E : Type 0} (at : ℕ) (into : List ℕ) (result : Result Unit E) (old new : DeviceState) : Type 0 where
-  pub given : OnOk result (into ≡ take (length into) (drop at old.bytes))
+-- it reads as before, the same places are pending, and the same has failed
+pub record IsSame (old new : DeviceState) : Type 0 where
   pub bytes : new.bytes ≡ old.bytes
   pub pending : (place : ℕ) → new.pending place ≡ old.pending place
   pub faulted : new.faulted ≡ old.faulted
+
+-- a read from a place, into a buffer that then holds these bytes
+abbrev pub Reads : {E : Type 0} → (at : ℕ) → (into : List ℕ) → Result Unit E → DeviceState → Type 0
+Reads at into result state = OnOk result (into ≡ take (length into) (drop at state.bytes))
 
 -- a write of these bytes at a place
 pub record Writes {E : Type 0} (at : ℕ) (bytes : List ℕ) (result : Result Unit E) (old new : DeviceState) : Type 0 where

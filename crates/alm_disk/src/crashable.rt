@@ -34,8 +34,7 @@ pub trait Crashable: Disk {
     fn fail(&mut self, call: Call) -> DiskFault
         requires { IsInside call (Self.size self.old) }
         ensures honest { Self.honest self.old ↔ Self.honest self.new }
-        ensures fails { Self.honest self.old →
-            Fails call (Self.state self.old) (Self.state self.new) }
+        ensures fails { Fails call (Self.state self.old) (Self.state self.new) }
         ensures size { Self.size self.new ≡ Self.size self.old }
         ensures count { let fault : Result Unit DiskFault = Err result in
             CountsFault fault (Self.failures self.old) (Self.failures self.new) }

@@ -1,7 +1,7 @@
 //! Devices.
 
 ghost use Rattle.std.specs.Prelude.{◌≡◌, ◌≤◌, ◌+◌, ◌↔◌, ℕ, length, Result};
-ghost use Rattle.alm_disk.specs.Device.{DeviceState, IsImage, Reads, Writes, Syncs};
+ghost use Rattle.alm_disk.specs.Device.{DeviceState, IsImage, IsSame, Reads, Writes, Syncs};
 ghost use Rattle.alm_disk.specs.Failures.{CountsFault};
 ghost use Rattle.alm_disk.specs.declared.call.Call.{Call};
 ghost use Rattle.alm_disk.specs.declared.call.Call.TheVariants.{Read, Write, Sync};
@@ -11,7 +11,8 @@ use crate::disk_fault::DiskFault;
 
 /// A device of a fixed size in bytes. The range of a read or a write is inside it.
 pub trait Disk {
-    /// The device keeps to the model. Every clause but those on size, count and `serves` has this premise.
+    /// The device keeps to the model, by its answers so far. Every clause but those on size, count, `serves` and what a read
+    /// leaves has this premise.
     ghost honest: { Self → Type 0 };
 
     /// What it reads as, what is pending, and whether something has failed.
@@ -33,9 +34,11 @@ pub trait Disk {
     /// Fills `into` from place `at` on. After a fault its bytes may be any.
     fn read_at(&mut self, at: u64, into: &mut [u8]) -> Result<(), DiskFault>
         requires { at + length into.old ≤ size self.old }
-        ensures honest { honest self.old ↔ honest self.new }
-        ensures reads { honest self.old →
-            Reads at into.new result (state self.old) (state self.new) }
+        /// What it gives may show that the device doesn't keep to the model. No other call may.
+        ensures honest { honest self.new → honest self.old }
+        ensures reads { honest self.new → Reads at into.new result (state self.old) }
+        /// Whatever it gives.
+        ensures same { IsSame (state self.old) (state self.new) }
         ensures size { size self.new ≡ size self.old }
         ensures count { CountsFault result (failures self.old) (failures self.new) }
         ensures serves { serves self.old (Call.Read at (length into.old)) result self.new };

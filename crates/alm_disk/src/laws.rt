@@ -2,7 +2,7 @@
 
 ghost use Rattle.std.specs.Prelude.{◌≡◌, ◌≤◌, ℕ, false, List, [], ◌∷◌, ◌++◌, length, Result, Ok, OnOk, OnErr};
 ghost use Rattle.alm_disk.specs.Calls.{IsOneCall};
-ghost use Rattle.alm_disk.specs.Device.{DeviceState, AreBytes, IsImage, Reads, Writes, Syncs, Crashes};
+ghost use Rattle.alm_disk.specs.Device.{DeviceState, AreBytes, IsImage, IsSame, Writes, Syncs, Crashes};
 ghost use Rattle.alm_disk.specs.Failures.{CountsFault, HasFailed};
 ghost use Rattle.alm_disk.specs.Memory.{calls_of};
 ghost use Rattle.alm_disk.specs.Settled.{IsSettled, AwaitsSync};
@@ -21,10 +21,9 @@ pub fn settled_image()
         IsSettled state bytes → IsImage state image → image ≡ bytes }
 {}
 
-/// A read, done or failed, changes no image.
+/// A read, done or failed, changes no image, whatever it gives.
 pub fn read_image()
-    ensures { (result : Result Unit DiskFault) (old new : DeviceState) (at : ℕ)
-        (into image : List ℕ) → Reads at into result old new →
+    ensures { (old new : DeviceState) (image : List ℕ) → IsSame old new →
         (IsImage old image → IsImage new image) × (IsImage new image → IsImage old image) }
 {}
 

@@ -29,10 +29,10 @@
 //! What is used above: the clauses of [`Disk`], and what follows from them of every device. Each of these [`laws`] is
 //! the contract of a function that does nothing, and a lemma in `proofs/Images.antt`.
 //!
-//! The clauses hold for an *honest* device. That a file is honest is a premise that no proof about a file can
-//! establish: for a file, the only claims are its size and its count of failures. Not covered: finding out that a
-//! device was damaged, and checksums. Also not covered is how often a hold is asked, since asking leaves it unchanged:
-//! a test counts.
+//! The clauses hold for an *honest* device: one whose answers so far are those of the model. Nobody knows that beforehand, so what
+//! a read gives may end it, and nothing else does. A read that lies leaves the device as it was. What this is of a file alm_file
+//! says. Not covered: finding out that a device was damaged, and checksums. Also not covered is how often a hold is asked, since
+//! asking leaves it unchanged: a test counts.
 //!
 //! Proved:
 //! - what each call and a crash do to a device, proved of each one in memory; a fault is reported only if the device failed

@@ -1,11 +1,9 @@
-//! What writes a file to the disk, and what makes the kernel drop its cache of it.
+//! What takes a file's room on the disk, and what makes the kernel drop its cache of it.
 
-use crate::file_fault::FileFault;
-use std::fs::{self, File, Files};
+use std::fs::File;
 use std::io::{self, ErrorKind};
 use std::os::fd::AsRawFd;
 use std::os::unix::fs::FileExt;
-use std::path::Path;
 
 /// How many bytes are read and written in one call.
 const PIECE: usize = 16_384;
@@ -23,34 +21,6 @@ pub fn has_no_sync(error: &io::Error) -> bool {
         error.kind(),
         ErrorKind::InvalidInput | ErrorKind::ReadOnlyFilesystem
     )
-}
-
-/// Waits until the folder that contains a path's last name is on the disk.
-fn sync_folder<R: Files<File = File>>(rt: &R, path: &str) -> Result<(), FileFault> {
-    let folder = match Path::new(path).parent() {
-        Some(folder) if !folder.as_str().is_empty() => folder,
-        _ => Path::new("."),
-    };
-    match File::open(rt, folder)?.sync_all() {
-        Err(error) if has_no_sync(&error) => Ok(()),
-        answer => answer.map_err(FileFault::Sync),
-    }
-}
-
-/// Waits until a file is on the disk, with its name: a rename reaches the disk only with its folder. For a symbolic link both
-/// names are written, its own and that of the file that it leads to.
-pub fn sync_with_name<R: Files<File = File> + AllocGlobal>(
-    rt: &R,
-    file: &File,
-    path: &str,
-) -> Result<(), FileFault> {
-    file.sync_all().map_err(FileFault::Sync)?;
-    sync_folder(rt, path)?;
-    if fs::symlink_metadata(rt, path)?.is_symlink() {
-        let target = rt.canonicalize(rt.alloc(), path)?;
-        return sync_folder(rt, target.as_str());
-    }
-    Ok(())
 }
 
 /// Rewrites the bytes of a file up to a place, as they read. So each of them has its place on the disk, and a later write can't

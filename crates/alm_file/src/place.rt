@@ -19,15 +19,14 @@ pub struct Place<'r, R: Files<File = File>> {
 }
 
 impl<'r, R: Files<File = File>> Place<'r, R> {
-    /// The place of a file that was opened by this path.
-    pub fn of(rt: &'r R, path: &'r str, file: &File) -> io::Result<Self> {
-        let found = file.metadata()?;
-        Ok(Place {
+    /// The place of a file that was opened by this path, by what identifies it.
+    pub fn new(rt: &'r R, path: &'r str, device: u64, inode: u64) -> Self {
+        Place {
             rt,
             path,
-            device: found.dev(),
-            inode: found.ino(),
-        })
+            device,
+            inode,
+        }
     }
 
     /// Fails unless the path still names that file.

@@ -1,6 +1,6 @@
 //! A process whose standard input is closed.
 
-use alm_file::{FileDisk, fill_streams};
+use alm_file::{FileDisk, Unknown, fill_streams};
 use anyhow::Result;
 use os::FromRawFd;
 use std::io::Read;
@@ -14,8 +14,8 @@ const SIZE: u64 = 4_096;
 
 /// Whether the device is opened, to be written or to be read.
 fn opens(rt: &HostRuntime) -> (bool, bool) {
-    let is_written = FileDisk::open(rt, PATH).is_ok();
-    let is_read = FileDisk::open_to_read(rt, PATH).is_ok();
+    let is_written = FileDisk::open(rt, PATH, Unknown).is_ok();
+    let is_read = FileDisk::open_to_read(rt, PATH, Unknown).is_ok();
     (is_written, is_read)
 }
 
@@ -27,9 +27,9 @@ const NO_DEVICES: [&str; 4] = [".", "/dev/null", "/dev/stdin", "/proc/self/fd/1"
 #[test]
 fn no_device_becomes_standard_input(rt: HostRuntime) -> Result<()> {
     for path in NO_DEVICES {
-        assert!(rt; FileDisk::open(&rt, path).is_err(), "{path}");
+        assert!(rt; FileDisk::open(&rt, path, Unknown).is_err(), "{path}");
     }
-    drop(FileDisk::make(&rt, PATH, SIZE, SIZE)?);
+    drop(FileDisk::make(&rt, PATH, SIZE, SIZE, Unknown)?);
     // SAFETY: no other code closes standard input, and none reads it before it is open again.
     drop(unsafe { OwnedFd::from_raw_fd(0) });
     assert_eq!(rt; opens(&rt), (false, false));

@@ -52,8 +52,9 @@
 //! plant, which alm_checkpoint defines for every reader of a device. [`Keeper::images`] says the same between calls. After `Done`
 //! the stored plant is the fold with the batch.
 //!
-//! What is required of a device: that it is honest, as alm_disk defines it. For every device these hold: safety, the answers of
-//! `begin`, and that `Failed` and `Disk` mean a failure of the device in that very call. Only `format` and `open_store` take
+//! What is required of a device: that it is honest, as alm_disk defines it; of an opening's plant and fault, that it is so once the
+//! last byte was read. For every device these hold: safety, the answers of `begin`, and that `Failed` and `Disk` mean a failure of
+//! the device in that very call. Only `format` and `open_store` take
 //! memory: the room of each vector of a book never changes. Not covered: that memory suffices, which tests show; time; and that
 //! damaged bytes are found out (there is no checksum).
 //!

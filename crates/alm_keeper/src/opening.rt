@@ -1,6 +1,6 @@
 //! Opening a device.
 
-ghost use Rattle.std.specs.Prelude.{◌≡◌, ◌≤◌, ◌<◌, ◌+◌, ◌^◌, ◌↔◌, ◌⊎◌, List, [], ◌∷◌, ℕ, length, OnOk, OnErr, IfOk, IfErr, ◌≢◌, false};
+ghost use Rattle.std.specs.Prelude.{◌≡◌, ◌≤◌, ◌<◌, ◌+◌, ◌^◌, ◌⊎◌, List, [], ◌∷◌, ℕ, length, OnOk, OnErr, IfOk, IfErr, ◌≢◌, false};
 ghost use Rattle.alm_disk.specs.Device.{IsImage, AreBytes};
 ghost use Rattle.alm_disk.specs.Failures.{HasFailed};
 ghost use Rattle.alm_disk.specs.Settled.{IsSettled};
@@ -35,13 +35,12 @@ use std::alloc::Global;
 /// Fills `into` from a place on.
 fn read<D: Disk>(disk: &mut D, at: u64, into: &mut [u8]) -> Result<(), DiskFault>
     requires { at + length into.old ≤ D.size disk.old }
-    ensures honest { D.honest disk.old ↔ D.honest disk.new }
+    ensures honest { D.honest disk.new → D.honest disk.old }
     ensures size { D.size disk.new ≡ D.size disk.old }
     ensures counts { OnOk result (D.failures disk.new ≡ D.failures disk.old) }
     ensures failed { OnErr result (HasFailed (D.failures disk.old) (D.failures disk.new)) }
-    ensures keeps { (b : List ℕ) → D.honest disk.old → IsSettled (D.state disk.old) b →
-        IsSettled (D.state disk.new) b }
-    ensures given { (b : List ℕ) → D.honest disk.old → IsSettled (D.state disk.old) b →
+    ensures keeps { (b : List ℕ) → IsSettled (D.state disk.old) b → IsSettled (D.state disk.new) b }
+    ensures given { (b : List ℕ) → D.honest disk.new → IsSettled (D.state disk.old) b →
         OnOk result (into.new ≡ part at (length into.old) b) }
     ensures long { length into.new ≡ length into.old }
     ensures serves { D.serves disk.old (Call.Read at (length into.old)) result disk.new }
@@ -51,12 +50,11 @@ fn read<D: Disk>(disk: &mut D, at: u64, into: &mut [u8]) -> Result<(), DiskFault
 
 /// The layout of a device, by its header.
 fn read_layout<D: Disk>(disk: &mut D) -> Result<Layout, OpenFault>
-    ensures honest { D.honest disk.old ↔ D.honest disk.new }
+    ensures honest { D.honest disk.new → D.honest disk.old }
     ensures size { D.size disk.new ≡ D.size disk.old }
     ensures counts { CountsOpening result (D.failures disk.old) (D.failures disk.new) }
-    ensures keeps { (b : List ℕ) → D.honest disk.old → IsSettled (D.state disk.old) b →
-        IsSettled (D.state disk.new) b }
-    ensures layout { (b : List ℕ) → D.honest disk.old → IsSettled (D.state disk.old) b →
+    ensures keeps { (b : List ℕ) → IsSettled (D.state disk.old) b → IsSettled (D.state disk.new) b }
+    ensures layout { (b : List ℕ) → D.honest disk.new → IsSettled (D.state disk.old) b →
         length b ≡ D.size disk.old → IsReadOf result (layout_in b) }
     ensures limits { IfOk result IsLayout }
     ensures fits { IfOk result (λ l. device_len l ≤ D.size disk.new) }
@@ -95,12 +93,11 @@ struct Marks {
 fn read_marks<D: Disk>(disk: &mut D, layout: Layout) -> Result<Marks, OpenFault>
     requires fits { device_len layout ≤ D.size disk.old }
     requires small { device_len layout < 2 ^ 64 }
-    ensures honest { D.honest disk.old ↔ D.honest disk.new }
+    ensures honest { D.honest disk.new → D.honest disk.old }
     ensures size { D.size disk.new ≡ D.size disk.old }
     ensures counts { CountsOpening result (D.failures disk.old) (D.failures disk.new) }
-    ensures keeps { (b : List ℕ) → D.honest disk.old → IsSettled (D.state disk.old) b →
-        IsSettled (D.state disk.new) b }
-    ensures marks { (b : List ℕ) → D.honest disk.old → IsSettled (D.state disk.old) b →
+    ensures keeps { (b : List ℕ) → IsSettled (D.state disk.old) b → IsSettled (D.state disk.new) b }
+    ensures marks { (b : List ℕ) → D.honest disk.new → IsSettled (D.state disk.old) b →
         AreMarks layout b result }
     ensures count { IfOk result (λ m. m.head.count ≤ most_actions) }
     ensures made { OnOk result
@@ -158,15 +155,17 @@ fn marks_of(layout: Layout, first: &[u8], second: &[u8]) -> Result<Marks, OpenFa
 
 /// Opens the device: syncs, and reads what it holds.
 pub fn open_book<D: Disk>(alloc: Global, disk: &mut D) -> Result<Book, OpenFault>
-    ensures honest { D.honest disk.old ↔ D.honest disk.new }
+    ensures honest { D.honest disk.new → D.honest disk.old }
     ensures size { D.size disk.new ≡ D.size disk.old }
     ensures counts { CountsOpening result (D.failures disk.old) (D.failures disk.new) }
+    ensures image { D.honest disk.old →
+        OnOk result (IsImage (D.state disk.old) (D.state disk.new).bytes) }
     // No byte is written: what a crash may leave afterwards it could leave before.
     ensures unwritten { D.honest disk.old → (b : List ℕ) → IsImage (D.state disk.new) b →
         IsImage (D.state disk.old) b }
     ensures settled { D.honest disk.old →
         OnOk result (IsSettled (D.state disk.new) (D.state disk.new).bytes) }
-    ensures opens { D.honest disk.old → OpensAs (D.state disk.new).bytes result }
+    ensures opens { D.honest disk.new → OpensAs (D.state disk.new).bytes result }
     ensures in_order { IfOk result InOrder }
     ensures idle { IfOk result
         (λ book. (book.stage ≡ Stage.Idle) × (book.copying ≡ false) × (book.written ≡ 0)) }
@@ -185,12 +184,11 @@ pub fn open_book<D: Disk>(alloc: Global, disk: &mut D) -> Result<Book, OpenFault
 
 /// Reads what the device holds.
 fn read_book<D: Disk>(alloc: Global, disk: &mut D) -> Result<Book, OpenFault>
-    ensures honest { D.honest disk.old ↔ D.honest disk.new }
+    ensures honest { D.honest disk.new → D.honest disk.old }
     ensures size { D.size disk.new ≡ D.size disk.old }
     ensures counts { CountsOpening result (D.failures disk.old) (D.failures disk.new) }
-    ensures keeps { (b : List ℕ) → D.honest disk.old → IsSettled (D.state disk.old) b →
-        IsSettled (D.state disk.new) b }
-    ensures opens { (b : List ℕ) → D.honest disk.old → IsSettled (D.state disk.old) b → AreBytes b →
+    ensures keeps { (b : List ℕ) → IsSettled (D.state disk.old) b → IsSettled (D.state disk.new) b }
+    ensures opens { (b : List ℕ) → D.honest disk.new → IsSettled (D.state disk.old) b → AreBytes b →
         length b ≡ D.size disk.old → OpensAs b result }
     ensures in_order { IfOk result InOrder }
     ensures idle { IfOk result
@@ -229,12 +227,11 @@ fn read_room<D: Disk>(
     len: usize,
 ) -> Result<Vec<u8>, OpenFault>
     requires { at + len ≤ D.size disk.old }
-    ensures honest { D.honest disk.old ↔ D.honest disk.new }
+    ensures honest { D.honest disk.new → D.honest disk.old }
     ensures size { D.size disk.new ≡ D.size disk.old }
     ensures counts { CountsOpening result (D.failures disk.old) (D.failures disk.new) }
-    ensures keeps { (b : List ℕ) → D.honest disk.old → IsSettled (D.state disk.old) b →
-        IsSettled (D.state disk.new) b }
-    ensures given { (b : List ℕ) → D.honest disk.old → IsSettled (D.state disk.old) b →
+    ensures keeps { (b : List ℕ) → IsSettled (D.state disk.old) b → IsSettled (D.state disk.new) b }
+    ensures given { (b : List ℕ) → D.honest disk.new → IsSettled (D.state disk.old) b →
         IfOk result (λ v. v.items ≡ part at len b) }
     ensures long { IfOk result (λ v. length v.items ≡ len) }
     ensures fault { IfErr result (λ f. (f ≡ OpenFault.Disk) ⊎ (f ≡ OpenFault.OutOfMemory)) }
@@ -254,13 +251,12 @@ fn read_room<D: Disk>(
 /// Fills a buffer.
 fn fill<D: Disk>(disk: &mut D, at: u64, room: &mut Vec<u8>) -> Result<(), DiskFault>
     requires { at + length room.old.items ≤ D.size disk.old }
-    ensures honest { D.honest disk.old ↔ D.honest disk.new }
+    ensures honest { D.honest disk.new → D.honest disk.old }
     ensures size { D.size disk.new ≡ D.size disk.old }
     ensures counts { OnOk result (D.failures disk.new ≡ D.failures disk.old) }
     ensures failed { OnErr result (HasFailed (D.failures disk.old) (D.failures disk.new)) }
-    ensures keeps { (b : List ℕ) → D.honest disk.old → IsSettled (D.state disk.old) b →
-        IsSettled (D.state disk.new) b }
-    ensures given { (b : List ℕ) → D.honest disk.old → IsSettled (D.state disk.old) b →
+    ensures keeps { (b : List ℕ) → IsSettled (D.state disk.old) b → IsSettled (D.state disk.new) b }
+    ensures given { (b : List ℕ) → D.honest disk.new → IsSettled (D.state disk.old) b →
         OnOk result (room.new.items ≡ part at (length room.old.items) b) }
     ensures long { length room.new.items ≡ length room.old.items }
     ensures serves { D.serves disk.old (Call.Read at (length room.old.items)) result disk.new }

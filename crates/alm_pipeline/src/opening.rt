@@ -12,7 +12,7 @@ use alm_store::{OpenFault, Phase, Store};
 use std::alloc::Global;
 
 impl<K: Store> Pipeline<K> {
-    ghost use Rattle.std.specs.Prelude.{◌≡◌, ◌↔◌, ◌≤◌, ◌+◌, ℕ, List, false, length, IfOk, IfErr, MatchResult};
+    ghost use Rattle.std.specs.Prelude.{◌≡◌, ◌≤◌, ◌+◌, ℕ, List, false, length, IfOk, IfErr, MatchResult};
     ghost use Rattle.alm_disk.specs.Device.{IsImage};
     ghost use Rattle.alm_disk.specs.Failures.{HasFailed};
     ghost use Rattle.alm_store.specs.Calls.{OpensBy, IsRefusedBy};
@@ -76,10 +76,12 @@ impl<K: Store> Pipeline<K> {
         ensures made { MatchResult result
             (λ pipeline. OpensBy K.Device.serves disk (K.disk pipeline.flusher.store))
             (λ e. IsRefusedBy e.0 K.Device.serves disk e.1) }
-        ensures opened { K.Device.honest disk →
+        ensures image { K.Device.honest disk →
             IfOk result
             (λ pipeline.
-            IsImage (K.Device.state disk) (K.Device.state (K.disk pipeline.flusher.store)).bytes ×
+            IsImage (K.Device.state disk) (K.Device.state (K.disk pipeline.flusher.store)).bytes) }
+        ensures encodes { IfOk result
+            (λ pipeline. K.Device.honest (K.disk pipeline.flusher.store) →
             K.recovers (K.Device.state (K.disk pipeline.flusher.store)).bytes
             (K.state pipeline.flusher.store).stored) }
         ensures settled { K.Device.honest disk →
@@ -92,8 +94,8 @@ impl<K: Store> Pipeline<K> {
         ensures idle { IfOk result
             (λ pipeline. (K.state pipeline.flusher.store).phase ≡ Phase.Idle) }
         ensures honest { IfOk result
-            (λ pipeline. K.Device.honest disk ↔ K.Device.honest (K.disk pipeline.flusher.store)) }
-        ensures honest_back { IfErr result (λ e. K.Device.honest disk ↔ K.Device.honest e.1) }
+            (λ pipeline. K.Device.honest (K.disk pipeline.flusher.store) → K.Device.honest disk) }
+        ensures honest_back { IfErr result (λ e. K.Device.honest e.1 → K.Device.honest disk) }
         ensures no_new_image { K.Device.honest disk →
             IfErr result
             (λ e. (image : List ℕ) → IsImage (K.Device.state e.1) image →
@@ -101,9 +103,9 @@ impl<K: Store> Pipeline<K> {
         ensures failed { IfErr result
             (λ e.
             e.0 ≡ OpenFault.Disk → HasFailed (K.Device.failures disk) (K.Device.failures e.1)) }
-        ensures cause { K.Device.honest disk →
-            IfErr result
-            (λ e. HasCause K.recovers (K.Device.state disk) e.0 (K.Device.failures disk)
+        ensures cause { IfErr result
+            (λ e. K.Device.honest e.1 →
+            HasCause K.recovers (K.Device.state disk) e.0 (K.Device.failures disk)
             (K.Device.failures e.1)) }
     {
         match K::open(alloc, disk) {

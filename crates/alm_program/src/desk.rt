@@ -1,20 +1,22 @@
 //! The desk over standard input and output.
 
-ghost use Rattle.std.specs.Prelude.{◌≡◌, ◌⊎◌, IfErr, IfSome, OnOk, is_none};
+ghost use Rattle.std.specs.Prelude.{◌≡◌, ◌⊎◌, IfErr, IfOk, IfSome, OnOk, is_none};
+ghost use Rattle.alm_disk.specs.Device.{IsImage};
 ghost use Rattle.alm_disk.specs.Failures.{HasFailed};
 ghost use Rattle.alm_keeper.specs.AsStore.{StandsFor};
 ghost use Rattle.alm_desk.specs.DeskLines.{IsDesk};
-ghost use Rattle.alm_store.specs.Calls.{IsRefusedBy};
+ghost use Rattle.alm_stack.specs.Stacks.{store_of};
+ghost use Rattle.alm_store.specs.Calls.{IsRefusedBy, OpensBy};
 ghost use Rattle.alm_store.specs.Opening.{HasCause};
 ghost use Rattle.alm_program.specs.Ends.{DeskEnds, IsUnread, IsUnwritten};
 ghost use Rattle.alm_program.specs.Faults.{fault_of_open};
 
+use crate::device_stack::DeviceStack;
 use crate::fault::Fault;
-use crate::file_stack::FileStack;
 use crate::io_faults::{file_fault, io_fault};
 use alm_desk::{Backend, CountedReader, CountedWriter, LocalDesk, desk_run, worked_table};
 use alm_disk::Disk;
-use alm_file::FileDisk;
+use alm_file::{FileDisk, Start};
 use alm_keeper::OpenFault;
 use alm_model::Alarms;
 use alm_plant::Plant;
@@ -67,12 +69,21 @@ pub fn run_desk<R: Input + Print + AllocGlobal>(rt: &R) -> Result<(), Fault> {
 
 /// Opens the stack over a device.
 fn open_stack<D: Disk + Drop>(alloc: Global, disk: D) -> Result<Stack<D>, Fault>
+    // Its device is what this one is after an opening's calls. It reads as one of the images before, and that encodes the plant, if
+    // what it gave was that.
+    ensures made { IfOk result (λ s. OpensBy D.serves disk (store_of s).disk) }
+    ensures honest { IfOk result (λ s. D.honest (store_of s).disk → D.honest disk) }
+    ensures image { D.honest disk →
+        IfOk result (λ s. IsImage (D.state disk) (D.state (store_of s).disk).bytes) }
+    ensures encodes { IfOk result
+        (λ s. D.honest (store_of s).disk →
+        StandsFor (D.state (store_of s).disk).bytes (store_of s).stored.plant) }
     // The fault is that of a device that this one is after an opening's calls.
     ensures refused { IfErr result
         (λ fault. (why : OpenFault) × (now : D) × (fault ≡ fault_of_open why) ×
         IsRefusedBy why D.serves disk now ×
         (why ≡ OpenFault.Disk → HasFailed (D.failures disk) (D.failures now)) ×
-        (D.honest disk →
+        (D.honest now →
         HasCause StandsFor (D.state disk) why (D.failures disk) (D.failures now))) }
 {
     match Stack::open(alloc, disk) {
@@ -82,11 +93,20 @@ fn open_stack<D: Disk + Drop>(alloc: Global, disk: D) -> Result<Stack<D>, Fault>
 }
 
 /// Runs the desk over a device.
-pub fn run_device_desk<R: Input + Print + Files<File = File> + AllocGlobal>(
+fn run_disk_desk<D: Disk + Drop, R: Input + Print + AllocGlobal>(
+    rt: &R,
+    disk: D,
+) -> Result<(), Fault> {
+    let stack = open_stack(rt.alloc(), disk)?;
+    run_desk_over(rt, DeviceStack { stack })
+}
+
+/// Runs the desk over a device's file, which held what `start` says.
+pub fn run_device_desk<S: Start, R: Input + Print + Files<File = File> + AllocGlobal>(
     rt: &R,
     device: &str,
+    start: S,
 ) -> Result<(), Fault> {
-    let disk = FileDisk::open(rt, device).map_err(file_fault)?;
-    let stack = open_stack(rt.alloc(), disk)?;
-    run_desk_over(rt, FileStack { stack })
+    let disk = FileDisk::open(rt, device, start).map_err(file_fault)?;
+    run_disk_desk(rt, disk)
 }

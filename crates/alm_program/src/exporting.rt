@@ -8,7 +8,7 @@ use crate::showing::read_file;
 use alm_desk::CountedWriter;
 use alm_disk::Disk;
 use alm_export::export_plant;
-use alm_file::FileDisk;
+use alm_file::{FileDisk, Start};
 use alm_keeper::Keeper;
 use std::alloc::Global;
 use std::fs::{File, Files};
@@ -33,9 +33,9 @@ fn print_table<D: Disk + Drop, W: Write + Drop>(
 }
 
 /// The same on standard output.
-fn print_store<R: Print + AllocGlobal>(
+fn print_store<S: Start, R: Print + AllocGlobal>(
     rt: &R,
-    keeper: &Keeper<FileDisk>,
+    keeper: &Keeper<FileDisk<S>>,
     size: u64,
 ) -> Result<(), Fault> {
     let alloc = rt.alloc();
@@ -44,10 +44,11 @@ fn print_store<R: Print + AllocGlobal>(
 }
 
 /// Prints the table of a device's plant as a table file. The device is opened to be read alone.
-pub fn run_export<R: Print + Files<File = File> + AllocGlobal>(
+pub fn run_export<S: Start, R: Print + Files<File = File> + AllocGlobal>(
     rt: &R,
     device: &str,
+    start: S,
 ) -> Result<(), Fault> {
-    let (keeper, size) = read_file(rt, device)?;
+    let (keeper, size) = read_file(rt, device, start)?;
     print_store(rt, &keeper, size)
 }

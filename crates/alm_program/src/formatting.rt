@@ -10,7 +10,7 @@ use crate::fault::Fault;
 use crate::io_faults::{file_fault, io_fault};
 use alm_checkpoint::Layout;
 use alm_codec::Version;
-use alm_file::FileDisk;
+use alm_file::{FileDisk, Start};
 use alm_keeper::format;
 use alm_lines::{Part, put_parts};
 use alm_table::table_of;
@@ -40,11 +40,12 @@ fn layout_for(size: u64, table: &Table) -> Result<Layout, Fault>
 
 /// Formats the file of a device for a table, and returns the length of its segments. The file is made or set to this size first,
 /// and stays so if a refusal follows. All that its layout uses gets room on the disk, so that no later write meets a full disk.
-fn format_file<R: Files<File = File> + AllocGlobal>(
+fn format_file<S: Start, R: Files<File = File> + AllocGlobal>(
     rt: &R,
     device: &str,
     size: u64,
     table: &Table,
+    start: S,
 ) -> Result<u32, Fault>
     ensures { IfOk result
         (λ segment. (layout : Layout) × IsLongest size table.now layout ×
@@ -55,7 +56,7 @@ fn format_file<R: Files<File = File> + AllocGlobal>(
         Ok(layout) => layout.device_len(),
         Err(_) => 0,
     };
-    let disk = FileDisk::make(rt, device, size, used).map_err(file_fault)?;
+    let disk = FileDisk::make(rt, device, size, used, start).map_err(file_fault)?;
     let layout = fitting?;
     match format(rt.alloc(), disk, table) {
         Ok(_) => Ok(layout.segment),
@@ -87,16 +88,17 @@ fn print_formatted<W: io::Write>(table: &Table, segment: u32, writer: &mut W) ->
 
 /// Makes a device of a table file, and prints its rows, areas and segment. No file is made if the table is refused; but a table
 /// that is too large for its `size` leaves a file of that size.
-pub fn run_format<R: Files<File = File> + Print + AllocGlobal>(
+pub fn run_format<S: Start, R: Files<File = File> + Print + AllocGlobal>(
     rt: &R,
     device: &str,
     table: &str,
+    start: S,
 ) -> Result<(), Fault> {
     if is_same_file(rt, device, table) {
         return Err(Fault::Usage);
     }
     let text = fs::read(rt, table).map_err(io_fault)?;
     let (size, table) = table_of(rt.alloc(), text.as_slice())?;
-    let segment = format_file(rt, device, size, &table)?;
+    let segment = format_file(rt, device, size, &table, start)?;
     print_formatted(&table, segment, &mut io::writer(rt)).map_err(io_fault)
 }

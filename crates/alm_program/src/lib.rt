@@ -53,11 +53,11 @@
 #![tactic(auto)]
 
 mod desk;
+mod device_stack;
 mod endpoints;
 mod exporting;
 mod fault;
 mod fault_line;
-mod file_stack;
 mod formatting;
 mod io_faults;
 mod job;

@@ -20,7 +20,7 @@ use crate::owned_endpoints::OwnedEndpoints;
 use crate::serve_order::ServeOrder;
 use crate::showing::run_show;
 use crate::words::job_of;
-use alm_file::fill_streams;
+use alm_file::{Unknown, fill_streams};
 use std::alloc::{AllocError, Global};
 use std::env::{self, Env};
 use std::fs::{File, Files};
@@ -82,10 +82,10 @@ fn run_job<'a, R: Input + Print + Files<File = File> + AllocGlobal>(
 {
     match job {
         Job::Desk(None) => run_desk(rt)?,
-        Job::Desk(Some(device)) => run_device_desk(rt, device)?,
-        Job::Format { device, table } => run_format(rt, device, table)?,
-        Job::Show(device) => run_show(rt, device)?,
-        Job::Export(device) => run_export(rt, device)?,
+        Job::Desk(Some(device)) => run_device_desk(rt, device, Unknown)?,
+        Job::Format { device, table } => run_format(rt, device, table, Unknown)?,
+        Job::Show(device) => run_show(rt, device, Unknown)?,
+        Job::Export(device) => run_export(rt, device, Unknown)?,
         Job::Serve {
             device,
             endpoints,

@@ -18,7 +18,7 @@ use crate::io_faults::{file_fault, io_fault};
 use alm_desk::CountedWriter;
 use alm_disk::Disk;
 use alm_export::show_plant;
-use alm_file::FileDisk;
+use alm_file::{FileDisk, Start};
 use alm_keeper::{Keeper, OpenFault, open_store};
 use alm_types::Answer;
 use std::alloc::Global;
@@ -27,8 +27,9 @@ use std::io::{self, BufWriter, Write};
 
 /// Opens a device whose plant is to be printed.
 fn open_to_print<D: Disk + Drop>(alloc: Global, disk: D) -> Result<Keeper<D>, Fault>
-    ensures stands { D.honest disk →
-        IfOk result (λ keeper. StandsWithRoom keeper.stored (D.state keeper.disk).bytes) }
+    ensures stands { IfOk result
+        (λ keeper. D.honest keeper.disk →
+        StandsWithRoom keeper.stored (D.state keeper.disk).bytes) }
     ensures unwritten { D.honest disk →
         IfOk result
         (λ keeper. (b : List ℕ) → IsImage (D.state keeper.disk) b → IsImage (D.state disk) b) }
@@ -37,7 +38,7 @@ fn open_to_print<D: Disk + Drop>(alloc: Global, disk: D) -> Result<Keeper<D>, Fa
         (λ fault. (why : OpenFault) × (now : D) × (layout : Layout) × (half : Half) ×
         (fault ≡ fault_of_open why) × CountsAs why (D.failures disk) (D.failures now) ×
         SyncsAndEndsIn why D.serves (reads_of layout half) disk now ×
-        (D.honest disk → OpensAs (D.state now).bytes (Err why)) ×
+        (D.honest now → OpensAs (D.state now).bytes (Err why)) ×
         (D.honest disk → (b : List ℕ) → IsImage (D.state now) b → IsImage (D.state disk) b)) }
 {
     match open_store(alloc, disk) {
@@ -65,18 +66,22 @@ fn print_plant<D: Disk + Drop, W: Write + Drop>(
 }
 
 /// The same on standard output.
-fn print_store<R: Print + AllocGlobal>(rt: &R, keeper: &Keeper<FileDisk>) -> Result<(), Fault> {
+fn print_store<S: Start, R: Print + AllocGlobal>(
+    rt: &R,
+    keeper: &Keeper<FileDisk<S>>,
+) -> Result<(), Fault> {
     let alloc = rt.alloc();
     let writer = BufWriter::with_capacity(alloc, 65536, io::writer(rt)).map_err(io_fault)?;
     print_plant(alloc, keeper, &mut CountedWriter::new(writer))
 }
 
 /// Reads a device's file whose plant is to be printed, and lets other processes have it then. Its size, in bytes, comes with it.
-pub(crate) fn read_file<R: Files<File = File> + AllocGlobal>(
+pub(crate) fn read_file<S: Start, R: Files<File = File> + AllocGlobal>(
     rt: &R,
     device: &str,
-) -> Result<(Keeper<FileDisk>, u64), Fault> {
-    let disk = FileDisk::open_to_read(rt, device).map_err(file_fault)?;
+    start: S,
+) -> Result<(Keeper<FileDisk<S>>, u64), Fault> {
+    let disk = FileDisk::open_to_read(rt, device, start).map_err(file_fault)?;
     let size = disk.size();
     let lock = disk.lock().map_err(io_fault)?;
     let keeper = open_to_print(rt.alloc(), disk)?;
@@ -85,10 +90,11 @@ pub(crate) fn read_file<R: Files<File = File> + AllocGlobal>(
 }
 
 /// Prints the plant of a device, which is opened to be read alone.
-pub fn run_show<R: Print + Files<File = File> + AllocGlobal>(
+pub fn run_show<S: Start, R: Print + Files<File = File> + AllocGlobal>(
     rt: &R,
     device: &str,
+    start: S,
 ) -> Result<(), Fault> {
-    let (keeper, _) = read_file(rt, device)?;
+    let (keeper, _) = read_file(rt, device, start)?;
     print_store(rt, &keeper)
 }

@@ -1,5 +1,5 @@
 -- What a server's run has done.
-use Rattle.std.specs.Prelude.{◌≡◌, ◌≢◌, ◌⊎◌, ◌↔◌, ℕ, false, List, length, Option, Some, Result, Ok, Err, slice_get}
+use Rattle.std.specs.Prelude.{◌≡◌, ◌≢◌, ◌⊎◌, ℕ, false, List, length, Option, Some, Result, Ok, Err, slice_get}
 use Rattle.alm_disk.specs.Device.{DeviceState, IsImage}
 use Rattle.alm_disk.specs.Failures.{HasFailed}
 use Rattle.alm_disk.specs.declared.disk.Disk
@@ -46,14 +46,15 @@ module _ {D : Type 0} (d : Disk.Ghosts D) (recovers : List ℕ → Condensed →
   abbrev pub RunsWhole : Condensed → (from to : D) → (count : ℕ) → Type 0
   RunsWhole base from to count = ServesRun base from to IsWhole count
 
-  -- the device was opened by an opening's calls. What was read is an image of it, which encodes the plant that the run begins with
+  -- the device was opened by an opening's calls. It reads as one of its images, which encodes the plant that the run begins with, if
+  -- what it gave was that
   pub record IsOpened (device : D) : Type 0 where
     pub opened : D
     pub base : Condensed
     pub by : OpensBy d.serves device opened
-    pub honest : d.honest device ↔ d.honest opened
+    pub honest : d.honest opened → d.honest device
     pub image : d.honest device → IsImage (d.state device) (d.state opened).bytes
-    pub stands : d.honest device → recovers (d.state opened).bytes base
+    pub stands : d.honest opened → recovers (d.state opened).bytes base
     pub settled : d.honest device → (place : ℕ) → (d.state opened).pending place ≡ false
 
   -- it was opened, and left so
@@ -68,7 +69,7 @@ module _ {D : Type 0} (d : Disk.Ghosts D) (recovers : List ℕ → Condensed →
   pub record IsNotOpened (device back : D) (why : OpenFault) : Type 0 where
     pub by : IsRefusedBy why d.serves device back
     pub failed : why ≡ fault.Disk → HasFailed (d.failures device) (d.failures back)
-    pub cause : d.honest device → HasCause recovers (d.state device) why (d.failures device) (d.failures back)
+    pub cause : d.honest back → HasCause recovers (d.state device) why (d.failures device) (d.failures back)
 
 module _ {D : Type 0} (d : Disk.Ghosts D) (recovers : List ℕ → Condensed → Type 0) (spent : DeviceState → Type 0) where
   -- it stopped for this cause. If a step of the store failed, the device failed, or it is at the last epoch. If none failed,

@@ -4,7 +4,7 @@ use crate::drawn_client::converse;
 use crate::ports::free_ports;
 use alm_desk::worked_table;
 use alm_disk::Disk;
-use alm_file::FileDisk;
+use alm_file::{FileDisk, Unknown};
 use alm_keeper::{Keeper, format};
 use alm_serve::serve_run;
 use alm_store::Store;
@@ -63,7 +63,7 @@ fn the_device_keeps_what_eighteen_clients_were_answered(rt: HostRuntime) -> Resu
     let port = free_ports(&rt)?;
     let table = worked_table(alloc)?;
     let notes = Arc::new(alloc, Notes::new(alloc, 3600)?)?;
-    let disk = FileDisk::make(&rt, PATH, 28_997, 28_997)?;
+    let disk = FileDisk::make(&rt, PATH, 28_997, 28_997, Unknown)?;
     let disk = format(alloc, disk, &table).map_err(|_| "format")?;
     let noted = Arc::try_clone(&notes)?;
     let clients = thread::spawn(&rt, move || all_converse(&rt, rt, port, &noted))?;
@@ -71,8 +71,10 @@ fn the_device_keeps_what_eighteen_clients_were_answered(rt: HostRuntime) -> Resu
     let served = serve_run(&rt, alloc, disk, port, 18, &mut output);
     assert!(rt; clients.join(&rt)?);
     assert_eq!(rt; notes.wrong.load(Ordering::SeqCst), 0);
-    let disk = FileDisk::open(&rt, PATH)?;
-    let (count, is_kept) = kept::<Keeper<FileDisk>>(alloc, disk, &table, &notes).ok_or("opening")?;
+    let disk = FileDisk::open(&rt, PATH, Unknown)?;
+    let (count, is_kept) = kept::<Keeper<FileDisk<Unknown>>>(alloc, disk, &table, &notes).ok_or(
+        "opening",
+    )?;
     assert!(rt; served == Ok(count));
     assert!(rt; is_kept);
     fs::remove_file(&rt, PATH)?;

@@ -3,7 +3,8 @@
 ghost use Rattle.std.specs.Process.{exit_status};
 ghost use Rattle.alm_program.specs.Faults.{IsEnd};
 
-use crate::serving::serve_file;
+use crate::serving::serve_ordered;
+use alm_file::Unknown;
 use alm_program::{Fault, end_of, run_words};
 use std::env::Env;
 use std::fs::{File, Files};
@@ -19,7 +20,7 @@ fn run<
     R: Input + Print + Env + Files<File = File> + Net + Threads + Wait + Clock + Sync + AllocGlobal,
 >(rt: &R) -> Result<(), Fault> {
     match run_words(rt)? {
-        Some(order) => serve_file(rt, &order),
+        Some(order) => serve_ordered(rt, &order, Unknown),
         None => Ok(()),
     }
 }

@@ -1,12 +1,14 @@
 //! Serving a device's file.
 
-ghost use Rattle.std.specs.Prelude.{◌≡◌};
-ghost use Rattle.alm_server.specs.Serving.{fault_of_serve};
+ghost use Rattle.std.specs.Prelude.{◌≡◌, IfOk};
+ghost use Rattle.alm_keeper.specs.AsStore.{IsLastEpoch, StandsFor};
+ghost use Rattle.alm_serve.specs.Runs.{ServeEnds};
+ghost use Rattle.alm_server.specs.Serving.{IsServedFrom, fault_of_serve};
 
 use alm_disk::Disk;
-use alm_file::PlacedDisk;
+use alm_file::{PlacedDisk, Start};
 use alm_program::{Fault, OwnedEndpoints, ServeOrder, file_fault};
-use alm_serve::{Patience, ServeFault, serve_ports, serve_sockets};
+use alm_serve::{CountedDisk, Patience, ServeFault, ServerEnd, serve_ports, serve_sockets};
 use std::fs::{File, Files};
 use std::io;
 use std::net::Net;
@@ -27,13 +29,15 @@ pub fn serve_fault(fault: ServeFault) -> Fault
     }
 }
 
-/// Serves the slots of a device as requested, and says so on standard output.
+/// Serves the slots of a device as requested, says so on standard output, and returns the device.
 fn serve_disk<
     D: Disk + Drop,
     R: Files<File = File> + Print + Net + Threads + Wait + Clock + Sync + AllocGlobal,
->(rt: &R, disk: D, patience: Option<&Patience>, order: &ServeOrder) -> Result<(), Fault> {
+>(rt: &R, disk: D, patience: Option<&Patience>, order: &ServeOrder) -> ServerEnd<D>
+    ensures { ServeEnds D.Disk StandsFor IsLastEpoch disk result.back result.cause result.served }
+{
     let (alloc, conns, mut writer) = (rt.alloc(), order.conns, io::writer(rt));
-    let end = match &order.endpoints {
+    match &order.endpoints {
         OwnedEndpoints::Ports(port) => {
             serve_ports(rt, alloc, disk, *port, conns, patience, &mut writer)
         }
@@ -41,26 +45,44 @@ fn serve_disk<
             let folder = folder.as_str();
             serve_sockets(rt, alloc, disk, folder, conns, patience, &mut writer)
         }
-    };
-    match end.served {
-        Ok(_) => Ok(()),
-        Err(fault) => Err(serve_fault(fault)),
     }
 }
 
-/// Serves the slots of a device's file as requested. Only with a patience are the calls on the file counted.
+/// Serves the slots of a device's file as requested, and returns the device with the record of its calls.
+///
+/// What it says it says of each list of bytes that the file may have held: no code can read `start`.
 pub fn serve_file<
+    'r,
+    S: Start,
     R: Files<File = File> + Print + Net + Threads + Wait + Clock + Sync + AllocGlobal,
->(rt: &R, order: &ServeOrder) -> Result<(), Fault> {
-    let disk = match PlacedDisk::open(rt, order.device.as_str()) {
+>(
+    rt: &'r R,
+    order: &'r ServeOrder,
+    start: S,
+) -> Result<ServerEnd<CountedDisk<PlacedDisk<'r, R, S>>>, Fault>
+    ensures { IfOk result
+        (λ end. IsServedFrom ⟦<CountedDisk<PlacedDisk<'r, R, S>> as Disk>⟧ S.Start.bytes end.back
+        end.cause end.served) }
+{
+    let disk = match PlacedDisk::open(rt, order.device.as_str(), start) {
         Ok(disk) => disk,
         Err(fault) => return Err(file_fault(fault)),
     };
+    let patience = Patience::new(rt.alloc(), order.patience.unwrap_or(0))?;
+    let disk = patience.count(disk)?;
     match order.patience {
-        None => serve_disk(rt, disk, None, order),
-        Some(seconds) => {
-            let patience = Patience::new(rt.alloc(), seconds)?;
-            serve_disk(rt, patience.count(disk)?, Some(&patience), order)
-        }
+        None => Ok(serve_disk(rt, disk, None, order)),
+        Some(_) => Ok(serve_disk(rt, disk, Some(&patience), order)),
+    }
+}
+
+/// Serves as requested. An answer is the server's fault alone.
+pub fn serve_ordered<
+    S: Start,
+    R: Files<File = File> + Print + Net + Threads + Wait + Clock + Sync + AllocGlobal,
+>(rt: &R, order: &ServeOrder, start: S) -> Result<(), Fault> {
+    match serve_file(rt, order, start)?.served {
+        Ok(_) => Ok(()),
+        Err(fault) => Err(serve_fault(fault)),
     }
 }

@@ -8,7 +8,7 @@ mod round;
 
 use crate::report::report;
 use alm_disk::{Disk, MemDisk};
-use alm_file::FileDisk;
+use alm_file::{FileDisk, Unknown};
 use alm_flush_tests::opened::open_formatted;
 use alm_flush_tests::parts::Parts;
 use alm_rings::open_slots;
@@ -102,7 +102,11 @@ fn time_refusals(
 }
 
 /// Batches of accepted actions, over a file.
-fn time_commits(rt: &(impl Print + Eprint + Clock), alloc: Global, disk: FileDisk) -> Result<()> {
+fn time_commits(
+    rt: &(impl Print + Eprint + Clock),
+    alloc: Global,
+    disk: FileDisk<Unknown>,
+) -> Result<()> {
     let many = Course::Accepted { each: 64, after: 0 };
     let one = Course::Accepted {
         each: 1,
@@ -123,7 +127,7 @@ pub fn run(
     time_refusals(rt, alloc, 16_384, DEVICE, names)?;
     match path {
         Some(path) => {
-            let disk = FileDisk::make(rt, path, DEVICE as u64, DEVICE as u64)?;
+            let disk = FileDisk::make(rt, path, DEVICE as u64, DEVICE as u64, Unknown)?;
             time_commits(rt, alloc, disk)
         }
         None => Ok(()),

@@ -9,7 +9,7 @@ mod stored;
 
 use crate::report::report;
 use alm_disk::{Disk, MemDisk};
-use alm_file::FileDisk;
+use alm_file::{FileDisk, Unknown};
 use alm_keeper::{Keeper, format, open_store};
 use alm_types::{Batch, Table};
 use anyhow::{Result, anyhow};
@@ -153,7 +153,7 @@ pub fn run(
 ) -> Result<()> {
     match path {
         Some(path) => {
-            let disk = FileDisk::make(rt, path, LARGEST_SIZE, LARGEST_SIZE)?;
+            let disk = FileDisk::make(rt, path, LARGEST_SIZE, LARGEST_SIZE, Unknown)?;
             go(rt, alloc, &table(alloc, LARGEST.alarms)?, disk, LARGEST)
         }
         None => {
@@ -169,7 +169,7 @@ pub fn open(
     alloc: Global,
     path: &str,
 ) -> Result<()> {
-    let disk = FileDisk::open_to_read(rt, path)?;
+    let disk = FileDisk::open_to_read(rt, path, Unknown)?;
     time_opening(rt, alloc, "open", disk)?;
     Ok(())
 }

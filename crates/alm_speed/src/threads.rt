@@ -7,7 +7,7 @@ ghost use Rattle.alm_rings.specs.Placed.{AreApart};
 
 use crate::report::report;
 use alm_disk::Free;
-use alm_file::FileDisk;
+use alm_file::{FileDisk, Unknown};
 use alm_keeper::{Keeper, format};
 use alm_threads::Storage;
 use alm_threads_tests::all_slots::{all_slots, askers, lookers};
@@ -49,7 +49,7 @@ fn table(alloc: Global) -> Result<Table> {
 fn stored_after<R: Threads + Wait + Clock + Sync>(
     rt: &R,
     alloc: Global,
-    disk: FileDisk,
+    disk: FileDisk<Unknown>,
     slots: Vec<Slot>,
     sources: Vec<Player>,
 ) -> Option<u64>
@@ -57,7 +57,7 @@ fn stored_after<R: Threads + Wait + Clock + Sync>(
     requires apart { AreApart (λ s. s) slots.items }
     requires sources { length sources.items ≡ length slots.items }
 {
-    let left = run_on::<Keeper<FileDisk>, _, _>(rt, alloc, disk, slots, &Free, sources)?;
+    let left = run_on::<Keeper<FileDisk<Unknown>>, _, _>(rt, alloc, disk, slots, &Free, sources)?;
     let Left { storage, count, .. } = left;
     (storage == Storage::Whole).then_some(count)
 }
@@ -66,7 +66,7 @@ fn stored_after<R: Threads + Wait + Clock + Sync>(
 fn ask<R: Threads + Wait + Clock + Sync>(
     rt: &R,
     alloc: Global,
-    disk: FileDisk,
+    disk: FileDisk<Unknown>,
     out: u64,
     each: u64,
 ) -> Option<u64> {
@@ -80,7 +80,7 @@ fn ask<R: Threads + Wait + Clock + Sync>(
 fn look<R: Threads + Wait + Clock + Sync>(
     rt: &R,
     alloc: Global,
-    disk: FileDisk,
+    disk: FileDisk<Unknown>,
     readers: u8,
     hundreds: u64,
 ) -> Option<u64> {
@@ -132,7 +132,7 @@ fn time_course(
     name: &str,
     course: Course,
 ) -> Result<()> {
-    let disk = FileDisk::make(rt, path, DEVICE, DEVICE)?;
+    let disk = FileDisk::make(rt, path, DEVICE, DEVICE, Unknown)?;
     let disk = format(alloc, disk, &table(alloc)?).map_err(|_| anyhow!("format"))?;
     let start = Instant::now(rt)?;
     let done = match course {

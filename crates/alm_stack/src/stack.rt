@@ -49,10 +49,12 @@ impl<K: Store> StackOver<K> {
         // The calls made on this device are a sync and reads, and no others; if it is refused, up to its fault.
         ensures made { MatchResult result (λ s. OpensBy K.Device.serves disk (K.disk (store_of s)))
             (λ x. IsRefusedBy x.0 K.Device.serves disk x.1) }
-        // What it reads is one of the images before, and encodes the plant.
-        ensures opened { K.Device.honest disk →
+        // It reads as one of the images before, and that encodes the plant, if what it gave was that.
+        ensures image { K.Device.honest disk →
             IfOk result
-            (λ s. IsImage (K.Device.state disk) (K.Device.state (K.disk (store_of s))).bytes ×
+            (λ s. IsImage (K.Device.state disk) (K.Device.state (K.disk (store_of s))).bytes) }
+        ensures encodes { IfOk result
+            (λ s. K.Device.honest (K.disk (store_of s)) →
             K.recovers (K.Device.state (K.disk (store_of s))).bytes (K.state (store_of s)).stored) }
         ensures settled { K.Device.honest disk →
             IfOk result
@@ -66,17 +68,17 @@ impl<K: Store> StackOver<K> {
         ensures counted { IfOk result
             (λ s. K.Device.failures disk ≤ K.Device.failures (K.disk (store_of s))) }
         ensures honest { IfOk result
-            (λ s. K.Device.honest disk ↔ K.Device.honest (K.disk (store_of s))) }
-        ensures honest_back { IfErr result (λ x. K.Device.honest disk ↔ K.Device.honest x.1) }
+            (λ s. K.Device.honest (K.disk (store_of s)) → K.Device.honest disk) }
+        ensures honest_back { IfErr result (λ x. K.Device.honest x.1 → K.Device.honest disk) }
         ensures unwritten_back { K.Device.honest disk →
             IfErr result
             (λ x. (b : List ℕ) → IsImage (K.Device.state x.1) b → IsImage (K.Device.state disk) b) }
         ensures failed { IfErr result
             (λ x.
             x.0 ≡ OpenFault.Disk → HasFailed (K.Device.failures disk) (K.Device.failures x.1)) }
-        ensures cause { K.Device.honest disk →
-            IfErr result
-            (λ x. HasCause K.recovers (K.Device.state disk) x.0 (K.Device.failures disk)
+        ensures cause { IfErr result
+            (λ x. K.Device.honest x.1 →
+            HasCause K.recovers (K.Device.state disk) x.0 (K.Device.failures disk)
             (K.Device.failures x.1)) }
     {
         match Pipeline::<K>::open(alloc, disk) {

@@ -60,24 +60,28 @@ pub trait Store: Drop {
         /// The calls made on this device are a sync and reads, and no others; if it is refused, up to its fault.
         ensures made { MatchResult result (λ store. OpensBy Self.Device.serves from (disk store))
             (λ e. IsRefusedBy e.0 Self.Device.serves from e.1) }
+        /// A device that keeps to the model afterwards did so before.
         ensures honest { IfOk result
-            (λ store. Self.Device.honest from ↔ Self.Device.honest (disk store)) }
+            (λ store. Self.Device.honest (disk store) → Self.Device.honest from) }
         ensures idle { IfOk result (λ store. (state store).phase ≡ Idle) }
         ensures limit { IfOk result (λ store. (state store).stored.panel.count ≤ most_actions) }
         /// If at most half of the segment is used the store keeps its pace.
         ensures pace { IfOk result
             (λ store. 2 * (state store).used ≤ (state store).segment → KeepsPace (state store)) }
-        /// What it reads is one of the images before, and encodes the stored plant.
-        ensures opened { Self.Device.honest from →
-            IfOk result (λ store. let device = Self.Device.state (disk store) in
-            IsImage (Self.Device.state from) device.bytes ×
-            recovers device.bytes (state store).stored) }
+        /// It reads as one of the images before.
+        ensures image { Self.Device.honest from →
+            IfOk result
+            (λ store. IsImage (Self.Device.state from) (Self.Device.state (disk store)).bytes) }
+        /// What it reads as encodes the stored plant, if what it gave was that.
+        ensures encodes { IfOk result
+            (λ store. Self.Device.honest (disk store) →
+            recovers (Self.Device.state (disk store)).bytes (state store).stored) }
         ensures settled { Self.Device.honest from →
             IfOk result
             (λ store. (place : ℕ) → (Self.Device.state (disk store)).pending place ≡ false) }
         ensures counted { IfOk result
             (λ store. Self.Device.failures from ≤ Self.Device.failures (disk store)) }
-        ensures honest_back { IfErr result (λ e. Self.Device.honest from ↔ Self.Device.honest e.1) }
+        ensures honest_back { IfErr result (λ e. Self.Device.honest e.1 → Self.Device.honest from) }
         ensures no_new_image { Self.Device.honest from →
             IfErr result
             (λ e. (image : List ℕ) → IsImage (Self.Device.state e.1) image →
@@ -86,9 +90,9 @@ pub trait Store: Drop {
         ensures failed { IfErr result
             (λ e. e.0 ≡ OpenFault.Disk →
             HasFailed (Self.Device.failures from) (Self.Device.failures e.1)) }
-        ensures cause { Self.Device.honest from →
-            IfErr result
-            (λ e. HasCause recovers (Self.Device.state from) e.0 (Self.Device.failures from)
+        ensures cause { IfErr result
+            (λ e. Self.Device.honest e.1 →
+            HasCause recovers (Self.Device.state from) e.0 (Self.Device.failures from)
             (Self.Device.failures e.1)) };
 
     /// The device alone.

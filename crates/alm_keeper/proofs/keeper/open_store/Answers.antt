@@ -7,7 +7,7 @@ invariant_of-result g c =
     let state = g.D.Disk.state c.open_book.new.disk in (
       c.in-Ok.ensures.in_order,
       c.in-Ok.ensures.fits,
-      λ honest. let was = c.open_book.ensures.honest.1 honest in ∣ opened_keeps c.in-Ok.book state c.in-Ok.ensures.idle.0 c.in-Ok.ensures.idle.1 (c.in-Ok.ensures.settled was) (c.in-Ok.ensures.opens was) ∣₁,
+      λ honest. ∣ opened_keeps c.in-Ok.book state c.in-Ok.ensures.idle.0 c.in-Ok.ensures.idle.1 (c.in-Ok.ensures.settled (c.open_book.ensures.honest honest)) (c.in-Ok.ensures.opens honest) ∣₁,
     )
 
 pub returns-in-Ok-clause-stands : goal.returns-in-Ok-clause-stands

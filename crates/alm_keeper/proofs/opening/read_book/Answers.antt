@@ -10,53 +10,32 @@ use Rattle.alm_keeper.proofs.opening.read_book.Goals as goal
 pub returns-in-Err-clause-opens : goal.returns-in-Err-clause-opens
 returns-in-Err-clause-opens g c = λ b honest settled bytes long. layout_fault b c.in-Err.fault (c.in-Err.ensures.layout b honest settled long)
 
-pub returns-in-Err-read_marks-clause-keeps : goal.returns-in-Err-read_marks-clause-keeps
-returns-in-Err-read_marks-clause-keeps g c = λ b honest settled.
-    c.read_marks.ensures.keeps b (c.read_layout.ensures.honest.0 honest) (c.read_layout.ensures.keeps b honest settled)
-
 pub returns-in-Err-read_marks-clause-opens : goal.returns-in-Err-read_marks-clause-opens
 returns-in-Err-read_marks-clause-opens g c = λ b honest settled bytes long.
-    let h = c.read_layout.ensures.honest.0 honest in
-    let s = c.read_layout.ensures.keeps b honest settled in
-    marks_fault c.in-Ok.layout b c.in-Err-read_marks.fault (c.in-Ok.ensures.layout b honest settled long) (c.in-Err-read_marks.ensures.marks b h s)
-
-pub returns-in-Err-read_room-clause-keeps : goal.returns-in-Err-read_room-clause-keeps
-returns-in-Err-read_room-clause-keeps g c = λ b honest settled.
-    let h = c.read_layout.ensures.honest.0 honest in
-    let s = c.read_layout.ensures.keeps b honest settled in
-    c.read_room.ensures.keeps b (c.read_marks.ensures.honest.0 h) (c.read_marks.ensures.keeps b h s)
-
-pub returns-in-Err-read_room-2-clause-keeps : goal.returns-in-Err-read_room-2-clause-keeps
-returns-in-Err-read_room-2-clause-keeps g c = λ b honest settled.
-    let h = c.read_layout.ensures.honest.0 honest in
-    let s = c.read_layout.ensures.keeps b honest settled in
-    let h' = c.read_marks.ensures.honest.0 h in
-    let s' = c.read_marks.ensures.keeps b h s in
-    c.read_room-2.ensures.keeps b (c.read_room.ensures.honest.0 h') (c.read_room.ensures.keeps b h' s')
+    let h = c.read_marks.ensures.honest honest in
+    marks_fault c.in-Ok.layout b c.in-Err-read_marks.fault (c.in-Ok.ensures.layout b h settled long) (c.in-Err-read_marks.ensures.marks b honest (c.read_layout.ensures.keeps b settled))
 
 pub returns-clause-keeps : goal.returns-clause-keeps
-returns-clause-keeps g c = λ b honest settled.
-    let h = c.read_layout.ensures.honest.0 honest in
-    let s = c.read_layout.ensures.keeps b honest settled in
-    let h' = c.read_marks.ensures.honest.0 h in
-    let s' = c.read_marks.ensures.keeps b h s in
-    c.read_room-2.ensures.keeps b (c.read_room.ensures.honest.0 h') (c.read_room.ensures.keeps b h' s')
+returns-clause-keeps g c = λ b settled.
+    c.read_room-2.ensures.keeps b (c.read_room.ensures.keeps b (c.read_marks.ensures.keeps b (c.read_layout.ensures.keeps b settled)))
 
 pub returns-clause-opens : goal.returns-clause-opens
 returns-clause-opens g c = λ b honest settled bytes long.
     let l = c.in-Ok.layout in
     let m = c.in-Ok-read_marks.marks in
-    let h = c.read_layout.ensures.honest.0 honest in
-    let s = c.read_layout.ensures.keeps b honest settled in
-    let h' = c.read_marks.ensures.honest.0 h in
-    let s' = c.read_marks.ensures.keeps b h s in
-    let h'' = c.read_room.ensures.honest.0 h' in
-    let s'' = c.read_room.ensures.keeps b h' s' in
+    -- honest before the last read, and before each that came earlier
+    let h'' = c.read_room-2.ensures.honest honest in
+    let h' = c.read_room.ensures.honest h'' in
+    let h = c.read_marks.ensures.honest h' in
+    -- settled after each
+    let s = c.read_layout.ensures.keeps b settled in
+    let s' = c.read_marks.ensures.keeps b s in
+    let s'' = c.read_room.ensures.keeps b s' in
     let image = c.deref.result.now in
     let segment = c.deref-2.result.now in
-    opens_by b l m bytes (c.in-Ok.ensures.layout b honest settled long) (c.in-Ok-read_marks.ensures.marks b h s) image segment c.book_of.result
-    (c.deref.ensures.value ∙ c.in-Ok-read_room.ensures.given b h' s' ∙ (λ i. part (c.image_at.ensures i) (c.image_len.ensures i) b))
-    (c.deref-2.ensures.value ∙ c.in-Ok-read_room-2.ensures.given b h'' s'' ∙ (λ i. part (c.segment_at.ensures i) (c.segment.ensures i) b))
+    opens_by b l m bytes (c.in-Ok.ensures.layout b h settled long) (c.in-Ok-read_marks.ensures.marks b h' s) image segment c.book_of.result
+    (c.deref.ensures.value ∙ c.in-Ok-read_room.ensures.given b h'' s' ∙ (λ i. part (c.image_at.ensures i) (c.image_len.ensures i) b))
+    (c.deref-2.ensures.value ∙ c.in-Ok-read_room-2.ensures.given b honest s'' ∙ (λ i. part (c.segment_at.ensures i) (c.segment.ensures i) b))
     c.book_of.ensures.restores
 
 pub returns-clause-fits : goal.returns-clause-fits

@@ -8,7 +8,7 @@ use Rattle.alm_bench.specs.declared.setup.Setup as T
 use Rattle.alm_bench.specs.declared.setup.Setup.TheVariants.{Open}
 use Rattle.alm_pipeline.specs.declared.step.Step.TheVariants as S
 use Rattle.alm_pipeline.specs.declared.event.Event.TheVariants as E
-use Rattle.alm_bench.proofs.Carried.{carried, failed_alike, failed_between, paced_as, same_count, skips_paced, steps_as, still, there, shut_not_open}
+use Rattle.alm_bench.proofs.Carried.{carried, failed_alike, failed_between, honest_as, paced_as, same_count, skips_paced, steps_as, still, there, shut_not_open}
 use Rattle.alm_bench.proofs.bench.Bench.call.Goals as goal
 
 pub returns-in-More-clause-answer : goal.returns-in-More-clause-answer
@@ -88,6 +88,7 @@ returns-in-Shut-clause-moves g c = λ w m.
 
 pub returns-in-Gone : goal.returns-in-Gone
 returns-in-Gone g c = record {
+  honest = λ h. absurd (c.take.ensures.gone h);
   answer = λ w m. absurd (still w _ _ (sym c.in-Gone.ensures.setup) m);
   stands = λ w m. absurd (still w _ _ (sym c.in-Gone.ensures.setup) m);
   moves = λ w m. absurd (still w _ _ (sym c.in-Gone.ensures.setup) m);
@@ -134,3 +135,18 @@ returns-in-Failed-clause-paces g c = λ w more m e.
 
 pub returns-in-Shut-clause-paces : goal.returns-in-Shut-clause-paces
 returns-in-Shut-clause-paces g c = λ w more m e. skips_paced w S.Call more _ _ (sym c.in-Shut.ensures.setup ∙ sym c.put-in-Shut.ensures.setup) e
+
+pub returns-in-More-clause-honest : goal.returns-in-More-clause-honest
+returns-in-More-clause-honest g c = λ h. honest_as _ _ c.in-Open.ensures.setup (c.in-More.ensures.honest.1 (honest_as _ _ c.put.ensures.setup h))
+
+pub returns-in-Committed-clause-honest : goal.returns-in-Committed-clause-honest
+returns-in-Committed-clause-honest g c = λ h. honest_as _ _ c.in-Open.ensures.setup (c.in-Committed.ensures.honest.1 (honest_as _ _ c.put-in-Committed.ensures.setup h))
+
+pub returns-in-Nothing-clause-honest : goal.returns-in-Nothing-clause-honest
+returns-in-Nothing-clause-honest g c = λ h. honest_as _ _ c.in-Open.ensures.setup (c.in-Nothing.ensures.honest.1 (honest_as _ _ c.put-in-Nothing.ensures.setup h))
+
+pub returns-in-Failed-clause-honest : goal.returns-in-Failed-clause-honest
+returns-in-Failed-clause-honest g c = λ h. honest_as _ _ c.in-Open.ensures.setup (c.in-Failed.ensures.honest.1 (c.into_device-disk.ensures.honest.1 (honest_as _ _ c.put-in-Failed.ensures.setup h)))
+
+pub returns-in-Shut-clause-honest : goal.returns-in-Shut-clause-honest
+returns-in-Shut-clause-honest g c = λ h. honest_as _ _ c.in-Shut.ensures.setup (honest_as _ _ c.put-in-Shut.ensures.setup h)

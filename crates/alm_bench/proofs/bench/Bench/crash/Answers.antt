@@ -2,7 +2,7 @@ use Rattle.std.proofs.Common.{sym, subst, refl}
 use Rattle.alm_pipeline.specs.World.{closed_world}
 use Rattle.alm_bench.specs.Stands.{IsSetup}
 use Rattle.alm_bench.specs.declared.setup.Setup as T
-use Rattle.alm_bench.proofs.Carried.{crash_paced, still, there}
+use Rattle.alm_bench.proofs.Carried.{crash_paced, honest_as, still, there}
 use Rattle.alm_bench.proofs.bench.Bench.crash.Goals as goal
 
 pub returns-in-Open-clause-stands : goal.returns-in-Open-clause-stands
@@ -29,3 +29,12 @@ returns-in-Shut-clause-paces g c = λ w more m e. crash_paced w c.args.bytes.now
 
 pub returns-in-Gone-clause-paces : goal.returns-in-Gone-clause-paces
 returns-in-Gone-clause-paces g c = λ w more m e. absurd (still w _ _ (sym c.in-Gone.ensures.setup) m)
+
+pub returns-in-Open-clause-honest : goal.returns-in-Open-clause-honest
+returns-in-Open-clause-honest g c = λ h. honest_as _ _ c.in-Open.ensures.setup (c.into_device.ensures.honest.1 (c.crashed-disk.ensures.honest.1 (honest_as _ _ c.put.ensures.setup h)))
+
+pub returns-in-Shut-clause-honest : goal.returns-in-Shut-clause-honest
+returns-in-Shut-clause-honest g c = λ h. honest_as _ _ c.in-Shut.ensures.setup (c.crashed-disk-in-Shut.ensures.honest.1 (honest_as _ _ c.put-in-Shut.ensures.setup h))
+
+pub returns-in-Gone-clause-honest : goal.returns-in-Gone-clause-honest
+returns-in-Gone-clause-honest g c = λ h. absurd (c.take.ensures.gone h)

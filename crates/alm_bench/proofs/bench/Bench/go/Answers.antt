@@ -4,7 +4,7 @@ use Rattle.alm_keeper.specs.AsStore.{StandsFor, IsLastEpoch}
 use Rattle.alm_pipeline.specs.World.{World, after_step}
 use Rattle.alm_bench.specs.Stands.{IsSetup}
 use Rattle.alm_pipeline.specs.declared.event.Event.TheVariants.{Skipped}
-use Rattle.alm_bench.proofs.Carried.{carried, paced_as, same_count, skips_paced, steps_as, still, there, inner_skips, inner_stays, after_skipped}
+use Rattle.alm_bench.proofs.Carried.{carried, honest_as, paced_as, same_count, skips_paced, steps_as, still, there, inner_skips, inner_stays, after_skipped}
 use Rattle.alm_bench.proofs.bench.Bench.go.Goals as goal
 
 pub go-event-requires : goal.go-event-requires
@@ -40,6 +40,7 @@ returns-in-Shut-clause-moves g c = λ w m.
 
 pub returns-in-Gone : goal.returns-in-Gone
 returns-in-Gone g c = record {
+  honest = λ h. absurd (c.take.ensures.gone h);
   answer = λ w m. absurd (still w _ _ (sym c.in-Gone.ensures.setup) m);
   stands = λ w m. absurd (still w _ _ (sym c.in-Gone.ensures.setup) m);
   moves = λ w m. absurd (still w _ _ (sym c.in-Gone.ensures.setup) m);
@@ -60,3 +61,9 @@ returns-in-Open-clause-paces g c = λ w more m e.
 
 pub returns-in-Shut-clause-paces : goal.returns-in-Shut-clause-paces
 returns-in-Shut-clause-paces g c = λ w more m e. skips_paced w c.args.step.now more _ _ (sym c.in-Shut.ensures.setup ∙ sym c.put-in-Shut.ensures.setup) e
+
+pub returns-in-Open-clause-honest : goal.returns-in-Open-clause-honest
+returns-in-Open-clause-honest g c = λ h. honest_as _ _ c.in-Open.ensures.setup (c.go-event.ensures.honest.1 (honest_as _ _ c.put.ensures.setup h))
+
+pub returns-in-Shut-clause-honest : goal.returns-in-Shut-clause-honest
+returns-in-Shut-clause-honest g c = λ h. honest_as _ _ c.in-Shut.ensures.setup (honest_as _ _ c.put-in-Shut.ensures.setup h)

@@ -5,16 +5,15 @@ use Rattle.alm_pipeline.proofs.Paced.{none_few}
 use Rattle.alm_bench.proofs.bench.Bench.new.Goals as goal
 
 pub returns-in-Ok-clause-stands : goal.returns-in-Ok-clause-stands
-returns-in-Ok-clause-stands g c = λ honest plant all.
+returns-in-Ok-clause-stands g c = λ plant all honest.
     let e = c.in-Ok.ensures in
-    let opened = e.opened honest in
     let store = c.in-Ok.pipeline.flusher.store in
     let bytes = (g.D.Disk.state store.disk).bytes in
-    let is : store.stored.plant ≡ plant = stands_for_one bytes store.stored.plant plant opened.1 (all bytes opened.0) in
-    (e.«open» plant [] plant.panel.count is (omega arith), e.honest.0 honest)
+    let is : store.stored.plant ≡ plant = stands_for_one bytes store.stored.plant plant (e.encodes honest) (all bytes (e.image (e.honest honest))) in
+    (e.«open» plant [] plant.panel.count is (omega arith), honest)
 
 pub returns-in-Ok-clause-device : goal.returns-in-Ok-clause-device
-returns-in-Ok-clause-device g c = λ honest. let opened = c.in-Ok.ensures.opened honest in (opened.0, c.in-Ok.ensures.settled honest)
+returns-in-Ok-clause-device g c = λ honest. (c.in-Ok.ensures.image honest, c.in-Ok.ensures.settled honest)
 
 pub returns-in-Ok-clause-paced : goal.returns-in-Ok-clause-paced
 returns-in-Ok-clause-paced g c = λ plant. record { few = none_few (first plant); ends = λ held. absurd held }

@@ -5,75 +5,85 @@ use Rattle.alm_pipeline.specs.World.{after_step}
 use Rattle.alm_store.specs.Recovery.{IsFrontPlant}
 use Rattle.alm_pipeline.specs.declared.step.Step.TheVariants as S
 use Rattle.alm_pipeline.specs.declared.event.Event.TheVariants as E
-use Rattle.alm_bench.proofs.Carried.{carried, open_paced, paced_as, same_count, skips_paced, steps_as, still, there, reopened_between, shut_not_open}
+use Rattle.alm_bench.proofs.Carried.{carried, honest_as, open_paced, paced_as, same_count, skips_paced, steps_as, still, there, reopened_between, shut_not_open}
 use Rattle.alm_bench.proofs.Reopened.{storage_fault, found, reaches}
 use Rattle.alm_bench.proofs.bench.Bench.reopen.Goals as goal
 
 pub returns-in-Ok-clause-answer : goal.returns-in-Ok-clause-answer
-returns-in-Ok-clause-answer g c = λ w m.
+returns-in-Ok-clause-answer g c = λ honest w m.
+    let is = honest_as _ _ c.put.ensures.setup honest in
     let shut = still w _ _ (sym c.in-Shut.ensures.setup) m in
     let store = c.in-Ok.pipeline.flusher.store in
-    let opened = c.in-Ok.ensures.opened shut.1 in
-    let front : IsFrontPlant w.base w.accepted w.floor store.stored.plant = (shut.2 (g.D.Disk.state store.disk).bytes opened.0).each store.stored.plant opened.1 in
+    let image = c.in-Ok.ensures.image shut.1 in
+    let encodes = c.in-Ok.ensures.encodes is in
+    let front : IsFrontPlant w.base w.accepted w.floor store.stored.plant = (shut.2 (g.D.Disk.state store.disk).bytes image).each store.stored.plant encodes in
     (shut.0, omega (arith, front.enough, c.count-count.ensures), omega (arith, front.no_more, c.count-count.ensures))
 
 pub returns-in-Ok-clause-stands : goal.returns-in-Ok-clause-stands
-returns-in-Ok-clause-stands g c = λ w m.
+returns-in-Ok-clause-stands g c = λ honest w m.
+    let is = honest_as _ _ c.put.ensures.setup honest in
     let shut = still w _ _ (sym c.in-Shut.ensures.setup) m in
     let store = c.in-Ok.pipeline.flusher.store in
     let n = c.count-count.result in
-    let opened = c.in-Ok.ensures.opened shut.1 in
-    let front : IsFrontPlant w.base w.accepted w.floor store.stored.plant = (shut.2 (g.D.Disk.state store.disk).bytes opened.0).each store.stored.plant opened.1 in
+    let image = c.in-Ok.ensures.image shut.1 in
+    let encodes = c.in-Ok.ensures.encodes is in
+    let front : IsFrontPlant w.base w.accepted w.floor store.stored.plant = (shut.2 (g.D.Disk.state store.disk).bytes image).each store.stored.plant encodes in
     still (after_step w S.Reopen (E.Opened n)) _ _ (sym c.put.ensures.setup) (
       c.in-Ok.ensures.«open» w.base (take (n - w.base.panel.count) w.accepted) w.floor
           (found w.base w.accepted w.floor store.stored.plant n c.count-count.ensures front) (reaches w.base w.accepted w.floor store.stored.plant n c.count-count.ensures front),
-      c.in-Ok.ensures.honest.0 shut.1,
+      is,
     )
 
 pub returns-in-Ok-clause-moves : goal.returns-in-Ok-clause-moves
-returns-in-Ok-clause-moves g c = λ w m.
+returns-in-Ok-clause-moves g c = λ honest w m.
+    let is = honest_as _ _ c.put.ensures.setup honest in
     let k = c.args.self.now.answer.refused in
     let shut = still w _ _ (sym c.in-Shut.ensures.setup) m in
     let store = c.in-Ok.pipeline.flusher.store in
     let bytes = (g.D.Disk.state store.disk).bytes in
     let n = c.count-count.result in
-    let opened = c.in-Ok.ensures.opened shut.1 in
-    let front : IsFrontPlant w.base w.accepted w.floor store.stored.plant = (shut.2 bytes opened.0).each store.stored.plant opened.1 in
+    let image = c.in-Ok.ensures.image shut.1 in
+    let encodes = c.in-Ok.ensures.encodes is in
+    let front : IsFrontPlant w.base w.accepted w.floor store.stored.plant = (shut.2 bytes image).each store.stored.plant encodes in
     carried w S.Reopen (E.Opened n) k k k _ _ _ _ _ refl (same_count c.args.self.now.answer _ _ c.put.ensures.answer c.in-Shut.ensures.answer) c.in-Shut.ensures.setup (sym c.put.ensures.setup)
-    (opened.0, c.in-Ok.ensures.settled shut.1, subst (λ (q : Condensed). StandsFor bytes q) (found w.base w.accepted w.floor store.stored.plant n c.count-count.ensures front) opened.1, c.in-Ok.ensures.idle, refl)
+    (image, c.in-Ok.ensures.settled shut.1, subst (λ (q : Condensed). StandsFor bytes q) (found w.base w.accepted w.floor store.stored.plant n c.count-count.ensures front) encodes, c.in-Ok.ensures.idle, refl)
 
 pub returns-in-Err-clause-answer : goal.returns-in-Err-clause-answer
-returns-in-Err-clause-answer g c = λ w m.
+returns-in-Err-clause-answer g c = λ honest w m.
+    let is = honest_as _ _ c.put-in-Err.ensures.setup honest in
     let shut = still w _ _ (sym c.in-Shut.ensures.setup) m in
-    (shut.0, storage_fault StandsFor w.base w.accepted w.floor (g.D.Disk.state c.in-Shut.disk) c.in-Err.fault (g.D.Disk.failures c.in-Shut.disk) (g.D.Disk.failures c.in-Err.disk) shut.2 (c.in-Err.ensures.cause shut.1))
+    (shut.0, storage_fault StandsFor w.base w.accepted w.floor (g.D.Disk.state c.in-Shut.disk) c.in-Err.fault (g.D.Disk.failures c.in-Shut.disk) (g.D.Disk.failures c.in-Err.disk) shut.2 (c.in-Err.ensures.cause is))
 
 pub returns-in-Err-clause-stands : goal.returns-in-Err-clause-stands
-returns-in-Err-clause-stands g c = λ w m.
+returns-in-Err-clause-stands g c = λ honest w m.
+    let is = honest_as _ _ c.put-in-Err.ensures.setup honest in
     let shut = still w _ _ (sym c.in-Shut.ensures.setup) m in
-    still w _ _ (sym c.put-in-Err.ensures.setup) (shut.0, c.in-Err.ensures.honest_back.0 shut.1, λ image is. shut.2 image (c.in-Err.ensures.no_new_image shut.1 image is))
+    still w _ _ (sym c.put-in-Err.ensures.setup) (shut.0, is, λ image left. shut.2 image (c.in-Err.ensures.no_new_image shut.1 image left))
 
 pub returns-in-Err-clause-moves : goal.returns-in-Err-clause-moves
-returns-in-Err-clause-moves g c = λ w m.
+returns-in-Err-clause-moves g c = λ honest w m.
+    let is = honest_as _ _ c.put-in-Err.ensures.setup honest in
     let n = c.args.self.now.answer.refused in
     let shut = still w _ _ (sym c.in-Shut.ensures.setup) m in
-    carried w S.Reopen (E.Unopened c.in-Err.fault) n n n _ _ _ _ _ refl (same_count c.args.self.now.answer _ _ c.put-in-Err.ensures.answer c.in-Shut.ensures.answer) c.in-Shut.ensures.setup (sym c.put-in-Err.ensures.setup) (c.in-Err.ensures.no_new_image shut.1, c.in-Err.ensures.cause shut.1, refl)
+    carried w S.Reopen (E.Unopened c.in-Err.fault) n n n _ _ _ _ _ refl (same_count c.args.self.now.answer _ _ c.put-in-Err.ensures.answer c.in-Shut.ensures.answer) c.in-Shut.ensures.setup (sym c.put-in-Err.ensures.setup) (c.in-Err.ensures.no_new_image shut.1, c.in-Err.ensures.cause is, refl)
 
 pub returns-in-Open-clause-answer : goal.returns-in-Open-clause-answer
-returns-in-Open-clause-answer g c = λ w m possible. shut_not_open w.closed possible (still w _ _ (sym c.in-Open.ensures.setup) m).0.opened
+returns-in-Open-clause-answer g c = λ honest w m possible. shut_not_open w.closed possible (still w _ _ (sym c.in-Open.ensures.setup) m).0.opened
 
 pub returns-in-Open-clause-stands : goal.returns-in-Open-clause-stands
-returns-in-Open-clause-stands g c = λ w m. still w _ _ (sym c.put-in-Open.ensures.setup) (still w _ _ (sym c.in-Open.ensures.setup) m)
+returns-in-Open-clause-stands g c = λ honest w m. still w _ _ (sym c.put-in-Open.ensures.setup) (still w _ _ (sym c.in-Open.ensures.setup) m)
 
 pub returns-in-Open-clause-moves : goal.returns-in-Open-clause-moves
-returns-in-Open-clause-moves g c = λ w m.
+returns-in-Open-clause-moves g c = λ honest w m.
     let n = c.args.self.now.answer.refused in carried w S.Reopen E.Skipped n n n _ _ _ _ _ refl (same_count c.args.self.now.answer _ _ c.put-in-Open.ensures.answer c.in-Open.ensures.answer) c.in-Open.ensures.setup (sym c.put-in-Open.ensures.setup) refl
 
 pub returns-in-Gone : goal.returns-in-Gone
 returns-in-Gone g c = record {
-  answer = λ w m. absurd (still w _ _ (sym c.in-Gone.ensures.setup) m);
-  stands = λ w m. absurd (still w _ _ (sym c.in-Gone.ensures.setup) m);
-  moves = λ w m. absurd (still w _ _ (sym c.in-Gone.ensures.setup) m);
-  paces = λ w more m e. absurd (still w _ _ (sym c.in-Gone.ensures.setup) m);
+  honest = λ h. absurd (c.take.ensures.gone h);
+  answer = λ honest w m. absurd (still w _ _ (sym c.in-Gone.ensures.setup) m);
+  stands = λ honest w m. absurd (still w _ _ (sym c.in-Gone.ensures.setup) m);
+  moves = λ honest w m. absurd (still w _ _ (sym c.in-Gone.ensures.setup) m);
+  paces = λ honest w more m e. absurd (still w _ _ (sym c.in-Gone.ensures.setup) m);
   reopened = reopened_between E.Skipped _ _ _ _ c.in-Gone.ensures.setup refl tt;
   there = λ h. absurd (there _ _ (sym c.in-Gone.ensures.setup) h);
 }
@@ -97,10 +107,19 @@ pub returns-in-Open-clause-reopened : goal.returns-in-Open-clause-reopened
 returns-in-Open-clause-reopened g c = reopened_between E.Skipped _ _ _ _ c.in-Open.ensures.setup (sym c.put-in-Open.ensures.setup) refl
 
 pub returns-in-Ok-clause-paces : goal.returns-in-Ok-clause-paces
-returns-in-Ok-clause-paces g c = λ w more m e. steps_as w S.Reopen (E.Opened c.count-count.result) more _ _ (sym c.put.ensures.setup) (open_paced w c.count-count.result more c.in-Ok.pipeline)
+returns-in-Ok-clause-paces g c = λ honest w more m e. steps_as w S.Reopen (E.Opened c.count-count.result) more _ _ (sym c.put.ensures.setup) (open_paced w c.count-count.result more c.in-Ok.pipeline)
 
 pub returns-in-Err-clause-paces : goal.returns-in-Err-clause-paces
-returns-in-Err-clause-paces g c = λ w more m e. steps_as w S.Reopen (E.Unopened c.in-Err.fault) more _ _ (sym c.put-in-Err.ensures.setup) (more, omega arith, paced_as more w _ _ (sym c.in-Shut.ensures.setup) e)
+returns-in-Err-clause-paces g c = λ honest w more m e. steps_as w S.Reopen (E.Unopened c.in-Err.fault) more _ _ (sym c.put-in-Err.ensures.setup) (more, omega arith, paced_as more w _ _ (sym c.in-Shut.ensures.setup) e)
 
 pub returns-in-Open-clause-paces : goal.returns-in-Open-clause-paces
-returns-in-Open-clause-paces g c = λ w more m e. skips_paced w S.Reopen more _ _ (sym c.in-Open.ensures.setup ∙ sym c.put-in-Open.ensures.setup) e
+returns-in-Open-clause-paces g c = λ honest w more m e. skips_paced w S.Reopen more _ _ (sym c.in-Open.ensures.setup ∙ sym c.put-in-Open.ensures.setup) e
+
+pub returns-in-Ok-clause-honest : goal.returns-in-Ok-clause-honest
+returns-in-Ok-clause-honest g c = λ h. honest_as _ _ c.in-Shut.ensures.setup (c.in-Ok.ensures.honest (honest_as _ _ c.put.ensures.setup h))
+
+pub returns-in-Err-clause-honest : goal.returns-in-Err-clause-honest
+returns-in-Err-clause-honest g c = λ h. honest_as _ _ c.in-Shut.ensures.setup (c.in-Err.ensures.honest_back (honest_as _ _ c.put-in-Err.ensures.setup h))
+
+pub returns-in-Open-clause-honest : goal.returns-in-Open-clause-honest
+returns-in-Open-clause-honest g c = λ h. honest_as _ _ c.in-Open.ensures.setup (honest_as _ _ c.put-in-Open.ensures.setup h)

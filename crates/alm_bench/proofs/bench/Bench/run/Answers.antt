@@ -29,28 +29,32 @@ loop-step-preserved g c =
     record {
       count = omega (arith, ap length items, length-append tr (e ∷ []), inv.count);
       room = c.push_reserved.ensures.capacity ∙ inv.room;
-      run = λ w m.
+      honest = λ h. inv.honest (c.step-event.ensures.honest h);
+      run = λ honest w m.
           let at = after_steps w (take i ss) tr in
-          let stood' = inv.stands w m in
+          let was = c.step-event.ensures.honest honest in
+          let stood' = inv.stands was w m in
           subst (λ (l : List Step). IsRun StandsFor IsLastEpoch w first l c.push_reserved.new.self.items (bench_sight c.step-event.new.self)) (sym more)
           (subst (λ (t : List Event). IsRun StandsFor IsLastEpoch w first (take i ss ++ s ∷ []) t (bench_sight c.step-event.new.self)) (sym items)
-          (run_more StandsFor IsLastEpoch w first last (bench_sight c.step-event.new.self) (take i ss) tr s e (inv.run w m)
-          (c.step-event.ensures.answer at stood') (c.step-event.ensures.moves at stood') (c.step-event.ensures.headline at stood')));
-      stands = λ w m.
+          (run_more StandsFor IsLastEpoch w first last (bench_sight c.step-event.new.self) (take i ss) tr s e (inv.run was w m)
+          (c.step-event.ensures.answer honest at stood') (c.step-event.ensures.moves honest at stood') (c.step-event.ensures.headline honest at stood')));
+      stands = λ honest w m.
+          let was = c.step-event.ensures.honest honest in
           subst (λ (v : World). MatchesBench v c.step-event.new.self)
-          (sym (after_more StandsFor IsLastEpoch w first last (take i ss) tr s e (inv.run w m)) ∙ (ap (after_steps w (take i ss ++ s ∷ [])) (sym items) ∙ ap (λ (l : List Step). after_steps w l c.push_reserved.new.self.items) (sym more)))
-          (c.step-event.ensures.stands (after_steps w (take i ss) tr) (inv.stands w m));
-      paces = λ w pace m held.
+          (sym (after_more StandsFor IsLastEpoch w first last (take i ss) tr s e (inv.run was w m)) ∙ (ap (after_steps w (take i ss ++ s ∷ [])) (sym items) ∙ ap (λ (l : List Step). after_steps w l c.push_reserved.new.self.items) (sym more)))
+          (c.step-event.ensures.stands honest (after_steps w (take i ss) tr) (inv.stands was w m));
+      paces = λ honest w pace m held.
+          let was = c.step-event.ensures.honest honest in
           let at = after_steps w (take i ss) tr in
-          let before = inv.paces w pace m held in
-          let next = c.step-event.ensures.paces at before.0 (inv.stands w m) before.2 in
+          let before = inv.paces was w pace m held in
+          let next = c.step-event.ensures.paces honest at before.0 (inv.stands was w m) before.2 in
           let steps : take i ss ++ s ∷ [] ≡ take (i + 1) ss = sym more in
           let trace : tr ++ e ∷ [] ≡ c.push_reserved.new.self.items = sym items in (
             next.0,
             subst (λ (l : List Step). PacesAll most_more w pace l c.push_reserved.new.self.items next.0) steps
                 (subst (λ (t : List Event). PacesAll most_more w pace (take i ss ++ s ∷ []) t next.0) trace (paces_more most_more w pace before.0 next.0 (take i ss) tr s e before.1 next.1)),
             subst (λ (v : World). IsPaced next.0 v c.step-event.new.self)
-                (sym (after_more StandsFor IsLastEpoch w first last (take i ss) tr s e (inv.run w m)) ∙ (ap (after_steps w (take i ss ++ s ∷ [])) trace ∙ ap (λ (l : List Step). after_steps w l c.push_reserved.new.self.items) steps))
+                (sym (after_more StandsFor IsLastEpoch w first last (take i ss) tr s e (inv.run was w m)) ∙ (ap (after_steps w (take i ss ++ s ∷ [])) trace ∙ ap (λ (l : List Step). after_steps w l c.push_reserved.new.self.items) steps))
                 next.2,
           );
       there = λ h. c.step-event.ensures.there (inv.there h);
@@ -62,36 +66,37 @@ loop-step-init g c =
     record {
       count = search rules;
       room = search rules;
-      run = λ w m. subst (λ (t : List Event). IsRun StandsFor IsLastEpoch w here [] t here) (sym c.in_ok-trace.ensures.items) (c.images.ensures.headline w m, refl);
-      stands = λ w m. m;
-      paces = λ w pace m e. (pace, subst (λ (t : List Event). PacesAll most_more w pace [] t pace) (sym c.in_ok-trace.ensures.items) refl, e);
+      honest = λ h. h;
+      run = λ _ w m. subst (λ (t : List Event). IsRun StandsFor IsLastEpoch w here [] t here) (sym c.in_ok-trace.ensures.items) (c.images.ensures.headline w m, refl);
+      stands = λ _ w m. m;
+      paces = λ _ w pace m e. (pace, subst (λ (t : List Event). PacesAll most_more w pace [] t pace) (sym c.in_ok-trace.ensures.items) refl, e);
       there = λ h. h;
     }
 
 pub returns-clause-run : goal.returns-clause-run
-returns-clause-run g c = λ w m.
+returns-clause-run g c = λ honest w m.
     let all : take c.loop-step.step-index c.args.steps.now ≡ c.args.steps.now = take_all c.loop-step.step-index c.args.steps.now (omega (arith, c.loop-step-test.false)) in
-    subst (λ (l : List Step). IsRun StandsFor IsLastEpoch w (bench_sight c.args.self.now) l c.loop-step.trace.items (bench_sight c.loop-step.self)) all (c.loop-step.invariant.run w m)
+    subst (λ (l : List Step). IsRun StandsFor IsLastEpoch w (bench_sight c.args.self.now) l c.loop-step.trace.items (bench_sight c.loop-step.self)) all (c.loop-step.invariant.run honest w m)
 
 pub returns-clause-stands : goal.returns-clause-stands
-returns-clause-stands g c = λ w m.
+returns-clause-stands g c = λ honest w m.
     let all : take c.loop-step.step-index c.args.steps.now ≡ c.args.steps.now = take_all c.loop-step.step-index c.args.steps.now (omega (arith, c.loop-step-test.false)) in
-    subst (λ (l : List Step). MatchesBench (after_steps w l c.loop-step.trace.items) c.loop-step.self) all (c.loop-step.invariant.stands w m)
+    subst (λ (l : List Step). MatchesBench (after_steps w l c.loop-step.trace.items) c.loop-step.self) all (c.loop-step.invariant.stands honest w m)
 
 pub returns-clause-paces : goal.returns-clause-paces
-returns-clause-paces g c = λ w pace m e.
+returns-clause-paces g c = λ honest w pace m e.
     let all : take c.loop-step.step-index c.args.steps.now ≡ c.args.steps.now = take_all c.loop-step.step-index c.args.steps.now (omega (arith, c.loop-step-test.false)) in
-    let paced = c.loop-step.invariant.paces w pace m e in (
+    let paced = c.loop-step.invariant.paces honest w pace m e in (
       paced.0,
       subst (λ (l : List Step). PacesAll most_more w pace l c.loop-step.trace.items paced.0) all paced.1,
       subst (λ (l : List Step). IsPaced paced.0 (after_steps w l c.loop-step.trace.items) c.loop-step.self) all paced.2,
     )
 
 pub returns-clause-answered : goal.returns-clause-answered
-returns-clause-answered g c = λ slots pace w rounds m e l are most steps sound.
+returns-clause-answered g c = λ honest slots pace w rounds m e l are most steps sound.
     let trace = c.loop-step.trace.items in
-    let run = returns-clause-run g c w m in
+    let run = returns-clause-run g c honest w m in
     let answers = run_answers StandsFor IsLastEpoch w (bench_sight c.args.self.now) (bench_sight c.loop-step.self) c.args.steps.now trace run in
-    let paced = returns-clause-paces g c w pace m e in
+    let paced = returns-clause-paces g c honest w pace m e in
     subst (λ (ss : List Step). AreReceived slots most_more w (after_steps w ss trace)) (sym steps)
     (fair_run slots most_more w pace rounds trace paced.0 l are most (subst (λ (ss : List Step). AnswersAll w ss trace) steps answers) sound (subst (λ (ss : List Step). PacesAll most_more w pace ss trace paced.0) steps paced.1))

@@ -1,0 +1,14 @@
+//! Laws of a file's record. Each is the contract of a function that does nothing.
+
+ghost use Rattle.std.specs.Prelude.{◌++◌, List, ℕ, length};
+ghost use Rattle.alm_disk.specs.Device.{AreBytes};
+ghost use Rattle.alm_file.specs.Events.{Event};
+ghost use Rattle.alm_file.specs.Replay.{AreTrueAnswers, IsHonest, NoneReads};
+
+/// A run is honest of the bytes that its file held, if what was read before the first write is what they are: whatever was written
+/// and synced later, and however those calls ended.
+pub fn true_reads_make_an_honest_run()
+    ensures { (start : List ℕ) (later earlier : List Event) → AreBytes start →
+        AreTrueAnswers start earlier → NoneReads later →
+        IsHonest start (length start) (later ++ earlier) }
+{}
