@@ -11,6 +11,11 @@
  *     ALM_BODY=ignores               stands for a program that ignores failed writes and syncs: to it they succeed
  *     ALM_BODY=keeps                 stands for a program that never lets the kernel forget: posix_fadvise does nothing
  *     ALM_BODY=copies                stands for a program that takes a copy with each write, and lets it go: one request for memory more
+ *     ALM_BODY=unsynced, unwritten   stand for one whose syncs, or writes, aren't made: to it they succeed
+ *     ALM_BODY=misplaced, twice      stand for one that writes at half the place, or once more there
+ *     ALM_BODY=misread               stands for one that reads from the first byte on
+ *     ALM_BODY=stale                 stands for one that takes what the file ALM_STALE has for what it read
+ *     ALM_BYTES=FILE                 the positional calls and syncs that were made, a line each: name, place and bytes in hexadecimal
  *
  * CALL is pwrite, pread, fdatasync, fsync, fadvise, ftruncate, openat, statx, memory (each request for it), thread (each that is
  * started), read (of standard input), or device: any of pwrite, pread, fdatasync. KIND is
@@ -68,8 +73,9 @@ static unsigned long wanted_at;
 static char kind[16];
 static uint64_t seed;
 static const char *counts, *met, *disk;
-static int calls = -1;
+static int calls = -1, bytes_made = -1, stale = -1;
 static bool ignores, keeps, copies, by_lines;
+static const char *body = "";
 static unsigned long interrupted; /* which read of standard input; 0: none */
 static unsigned long *memory; /* a file that shows the count of requests */
 static bool ready;
@@ -99,16 +105,18 @@ static void show_memory(const char *path) {
     syscall(SYS_close, file);
 }
 
+static bool is_body(const char *name) { return !strcmp(body, name); }
+
 static void begin(void) {
     if (ready) return;
     ready = true;
     counts = getenv("ALM_COUNTS");
     met = getenv("ALM_MET");
     disk = getenv("ALM_DISK");
-    const char *body = getenv("ALM_BODY");
-    ignores = body && !strcmp(body, "ignores");
-    keeps = body && !strcmp(body, "keeps");
-    copies = body && !strcmp(body, "copies");
+    if (getenv("ALM_BODY")) body = getenv("ALM_BODY");
+    ignores = is_body("ignores");
+    keeps = is_body("keeps");
+    copies = is_body("copies");
     by_lines = getenv("ALM_READS") != NULL;
     const char *at = getenv("ALM_INTERRUPT");
     if (at) interrupted = strtoul(at, NULL, 10);
@@ -116,6 +124,9 @@ static void begin(void) {
     if (shown) show_memory(shown);
     const char *listed = getenv("ALM_CALLS");
     if (listed) calls = syscall(SYS_openat, AT_FDCWD, listed, O_WRONLY | O_CREAT | O_APPEND, 0644);
+    const char *written = getenv("ALM_BYTES"), *old = getenv("ALM_STALE");
+    if (written) bytes_made = syscall(SYS_openat, AT_FDCWD, written, O_WRONLY | O_CREAT | O_APPEND, 0644);
+    if (old) stale = syscall(SYS_openat, AT_FDCWD, old, O_RDONLY);
     const char *fault = getenv("ALM_FAULT");
     if (!fault) return;
     char call[16] = "";
@@ -156,6 +167,20 @@ static void list_as(const char *name, int file, const char *path, off_t at, size
     int wrote = path ? snprintf(line, sizeof line, "%s %s\n", name, path)
                      : snprintf(line, sizeof line, "%s %lld %zu\n", name, (long long)at, length);
     syscall(SYS_write, calls, line, wrote);
+}
+
+/* Writes a call that was made to the list with bytes. */
+static void list_bytes(enum call call, off_t at, const unsigned char *bytes, ssize_t length) {
+    if (bytes_made < 0 || length < 0) return;
+    static const char digits[] = "0123456789abcdef";
+    char *line = take(64 + 2 * length);
+    int wrote = snprintf(line, 64, "%s %lld ", names[call], (long long)at);
+    for (ssize_t i = 0; i < length; i++) {
+        line[wrote++] = digits[bytes[i] >> 4];
+        line[wrote++] = digits[bytes[i] & 15];
+    }
+    line[wrote++] = '\n';
+    syscall(SYS_write, bytes_made, line, wrote);
 }
 
 static void list(enum call call, int file, const char *path, off_t at, size_t length) { list_as(names[call], file, path, at, length); }
@@ -260,6 +285,9 @@ static bool fails(void) {
 }
 
 static ssize_t write_at(int file, const void *bytes, size_t length, off_t at) {
+    begin();
+    if (is_body("unwritten")) return length;
+    if (is_body("misplaced")) at /= 2;
     bool hit = is_wanted(PWRITE);
     if (copies) {
         void *volatile copy = malloc(length);
@@ -271,16 +299,24 @@ static ssize_t write_at(int file, const void *bytes, size_t length, off_t at) {
         if (fails()) return ignores ? (ssize_t)length : -1;
         if (length > 1) length /= 2;
     }
-    return syscall(SYS_pwrite64, file, bytes, length, at);
+    ssize_t wrote = syscall(SYS_pwrite64, file, bytes, length, at);
+    list_bytes(PWRITE, at, bytes, wrote);
+    if (is_body("twice")) list_bytes(PWRITE, at / 2, bytes, syscall(SYS_pwrite64, file, bytes, length, at / 2));
+    return wrote;
 }
 
 static ssize_t read_at(int file, void *into, size_t length, off_t at) {
+    begin();
+    if (is_body("misread")) at = 0;
     list(PREAD, file, NULL, at, length);
     if (is_wanted(PREAD)) {
         if (fails()) return -1;
         if (length > 1) length /= 2;
     }
-    return syscall(SYS_pread64, file, into, length, at);
+    ssize_t got = syscall(SYS_pread64, file, into, length, at);
+    list_bytes(PREAD, at, into, got);
+    if (stale >= 0) syscall(SYS_pread64, stale, into, length, at);
+    return got;
 }
 
 /* A line of standard input, byte by byte. */
@@ -311,6 +347,8 @@ static void break_disk(bool fails) {
 }
 
 static int sync_by(enum call call, long number, int file) {
+    begin();
+    if (call == FDATASYNC && is_body("unsynced")) return 0;
     list(call, file, NULL, 0, 0);
     bool hit = is_wanted(call);
     if (hit && fails()) return ignores ? 0 : -1;
@@ -318,6 +356,7 @@ static int sync_by(enum call call, long number, int file) {
     int answer = syscall(number, file), error = errno;
     if (hit && disk) break_disk(false);
     if (answer == 0) forget(file);
+    if (call == FDATASYNC && answer == 0) list_bytes(call, 0, NULL, 0);
     errno = error;
     return ignores ? 0 : answer;
 }

@@ -4,7 +4,7 @@ use Rattle.alm_disk.specs.declared.call.Call.{Call}
 use Rattle.alm_disk.specs.declared.call.Call.TheVariants.{Read, Write, Sync}
 use Rattle.alm_file.specs.Events.{Event}
 
--- a read of so many bytes that was done, with what it gave
+-- a read of n bytes that was done, with what it gave
 abbrev pub was_read : (at n : ℕ) → (bytes : List ℕ) → Event
 was_read at n bytes = record { call = Read at n; done = true; bytes = bytes }
 
@@ -18,7 +18,7 @@ was_written at done bytes = record { call = Write at (length bytes); done = done
 abbrev pub was_synced : (done : Bool) → Event
 was_synced done = record { call = Sync; done = done; bytes = [] }
 
--- behind a sync that was done stands one that wasn't, if the file is then found to be another one or of another size
+-- a sync that was done has one after it that wasn't, if the file is then found to be another one or of another size
 abbrev pub IsNoted : {E : Type 0} → Call → Result Unit E → (old new : List Event) → Type 0
 IsNoted (Read at n) (Ok done) old new = (bytes : List ℕ) × (new ≡ was_read at n bytes ∷ old)
 IsNoted (Read at n) (Err fault) old new = new ≡ was_not_read at n ∷ old

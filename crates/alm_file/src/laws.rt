@@ -5,8 +5,8 @@ ghost use Rattle.alm_disk.specs.Device.{AreBytes};
 ghost use Rattle.alm_file.specs.Events.{Event};
 ghost use Rattle.alm_file.specs.Replay.{AreTrueAnswers, IsHonest, NoneReads};
 
-/// A run is honest of the bytes that its file held, if what was read before the first write is what they are: whatever was written
-/// and synced later, and however those calls ended.
+/// A run is honest of the bytes that its file held, if what was read before the first write is what they are. What was written and
+/// synced later can't end that, nor how those calls ended.
 pub fn true_reads_make_an_honest_run()
     ensures { (start : List ℕ) (later earlier : List Event) → AreBytes start →
         AreTrueAnswers start earlier → NoneReads later →

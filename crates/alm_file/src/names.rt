@@ -25,8 +25,8 @@ fn sync_folder<R: Files<File = File>>(
     }
 }
 
-/// The path behind a symbolic link: what it leads to, and the names that stand after it.
-fn path_behind<R: Files<File = File> + AllocGlobal>(
+/// The path after a symbolic link was followed: what it leads to, and the names that stand after it.
+fn follow<R: Files<File = File> + AllocGlobal>(
     rt: &R,
     link: &Path<'_>,
     folder: &Path<'_>,
@@ -34,19 +34,19 @@ fn path_behind<R: Files<File = File> + AllocGlobal>(
 ) -> Result<PathBuf, FileFault> {
     let alloc = rt.alloc();
     let target = rt.read_link(alloc, link.as_str())?;
-    let mut behind = folder
+    let mut followed = folder
         .join(alloc, target.as_path())
         .map_err(io::Error::from)?;
     if let Ok(rest) = path.strip_prefix(link) {
         if !rest.as_str().is_empty() {
-            behind.push(rest).map_err(io::Error::from)?;
+            followed.push(rest).map_err(io::Error::from)?;
         }
     }
-    Ok(behind)
+    Ok(followed)
 }
 
-/// Waits until the folder of each name in a path is on the disk, up to the first that is a symbolic link. Returns the path behind
-/// that link, if there is one.
+/// Waits until the folder of each name in a path is on the disk, up to the first that is a symbolic link. Returns the path
+/// after that link was followed, if there is one.
 fn sync_up_to_link<R: Files<File = File> + AllocGlobal>(
     rt: &R,
     path: &Path<'_>,
@@ -65,7 +65,7 @@ fn sync_up_to_link<R: Files<File = File> + AllocGlobal>(
             sync_folder(rt, at, before + 1 == last)?;
         }
         if fs::symlink_metadata(rt, named.as_str())?.is_symlink() {
-            return path_behind(rt, &named.as_path(), &folder.as_path(), path).map(Some);
+            return follow(rt, &named.as_path(), &folder.as_path(), path).map(Some);
         }
         folder = named;
     }
@@ -84,7 +84,7 @@ pub fn sync_with_names<R: Files<File = File> + AllocGlobal>(
     let mut at = Path::new(path).to_path_buf(alloc).map_err(io::Error::from)?;
     for _ in 0..=MOST_LINKS {
         match sync_up_to_link(rt, &at.as_path())? {
-            Some(behind) => at = behind,
+            Some(followed) => at = followed,
             None => break,
         }
     }

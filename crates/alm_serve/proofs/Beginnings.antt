@@ -111,7 +111,7 @@ pub text_next : (came : List ℕ) (b : ℕ) (begun : Bool) → begun ≡ is_some
 text_next came b true is other = text_on came b (sym is)
 text_next came b false is other = text_new came b is (other refl)
 
--- nothing changes behind the end of the line
+-- nothing changes after the end of the line
 pub after_line : (came : List ℕ) (b : ℕ) (begun space : Bool) (word : List ℕ) → KnowsLine came begun true space word → KnowsLine (came ++ b ∷ []) begun true space word
 after_line came b begun space word k =
     let some = some_whole (text_of came) k.ends in

@@ -33,7 +33,7 @@ is_whole text = list_any (λ byte. byte == 10) text
 abbrev pub has_space : List ℕ → Bool
 has_space line = list_any (λ byte. byte == 32) line
 
--- the bytes behind the last space of a line
+-- the bytes after the last space of a line
 abbrev pub last_word : List ℕ → List ℕ
 last_word [] = []
 last_word (byte ∷ line) = if has_space line then last_word line else (if byte == 32 then line else (byte ∷ line))
@@ -46,7 +46,7 @@ abbrev pub is_version : List ℕ → Bool
 is_version word =
     (length word == 8) && starts_with ◌==◌ word (codes "HTTP/") && is_digit (get_or word 5 0) && (get_or word 6 0 == 46) && is_digit (get_or word 7 0)
 
--- the same, where a CR may stand behind it
+-- the same, where a CR may stand after it
 abbrev pub ends_request : List ℕ → Bool
 ends_request word = is_version word || ((length word == 9) && (get_or word 8 0 == 13) && is_version (take 8 word))
 

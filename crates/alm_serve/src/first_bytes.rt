@@ -28,7 +28,7 @@ fn begins_with_method(bytes: &[u8]) -> bool
         | bytes.starts_with(b"PRI ")
 }
 
-/// What of a connection's first bytes tells whether it begins as a request of HTTP: the first eight, and its first line.
+/// By which first bytes a connection begins as a request of HTTP, or doesn't: the first eight, and those of its first line.
 #[derive(Drop)]
 pub struct FirstBytes {
     bytes: ArrayVec<u8, MOST>,

@@ -34,15 +34,15 @@ fn is_version(word: &[u8]) -> bool
         && word[7].is_ascii_digit()
 }
 
-/// The same where a CR may stand behind it.
+/// The same where a CR may stand after it.
 fn ends_request(word: &[u8]) -> bool
     ensures { result ≡ ends_request word.now }
 {
     is_version(word) || (word.len() == 9 && word[8] == b'\r' && is_version(&word[..8]))
 }
 
-/// What tells of a connection's first line whether it is a request's: whether it has begun, has ended and has a space, and the
-/// first bytes of its last word.
+/// By what a connection's first line is a request's, or isn't: whether it has begun, has ended and has a space, and the first
+/// bytes of its last word.
 #[derive(Drop)]
 pub struct FirstLine {
     has_begun: bool,

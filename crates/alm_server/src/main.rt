@@ -13,8 +13,8 @@
 //! Proved:
 //! - the program ends with status 0 and no line, or with a fault's status and line, or a prefix of it if errors can't be
 //!   written (by `print_fault`, `Fault`, `serve_ordered`, `serve_fault`)
-//! - **whatever bytes the file held as it was opened, if the answers of its opening are those of an honest device: what
-//!   became of the device that began with them, call by call of its record** (by `serve_file`)
+//! - **whatever bytes its file held, if its opening read them: what became of the device that began with them, by the record
+//!   of its calls** (by `serve_file`)
 #![tactic(auto)]
 
 mod process;
