@@ -12,21 +12,26 @@ name    what the lines begin with: a topic, a column, any text
 tag     the alarm's tag in the plant
 as      `value`, or `design` for a source that suppresses the alarm: 1, on, true or 0, off, false. `value` if it is left out
 scale   a decimal number by which a value is multiplied, and then rounded to a whole number; 1 if it is left out
-bad     what isn't a value, separated by |. Empty texts, NaN, infinite and other texts never are
+bad     what isn't a value, separated by |; a number by its value, so -9999.0 is -9999. Empty texts, NaN, infinite and other texts never are
 silent  a number of seconds: a source that has sent no good value for so long has none
 watch   the tag of an alarm of the kind `discrete` that is on while a source has no value: it is sent its setpoint, and else another value
 """
 import csv
+import re
 import time
 from collections import defaultdict
-from dataclasses import dataclass
-from decimal import ROUND_HALF_EVEN, Decimal, InvalidOperation
+from dataclasses import dataclass, replace
+from decimal import ROUND_HALF_EVEN, Decimal
 from typing import Iterable, Iterator, Optional
 
 from table_file import READING_LIMIT, Alarm
 
 COLUMNS = ("name", "tag", "as", "scale", "bad", "silent", "watch")
 SWITCHES = {"1": True, "on": True, "true": True, "0": False, "off": False, "false": False}
+# A decimal number. Python takes more: NaN, infinite ones, 1_0, and the digits of other scripts.
+NUMBER = re.compile(r"[-+]?([0-9]+[.]?[0-9]*|[.][0-9]+)(e[-+]?[0-9]+)?", re.IGNORECASE)
+# Digits before the point of the greatest value.
+MOST_DIGITS = len(str(READING_LIMIT))
 
 
 class NoMap(Exception):
@@ -46,6 +51,7 @@ class Row:
     is_design: bool
     scale: Decimal
     bad: frozenset[str]
+    bad_numbers: frozenset[Decimal]
     silent: Optional[float]
     watch: Optional[str]
 
@@ -53,7 +59,16 @@ class Row:
         """The value that a text is."""
         if text.lower() in self.bad:
             raise BadValue("a bad value")
-        return read_switch(text) if self.is_design else read_scaled(text, self.scale)
+        if self.is_design:
+            return read_switch(text)
+        number = read_number(text)
+        if number in self.bad_numbers:
+            raise BadValue("a bad value")
+        return scaled(number, self.scale)
+
+    def loses_fraction(self, text: str) -> bool:
+        """Whether a value has a fraction and goes by a scale of 1, which rounds it: the setpoint may be in another unit."""
+        return not self.is_design and self.scale == 1 and (number := read_number(text)) != number.to_integral_value()
 
 
 def read_switch(text: str) -> bool:
@@ -62,13 +77,22 @@ def read_switch(text: str) -> bool:
     return SWITCHES[text.lower()]
 
 
-def read_scaled(text: str, scale: Decimal) -> int:
-    """A decimal number, scaled and rounded."""
+def read_number(text: str) -> Decimal:
+    """The decimal number that a text is."""
+    if not NUMBER.fullmatch(text):
+        raise BadValue("no number")
     try:
-        number = Decimal(text)
-    except InvalidOperation:
-        raise BadValue("no number") from None
-    if not number.is_finite() or abs(number) > READING_LIMIT or abs(number * scale) > READING_LIMIT:
+        return Decimal(text)
+    except ArithmeticError:
+        raise BadValue("out of the limits of a value") from None
+
+
+def scaled(number: Decimal, scale: Decimal) -> int:
+    """A number by its scale, rounded."""
+    if number.is_zero():
+        return 0
+    # a number with many digits before its point is refused before it is computed with
+    if number.adjusted() >= MOST_DIGITS or abs(number) > READING_LIMIT or abs(number * scale) > READING_LIMIT:
         raise BadValue("out of the limits of a value")
     return int((number * scale).to_integral_value(ROUND_HALF_EVEN))
 
@@ -85,10 +109,15 @@ def read_row(cells: dict[str, str]) -> Row:
     if silent and not 0 < float(silent) < 10**9:
         raise ValueError(f"silent is {silent}")
     scale = Decimal(cells["scale"] or "1")
-    if not scale.is_finite() or abs(scale) > READING_LIMIT:
+    if not scale.is_finite() or scale.adjusted() >= MOST_DIGITS or abs(scale) > READING_LIMIT:
         raise ValueError(f"scale is {scale}")
     bad = frozenset(word.strip().lower() for word in cells["bad"].split("|")) | {""}
-    return Row(cells["name"], cells["tag"], kind == "design", scale, bad, float(silent) if silent else None, cells["watch"] or None)
+    return Row(cells["name"], cells["tag"], kind == "design", scale, bad, numbers_of(bad), float(silent) if silent else None, cells["watch"] or None)
+
+
+def numbers_of(words: Iterable[str]) -> frozenset[Decimal]:
+    """Those of some words that are numbers."""
+    return frozenset(Decimal(word) for word in words if NUMBER.fullmatch(word))
 
 
 def read_rows(lines: Iterable[str]) -> Iterator[Row]:
@@ -104,8 +133,8 @@ def read_rows(lines: Iterable[str]) -> Iterator[Row]:
                 raise ValueError(f"line {reader.line_num}: more cells than columns")
             try:
                 yield read_row({column: "" for column in COLUMNS} | {column: cell.strip() for column, cell in zip(columns, cells)})
-            except (ValueError, InvalidOperation) as error:
-                why = "no number" if isinstance(error, InvalidOperation) else error
+            except (ValueError, ArithmeticError) as error:
+                why = "no number" if isinstance(error, ArithmeticError) else error
                 raise ValueError(f"line {reader.line_num}: {why}") from None
 
 
@@ -114,12 +143,15 @@ class ValueMap:
 
     def __init__(self, rows: Iterable[Row]):
         self.rows: dict[str, list[Row]] = defaultdict(list)
+        # those whose alarms the plant has
+        self.active: dict[str, list[Row]] = {}
         taken: set[tuple[str, bool]] = set()
         for row in rows:
             if (row.tag, row.is_design) in taken:
                 raise ValueError(f"two rows for {row.tag}")
             taken.add((row.tag, row.is_design))
             self.rows[row.name].append(row)
+        self.commas = sorted({name.count(",") for name in self.rows}, reverse=True)
         self.watched = [row for rows in self.rows.values() for row in rows if row.watch]
         began = time.monotonic()
         self.latest = {row.name: began for row in self.watched}
@@ -135,15 +167,35 @@ class ValueMap:
         except (ValueError, csv.Error) as error:
             raise NoMap(f"{path} is no map: {error}") from None
 
-    def hold_against(self, alarms: dict[str, Alarm]) -> None:
-        """Raises if the plant's alarms aren't those of the map."""
-        for rows in self.rows.values():
-            for row in rows:
-                for tag in (row.tag, row.watch):
-                    if tag is not None and tag not in alarms:
-                        raise NoMap(f"the plant has no tag {tag}, which the map has for {row.name}")
-                if row.watch and alarms[row.watch].kind != "discrete":
-                    raise NoMap(f"{row.watch}, which watches {row.name}, isn't of the kind discrete")
+    def hold_against(self, alarms: dict[str, Alarm]) -> list[str]:
+        """Takes the rows whose alarms the plant has. What of the others is left out, a line each."""
+        said, found = [], []
+        for row in (row for rows in self.rows.values() for row in rows):
+            if row.tag not in alarms:
+                said.append(f"the plant has no tag {row.tag}, which the map has for {row.name}: that row is left out")
+                continue
+            if row.watch and (row.watch not in alarms or alarms[row.watch].kind != "discrete"):
+                why = "isn't of the kind discrete" if row.watch in alarms else "is no tag of the plant"
+                said.append(f"{row.watch} {why}, so {row.name} isn't watched")
+                row = replace(row, silent=None, watch=None)
+            found.append(row)
+        if not found:
+            raise NoMap("; ".join(said[:1]) or "the map has no row")
+        self.active = defaultdict(list)
+        for row in found:
+            self.active[row.name].append(row)
+        self.watched = [row for row in found if row.watch]
+        return said
+
+    def split(self, line: str) -> tuple[str, str]:
+        """The name and the text of a line. Either may have commas, as a decimal comma is one: the longest name of the map counts."""
+        parts = line.split(",")
+        for commas in self.commas:
+            name = ",".join(parts[:commas + 1]).strip()
+            if len(parts) > commas + 1 and name in self.rows:
+                return name, ",".join(parts[commas + 1:]).strip()
+        name, _, text = line.rpartition(",")
+        return name.strip(), text.strip()
 
     def note(self, name: str, is_good: bool) -> None:
         """A source sent a value, or one that is none."""

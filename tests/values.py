@@ -7,28 +7,22 @@ Scales, bad values, silence, suppression and wrong maps; each recipe of the page
 sources publish through a broker for a minute, 10,000 values a second, while broker, feed and server are killed: at the end the plant's
 conditions are those of the last values. With --short it is five seconds. Without mosquitto what wants it is left out, and that is said.
 """
-import contextlib
 import os
-import random
-import re
-import select
 import shutil
-import signal
-import socket
 import subprocess
 import sys
 import threading
 import time
+from decimal import Decimal
 
-from tools import EXAMPLES, PATIENCE, Yard, await_true, end_all, start, started, stop, tool, toml, words_of  # first: the others find examples/ by it
+from tools import PATIENCE, Yard, await_true, end_all, ended, start, started, stop, tool, toml  # first: the others find examples/ by it
 
 from alarm_client import Client, Lost, Refused
-from program import Wrong, begin, check, finish
+from check_mqtt import Fed, conditions, recipe, through_brokers
+from program import Wrong, begin, check, finish, free_ports
 from table_file import Alarm, Table, device_size
+from value_map import Row
 
-PAGE = EXAMPLES.parent / "docs" / "FIELD.md"
-RECIPE = re.compile(r"```sh\n(.*?)```", re.DOTALL)
-TAGS = 200
 MAP = """name,tag,as,scale,bad,silent,watch
 t/1,TI-1,,100,-9999|bad,2,XS-1
 t/1,TI-1L,,100,-9999|bad,,
@@ -47,20 +41,15 @@ WRONG_MAPS = {
     "name,tag,silent,watch\na,TI-1,0,XS-1\n": "line 2: silent is 0",
     "name,tag\na,TI-1\nb,TI-1\n": "two rows for TI-1",
     "name,tag\na,TI-1,1\n": "line 2: more cells than columns",
+    "name,tag,scale\na,TI-1,1e9999999\n": "line 2: scale is 1E+9999999",
     "name,tag\na,TI-9\n": "the plant has no tag TI-9, which the map has for a",
-    "name,tag,silent,watch\na,TI-1,5,PI-2\n": "PI-2, which watches a, isn't of the kind discrete",
+    "name,tag\n": "the map has no row",
 }
 
 
 def small(yard: Yard, name: str) -> str:
     """A device with the alarms of MAP."""
     return yard.format(f"{name}.device", yard.write(f"{name}.toml", toml(Table(device_size(4, 1), 1, ALARMS))))
-
-
-def conditions(port: int, alarms: int) -> list[bool]:
-    """Which alarms' conditions hold."""
-    with Client.connect(port, 3) as console:
-        return [console.state(alarm).condition for alarm in range(alarms)]
 
 
 def write(process: subprocess.Popen, lines: str) -> None:
@@ -80,7 +69,8 @@ def scales(yard: Yard) -> str:
         changed = console.action_count()
     server.end()
     said = run.stderr.splitlines()
-    wanted = ["feed: t/1,bad: a bad value", "feed: t/9,1: the map has no such name", "feed: p/2/service,2: neither on nor off"]
+    wanted = ["feed: t/1,bad: a bad value", "feed: t/9,1: the map has no such name",
+              "feed: PI-2: 210.5 goes by a scale of 1, rounded to 210: is the setpoint in that unit?", "feed: p/2/service,2: neither on nor off"]
     check([line for line in said if "XS-1" not in line] == wanted, said)
     check(run.returncode == 1 and run.stdout.endswith(" 8 bad lines\n"), run.stdout)
     check(changed == 7, "the plant took", changed, "actions")
@@ -134,126 +124,136 @@ def wrong_maps(yard: Yard) -> str:
     return f"{len(WRONG_MAPS) + 1} wrong maps"
 
 
-class Broker:
-    """A real mosquitto at a port of its own."""
-
-    def __init__(self, yard: Yard):
-        with socket.create_server(("127.0.0.1", 0)) as one:
-            self.port = one.getsockname()[1]
-        self.config = yard.write("mosquitto.conf", f"listener {self.port} 127.0.0.1\nallow_anonymous true\nmax_queued_messages 0\nlog_type none\n")
-        self.begin()
-
-    def begin(self) -> None:
-        self.process = started(subprocess.Popen(["mosquitto", "-c", self.config], stdout=subprocess.DEVNULL, stderr=subprocess.DEVNULL))
-        await_true("the broker", self.is_there)
-
-    def is_there(self) -> bool:
-        with socket.socket() as one:
-            return one.connect_ex(("127.0.0.1", self.port)) == 0
-
-    def kill(self) -> None:
-        self.process.kill()
-        self.process.wait()
+# Texts that are no value where `bad` is -9999, and why.
+NO_VALUES = {"-9999.0": "a bad value", "-9999.00": "a bad value", "-9.999e3": "a bad value", "-09999": "a bad value",
+             "1e9999999": "out of the limits of a value", "1e99999999999999999999": "out of the limits of a value", "1" * 5000: "out of the limits of a value",
+             "1_0": "no number", "\u0663\u0667\u0660": "no number", "inf": "no number", "-Infinity": "no number", "nan": "no number", "sNaN": "no number",
+             "1,5": "no number", "": "a bad value", "0x10": "no number", "1e": "no number", ".": "no number"}
+# Numbers, and what they are by a scale of 100.
+NUMBERS = {"38.01": 3801, "+38.02": 3802, "3.803e1": 3803, "0038.04": 3804, "38.": 3800, ".5": 50, "-1E-2": -1, "0e9999999": 0, "1e-9999999": 0}
 
 
-def field(text: bytes) -> bytes:
-    return len(text).to_bytes(2, "big") + text
+def no_values(yard: Yard) -> str:
+    """A text that is no value is said to be one of its name, changes nothing, and makes its source one without a value; a bad number by whatever digits."""
+    server = yard.serve(small(yard, "bad"))
+    mapped = yard.write("bad.csv", MAP.replace(",2,XS-1", ",60,XS-1"))
+    lines = "p/2,1\n" + "".join(f"t/1,39\nt/1,{text}\n" for text in NO_VALUES)
+    run = tool("feed.py", "--port", server.port, "--map", mapped, text=lines)
+    said = [line for line in run.stderr.splitlines() if "XS-1" not in line]
+    check(len(said) == len(NO_VALUES) and all(line.endswith(f": {why}") for line, why in zip(said, NO_VALUES.values())), said)
+    check(run.returncode == 1 and run.stdout.endswith(f" {len(NO_VALUES)} bad lines\n"), run.stdout, run.stderr)
+    check(conditions(server.port, 4) == [True, False, False, True], "conditions", conditions(server.port, 4))
+    server.end()
+    for text, value in NUMBERS.items():
+        check(Row("t/1", "TI-1", False, Decimal(100), frozenset(), frozenset(), None, None).read(text) == value, text, "isn't", value)
+    return f"{len(NO_VALUES)} texts that are no values"
 
 
-def packet(kind: int, body: bytes) -> bytes:
-    """A packet of MQTT 3.1.1."""
-    length, left = bytearray(), len(body)
-    while True:
-        length.append(left % 128 | (0x80 if left >= 128 else 0))
-        left //= 128
-        if not left:
-            return bytes([kind]) + bytes(length) + body
+def judged_again(yard: Yard) -> str:
+    """Another setpoint is held against the value that is there, by a map and by tags, though the source says nothing more."""
+    servers = [yard.serve(small(yard, "setpoint")), yard.serve(small(yard, "setpoint2"))]
+    feeds = [start("feed.py", "--port", servers[0].port, "--map", yard.write("setpoint.csv", MAP.replace(",2,XS-1", ",60,XS-1"))), start("feed.py", "--port", servers[1].port)]
+    write(feeds[0], "t/1,37\np/2/service,on\n")
+    write(feeds[1], "TI-1,3700\nTI-1L,600\nPI-2,design,on\n")
+    await_true("the suppression", lambda: all(Client.connect(one.port, 4).state(2).flags == "D" for one in servers))
+    for server in servers:
+        with Client.connect(server.port, 5) as console:
+            console.setpoint(0, 3600)
+            before = console.action_count()
+        await_true("the value above another setpoint", lambda: conditions(server.port, 1)[0], 15.0)
+        with Client.connect(server.port, 5) as console:
+            check(console.action_count() == before + 1 and console.state(2).flags == "D", console.action_count(), before, console.state(2))
+    for feed in feeds:
+        check(feed.poll() is None, "a feed ended", stop(feed))
+        check(stop(feed)[1] == "", "a feed said something")
+    for server in servers:
+        server.end()
+    return "another setpoint"
 
 
-def publish(topic: str, value: str) -> bytes:
-    """A retained message of quality 1, whose number nobody needs."""
-    return packet(0x33, field(topic.encode()) + b"\x00\x01" + value.encode())
+def rows_left_out(yard: Yard) -> str:
+    """A row whose alarm the plant hasn't is left out, as is a watch, once said; the others go on. A table that has it again brings it back."""
+    table = Table(device_size(3, 1), 1, [ALARMS[0], ALARMS[2], ALARMS[3]])
+    both, device = small(yard, "whole"), yard.format("left.device", yard.write("left.toml", toml(table)))
+    server = yard.serve(device)
+    mapped = "name,tag,scale,silent,watch\na,TI-1,100,60,XS-9\nb,TI-1L,,60,XS-1\nc,PI-2,,60,TI-1\nd,XS-1,,,\n"
+    feed = start("feed.py", "--port", server.port, "--map", yard.write("left.csv", mapped))
+    write(feed, "a,39\nb,1\nc,250\n")
+    await_true("the rows that are there", lambda: conditions(server.port, 3) == [True, True, False])
+    server.end()
+    os.replace(both, device)
+    server = yard.serve(device, server.port)
+    write(feed, "b,1\n")
+    await_true("the row that is there again", lambda: conditions(server.port, 4)[:3] == [True, True, True])
+    said = [line for line in stop(feed)[1].splitlines() if "row" in line or "watch" in line]
+    wanted = ["XS-9 is no tag of the plant, so a isn't watched", "the plant has no tag TI-1L, which the map has for b: that row is left out",
+              "TI-1 isn't of the kind discrete, so c isn't watched"]
+    check(said == [f"feed: {line}" for line in wanted], said)
+    server.end()
+    return "rows left out"
 
 
-def drain(one: socket.socket) -> None:
-    """Takes what the broker says of what came."""
-    while select.select([one], [], [], 0)[0]:
-        if not one.recv(65_536):
-            raise ConnectionResetError("the broker has gone")
+def first_of_them(yard: Yard) -> str:
+    """Of bad lines the first of each name is reported, of names that nobody knows a hundred; and each is counted."""
+    server = yard.serve(small(yard, "first"))
+    mapped = yard.write("first.csv", "name,tag\na,TI-1\nb,PI-2\n")
+    lines = "".join(f"u,{number}\na,x{number}\nno comma\nv{number},1\n" for number in range(1000)) + "b,\x1b[2J\u2028feed: all is well\na,1\na,y\n"
+    for words in (("--map", mapped), ()):
+        run = tool("feed.py", "--port", server.port, *words, text=lines if words else lines.replace("a,", "TI-1,").replace("b,", "PI-2,"))
+        said = run.stderr.splitlines()
+        check(run.stdout.endswith(" 4002 bad lines\n") and len(said) == 100 + 4, run.stdout, len(said), said[-5:])
+        check("100 unknown names" in run.stderr and all(one.startswith("feed: ") for one in said) and "\x1b" not in run.stderr, said[-5:])
+    server.end()
+    return "the first of bad lines"
 
 
-class Publisher(threading.Thread):
-    """Sources that publish drawn values at a pace; after a new connection the last of each again, as a gateway does."""
-
-    def __init__(self, broker: Broker, pace: int, seconds: float):
-        super().__init__()
-        self.broker, self.pace, self.seconds = broker, pace, seconds
-        self.last: dict[str, str] = {}
-        self.sent = 0
-
-    def connect(self) -> socket.socket:
-        while True:
-            try:
-                one = socket.create_connection(("127.0.0.1", self.broker.port), timeout=10)
-                one.sendall(packet(0x10, field(b"MQTT") + b"\x04\x02\x00\x00" + field(b"gateway")))
-                if one.recv(4) == b"\x20\x02\x00\x00":
-                    one.sendall(b"".join(publish(topic, value) for topic, value in self.last.items()))
-                    return one
-            except OSError:
-                time.sleep(0.05)
-
-    def step(self, dice: random.Random) -> bytes:
-        """The messages of a fiftieth of a second."""
-        drawn = {f"plant/{dice.randrange(TAGS)}": f"{dice.choice((1, 2))}.{dice.randrange(10)}" for _ in range(self.pace // 50)}
-        self.last.update(drawn)
-        self.sent += self.pace // 50
-        return b"".join(publish(topic, value) for topic, value in drawn.items())
-
-    def run(self) -> None:
-        dice, one, began = random.Random(71), self.connect(), time.monotonic()
-        steps = 0
-        while time.monotonic() - began < self.seconds:
-            message = self.step(dice)
-            try:
-                one.sendall(message)
-                drain(one)
-            except OSError:
-                one = self.connect()
-            steps += 1
-            time.sleep(max(0.0, began + steps / 50 - time.monotonic()))
-        self.last.update({f"plant/{tag}": dice.choice(("1.4", "2.5")) for tag in range(TAGS)})
-        one.close()
+def fractions(yard: Yard) -> str:
+    """A value with a fraction that goes by a scale of 1 is warned of once; no other is."""
+    server = yard.serve(small(yard, "fraction"))
+    mapped = yard.write("fraction.csv", "name,tag,scale\na,TI-1,\nb,TI-1L,10\nc,PI-2,1\n")
+    run = tool("feed.py", "--port", server.port, "--map", mapped, text="a,38\nb,38.55\nc,210.0\na,401.5\na,402.5\nc,1e2\n")
+    check(run.returncode == 0 and run.stderr == "feed: TI-1: 401.5 goes by a scale of 1, rounded to 402: is the setpoint in that unit?\n", run.stderr)
+    server.end()
+    return "fractions"
 
 
-class Fed:
-    """mosquitto_sub and feed.py, started again whenever they end: as units are."""
+def reads_on(yard: Yard, count: int) -> str:
+    """While there is no server a pipe is read on, and of each name the last line counts. With one each line counts, and from a file always."""
+    device = small(yard, "reads")
+    server = yard.serve(device)
+    feed = start("feed.py", "--port", server.port)
+    write(feed, "TI-1,3900\n")
+    await_true("the first value", lambda: conditions(server.port, 1)[0])
+    server.end()
+    lines = "".join(f"TI-1,{3900 * (number % 2)}\nPI-2,design,{('on', 'off')[number % 2]}\n" for number in range(count)) + "PI-2,250\nPI-2,design,on\n"
+    writer = threading.Thread(target=write, args=(feed, lines), daemon=True)
+    writer.start()
+    writer.join(PATIENCE)
+    check(not writer.is_alive(), "the feed doesn't read on while there is no server")
+    server = yard.serve(device, server.port)
+    await_true("the last values", lambda: conditions(server.port, 3) == [True, False, True])
+    with Client.connect(server.port, 3) as console:
+        check(console.action_count() == 3 and console.state(2).shown == "DSUPR", console.action_count(), console.state(2))
+    printed, said = feed.communicate(timeout=PATIENCE)
+    check(feed.returncode == 0 and "of each name the last counts" in said, printed, said)
+    server.end()
+    return f"{2 * count} lines without a server, {each_counts(yard, count)}"
 
-    def __init__(self, command: str, yard: Yard):
-        loop = f"while :; do {command}\nsleep 0.1; done"
-        self.process = started(subprocess.Popen(["bash", "-c", loop], start_new_session=True, stdout=subprocess.DEVNULL, stderr=open(yard.path("feed.log"), "wb")))
 
-    def kill_feed(self) -> None:
-        """Kills feed.py, and waits until it is gone: a line that mosquitto_sub writes before that is lost, and the next one ends mosquitto_sub."""
-        words = ["pgrep", "-g", str(self.process.pid), "-f", r"^[^ ]*python[^ ]* [^ ]*feed\.py"]
-        for number in subprocess.run(words, capture_output=True, text=True).stdout.split():
-            with contextlib.suppress(ProcessLookupError), open(os.pidfd_open(int(number)), "rb") as process:
-                signal.pidfd_send_signal(process.fileno(), signal.SIGKILL)
-                check(select.select([process], [], [], PATIENCE)[0], "a feed that was killed runs on")
-
-    def end(self) -> None:
-        os.killpg(self.process.pid, signal.SIGKILL)
-        self.process.wait()
-
-
-def recipe(number: int, port: int, mapped: str, **changed: str) -> str:
-    """A recipe of the page, at this server and map. A path or number that `changed` names stands in place of the page's."""
-    text = RECIPE.findall(PAGE.read_text(encoding="utf-8"))[number]
-    text = re.sub(r"/opt/alarms-[0-9.]+/examples/feed\.py", " ".join(words_of("feed.py", ())), text)
-    text = text.replace("--sockets /run/alarms/plant", f"--port {port}").replace("/etc/alarms/plant-map.csv", mapped)
-    for old, new in changed.items():
-        check(old in text, "the page has no", old, "in", text)
-        text = text.replace(old, new)
-    return text.rstrip("\n")
+def each_counts(yard: Yard, count: int) -> str:
+    """With a server each line of a pipe counts, however fast they come; and each line of a file, also without one."""
+    values = yard.write("each", "".join(f"TI-1,{3900 * (number % 2)}\n" for number in range(count)))
+    for is_pipe in (True, False):
+        device, port = small(yard, f"each{is_pipe}"), free_ports()
+        server = yard.serve(device, port) if is_pipe else None
+        source = started(subprocess.Popen(["cat", values], stdout=subprocess.PIPE))
+        feed = start("feed.py", "--port", port, *(() if is_pipe else (values,)), stdin=source.stdout)
+        time.sleep(0 if is_pipe else 1.5)
+        server = server or yard.serve(device, port)
+        status, printed, said = ended(feed)
+        check(status == 0 and printed.startswith(f"{count - 1} changed a condition, 1 didn't"), printed, said)
+        server.end()
+    return f"{count} with one"
 
 
 def files_and_commands(yard: Yard) -> str:
@@ -273,54 +273,13 @@ def files_and_commands(yard: Yard) -> str:
     return "files, commands"
 
 
-def plant_of_topics() -> tuple[Table, str]:
-    """200 alarms that hold from 2 on, and their map."""
-    alarms = [Alarm("high", 20, 1 + tag % 4, tag % 8, f"T-{tag}", 5) for tag in range(TAGS)]
-    return Table(device_size(TAGS, 8), 8, alarms), "name,tag,scale\n" + "".join(f"plant/{tag},T-{tag},10\n" for tag in range(TAGS))
-
-
-def wanted(last: dict[str, str]) -> list[bool]:
-    """The conditions of the last values: 2.5 is above the setpoint, 1.4 below its deadband."""
-    return [last[f"plant/{tag}"].startswith("2") for tag in range(TAGS)]
-
-
-def through_a_broker(yard: Yard, pace: int, seconds: float) -> str:
-    """Values go through a broker while broker, feed and server are killed; then the conditions are those of the last values."""
-    if not shutil.which("mosquitto") or not shutil.which("mosquitto_sub"):
-        return "no mosquitto: MQTT left out"
-    table, mapped = plant_of_topics()
-    device = yard.format("topics.device", yard.write("topics.toml", toml(table)))
-    server, broker = yard.serve(device), Broker(yard)
-    fed = Fed(recipe(0, server.port, yard.write("topics.csv", mapped), **{"-p 1883": f"-p {broker.port}"}), yard)
-    publisher = Publisher(broker, pace, seconds)
-    publisher.start()
-    kills = 0
-    while publisher.is_alive():
-        publisher.join(seconds / 7)
-        kills += 1
-        if kills % 3 == 0:
-            server.end()
-            server = yard.serve(device, server.port)
-        elif kills % 3 == 1:
-            fed.kill_feed()
-        else:
-            broker.kill()
-            broker.begin()
-    check(kills >= 6, kills, "kills")
-    gateway = publisher.connect()
-    await_true("the last values", lambda: conditions(server.port, TAGS) == wanted(publisher.last), 60.0)
-    gateway.close()
-    fed.end()
-    server.end()
-    broker.kill()
-    return f"{publisher.sent} values through a broker, {kills} kills"
-
-
 def main() -> None:
     program, (pace, seconds), folder = begin("values", sys.argv, (10_000, 60.0), (2_000, 7.0))
     yard, began = Yard(program, folder), time.monotonic()
     try:
-        said = [scales(yard), silence(yard), sent_again(yard), wrong_maps(yard), files_and_commands(yard), through_a_broker(yard, pace, seconds)]
+        said = [check_with(yard) for check_with in (scales, silence, no_values, judged_again, rows_left_out, first_of_them, fractions, sent_again, wrong_maps,
+                                                    files_and_commands)]
+        said += [reads_on(yard, 5 * pace), through_brokers(yard, pace, seconds)]
     except (Wrong, Lost, Refused, OSError, subprocess.TimeoutExpired) as wrong:
         sys.exit(f"values: {wrong}; devices are in {folder}")
     finally:
