@@ -113,7 +113,8 @@ class Trail:
         elif isinstance(one, Gap):
             yield from self.missing(Missing(max(one.first, self.next), one.last))
         elif isinstance(one, Replaced):
-            yield from self.missing(Missing(max(one.shown + 1, self.next), one.last, "in the replaced file, and the server hadn't shown it"))
+            last = one.shown if one.last is None else one.last
+            yield from self.missing(Missing(max(one.shown + 1, self.next), last, "in the replaced file, and the server hadn't shown it"))
             yield f"(another device is in the place of {self.path})"
             self.next = 1
         elif one.number >= self.next:

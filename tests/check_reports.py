@@ -4,6 +4,7 @@ import csv
 import os
 import random
 import statistics
+import time
 from dataclasses import dataclass
 from typing import Callable, Iterator, Optional
 
@@ -28,6 +29,15 @@ class Piece:
     begin: int
     end: int
     shown: Shown
+
+
+def periods(begin: int, end: int, seconds: int) -> Iterator[tuple[int, int]]:
+    """The periods of a span, as a clock on the wall has them: a full hour, or a full ten minutes of one."""
+    while begin < end:
+        wall = time.localtime(begin)
+        until = min(end, begin + seconds - (60 * wall.tm_min + wall.tm_sec) % seconds)
+        yield begin, until
+        begin = until
 
 
 class SlowCount:
@@ -60,10 +70,9 @@ class SlowCount:
 
     def bins(self, seconds: int, bound: int, areas: Optional[set[int]] = None) -> list[tuple]:
         rows = []
-        for begin in range(self.begin, self.end, seconds):
-            length = min(seconds, self.end - begin)
-            count = sum(begin <= at < begin + seconds for at, alarm, _ in self.counted if areas is None or self.table.alarms[alarm].area in areas)
-            rows.append((begin, length, count, int(count > bound)))
+        for begin, until in periods(self.begin, self.end, seconds):
+            count = sum(begin <= at < until for at, alarm, _ in self.counted if areas is None or self.table.alarms[alarm].area in areas)
+            rows.append((begin, until - begin, count, int(count > bound)))
         return rows
 
     def share_above(self, rows: list[tuple]) -> float:
@@ -120,6 +129,27 @@ class SlowCount:
             if found:
                 rows.append((self.tag(alarm), bursts, len(found), found[0], found[-1]))
         return sorted(rows, key=lambda row: (-row[2], row[0]))
+
+    def fleeting(self) -> list[tuple]:
+        """Which alarms came and went within less than a minute, with no other annunciation within less than one."""
+        rows = []
+        for alarm in self.alarms:
+            moments = [at for at, one, _ in self.annunciations if one == alarm and at < self.end]
+            last, found = 0, []
+            for before, after in zip(self.shown, self.shown[1:]):
+                went = before.states[alarm][0] in ("UNACK", "ACKED") and (before.states[alarm][1], after.states[alarm][1]) == ("1", "0")
+                if went and self.begin <= last and after.moment < min(self.end, last + 60) and sum(abs(at - last) < 60 for at in moments) == 1:
+                    found.append(last)
+                last = after.moment if is_annunciation(before, after, alarm) else last
+            if found:
+                rows.append((self.tag(alarm), len(found), found[0], found[-1]))
+        return sorted(rows, key=lambda row: (-row[1], row[0]))
+
+    def attributes(self) -> list[tuple]:
+        """Who was given another priority or setpoint."""
+        words = {"PRIO": "priority", "SETP": "setpoint"}
+        return [(one.moment, self.tag(one.alarm), words[one.request.split()[0]], int(one.request.split()[2])) for one in self.shown
+                if one.request[:4] in words and self.begin <= one.moment < self.end and one.alarm in self.alarms]
 
     def stale_since(self, alarm: int) -> list[tuple[int, Optional[int]]]:
         """When an alarm was stale: a day behind its last annunciation it still stood."""
@@ -208,13 +238,13 @@ class SlowCount:
         span, hours, tens = self.end - self.begin, self.bins(3600, 30), self.bins(600, 10)
         count, ten = len(self.counted), sum(row[1] for row in self.frequent())
         stands, is_shelved = (lambda one, alarm: one.states[alarm][0] in STANDING), (lambda one, alarm: "S" in one.states[alarm][2])
-        return [span / 3600, count, 3600 * count / span, 600 * count / span, max(row[2] for row in hours), max(row[2] for row in tens), self.share_above(hours),
-                self.share_above(tens), len(self.floods()), self.in_flood(self.areas), ten / count, len(self.chattering()), self.most_stale(), self.mean(stands),
-                self.most(stands), self.mean(is_shelved), 0]
+        return [span / 3600, count, 86_400 * count / span, 3600 * count / span, 600 * count / span, max(row[2] for row in hours), max(row[2] for row in tens), self.share_above(hours),
+                self.share_above(tens), len(self.floods()), self.in_flood(self.areas), ten / count, len(self.chattering()), len(self.fleeting()),
+                self.most_stale(), self.mean(stands), self.most(stands), self.mean(is_shelved), len(self.attributes()), 0, 0]
 
     def tables(self) -> dict[str, list[tuple]]:
         return {"hours": self.bins(3600, 30), "ten_minutes": self.bins(600, 10), "areas": self.area_rows(), "floods": self.floods(), "frequent": self.frequent(),
-                "chattering": self.chattering(), "stale": self.stale(), "priorities": self.priorities(), "acknowledgements": self.acknowledgements(),
+                "chattering": self.chattering(), "fleeting": self.fleeting(), "attributes": self.attributes(), "stale": self.stale(), "priorities": self.priorities(), "acknowledgements": self.acknowledgements(),
                 "standing": self.standing(), "suppressions": self.suppressions(), "suppressed": self.suppressed(), "gaps": []}
 
 
@@ -297,14 +327,15 @@ def figures(yard: Yard, count: int) -> str:
             asked = [word for area in areas for word in ("--area", area)] if turn > 1 else []
             run = run_tool("reports", database, "--from", begin, "--to", end, "--csv", folder, *asked)
             slow = SlowCount(table, shown, begin, end, areas)
+            check(("at most 150, or 300" in run.stdout) == bool(asked), "areas", asked or "all", "have the bounds of", run.stdout)
             if not slow.counted:
                 continue
             check(run.returncode == 0, run.stderr)
             rows += compare(folder, slow)
             seen.update(name for name, found in slow.tables().items() for _ in found)
-    wanted = {"floods", "chattering", "stale", "suppressions", "standing"}
+    wanted = {"floods", "chattering", "fleeting", "attributes", "stale", "suppressions", "standing"}
     check(wanted <= set(seen), "never drawn:", wanted - set(seen))
-    return f"{rows} rows of reports over {plants} plants, {seen['floods']} floods, {seen['chattering']} chattering, {seen['stale']} stale"
+    return f"{rows} rows of reports over {plants} plants, {seen['floods']} floods, {seen['chattering']} chattering, {seen['fleeting']} fleeting, {seen['stale']} stale"
 
 
 CHECKS = {"figures": figures}

@@ -20,7 +20,7 @@ from typing import Iterator
 from drawn_plants import CONSOLE  # first: it finds examples/ and clients/
 from alarm_client import CLOCK, FEED, Client, Lost, Refused
 from check_archive import ACTIONS, archive_once, archiver, last_archived, python_with, request_of, rows_of, run_tool
-from check_reports import is_same, read_csv
+from check_reports import is_same, periods, read_csv
 from program import check
 from slow_count import SLOTS
 from table_file import Alarm, Table, load_table
@@ -264,8 +264,9 @@ class Counted:
         return sorted(rows, key=lambda row: (row[1], row[0]))
 
     def bins(self, begin: int, end: int, seconds: int, bound: int) -> list[tuple]:
-        counts = collections.Counter((moment - begin) // seconds for moment, _, _ in self.annunciations)
-        return [(one, min(seconds, end - one), counts[place], int(counts[place] > bound)) for place, one in enumerate(range(begin, end, seconds))]
+        moments = [moment for moment, _, _ in self.annunciations]
+        rows = [(one, until - one, bisect.bisect_left(moments, until) - bisect.bisect_left(moments, one)) for one, until in periods(begin, end, seconds)]
+        return [(*row, int(row[2] > bound)) for row in rows]
 
 
 def judge(folder: str, counted: Counted, begin: int, end: int) -> None:

@@ -21,7 +21,7 @@ from tools import Yard, end_all  # first: the others find examples/ by it
 from alarm_client import Lost, Refused
 from program import Wrong, begin, finish
 
-PARTS = ("check_archive", "check_week", "check_reports", "check_mirror")
+PARTS = ("check_archive", "check_tail", "check_week", "check_reports", "check_bounds", "check_mirror")
 # How many checks run beside each other.
 BESIDE = 6
 # Actions of a whole run and of a short one.

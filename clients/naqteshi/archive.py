@@ -1,6 +1,7 @@
 """Keeps the accepted actions of a served plant, and what they annunciated, in SQLite or PostgreSQL.
 
     alm_archive run DEVICE DATABASE --port P        archives what comes, until it is ended
+    alm_archive run DEVICE DATABASE --stopped       archives a device that isn't served, up to its end
     alm_archive list DATABASE                       the plants of an archive, their actions and gaps
     alm_archive prune DATABASE --name PLANT --before 2026-01-31     takes away what is older
 
@@ -12,9 +13,12 @@ at a console's slot: 13, or --slot K. After a pause it goes on with what the dev
 server can't be reached it tries again. If the table was changed, or an older copy of the device was put in its place, the archive goes on with
 another plant of the same name.
 
-With --once it archives what is there and ends. With --seconds S it ends after S seconds.
+With --once it archives what is there and ends. With --seconds S it ends after S seconds. With --stopped, before a stopped device is put aside, nothing
+of it is missing; else the archive has a gap with an open end where the next plant begins.
 """
 import argparse
+import contextlib
+import fcntl
 import os
 import time
 from dataclasses import dataclass
@@ -37,31 +41,49 @@ CHUNK = 5000
 # At which slot an action was asked. A device doesn't store which console asked.
 SLOTS = {"CLOCK": CLOCK, "VAL": FEED, "DESIGN": FEED}
 BEFORE, LOST, PRUNED = "before the archive", "no longer in the file", "pruned"
+# Why the end of a plant is missing: its file was read no further, or nobody read it.
+REPLACED, UNSEEN = "replaced before a query showed them", "the plant's end wasn't seen"
 
 say = sayer("alm_archive")
 
 
 @dataclass
 class Plant:
-    """A plant of the archive: the last action that is kept or told as gone, and its moment."""
+    """A plant of the archive: the last action that is kept or told as gone, and its moment. Up to `shown` those until the plant before ended, at the
+    moment `before`, only brought its states; `counted` is the last of them. `ends` is the last action of a device that was archived to its end."""
 
     number: int
     device: str
     begins: int
     last: int
     moment: int
+    shown: int
+    before: Optional[int]
+    counted: int
+    ends: Optional[int]
+
+    @property
+    def is_whole(self) -> bool:
+        return self.ends == self.last
 
 
 def latest(store: Store, name: str) -> Optional[Plant]:
     """The plant of a name that was archived last."""
-    row = store.row("SELECT plant, device, begins FROM plant WHERE name = ? ORDER BY plant DESC LIMIT 1", (name,))
+    row = store.row("SELECT plant, device, begins, shown, counted, ends FROM plant WHERE name = ? ORDER BY plant DESC LIMIT 1", (name,))
     if row is None:
         return None
-    number, device, begins = row
+    number, device, begins, shown, counted, ends = row
     action = store.row("SELECT number, moment FROM action WHERE plant = ? ORDER BY number DESC LIMIT 1", (number,)) or (begins, 0)
-    gap = store.row("SELECT last, ended FROM gap WHERE plant = ? ORDER BY first DESC LIMIT 1", (number,)) or (begins, 0)
+    gap = store.row("SELECT last, COALESCE(ended, began, 0) FROM gap WHERE plant = ? AND last IS NOT NULL ORDER BY first DESC LIMIT 1", (number,)) or (begins, 0)
     last, moment = max(action, gap)
-    return Plant(number, device, begins, last, moment)
+    return Plant(number, device, begins, last, moment, shown, last_moment(store, name, number), counted, ends)
+
+
+def last_moment(store: Store, name: str, number: int) -> Optional[int]:
+    """The moment at which the plants of a name before one ended."""
+    query = "SELECT MAX(a.moment) FROM action a WHERE a.plant = (SELECT MAX(p.plant) FROM plant p WHERE p.name = ? AND p.plant < ? AND " \
+            "EXISTS (SELECT 1 FROM action b WHERE b.plant = p.plant))"
+    return store.value(query, (name, number))
 
 
 def table_of(store: Store, plant: int) -> list[Alarm]:
@@ -127,6 +149,7 @@ class Archiver:
         # the archived actions that the device has to have too, where it is the plant that was archived last
         self.held: Optional[Iterator[tuple]] = None
         self.forced = False
+        self.has_brought = False
         self.actions: list[tuple] = []
         self.changes: list[tuple] = []
         self.floods: list[tuple] = []
@@ -141,7 +164,7 @@ class Archiver:
             elif isinstance(one, Gap):
                 self.gap(one.first, one.last, LOST)
             elif isinstance(one, Replaced):
-                self.leave()
+                self.leave(one)
             elif not self.step(one):
                 break
         self.write()
@@ -189,11 +212,15 @@ class Archiver:
 
     def new_plant(self, why: str) -> None:
         """Begins another plant of the name, with what the device holds."""
-        number = (self.store.value("SELECT MAX(plant) FROM plant") or 0) + 1
-        model = self.model
-        self.store.insert("plant", [(number, self.name, self.device(), len(model.windows), model.count, self.follower.served.count)])
+        number, before = (self.store.value("SELECT MAX(plant) FROM plant") or 0) + 1, latest(self.store, self.name)
+        model, served = self.model, self.follower.served
+        shown = self.follower.mirror.last() if served.place is None else served.count
+        if before and not before.is_whole:
+            self.open_gap(before, None, UNSEEN)
+        self.store.insert("plant", [(number, self.name, self.device(), len(model.windows), model.count, shown, model.count, None)])
         self.store.insert("alarm", alarm_rows(number, model.table()))
-        self.plant, self.held, self.forced = Plant(number, self.device(), model.count, model.count, model.now), None, False
+        self.plant, self.held, self.forced = Plant(number, self.device(), model.count, model.count, model.now, shown, None, model.count, None), None, False
+        self.plant.before = last_moment(self.store, self.name, number)
         self.found(1, BEFORE)
         say(f"plant {number} of the name {self.name} from action {model.count + 1} on: {why}")
 
@@ -216,11 +243,26 @@ class Archiver:
             say(f"actions {first} to {last} of {self.name}: {why}")
             self.held = None
 
-    def leave(self) -> None:
-        """The device was replaced."""
+    def leave(self, replaced: Replaced) -> None:
+        """The device was replaced. What of its end isn't archived is a gap."""
         self.write()
+        if self.plant and replaced.last is not None:
+            if replaced.last > self.plant.last:
+                self.open_gap(self.plant, replaced.last, REPLACED)
+            self.store.run("UPDATE plant SET ends = ? WHERE plant = ?", (max(self.plant.last, replaced.last), self.plant.number))
+            self.store.commit()
         self.plant = None
         say("another device is in the place of", self.follower.path)
+
+    def open_gap(self, plant: Plant, last: Optional[int], why: str) -> None:
+        """The end of a plant that isn't archived; up to which action and moment may not be known."""
+        self.store.insert("gap", [(plant.number, plant.last + 1, last, plant.moment, None, why)])
+        say(f"actions {plant.last + 1} {'and later' if last is None else f'to {last}'} of {self.name}, plant {plant.number}: {why}")
+
+    def close(self) -> None:
+        """The device's end is archived."""
+        self.store.run("UPDATE plant SET ends = ? WHERE plant = ?", (self.plant.last, self.plant.number))
+        self.store.commit()
 
     def step(self, step: Step) -> bool:
         """Archives an action, or holds one against the archive that has it; whether it is of this plant."""
@@ -230,6 +272,8 @@ class Archiver:
         self.changes += [change_row(self.plant.number, step.number, step.moment, change, self.tags) for change in step.changes]
         self.floods += [(self.plant.number, one.area, step.number, step.moment, int(one.flooded), one.annunciations) for one in step.floods]
         self.plant.last, self.plant.moment = step.number, step.moment
+        if self.plant.before is not None and step.number <= self.plant.shown and step.moment <= self.plant.before:
+            self.plant.counted, self.has_brought = step.number, True
         if len(self.actions) >= STEPS:
             self.write()
         return True
@@ -266,13 +310,44 @@ class Archiver:
             return
         for table, rows in (("action", self.actions), ("change", self.changes), ("flood", self.floods)):
             self.store.insert(table, rows)
+        if self.has_brought:
+            self.store.run("UPDATE plant SET counted = ? WHERE plant = ?", (self.plant.counted, self.plant.number))
         self.store.commit()
+        self.has_brought = False
         self.actions, self.changes, self.floods = [], [], []
+
+
+@contextlib.contextmanager
+def stopped(path: str) -> Iterator[None]:
+    """Holds a device that isn't served, and brings to the disk what was written of it: what is read then no power failure takes."""
+    device = os.open(path, os.O_RDONLY | os.O_CLOEXEC)
+    try:
+        fcntl.flock(device, fcntl.LOCK_SH | fcntl.LOCK_NB)
+        os.fsync(device)
+        # behind a failed sync the kernel may show what the disk never took
+        os.posix_fadvise(device, 0, 0, os.POSIX_FADV_DONTNEED)
+        yield
+    except BlockingIOError:
+        raise NoDevice(f"{path} is served, or in use: stop that first, or say where the server is") from None
+    finally:
+        os.close(device)
+
+
+def run_stopped(chosen: argparse.Namespace, name: str) -> None:
+    """Archives a stopped device up to its end."""
+    with stopped(chosen.device), Store.open(chosen.database, make=True) as store, Follower(chosen.device, Served(None, chosen.slot)) as follower:
+        archiver = Archiver(store, name, follower)
+        while archiver.look():
+            pass
+        archiver.close()
+        print(f"{name}: plant {archiver.plant.number}, {archiver.plant.last} actions, to its end")
 
 
 def run(chosen: argparse.Namespace) -> None:
     """Archives until it is ended."""
     name = chosen.name or os.path.splitext(os.path.basename(chosen.device))[0]
+    if chosen.stopped:
+        return run_stopped(chosen, name)
     served = Served(chosen.port, chosen.slot, say)
     with Store.open(chosen.database, make=True) as store, Follower(chosen.device, served) as follower:
         archiver = Archiver(store, name, follower)
@@ -304,12 +379,16 @@ def list_plants(chosen: argparse.Namespace) -> None:
     """Prints each plant, its actions, and its gaps."""
     with Store.open(chosen.database) as store:
         store.still()
+        counted = store.counted()
         for plant, name in list(store.rows("SELECT plant, name FROM plant ORDER BY plant")):
             first, last, began, ended, count = store.row("SELECT MIN(number), MAX(number), MIN(moment), MAX(moment), COUNT(*) FROM action WHERE plant = ?", (plant,))
-            annunciations = store.value("SELECT COUNT(*) FROM change WHERE plant = ? AND annunciated = 1", (plant,))
-            print(f"{name} plant {plant}: {count} actions, {first or '-'} to {last or '-'}, {date(began)} to {date(ended)}, {annunciations} annunciations")
+            of_them = "plant = ? AND number > ?", (plant, counted[plant])
+            annunciations = store.value(f"SELECT COUNT(*) FROM change WHERE {of_them[0]} AND annunciated = 1", of_them[1])
+            brought = count - store.value(f"SELECT COUNT(*) FROM action WHERE {of_them[0]}", of_them[1])
+            print(f"{name} plant {plant}: {count} actions, {first or '-'} to {last or '-'}, {date(began)} to {date(ended)}, {annunciations} annunciations"
+                  + (f"; {brought} actions only brought the states of the plant before" if brought else ""))
             for first, last, began, ended, why in store.rows("SELECT first, last, began, ended, why FROM gap WHERE plant = ? ORDER BY first", (plant,)):
-                print(f"  gap: actions {first} to {last}, {date(began)} to {date(ended)}: {why}")
+                print(f"  gap: actions {first} {'and later' if last is None else f'to {last}'}, {date(began)} to {date(ended)}: {why}")
 
 
 def prune(chosen: argparse.Namespace) -> None:
@@ -355,8 +434,9 @@ def arguments() -> Words:
     command = commands.add_parser("run", help="archive a served plant")
     command.add_argument("device", metavar="DEVICE", help="the device file")
     command.add_argument("database", metavar="DATABASE", help="a file of SQLite, or a database of PostgreSQL")
-    add_port(command)
+    add_port(command, required=False)
     add_slot(command, 13)
+    command.add_argument("--stopped", action="store_true", help="the device isn't served: archive it up to its end")
     command.add_argument("--name", metavar="PLANT", help="the plant's name in the archive; the device file's where it is left out")
     command.add_argument("--once", action="store_true", help="archive what is there, and end")
     command.add_argument("--seconds", type=float, metavar="S", help="end after S seconds")
@@ -373,7 +453,10 @@ def arguments() -> Words:
 
 
 def main() -> None:
-    chosen = arguments().parse_args()
+    words = arguments()
+    chosen = words.parse_args()
+    if chosen.does is run and (chosen.port is None) != chosen.stopped:
+        words.error("one of --port, --sockets and --stopped is required, and no two of them")
     end_of("alm_archive", lambda: chosen.does(chosen), (Lost, NoDevice, OtherPlant, StoreFault))
 
 

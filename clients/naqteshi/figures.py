@@ -6,6 +6,7 @@
 """
 import bisect
 import collections
+import datetime
 import itertools
 import math
 import statistics
@@ -13,19 +14,22 @@ from dataclasses import dataclass
 from typing import Iterable, Optional, Sequence
 
 from .life import KINDS, STANDING, UNACKNOWLEDGED, WINDOW, Life, Row, Spell
-from .words import date
+from .words import DATES, date
 
-HOUR, TEN_MINUTES, MINUTE = 3600, 600, 60
+DAY, HOUR, TEN_MINUTES, MINUTE = 86_400, 3600, 600, 60
 PRIORITIES = range(1, 5)
 SUPPRESSIONS = tuple(KINDS.values())
 SUPPRESSION_WORDS = {"OOSRV": "out of service", "DSUPR": "suppressed by design", "SHLVD": "shelved"}
-# The bounds of one operating position: annunciations an hour and per ten minutes, and the share of periods that may be above the greater ones.
-HOUR_BOUND, HOUR_MOST = 6, 30
-TEN_BOUND, TEN_MOST = 1, 10
+# The bounds of one operating position: mean annunciations a day, an hour and in ten minutes that are acceptable, and the most that can be managed; how many
+# a period may have, and the share of periods that may be above.
+DAY_BOUND, DAY_MANAGEABLE = 150, 300
+HOUR_BOUND, HOUR_MANAGEABLE, HOUR_MOST = 6, 12, 30
+TEN_BOUND, TEN_MANAGEABLE, TEN_MOST = 1, 2, 10
 SHARE_BOUND = 0.01
 FREQUENT, FREQUENT_BOUND = 10, 0.05
 CHATTER = 3
-STALE_BOUND, STANDING_BOUND, SHELVED_BOUND = 5, 10, 30
+# stale alarms are to be fewer than five
+STALE_BOUND, STANDING_BOUND, SHELVED_BOUND = 4, 10, 30
 PRIORITY_SHARES = {1: 0.01, 2: 0.05, 3: 0.15, 4: 0.80}
 
 
@@ -40,16 +44,21 @@ class Table:
 
 @dataclass(frozen=True)
 class Figure:
-    """A number of the summary, and the bound that it should not be above; none where it has no bound."""
+    """A number of the summary, and the bound that it should not be above; none where it has no bound. Up to a second bound it can be managed."""
 
     name: str
     value: Optional[float]
     bound: Optional[float] = None
     is_share: bool = False
+    manageable: Optional[float] = None
 
     @property
     def is_above(self) -> bool:
         return self.bound is not None and self.value is not None and self.value > self.bound
+
+    def bounds(self) -> str:
+        """Its bound, and the second one."""
+        return ", ".join(self.written(one) for one in (self.bound, self.manageable) if one is not None)
 
     def written(self, value: Optional[float]) -> str:
         if value is None:
@@ -61,20 +70,29 @@ class Figure:
 AREA_BOUNDS = (None, None, HOUR_BOUND, TEN_MOST, SHARE_BOUND, None, SHARE_BOUND)
 
 
+def offset_at(moment: int) -> int:
+    """How far the clock of the machine's zone is ahead of a plant's clock that counts from 1970; 0 for another clock."""
+    if moment not in DATES:
+        return 0
+    offset = datetime.datetime.fromtimestamp(moment).astimezone().utcoffset()
+    return int(offset.total_seconds()) if offset else 0
+
+
 class Bins:
-    """How many annunciations lie in each period of a span, which begin with the span. The last may be shorter."""
+    """How many annunciations lie in each period of a span. They lie on the clock: hours begin on the hour. The first and the last may be shorter."""
 
     def __init__(self, moments: Iterable[int], begin: int, end: int, seconds: int):
         self.begin, self.end, self.seconds = begin, end, seconds
-        self.counts = [0] * math.ceil((end - begin) / seconds)
+        self.first = begin - (begin + offset_at(begin)) % seconds
+        self.counts = [0] * math.ceil((end - self.first) / seconds)
         for moment in moments:
-            self.counts[(moment - begin) // seconds] += 1
+            self.counts[(moment - self.first) // seconds] += 1
 
     def begin_of(self, number: int) -> int:
-        return self.begin + number * self.seconds
+        return max(self.begin, self.first + number * self.seconds)
 
     def length(self, number: int) -> int:
-        return min(self.seconds, self.end - self.begin_of(number))
+        return min(self.end, self.first + (number + 1) * self.seconds) - self.begin_of(number)
 
     def share_above(self, bound: int) -> float:
         """The share of the time that lies in periods with more than so many."""
@@ -134,6 +152,16 @@ class Chatter:
     last: int
 
 
+@dataclass(frozen=True)
+class Fleeting:
+    """How often an alarm came and went again within a minute, and neither before nor behind that within one."""
+
+    tag: str
+    annunciations: int
+    first: int
+    last: int
+
+
 class Figures:
     """What a report says of a life."""
 
@@ -171,6 +199,24 @@ class Figures:
         bursts = 1 + sum(1 for before, place in itertools.pairwise(found) if place != before + 1)
         return Chatter(tag, bursts, len(found), moments[found[0]], moments[found[-1]])
 
+    def fleeting(self) -> list[Fleeting]:
+        """The alarms that were fleeting, the most frequent first. What chatters comes again within a minute, and is none."""
+        found: dict[str, list[int]] = collections.defaultdict(list)
+        for one in self.life.returns:
+            moments, at = self.of_tag[one.tag], one.annunciated
+            near = bisect.bisect_left(moments, at + MINUTE) - bisect.bisect_right(moments, at - MINUTE)
+            if one.moment - at < MINUTE and at >= self.begin and near == 1:
+                found[one.tag].append(at)
+        return sorted((Fleeting(tag, len(moments), moments[0], moments[-1]) for tag, moments in found.items()), key=lambda one: (-one.annunciations, one.tag))
+
+    def suppressed_seconds(self) -> list[tuple[str, int]]:
+        """For how long of the span each alarm was suppressed, by whatever kinds; the longest first."""
+        spells: dict[str, list[Spell]] = collections.defaultdict(list)
+        for kind in SUPPRESSIONS:
+            for one in self.life.of(kind):
+                spells[one.tag].append(one)
+        return sorted(((tag, covered(ones, self.begin, self.end)) for tag, ones in spells.items()), key=lambda one: (-one[1], one[0]))
+
     def mean(self, kind: str) -> float:
         """How many spells of a kind there were, over the time of the span."""
         return sum(one.seconds(self.begin, self.end) for one in self.life.of(kind)) / self.life.seconds
@@ -191,7 +237,7 @@ class Figures:
 
     def position(self, bound: float) -> Optional[float]:
         """A bound of one operating position, where the report is of one."""
-        return bound if len(self.life.areas) == 1 else None
+        return bound if self.life.is_position else None
 
     def summary(self) -> list[Figure]:
         """The figures that have a bound, and what they are of."""
@@ -200,8 +246,9 @@ class Figures:
         return [
             Figure("hours", self.life.seconds / HOUR),
             Figure("annunciations", len(self.counted)),
-            Figure("annunciations an hour, mean", rate * HOUR, one(HOUR_BOUND)),
-            Figure("annunciations in ten minutes, mean", rate * TEN_MINUTES, one(TEN_BOUND)),
+            Figure("annunciations a day, mean", rate * DAY, one(DAY_BOUND), manageable=one(DAY_MANAGEABLE)),
+            Figure("annunciations an hour, mean", rate * HOUR, one(HOUR_BOUND), manageable=one(HOUR_MANAGEABLE)),
+            Figure("annunciations in ten minutes, mean", rate * TEN_MINUTES, one(TEN_BOUND), manageable=one(TEN_MANAGEABLE)),
             Figure("annunciations in an hour, most", max(self.hours.counts)),
             Figure("annunciations in ten minutes, most", max(self.tens.counts), one(TEN_MOST)),
             Figure(f"time in hours with more than {HOUR_MOST}", self.hours.share_above(HOUR_MOST), one(SHARE_BOUND), True),
@@ -210,21 +257,27 @@ class Figures:
             Figure("time in a flood", in_flood, one(SHARE_BOUND), True),
             Figure("share of the ten most frequent", self.share(sum(count for _, count in self.frequent())), FREQUENT_BOUND, True),
             Figure("alarms that chattered", len(self.chatter), 0),
+            Figure("alarms that were fleeting", len(self.fleeting()), 0),
             Figure("stale alarms, most at once", self.most("stale"), one(STALE_BOUND)),
             Figure("standing alarms, mean", self.mean("standing"), one(STANDING_BOUND)),
             Figure("standing alarms, most at once", self.most("standing")),
             Figure("shelved alarms, mean", self.mean("SHLVD"), one(SHELVED_BOUND)),
-            Figure("actions missing in gaps", sum(gap.last - gap.first + 1 for gap in self.life.gaps), 0),
+            Figure("attribute changes", len(self.life.attribute_changes)),
+            Figure("actions missing in gaps", sum(gap.last - gap.first + 1 for gap in self.life.gaps if gap.last is not None), 0),
+            Figure("gaps without a known end", sum(gap.last is None for gap in self.life.gaps), 0),
         ]
 
     def tables(self) -> list[Table]:
         """All that a report says."""
         return [
-            Table("summary", ("figure", "value", "bound", "above"), [(one.name, one.value, one.bound, int(one.is_above)) for one in self.summary()]),
+            Table("summary", ("figure", "value", "bound", "above", "manageable"),
+                  [(one.name, one.value, one.bound, int(one.is_above), one.manageable) for one in self.summary()]),
             self.bins("hours", self.hours, HOUR_MOST), self.bins("ten_minutes", self.tens, TEN_MOST), self.areas(), self.flood_table(),
             Table("frequent", ("tag", "annunciations", "share"), [(tag, count, self.share(count)) for tag, count in self.frequent()]),
             Table("chattering", ("tag", "bursts", "annunciations", "first", "last"),
                   [(one.tag, one.bursts, one.annunciations, one.first, one.last) for one in self.chatter]),
+            Table("fleeting", ("tag", "annunciations", "first", "last"), [(one.tag, one.annunciations, one.first, one.last) for one in self.fleeting()]),
+            Table("attributes", ("moment", "tag", "attribute", "value"), [tuple(one) for one in self.life.attribute_changes]),
             self.spell_table("stale", ["stale"]), self.priorities(), self.acknowledgements(), self.standing(),
             self.spell_table("suppressions", SUPPRESSIONS), self.suppressed(),
             Table("gaps", ("plant", "first", "last", "began", "ended", "why"),
@@ -295,8 +348,9 @@ def in_words(figures: Figures) -> Iterable[str]:
     life = figures.life
     areas = ", ".join(map(str, life.areas))
     yield f"{life.name}, areas {areas}: {date(life.begin)} to {date(life.end)}, {life.actions} actions"
-    if len(life.areas) > 1:
-        yield "  The bounds of rates, floods and standing alarms are those of one operating position: see areas.csv, or report one by --area"
+    if not life.is_position:
+        yield "  The bounds of rates, floods and standing alarms are those of one operating position: see areas.csv, or report one by its areas, --area each"
     for one in figures.summary():
         bound = "" if one.bound is None else f"at most {one.written(one.bound)}"
+        bound += "" if one.manageable is None else f", or {one.written(one.manageable)}"
         yield f"  {one.name:44}{one.written(one.value):>12}   {bound:18}{'ABOVE' if one.is_above else ''}".rstrip()

@@ -21,6 +21,10 @@ STANDING = ("UNACK", "ACKED", "RTNUN", "LATUN", "LATAK")
 # What an acknowledgement makes of a state; nothing else does so.
 ACKNOWLEDGED = {("UNACK", "ACKED"), ("RTNUN", "NORM"), ("LATUN", "LATAK")}
 UNACKNOWLEDGED = ("UNACK", "RTNUN", "LATUN")
+# What the end of its condition makes of an annunciated alarm's state; nothing else does so.
+RETURNED = {("UNACK", "RTNUN"), ("UNACK", "LATUN"), ("ACKED", "NORM"), ("ACKED", "LATAK")}
+# The words of actions that change an attribute, and the attribute.
+ATTRIBUTES = {"PRIO": "priority", "SETP": "setpoint"}
 
 
 class Annunciation(NamedTuple):
@@ -36,6 +40,23 @@ class Acknowledgement(NamedTuple):
     priority: int
     area: int
     seconds: int
+
+
+class Return(NamedTuple):
+    """The condition of an annunciated alarm ended: the moment, and that of its last annunciation."""
+
+    moment: int
+    tag: str
+    annunciated: int
+
+
+class AttributeChange(NamedTuple):
+    """An alarm was given another priority or another setpoint."""
+
+    moment: int
+    tag: str
+    attribute: str
+    value: int
 
 
 class Spell(NamedTuple):
@@ -90,23 +111,27 @@ class Standing:
 class Gap:
     plant: int
     first: int
-    last: int
+    last: Optional[int]
     began: Optional[int]
-    ended: int
+    ended: Optional[int]
     why: str
 
 
 @dataclass
 class Life:
-    """What happened in a span. Annunciations begin a window earlier, so that each window of the span is whole."""
+    """What happened in a span. Annunciations begin a window earlier, so that each window of the span is whole. The areas are those of one operating
+    position where the report was asked for these alone, or the plant has one area."""
 
     name: str
     begin: int
     end: int
     areas: list[int]
+    is_position: bool
     actions: int = 0
     annunciations: list[Annunciation] = field(default_factory=list)
     acknowledgements: list[Acknowledgement] = field(default_factory=list)
+    returns: list[Return] = field(default_factory=list)
+    attribute_changes: list[AttributeChange] = field(default_factory=list)
     spells: list[Spell] = field(default_factory=list)
     gaps: list[Gap] = field(default_factory=list)
     # the alarms at the end, by tag
@@ -149,6 +174,8 @@ class Player:
             self.life.annunciations.append(Annunciation(row.moment, row.tag, row.priority, row.area))
         if (row.before, row.after) in ACKNOWLEDGED and row.since:  # one of before the first CLOCK has no moment
             self.life.acknowledgements.append(Acknowledgement(row.moment, row.tag, row.priority, row.area, row.moment - row.since))
+        if (row.before, row.after) in RETURNED and row.since:
+            self.life.returns.append(Return(row.moment, row.tag, row.since))
         self.stand(alarm, row)
         self.suppress(alarm, row)
         alarm.row = row
@@ -234,26 +261,18 @@ class PlantRows(NamedTuple):
 def plants_of(store: Store, name: str) -> list[PlantRows]:
     """The plants of a name, one behind the other."""
     found: list[PlantRows] = []
-    for plant, areas, begins, shown in list(store.rows("SELECT plant, areas, begins, shown FROM plant WHERE name = ? ORDER BY plant", (name,))):
+    counts = store.counted()
+    for plant, areas in list(store.rows("SELECT plant, areas FROM plant WHERE name = ? ORDER BY plant", (name,))):
         ended = store.value("SELECT moment FROM action WHERE plant = ? ORDER BY number DESC LIMIT 1", (plant,))
         if ended is None:
             continue
         before = found[-1].ended if found else 0
-        counted = brought(store, plant, begins, shown, before) if found else begins
+        counted = counts[plant]
         began = store.value("SELECT moment FROM action WHERE plant = ? AND number > ? AND moment > 0 ORDER BY number LIMIT 1", (plant, counted))
         found.append(PlantRows(plant, areas, counted, ended if began is None else began, ended, before))
     if not found:
         raise StoreFault(f"{store.place} has no actions of a plant of the name {name}")
     return found
-
-
-def brought(store: Store, plant: int, begins: int, shown: int, before: int) -> int:
-    """The last action that only brought states of the plant before: up to the moment at which that ended, or all that were there at the first look."""
-    first_look = store.value("SELECT moment FROM action WHERE plant = ? AND number <= ? ORDER BY number DESC LIMIT 1", (plant, shown))
-    if first_look is None or first_look <= before:
-        return max(begins, shown)
-    last = store.last_before(plant, before + 1)
-    return max(begins, last[0] if last else 0)
 
 
 def states_at(store: Store, plant: int, number: int) -> list[Row]:
@@ -300,7 +319,7 @@ def read_life(store: Store, name: str, begin: Optional[int] = None, end: Optiona
     asked = range(max(one.areas for one in plants))
     if areas and not areas <= set(asked):
         raise StoreFault(f"{name} has no area {max(areas)}, but 0 to {asked.stop - 1}")
-    life = Life(name, begin, end, sorted(areas or asked))
+    life = Life(name, begin, end, sorted(areas or asked), bool(areas) or len(asked) == 1)
     player = Player(life, areas)
     for one in plants:
         if one.began < end:
@@ -324,8 +343,17 @@ def play_plant(store: Store, player: Player, plant: PlantRows) -> None:
         player.play(Row(*row))
     for row in store.rows("SELECT area, moment, flooded FROM flood WHERE plant = ? AND number > ? AND number <= ? ORDER BY number", (number, first, last)):
         player.flood(*row)
+    life.attribute_changes += attribute_changes(store, number, max(plant.counted, number_at(life.begin)), last, set(life.areas))
     life.gaps += [Gap(number, *row) for row in store.rows(
-        "SELECT first, last, began, ended, why FROM gap WHERE plant = ? AND last > ? AND ended >= ? AND COALESCE(began, 0) < ? ORDER BY first",
-        (number, plant.counted, life.begin, life.end))]
+        "SELECT first, last, began, ended, why FROM gap WHERE plant = ? AND COALESCE(last, first) > ? AND COALESCE(ended, began) >= ? "
+        "AND COALESCE(began, 0) < ? ORDER BY first", (number, plant.counted, life.begin, life.end))]
     life.actions += store.value("SELECT COUNT(*) FROM action WHERE plant = ? AND number > ? AND number <= ?",
                                 (number, max(plant.counted, number_at(life.begin)), last))
+
+
+def attribute_changes(store: Store, plant: int, first: int, last: int, areas: set[int]) -> list[AttributeChange]:
+    """The priorities and setpoints that alarms of some areas were given behind an action, up to another."""
+    query = ("SELECT a.moment, a.tag, a.word, a.value, l.area FROM action a JOIN alarm l ON l.plant = a.plant AND l.alarm = a.alarm WHERE a.plant = ? "
+             f"AND a.number > ? AND a.number <= ? AND a.word IN ({', '.join('?' * len(ATTRIBUTES))}) ORDER BY a.number")
+    return [AttributeChange(moment, tag, ATTRIBUTES[word], value) for moment, tag, word, value, area in store.rows(query, (plant, first, last, *ATTRIBUTES))
+            if area in areas]

@@ -68,10 +68,11 @@ class Gap:
 
 @dataclass(frozen=True)
 class Replaced:
-    """Another device is in the place of the one that was read. The last action that it had, and that the server hadn't shown, is `last`."""
+    """Another device is in the place of the one that was read. The last action that it had, and that the server hadn't shown, is `last`; it isn't
+    known where the file itself was overwritten."""
 
     shown: int
-    last: int
+    last: Optional[int]
 
 
 class Ahead(Exception):
@@ -234,14 +235,19 @@ class Mirror:
             pass  # it was overwritten, and what stands there now is another device's
         return count
 
+    def is_moved(self) -> bool:
+        """Whether another file is at the path by now."""
+        there, own = os.stat(self.path), os.fstat(self.device.file)
+        return (there.st_dev, there.st_ino) != (own.st_dev, own.st_ino)
+
     def is_other(self) -> bool:
         """Whether the path has another device by now: another file, or this one formatted again."""
         try:
-            there, own = os.stat(self.path), os.fstat(self.device.file)
+            is_moved = self.is_moved()
             header, newest = self.device.read(0, HEADER), self.device.standing()
         except (FileNotFoundError, NoDevice):
             return False
-        if (there.st_dev, there.st_ino) != (own.st_dev, own.st_ino):
+        if is_moved:
             return True
         if header[:1] != bytes([GATE_OPEN]):
             return False
@@ -370,7 +376,7 @@ class Follower:
     def change(self) -> Iterator[News]:
         """Leaves a device that was replaced. The one that is there now is begun by the next look, when the server has shown its count."""
         Mirror(self.path).close()  # it has to be one before the other is left
-        yield Replaced(self.mirror.count, self.mirror.last())
+        yield Replaced(self.mirror.count, self.mirror.last() if self.mirror.is_moved() else None)
         self.mirror.close()
         self.mirror = None
         self.served.forget()

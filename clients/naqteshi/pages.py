@@ -1,5 +1,4 @@
 """The pages of a report, with plots: as images, or as one file of PDF. They need matplotlib (Debian: python3-matplotlib)."""
-import collections
 import datetime
 import os
 from typing import Callable, Collection, Optional, Sequence
@@ -56,20 +55,21 @@ def nothing(axes: Axes, said: str) -> None:
     axes.set_yticks([])
 
 
-def draw_bins(axes: Axes, figures: Figures, bins: Bins, bound: int, title: str) -> None:
-    """Annunciations of each period as a line of steps, those above the bound in red."""
+def draw_bins(axes: Axes, figures: Figures, bins: Bins, bound: Optional[float], title: str) -> None:
+    """Annunciations of each period as a line of steps; where the report is of one position, those above its bound in red."""
     each = -(-len(bins.counts) // MOST_BARS)
     counts = [max(bins.counts[place:place + each]) for place in range(0, len(bins.counts), each)]
     begins = [bins.begin_of(place) for place in range(0, len(bins.counts), each)]
     edges = [at(moment) for moment in [*begins, bins.end]]
     axes.stairs(counts, edges_of(edges), fill=True, color=PLAIN)
-    axes.stairs([count if count > bound else 0 for count in counts], edges_of(edges), fill=True, color=ABOVE)
-    axes.axhline(bound, color=BOUND, linewidth=0.8, linestyle="--", label=f"{bound}: above, one position has too many")
+    if bound is not None:
+        axes.stairs([count if count > bound else 0 for count in counts], edges_of(edges), fill=True, color=ABOVE)
+        axes.axhline(bound, color=BOUND, linewidth=0.8, linestyle="--", label=f"{bound:g}: above, one position has too many")
+        axes.legend(loc="upper right", fontsize=8)
     for flood in figures.life.of("flood"):
         axes.axvspan(at(max(figures.begin, flood.since)), at(figures.end if flood.end is None else min(figures.end, flood.end)), color=FLOOD, linewidth=0,
                      zorder=0)
-    axes.legend(loc="upper right", fontsize=8)
-    axes.set_ylim(0, max([bound * 1.3, *(count * 1.15 for count in counts)]))
+    axes.set_ylim(0, max([(bound or 1) * 1.3, *(count * 1.15 for count in counts)]))
     bare(axes, title + (f", each bar the most of {each} periods" if each > 1 else "") + "; floods are shaded")
     time_axis(axes, figures)
 
@@ -85,7 +85,7 @@ def summary_page(page: Page, figures: Figures) -> None:
     page.text(0.06, 0.93, f"Alarm report: {life.name}", fontsize=20)
     page.text(0.06, 0.895, f"{date(life.begin)} to {date(life.end)}, {life.actions} actions, areas {', '.join(map(str, life.areas))}", fontsize=10)
     axes = page.add_axes((0.06, 0.06, 0.46, 0.80))
-    rows = [(one.name, one.written(one.value), "" if one.bound is None else one.written(one.bound), one.is_above) for one in figures.summary()]
+    rows = [(one.name, one.written(one.value), one.bounds(), one.is_above) for one in figures.summary()]
     draw_table(axes, ("figure", "value", "bound"), [row[:3] for row in rows], [0.64, 0.18, 0.18], {(place, 1) for place, row in enumerate(rows) if row[3]})
     axes = page.add_axes((0.56, 0.06, 0.40, 0.80))
     areas = [(row[0], row[1], f"{row[2]:.1f}", row[3], f"{100 * row[4]:.1f} %", row[5], f"{100 * row[6]:.1f} %") for row in figures.areas().rows]
@@ -93,10 +93,11 @@ def summary_page(page: Page, figures: Figures) -> None:
     is_red = {(place, column) for place, row in enumerate(figures.areas().rows) for column, bound in enumerate(AREA_BOUNDS) if bound is not None and row[column] > bound}
     draw_table(axes, ("area", "annunciations", "an hour", "most in 10'", "10' above 10", "floods", "in flood"), first_of(areas),
                [0.11, 0.2, 0.13, 0.16, 0.17, 0.11, 0.12], is_red)
-    axes = page.add_axes((0.06, 0.08, 0.46, 0.2))
+    axes = page.add_axes((0.06, 0.045, 0.46, 0.18))
     taken = [(row[0], row[1], *(in_seconds(seconds) for seconds in row[2:5]), row[6]) for row in figures.acknowledgements().rows]
     draw_table(axes, ("priority", "acknowledged", "half within", "nine of ten", "longest", "waiting"), taken, [0.13, 0.19, 0.18, 0.18, 0.18, 0.14])
-    page.text(0.06, 0.03, "Bounds are those of one operating position, which is an area, as ISA-18.2, IEC 62682 and EEMUA 191 recommend. Above a bound: red.", fontsize=8)
+    page.text(0.06, 0.03, "Bounds are those of one operating position, as ISA-18.2, IEC 62682 and EEMUA 191 recommend; the table takes each area as one. Above a "
+              "bound: red.", fontsize=8)
 
 
 def in_seconds(seconds: Optional[float]) -> str:
@@ -135,8 +136,8 @@ def draw_table(axes: Axes, columns: Sequence[str], rows: list[tuple], widths: Se
 
 def rates_page(page: Page, figures: Figures) -> None:
     upper, lower = page.subplots(2, 1)
-    draw_bins(upper, figures, figures.tens, TEN_MOST, "Annunciations in ten minutes")
-    draw_bins(lower, figures, figures.hours, HOUR_MOST, "Annunciations an hour")
+    draw_bins(upper, figures, figures.tens, figures.position(TEN_MOST), "Annunciations in ten minutes")
+    draw_bins(lower, figures, figures.hours, figures.position(HOUR_MOST), "Annunciations an hour")
 
 
 def frequent_page(page: Page, figures: Figures) -> None:
@@ -151,9 +152,11 @@ def frequent_page(page: Page, figures: Figures) -> None:
     else:
         nothing(axes[0][0], "no annunciation")
     draw_priorities(axes[0][1], figures)
-    axes[1][0].set_title("Chattering: three or more within a minute", loc="left", fontsize=11)
-    draw_table(axes[1][0], ("tag", "bursts", "annunciations", "last"), [(one.tag, one.bursts, one.annunciations, date(one.last)) for one in figures.chatter][:10],
-               [0.32, 0.14, 0.2, 0.34])
+    axes[1][0].set_title("Chattering: three or more within a minute; and fleeting: gone within one", loc="left", fontsize=11)
+    rows = [(one.tag, f"{one.bursts} bursts", one.annunciations, one.last) for one in figures.chatter[:10]]
+    rows += [(one.tag, "fleeting", one.annunciations, one.last) for one in figures.fleeting()[:10]]
+    draw_table(axes[1][0], ("tag", "how", "annunciations", "last"), [(*row[:3], date(row[3])) for row in sorted(rows, key=lambda row: -row[2])[:10]],
+               [0.32, 0.16, 0.2, 0.32])
     axes[1][1].set_title("Stale: annunciated a day ago or more", loc="left", fontsize=11)
     stale = sorted(figures.spell_table("stale", ["stale"]).rows, key=lambda row: -row[4])
     draw_table(axes[1][1], ("tag", "stale since", "until", "hours"), [(row[0], date(row[2]), date(row[3]), f"{row[4] / HOUR:.1f}") for row in stale[:10]],
@@ -192,12 +195,13 @@ def operators_page(page: Page, figures: Figures) -> None:
         upper.grid(True, which="major", linewidth=0.3)
     else:
         nothing(upper, "no acknowledgement")
-    draw_counts(lower, figures, (("standing", "standing", PLAIN, STANDING_BOUND), ("SHLVD", "shelved", "#998ec3", SHELVED_BOUND), ("stale", "stale", ABOVE, None)))
+    draw_counts(lower, figures, (("standing", "standing", PLAIN, figures.position(STANDING_BOUND)), ("SHLVD", "shelved", "#998ec3", figures.position(SHELVED_BOUND)),
+                                 ("stale", "stale", ABOVE, None)))
 
 
-def draw_counts(axes: Axes, figures: Figures, kinds: Sequence[tuple[str, str, str, Optional[int]]]) -> None:
+def draw_counts(axes: Axes, figures: Figures, kinds: Sequence[tuple[str, str, str, Optional[float]]]) -> None:
     """How many spells of some kinds there were at each moment."""
-    bare(axes, "Alarms that stand, are shelved and are stale; dashed: the bounds of one position's mean")
+    bare(axes, "Alarms that stand, are shelved and are stale" + ("; dashed: the bounds of the position's mean" if figures.life.is_position else ""))
     for kind, name, colour, bound in kinds:
         found = steps(figures.life.of(kind), figures.begin, figures.end)
         moments = [at(moment) for moment, _ in found] + [at(figures.end)]
@@ -212,10 +216,8 @@ def draw_counts(axes: Axes, figures: Figures, kinds: Sequence[tuple[str, str, st
 def suppression_page(page: Page, figures: Figures) -> None:
     """Who was suppressed, when and how long."""
     axes = page.subplots(1, 1)
-    hours: collections.Counter[str] = collections.Counter()
-    for tag, _kind, _times, seconds, *_ in figures.suppressed().rows:
-        hours[tag] += seconds / HOUR
-    tags = sorted(hours, key=lambda tag: (-hours[tag], tag))[:ROWS]
+    hours = {tag: seconds / HOUR for tag, seconds in figures.suppressed_seconds()}
+    tags = list(hours)[:ROWS]
     bare(axes, f"Shelved, suppressed by design, out of service: the {len(tags)} longest of {len(hours)} alarms, with their hours")
     if not tags:
         return nothing(axes, "none was suppressed")

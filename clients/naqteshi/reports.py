@@ -6,7 +6,7 @@
     alm_reports DATABASE --name PLANT --png FOLDER --pdf FILE               as pages with plots
 
 DATABASE is what alm_archive writes: a file of SQLite, or a database of PostgreSQL. Where it has one plant alone, --name can be left out. The bounds are
-those of one operating position: --area K reports an area, and may stand several times. Pages need matplotlib (Debian: python3-matplotlib). In CSV
+those of one operating position: --area K, once for each of its areas, reports one. Pages need matplotlib (Debian: python3-matplotlib). In CSV
 moments are seconds of the plant's clock, and shares parts of 1.
 """
 import csv
@@ -69,7 +69,7 @@ def main() -> None:
     words.add_argument("--name", metavar="PLANT", help="the plant's name in the archive")
     words.add_argument("--from", dest="begin", type=moment_of, metavar="MOMENT", help="the span's first moment: a date, or seconds of the plant's clock")
     words.add_argument("--to", dest="end", type=moment_of, metavar="MOMENT", help="the first moment behind the span")
-    words.add_argument("--area", dest="areas", type=int, action="append", metavar="K", help="report this area alone, or with others that are named so")
+    words.add_argument("--area", dest="areas", type=int, action="append", metavar="K", help="report the operating position of this area; of several areas, once for each")
     words.add_argument("--csv", metavar="FOLDER", help="write each table as a file of CSV")
     words.add_argument("--png", metavar="FOLDER", help="write the pages as images")
     words.add_argument("--pdf", metavar="FILE", help="write the pages as one file")

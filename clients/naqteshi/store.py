@@ -11,13 +11,15 @@ import os
 import sqlite3
 from typing import Any, Iterable, Iterator, Optional, Sequence
 
-FORMAT = 1
+# What a reader can do without is read of format 1 too; who writes brings it to the newest.
+FORMAT, OLDEST = 2, 1
 # Seconds that a statement waits for another process which writes a file of SQLite.
 PATIENCE = 60
 # Rows that are fetched at once.
 CHUNK = 5000
 TABLES = {
-    "plant": "plant INTEGER PRIMARY KEY, name TEXT NOT NULL, device TEXT NOT NULL, areas INTEGER NOT NULL, begins BIGINT NOT NULL, shown BIGINT NOT NULL",
+    "plant": "plant INTEGER PRIMARY KEY, name TEXT NOT NULL, device TEXT NOT NULL, areas INTEGER NOT NULL, begins BIGINT NOT NULL, shown BIGINT NOT NULL, "
+             "counted BIGINT NOT NULL, ends BIGINT",
     "alarm": "plant INTEGER NOT NULL, alarm INTEGER NOT NULL, tag TEXT NOT NULL, text TEXT NOT NULL, kind TEXT NOT NULL, area INTEGER NOT NULL, "
              "priority INTEGER NOT NULL, setpoint BIGINT NOT NULL, deadband BIGINT NOT NULL, max_shelve INTEGER NOT NULL, latching INTEGER NOT NULL, "
              "PRIMARY KEY (plant, alarm)",
@@ -28,15 +30,15 @@ TABLES = {
               "PRIMARY KEY (plant, alarm, number)",
     "flood": "plant INTEGER NOT NULL, area INTEGER NOT NULL, number BIGINT NOT NULL, moment BIGINT NOT NULL, flooded INTEGER NOT NULL, "
              "annunciations BIGINT NOT NULL, PRIMARY KEY (plant, area, number)",
-    "gap": "plant INTEGER NOT NULL, first BIGINT NOT NULL, last BIGINT NOT NULL, began BIGINT, ended BIGINT NOT NULL, why TEXT NOT NULL, "
+    "gap": "plant INTEGER NOT NULL, first BIGINT NOT NULL, last BIGINT, began BIGINT, ended BIGINT, why TEXT NOT NULL, "
            "PRIMARY KEY (plant, first)",
     "about": "format INTEGER NOT NULL",
 }
 COLUMNS = {table: columns.split(", PRIMARY KEY")[0].count(",") + 1 for table, columns in TABLES.items()}
-# One row for each action and each alarm that it changed: what an alarm journal shows.
+# One row for each action and each alarm that it changed: what an alarm journal shows. What a plant was only brought isn't in it.
 HISTORY = """CREATE VIEW history AS SELECT p.name AS name, a.plant AS plant, a.number AS number, a.moment AS moment, a.word AS word,
 COALESCE(c.tag, a.tag) AS tag, c.priority AS priority, c.before AS before, c.after AS after, c.annunciated AS annunciated, a.value AS value, a.slot AS slot
-FROM action a JOIN plant p ON p.plant = a.plant LEFT JOIN change c ON c.plant = a.plant AND c.number = a.number"""
+FROM action a JOIN plant p ON p.plant = a.plant AND a.number > p.counted LEFT JOIN change c ON c.plant = a.plant AND c.number = a.number"""
 INDEXES = ("CREATE INDEX change_number ON change (plant, number)",)
 LIBRARY = "the library psycopg isn't installed (Debian: python3-psycopg)"
 
@@ -60,6 +62,7 @@ class Store:
     def __init__(self, connection: Any, error: type[Exception], mark: str, place: str):
         self.connection, self.error, self.mark, self.place = connection, error, mark, place
         self.numbers = itertools.count()
+        self.format = FORMAT
 
     @staticmethod
     def open(place: str, make: bool = False) -> "Store":
@@ -71,9 +74,11 @@ class Store:
                     raise StoreFault(f"{store.place} is no archive")
                 store.make_tables()
             store.commit()
-            found = store.value("SELECT format FROM about")
-            if found != FORMAT:
-                raise StoreFault(f"{store.place} is an archive of format {found}, and this tool knows {FORMAT}")
+            store.format = store.value("SELECT format FROM about")
+            if store.format not in range(OLDEST, FORMAT + 1):
+                raise StoreFault(f"{store.place} is an archive of format {store.format}, and this tool knows {OLDEST} to {FORMAT}")
+            if make and store.format < FORMAT:
+                store.renew()
         except BaseException:
             store.close()
             raise
@@ -100,13 +105,57 @@ class Store:
             return bool(self.value("SELECT COUNT(*) FROM sqlite_master WHERE name = 'about'"))
         return self.value("SELECT to_regclass('about')") is not None
 
-    def make_tables(self) -> None:
+    def make(self, tables: Iterable[str]) -> None:
         suffix = " WITHOUT ROWID" if self.mark == "?" else ""
-        for table, columns in TABLES.items():
+        for table in tables:
+            columns = TABLES[table]
             self.run(f"CREATE TABLE {table} ({columns}){suffix if 'PRIMARY KEY (' in columns else ''}")
+
+    def make_tables(self) -> None:
+        self.make(TABLES)
         for statement in (HISTORY, *INDEXES):
             self.run(statement)
         self.run("INSERT INTO about VALUES (?)", (FORMAT,))
+
+    def renew(self) -> None:
+        """Brings an archive of format 1 to the newest, all of it or nothing."""
+        self.commit()
+        if self.mark == "?":
+            self.run("BEGIN IMMEDIATE")
+        if self.value("SELECT format FROM about") == OLDEST:  # another archiver may have come before
+            counted = self.counted()
+            self.run("DROP VIEW history")
+            for table in ("plant", "gap"):
+                self.run(f"ALTER TABLE {table} RENAME TO {table}_before")
+            self.make(["plant", "gap"])
+            for plant, *columns in list(self.rows("SELECT plant, name, device, areas, begins, shown FROM plant_before")):
+                self.insert("plant", [(plant, *columns, counted[plant], None)])
+            self.run("INSERT INTO gap SELECT plant, first, last, began, ended, why FROM gap_before")
+            for table in ("plant", "gap"):
+                self.run(f"DROP TABLE {table}_before")
+            self.run(HISTORY)
+            self.run("UPDATE about SET format = ?", (FORMAT,))
+        self.commit()
+        self.format = FORMAT
+
+    def counted(self) -> dict[int, int]:
+        """Of each plant the last action that isn't counted, since it only brought what the plant before had, or was there before the archive."""
+        if self.format == OLDEST:
+            return {plant: count for name in self.names() for plant, count in self.brought(name)}
+        return dict(self.rows("SELECT plant, counted FROM plant"))
+
+    def names(self) -> list[str]:
+        return [row[0] for row in self.rows("SELECT DISTINCT name FROM plant ORDER BY name")]
+
+    def brought(self, name: str) -> Iterator[tuple[int, int]]:
+        """Of each plant of a name the last action that only brought states of the plant before: those that were there at the first look, up to the
+        moment at which that one ended."""
+        ended: Optional[int] = None
+        for plant, begins, shown in list(self.rows("SELECT plant, begins, shown FROM plant WHERE name = ? ORDER BY plant", (name,))):
+            query = "SELECT MAX(number) FROM action WHERE plant = ? AND number <= ? AND moment <= ?"
+            last = None if ended is None else self.value(query, (plant, shown, ended))
+            yield plant, max(begins, last or 0)
+            ended = self.value("SELECT MAX(moment) FROM action WHERE plant = ?", (plant,)) or ended
 
     def run(self, statement: str, values: Sequence[Any] = ()) -> None:
         self.execute(self.connection.cursor(), statement, values).close()
