@@ -64,6 +64,7 @@ def served(yard: Yard, moment: int | None = None) -> tuple[str, Server]:
 def clock(yard: Yard) -> str:
     """A new plant, one that is behind, and drawn ones."""
     moves_no_farther()
+    on_time(yard)
     new_plant(yard)
     behind(yard)
     restarted(yard)
@@ -103,6 +104,25 @@ def new_plant(yard: Yard) -> None:
     run = tool("clock.py", "--port", server.port, "--seconds", 2)
     check(run.returncode == 0 and re.match(r"[123] moments, reply ", run.stdout) and not run.stderr, run.stdout, run.stderr)
     check(0 <= time.time() - yard.now(device) < 60, "the plant's clock is at", yard.now(device))
+    server.end()
+
+
+def on_time(yard: Yard) -> None:
+    """A plant's clock is the machine's: it is seen within two seconds of it, and never ahead."""
+    _, server = served(yard)
+    running = start("clock.py", "--port", server.port)
+    for console in (1, 2):
+        with Client.connect(server.port, console) as client:
+            late: list[float] = []
+
+            def is_close() -> bool:
+                moment = client.plant().moment
+                late.append(time.time() - moment)
+                return moment > 0 and late[-1] < 2
+
+            await_true("a plant's clock within two seconds of the machine's", is_close)
+            check(min(late) >= 0, "the plant's clock is ahead by", -min(late))
+    stop(running)
     server.end()
 
 

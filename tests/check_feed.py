@@ -246,7 +246,8 @@ def sends_again(yard: Yard, device: str) -> None:
     running.stdin.write("TI-101,3800\nTI-102,4100\n")
     running.stdin.flush()
     await_true("the first values", lambda: yard.annunciated(server.port) == {0, 1})
-    running.stdin.write("TI-101,3700\nPI-104,185\nPI-105,design,on\nPI-105,210\nLI-107,design,on\nLI-107,850\nLI-107,design,off\n")
+    # PI-105 had a value before it was suppressed: in the order of first values it would come before its suppression
+    running.stdin.write("TI-101,3700\nPI-104,185\nPI-105,100\nPI-105,design,on\nPI-105,210\nLI-107,design,on\nLI-107,850\nLI-107,design,off\n")
     running.stdin.flush()
     await_true("the last values", lambda: yard.annunciated(server.port) == {0, 1, 3, 6})
     server.end()

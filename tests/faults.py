@@ -79,13 +79,14 @@ class Faults:
         check(run.returncode == 0, words, run.stderr)
         return run.stdout, made
 
-    def each(self, made, kinds):
-        """Each call of a run, with each of the ways of its kind."""
+    def each(self, made, kinds, step=None):
+        """Each call of a run, with each of the ways of its kind; in a short run each of some."""
+        step = step or self.step
         counts = collections.Counter(call[0] for call in made)
         counts["device"] = counts["pwrite"] + counts["pread"] + counts["fdatasync"]
         for call, ways in kinds.items():
             for kind in ways:
-                for at in range(1 + self.done % self.step, counts[call] + 1, self.step):
+                for at in range(1 + self.done % step, counts[call] + 1, step):
                     self.done += 1
                     yield Fault(self.library, call, at, kind, self.done)
 
@@ -221,13 +222,13 @@ class Faults:
         check(run.returncode == 0 and state(self.program, device) == states[0], fault.text, "can't be formatted again")
 
     def show(self, command, device):
-        """`show` or `export` of a device."""
+        """`show` or `export` of a device: few calls, and each of them in a short run too."""
         with open(device, "rb") as file:
             bytes_before = file.read()
         _, made = self.whole([command, device])
         check_list(split_opening(on_device(made), reading(), command), [("unlock", "device")], command)
         kinds = {"pread": ["eio", "short", "kill"], "fdatasync": ["eio", "kill"], "openat": ["eio"], "fadvise": ["eio"], "statx": ["eio"]}
-        for fault in self.each(made, kinds):
+        for fault in self.each(made, kinds, 1):
             if fault.kills:
                 run_words(self.program, [command, device], fault.loaded)
             else:
