@@ -76,6 +76,10 @@ class Lost(Exception):
     """The connection ended, or no reply came in time: whether the last requests were done isn't known."""
 
 
+class NoAnswer(Lost):
+    """The slot took the connection, and no reply came in time: another client may have it."""
+
+
 class OtherPlant(Exception):
     """The plant isn't the one that the client knows: it isn't the given table's, or has fewer actions than were seen before."""
 
@@ -432,7 +436,7 @@ class ServerClient(Client):
         try:
             return self.stream.readline().decode("ascii")
         except TimeoutError as error:
-            raise Lost(f"slot {self.slot} gives no answer: another client may have it") from error
+            raise NoAnswer(f"slot {self.slot} gives no answer: another client may have it") from error
         except OSError as error:
             raise Lost(f"slot {self.slot}: {error}") from error
 
@@ -459,13 +463,14 @@ class Plant:
 
     def connect(self) -> ServerClient:
         """A new connection, to the first address that answers. `Lost` says that there is none, `OtherPlant` and `NoTable` that the client had better end."""
-        said = []
+        faults: list[Lost] = []
         for place in places_of(self.place):
             try:
                 return self.connect_to(place)
             except Lost as lost:
-                said.append(str(lost))
-        raise Lost("; ".join(said))
+                faults.append(lost)
+        has_slot = any(isinstance(fault, NoAnswer) for fault in faults)
+        raise (NoAnswer if has_slot else Lost)("; ".join(map(str, faults)))
 
     def connect_to(self, place: Place) -> ServerClient:
         seen = self.client.seen if self.client else 0

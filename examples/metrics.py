@@ -4,7 +4,8 @@
     examples/metrics.py --port P [--listen 9464] [--slot 15] [--device DEVICE] [--table TABLE.toml]
 
 It listens on loopback alone, at http://127.0.0.1:9464/metrics. Each time that it is read it asks the server at a console's slot, by
-queries alone, and lets the slot go. Where the server doesn't answer, `alarms_up` is 0 and nothing else of the plant is there.
+queries alone, and lets the slot go. Where the server doesn't answer, `alarms_up` is 0 and nothing else of the plant is there. Where it answers at
+another slot, another client has this one: then `alarms_up` is 1, `alarms_slot_taken` too, and of the plant is there what one query shows.
 
 With --device it also reads, from the file, how full the journal is, and the epoch, which grows by one with each checkpoint.
 
@@ -18,13 +19,15 @@ import threading
 import time
 from typing import Iterable, Iterator, Optional
 
-from alarm_client import HOST, PRIORITIES, Client, Lost, OtherPlant, Plant, Refused
+from alarm_client import CONSOLES, HOST, PRIORITIES, Client, Lost, NoAnswer, Overview, OtherPlant, Plant, Refused
 from arguments import add_port, add_slot, add_table, new_parser
 from device_file import DeviceFile, NoDevice
 from table_file import NoTable
 
 # Seconds after which a client that says nothing is left.
 SILENCE = 10
+# Seconds to wait at each other slot for a query's answer.
+BRIEFLY = 0.3
 STATES = ("UNACK", "ACKED", "RTNUN", "LATUN", "LATAK")
 
 
@@ -56,11 +59,7 @@ def shown(client: Client) -> Iterator[str]:
     """What the plant shows. Between two queries it may go on."""
     began = time.perf_counter()
     plant = client.plant()
-    taken = time.perf_counter() - began
-    yield from metric("alarms_query_seconds", "gauge", "Time of a query's round trip.", {"": taken})
-    yield from metric("alarms_actions_total", "counter", "Accepted actions.", {"": plant.count})
-    yield from metric("alarms_moment_seconds", "gauge", "The plant's moment.", {"": plant.moment})
-    yield from metric("alarms_configured", "gauge", "Alarms of the plant.", {"": plant.alarms})
+    yield from of_query(plant, time.perf_counter() - began)
     yield from metric("alarms_annunciated", "gauge", "Annunciated alarms by priority and state.", annunciated(client))
     yield from metric("alarms_shelved", "gauge", "Shelved alarms.", {"": len(client.shelved())})
     yield from metric("alarms_stale", "gauge", "Alarms annunciated for a day or more.", {"": len(client.stale().alarms)})
@@ -68,6 +67,29 @@ def shown(client: Client) -> Iterator[str]:
     floods = client.floods()
     yield from metric("alarms_area_annunciations", "gauge", "Annunciations in the last 600 seconds.", by_area(flood.window for flood in floods))
     yield from metric("alarms_area_flooded", "gauge", "Whether the area is flooded.", by_area(int(flood.flooded) for flood in floods))
+
+
+def of_query(plant: Overview, seconds: float) -> Iterator[str]:
+    """What one query shows."""
+    yield from metric("alarms_query_seconds", "gauge", "Time of a query's round trip.", {"": seconds})
+    yield from metric("alarms_actions_total", "counter", "Accepted actions.", {"": plant.count})
+    yield from metric("alarms_moment_seconds", "gauge", "The plant's moment.", {"": plant.moment})
+    yield from metric("alarms_configured", "gauge", "Alarms of the plant.", {"": plant.alarms})
+
+
+def at_another_slot(plant: Plant) -> Optional[tuple[Overview, float]]:
+    """What a server shows at the first console's slot that nobody has, and how long that took; none if it doesn't answer at any."""
+    for slot in reversed(CONSOLES):
+        try:
+            if slot != plant.slot:
+                with Client.connect(plant.place, slot, BRIEFLY) as client:
+                    began = time.perf_counter()
+                    return client.plant(), time.perf_counter() - began
+        except NoAnswer:
+            pass
+        except Lost:
+            return None
+    return None
 
 
 def journal(path: str) -> Iterator[str]:
@@ -95,19 +117,27 @@ class Exporter(http.server.ThreadingHTTPServer):
 
     def page(self) -> str:
         """All metrics, as they are at the moment."""
-        lines: list[str] = []
-        up = 0
-        try:
-            with self.asking, self.plant.connect() as client:
-                lines, up = [*shown(client), *self.still(client.plant().moment)], 1
-        except (Lost, Refused):
-            pass
+        with self.asking:
+            lines, up, taken = self.plant_lines()
         if self.device:
             try:
                 lines += journal(self.device)
             except (NoDevice, OSError):
                 pass
-        return "\n".join([*metric("alarms_up", "gauge", "Whether the server answers.", {"": up}), *lines]) + "\n"
+        head = [*metric("alarms_up", "gauge", "Whether the server answers.", {"": up}),
+                *metric("alarms_slot_taken", "gauge", "Whether another client has the slot at which metrics are asked.", {"": taken})]
+        return "\n".join([*head, *lines]) + "\n"
+
+    def plant_lines(self) -> tuple[list[str], int, int]:
+        """What the plant shows, whether the server answers, and whether another client has the slot."""
+        try:
+            with self.plant.connect() as client:
+                return [*shown(client), *self.still(client.plant().moment)], 1, 0
+        except NoAnswer:
+            found = at_another_slot(self.plant)
+            return ([*of_query(*found), *self.still(found[0].moment)], 1, 1) if found else ([], 0, 0)
+        except (Lost, Refused):
+            return [], 0, 0
 
     def still(self, moment: int) -> Iterator[str]:
         """For how long the plant's moment hasn't been seen to move: no clock runs, or the server can't store."""

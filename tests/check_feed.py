@@ -291,6 +291,7 @@ def metrics(yard: Yard) -> str:
         holds(address, "alarms_chattering 1", "alarms_stale 0")
         clock.clock(1000 + DAY)
         holds(address, "alarms_chattering 0", "alarms_stale 11")
+        slot_taken(address, server.port)
     checked = lint(address)
     silent(address)
     server.end()
@@ -298,6 +299,18 @@ def metrics(yard: Yard) -> str:
     stop(running)
     stops_at_another(yard, device)
     return f"metrics.py, {checked}"
+
+
+def slot_taken(address: str, port: int) -> None:
+    """Another client at the exporter's slot isn't a server that is down, whatever other slots are taken too; a server that halts is."""
+    others = [Client.connect(port, slot) for slot in (15, 14, 13)]
+    for other in others:
+        other.plant()
+    holds(address, "alarms_up 1", "alarms_slot_taken 1", f"alarms_actions_total {others[0].seen}", "alarms_configured 200")
+    check("alarms_annunciated" not in scrape(address), "a page of one query has more")
+    for other in others:
+        other.close()
+    holds(address, "alarms_up 1", "alarms_slot_taken 0")
 
 
 def stands_still(address: str) -> None:
@@ -326,6 +339,45 @@ def lint(address: str) -> str:
     run = subprocess.run(["promtool", "check", "metrics"], input=scrape(address), capture_output=True, text=True, timeout=60)
     check(run.returncode == 0 and not run.stdout + run.stderr, run.stdout, run.stderr)
     return "promtool"
+
+
+# A plant with an unacknowledged alarm and a flood, whose server dies after ten minutes and is back, in order, half an hour later; and a taken slot.
+RULES = """
+rule_files: [RULES]
+evaluation_interval: 15s
+tests:
+  - interval: 15s
+    input_series:
+      - {series: 'up{job="alarms"}', values: '1x400'}
+      - {series: 'alarms_up', values: '1x39 0x119 1x240'}
+      - {series: 'alarms_slot_taken', values: '0x250 1x150'}
+      - {series: 'alarms_clock_still_seconds', values: '1x39 stale _x118 1x240'}
+      - {series: 'alarms_annunciated{priority="1",state="UNACK"}', values: '1x39 stale _x118 0x90 stale _x150'}
+      - {series: 'alarms_annunciated{priority="2",state="UNACK"}', values: '1x39 stale _x118 0x90 stale _x150'}
+      - {series: 'alarms_area_flooded{area="0"}', values: '1x39 stale _x118 0x90 stale _x150'}
+    alert_rule_test:
+CASES
+"""
+
+
+def rules(yard: Yard) -> str:
+    """Prometheus' own tool finds the rules right: what stood as the server died stands, and ends once the server is back and says so."""
+    if not shutil.which("promtool"):
+        return "no promtool: rules left out"
+    cases = []
+    for moment, firing in (("9m", {"AlarmUnacknowledged", "AlarmFlood"}), ("15m", {"AlarmUnacknowledged", "AlarmFlood", "AlarmServerDown"}),
+                           ("38m", {"AlarmUnacknowledged", "AlarmFlood", "AlarmServerDown"}), ("45m", set()), ("60m", set()), ("70m", {"AlarmSlotTaken"})):
+        for name, labels in (("AlarmUnacknowledged", 'priority: "1", state: UNACK'), ("AlarmFlood", 'area: "0"'), ("AlarmServerDown", ""), ("AlarmSlotTaken", ""),
+                             ("AlarmClockStill", ""), ("AlarmMetricsGone", "")):
+            expected = f"[{{exp_labels: {{{labels}}}}}]" if name in firing else "[]"
+            cases.append(f"      - {{eval_time: {moment}, alertname: {name}, exp_alerts: {expected}}}")
+    text = re.sub(r"\n +annotations:\n +summary: .*", "", (EXAMPLES / "alarms.rules.yml").read_text(encoding="utf-8"))
+    bare = yard.write("bare.yml", text)
+    tested = yard.write("rules.yml", RULES.replace("RULES", bare).replace("CASES", "\n".join(cases)))
+    for words in (("check", "rules", str(EXAMPLES / "alarms.rules.yml")), ("test", "rules", tested)):
+        run = subprocess.run(["promtool", *words], capture_output=True, text=True, timeout=60)
+        check(run.returncode == 0, run.stdout, run.stderr)
+    return "rules"
 
 
 def silent(address: str) -> None:

@@ -107,6 +107,7 @@ CHECKS: dict[str, Callable[[Yard, int], str]] = {
     "machines": lambda yard, _: check_feed.two_machines(yard),
     "takeover": lambda yard, _: check_feed.takeover(yard),
     "metrics": lambda yard, _: check_feed.metrics(yard),
+    "rules": lambda yard, _: check_feed.rules(yard),
     "journal": lambda yard, step: check_journal.journal(yard, 3000 // step),
     "reply": lambda yard, _: check_journal.not_before_its_reply(yard),
     "halves": lambda yard, _: check_journal.halves(yard),
