@@ -10,10 +10,10 @@ import shutil
 import signal
 import sqlite3
 import subprocess
+import sys
 import time
-from typing import Optional
 
-from check_archive import SEGMENT, archive_once, archiver, one_line, rows_of, run_tool  # first: it finds examples/ and clients/
+from check_archive import SEGMENT, archive_once, archiver, one_line, postgresql, psql, python_with, rows_of, run_tool  # first: it finds examples/ and clients/
 from drawn_plants import CLIENTS, Hand, draw_plant, new_device
 from alarm_client import CLOCK, FEED, Client
 from program import check
@@ -25,7 +25,8 @@ PAGES = EXAMPLES.parent / "docs"
 HEREDOC = re.compile(r"<<'END'[^\n]*\n(.*?)^END$", re.MULTILINE | re.DOTALL)
 STOPPED = "--stopped"
 OPEN = "the plant's end wasn't seen"
-# The tables and the view of an archive of format 1 that are others now.
+# The tables and the view of an archive of format 1 that are others now. SQLite's have no number of their own.
+WITHOUT = "WITHOUT ROWID"
 FORMAT_1 = """
 CREATE TABLE old_plant (plant INTEGER PRIMARY KEY, name TEXT NOT NULL, device TEXT NOT NULL, areas INTEGER NOT NULL, begins BIGINT NOT NULL, shown BIGINT NOT NULL);
 INSERT INTO old_plant SELECT plant, name, device, areas, begins, shown FROM plant;
@@ -47,11 +48,11 @@ UPDATE about SET format = 1;
 class Site:
     """A plant in a folder as a page has it: its device, its archive, and the program and its tools."""
 
-    def __init__(self, yard: Yard, seed: int):
-        self.yard, self.dice = yard, random.Random(seed)
+    def __init__(self, yard: Yard, seed: int, database: str = "", python: str = sys.executable):
+        self.yard, self.dice, self.python = yard, random.Random(seed), python
         self.table = draw_plant(self.dice, 10, 2, SEGMENT)
         new_device(yard, "plant", self.table)
-        self.device, self.database = yard.path("plant.device"), yard.path("archive/plant.sqlite")
+        self.device, self.database = yard.path("plant.device"), database or yard.path("archive/plant.sqlite")
         for folder in ("archive", "opt", "backup"):
             os.makedirs(yard.path(folder), exist_ok=True)
         for name, target in (("alm_server", yard.program), ("examples", EXAMPLES), ("clients", CLIENTS)):
@@ -76,7 +77,14 @@ class Site:
         self.server = None
 
     def archive(self) -> str:
-        return archive_once(self.device, self.database, self.port)
+        return archive_once(self.device, self.database, self.port, python=self.python)
+
+    def tool(self, name: str, *words: object) -> subprocess.CompletedProcess:
+        return run_tool(name, *words, python=self.python)
+
+    def rows(self, statement: str) -> list[tuple]:
+        """What the database's own program finds."""
+        return rows_of(self.database, statement) if self.database.endswith(".sqlite") else psql(self.database, statement)
 
     def run(self, block: str) -> None:
         """Runs a block of the page."""
@@ -212,37 +220,64 @@ def refusals(yard: Yard, _count: int) -> str:
 
 def counted_once(yard: Yard, _count: int) -> str:
     """The page's query, the list and the report count each annunciation once, though a change of the table brought states; so they do over an archive of format 1."""
-    site = Site(yard, 92)
+    return judge_counting(Site(yard, 92))
+
+
+def counted_postgresql(yard: Yard, _count: int) -> str:
+    """The same over PostgreSQL."""
+    python = python_with("psycopg")
+    if not python or not shutil.which("psql"):
+        return "no psycopg or no PostgreSQL: counts there left out"
+    with postgresql(yard) as place:
+        return judge_counting(Site(yard, 93, place, python)) + " in PostgreSQL"
+
+
+def judge_counting(site: Site) -> str:
+    count = changed_plants(site)
+    (brought,), = site.rows("SELECT counted FROM plant WHERE plant = 2")
+    check(brought > 0, "nothing was brought")
+    judge_counts(site, count)
+    make_old(site)
+    check(site.rows("SELECT COUNT(*) FROM history WHERE annunciated = 1")[0][0] > count, "an archive of format 1 counts no more")
+    judge_counts(site, count, has_view=False)
+    site.server = site.yard.serve(site.device, site.port)
+    site.archive()
+    site.stop()
+    check(site.rows("SELECT counted FROM plant WHERE plant = 2") == [(brought,)] and site.rows("SELECT format FROM about") == [(2,)], "another count")
+    judge_counts(site, count)
+    return f"{count} annunciations, {brought} brought actions"
+
+
+def changed_plants(site: Site) -> int:
+    """Two plants of a name, the second with another table; how many annunciations there were."""
     for _ in range(6):
         site.ask(60)
     bring_up(site)
     site.archive()
-    count = annunciations(yard, site.table, site.accepted)
+    count = annunciations(site.yard, site.table, site.accepted)
     site.stop()
     write_new_table(site)
+    done = site.tool("archive", "run", site.device, site.database, STOPPED)
+    check(done.returncode == 0 and done.stdout.endswith(f"{max(site.accepted)} actions, to its end\n"), done.stdout, done.stderr)
     site.run(page_block("OPERATING.md", "Change the table"))
-    server = yard.serve(site.device)
-    with Client.connect(server.port, CLOCK) as clock, Client.connect(server.port, FEED) as feed:
+    site.server = site.yard.serve(site.device)
+    site.port = site.server.port
+    with Client.connect(site.port, CLOCK) as clock, Client.connect(site.port, FEED) as feed:
         clock.clock(site.moment + 100)
         feed.value(len(site.table.alarms), 7)
-        count += 1
-    site.port = server.port
-    site.archive()
-    server.end()
-    brought = rows_of(site.database, "SELECT counted FROM plant WHERE plant = 2")[0][0]
-    check(brought > 0, "nothing was brought")
-    judge_counts(site, count)
-    with contextlib.closing(sqlite3.connect(site.database)) as connection:
-        connection.executescript(FORMAT_1)
-    query = "SELECT COUNT(*) FROM history WHERE annunciated = 1"
-    check(rows_of(site.database, query)[0][0] > count, "an archive of format 1 counts no more")
-    judge_counts(site, count, None)
-    site.server = yard.serve(site.device, site.port)
     site.archive()
     site.stop()
-    check(rows_of(site.database, "SELECT counted FROM plant WHERE plant = 2") == [(brought,)] and rows_of(site.database, "SELECT format FROM about") == [(2,)], "another count")
-    judge_counts(site, count)
-    return f"{count} annunciations, {brought} brought actions"
+    check(site.rows("SELECT ends FROM plant WHERE plant = 1") == [(max(site.accepted),)] and not site.rows(f"SELECT 1 FROM gap WHERE why = '{OPEN.replace(chr(39), chr(39) * 2)}'"), "an open end")
+    return count + 1
+
+
+def make_old(site: Site) -> None:
+    """Makes an archive one of format 1."""
+    if not site.database.endswith(".sqlite"):
+        run = subprocess.run(["psql", "-X", "-q", "-v", "ON_ERROR_STOP=1", site.database], input=FORMAT_1.replace(WITHOUT, ""), capture_output=True, text=True, timeout=60)
+        return check(run.returncode == 0, run.stderr)
+    with contextlib.closing(sqlite3.connect(site.database)) as connection:
+        connection.executescript(FORMAT_1)
 
 
 def bring_up(site: Site) -> None:
@@ -261,16 +296,17 @@ def annunciations(yard: Yard, table: Table, accepted: dict[int, str]) -> int:
     return sum(is_annunciation(before, after, alarm) for before, after in zip(shown, shown[1:]) for alarm in range(len(table.alarms)))
 
 
-def judge_counts(site: Site, count: int, in_view: Optional[int] = -1) -> None:
+def judge_counts(site: Site, count: int, has_view: bool = True) -> None:
     """What a report, the list and the view `history` count; the page's query as it stands there, but of all priorities."""
-    report = run_tool("reports", site.database)
+    report = site.tool("reports", site.database)
     check(re.search(rf"^  annunciations +{count}$", report.stdout, re.MULTILINE), "a report counts", report.stdout, report.stderr, "and there were", count)
-    listed = run_tool("archive", "list", site.database).stdout
+    listed = site.tool("archive", "list", site.database).stdout
     check(sum(map(int, re.findall(r"(\d+) annunciations", listed))) == count and "only brought" in listed, listed, count)
-    if in_view is not None:
+    if has_view:
         page = (PAGES / "HISTORY.md").read_text(encoding="utf-8")
         query = re.search(r"```sql\n(.*?);\n```", page, re.DOTALL)[1].replace(" AND priority = 1", "")
-        check(len(rows_of(site.database, query)) == count, "the page's query gives", len(rows_of(site.database, query)), "and there were", count)
+        found = site.rows(query if site.database.endswith(".sqlite") else query.replace("datetime(moment, 'unixepoch')", "moment"))
+        check(len(found) == count, "the page's query gives", len(found), "and there were", count)
 
 
-CHECKS = {"tails": tails, "while_running": while_running, "refusals": refusals, "counted": counted_once}
+CHECKS = {"tails": tails, "while_running": while_running, "refusals": refusals, "counted": counted_once, "counted_postgresql": counted_postgresql}
