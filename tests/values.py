@@ -149,6 +149,21 @@ def no_values(yard: Yard) -> str:
     return f"{len(NO_VALUES)} texts that are no values"
 
 
+def messages(yard: Yard) -> str:
+    """A message is read with its map beside lines; with --json no line is, and --json wants a map."""
+    mapped = yard.write("json.csv", "name,tag,scale\na b,TI-1,100\nc,PI-2,\n{d},XS-1,\n")
+    message = '{"tst":"x","topic":"%s","qos":1,"retain":0,"payloadlen":%d,"payload":%s}\n'
+    lines = message % ("a b", 2, '"39"') + "c,250\n{d},1\n" + message % ("a b ", 1, '"1"') + message % ("c", 3, '"1"') + message % ("c", 0, "null")
+    for words, wanted, bad in (((), [True, False, True, True], 3), (("--json",), [True, False, False, False], 4)):
+        server = yard.serve(small(yard, f"json{len(words)}"))
+        run = tool("feed.py", "--port", server.port, "--map", mapped, *words, text=lines)
+        check(conditions(server.port, 4) == wanted and run.stdout.endswith(f" {bad + len(words)} bad lines\n"), words, conditions(server.port, 4), run.stdout, run.stderr)
+        server.end()
+    run = tool("feed.py", "--port", server.port, "--json", text=lines)
+    check(run.returncode == 2 and "--json goes with --map" in run.stderr, run.stderr)
+    return "messages"
+
+
 def judged_again(yard: Yard) -> str:
     """Another setpoint is held against the value that is there, by a map and by tags, though the source says nothing more."""
     servers = [yard.serve(small(yard, "setpoint")), yard.serve(small(yard, "setpoint2"))]
@@ -277,7 +292,7 @@ def main() -> None:
     program, (pace, seconds), folder = begin("values", sys.argv, (10_000, 60.0), (2_000, 7.0))
     yard, began = Yard(program, folder), time.monotonic()
     try:
-        said = [check_with(yard) for check_with in (scales, silence, no_values, judged_again, rows_left_out, first_of_them, fractions, sent_again, wrong_maps,
+        said = [check_with(yard) for check_with in (scales, silence, no_values, messages, judged_again, rows_left_out, first_of_them, fractions, sent_again, wrong_maps,
                                                     files_and_commands)]
         said += [reads_on(yard, 5 * pace), through_brokers(yard, pace, seconds)]
     except (Wrong, Lost, Refused, OSError, subprocess.TimeoutExpired) as wrong:

@@ -32,7 +32,8 @@ from table_file import Alarm
 from .mirror import Begun, Follower, Gap, Replaced, Served, Step, fixed
 from .model import AlarmState, Change, PlantModel
 from .store import Store, StoreFault
-from .words import Words, date, end_of, moment_of, sayer
+from .upkeep import list_plants, prune
+from .words import Words, end_of, moment_of, sayer
 
 # Seconds between two looks, and steps that are written together.
 PAUSE, STEPS = 0.2, 2000
@@ -40,7 +41,7 @@ PAUSE, STEPS = 0.2, 2000
 CHUNK = 5000
 # At which slot an action was asked. A device doesn't store which console asked.
 SLOTS = {"CLOCK": CLOCK, "VAL": FEED, "DESIGN": FEED}
-BEFORE, LOST, PRUNED = "before the archive", "no longer in the file", "pruned"
+BEFORE, LOST = "before the archive", "no longer in the file"
 # Why the end of a plant is missing: its file was read no further, or nobody read it.
 REPLACED, UNSEEN = "replaced before a query showed them", "the plant's end wasn't seen"
 
@@ -373,59 +374,6 @@ def archive_once(archiver: Archiver, served: Served) -> None:
     if not served.is_there or archiver.plant is None:
         raise Lost(served.said or f"{archiver.follower.path} isn't the server's device")
     print(f"{archiver.name}: plant {archiver.plant.number}, {archiver.plant.last} actions")
-
-
-def list_plants(chosen: argparse.Namespace) -> None:
-    """Prints each plant, its actions, and its gaps."""
-    with Store.open(chosen.database) as store:
-        store.still()
-        counted = store.counted()
-        for plant, name in list(store.rows("SELECT plant, name FROM plant ORDER BY plant")):
-            first, last, began, ended, count = store.row("SELECT MIN(number), MAX(number), MIN(moment), MAX(moment), COUNT(*) FROM action WHERE plant = ?", (plant,))
-            of_them = "plant = ? AND number > ?", (plant, counted[plant])
-            annunciations = store.value(f"SELECT COUNT(*) FROM change WHERE {of_them[0]} AND annunciated = 1", of_them[1])
-            brought = count - store.value(f"SELECT COUNT(*) FROM action WHERE {of_them[0]}", of_them[1])
-            print(f"{name} plant {plant}: {count} actions, {first or '-'} to {last or '-'}, {date(began)} to {date(ended)}, {annunciations} annunciations"
-                  + (f"; {brought} actions only brought the states of the plant before" if brought else ""))
-            for first, last, began, ended, why in store.rows("SELECT first, last, began, ended, why FROM gap WHERE plant = ? ORDER BY first", (plant,)):
-                print(f"  gap: actions {first} {'and later' if last is None else f'to {last}'}, {date(began)} to {date(ended)}: {why}")
-
-
-def prune(chosen: argparse.Namespace) -> None:
-    """Takes away what is older than a moment. The state of each alarm there is kept as one that was found."""
-    with Store.open(chosen.database) as store:
-        plants = [row[0] for row in store.rows("SELECT plant FROM plant WHERE name = ? ORDER BY plant", (chosen.name,))]
-        if not plants:
-            raise StoreFault(f"{store.place} has no plant of the name {chosen.name}")
-        gone = 0
-        for plant in plants:
-            last = store.last_before(plant, chosen.before)
-            if last:
-                gone += prune_plant(store, plant, *last)
-            if plant != plants[-1] and not store.value("SELECT COUNT(*) FROM action WHERE plant = ?", (plant,)):
-                for table in ("plant", "alarm", "change", "flood", "gap"):
-                    store.run(f"DELETE FROM {table} WHERE plant = ?", (plant,))
-        store.commit()
-        print(f"{chosen.name}: {gone} actions before {date(chosen.before)} pruned")
-
-
-def prune_plant(store: Store, plant: int, last: int, moment: int) -> int:
-    """Takes away the actions of a plant up to a number; how many they were."""
-    count = store.value("SELECT COUNT(*) FROM action WHERE plant = ? AND number <= ?", (plant, last))
-    states = list(store.rows(
-        "SELECT c.alarm, c.tag, c.priority, c.area, c.after, c.flags, c.since FROM change c JOIN (SELECT alarm, MAX(number) AS number FROM change "
-        "WHERE plant = ? AND number <= ? GROUP BY alarm) l ON l.alarm = c.alarm AND l.number = c.number WHERE c.plant = ?", (plant, last, plant)))
-    floods = list(store.rows(
-        "SELECT f.area, f.flooded, f.annunciations FROM flood f JOIN (SELECT area, MAX(number) AS number FROM flood WHERE plant = ? AND number <= ? "
-        "GROUP BY area) l ON l.area = f.area AND l.number = f.number WHERE f.plant = ?", (plant, last, plant)))
-    for table in ("action", "change", "flood"):
-        store.run(f"DELETE FROM {table} WHERE plant = ? AND number <= ?", (plant, last))
-    store.run("DELETE FROM gap WHERE plant = ? AND last <= ?", (plant, last))
-    store.insert("change", [(plant, alarm, last, moment, tag, priority, area, None, after, flags, 0, since)
-                            for alarm, tag, priority, area, after, flags, since in states])
-    store.insert("flood", [(plant, area, last, moment, flooded, annunciations) for area, flooded, annunciations in floods])
-    store.insert("gap", [(plant, 1, last, None, moment, PRUNED)])
-    return count
 
 
 def arguments() -> Words:
