@@ -353,4 +353,4 @@ def in_words(figures: Figures) -> Iterable[str]:
     for one in figures.summary():
         bound = "" if one.bound is None else f"at most {one.written(one.bound)}"
         bound += "" if one.manageable is None else f", or {one.written(one.manageable)}"
-        yield f"  {one.name:44}{one.written(one.value):>12}   {bound:18}{'ABOVE' if one.is_above else ''}".rstrip()
+        yield f"  {one.name:44}{one.written(one.value):>12}   {bound:22}{'ABOVE' if one.is_above else ''}".rstrip()
