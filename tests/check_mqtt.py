@@ -15,7 +15,7 @@ import threading
 import time
 from typing import Iterable
 
-from tools import EXAMPLES, PATIENCE, Yard, await_true, started, toml, words_of  # first: the others find examples/ by it
+from tools import EXAMPLES, PATIENCE, Yard, await_true, slowness, started, toml, words_of  # first: the others find examples/ by it
 
 from alarm_client import Client
 from program import check
@@ -249,7 +249,7 @@ def while_away(yard: Yard, messages: int) -> str:
     site.server.end()
     drawn = [(f"plant/{dice.randrange(TAGS)}", dice.choice(("1.4", "2.5"))) for _ in range(messages)]
     publish_all(site.broker, drawn)
-    time.sleep(1)
+    time.sleep(2 * slowness())  # the feed has read all of it
     last = {f"plant/{tag}": "1.4" for tag in range(TAGS)} | {"plant/0": "2.5"} | dict(drawn)
     site.server = yard.serve(site.device, site.server.port)
     await_true("the last values", lambda: site.holding() == wanted(last))

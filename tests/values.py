@@ -15,7 +15,7 @@ import threading
 import time
 from decimal import Decimal
 
-from tools import PATIENCE, Yard, await_true, end_all, ended, start, started, stop, tool, toml  # first: the others find examples/ by it
+from tools import PATIENCE, Yard, await_true, end_all, ended, slowness, start, started, stop, tool, toml  # first: the others find examples/ by it
 
 from alarm_client import Client, Lost, Refused
 from check_mqtt import Fed, conditions, recipe, through_brokers
@@ -245,6 +245,7 @@ def reads_on(yard: Yard, count: int) -> str:
     writer.start()
     writer.join(PATIENCE)
     check(not writer.is_alive(), "the feed doesn't read on while there is no server")
+    time.sleep(slowness())  # and has read what is left in the pipe
     server = yard.serve(device, server.port)
     await_true("the last values", lambda: conditions(server.port, 3) == [True, False, True])
     with Client.connect(server.port, 3) as console:

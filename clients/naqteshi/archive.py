@@ -82,8 +82,8 @@ def latest(store: Store, name: str) -> Optional[Plant]:
 
 def last_moment(store: Store, name: str, number: int) -> Optional[int]:
     """The moment at which the plants of a name before one ended."""
-    query = "SELECT MAX(a.moment) FROM action a WHERE a.plant = (SELECT MAX(p.plant) FROM plant p WHERE p.name = ? AND p.plant < ? AND " \
-            "EXISTS (SELECT 1 FROM action b WHERE b.plant = p.plant))"
+    query = ("SELECT moment FROM action WHERE plant = (SELECT MAX(p.plant) FROM plant p WHERE p.name = ? AND p.plant < ? AND "
+             "EXISTS (SELECT 1 FROM action a WHERE a.plant = p.plant)) ORDER BY number DESC LIMIT 1")
     return store.value(query, (name, number))
 
 

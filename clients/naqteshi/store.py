@@ -152,10 +152,11 @@ class Store:
         moment at which that one ended."""
         ended: Optional[int] = None
         for plant, begins, shown in list(self.rows("SELECT plant, begins, shown FROM plant WHERE name = ? ORDER BY plant", (name,))):
-            query = "SELECT MAX(number) FROM action WHERE plant = ? AND number <= ? AND moment <= ?"
+            query = "SELECT number FROM action WHERE plant = ? AND number <= ? AND moment <= ? ORDER BY number DESC LIMIT 1"
             last = None if ended is None else self.value(query, (plant, shown, ended))
             yield plant, max(begins, last or 0)
-            ended = self.value("SELECT MAX(moment) FROM action WHERE plant = ?", (plant,)) or ended
+            latest = self.value("SELECT moment FROM action WHERE plant = ? ORDER BY number DESC LIMIT 1", (plant,))
+            ended = ended if latest is None else latest
 
     def run(self, statement: str, values: Sequence[Any] = ()) -> None:
         self.execute(self.connection.cursor(), statement, values).close()
