@@ -26,7 +26,6 @@ RECIPE = re.compile(r"```sh\n(.*?)```", re.DOTALL)
 TAGS = 200
 # Retained topics that a subscription begins with: more than mosquitto queues for a client.
 RETAINED = 2_000
-NO_BROKER = "no mosquitto: MQTT left out"
 
 
 def conditions(port: int, alarms: int) -> list[bool]:
@@ -286,8 +285,5 @@ def through_a_broker(yard: Yard, pace: int, seconds: float) -> str:
     return f"{publisher.sent} values through a broker, {kills} kills"
 
 
-def through_brokers(yard: Yard, pace: int, seconds: float) -> str:
-    """All of these, where there is a broker."""
-    if not shutil.which("mosquitto") or not shutil.which("mosquitto_sub"):
-        return NO_BROKER
-    return "; ".join((own_topic(yard), retained(yard), while_away(yard, 2 * pace), through_a_broker(yard, pace, seconds)))
+def has_broker() -> bool:
+    return bool(shutil.which("mosquitto") and shutil.which("mosquitto_sub"))

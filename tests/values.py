@@ -3,9 +3,10 @@
 
     tests/values.py PROGRAM [--short]
 
-Scales, bad values, silence, suppression and wrong maps; each recipe of the page as it stands there, MQTT with a real mosquitto. Then 200
-sources publish through a broker for a minute, 10,000 values a second, while broker, feed and server are killed: at the end the plant's
-conditions are those of the last values. With --short it is five seconds. Without mosquitto what wants it is left out, and that is said.
+Scales, bad values, silence, suppression, other setpoints and wrong maps; each recipe of the page as it stands there, MQTT with a real mosquitto as
+Debian configures it. Beside that 200 sources publish through a broker for a minute, 10,000 values a second, while broker, feed and server are killed:
+at the end the plant's conditions are those of the last values. With --short it is seven seconds. Without mosquitto what wants it is left out, and that
+is said. The checks run beside each other.
 """
 import os
 import shutil
@@ -18,7 +19,8 @@ from decimal import Decimal
 from tools import PATIENCE, Yard, await_true, end_all, ended, slowness, start, started, stop, tool, toml  # first: the others find examples/ by it
 
 from alarm_client import Client, Lost, Refused
-from check_mqtt import Fed, conditions, recipe, through_brokers
+from check_mqtt import Fed, conditions, has_broker, own_topic, recipe, retained, through_a_broker, while_away
+from history import run_checks
 from program import Wrong, begin, check, finish, free_ports
 from table_file import Alarm, Table, device_size
 from value_map import Row
@@ -289,13 +291,21 @@ def files_and_commands(yard: Yard) -> str:
     return "files, commands"
 
 
+def all_checks(pace: int, seconds: float) -> dict:
+    """Each check by its name. Those that take longest come first."""
+    plain = (judged_again, silence, sent_again, rows_left_out, files_and_commands, scales, no_values, messages, first_of_them, fractions, wrong_maps)
+    brokers = {"through_a_broker": lambda yard, _: through_a_broker(yard, pace, seconds), "while_away": lambda yard, _: while_away(yard, 2 * pace),
+               "retained": lambda yard, _: retained(yard), "own_topic": lambda yard, _: own_topic(yard)}
+    if not has_broker():
+        brokers = {"brokers": lambda _yard, _: "no mosquitto: MQTT left out"}
+    return {**brokers, "reads_on": lambda yard, _: reads_on(yard, 5 * pace), **{one.__name__: lambda yard, _, one=one: one(yard) for one in plain}}
+
+
 def main() -> None:
     program, (pace, seconds), folder = begin("values", sys.argv, (10_000, 60.0), (2_000, 7.0))
-    yard, began = Yard(program, folder), time.monotonic()
+    checks, began = all_checks(pace, seconds), time.monotonic()
     try:
-        said = [check_with(yard) for check_with in (scales, silence, no_values, messages, judged_again, rows_left_out, first_of_them, fractions, sent_again, wrong_maps,
-                                                    files_and_commands)]
-        said += [reads_on(yard, 5 * pace), through_brokers(yard, pace, seconds)]
+        said = run_checks(program, folder, checks, list(checks), pace)
     except (Wrong, Lost, Refused, OSError, subprocess.TimeoutExpired) as wrong:
         sys.exit(f"values: {wrong}; devices are in {folder}")
     finally:
