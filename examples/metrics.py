@@ -26,8 +26,8 @@ from table_file import NoTable
 
 # Seconds after which a client that says nothing is left.
 SILENCE = 10
-# Seconds to wait at each other slot for a query's answer.
-BRIEFLY = 0.3
+# Seconds to wait at each other slot for a query's answer: all of them take less than the ten seconds that Prometheus waits for a page.
+BRIEFLY = 0.1
 STATES = ("UNACK", "ACKED", "RTNUN", "LATUN", "LATAK")
 
 

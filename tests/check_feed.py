@@ -2,6 +2,7 @@
 import os
 import re
 import shutil
+import signal
 import socket
 import subprocess
 import sys
@@ -13,6 +14,7 @@ from dataclasses import replace
 
 from alarm_client import CLOCK, FEED, PRIORITIES, Client, Overview
 from program import check, free_ports
+from serve import Server
 from table_file import Alarm, Table, device_size, image_length, load_table
 from tools import EXAMPLES, Yard, await_said, await_true, ended, start, stop, tool, toml
 
@@ -291,7 +293,7 @@ def metrics(yard: Yard) -> str:
         holds(address, "alarms_chattering 1", "alarms_stale 0")
         clock.clock(1000 + DAY)
         holds(address, "alarms_chattering 0", "alarms_stale 11")
-        slot_taken(address, server.port)
+        slot_taken(address, server)
     checked = lint(address)
     silent(address)
     server.end()
@@ -301,9 +303,9 @@ def metrics(yard: Yard) -> str:
     return f"metrics.py, {checked}"
 
 
-def slot_taken(address: str, port: int) -> None:
-    """Another client at the exporter's slot isn't a server that is down, whatever other slots are taken too; a server that halts is."""
-    others = [Client.connect(port, slot) for slot in (15, 14, 13)]
+def slot_taken(address: str, server: Server) -> None:
+    """Another client at the exporter's slot isn't a server that is down, whatever other slots are taken too; a server that halts is, in time."""
+    others = [Client.connect(server.port, slot) for slot in (15, 14, 13)]
     for other in others:
         other.plant()
     holds(address, "alarms_up 1", "alarms_slot_taken 1", f"alarms_actions_total {others[0].seen}", "alarms_configured 200")
@@ -311,6 +313,13 @@ def slot_taken(address: str, port: int) -> None:
     for other in others:
         other.close()
     holds(address, "alarms_up 1", "alarms_slot_taken 0")
+    server.process.send_signal(signal.SIGSTOP)
+    began = time.monotonic()
+    holds(address, "alarms_up 0", "alarms_slot_taken 0")
+    took = time.monotonic() - began
+    server.process.send_signal(signal.SIGCONT)
+    check(took < 9, "the page of a server that halts took", took, "s, and Prometheus waits ten")
+    await_true("a server that goes on", lambda: "alarms_up 1" in scrape(address).splitlines())
 
 
 def stands_still(address: str) -> None:
