@@ -44,6 +44,8 @@ from value_map import NoMap, ValueMap
 AGAIN = 10.0
 # Refusals of what stands so already.
 SAME = (Refusal.NO_CHANGE, Refusal.ALREADY_SET, Refusal.NOT_SET)
+# Refusals that are the server's and not the value's: it is sent again.
+LATER = (Refusal.STOPPED, Refusal.OUT_OF_MEMORY)
 
 
 def again(latest: Iterable[Input]) -> list[Input]:
@@ -183,7 +185,7 @@ class Feed:
             else:
                 counts["refused"] += 1
                 say(f"{one}: {reply}")
-                if self.latest.get(one.key) == one:
+                if reply.refusal not in LATER and self.latest.get(one.key) == one:
                     del self.latest[one.key]
 
 

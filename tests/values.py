@@ -8,6 +8,9 @@ Debian configures it. Beside that 200 sources publish through a broker for a min
 at the end the plant's conditions are those of the last values. With --short it is seven seconds. Without mosquitto what wants it is left out, and that
 is said. The checks run beside each other.
 """
+import collections
+import contextlib
+import io
 import os
 import shutil
 import subprocess
@@ -15,11 +18,14 @@ import sys
 import threading
 import time
 from decimal import Decimal
+from typing import Iterable, Iterator
 
 from tools import PATIENCE, Yard, await_true, end_all, ended, slowness, start, started, stop, tool, toml  # first: the others find examples/ by it
 
-from alarm_client import Client, Lost, Refused
+from alarm_client import Client, Lost, Refusal, Refused
 from check_mqtt import Fed, conditions, has_broker, own_topic, recipe, retained, through_a_broker, while_away
+from feed import Feed
+from feed_lines import Input, Lines
 from history import run_checks
 from program import Wrong, begin, check, finish, free_ports
 from table_file import Alarm, Table, device_size
@@ -112,6 +118,28 @@ def sent_again(yard: Yard) -> str:
     stop(feed)
     server.end()
     return "sent again"
+
+
+class Refusing:
+    """A client whose server refuses each request by the same number."""
+
+    def __init__(self, refusal: Refusal):
+        self.refusal = refusal
+
+    def ask_all(self, requests: Iterable[str]) -> Iterator[Refused]:
+        return (Refused(request, self.refusal) for request in requests)
+
+
+def kept(_yard: Yard) -> str:
+    """A value that was refused since the server stops or has no memory is sent again; one that is refused for itself isn't."""
+    for refusal, is_kept in ((Refusal.STOPPED, True), (Refusal.OUT_OF_MEMORY, True), (Refusal.NO_CHANGE, True), (Refusal.NO_SUCH_ALARM, False)):
+        feed, one = Feed.__new__(Feed), Input("T", 1)
+        feed.lines, feed.client, feed.latest = Lines(None), Refusing(refusal), {one.key: one}
+        feed.lines.numbers = {"T": 0}
+        with contextlib.redirect_stderr(io.StringIO()):
+            feed.ask([one], collections.Counter())
+        check((one.key in feed.latest) == is_kept, "a value that is refused by", refusal, "is kept" if feed.latest else "is dropped")
+    return "refused values"
 
 
 def wrong_maps(yard: Yard) -> str:
@@ -293,7 +321,7 @@ def files_and_commands(yard: Yard) -> str:
 
 def all_checks(pace: int, seconds: float) -> dict:
     """Each check by its name. Those that take longest come first."""
-    plain = (judged_again, silence, sent_again, rows_left_out, files_and_commands, scales, no_values, messages, first_of_them, fractions, wrong_maps)
+    plain = (judged_again, silence, sent_again, kept, rows_left_out, files_and_commands, scales, no_values, messages, first_of_them, fractions, wrong_maps)
     brokers = {"through_a_broker": lambda yard, _: through_a_broker(yard, pace, seconds), "while_away": lambda yard, _: while_away(yard, 2 * pace),
                "retained": lambda yard, _: retained(yard), "own_topic": lambda yard, _: own_topic(yard)}
     if not has_broker():
