@@ -7,6 +7,7 @@ import os
 import pathlib
 import re
 import select
+import signal
 import subprocess
 import sys
 import threading
@@ -108,6 +109,8 @@ def end_all() -> None:
         terminal.end()
     for process in STARTED:
         if process.poll() is None:
+            if os.getpgid(process.pid) == process.pid:  # it leads a group of its own
+                os.killpg(process.pid, signal.SIGKILL)
             process.kill()
             process.wait()
 
