@@ -12,6 +12,8 @@ the bytes that the disk refused is the kernel's own. In each way the disk fails 
                   started once more, and answers.
     show          after the failed sync the device is only shown: what the disk has, and nothing else.
 
+The same is tried while another process has the file mapped, or reads it without pause (check_cached.py).
+
 Between these requests, and after them, the power fails: a copy of what the disk has is mounted. It holds all that was answered, and no more.
 Last, the script itself is tested: a program that ignores a failed sync, and one that never lets the kernel forget, are refused.
 
@@ -33,6 +35,7 @@ import sys
 import time
 
 from calls import Layout, read_calls
+from check_cached import Holding, may_start
 from program import PORTS, TESTS, Course, Desk, Fault, Wrong, begin, check, draw_lines, finish, preload, run_words
 from serve import END_WITHIN, Server
 
@@ -341,6 +344,23 @@ class Way:
         return near[0]
 
 
+class CachedWay(Way):
+    """A sync of a desk fails while another process keeps the file in the cache. The kind is `mapped`, `read`, or `mapped, no tool`."""
+
+    def run(self):
+        self.disk.put(self.start)
+        how, _, without = self.kind.partition(", ")
+        holding = Holding(self.disk.device, how)
+        try:
+            answered = self.failed()
+            time.sleep(RESTART)
+            if not without:
+                may_start(self.disk.device, holding, how)
+            self.goes_on(answered)
+        finally:
+            holding.end()
+
+
 class Writeback:
     def __init__(self, program, folder):
         self.folder = folder
@@ -348,7 +368,7 @@ class Writeback:
         subprocess.run(["cc", "-O2", "-o", self.badfs, os.path.join(TESTS, "badfs.c")], check=True)
         self.course = Course(program, folder, 7, 0, lines=draw_course(7, BEFORE + RUN + AFTER + 1))
         self.start, self.made = self.rehearse()
-        self.failures = itertools.count()
+        self.failures, self.disks = itertools.count(), itertools.count()
 
     def rehearse(self):
         """The device that a run begins with, and the calls of a run without a failure."""
@@ -377,25 +397,25 @@ class Writeback:
         check(len(written) == 2, "the run has no checkpoint")
         return [sum(call[0] == "fdatasync" for call in self.made[:at]) + 1 for at in written]
 
-    def all(self, system, ways, body=None):
-        """Goes all these ways, several at once. What was wrong in them."""
+    def all(self, system, ways, body=None, kind=Way):
+        """Goes all these ways of a kind, several at once. What was wrong in them."""
         disks, free = [], queue.SimpleQueue()
         try:
-            for number in range(PARALLEL):
-                disks.append(Disk(os.path.join(self.folder, f"{system}{number}{body}"), self.library, self.badfs, system))
+            for _ in range(PARALLEL):
+                disks.append(Disk(os.path.join(self.folder, f"{system}{next(self.disks)}"), self.library, self.badfs, system))
                 free.put(disks[-1])
             with concurrent.futures.ThreadPoolExecutor(PARALLEL) as pool:
-                found = list(pool.map(lambda way: self.one(free, way, body), ways))
+                found = list(pool.map(lambda way: self.one(free, way, body, kind), ways))
         finally:
             for disk in disks:
                 disk.close()
         return [wrong for wrong in found if wrong]
 
-    def one(self, free, way, body):
+    def one(self, free, way, body, kind):
         """What is wrong in one way."""
         disk = free.get()
         try:
-            going = Way(self.course, disk, self.start, *way, body)
+            going = kind(self.course, disk, self.start, *way, body)
             going.run()
             check(not going.unreported, going.unreported)
         except Wrong as wrong:
@@ -435,12 +455,23 @@ def try_ways(program, folder, step):
         check(2 * failures > len(here), system + ": the disk has failed in", failures, "ways alone")
         counts[system] = f"{len(here)}, {failures} of them with a failure"
         writeback.failures = itertools.count()
+    counts |= try_cached(writeback, gates)
     for body, does in BODIES.items():
         found = writeback.all("ext4", gates, body)
         losing = sum("lost" in one for one in found)
         check(losing, "a program that", does, "isn't refused:", found)
         counts[f"of a program that {does}"] = f"{len(found)} of {len(gates)} refused ({losing} lose answered actions)"
     return ", ".join(f"{what} {count}" for what, count in counts.items())
+
+
+def try_cached(writeback, gates):
+    """The failures at a half's gate while the file is kept in the cache, with the tool before each start, and without. How many there were."""
+    kept = [(how, call, at) for how in ("mapped", "read") for _, call, at in gates]
+    wrong = writeback.all("ext4", kept, kind=CachedWay)
+    check(not wrong, "with the file kept in the cache:", summary(wrong, len(kept)))
+    found = writeback.all("ext4", [("mapped, no tool", call, at) for _, call, at in gates], kind=CachedWay)
+    check(any("lost" in one for one in found), "with the file mapped, and without the tool, nothing is lost:", found)
+    return {"with the file mapped or read": f"{len(kept)}", "with it mapped, and without the tool": f"{len(found)} of {len(gates)} refused"}
 
 
 def main():
