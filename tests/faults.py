@@ -18,6 +18,7 @@ Last, the script itself is tested: programs that ignore failures are refused.
 import collections
 import os
 import re
+import shutil
 import sys
 import time
 
@@ -140,6 +141,21 @@ class Faults:
         check_list(split_opening(on_device(made), opening_by_link(), "desk of a link"), [], "desk of a link")
         for fault in self.each(made, {"fsync": ["eio"], "fdatasync": ["eio"]}):
             self.failed(["desk", link], fault, made)
+
+    def folders(self):
+        """A device by a path whose links stand before the last name: a link to a link to a folder. The folder of each name is brought to the disk."""
+        room = os.path.join(self.folder, "names")
+        for name in ("links", "middle", "data/new"):
+            os.makedirs(os.path.join(room, name))
+        os.symlink("../data/new", os.path.join(room, "middle", "current"))
+        os.symlink(os.path.join(room, "middle", "current"), os.path.join(room, "links", "plant"))
+        device = os.path.join(room, "links", "plant", "device")
+        shutil.copy(os.path.join(self.folder, "course"), device)
+        self.whole(["desk", device])
+        with open(self.list, encoding="utf-8") as calls:
+            synced = {os.path.realpath(call.split()[1]) for call in calls if call.startswith("fsync ")}
+        for name in ("links", "middle", "data", "data/new", ""):
+            check(os.path.realpath(os.path.join(room, name)) in synced, "the folder", name or room, "of a name in the path isn't synced:", synced)
 
     def one_desk(self, course, device, fault, made):
         if fault.kills:
@@ -288,6 +304,7 @@ def main():
         for seed, count in ((2, 150), (3, 420)):
             faults.desk(seed, count)
         faults.linked()
+        faults.folders()
         full = faults.full_disk()
     except Wrong as wrong:
         sys.exit(f"faults: {wrong}; devices are in {folder}")

@@ -9,10 +9,12 @@ a disk that is full (root, for a small file system) and for its modes and its ro
 patience and without one.
 """
 import os
+import random
 import resource
 import shutil
 import socket
 import stat
+import string
 import subprocess
 import sys
 import time
@@ -23,11 +25,17 @@ TOP = os.path.join(os.path.dirname(os.path.abspath(__file__)), "..")
 REFINERY = os.path.join(TOP, "examples", "refinery.toml")
 CLOCK = 17
 SLOTS = 18
-# The methods by which a request of HTTP begins, and what may come behind them.
+# The methods of RFC 9110, PATCH and PRI, and what may come behind them. A method is any token, so others are drawn of a token's letters.
 METHODS = [b"GET ", b"HEAD ", b"POST ", b"PUT ", b"DELETE ", b"CONNECT ", b"OPTIONS ", b"TRACE ", b"PATCH ", b"PRI "]
 REST = b"/ HTTP/1.1\r\nHost: 127.0.0.1\r\nContent-Type: text/plain\r\n\r\n\n1 CLOCK 1000\n2 STATE 0\n"
+TOKEN = b"!#$%&'*+-.^_`|~" + string.digits.encode() + string.ascii_letters.encode()
 # First lines that are no such request, and the reply to each. Behind a line that is refused the connection goes on.
-NEAR = [b"GETS /", b"GET", b"get /", b" GET /", b"HEADER x", b"PRIO 0 1", b"POST"]
+NEAR = [b"GETS /", b"GET", b"get /", b" GET /", b"HEADER x", b"PRIO 0 1", b"POST", b"HTTP/1.1", b"NAQ /HTTP/1.1", b"NAQ / HTTP/11", b"NAQ / HTTP/1.1.", b"NAQ / HTTP/1.x",
+        b"NAQ / HTTP/1.10", b"NAQ / http/1.1", b"NAQ / HTTP /1.1"]
+# A page whose name leads to the server's port once the page is loaded.
+REBOUND = b"""<!doctype html><title>page</title><script>
+setInterval(() => fetch('/', {method: 'NAQ', body: '\\n1 ACK 0\\n2 STATE 0\\n'}).catch(() => 0), 200);
+</script>"""
 PAGE = """<!doctype html><title>page</title><form id=f method=post enctype=text/plain action=http://127.0.0.1:{port}/><input name=x></form><script>
 const body = '\\n1 ACK 0\\n1 CLOCK 1000\\n1 VAL 0 900\\n';
 for (let slot = 0; slot < 18; slot++) {{
@@ -50,11 +58,25 @@ def limited(limits):
     return limit
 
 
+def serve_until(pages, asked, page):
+    """Gives a page to whoever asks for one, until a request begins so: then the page runs."""
+    pages.settimeout(60)
+    head = b"HTTP/1.1 200 OK\r\nConnection: close\r\nContent-Type: text/html\r\nContent-Length: %d\r\n\r\n" % len(page)
+    while True:
+        one, _ = pages.accept()
+        with one:
+            one.settimeout(10)
+            request = one.recv(4096)
+            if request.startswith(asked):
+                return
+            one.sendall(head + page)
+
+
 class Served:
     """A server over a device, with limits, to the end of a block."""
 
-    def __init__(self, program, device, limits=None, options=(), loaded=None):
-        self.port = free_ports()
+    def __init__(self, program, device, limits=None, options=(), loaded=None, port=None):
+        self.port = port or free_ports()
         words = [program, "serve", device, "--port", str(self.port), *options]
         self.process = subprocess.Popen(words, stdout=subprocess.PIPE, stderr=subprocess.PIPE, preexec_fn=limited(limits or {}),
                                         env={**os.environ, **(loaded or {})})
@@ -102,22 +124,54 @@ class Surroundings:
                     for slot in (0, CLOCK):
                         self.http(server, slot, method, cut)
             check(server.ask(CLOCK, b"1 STATE 0\n") == b"1 STATE 0 NORM 0 - -\n", "after requests of HTTP")
+            for _ in range(400 // step):
+                self.drawn_request(server)
+            check(server.ask(CLOCK, b"1 STATE 0\n") == b"1 STATE 0 NORM 0 - -\n", "after requests of drawn methods")
             for line in NEAR:
                 check(server.ask(0, line + b"\n") == b"0 NO 13\n", line)
                 self.done += 1
+            self.later_request(server)
 
-    def http(self, server, slot, method, cut):
+    def drawn_request(self, server):
+        """A request of any method and target, behind empty lines or none, in two pieces."""
+        method = bytes(random.choices(TOKEN, k=random.randint(1, 24)))
+        target = b"/" + bytes(random.choices(TOKEN, k=random.choice((0, 5, 300))))
+        version = b" HTTP/%d.%d" % (random.randrange(10), random.randrange(10))
+        text = random.choice((b"", b"\r\n", b"\n\r\n")) + method + b" " + target + version + random.choice((b"\r\n", b"\n"))
+        self.http(server, random.choice((0, CLOCK)), text, random.randrange(1, len(text)), b"\r\n\n1 CLOCK 1000\n2 STATE 0\n")
+
+    def later_request(self, server):
+        """A line that isn't the first may be anything: it is answered, and the connection goes on."""
+        with server.connect(0) as client, client.makefile("rb") as replies:
+            client.sendall(b"1 STATE 0\nNAQ / HTTP/1.1\n2 STATE 0\n")
+            said = [replies.readline() for _ in range(3)]
+        check(said == [b"1 STATE 0 NORM 0 - -\n", b"0 NO 13\n", b"2 STATE 0 NORM 0 - -\n"], "a request behind a line", said)
+        self.done += 1
+
+    def http(self, server, slot, method, cut, rest=REST):
+        """A request in two pieces is answered by nothing, but for the empty lines that came before it."""
         with server.connect(slot) as client:
             client.setsockopt(socket.IPPROTO_TCP, socket.TCP_NODELAY, 1)
             client.sendall(method[:cut])
             time.sleep(0.001)
             try:
-                client.sendall(method[cut:] + REST)
-                came = client.recv(64)
+                client.sendall(method[cut:] + rest)
+                came = self.replies(client)
             except (BrokenPipeError, ConnectionResetError):
                 came = b""
         self.done += 1
-        check(came == b"", "HTTP", method, cut, "slot", slot, "was answered", came)
+        check(came in (b"", b"0 NO 13\n", b"0 NO 13\n" * 2)[:1 + method[:cut].count(b"\n")], "HTTP", method, cut, "slot", slot, "was answered", came)
+
+    def replies(self, client):
+        """What comes up to the end of a connection, or in a second without a byte."""
+        client.settimeout(1)
+        came = b""
+        try:
+            while piece := client.recv(64):
+                came += piece
+        except TimeoutError:
+            came += b".. and it goes on"
+        return came
 
     def browser(self):
         """A page that fetches, opens WebSockets and posts a form at each port does nothing to the plant."""
@@ -134,6 +188,28 @@ class Surroundings:
             subprocess.run([chromium, *words], capture_output=True, timeout=90, check=False)
             for slot in (0, 16, CLOCK):
                 check(server.ask(slot, b"1 STATE 0\n") == b"1 STATE 0 NORM 0 - -\n", "a page commanded slot", slot)
+        self.done += 1
+
+    def rebound(self):
+        """A page whose name led to another process leads to a server's console now, and asks it by a method of its own: it acknowledges nothing."""
+        chromium = shutil.which("chromium")
+        if chromium is None:
+            return
+        port = free_ports()
+        with socket.create_server(("127.0.0.1", port)) as pages:
+            words = ["--headless=new", "--no-sandbox", "--disable-gpu", f"--user-data-dir={self.folder}/rebound", "--host-resolver-rules=MAP plant.test 127.0.0.1",
+                     f"http://plant.test:{port}/"]
+            browser = subprocess.Popen([chromium, *words], stdout=subprocess.DEVNULL, stderr=subprocess.DEVNULL)
+            serve_until(pages, b"NAQ ", REBOUND)
+        try:
+            with Served(self.program, self.device, port=port) as server:
+                check(server.ask(16, b"1 VAL 0 900\n") == b"1 OK 1\n", "a value isn't taken")
+                time.sleep(4)
+                said = server.ask(16, b"2 STATE 0\n")
+                check(said == b"2 STATE 1 UNACK 1 - -\n", "a page of a rebound name commanded a console:", said)
+        finally:
+            browser.kill()
+            browser.wait()
         self.done += 1
 
     def urgent(self, rounds):
@@ -410,6 +486,7 @@ def main(argv):
     around.other_addresses()
     around.full_disk()
     around.browser()
+    around.rebound()
     finish("surroundings.py", folder, f"{around.done} trials around the process, none wrong, {time.monotonic() - began:.0f} s")
 
 
