@@ -3,7 +3,8 @@
 
 Each folder of examples/ with a `stdin` has a `stdout` beside it: what the desk prints for it, over a copy of `plant.device` where the
 folder has one. Without words the program says `fault usage`. `refinery.toml` is what `make_refinery.py` prints. Each fault of a table
-file that docs/TABLE.md lists is told by its line, and but for `too-small` no file is made.
+file that docs/TABLE.md lists is told by its line, and but for `too-small` no file is made. `alarms_alone` of standby/ resumes nothing that the
+other machine's switch doesn't allow: switch and DRBD are played by scripts.
 """
 import os
 import re
@@ -34,6 +35,18 @@ FAULTS = [
     ([WHOLE.replace('"XS-201"', '"TI 101"')], "fault table 1 tag"),
     ([WHOLE.replace("28997", "1000")], "fault too-small"),
 ]
+# What the switch prints, what DRBD says of the connection and of the roles, and whether alarms_alone may resume what is suspended.
+ALONE = [
+    ("off", "WFConnection", "Primary/Unknown", True), ("on", "WFConnection", "Primary/Unknown", False), ("", "WFConnection", "Primary/Unknown", False),
+    ("OFFLINE", "WFConnection", "Primary/Unknown", False), ("off", "Connected", "Primary/Secondary", False), ("off", "WFConnection", "Secondary/Unknown", False),
+]
+DRBDADM = """#!/bin/sh
+echo "$*" >> {folder}/asked
+case $1 in
+    cstate) echo {connection} ;;
+    role) echo {roles} ;;
+esac
+"""
 
 
 def read(*path):
@@ -89,6 +102,28 @@ def run_faults(program, folder):
                 os.remove(device)
 
 
+def write_script(path, text):
+    with open(path, "w", encoding="ascii") as file:
+        file.write(text)
+    os.chmod(path, 0o755)
+
+
+def run_alone(folder, status, connection, roles, is_allowed):
+    """alarms_alone as it is, but for the folder of its settings."""
+    asked = os.path.join(folder, "asked")
+    open(asked, "w", encoding="ascii").close()
+    write_script(os.path.join(folder, "power"), f"#!/bin/sh\n[ $1 != status ] || echo {status}\n")
+    write_script(os.path.join(folder, "drbdadm"), DRBDADM.format(folder=folder, connection=connection, roles=roles))
+    write_script(os.path.join(folder, "standby.env"), f"POWER={folder}/power\n")
+    text = read(EXAMPLES, "standby", "alarms_alone").decode()
+    check("/etc/alarms/" in text, "alarms_alone has no settings")
+    write_script(os.path.join(folder, "alarms_alone"), text.replace("/etc/alarms/", folder + "/"))
+    run = subprocess.run([os.path.join(folder, "alarms_alone"), "alarms"], env={**os.environ, "PATH": f"{folder}:{os.environ['PATH']}"}, capture_output=True, timeout=60)
+    is_resumed = b"resume-io alarms" in read(asked)
+    check((run.returncode == 0, is_resumed) == (is_allowed, is_allowed), "alarms_alone, with a switch that says", status, "and DRBD", connection, roles, "ended with", run)
+    check(is_allowed or b"nothing was resumed" in run.stderr, "alarms_alone said", run.stderr)
+
+
 def main():
     program, _, folder = begin("examples", sys.argv, 1, 1)
     found = names()
@@ -99,9 +134,11 @@ def main():
         run_without_words(program)
         run_maker()
         run_faults(program, folder)
+        for case in ALONE:
+            run_alone(folder, *case)
     except Wrong as wrong:
         sys.exit(f"examples: {wrong}")
-    finish("examples", folder, f"{len(found)} examples, no words, the refinery, and {len(FAULTS)} faults of tables")
+    finish("examples", folder, f"{len(found)} examples, no words, the refinery, {len(FAULTS)} faults of tables, and {len(ALONE)} words of a switch")
 
 
 if __name__ == "__main__":
