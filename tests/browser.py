@@ -20,7 +20,7 @@ import time
 # This Python, or that of the system, whose packages Debian's are.
 PYTHONS = (sys.executable, "/usr/bin/python3")
 LIBRARIES = ("aiohttp", "selenium")
-PARTS = ("check_list", "check_looks", "check_lost", "check_several", "check_doors", "check_flood", "check_brief")
+PARTS = ("check_list", "check_looks", "check_lost", "check_several", "check_doors", "check_listen", "check_screen", "check_flood", "check_brief")
 # What a short run is, and a whole one isn't.
 SHORT = ("brief",)
 

@@ -7,6 +7,7 @@ import os
 import shutil
 import subprocess
 import sys
+import threading
 import time
 from typing import Any, Callable, Optional
 
@@ -52,7 +53,21 @@ class List:
         self.process = started(subprocess.Popen(self.words, env=AT_CLIENTS, stdout=subprocess.PIPE, stderr=self.errors, text=True))
         line = self.process.stdout.readline()
         check(line.startswith("alm_browser: "), "it printed", line, self.said())
-        self.url = line.split()[1]
+        self.urls, self.given = [line.split()[1]], ""
+        threading.Thread(target=self.read, args=(self.process.stdout, self.urls), daemon=True).start()
+
+    @staticmethod
+    def read(printed: Any, urls: list[str]) -> None:
+        urls.extend(line.split()[1] for line in printed)
+
+    @property
+    def url(self) -> str:
+        """The address that was printed last. Behind one that let a browser in there comes another one."""
+        deadline = time.monotonic() + 2
+        while self.urls[-1] == self.given and "token=" in self.given and time.monotonic() < deadline:
+            time.sleep(0.02)
+        self.given = self.urls[-1]
+        return self.given
 
     def said(self) -> str:
         self.errors.flush()
@@ -66,7 +81,7 @@ class List:
 
     @property
     def place(self) -> str:
-        return self.url.split("?")[0]
+        return self.urls[0].split("?")[0]
 
 
 class Page:
@@ -139,7 +154,7 @@ class Page:
 
     def rest(self) -> None:
         """For as long as an annunciation has to be on the screen to be seen, and a little longer."""
-        time.sleep(0.4)
+        time.sleep(1.3)
 
     def choose(self, *tags: str) -> None:
         """Selects alarms by clicks."""
@@ -149,7 +164,7 @@ class Page:
     def click_tag(self, tag: str, is_more: bool) -> bool:
         """Clicks on the tag of a row; whether the row wasn't drawn again just then."""
         try:
-            cell = self.driver.find_element(By.XPATH, f"//tbody[@id='rows']//td[contains(@class, 'tag') and text()='{tag}']")
+            cell = self.driver.find_element(By.XPATH, f"//tbody[@id='rows']//td[contains(@class, 'tag') and .='{tag}']")
             if is_more:
                 ActionChains(self.driver).key_down(Keys.CONTROL).click(cell).key_up(Keys.CONTROL).perform()
             else:

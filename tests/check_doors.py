@@ -84,15 +84,19 @@ class Raw:
 
     def enter(self) -> None:
         """Lets itself in as the page does."""
-        status, headers, _ = self.ask("GET", f"/?token={self.token}")
-        check(status == 303 and headers["Location"] == "/", "a token is answered", status, headers)
+        status, headers, said = self.ask("GET", f"/?token={self.token}")
+        check(status == 200 and headers["Cache-Control"] == "no-store", "a token is answered", status, headers)
         self.cookie = headers["Set-Cookie"].split(";")[0]
         check({"HttpOnly", "SameSite=Strict", "Path=/"} <= set(headers["Set-Cookie"].split("; ")), "the cookie is", headers["Set-Cookie"])
-        _, _, said = self.ask("GET", "/stream")
-        self.key = json.loads(said.decode().split("data: ")[1].split("\n")[0])["key"]
+        self.key = key_of(said.decode())
 
     def order(self, **more: Any) -> bytes:
         return json.dumps({"era": self.era, "word": "ACK", "alarms": [[0, 1]], **more}).encode()
+
+
+def key_of(page: str) -> str:
+    """The key that the reply to a token keeps for its origin."""
+    return re.search('data-key="([^"]+)"', page)[1]
 
 
 class Attacker(http.server.BaseHTTPRequestHandler):
@@ -203,8 +207,10 @@ def roles(yard: Yard, _count: int) -> str:
     """An operator has no priority and no setpoint, a viewer nothing; neither on the page nor behind it. A token is typed too."""
     plant = Plant(yard)
     plant.comes("TI-101")
-    for role, offered in (("operator", {"ACK", "SHOWN", "RESET", "SHELVE", "UNSHELVE", "OOS ON", "OOS OFF"}), ("viewer", set())):
-        listed = List(yard, plant.device, plant.port, "--role", role, "--user", "carl")
+    acts = {"ACK", "SHOWN", "RESET", "SHELVE", "UNSHELVE"}
+    services = {"OOS ON", "OOS OFF"}
+    for role, offered, more in (("operator", acts, ()), ("operator", acts | services, ("--out-of-service", "operator")), ("viewer", set(), ())):
+        listed = List(yard, plant.device, plant.port, "--role", role, "--user", "carl", *more)
         page = Page(yard, listed.place)
         check(page.find("#token").is_displayed() and "TI-101" not in page.text(), "without a token it shows", page.text())
         page.find("#token").send_keys(listed.url.partition("token=")[2])
@@ -256,7 +262,7 @@ def proxy(yard: Yard, _count: int) -> str:
     if not shutil.which("nginx") or not shutil.which("openssl"):
         return "no nginx: no proxy was tried (Debian: nginx, openssl)"
     plant = Plant(yard)
-    plant.comes("TI-101", "LI-208")
+    plant.comes("TI-101", "LI-208", "TI-203")
     port = plant.port + 17 + 500
     place, path = f"https://alarms.example:{port}", yard.path("socket")
     listed = List(yard, plant.device, plant.port, "--socket", path, "--proxy", place, "--notes", yard.path("notes.sqlite"), listen=False)
@@ -275,6 +281,7 @@ def proxy(yard: Yard, _count: int) -> str:
     other.turn("journal")
     other.until("who it was", lambda: any(row["cells"]["user"] == "anna" and row["cells"]["text"] == "acknowledged" for row in other.rows()))
     through_the_proxy(path, port, place)
+    took = eight_windows(page, place, plant)
     back_by_itself(listed, page, plant)
     for one in (page, other):
         one.end()
@@ -282,7 +289,7 @@ def proxy(yard: Yard, _count: int) -> str:
     listed.end()
     check(not os.path.exists(path), "its socket is left")
     plant.end()
-    return "a proxy"
+    return f"a proxy; of eight windows of a browser one acknowledges in {took:.1f} s"
 
 
 def proxied(yard: Yard, port: int, user: str) -> Page:
@@ -293,10 +300,33 @@ def proxied(yard: Yard, port: int, user: str) -> Page:
     return page
 
 
+def eight_windows(page: Page, place: str, plant: Plant) -> float:
+    """A desk with eight screens, all of one browser: an acknowledgement goes out at once. The seconds that it took."""
+    first = page.driver.current_window_handle
+    for _ in range(7):
+        page.driver.switch_to.new_window("tab")
+        page.driver.get(place)
+        page.shows("TI-203", "Unack")
+    page.driver.switch_to.window(first)
+    page.rest()
+    page.choose("TI-203")
+    began = time.monotonic()
+    page.act("ACK")
+    page.until("an acknowledgement amid eight windows", lambda: plant.shown("TI-203") == "ACKED", 5)
+    took = time.monotonic() - began
+    for handle in page.driver.window_handles:
+        if handle != first:
+            page.driver.switch_to.window(handle)
+            page.driver.close()
+    page.driver.switch_to.window(first)
+    return took
+
+
 def through_the_proxy(path: str, port: int, place: str) -> None:
     """Without a password, with names that the browser claims, and at the socket without the proxy's names."""
     curl = lambda *words: subprocess.run(["curl", "-sk", "--max-time", "5", "--resolve", f"alarms.example:{port}:127.0.0.1", *words], capture_output=True, text=True, check=False).stdout
     status = ("-o", os.devnull, "-w", "%{http_code}")
+    check(curl("-o", os.devnull, "-w", "%{http_version}", place + "/") == "2", "all windows of a browser have six connections")
     check(curl(*status, place + "/") == "401" and curl(*status, "-u", "anna:guess", place + "/") == "401", "without a password it is let in")
     check(curl(*status, "-u", "mallory:of mallory", place + "/stream") == "401", "an unknown user is let in")
     claimed = ("-H", "X-Alarms-User: anna", "-H", "X-Alarms-Role: engineer")
@@ -334,7 +364,7 @@ def words(yard: Yard, _count: int) -> str:
         one.listen()
         at = ("--port", str(plant.port))
         for given, status, said in (
-                (("--help",), 0, ""), ((), 2, "--port"), (at, 2, "--listen"), ((*at, "--listen", "x"), 2, "is no port"), ((*at, "--listen", "0", "--proxy", "https://a.example"), 2, "--proxy wants --socket"),
+                (("--help",), 0, ""), ((), 2, "--port"), (at, 2, "--listen"), ((*at, "--listen", "x"), 2, "is no port"), ((*at, "--listen", "0", "--proxy", "https://a.example"), 2, "--proxy wants --socket"), ((*at, "--from", yard.path("s"), "--listen", "0"), 2, "in the place of devices"),
                 ((*at, "--socket", yard.path("s")), 2, "--proxy or --origin"), ((*at, "--socket", yard.path("s"), "--proxy", "a.example"), 2, "is no origin"),
                 ((*at, "--listen", "0", "--slots", "16"), 2, "invalid choice"), ((*at, "--listen", str(other.getsockname()[1])), 1, "in use"),
                 ((*at, "--socket", taken, "--proxy", "https://a.example"), 1, "in use"), ((*at, "--socket", text, "--proxy", "https://a.example"), 1, "in use"),

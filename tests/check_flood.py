@@ -6,7 +6,8 @@ import statistics
 import time
 from typing import Any
 
-from browsers import AREAS, Page, Plant, engineer, shot  # first: it finds examples/ and clients/
+from browsers import AREAS, List, Page, Plant, engineer, shot  # first: it finds examples/ and clients/
+from check_doors import key_of
 from program import check
 from table_file import Alarm, Table, device_size
 from tools import Yard, slowness, toml
@@ -116,20 +117,19 @@ def acknowledges_all(plant: Plant, page: Page) -> None:
 class Operator:
     """An operator without a screen: a stream, and orders."""
 
-    def __init__(self, session: Any, place: str):
-        self.session, self.place = session, place
+    def __init__(self, session: Any, place: str, key: str):
+        self.session, self.place, self.key = session, place, key
         self.seen: dict[tuple[int, str], float] = {}
         self.stamps: dict[int, int] = {}
-        self.era = self.key = ""
+        self.era = ""
 
     async def listen(self) -> None:
-        async with self.session.get(self.place + "stream") as stream:
+        async with self.session.get(self.place + "stream", headers={"X-Alarms-Key": self.key}) as stream:
             async for line in stream.content:
                 if line.startswith(b"data: "):
                     self.take(json.loads(line[6:]))
 
     def take(self, news: dict[str, Any]) -> None:
-        self.key = news.get("key", self.key)
         self.era = news.get("era", self.era)
         for row in news.get("rows", ()):
             self.seen.setdefault((row[0], row[3]), time.monotonic())
@@ -145,16 +145,16 @@ class Operator:
         return began
 
 
-async def fifteen_operators(url: str, alarms: int) -> list[float]:
+async def fifteen_operators(listed: List, alarms: int) -> list[float]:
     """Fifteen operators who acknowledge beside each other; the seconds until all of them have been told each."""
     import aiohttp
-    place, took = url.split("?")[0], []
+    took: list[float] = []
     operators, tasks = [], []
     for _ in range(OPERATORS):
         session = aiohttp.ClientSession(cookie_jar=aiohttp.CookieJar(unsafe=True), timeout=aiohttp.ClientTimeout(total=None), read_bufsize=2**23)
-        async with session.get(url) as page:
+        async with session.get(listed.url) as page:
             check(page.status == 200, page.status)
-        operators.append(Operator(session, place))
+            operators.append(Operator(session, listed.place, key_of(await page.text())))
         tasks.append(asyncio.create_task(operators[-1].listen()))
     while not all(len(one.stamps) >= alarms for one in operators):
         await asyncio.sleep(0.05)
@@ -179,7 +179,7 @@ def fifteen(yard: Yard, _count: int) -> str:
     tags = list(plant.numbers)
     plant.comes(*tags)
     listed = engineer(yard, plant)
-    took = asyncio.run(fifteen_operators(listed.url, len(tags)))
+    took = asyncio.run(fifteen_operators(listed, len(tags)))
     middle, longest = statistics.median(took), max(took)
     check(len(took) == 195 and longest <= QUICK / 1000 * slowness(), "fifteen operators took", middle, longest)
     listed.end()
@@ -233,7 +233,7 @@ def flood(yard: Yard, count: int) -> str:
         drawn.turn(4)
     floods = {area for area, one in enumerate(plant.console.floods()) if one.flooded}
     check(floods, "there is no flood")
-    page.until("the floods", lambda: all(AREAS[area] in page.of("#floods") for area in floods) and len(page.js("return [...document.querySelectorAll('#floods button')]")) == len(floods))
+    page.until("the floods", lambda: all(AREAS[area] in page.of("#floods") for area in floods) and len(page.js("return [...document.querySelectorAll('#flooded button')]")) == len(floods))
     shot(page, "flood")
     operator_works(plant, page, drawn, count)
     settles(plant, page, drawn)

@@ -1,4 +1,5 @@
 """How the alarm list looks and sounds: contrast, motion, sizes, a touched screen, sound. tests/browser.py runs these checks."""
+import re
 import time
 
 from browsers import Page, Plant, engineer, shot  # first: it finds examples/ and clients/
@@ -7,7 +8,7 @@ from selenium.webdriver import ActionChains, Keys
 from selenium.webdriver.common.actions.action_builder import ActionBuilder
 from selenium.webdriver.common.actions.pointer_input import PointerInput
 from selenium.webdriver.common.by import By
-from tools import Yard
+from tools import EXAMPLES, Yard
 
 # Each text that is seen, with its contrast to what is behind it, after WCAG 2: an opaque ground of an element around it, or the shape that it is written on.
 CONTRASTS = """
@@ -152,7 +153,7 @@ def touches(plant: Plant, page: Page) -> None:
     page.rest()
     tags = [row["cells"]["tag"] for row in page.rows() if "unacknowledged" in row["kinds"]][:2]
     for tag in tags:
-        touch(page, page.driver.find_element(By.XPATH, f"//tbody[@id='rows']//tr[td[contains(@class, 'tag') and text()='{tag}']]/td[1]"))
+        touch(page, page.driver.find_element(By.XPATH, f"//tbody[@id='rows']//tr[td[contains(@class, 'tag') and .='{tag}']]/td[1]"))
     page.until("two chosen", lambda: [row["cells"]["tag"] for row in page.rows() if row["selected"] == "true"] == tags)
     touch(page, page.find("[data-act=ACK]"))
     page.says("2 acknowledged")
@@ -200,9 +201,18 @@ def sounds(yard: Yard, _count: int) -> str:
     page.click("#silence")
     page.until("silenced", lambda: sounding() == "0")
     page.end()
+    untouched(yard, listed.url)
     listed.end()
     plant.end()
     return "sounds"
+
+
+def untouched(yard: Yard, address: str) -> None:
+    """A screen that nobody touches, of a browser that is started as the page says."""
+    option = re.search(r"--autoplay-policy=\S+(?=`)", (EXAMPLES.parent / "docs" / "CONTROL_ROOM.md").read_text(encoding="utf-8"))[0]
+    page = Page(yard, address, 1280, 720, option)
+    page.until("a sound without a touch", lambda: page.of("#sound") == "Sound on" and page.js("return document.body.dataset.played || '0'") != "0")
+    page.end()
 
 
 CHECKS = {"looks": looks, "sounds": sounds}

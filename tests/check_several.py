@@ -248,20 +248,22 @@ def who_asked(yard: Yard) -> None:
 
 def site(yard: Yard, _count: int) -> str:
     """The list of two plants as its unit starts it, with the lines of the page: both are told, by their names."""
-    places = {"/var/lib/alarms-browser": yard.folder, "/var/lib/alarms": yard.folder, "/run/alarms-browser/site": yard.folder, "/run/alarms": yard.folder,
-              "/usr/bin/python3": sys.executable, "alarms-browser ": f"{grp.getgrgid(os.getgid()).gr_name} "}
+    places = {"/var/lib/alarms-browser": yard.folder, "/var/lib/alarms": yard.folder, "/run/alarms-browser/site": yard.folder, "/run/alarms-list/site/socket": yard.path("list"), "/run/alarms": yard.folder,
+              "/usr/bin/python3": sys.executable, "--group alarms-browser ": "", "--group alarms-web ": ""}
     servers = [serve_at_sockets(yard, name, priorities) for name, priorities in (("north", NORTH), ("south", SOUTH))]
-    words = words_of_unit(places)
+    words = words_of_unit("alm_list@.service", places)
     check([word for word in words if word.endswith(".device")] == [yard.path("north.device"), yard.path("south.device")], "the unit's words are", words)
-    with open(yard.path("errors"), "w", encoding="utf-8") as errors:
-        process = started(subprocess.Popen(words, env=AT_CLIENTS, stdout=subprocess.PIPE, stderr=errors, text=True))
-    line = process.stdout.readline()
-    check(line == "alm_browser: https://alarms.example/\n", "it says", line, yard.read("errors"))
+    parts = []
+    for each, said in ((words, yard.path("list")), (words_of_unit("alm_browser@.service", places), "https://alarms.example/")):
+        with open(yard.path("errors"), "a", encoding="utf-8") as errors:
+            parts.append(started(subprocess.Popen(each, env=AT_CLIENTS, stdout=subprocess.PIPE, stderr=errors, text=True)))
+        line = parts[-1].stdout.readline()
+        check(line == f"alm_browser: {said}\n", "it says", line, yard.read("errors"))
     await_told(yard, '"plants":["north","south"]', '"plant":0,"rows":[[0,2,', '"plant":1,"rows":[[0,1,', '["N-0",', '["S-0",')
-    for one in (process, *servers):
+    for one in (*parts, *servers):
         one.terminate()
         one.wait(timeout=30)
-    return "a unit of two plants"
+    return "units of two plants"
 
 
 def serve_at_sockets(yard: Yard, name: str, priorities: tuple[int, ...]) -> subprocess.Popen:
@@ -273,9 +275,9 @@ def serve_at_sockets(yard: Yard, name: str, priorities: tuple[int, ...]) -> subp
     return server
 
 
-def words_of_unit(places: dict[str, str]) -> list[str]:
-    """The command of the unit's instance `site`, with the environment file of the page, and with the test's places."""
-    unit = (EXAMPLES / "alm_browser@.service").read_text(encoding="utf-8").replace("\\\n", " ")
+def words_of_unit(name: str, places: dict[str, str]) -> list[str]:
+    """The command of a unit's instance `site`, with the environment file of the page, and with the test's places."""
+    unit = (EXAMPLES / name).read_text(encoding="utf-8").replace("\\\n", " ")
     page = (EXAMPLES.parent / "docs" / "CONTROL_ROOM.md").read_text(encoding="utf-8")
     lines = shlex.split(re.search(r"(?m)^Environment=(.*)$", unit)[1]) + re.search(r"(?s)site\.env <<'END'\n(.*?)END\n", page)[1].splitlines()
     given = dict(line.split("=", 1) for line in lines)

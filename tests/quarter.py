@@ -187,7 +187,7 @@ def first_screen(walk: Walk) -> None:
     tag = re.search(r"echo '([^,]*),", after)[1]
     walk.holds[tag] = True
     walk.is_fed("of the first screen")
-    walk.two_browsers(tag, address, address)
+    walk.two_browsers(tag, address)  # one, since a token is good once
     shown.end()
 
 

@@ -5,9 +5,13 @@
     alm_browser north.device --port 5000 south.device --port 5020 --listen 8090
 
 It reads the device file, and asks the server at one console's slot: 12, or the first of --slots K.. that answers. With --listen it is at
-http://127.0.0.1:8090, and prints the address with the token that lets a browser in. With --socket it is at a Unix socket. There it wants the token
-too, or with --proxy trusts the headers X-Alarms-User and X-Alarms-Role of a proxy that authenticates. Whoever may write to that socket may then
-be anybody: give it to the proxy's group alone, by --group.
+http://127.0.0.1:8090, and prints the address with the token that lets a browser in; once it was used, another one. With --socket it is at a Unix
+socket. There it wants the token too, or with --proxy trusts the headers X-Alarms-User and X-Alarms-Role of a proxy that authenticates. Whoever may
+write to that socket may then be anybody: give it to the proxy's group alone, by --group.
+
+It can be two processes, so that the one that the network reaches has no device and no slot. One follows the plants and keeps the notes, with
+--tell SOCKET in the place of --listen or --socket; the other is given that by --from SOCKET in the place of the devices. Each takes the words of the
+other and leaves them alone.
 
 Who asked for an action and why is kept by the action's number, with --notes FILE in a file of SQLite, else until it ends.
 
@@ -20,13 +24,11 @@ import functools
 import getpass
 import grp
 import os
-import secrets
 import signal
-import socket
 import sys
 from dataclasses import dataclass
 from pathlib import Path
-from typing import Callable, Optional
+from typing import Any, Callable, Optional, Sequence
 from urllib.parse import urlsplit
 
 from arguments import add_places, names_of_servers, of_each, places_of_servers
@@ -40,18 +42,17 @@ except ImportError:
     sys.exit("alm_browser: the library aiohttp isn't installed (Debian: python3-aiohttp)")
 
 from .board import Board
+from .complaints import tell_seldom
 from .doors import Door
+from .gate import Gate, most_connections
+from .listening import Ended, open_port, open_socket
 from .notes import Notes, NoNotes
-from .orders import ROLES
+from .orders import ACTIONS, ROLES, Order
+from .relay import MOST_ORDER, OtherPlants, Source, Teller
 from .watch import STOP, Shown, Watch
 from .web import Site
 
 say = sayer("alm_browser")
-MODE = 0o660
-
-
-class Ended(Exception):
-    """It can't go on; in one line."""
 
 
 @dataclass(frozen=True)
@@ -88,16 +89,19 @@ def group_of(text: str) -> int:
 
 def arguments() -> Words:
     words = Words("alm_browser", __doc__)
-    words.add_argument("devices", metavar="DEVICE", nargs="+", help="the device file; of several plants that of each")
+    words.add_argument("devices", metavar="DEVICE", nargs="*", help="the device file; of several plants that of each")
     add_places(words)
     words.add_argument("--slots", type=int, choices=CONSOLES, nargs="+", default=[12], metavar="K", help="consoles' slots, of which one is taken; 12 where it is left out")
     places = words.add_mutually_exclusive_group()
     places.add_argument("--listen", type=listen_port, metavar="PORT", help="a port of loopback; 0 for any that is free")
     places.add_argument("--socket", metavar="SOCKET", help="the path of a Unix socket")
+    places.add_argument("--tell", metavar="SOCKET", help="a Unix socket for an alm_browser with --from, and no browsers")
+    words.add_argument("--from", dest="source", metavar="SOCKET", help="the socket of an alm_browser with --tell, in the place of devices")
     words.add_argument("--origin", type=origin, metavar="ORIGIN", help="how browsers name it, if that isn't http://127.0.0.1:PORT")
     words.add_argument("--proxy", type=origin, metavar="ORIGIN", help="with --socket: how browsers name the proxy whose headers are trusted")
-    words.add_argument("--group", type=group_of, metavar="GROUP", help="with --socket: the group that may open it")
+    words.add_argument("--group", type=group_of, metavar="GROUP", help="with --socket or --tell: the group that may open it")
     words.add_argument("--role", choices=ROLES, default="operator", help="what the token lets one do; %(default)s where it is left out")
+    words.add_argument("--out-of-service", choices=ROLES[1:], default=ACTIONS["OOS"][0], help="the role that takes alarms out of service; %(default)s where it is left out")
     words.add_argument("--user", default=None, metavar="NAME", help="with a token: the name that is kept with an action; the user's who starts it where it is left out")
     words.add_argument("--notes", metavar="FILE", help="a file of SQLite for who asked, and why; it is made if it isn't there")
     words.add_argument("--name", dest="names", action="append", default=[], metavar="PLANT",
@@ -107,7 +111,11 @@ def arguments() -> Words:
 
 
 def given_plants(words: Words, chosen: argparse.Namespace) -> list[Given]:
-    """The plants that the words name."""
+    """The plants that the words name. Whom another part tells them has none."""
+    if chosen.source:
+        return []
+    if not chosen.devices:
+        words.error("the following arguments are required: DEVICE")
     places = places_of_servers(words, chosen)
     if len(places) != len(chosen.devices):
         words.error(f"each device has its --port or --sockets: of devices there are {len(chosen.devices)}, and of these {len(places)}")
@@ -118,58 +126,18 @@ def given_plants(words: Words, chosen: argparse.Namespace) -> list[Given]:
 
 def judge(words: Words, chosen: argparse.Namespace) -> None:
     """Refuses words that don't go together."""
-    if chosen.socket is None and chosen.listen is None:
-        words.error("one of the arguments --listen --socket is required")
-    if chosen.proxy and not chosen.socket:
+    if chosen.source and (chosen.devices or chosen.tell):
+        words.error("--from is in the place of devices, and of --tell")
+    if chosen.socket is None and chosen.listen is None and chosen.tell is None:
+        words.error("one of the arguments --listen --socket --tell is required")
+    if chosen.proxy and chosen.listen is not None:
         words.error("--proxy wants --socket: headers are trusted over a Unix socket alone")
     if chosen.proxy and chosen.origin:
         words.error("--proxy names the origin: leave --origin out")
     if chosen.socket and not (chosen.proxy or chosen.origin):
         words.error("--socket wants --proxy or --origin: how browsers name it")
-    if chosen.group is not None and not chosen.socket:
+    if chosen.group is not None and chosen.listen is not None:
         words.error("--group wants --socket")
-
-
-def open_port(port: int) -> socket.socket:
-    """A listening port of loopback."""
-    listening = socket.socket()
-    listening.setsockopt(socket.SOL_SOCKET, socket.SO_REUSEADDR, 1)
-    try:
-        listening.bind((HOST, port))
-    except OSError as error:
-        listening.close()
-        raise Ended(f"port {port}: {error.strerror}") from None
-    return listening
-
-
-def open_socket(path: str, group: Optional[int]) -> socket.socket:
-    """A listening Unix socket, its owner's and its group's alone. One that nobody listens at any more is replaced."""
-    listening = socket.socket(socket.AF_UNIX)
-    mask = os.umask(0o777 ^ MODE)
-    try:
-        if is_left(path):
-            os.unlink(path)
-        listening.bind(path)
-        if group is not None:
-            os.chown(path, -1, group)
-    except OSError as error:
-        listening.close()
-        raise Ended(f"{path}: {error.strerror or error}") from None
-    finally:
-        os.umask(mask)
-    return listening
-
-
-def is_left(path: str) -> bool:
-    """Whether a socket stands there whose process has ended."""
-    with socket.socket(socket.AF_UNIX) as one:
-        try:
-            one.connect(path)
-        except ConnectionRefusedError:
-            return Path(path).is_socket()
-        except OSError:
-            return False
-    return False
 
 
 def read_areas(path: Optional[str]) -> list[str]:
@@ -198,30 +166,98 @@ def follow(number: int, plant: Given, chosen: argparse.Namespace, say_of: Callab
     return board, Watch(plant.device, shown, notes, lambda batch: loop.call_soon_threadsafe(board.take, batch), fail)
 
 
-async def serve(chosen: argparse.Namespace, plants: list[Given]) -> None:
-    """Serves until a signal, or until a thread that follows a plant has failed."""
-    listening = open_port(chosen.listen) if chosen.socket is None else open_socket(chosen.socket, chosen.group)
-    place = chosen.proxy or chosen.origin or f"http://{HOST}:{listening.getsockname()[1]}"
-    door = Door(place, None if chosen.proxy else secrets.token_urlsafe(32), user_of(chosen), chosen.role)
-    loop, ended = asyncio.get_running_loop(), asyncio.get_running_loop().create_future()
-    fail = lambda fault: loop.call_soon_threadsafe(lambda: ended.done() or ended.set_exception(fault))
+def followed(chosen: argparse.Namespace, plants: list[Given], fail: Callable[[Exception], None]) -> tuple[tuple[Board, ...], tuple[Watch, ...]]:
+    """Of each plant what browsers are told, and the thread that follows it."""
     says = [functools.partial(say, f"{plant.name}:") if len(plants) > 1 else say for plant in plants]
     boards, watches = zip(*(follow(number, plant, chosen, says[number], fail) for number, plant in enumerate(plants)))
+    return boards, watches
+
+
+def failing(ended: "asyncio.Future[None]") -> Callable[[Any], None]:
+    """What a thread or a task calls whose fault ends the process."""
+    loop = asyncio.get_running_loop()
+
+    def fail(fault: Any) -> None:
+        loop.call_soon_threadsafe(lambda: ended.done() or ended.set_exception(fault))
+
+    return fail
+
+
+async def serve(chosen: argparse.Namespace, plants: list[Given]) -> None:
+    """Serves until a signal, or until what follows a plant has failed."""
+    loop, ended = asyncio.get_running_loop(), asyncio.get_running_loop().create_future()
     for number in (signal.SIGTERM, signal.SIGINT):
         loop.add_signal_handler(number, lambda: ended.done() or ended.set_result(None))
-    runner = web.AppRunner(Site(door, boards, watches).application(), access_log=None)
-    await runner.setup()
-    await web.SockSite(runner, listening, shutdown_timeout=1).start()
-    for watch in watches:
-        watch.thread.start()
-    print(f"alm_browser: {place}/" + (f"?token={door.token}" if door.token else ""), flush=True)
+    if chosen.source:
+        await serve_from(chosen, ended)
+        return
+    listening = opened(chosen)
+    boards, watches = followed(chosen, plants, failing(ended))
+    order = lambda order: watches[order.plant].orders.put(order)
+    begin = lambda: [watch.thread.start() for watch in watches]
     try:
-        await ended
+        if chosen.tell:
+            await tell(chosen, listening, Teller(boards, order, chosen.out_of_service), begin, ended)
+        else:
+            await show(chosen, listening, boards, order, begin, ended)
     finally:
         for watch in watches:
             watch.orders.put(STOP)
+        await asyncio.gather(*(loop.run_in_executor(None, watch.thread.join, 3) for watch in watches if watch.thread.is_alive()))
+
+
+async def serve_from(chosen: argparse.Namespace, ended: "asyncio.Future[None]") -> None:
+    """Serves browsers what another process tells."""
+    source = Source(chosen.source, say)
+    following = asyncio.create_task(source.follow())
+    following.add_done_callback(lambda task: task.cancelled() or failing(ended)(task.exception()))
+    there = asyncio.create_task(source.is_there.wait())
+    try:
+        await asyncio.wait([there, ended], return_when=asyncio.FIRST_COMPLETED)
+        if not ended.done():
+            await show(chosen, opened(chosen), source.boards, source.take, lambda: None, ended)
+        await ended
+    finally:
+        there.cancel()
+        following.cancel()
+
+
+def opened(chosen: argparse.Namespace) -> Any:
+    """The socket that listens."""
+    path = chosen.socket or chosen.tell
+    return open_port(chosen.listen) if path is None else open_socket(path, chosen.group)
+
+
+async def tell(chosen: argparse.Namespace, listening: Any, teller: Teller, begin: Callable[[], object], ended: "asyncio.Future[None]") -> None:
+    """Tells the other part until the end."""
+    server = await asyncio.start_unix_server(teller.serve, sock=listening, limit=MOST_ORDER)
+    begin()
+    print(f"alm_browser: {chosen.tell}", flush=True)
+    try:
+        await ended
+    finally:
+        server.close()
+        Path(chosen.tell).unlink(missing_ok=True)
+
+
+async def show(chosen: argparse.Namespace, listening: Any, boards: Sequence[Board], order: Callable[[Order], None], begin: Callable[[], object],
+               ended: "asyncio.Future[None]") -> None:
+    """Shows browsers the plants until the end."""
+    place = chosen.proxy or chosen.origin or f"http://{HOST}:{listening.getsockname()[1]}"
+    door = Door(place, bool(chosen.proxy), user_of(chosen), chosen.role, chosen.out_of_service, lambda address: print(f"alm_browser: {address}", flush=True))
+    runner = web.AppRunner(Site(door, boards, order).application(), access_log=None)
+    await runner.setup()
+    gate = Gate(runner.server, most_connections())
+    server = await asyncio.get_running_loop().create_server(gate, sock=listening)
+    begin()
+    door.open()
+    try:
+        await ended
+    finally:
+        server.close()
+        await runner.shutdown()
+        await runner.server.shutdown(1)
         await runner.cleanup()
-        await asyncio.gather(*(loop.run_in_executor(None, watch.thread.join, 3) for watch in watches))
         if chosen.socket:
             Path(chosen.socket).unlink(missing_ok=True)
 
@@ -231,7 +267,8 @@ def main() -> None:
     chosen = words.parse_intermixed_args()
     plants = given_plants(words, chosen)
     judge(words, chosen)
-    end_of("alm_browser", lambda: asyncio.run(serve(chosen, plants)), (Ended, NoNotes))
+    tell_seldom("alm_browser")
+    end_of("alm_browser", lambda: asyncio.run(serve(chosen, plants)), (Ended, NoNotes, OtherPlants))
 
 
 if __name__ == "__main__":

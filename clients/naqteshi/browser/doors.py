@@ -1,17 +1,19 @@
 """Who may: hosts, origins, sessions and roles.
 
-Alone, a browser shows the token that was printed at the start, once, and has a cookie from then on. Behind a proxy that authenticates, each request
-comes over the Unix socket with the user's name and role in headers, which the proxy sets. In both cases a request that changes something carries the
-session's key in a header of its own, and comes from a page of this origin.
+Alone, a browser shows the token that was printed last, once, and has a cookie and a key from then on; the next browser shows the next token. A browser
+sends cookies to each port of a host, also to another user's, so who has the cookie alone is shown nothing and may do nothing: the key is given with the
+reply to the token, and kept for this origin. Behind a proxy that authenticates, each request comes over the Unix socket with the user's name and role in
+headers, which the proxy sets, and the stream gives the key. In both cases a request that changes something carries the key in a header of its own, and
+comes from a page of this origin.
 """
 import secrets
 from dataclasses import dataclass, field
-from typing import Optional
+from typing import Callable, Optional
 from urllib.parse import urlsplit
 
 from aiohttp import web
 
-from .orders import ROLES
+from .orders import ROLES, words_of
 
 USER, ROLE, KEY = "X-Alarms-User", "X-Alarms-Role", "X-Alarms-Key"
 # Sessions that a user has at once; the oldest one goes first.
@@ -40,14 +42,20 @@ class Session:
 
 
 class Door:
-    """Lets browsers in: by a token, or where `token` is none by the headers of a proxy."""
+    """Lets browsers in: by a token that is good once, or behind a proxy by its headers."""
 
-    def __init__(self, origin: str, token: Optional[str], user: str, role: str):
+    def __init__(self, origin: str, is_proxied: bool, user: str, role: str, out_of_service: str, announce: Callable[[str], None]):
         parts = urlsplit(origin)
         self.origin, self.host, self.is_secure = f"{parts.scheme}://{parts.netloc}", parts.netloc, parts.scheme == "https"
-        self.token, self.user, self.role = token, user, role
+        self.is_proxied, self.user, self.role, self.out_of_service = is_proxied, user, role, out_of_service
+        self.announce, self.token = announce, ""
         self.cookie = "__Host-alarms" if self.is_secure else f"alarms-{parts.port or 80}"
         self.sessions: dict[str, Session] = {}
+
+    def open(self) -> None:
+        """Announces the address that lets a browser in. Alone it has a token, in the place of the one before."""
+        self.token = "" if self.is_proxied else secrets.token_urlsafe(32)
+        self.announce(f"{self.origin}/" + (f"?token={self.token}" if self.token else ""))
 
     def check(self, request: web.Request) -> None:
         """Refuses what no page of ours and no operator sends: another host, another origin, another site's page."""
@@ -63,7 +71,7 @@ class Door:
     def session(self, request: web.Request) -> Optional[Session]:
         """The session of a request, if it has one and, behind a proxy, still is that user's in that role."""
         session = self.sessions.get(request.cookies.get(self.cookie, ""))
-        if session and self.token is None and (session.user, session.role) != self.named(request):
+        if session and self.is_proxied and (session.user, session.role) != self.named(request):
             return None
         return session
 
@@ -76,10 +84,11 @@ class Door:
 
     def enter(self, request: web.Request, token: str) -> Optional[Session]:
         """A new session, where the request may have one."""
-        if self.token is None:
+        if self.is_proxied:
             session = Session(*self.named(request))
-        elif secrets.compare_digest(token.encode(), self.token.encode()):
+        elif self.token and secrets.compare_digest(token.encode(), self.token.encode()):
             session = Session(self.user, self.role)
+            self.open()
         else:
             return None
         self.sessions[session.cookie] = session
@@ -93,12 +102,26 @@ class Door:
         response.set_cookie(self.cookie, session.cookie, httponly=True, samesite="Strict", secure=self.is_secure, path="/")
         return response
 
+    def words(self, session: Session) -> list[str]:
+        """The actions that a session has."""
+        return words_of(session.role, self.out_of_service)
+
+    def has_key(self, request: web.Request, session: Session) -> bool:
+        return secrets.compare_digest(request.headers.get(KEY, "").encode(), session.key.encode())
+
+    def may_watch(self, request: web.Request) -> Session:
+        """The session of a request that is told the list; alone it wants the session's key."""
+        session = self.session(request)
+        if session is None or not (self.is_proxied or self.has_key(request, session)):
+            raise web.HTTPUnauthorized(text="this browser isn't signed in: open the address that alm_browser printed last\n")
+        return session
+
     def may_change(self, request: web.Request) -> Session:
         """The session of a request that changes something; refused without the session's key."""
         session = self.session(request)
         if session is None:
             raise web.HTTPUnauthorized(text="no session\n")
-        if not secrets.compare_digest(request.headers.get(KEY, "").encode(), session.key.encode()):
+        if not self.has_key(request, session):
             raise web.HTTPForbidden(text="no key\n")
         if request.content_type != "application/json":
             raise web.HTTPUnsupportedMediaType(text="JSON is wanted\n")

@@ -1,6 +1,6 @@
 """What an operator may ask for by the page, and what is said where it isn't done."""
 from dataclasses import dataclass
-from typing import Any, Callable, NamedTuple, Optional
+from typing import Any, Callable, NamedTuple, Optional, Sequence
 
 from alarm_client import Refusal
 from table_file import READING_LIMIT, SHELVE_LIMIT
@@ -8,13 +8,14 @@ from table_file import READING_LIMIT, SHELVE_LIMIT
 from .notes import Asker
 
 ROLES = ("viewer", "operator", "engineer")
-# Which role each action wants at least, and the limits of its number where it has one.
+# Which role each action wants at least, and the limits of its number where it has one. Out of service has no end and no limit in the table, so it is an
+# engineer's where nobody says otherwise.
 ACTIONS = {
     "ACK": ("operator", None),
     "RESET": ("operator", None),
     "SHELVE": ("operator", (1, SHELVE_LIMIT)),
     "UNSHELVE": ("operator", None),
-    "OOS": ("operator", (0, 1)),
+    "OOS": ("engineer", (0, 1)),
     "PRIO": ("engineer", (1, 4)),
     "SETP": ("engineer", (-READING_LIMIT, READING_LIMIT)),
 }
@@ -72,6 +73,10 @@ class Order:
     asker: Asker
     answer: Callable[[list[Answer]], None]
 
+    def asked(self) -> dict[str, Any]:
+        """What `read_order` reads."""
+        return {"plant": self.plant, "era": self.era, "word": self.word, "alarms": self.alarms, "value": self.value, "reason": self.asker.reason}
+
     def request(self, alarm: int) -> str:
         """The line that asks it of an alarm."""
         if self.word == "OOS":
@@ -79,27 +84,30 @@ class Order:
         return f"{self.word} {alarm}" + ("" if self.value is None else f" {self.value}")
 
 
-def may(role: str, word: str) -> bool:
-    """Whether a role has an action."""
-    return ROLES.index(role) >= ROLES.index(ACTIONS[word][0])
+def words_of(role: str, out_of_service: str = ACTIONS["OOS"][0]) -> list[str]:
+    """The actions that a role has, where `out_of_service` is the one that OOS wants."""
+    least = {**{word: least for word, (least, _) in ACTIONS.items()}, "OOS": out_of_service}
+    return [word for word in ACTIONS if ROLES.index(role) >= ROLES.index(least[word])]
 
 
 def is_number(value: Any, least: int, most: int) -> bool:
     return isinstance(value, int) and not isinstance(value, bool) and least <= value <= most
 
 
-def read_order(asked: Any, user: str, role: str, answer: Callable[[list[Answer]], None], plants: int) -> Order:
-    """The order in what a page sent, to one of so many plants: the first where none is named."""
+def read_order(asked: Any, user: str, role: str, may: Sequence[str], answer: Callable[[list[Answer]], None], plants: int) -> Order:
+    """The order in what a page sent, whose user has some of the actions, to one of a number of plants: the first where none is named."""
     if not isinstance(asked, dict) or asked.get("word") not in ACTIONS:
         raise BadOrder("no such action")
     word, value, reason, alarms = asked["word"], asked.get("value"), asked.get("reason", ""), asked.get("alarms")
     limits = ACTIONS[word][1]
-    if not may(role, word):
+    if word not in may:
         raise NotAllowed(f"the role {role} doesn't have {word}")
     if (value is not None) if limits is None else not is_number(value, *limits):
         raise BadOrder("the number is out of its limits")
-    if not isinstance(reason, str) or len(reason) > MOST_REASON or not reason.isprintable():
+    if not isinstance(reason, str) or len(reason) > MOST_REASON:
         raise BadOrder(f"a reason has at most {MOST_REASON} letters")
+    if not reason.isprintable():
+        raise BadOrder("a reason has no line end, no joined sign, and no blank but the plain one")
     if word in WITH_REASON and not reason.strip():
         raise BadOrder("a reason is wanted")
     if not isinstance(alarms, list) or not 0 < len(alarms) <= MOST_ALARMS or not all(is_seen(one) for one in alarms):

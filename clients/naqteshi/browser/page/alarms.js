@@ -13,8 +13,11 @@ const WORDS = {NORM: "Normal", UNACK: "Unack", ACKED: "Acked", RTNUN: "RTN unack
   SHLVD: "Shelved", DSUPR: "By design", OOSRV: "Out of service"};
 const UNACKNOWLEDGED = new Set(["UNACK", "RTNUN", "LATUN"]), ANNUNCIATED = new Set([...UNACKNOWLEDGED, "ACKED", "LATAK"]);
 const DAY = 86400, DATES = 1e9;
-// Milliseconds: between two drawings, a half of a flash, what an annunciation has to be on the screen to be seen, and silence that is a loss.
-const REST = 60, FLASH = 500, GLANCE = 250, SILENCE = 1500, AGAIN = 700;
+// Milliseconds: between two drawings, a half of a flash, and silence that is a loss. What an annunciation has to be on the screen to be seen: of one that was
+// selected, and of all that is shown. What a reply may take.
+const REST = 60, FLASH = 500, SILENCE = 1500, AGAIN = 700, GLANCE = 250, READ = 1000, REPLY = 8000;
+// A screen that is touched and low has room for one line of floods, any other one for two.
+const LOW = matchMedia("(pointer: coarse) and (max-height: 800px)");
 // Seconds without an answer of the server after which the list may be old, and rows that are drawn beyond the screen's ends.
 const OLD = 1, SPARE = 6, MOST_EVENTS = 1000, MOST_ALARMS = 1000;
 const SOUNDS = {1: [880, 880, 880], 2: [660, 660], 3: [520], 4: [390], lost: [300, 220]};
@@ -37,10 +40,10 @@ function newPlant(name, place) {
 }
 
 let plants = [newPlant("", 0)];
-const me = {user: "", role: "viewer", key: ""};
+const me = {user: "", role: "viewer", may: [], key: kept("key") ?? ""};
 const look = {view: "alarms", sort: "order", down: false, area: "", state: "", text: "", priorities: new Set(), plants: new Set()};
 const screen_ = {items: [], counts: {}, chosen: new Set(), anchor: null, cursor: 0, seen: new Map(), drawn: new Map(), due: 0, last: 0};
-const link = {heard: performance.now(), signedOut: false, again: () => 0};
+const link = {heard: performance.now(), signedOut: false, refused: "", again: () => 0};
 const sound = {on: kept("sound") !== "off", context: null, silenced: new Map(), next: 0, priority: 0};
 
 const isChattering = row => row[THIRD] !== null && row[THIRD] > row[PLANT].head.now - 60;
@@ -155,10 +158,13 @@ function inOrder(one, other) {
     one[PLANT].place - other[PLANT].place || other[STAMP] - one[STAMP] || one[N] - other[N];
 }
 
+// Of one moment what came first: a plant's stamps have the order of its annunciations.
+const byStamp = (one, other) => one[PLANT].place - other[PLANT].place || one[STAMP] - other[STAMP];
+
 function sorted(rows) {
   if (look.sort === "order") return rows.sort(inOrder);
-  const key = COLUMNS[look.sort][2], sign = look.down ? -1 : 1;
-  return rows.map(row => [key(row), row]).sort((one, other) => (one[0] < other[0] ? -sign : one[0] > other[0] ? sign : inOrder(one[1], other[1]))).map(pair => pair[1]);
+  const key = COLUMNS[look.sort][2], sign = look.down ? -1 : 1, tied = look.sort === "time" ? (one, other) => sign * byStamp(one, other) || inOrder(one, other) : inOrder;
+  return rows.map(row => [key(row), row]).sort((one, other) => (one[0] < other[0] ? -sign : one[0] > other[0] ? sign : tied(one[1], other[1]))).map(pair => pair[1]);
 }
 
 // The events of all plants, the oldest first.
@@ -176,7 +182,7 @@ function isListed(event) {
 // Which rows the view has, in their order, and how many there are of each kind.
 function arrange() {
   const counts = Object.fromEntries(Object.keys(VIEWS).map(view => [view, 0]));
-  const priorities = [null, [0, 0], [0, 0], [0, 0], [0, 0]], listed = [];
+  const priorities = [null, [0, 0], [0, 0], [0, 0], [0, 0]], listed = [], holding = {OOSRV: 0, SHLVD: 0, DSUPR: 0};
   const kinds = Object.entries(VIEWS).filter(([, kind]) => kind[1]);
   for (const plant of plants) {
     plant.counts = [0, 0];
@@ -187,12 +193,13 @@ function arrange() {
           if (view === look.view) listed.push(row);
         }
       }
+      if (row[FLAGS] && row[ACTIVE]) holding[row[SHOWN]]++;
       if (ANNUNCIATED.has(row[SHOWN])) for (const pair of [priorities[row[PRIORITY]], plant.counts]) count(row, pair);
     }
   }
   const all = look.view === "journal" ? events() : listed;
   const items = look.view === "journal" ? all.filter(isListed).reverse() : sorted(listed.filter(isFiltered));
-  Object.assign(screen_, {items, counts, priorities, hidden: all.length - items.length});
+  Object.assign(screen_, {items, counts, priorities, holding, hidden: all.length - items.length});
   const there = look.view === "journal" ? new Set() : new Set(items.map(row => row[ID]));
   for (const id of screen_.chosen) if (!there.has(id)) screen_.chosen.delete(id);
   screen_.cursor = Math.max(0, Math.min(screen_.cursor, items.length - 1));
@@ -220,6 +227,7 @@ function draw() {
   drawHead();
   drawPlants();
   drawFloods();
+  drawHolding();
   drawTabs();
   drawFilters();
   drawColumns();
@@ -272,7 +280,8 @@ function drawPlants() {
 function silentSince() {
   const silent = performance.now() - link.heard;
   if (link.signedOut) return "SIGNED OUT, the list may be old. Open the address that alm_browser printed last.";
-  return silent > SILENCE ? `NO SERVER, the list may be old: nothing heard for ${Math.round(silent / 1000)} s` : "";
+  if (silent <= SILENCE) return "";
+  return link.refused ? `NO LIST, what is shown may be old: ${link.refused}` : `NO SERVER, the list may be old: nothing heard for ${Math.round(silent / 1000)} s`;
 }
 
 // Why a plant's rows may be old; empty while they aren't.
@@ -309,21 +318,67 @@ function drawConnection() {
   document.body.classList.toggle("old", !answering);
 }
 
+// The areas in flood, each with its id and what is said of it.
+function floods() {
+  return plants.flatMap(plant => (plant.head.floods ?? []).map(([total, flooded], area) => [flooded, areaOf(plant, area), of_(plant, `${areaName(plant, area)}: ${total} in 10 min`)]))
+    .filter(([flooded]) => flooded).map(([, ...flood]) => flood);
+}
+
+function floodButton([area, text]) {
+  const button = document.createElement("button");
+  Object.assign(button, {type: "button", textContent: text, title: `${text}. Show this area alone`});
+  button.dataset.area = area;
+  return button;
+}
+
 function drawFloods() {
-  const floods = plants.flatMap(plant => (plant.head.floods ?? []).map(([total, flooded], area) => [plant, area, total, flooded])).filter(flood => flood[3]);
-  const texts = floods.map(([plant, area, total]) => [areaOf(plant, area), of_(plant, `${areaName(plant, area)}: ${total} in 10 min`)]);
-  const place = $("floods");
-  place.hidden = !floods.length;
-  if (place.dataset.said === JSON.stringify(texts)) return;
-  place.dataset.said = JSON.stringify(texts);
-  const kept = document.activeElement?.dataset.area;
-  place.replaceChildren("ALARM FLOOD", ...texts.map(([area, text]) => {
-    const button = document.createElement("button");
-    Object.assign(button, {type: "button", textContent: text, title: "Show this area alone"});
-    button.dataset.area = area;
-    return button;
-  }));
-  if (kept !== undefined) place.querySelector(`[data-area="${kept}"]`)?.focus();
+  const texts = floods(), place = $("flooded"), said = JSON.stringify(texts);
+  $("floods").hidden = !texts.length;
+  if (place.dataset.said === said) return;
+  place.dataset.said = said;
+  for (const list of [place, $("flooded-all")]) {
+    const kept = list.contains(document.activeElement) ? document.activeElement.dataset.area : undefined;
+    list.replaceChildren(...texts.map(floodButton));
+    if (kept !== undefined) list.querySelector(`[data-area="${kept}"]`)?.focus();
+  }
+  boundFloods();
+}
+
+// The list keeps its rows: of the areas in flood those stand there that two lines hold, and the others are behind a button.
+function boundFloods() {
+  const buttons = [...$("flooded").children], more = $("more"), lines = LOW.matches ? 1 : 2;
+  const beyond = () => {
+    const tops = [...new Set(buttons.map(button => button.offsetTop))].slice(0, lines);
+    return buttons.filter(button => !tops.includes(button.offsetTop));
+  };
+  for (const button of buttons) button.hidden = false;
+  more.hidden = true;
+  if (!beyond().length) return;
+  more.hidden = false;
+  put(more, `+ ${buttons.length} areas`);
+  const left = beyond();
+  for (const button of left) button.hidden = true;
+  put(more, `+ ${left.length} areas`);
+}
+
+function showFlood(event) {
+  const area = event.target.dataset.area;
+  if (area === undefined) return;
+  look.area = Number(area);
+  if ($("areas").open) $("areas").close();
+  draw();
+}
+
+// What the first view doesn't list although its condition holds: each alarm once, by the word of its state.
+function drawHolding() {
+  const {holding} = screen_, total = Object.values(holding).reduce((sum, one) => sum + one, 0);
+  $("holding").hidden = !total || look.view !== "alarms";
+  put($("holding-all"), `${total} suppressed while the condition holds:`);
+  for (const button of $("holding").querySelectorAll("button")) {
+    const state = button.dataset.state;
+    put(button, `${holding[state]} ${WORDS[state].toLowerCase()}`);
+    button.hidden = !holding[state];
+  }
 }
 
 function drawTabs() {
@@ -352,6 +407,17 @@ function drawFilters() {
     `${alarm[LATCHING] ? ", latches" : ""}, ${alarm[MAX_SHELVE] ? `shelved for ${length(alarm[MAX_SHELVE])} at most` : "isn't shelved"}. ${alarm[TEXT]}`);
 }
 
+// The tags are whole: their column is as wide as the longest one, and one that is wider than a screen has room for has a second line.
+function measureTags() {
+  const context = document.createElement("canvas").getContext("2d");
+  context.font = getComputedStyle(document.querySelector(".tag-font")).font;
+  let most = 0;
+  for (const plant of plants) for (const alarm of plant.table) most = Math.max(most, context.measureText(alarm[TAG]).width);
+  document.documentElement.style.setProperty("--tag", `${Math.ceil(most) + 18}px`);
+  const head = document.querySelector("#columns .c-tag");
+  document.body.classList.toggle("long-tags", head !== null && head.offsetWidth < most + 18);
+}
+
 function drawColumns() {
   const names = look.view === "journal" ? JOURNAL.filter(([text]) => text !== "Plant" || areSeveral()).map(([text, kind]) => [null, text, kind]) : columns().map(name => [name, ...COLUMNS[name]]);
   const key = JSON.stringify([names, look.sort, look.down]);
@@ -375,6 +441,7 @@ function drawColumns() {
   $("columns").querySelector(`[data-sort="${focused}"]`)?.focus();
   screen_.drawn.clear();
   $("rows").replaceChildren();
+  measureTags();
 }
 
 function rowHeight() {
@@ -427,7 +494,7 @@ function cell(kind, text) {
   one.className = kind;
   one.setAttribute("role", "gridcell");
   if (text instanceof Node) one.append(text);
-  else if (kind === "text" || kind === "area" || kind === "reason") one.append(Object.assign(document.createElement("span"), {className: "two", textContent: text, title: text}));
+  else if (kind === "text" || kind === "area" || kind === "reason" || kind === "tag") one.append(Object.assign(document.createElement("span"), {className: "two", textContent: text, title: text}));
   else one.textContent = text;
   return one;
 }
@@ -494,9 +561,9 @@ function noteSeen() {
 }
 
 // The annunciation of an alarm that an operator has seen: what came onto the screen just now nobody has.
-function stampSeen(id) {
+function stampSeen(id, glance) {
   const one = screen_.seen.get(id);
-  return !one ? 0 : performance.now() - one.at >= GLANCE ? one.stamp : one.before;
+  return !one ? 0 : performance.now() - one.at >= glance ? one.stamp : one.before;
 }
 
 // ---- actions
@@ -505,7 +572,7 @@ function stampSeen(id) {
 const isLeftOut = row => areSeveral() && row[PLANT].isOld;
 const unacknowledgedShown = () => look.view === "journal" ? [] : screen_.items.slice(...onScreen()).filter(row => UNACKNOWLEDGED.has(row[SHOWN]) && !isLeftOut(row)).map(row => row[ID]);
 const chosenRows = () => [...screen_.chosen].map(rowOf).filter(row => !isLeftOut(row));
-const mayDo = word => me.role === "engineer" || (me.role === "operator" && word !== "PRIO" && word !== "SETP");
+const mayDo = act => me.may.includes(act === "SHOWN" ? "ACK" : act.split(" ")[0]);
 
 // Which of the selected alarms each action is for.
 const FOR = {
@@ -548,31 +615,31 @@ function sayAnswers(word, value, answers, faults) {
 }
 
 // Asks a plant for an action of some of its alarms: what came of each, or why nothing is known of them.
-async function askPlant(plant, word, ids, value, reason) {
-  const body = JSON.stringify({plant: plant.place, era: plant.era, word, alarms: ids.map(id => [id % ALARMS, stampSeen(id)]), value, reason});
+async function askPlant(plant, word, ids, value, reason, glance) {
+  const body = JSON.stringify({plant: plant.place, era: plant.era, word, alarms: ids.map(id => [id % ALARMS, stampSeen(id, glance)]), value, reason});
   try {
-    const reply = await fetch("/do", {method: "POST", headers: {"Content-Type": "application/json", "X-Alarms-Key": me.key}, body});
+    const reply = await fetch("/do", {method: "POST", headers: {"Content-Type": "application/json", "X-Alarms-Key": me.key}, body, signal: AbortSignal.timeout(REPLY)});
     if (reply.status === 401) link.again();
     if (!reply.ok) return {fault: of_(plant, `not done: ${(await reply.text()).trim().slice(0, 100)}`)};
     return {answers: (await reply.json()).answers.map(([n, ...rest]) => [idOf(plant, n), ...rest])};
   } catch (error) {
-    return {fault: of_(plant, "no reply came: look whether it was done")};
+    return {fault: of_(plant, `no reply came${error.name === "TimeoutError" ? ` within ${REPLY / 1000} s` : ""}: look whether it was done`)};
   }
 }
 
 // Asks for an action of some alarms, each at its own plant.
-async function ask(word, ids, value, reason) {
+async function ask(word, ids, value, reason, glance = GLANCE) {
   if (!ids.length || ids.length > MOST_ALARMS) return say(ids.length ? `choose at most ${MOST_ALARMS} alarms` : "nothing to do", true);
   say("..", false);
   const orders = plants.map(plant => [plant, ids.filter(id => plantOf(id) === plant)]).filter(([, own]) => own.length);
-  const results = await Promise.all(orders.map(([plant, own]) => askPlant(plant, word, own, value, reason)));
+  const results = await Promise.all(orders.map(([plant, own]) => askPlant(plant, word, own, value, reason, glance)));
   sayAnswers(word, value, results.flatMap(result => result.answers ?? []), results.flatMap(result => result.fault ?? []));
 }
 
 function act(name) {
   const button = $("actions").querySelector(`[data-act="${name}"]`);
   if (!button || button.disabled || button.hidden) return;
-  if (name === "SHOWN") return ask("ACK", unacknowledgedShown());
+  if (name === "SHOWN") return ask("ACK", unacknowledgedShown(), undefined, undefined, READ);
   const ids = chosenRows().filter(FOR[name]).map(row => row[ID]);
   if (name === "ACK" || name === "RESET" || name === "UNSHELVE") return ask(name, ids);
   open_(name, ids);
@@ -669,7 +736,7 @@ function play(which) {
   document.body.dataset.played = `${Number((document.body.dataset.played ?? "0").split(" ")[0]) + 1} ${which}`;
 }
 
-// Browsers let a page sound once it was touched.
+// Browsers let a page sound once it was touched, or where they were started so.
 function allowSound() {
   sound.context ??= new AudioContext();
   if (sound.context.state !== "running") sound.context.resume().then(touch, () => 0);
@@ -720,7 +787,10 @@ function press(event) {
   const steps = {ArrowDown: 1, ArrowUp: -1, PageDown: page, PageUp: -page, Home: -last, End: last};
   const row = screen_.items[screen_.cursor], isJournal = look.view === "journal";
   const keys = {a: "ACK", A: "SHOWN", r: "RESET", s: "SHELVE", u: "UNSHELVE", o: "OOS ON", i: "OOS OFF", p: "PRIO", t: "SETP"};
-  if (event.key in steps && last >= 0) {
+  // A key that is held moves, and does nothing else.
+  if (event.repeat && !(event.key in steps)) {
+    if (event.key === " ") event.preventDefault();
+  } else if (event.key in steps && last >= 0) {
     const fresh = !screen_.chosen.size && Math.abs(steps[event.key]) === 1 && !isJournal;
     const place = fresh ? screen_.cursor : Math.max(0, Math.min(last, screen_.cursor + steps[event.key]));
     reveal(place);
@@ -748,6 +818,15 @@ function press(event) {
   }
   event.preventDefault();
   touch();
+}
+
+// Keys hold wherever the focus is, but in fields and dialogs. Those that a control has of its own are its own.
+function hearKey(event) {
+  const control = event.target.closest("button");
+  if (event.repeat && event.key === "Enter" && control) event.preventDefault();
+  if (event.defaultPrevented || event.isComposing || event.target.closest("input, select, textarea") || document.querySelector("dialog[open]")) return;
+  if (control && (event.key === " " || event.key === "Enter")) return;
+  press(event);
 }
 
 function turn(view) {
@@ -784,10 +863,11 @@ function greet(hello) {
 function take(news, isWhole) {
   const plant = plants[news.plant];
   link.heard = performance.now();
-  link.signedOut = false;
+  Object.assign(link, {signedOut: false, refused: ""});
   if (isWhole) {
     if (news.era !== plant.era) forget(plant);
     Object.assign(plant, {era: news.era, areas: news.areas, table: news.table, rows: [], events: []});
+    measureTags();
   }
   for (const row of news.rows) {
     row.push(plant, idOf(plant, row[N]));
@@ -811,34 +891,56 @@ function forget(plant) {
   if (plant.era) say(of_(plant, "the plant is another one than before"), true);
 }
 
-function connect() {
-  const source = new EventSource("/stream");
-  source.addEventListener("hello", event => greet(JSON.parse(event.data)));
-  source.addEventListener("all", event => take(JSON.parse(event.data), true));
-  source.addEventListener("news", event => take(JSON.parse(event.data), false));
+const TOLD = {hello: greet, all: news => take(news, true), news: news => take(news, false)};
+
+// Takes the events that are whole in a text of the stream, and gives what is left of it.
+function takeEvents(text) {
+  let at = 0;
+  for (let end = text.indexOf("\n\n"); end >= 0; end = text.indexOf("\n\n", at)) {
+    const [kind, data] = text.slice(at, end).split("\n");
+    try {
+      TOLD[kind.slice("event: ".length)](JSON.parse(data.slice("data: ".length)));
+    } catch (error) {
+      reportError(error);  // a fault of this page, and none of the connection
+    }
+    at = end + 2;
+  }
+  return text.slice(at);
+}
+
+async function connect() {
+  const control = new AbortController();
   const again = link.again = () => {
-    source.close();
+    control.abort();
     clearInterval(watched);
     link.again = () => 0;
     setTimeout(enter, AGAIN);
   };
   // A stream that is silent is taken for lost, also where the system doesn't say so.
-  const watched = setInterval(() => performance.now() - link.heard > 4 * SILENCE && again(), SILENCE);
-  source.onerror = again;
+  const watched = setInterval(() => performance.now() - link.heard > 4 * SILENCE && link.again === again && again(), SILENCE);
+  try {
+    const reply = await fetch("/stream", {headers: {"X-Alarms-Key": me.key}, signal: control.signal});
+    if (!reply.ok) throw new Error(link.refused = (await reply.text()).trim().slice(0, 100));
+    const reader = reply.body.pipeThrough(new TextDecoderStream()).getReader();
+    for (let rest = "", part = await reader.read(); !part.done; part = await reader.read()) rest = takeEvents(rest + part.value);
+  } catch (error) {
+    // it is lost, or was refused
+  }
+  if (link.again === again) again();
 }
 
-// Behind a restart a proxy's user is let in again by the page; a token's has to sign in.
+// After a restart a proxy's user is let in again by the page; a token's has to sign in.
 async function enter() {
   let status = 0;
   try {
-    status = (await fetch("/")).status;
+    status = (await fetch("/", {signal: AbortSignal.timeout(REPLY)})).status;
   } catch (error) {
-    // nobody is there
+    link.refused = "";  // nobody is there
   }
   link.signedOut = status === 401;
   if (status !== 200) return setTimeout(enter, AGAIN);
   // a new stream has its time to begin
-  link.heard = Math.max(link.heard, performance.now() - 3 * SILENCE);
+  if (!link.refused) link.heard = Math.max(link.heard, performance.now() - 3 * SILENCE);
   connect();
 }
 
@@ -878,13 +980,14 @@ function listenToControls() {
   $("tabs").addEventListener("keydown", event => {
     const views = Object.keys(VIEWS), step = {ArrowRight: 1, ArrowLeft: -1}[event.key];
     if (!step) return;
+    event.preventDefault();
     turn(views[(views.indexOf(look.view) + step + views.length) % views.length]);
     $("tabs").querySelector("[aria-selected=true]").focus();
   });
-  $("floods").addEventListener("click", event => {
-    if (event.target.dataset.area !== undefined) look.area = event.target.dataset.area;
-    draw();
-  });
+  $("flooded").addEventListener("click", showFlood);
+  $("flooded-all").addEventListener("click", showFlood);
+  $("more").addEventListener("click", () => $("areas").showModal());
+  $("holding").addEventListener("click", event => event.target.dataset.view && turn(event.target.dataset.view));
   $("area").addEventListener("change", () => { look.area = $("area").value; draw(); });
   $("state").addEventListener("change", () => { look.state = $("state").value; draw(); });
   $("text").addEventListener("input", () => { look.text = $("text").value.trim().toLowerCase(); draw(); });
@@ -902,7 +1005,7 @@ function listenToControls() {
 function listenToList() {
   $("columns").addEventListener("click", event => { const name = event.target.closest("button")?.dataset.sort; if (name) sortBy(name); });
   $("list").addEventListener("scroll", () => { drawRows(); drawActions(); });
-  $("list").addEventListener("keydown", event => event.target === $("list") && press(event));
+  document.addEventListener("keydown", hearKey);
   $("rows").addEventListener("click", event => {
     const n = event.target.closest("tr")?.dataset.n;
     if (n === undefined) return;
@@ -914,7 +1017,9 @@ function listenToList() {
   $("asking-leave").addEventListener("click", () => $("asking").close());
   $("asking").addEventListener("close", () => $("list").focus({preventScroll: true}));
   $("duration").addEventListener("change", () => { $("asking-minutes").hidden = $("duration").value !== "other"; });
-  window.addEventListener("resize", () => { drawRows(); drawActions(); });
+  const fit = () => { boundFloods(); measureTags(); drawRows(); drawActions(); };
+  window.addEventListener("resize", fit);
+  LOW.addEventListener("change", fit);
   document.addEventListener("visibilitychange", draw);
   for (const kind of ["pointerdown", "keydown"]) document.addEventListener(kind, allowSound);
 }
@@ -925,4 +1030,5 @@ listenToList();
 draw();
 setInterval(() => $("list").classList.toggle("flash"), FLASH);
 setInterval(drawTrouble, 250);
+allowSound();
 connect();
