@@ -85,7 +85,9 @@ def units(yard: Yard) -> str:
         check(f" {VERSION}\n" in text and "StartLimitIntervalSec=0" in text, name, "is of another version, or gives up")
         for place, there in places.items():
             text = text.replace(place, there)
-        run = subprocess.run(["systemd-analyze", "verify", yard.write(name, text)], capture_output=True, text=True, timeout=60)
+        yard.write(name, text)
+    for name in names:  # once all are there, since one may require another
+        run = subprocess.run(["systemd-analyze", "verify", yard.path(name)], capture_output=True, text=True, timeout=60)
         check(run.returncode == 0 and not run.stdout + run.stderr, name, run.stdout, run.stderr)
     return f"{len(names)} units"
 
