@@ -10,12 +10,14 @@ from browsers import List, Page, Plant, engineer  # first: it finds examples/ an
 from check_doors import Raw
 from drawn_plants import module
 from program import check
-from tools import Yard, await_true
+from tools import Yard, await_true, slowness
 
 # More connections than a process of Debian may have descriptors by default, which is 1,024.
 CROWD = 1200
 # Seconds that a connection may take for the head of its first request, and a little longer.
 HEAD = 13
+# Seconds in which operators are served amid a crowd, on a machine that has nothing else to do.
+AMID = 4
 # Lines of the log that some hundred requests may bring about.
 FEW = 12
 MOST_OF_USER = 32
@@ -87,12 +89,13 @@ def crowd(yard: Yard, _count: int) -> str:
     resource.setrlimit(resource.RLIMIT_NOFILE, (min(hard, 4096), hard))
     page = Page(yard, listed.url)
     page.shows("TI-101", "Unack")
+    page.rest()
+    began = time.monotonic()
     idle = [socket.create_connection((listed.place.split("/")[2].split(":")[0], int(listed.place.split(":")[2].strip("/"))), timeout=20) for _ in range(CROWD)]
     try:
         for one in idle[::2]:
             one.sendall(b"GET / HTTP/1.1\r\nHost: ")  # half of a head
-        page.rest()
-        took = works_amid(plant, page, listed)
+        took = works_amid(plant, page, listed, began)
         log = len(listed.said())
         last = idle[-1]
         await_true("an end of a connection that asks nothing", lambda: is_ended(last), HEAD)
@@ -104,18 +107,18 @@ def crowd(yard: Yard, _count: int) -> str:
     page.end()
     listed.end()
     plant.end()
-    return f"amid {CROWD} connections a page after {took:.1f} s, {log} bytes logged"
+    return f"amid {CROWD} connections let in and acknowledged in {took:.1f} s, {log} bytes logged"
 
 
-def works_amid(plant: Plant, page: Page, listed: List) -> float:
-    """Who is in acknowledges, and another browser is let in; the seconds that the latter took."""
+def works_amid(plant: Plant, page: Page, listed: List, began: float) -> float:
+    """Another browser is let in, and who is in acknowledges, long before the first of the crowd has used up its time. The seconds since the crowd began."""
+    Raw(listed).enter()
     page.choose("TI-101")
     page.act("ACK")
     page.shows("TI-101", "Acked")
-    check(plant.shown("TI-101") == "ACKED", "it isn't acknowledged")
-    began = time.monotonic()
-    Raw(listed).enter()
-    return time.monotonic() - began
+    took = time.monotonic() - began
+    check(plant.shown("TI-101") == "ACKED" and took < AMID * slowness(), "it isn't acknowledged, or it was after", took)
+    return took
 
 
 def is_ended(one: socket.socket) -> bool:

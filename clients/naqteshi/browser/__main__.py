@@ -44,7 +44,7 @@ except ImportError:
 from .board import Board
 from .complaints import tell_seldom
 from .doors import Door
-from .gate import Gate, most_connections
+from .gate import BACKLOG, Gate, most_connections
 from .listening import Ended, open_port, open_socket
 from .notes import Notes, NoNotes
 from .orders import ACTIONS, ROLES, Order
@@ -248,7 +248,7 @@ async def show(chosen: argparse.Namespace, listening: Any, boards: Sequence[Boar
     runner = web.AppRunner(Site(door, boards, order).application(), access_log=None)
     await runner.setup()
     gate = Gate(runner.server, most_connections())
-    server = await asyncio.get_running_loop().create_server(gate, sock=listening)
+    server = await asyncio.get_running_loop().create_server(gate, sock=listening, backlog=BACKLOG)
     begin()
     door.open()
     try:

@@ -11,6 +11,8 @@ from aiohttp import web
 
 # Connections at once, and how many descriptors are kept for all else.
 MOST, OTHERS = 512, 128
+# Connections that the system keeps until they are taken, all of them at once: those that find no place there are tried again after a second and later.
+BACKLOG = 256
 # Seconds for the first request's head, for a request of somebody who wasn't let in, and between two requests.
 HEAD, REQUEST, IDLE = 10, 30, 75
 
@@ -18,11 +20,11 @@ HEAD, REQUEST, IDLE = 10, 30, 75
 def most_connections() -> int:
     """How many connections there may be. The limit of descriptors is raised for them, as far as that is allowed."""
     soft, hard = resource.getrlimit(resource.RLIMIT_NOFILE)
-    wanted = MOST + OTHERS if hard == resource.RLIM_INFINITY else min(hard, MOST + OTHERS)
+    wanted = MOST + BACKLOG + OTHERS if hard == resource.RLIM_INFINITY else min(hard, MOST + BACKLOG + OTHERS)
     if soft != resource.RLIM_INFINITY and soft < wanted:
         resource.setrlimit(resource.RLIMIT_NOFILE, (wanted, hard))
         soft = wanted
-    return MOST if soft == resource.RLIM_INFINITY else max(8, min(MOST, soft - OTHERS))
+    return MOST if soft == resource.RLIM_INFINITY else max(8, min(MOST, soft - BACKLOG - OTHERS))
 
 
 class Gate:
