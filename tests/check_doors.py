@@ -198,6 +198,9 @@ def raw_requests(plant: Plant, listed: List) -> int:
         check("script-src 'self'" in headers.get("Content-Security-Policy", "") and headers.get("X-Content-Type-Options") == "nosniff", "without headers:", wanted, headers)
         check(not any(word in said for word in (b"Traceback", b"TI-101", raw.key.encode())), "it says", said[:200])
     check("unsafe" not in headers["Content-Security-Policy"], "the policy is", headers["Content-Security-Policy"])
+    for reason, why in (("x" * 201, b"at most 200 letters"), ("x\u00a0y", b"no blank but the plain one"), ("x\u200cy", b"no joined sign"), ("x\ny", b"no line end")):
+        said = do(raw.order(word="SHELVE", value=60, reason=reason))[2]
+        check(why in said, "of a reason it says", said)
     answers = json.loads(do(raw.order())[2])["answers"]
     check(answers[0][1] == "refused", "of another plant it was answered", answers)
     return len(tried) + 1

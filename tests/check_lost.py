@@ -148,6 +148,7 @@ def seen(yard: Yard, _count: int) -> str:
     page.act("ACK")
     page.shows("TI-101", "Acked")
     check(plant.shown("PI-104") == "UNACK", "another one was acknowledged")
+    shown_for_half_a_second(plant, page)
     hidden_by_scrolling(plant, page)
     page.end()
     listed.end()
@@ -170,6 +171,21 @@ def hidden_by_scrolling(plant: Plant, page: Page) -> None:
     page.says(f"{len(whole)} acknowledged")
     gone = before - {tag for tag, shown in plant.all_shown().items() if shown == "UNACK"}
     check(gone == set(whole), "acknowledged were", gone, "and on the screen stood", whole)
+
+
+def shown_for_half_a_second(plant: Plant, page: Page) -> None:
+    """Enough to acknowledge an alarm that was selected, and too little for one of those shown."""
+    number = plant.numbers["TI-101"]
+    for act, state in (("SHOWN", "UNACK"), ("ACK", "ACKED")):
+        plant.goes("TI-101")
+        before = page.js("return screen_.seen.get(arguments[0]).stamp", number)
+        plant.comes("TI-101")
+        page.until("another annunciation", lambda: page.js("return plants[0].rows[arguments[0]][STAMP]", number) not in (0, before))
+        page.choose("TI-101")
+        page.js("say('', false); screen_.seen.set(arguments[0], {stamp: plants[0].rows[arguments[0]][STAMP], at: performance.now() - 500, before: arguments[1]}); act(arguments[2])", number, before, act)
+        page.says("it has come again since it was seen" if state == "UNACK" else "TI-101 acknowledged")
+        check(plant.shown("TI-101") == state, act, "of half a second made it", plant.shown("TI-101"))
+    check(plant.shown("PI-104") == "ACKED", "what was shown for long isn't acknowledged")
 
 
 def notes(yard: Yard, _count: int) -> str:
