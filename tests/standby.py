@@ -11,7 +11,8 @@ there has to be one that a client sent and had no answer to. The round `defaults
 
     died         the first machine dies, and the second takes over by keepalived
     by-hand      the same without keepalived: the page's block is run on the second
-    no-switch    the same, where no switch answers: nothing is answered before a word of the administrator's
+    alone        the cable is cut: alarms_alone resumes nothing while the second has power, and resumes once it is off. That one comes back, and takes over
+    no-switch    the standby dies where no switch answers: nothing is answered before a word of the administrator's
     change       both are well, and the server changes machines
     cut          the cable is cut: nothing is answered. The first is switched off, and the page's block is run on the second
     cut-alone    with keepalived, the cable is cut: one machine switches the other off and goes on. That one comes back, and stands in later

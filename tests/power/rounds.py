@@ -76,6 +76,30 @@ def cut(site: Site) -> Round:
     return Round(site, site.second, said)
 
 
+def alone(site: Site) -> Round:
+    site.set_up()
+    site.work()
+    site.pair.cut()
+    time.sleep(1)
+    before = site.count()
+    refused = site.first.run("alarms_alone", STEP, fails=True)
+    check("nothing was resumed" in refused, "behind a cut cable alarms_alone said", refused)
+    time.sleep(STILL)
+    check(site.count() == before, site.count() - before, "actions were answered behind a cut cable, though the standby had power")
+    site.second.kill()
+    since = time.monotonic()
+    site.first.run("alarms_alone", STEP)
+    said = took(site, since).replace("death", "word")
+    site.answers(20)
+    site.pair.cut(is_whole=True)
+    said += f"; the standby was equal {site.rejoin(site.second):.1f} s after its return"
+    site.work()
+    site.first.kill()
+    site.second.run(site.blocks["Take over by hand"], STEP)
+    site.answers(20)
+    return Round(site, site.second, f"nothing resumed while the standby had power; {said}")
+
+
 def without_switch(site: Site) -> Round:
     site.set_up()
     site.pair.power.answers = False
@@ -266,6 +290,6 @@ def defaults(site: Site) -> Round:
 
 
 ROUNDS: dict[str, Callable[[Site], Round]] = {
-    "died": died, "by-hand": by_hand, "no-switch": without_switch, "change": change, "cut": cut, "cut-alone": cut_alone, "back": back,
+    "died": died, "by-hand": by_hand, "alone": alone, "no-switch": without_switch, "change": change, "cut": cut, "cut-alone": cut_alone, "back": back,
     "both": both, "stale": stale, "shared-disk": shared_disk, "each-other": each_other, "defaults": defaults,
 }
