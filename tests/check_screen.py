@@ -131,6 +131,7 @@ def held_keys(yard: Yard, _count: int) -> str:
     page.until("all", lambda: page.find("#list").get_attribute("aria-rowcount") == str(len(tags) + 1))
     left = lambda: sum(state == "UNACK" for state in plant.all_shown().values())
     page.rest()
+    moves_on(page)
     page.find("#text").send_keys("A")
     page.rest()
     check(left() == len(tags), "a letter in the search acknowledged", len(tags) - left())
@@ -155,6 +156,17 @@ def held_keys(yard: Yard, _count: int) -> str:
     listed.end()
     plant.end()
     return f"a held key takes {shown} of {len(tags)}"
+
+
+def moves_on(page: Page) -> None:
+    """The tab key and the arrows go on while they are held."""
+    page.js("document.activeElement.blur(); window.passed = new Set(); document.addEventListener('focusin', event => window.passed.add(event.target))")
+    for key, code in (("Tab", 9), ("ArrowDown", 40)):
+        for time_ in range(5):
+            page.driver.execute_cdp_cmd("Input.dispatchKeyEvent", {"type": "rawKeyDown", "key": key, "code": key, "windowsVirtualKeyCode": code, "autoRepeat": time_ > 0})
+        page.driver.execute_cdp_cmd("Input.dispatchKeyEvent", {"type": "keyUp", "key": key, "code": key, "windowsVirtualKeyCode": code})
+    page.until("a focus that moves, and a row", lambda: page.js("return window.passed.size") == 5 and page.js("return screen_.cursor") == 4, 5)
+    ActionChains(page.driver).send_keys(Keys.ESCAPE).perform()
 
 
 def first_out(yard: Yard, count: int) -> str:

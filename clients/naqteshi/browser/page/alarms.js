@@ -787,10 +787,7 @@ function press(event) {
   const steps = {ArrowDown: 1, ArrowUp: -1, PageDown: page, PageUp: -page, Home: -last, End: last};
   const row = screen_.items[screen_.cursor], isJournal = look.view === "journal";
   const keys = {a: "ACK", A: "SHOWN", r: "RESET", s: "SHELVE", u: "UNSHELVE", o: "OOS ON", i: "OOS OFF", p: "PRIO", t: "SETP"};
-  // A key that is held moves, and does nothing else.
-  if (event.repeat && !(event.key in steps)) {
-    if (event.key === " ") event.preventDefault();
-  } else if (event.key in steps && last >= 0) {
+  if (event.key in steps && last >= 0) {
     const fresh = !screen_.chosen.size && Math.abs(steps[event.key]) === 1 && !isJournal;
     const place = fresh ? screen_.cursor : Math.max(0, Math.min(last, screen_.cursor + steps[event.key]));
     reveal(place);
@@ -820,13 +817,17 @@ function press(event) {
   touch();
 }
 
+const MOVES = new Set(["ArrowDown", "ArrowUp", "PageDown", "PageUp", "Home", "End"]);
+
 // Keys hold wherever the focus is, but in fields and dialogs. Those that a control has of its own are its own.
 function hearKey(event) {
   const control = event.target.closest("button");
   if (event.repeat && event.key === "Enter" && control) event.preventDefault();
   if (event.defaultPrevented || event.isComposing || event.target.closest("input, select, textarea") || document.querySelector("dialog[open]")) return;
   if (control && (event.key === " " || event.key === "Enter")) return;
-  press(event);
+  // A key that is held moves, and does nothing else.
+  if (!event.repeat || MOVES.has(event.key)) press(event);
+  else if (event.key === " ") event.preventDefault();
 }
 
 function turn(view) {
