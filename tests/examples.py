@@ -45,6 +45,7 @@ echo "$*" >> {folder}/asked
 case $1 in
     cstate) echo {connection} ;;
     role) echo {roles} ;;
+    resume-io) exit {resumes} ;;
 esac
 """
 
@@ -108,20 +109,20 @@ def write_script(path, text):
     os.chmod(path, 0o755)
 
 
-def run_alone(folder, status, connection, roles, is_allowed):
-    """alarms_alone as it is, but for the folder of its settings."""
+def run_alone(folder, status, connection, roles, is_allowed, resumes=0):
+    """alarms_alone as it is, but for the folder of its settings. Where drbdadm itself fails, nobody knows whether something was resumed."""
     asked = os.path.join(folder, "asked")
     open(asked, "w", encoding="ascii").close()
     write_script(os.path.join(folder, "power"), f"#!/bin/sh\n[ $1 != status ] || echo {status}\n")
-    write_script(os.path.join(folder, "drbdadm"), DRBDADM.format(folder=folder, connection=connection, roles=roles))
+    write_script(os.path.join(folder, "drbdadm"), DRBDADM.format(folder=folder, connection=connection, roles=roles, resumes=resumes))
     write_script(os.path.join(folder, "standby.env"), f"POWER={folder}/power\n")
     text = read(EXAMPLES, "standby", "alarms_alone").decode()
     check("/etc/alarms/" in text, "alarms_alone has no settings")
     write_script(os.path.join(folder, "alarms_alone"), text.replace("/etc/alarms/", folder + "/"))
     run = subprocess.run([os.path.join(folder, "alarms_alone"), "alarms"], env={**os.environ, "PATH": f"{folder}:{os.environ['PATH']}"}, capture_output=True, timeout=60)
     is_resumed = b"resume-io alarms" in read(asked)
-    check((run.returncode == 0, is_resumed) == (is_allowed, is_allowed), "alarms_alone, with a switch that says", status, "and DRBD", connection, roles, "ended with", run)
-    check(is_allowed or b"nothing was resumed" in run.stderr, "alarms_alone said", run.stderr)
+    check((run.returncode == 0, is_resumed) == (is_allowed and resumes == 0, is_allowed), "alarms_alone, with a switch that says", status, "and DRBD", connection, roles, "ended with", run)
+    check((b"nothing was resumed" in run.stderr) != is_allowed and (b"look at" in run.stderr) == (resumes != 0), "alarms_alone said", run.stderr)
 
 
 def main():
@@ -136,6 +137,7 @@ def main():
         run_faults(program, folder)
         for case in ALONE:
             run_alone(folder, *case)
+        run_alone(folder, *ALONE[0], resumes=20)
     except Wrong as wrong:
         sys.exit(f"examples: {wrong}")
     finish("examples", folder, f"{len(found)} examples, no words, the refinery, {len(FAULTS)} faults of tables, and {len(ALONE)} words of a switch")
