@@ -79,6 +79,35 @@ def bad_sign_ins(listed: List) -> int:
     return len(bodies)
 
 
+def started_again(yard: Yard, _count: int) -> str:
+    """alm_browser is started again, and one window of a browser is let in: the others go on with it."""
+    plant = Plant(yard)
+    plant.comes("TI-101")
+    with socket.socket() as one:
+        one.bind(("127.0.0.1", 0))
+        port = one.getsockname()[1]
+    listed = List(yard, plant.device, plant.port, "--listen", port, listen=False)
+    page = Page(yard, listed.url)
+    page.shows("TI-101", "Unack")
+    first = page.driver.current_window_handle
+    listed.end()
+    listed.start()
+    page.until("a word", lambda: page.of("#trouble").startswith("SIGNED OUT"))
+    page.driver.switch_to.new_window("tab")
+    page.driver.get(listed.url)
+    page.shows("TI-101", "Unack")
+    page.driver.switch_to.window(first)
+    page.until("the list again", lambda: "SIGNED OUT" not in page.of("#trouble") and "NO " not in page.of("#trouble"))
+    page.rest()
+    page.choose("TI-101")
+    page.act("ACK")
+    page.until("an acknowledgement", lambda: plant.shown("TI-101") == "ACKED")
+    page.end()
+    listed.end()
+    plant.end()
+    return "all windows by one sign-in"
+
+
 def crowd(yard: Yard, _count: int) -> str:
     """Somebody who may connect, and isn't let in, opens more connections than a process may have: operators don't notice it, and the log doesn't grow."""
     plant = Plant(yard)
@@ -258,4 +287,4 @@ def wrong_lines(place: str) -> int:
     return len(lines)
 
 
-CHECKS = {"listen": listen, "crowd": crowd, "windows": windows, "parts": parts}
+CHECKS = {"listen": listen, "started_again": started_again, "crowd": crowd, "windows": windows, "parts": parts}

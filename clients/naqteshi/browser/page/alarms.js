@@ -911,6 +911,7 @@ function takeEvents(text) {
 
 async function connect() {
   const control = new AbortController();
+  me.key = kept("key") ?? me.key;  // another window may have been let in since
   const again = link.again = () => {
     control.abort();
     clearInterval(watched);
