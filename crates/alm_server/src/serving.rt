@@ -1,6 +1,7 @@
 //! Serving a device's file.
 
-ghost use Rattle.std.specs.Prelude.{◌≡◌, IfOk};
+ghost use Rattle.std.specs.Prelude.{◌≡◌, ℕ, List, IfOk};
+ghost use Rattle.alm_file.specs.Replay.{BeginsAs};
 ghost use Rattle.alm_keeper.specs.AsStore.{IsLastEpoch, StandsFor};
 ghost use Rattle.alm_serve.specs.Runs.{ServeEnds};
 ghost use Rattle.alm_server.specs.Serving.{IsServedFrom, fault_of_serve};
@@ -48,6 +49,25 @@ fn serve_disk<
     }
 }
 
+/// Serves the slots of a device whose calls are counted, and returns it. Only with a patience is the count asked.
+fn serve_counted<
+    D: Disk + Drop,
+    R: Files<File = File> + Print + Net + Threads + Wait + Clock + Sync + AllocGlobal,
+>(
+    rt: &R,
+    disk: D,
+    order: &ServeOrder,
+) -> Result<ServerEnd<CountedDisk<D>>, Fault>
+    ensures { (start : List ℕ) → BeginsAs start (D.size disk) (D.honest disk) (D.state disk) →
+        IfOk result
+        (λ end. IsServedFrom ⟦<CountedDisk<D> as Disk>⟧ start end.back end.cause end.served) }
+{
+    let patience = Patience::new(rt.alloc(), order.patience.unwrap_or(0))?;
+    let counted = patience.count(disk)?;
+    let asked = order.patience.map(|_| &patience);
+    Ok(serve_disk(rt, counted, asked, order))
+}
+
 /// Serves the slots of a device's file as requested, and returns the device with the record of its calls.
 ///
 /// What it says it says of each list of bytes that the file may have held: no code can read `start`.
@@ -64,15 +84,9 @@ pub fn serve_file<
         (λ end. IsServedFrom ⟦<CountedDisk<PlacedDisk<'r, R, S>> as Disk>⟧ S.Start.bytes end.back
         end.cause end.served) }
 {
-    let disk = match PlacedDisk::open(rt, order.device.as_str(), start) {
-        Ok(disk) => disk,
-        Err(fault) => return Err(file_fault(fault)),
-    };
-    let patience = Patience::new(rt.alloc(), order.patience.unwrap_or(0))?;
-    let disk = patience.count(disk)?;
-    match order.patience {
-        None => Ok(serve_disk(rt, disk, None, order)),
-        Some(_) => Ok(serve_disk(rt, disk, Some(&patience), order)),
+    match PlacedDisk::open(rt, order.device.as_str(), start) {
+        Ok(disk) => serve_counted(rt, disk, order),
+        Err(fault) => Err(file_fault(fault)),
     }
 }
 
