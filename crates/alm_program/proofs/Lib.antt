@@ -1,3 +1,4 @@
 mod Ending
 mod Found
 mod Parsed
+pub mod Judging

@@ -7,3 +7,4 @@ pub mod Formatted
 pub mod ServeOrders
 pub mod OwnedEndpoints
 pub mod Ends
+pub mod DeskRuns

@@ -1,16 +1,21 @@
 //! The desk over standard input and output.
 
-ghost use Rattle.std.specs.Prelude.{◌≡◌, ◌⊎◌, IfErr, IfOk, IfSome, OnOk, is_none};
+ghost use Rattle.std.specs.Prelude.{◌≡◌, ◌⊎◌, ◌↔◌, ◌∷◌, [], ℕ, List, Some, IfErr, IfOk, IfSome, OnOk, is_none};
 ghost use Rattle.alm_disk.specs.Device.{IsImage};
 ghost use Rattle.alm_disk.specs.Failures.{HasFailed};
+ghost use Rattle.alm_file.specs.Replay.{BeginsAs};
 ghost use Rattle.alm_keeper.specs.AsStore.{StandsFor};
+ghost use Rattle.alm_desk.specs.Answers.{DeskState, standing_of};
 ghost use Rattle.alm_desk.specs.DeskLines.{IsDesk};
-ghost use Rattle.alm_stack.specs.Stacks.{store_of};
+ghost use Rattle.alm_stack.specs.Stacks.{kept_of, stands_of, store_of};
 ghost use Rattle.alm_store.specs.Calls.{IsRefusedBy, OpensBy};
 ghost use Rattle.alm_store.specs.Opening.{HasCause};
+ghost use Rattle.alm_program.specs.DeskRuns.{IsDeskFrom, IsDeskOver, RunsDesk};
 ghost use Rattle.alm_program.specs.Ends.{DeskEnds, IsUnread, IsUnwritten};
 ghost use Rattle.alm_program.specs.Faults.{fault_of_open};
 
+use crate::desk_end::DeskEnd;
+use crate::desk_id::DeskId;
 use crate::device_stack::DeviceStack;
 use crate::fault::Fault;
 use crate::io_faults::{file_fault, io_fault};
@@ -21,9 +26,10 @@ use alm_keeper::OpenFault;
 use alm_model::Alarms;
 use alm_plant::Plant;
 use alm_stack::Stack;
-use std::alloc::Global;
+use std::alloc::{AllocError, Global};
 use std::fs::{File, Files};
 use std::io::{self, BufWriter, Read, Write};
+use std::marker::Brand;
 
 /// Runs a desk between a reader and a writer. If the storage stops, the desk continues to the end of the input, and its fault
 /// is `Stopped`.
@@ -72,6 +78,9 @@ fn open_stack<D: Disk + Drop>(alloc: Global, disk: D) -> Result<Stack<D>, Fault>
     // Its device is what this one is after an opening's calls. It reads as one of the images before, and that encodes the plant, if
     // what it gave was that.
     ensures made { IfOk result (λ s. OpensBy D.serves disk (store_of s).disk) }
+    ensures fresh { IfOk result
+        (λ s. (s.failures ≡ 0) × (stands_of s ≡ Some (store_of s).stored.plant) ×
+        (kept_of s ≡ (store_of s).stored.plant ∷ [])) }
     ensures honest { IfOk result (λ s. D.honest (store_of s).disk → D.honest disk) }
     ensures image { D.honest disk →
         IfOk result (λ s. IsImage (D.state disk) (D.state (store_of s).disk).bytes) }
@@ -92,21 +101,86 @@ fn open_stack<D: Disk + Drop>(alloc: Global, disk: D) -> Result<Stack<D>, Fault>
     }
 }
 
-/// Runs the desk over a device.
-fn run_disk_desk<D: Disk + Drop, R: Input + Print + AllocGlobal>(
-    rt: &R,
-    disk: D,
-) -> Result<(), Fault> {
-    let stack = open_stack(rt.alloc(), disk)?;
-    run_desk_over(rt, DeviceStack { stack })
+/// Runs a desk over a backend, and returns it.
+fn run_backend_between<I: Read + Drop, B: Backend + Drop, W: Write + Drop>(
+    alloc: Global,
+    backend: B,
+    reader: &mut CountedReader<I>,
+    writer: &mut CountedWriter<W>,
+) -> Result<DeskEnd<B>, AllocError>
+    ensures { IfOk result
+        (λ end. (later : DeskState) × (B.stands end.back ≡ later.plant) × (B.kept end.back ≡ later.kept) ×
+        OnOk end.done
+        (IfSome (I.remaining reader.old.inner)
+        (λ input. IsDesk (standing_of (B.stands backend) (B.kept backend) (B.failures backend) 0) input
+        (W.contents writer.old.inner) later (W.contents writer.new.inner)))) }
+{
+    let mut desk = LocalDesk::new(alloc, backend)?;
+    let done = run_between(reader, writer, &mut desk);
+    Ok(DeskEnd {
+        done,
+        back: desk.into_backend(),
+    })
 }
 
-/// Runs the desk over a device's file, which held what `start` says.
+/// Runs the desk over a stack that was just opened, and returns it.
+fn run_stack_between<J: DeskId, I: Read + Drop, D: Disk + Drop, W: Write + Drop>(
+    alloc: Global,
+    stack: Stack<D>,
+    reader: &mut CountedReader<I>,
+    writer: &mut CountedWriter<W>,
+) -> Result<DeskEnd<Stack<D>>, AllocError>
+    requires honest { ∥ (J.DeskId.honest ↔ D.honest (store_of stack).disk) ∥₁ }
+    requires stands { stands_of stack ≡ Some J.DeskId.base }
+    requires kept { kept_of stack ≡ J.DeskId.base ∷ [] }
+    requires sound { stack.failures ≡ 0 }
+    ensures { IfOk result
+        (λ end. (later : DeskState) × RunsDesk D.Disk J.DeskId.base J.DeskId.honest (store_of end.back).disk
+        (I.remaining reader.old.inner) (W.contents writer.old.inner) (W.contents writer.new.inner)
+        end.done later) }
+{
+    let stack = DeviceStack::<D, J>::new(stack);
+    let DeskEnd { done, back } = run_backend_between(alloc, stack, reader, writer)?;
+    let back = back.into_stack();
+    Ok(DeskEnd { done, back })
+}
+
+/// Runs the desk over a device, and returns it.
+fn run_disk_between<I: Read + Drop, D: Disk + Drop, W: Write + Drop>(
+    alloc: Global,
+    disk: D,
+    reader: &mut CountedReader<I>,
+    writer: &mut CountedWriter<W>,
+) -> Result<DeskEnd<D>, Fault>
+    ensures over { IfOk result
+        (λ end. IsDeskOver D.Disk disk end.back (I.remaining reader.old.inner)
+        (W.contents writer.old.inner) (W.contents writer.new.inner) end.done) }
+    ensures from { (start : List ℕ) →
+        BeginsAs start (D.size disk) (D.honest disk) (D.state disk) →
+        IfOk result (λ end. IsDeskFrom D.Disk start end.back end.done) }
+{
+    let stack = open_stack(alloc, disk)?;
+    let DeskEnd { done, back } = run_stack_between::<Brand, I, D, W>(alloc, stack, reader, writer)?;
+    let back = back.into_disk();
+    Ok(DeskEnd { done, back })
+}
+
+/// Runs the desk over a device's file, which held what `start` says, between standard input and output. The device is returned, with
+/// the record of its calls.
 pub fn run_device_desk<S: Start, R: Input + Print + Files<File = File> + AllocGlobal>(
     rt: &R,
     device: &str,
     start: S,
-) -> Result<(), Fault> {
-    let disk = FileDisk::open(rt, device, start).map_err(file_fault)?;
-    run_disk_desk(rt, disk)
+) -> Result<DeskEnd<FileDisk<S>>, Fault>
+    ensures { IfOk result
+        (λ end. IsDeskFrom ⟦<FileDisk<S> as Disk>⟧ S.Start.bytes end.back end.done) }
+{
+    let disk = match FileDisk::open(rt, device, start) {
+        Ok(disk) => disk,
+        Err(fault) => return Err(file_fault(fault)),
+    };
+    let alloc = rt.alloc();
+    let mut reader = CountedReader::new(rt.reader());
+    let writer = BufWriter::with_capacity(alloc, 65536, io::writer(rt)).map_err(io_fault)?;
+    run_disk_between(alloc, disk, &mut reader, &mut CountedWriter::new(writer))
 }

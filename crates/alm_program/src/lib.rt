@@ -44,6 +44,8 @@
 //!   `job_of`, `WordsFault`)
 //! - a desk ends well only if its storage goes on, `stopped` only if not, `io` only if a failure was counted, it was closed
 //!   or 2^32 reads gave no end (by `run_local`, `end_of`)
+//! - a desk over a device's file goes on from the plant that the opening read; each image of the device at its end holds a plant
+//!   that the requests left (by `run_device_desk`)
 //! - what is printed of a plant and of its table, or a prefix; `io` is reported exactly if the writer counted a failure (by
 //!   `print_plant`, `print_table`)
 //! - only a job to serve is answered by an order, with its device, place, connections and patience. Which words the
@@ -53,6 +55,8 @@
 #![tactic(auto)]
 
 mod desk;
+mod desk_end;
+mod desk_id;
 mod device_stack;
 mod endpoints;
 mod exporting;
@@ -68,7 +72,8 @@ mod showing;
 mod words;
 mod words_fault;
 
-pub use desk::run_desk_over;
+pub use desk::{run_desk_over, run_device_desk};
+pub use desk_end::DeskEnd;
 pub use fault::Fault;
 pub use fault_line::print_fault;
 pub use io_faults::file_fault;

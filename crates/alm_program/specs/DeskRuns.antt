@@ -1,0 +1,56 @@
+-- What a desk over a device has done.
+use Rattle.std.specs.Prelude.{◌≡◌, ◌↔◌, ℕ, List, [], ◌∷◌, Contains, Option, Some, Result, OnOk, IfSome}
+use Rattle.alm_types.specs.declared.request.Request.{Request}
+use Rattle.alm_model.specs.Plant.{Condensed}
+use Rattle.alm_disk.specs.Device.{IsImage}
+use Rattle.alm_disk.specs.declared.disk.Disk
+use Rattle.alm_desk.specs.Answers.{DeskState, standing_of}
+use Rattle.alm_desk.specs.Backends.{IsJudged, kept_by}
+use Rattle.alm_desk.specs.DeskLines.{IsDesk}
+use Rattle.alm_desk.specs.declared.judged_request.JudgedRequest.{JudgedRequest}
+use Rattle.alm_desk.specs.declared.stopped.Stopped.{Stopped}
+use Rattle.alm_file.specs.Replay.{BeginsAs}
+use Rattle.alm_keeper.specs.AsStore.{StandsFor}
+use Rattle.alm_store.specs.Calls.{OpensBy}
+use Rattle.alm_program.specs.declared.fault.Fault.{Fault}
+
+-- a request, and what came of it
+pub record Judged : Type 0 where
+  pub request : Request
+  pub result : Result JudgedRequest Stopped
+
+-- requests were judged one after the other, each on the plant that the ones before it left; and of which plants the storage holds one
+abbrev pub AreJudged : Option Condensed → List Condensed → List Judged → Option Condensed → List Condensed → Type 0
+AreJudged plant kept [] later kept_later = (later ≡ plant) × (kept_later ≡ kept)
+AreJudged plant kept (j ∷ js) later kept_later =
+    (next : Option Condensed) × IsJudged plant j.request j.result next × AreJudged next (kept_by plant kept j.request j.result) js later kept_later
+
+-- a desk was run from this plant on, over a device that was honest as said, up to that device and that state. What it printed for an input
+-- that is known is what the lines of that input ask. Each image of the device at its end holds one of the plants that are kept
+pub record RunsDesk {D : Type 0} (d : Disk.Ghosts D) (base : Condensed) (honest_before : Type 0) (back : D) (input old new : Option (List ℕ)) (done : Result Unit Fault) (later : DeskState) : Type 0 where
+  pub honest : ∥ (honest_before ↔ d.honest back) ∥₁
+  pub judged : ∥ ((js : List Judged) × AreJudged (Some base) (base ∷ []) js later.plant later.kept) ∥₁
+  pub printed : OnOk done (IfSome input (λ bytes. IsDesk (standing_of (Some base) (base ∷ []) 0 0) bytes old later new))
+  pub holds : d.honest back → (image : List ℕ) → IsImage (d.state back) image → ∥ ((plant : Condensed) × Contains later.kept plant × StandsFor image plant) ∥₁
+
+-- the device was opened by an opening's calls, and reads as one of its images. If what it gave was that, this is the plant that the image
+-- holds. Then a desk was run over it
+pub record IsDeskOver {D : Type 0} (d : Disk.Ghosts D) (device back : D) (input old new : Option (List ℕ)) (done : Result Unit Fault) : Type 0 where
+  pub opened : D
+  pub base : Condensed
+  pub later : DeskState
+  pub by : OpensBy d.serves device opened
+  pub honest : d.honest opened → d.honest device
+  pub image : d.honest device → IsImage (d.state device) (d.state opened).bytes
+  pub stands : d.honest opened → StandsFor (d.state opened).bytes base
+  pub runs : RunsDesk d base (d.honest opened) back input old new done later
+
+-- a file held the bytes `start`. A device that began with them had a desk run over it, and became `back`: its record is longer by each call
+-- that was made since
+pub record IsDeskFrom {D : Type 0} (d : Disk.Ghosts D) (start : List ℕ) (back : D) (done : Result Unit Fault) : Type 0 where
+  pub device : D
+  pub begins : BeginsAs start (d.size device) (d.honest device) (d.state device)
+  pub input : Option (List ℕ)
+  pub old : Option (List ℕ)
+  pub new : Option (List ℕ)
+  pub over : IsDeskOver d device back input old new done
