@@ -44,7 +44,7 @@
 //!   `job_of`, `WordsFault`)
 //! - a desk ends well only if its storage goes on, `stopped` only if not, `io` only if a failure was counted, it was closed
 //!   or 2^32 reads gave no end (by `run_local`, `end_of`)
-//! - a desk over a device's file goes on from the plant that the opening read; each image of the device at its end holds a plant
+//! - a desk over a device's file goes on from the plant that the opening read. Each image of the device at its end holds a plant
 //!   that the requests left (by `run_device_desk`)
 //! - what is printed of a plant and of its table, or a prefix; `io` is reported exactly if the writer counted a failure (by
 //!   `print_plant`, `print_table`)
