@@ -19,7 +19,7 @@ CRATES = Path(__file__).resolve().parent.parent / "crates"
 PAGE = Path(__file__).resolve().parent / "BELIEVED.md"
 # The crate of each call, whose contract's words are read from its code. After it, words that a type which the call names says besides.
 CLAIMS = {
-    "The program's own file: `serve_file`": ["alm_server", "alm_file.Replay:IsHonest", "alm_file.Replay:state_of", "alm_file.Noted:IsNoted"],
+    "The program's own file: `serve_file`": ["alm_server", "alm_file.Replay:IsHonestFile", "alm_file.Replay:replayed_state", "alm_file.Noted:IsNoted"],
     "A desk over such a file: `run_device_desk`": ["alm_program"],
     "The server: `serve_ports`": ["alm_serve"],
     "The server's threads: `run_with_bells`": ["alm_threads", "alm_threads.Answered:AllAnswered"],

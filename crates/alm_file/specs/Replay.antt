@@ -4,7 +4,7 @@ use Rattle.alm_disk.specs.Device.{DeviceState, AreBytes, is_within}
 use Rattle.alm_disk.specs.Settled.{IsSettled}
 use Rattle.alm_disk.specs.declared.call.Call.{Call}
 use Rattle.alm_disk.specs.declared.call.Call.TheVariants.{Read, Write, Sync}
-use Rattle.alm_file.specs.Events.{Event}
+use Rattle.alm_file.specs.Events.{FileEvent}
 
 -- what it reads as, what is pending, and whether each read gave what it read as
 pub record Replayed : Type 0 where
@@ -13,12 +13,12 @@ pub record Replayed : Type 0 where
 
 -- a call later. A read that was done has to give what the file reads as. A write's range is pending, also after a fault; then the
 -- file is taken to read as before, which makes no difference to what a power failure may leave. A sync that was done leaves nothing pending
-abbrev pub after_call : Call → (done : Bool) → (bytes : List ℕ) → Replayed → Replayed
-after_call (Read at n) done bytes r = record {
+abbrev pub replayed_call : Call → (done : Bool) → (bytes : List ℕ) → Replayed → Replayed
+replayed_call (Read at n) done bytes r = record {
   state = r.state;
   honest = r.honest && (not done || bytes_eq bytes (take n (drop at r.state.bytes)));
 }
-after_call (Write at n) done bytes r = record {
+replayed_call (Write at n) done bytes r = record {
   state = record {
     bytes = if done then take at r.state.bytes ++ bytes ++ drop (at + length bytes) r.state.bytes else r.state.bytes;
     pending = λ place. is_within at (length bytes) place || r.state.pending place;
@@ -26,20 +26,20 @@ after_call (Write at n) done bytes r = record {
   };
   honest = r.honest;
 }
-after_call Sync done bytes r = record {
+replayed_call Sync done bytes r = record {
   state = record { bytes = r.state.bytes; pending = λ place. not done && r.state.pending place; faulted = not done };
   honest = r.honest;
 }
 
-abbrev pub replay : (start : List ℕ) → List Event → Replayed
+abbrev pub replay : (start : List ℕ) → List FileEvent → Replayed
 replay start [] = record { state = record { bytes = start; pending = λ _. false; faulted = false }; honest = true }
-replay start (e ∷ earlier) = after_call e.call e.done e.bytes (replay start earlier)
+replay start (e ∷ earlier) = replayed_call e.call e.done e.bytes (replay start earlier)
 
-abbrev pub state_of : (start : List ℕ) → List Event → DeviceState
-state_of start events = (replay start events).state
+abbrev pub replayed_state : (start : List ℕ) → List FileEvent → DeviceState
+replayed_state start events = (replay start events).state
 
 -- the file held `start`, as many bytes as it has, and each answer so far is one that an honest device would have given
-pub record IsHonest (start : List ℕ) (size : ℕ) (events : List Event) : Type 0 where
+pub record IsHonestFile (start : List ℕ) (size : ℕ) (events : List FileEvent) : Type 0 where
   pub answers : IsTrue (replay start events).honest
   pub whole : length start ≡ size
   pub are_bytes : AreBytes start
@@ -56,11 +56,11 @@ IsTrueAnswer start (Write at n) done bytes = ⊥
 IsTrueAnswer start Sync done bytes = Unit {0}
 
 -- each is one
-abbrev pub AreTrueAnswers : (start : List ℕ) → List Event → Type 0
+abbrev pub AreTrueAnswers : (start : List ℕ) → List FileEvent → Type 0
 AreTrueAnswers start [] = Unit {0}
 AreTrueAnswers start (e ∷ earlier) = IsTrueAnswer start e.call e.done e.bytes × AreTrueAnswers start earlier
 
 -- none of these calls reads
-abbrev pub NoneReads : List Event → Type 0
+abbrev pub NoneReads : List FileEvent → Type 0
 NoneReads [] = Unit {0}
 NoneReads (e ∷ earlier) = ((at n : ℕ) → e.call ≢ Read at n) × NoneReads earlier

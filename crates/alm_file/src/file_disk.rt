@@ -5,7 +5,7 @@ ghost use Rattle.std.specs.Fd.{file_raw_fd};
 ghost use Rattle.alm_disk.specs.Device.{AreBytes};
 ghost use Rattle.alm_disk.specs.Failures.{CountsFault, last_count};
 ghost use Rattle.alm_file.specs.Noted.{IsNoted, was_synced};
-ghost use Rattle.alm_file.specs.Replay.{BeginsAs, IsHonest, state_of};
+ghost use Rattle.alm_file.specs.Replay.{BeginsAs, IsHonestFile, replayed_state};
 
 use crate::disk_cache::{forget, take_room};
 use crate::file_fault::FileFault;
@@ -35,9 +35,9 @@ pub struct FileDisk<S: Start> {
     start: PhantomData<S>,
     ghost counted: { failures ≤ last_count },
     pub ghost long: { length S.Start.bytes ≡ size →
-        length (state_of S.Start.bytes file.calls.events).bytes ≡ size },
+        length (replayed_state S.Start.bytes file.calls.events).bytes ≡ size },
     pub ghost are_bytes: { AreBytes S.Start.bytes →
-        AreBytes (state_of S.Start.bytes file.calls.events).bytes },
+        AreBytes (replayed_state S.Start.bytes file.calls.events).bytes },
 }
 
 /// Refuses anything but a regular file before it is opened: opening a pipe would wait.
@@ -206,9 +206,9 @@ impl<S: Start> Disk for FileDisk<S> {
     ghost use Rattle.std.specs.Prelude.{refl};
 
     // A premise on the answers that its calls had so far. It supposes nothing of the file.
-    ghost honest = { λ d. IsHonest S.Start.bytes d.size d.file.calls.events };
+    ghost honest = { λ d. IsHonestFile S.Start.bytes d.size d.file.calls.events };
 
-    ghost state = { λ d. state_of S.Start.bytes d.file.calls.events };
+    ghost state = { λ d. replayed_state S.Start.bytes d.file.calls.events };
 
     ghost size = { λ d. d.size };
 

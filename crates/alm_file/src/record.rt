@@ -2,7 +2,7 @@
 
 ghost use Rattle.std.specs.Prelude.{◌≡◌, List, [], ◌∷◌};
 ghost use Rattle.std.specs.Borrow.{ftrue};
-ghost use Rattle.alm_file.specs.Events.{Event, event_of};
+ghost use Rattle.alm_file.specs.Events.{FileEvent, event_of};
 
 use std::marker::{Model, PhantomData};
 
@@ -10,7 +10,7 @@ use std::marker::{Model, PhantomData};
 #[derive(Drop)]
 pub struct Record {
     marker: PhantomData<u8>,
-    pub ghost events: { List Event },
+    pub ghost events: { List FileEvent },
 }
 
 impl Model for Record {

@@ -15,21 +15,21 @@ use Rattle.alm_store.specs.Calls.{OpensBy}
 use Rattle.alm_program.specs.declared.fault.Fault.{Fault}
 
 -- a request, and what came of it
-pub record Judged : Type 0 where
+pub record JudgedAtDesk : Type 0 where
   pub request : Request
   pub result : Result JudgedRequest Stopped
 
 -- requests were judged one after the other, each on the plant that the ones before it left; and of which plants the storage holds one
-abbrev pub AreJudged : Option Condensed → List Condensed → List Judged → Option Condensed → List Condensed → Type 0
-AreJudged plant kept [] later kept_later = (later ≡ plant) × (kept_later ≡ kept)
-AreJudged plant kept (j ∷ js) later kept_later =
-    (next : Option Condensed) × IsJudged plant j.request j.result next × AreJudged next (kept_by plant kept j.request j.result) js later kept_later
+abbrev pub AreJudgedAtDesk : Option Condensed → List Condensed → List JudgedAtDesk → Option Condensed → List Condensed → Type 0
+AreJudgedAtDesk plant kept [] later kept_later = (later ≡ plant) × (kept_later ≡ kept)
+AreJudgedAtDesk plant kept (j ∷ js) later kept_later =
+    (next : Option Condensed) × IsJudged plant j.request j.result next × AreJudgedAtDesk next (kept_by plant kept j.request j.result) js later kept_later
 
 -- a desk was run from this plant on, over a device that was honest as said, up to that device and that state. What it printed for an input
 -- that is known is what the lines of that input ask. Each image of the device at its end holds one of the plants that are kept
 pub record RunsDesk {D : Type 0} (d : Disk.Ghosts D) (base : Condensed) (honest_before : Type 0) (back : D) (input old new : Option (List ℕ)) (done : Result Unit Fault) (later : DeskState) : Type 0 where
   pub honest : ∥ (honest_before ↔ d.honest back) ∥₁
-  pub judged : ∥ ((js : List Judged) × AreJudged (Some base) (base ∷ []) js later.plant later.kept) ∥₁
+  pub judged : ∥ ((js : List JudgedAtDesk) × AreJudgedAtDesk (Some base) (base ∷ []) js later.plant later.kept) ∥₁
   pub printed : OnOk done (IfSome input (λ bytes. IsDesk (standing_of (Some base) (base ∷ []) 0 0) bytes old later new))
   pub holds : d.honest back → (image : List ℕ) → IsImage (d.state back) image → ∥ ((plant : Condensed) × Contains later.kept plant × StandsFor image plant) ∥₁
 

@@ -4,7 +4,7 @@ ghost use Rattle.std.specs.Prelude.{◌≡◌, ◌↔◌, ◌∷◌, [], ℕ, Li
 ghost use Rattle.alm_disk.specs.Device.{IsImage};
 ghost use Rattle.alm_keeper.specs.AsStore.{StandsFor};
 ghost use Rattle.alm_model.specs.Plant.{Condensed};
-ghost use Rattle.alm_program.specs.DeskRuns.{AreJudged, Judged};
+ghost use Rattle.alm_program.specs.DeskRuns.{AreJudgedAtDesk, JudgedAtDesk};
 ghost use Rattle.alm_stack.specs.Stacks.{kept_of, stands_of, store_of};
 
 use crate::desk_id::DeskId;
@@ -26,7 +26,7 @@ where
     stack: Stack<D>,
     named: PhantomData<J>,
     ghost honest: { ∥ (J.DeskId.honest ↔ D.honest (store_of stack).disk) ∥₁ },
-    ghost judged: { ∥ ((js : List Judged) × AreJudged (Some J.DeskId.base) (J.DeskId.base ∷ []) js
+    ghost judged: { ∥ ((js : List JudgedAtDesk) × AreJudgedAtDesk (Some J.DeskId.base) (J.DeskId.base ∷ []) js
         (stands_of stack) (kept_of stack)) ∥₁ },
 }
 
@@ -48,7 +48,7 @@ impl<D: Disk + Drop, J: DeskId> DeviceStack<D, J> {
     pub fn into_stack(self) -> Stack<D>
         ensures stack { result ≡ self.stack }
         ensures honest { ∥ (J.DeskId.honest ↔ D.honest (store_of result).disk) ∥₁ }
-        ensures judged { ∥ ((js : List Judged) × AreJudged (Some J.DeskId.base)
+        ensures judged { ∥ ((js : List JudgedAtDesk) × AreJudgedAtDesk (Some J.DeskId.base)
             (J.DeskId.base ∷ []) js (stands_of result) (kept_of result)) ∥₁ }
         ensures holds { D.honest (store_of result).disk → (image : List ℕ) →
             IsImage (D.state (store_of result).disk) image →

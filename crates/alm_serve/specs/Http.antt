@@ -17,14 +17,14 @@ abbrev pub is_break : ℕ → Bool
 is_break byte = (byte == 10) || (byte == 13)
 
 -- what came, without the empty lines before it
-abbrev pub text_of : List ℕ → List ℕ
-text_of [] = []
-text_of (byte ∷ came) = if is_break byte then text_of came else (byte ∷ came)
+abbrev pub request_text : List ℕ → List ℕ
+request_text [] = []
+request_text (byte ∷ came) = if is_break byte then request_text came else (byte ∷ came)
 
 -- the first line of a text, as far as it came, without its LF
-abbrev pub line_of : List ℕ → List ℕ
-line_of [] = []
-line_of (byte ∷ text) = if byte == 10 then [] else (byte ∷ line_of text)
+abbrev pub first_line_of : List ℕ → List ℕ
+first_line_of [] = []
+first_line_of (byte ∷ text) = if byte == 10 then [] else (byte ∷ first_line_of text)
 
 -- that line is whole
 abbrev pub is_whole : List ℕ → Bool
@@ -56,4 +56,4 @@ is_request line = has_space line && ends_request (last_word line)
 
 -- what came begins with such a method, or its first line that isn't empty is such a line
 abbrev pub begins_as_http : List ℕ → Bool
-begins_as_http came = begins_with_method came || (is_whole (text_of came) && is_request (line_of (text_of came)))
+begins_as_http came = begins_with_method came || (is_whole (request_text came) && is_request (first_line_of (request_text came)))

@@ -4,7 +4,7 @@ use Rattle.alm_desk.specs.Answers.{DeskState, standing_of}
 use Rattle.alm_desk.specs.DeskLines.{IsDesk}
 use Rattle.alm_keeper.specs.AsStore.{StandsFor}
 use Rattle.alm_stack.specs.Stacks.{kept_of, stands_of}
-use Rattle.alm_program.specs.DeskRuns.{AreJudged, Judged}
+use Rattle.alm_program.specs.DeskRuns.{AreJudgedAtDesk, JudgedAtDesk}
 use Rattle.alm_program.proofs.desk.run_stack_between.Goals as goal
 
 pub returns : goal.returns
@@ -20,8 +20,8 @@ returns g c =
       e.0,
       record {
         honest = k.honest;
-        judged = subst (λ (p : Option Condensed). ∥ ((js : List Judged) × AreJudged (Some base) (base ∷ []) js p e.0.kept) ∥₁) plant
-            (subst (λ (q : List Condensed). ∥ ((js : List Judged) × AreJudged (Some base) (base ∷ []) js (stands_of c.into_stack-back.result) q) ∥₁) kept k.judged);
+        judged = subst (λ (p : Option Condensed). ∥ ((js : List JudgedAtDesk) × AreJudgedAtDesk (Some base) (base ∷ []) js p e.0.kept) ∥₁) plant
+            (subst (λ (q : List Condensed). ∥ ((js : List JudgedAtDesk) × AreJudgedAtDesk (Some base) (base ∷ []) js (stands_of c.into_stack-back.result) q) ∥₁) kept k.judged);
         printed = subst
             (λ (s : DeskState). OnOk c.in_ok-done.field-0.done (IfSome (g.I.Read.remaining c.args.reader.now.inner)
             (λ bytes. IsDesk s bytes (g.W.Write.contents c.args.writer.now.inner) e.0 (g.W.Write.contents c.run_backend_between.new.writer.inner))))
