@@ -3,7 +3,7 @@ use Rattle.std.proofs.Common.{◌≡◌, ℕ, ◌+◌, ◌-◌, ◌<◌, ◌≤�
 use Rattle.std.proofs.lemmas.List.{append-nil, length-append, length-take, take-append-le, take_all}
 use Rattle.std.specs.Prelude.{◌==◌, ◌||◌, not, if◌then◌else◌}
 use Rattle.std.specs.List.{list_any}
-use Rattle.alm_serve.specs.Http.{is_break, request_text, first_line_of, is_whole, has_space, last_word}
+use Rattle.alm_serve.specs.Http.{is_break, http_text, first_line_of, is_whole, has_space, last_word}
 use Rattle.alm_serve.specs.Beginnings.{is_some, KnowsLine}
 
 -- whether any byte is such a one
@@ -20,12 +20,12 @@ any_more p (x ∷ xs) b = go (p x) (any_more p xs b)
     go false is = is
 
 -- once a text has begun each byte is one of it
-text_more : (came : List ℕ) (b : ℕ) → request_text (came ++ b ∷ []) ≡ (if is_some (request_text came) then request_text came ++ b ∷ [] else request_text (b ∷ []))
+text_more : (came : List ℕ) (b : ℕ) → http_text (came ++ b ∷ []) ≡ (if is_some (http_text came) then http_text came ++ b ∷ [] else http_text (b ∷ []))
 text_more [] b = refl
 text_more (c ∷ came) b = go (is_break c) (text_more came b)
   where
-    go : (t : Bool) → request_text (came ++ b ∷ []) ≡ (if is_some (request_text came) then request_text came ++ b ∷ [] else request_text (b ∷ []))
-        → (if t then request_text (came ++ b ∷ []) else (c ∷ (came ++ b ∷ []))) ≡ (if is_some (if t then request_text came else (c ∷ came)) then (if t then request_text came else (c ∷ came)) ++ b ∷ [] else request_text (b ∷ []))
+    go : (t : Bool) → http_text (came ++ b ∷ []) ≡ (if is_some (http_text came) then http_text came ++ b ∷ [] else http_text (b ∷ []))
+        → (if t then http_text (came ++ b ∷ []) else (c ∷ (came ++ b ∷ []))) ≡ (if is_some (if t then http_text came else (c ∷ came)) then (if t then http_text came else (c ∷ came)) ++ b ∷ [] else http_text (b ∷ []))
     go true is = is
     go false is = refl
 
@@ -98,28 +98,28 @@ none_text [] is = refl
 none_text (c ∷ text) is = absurd (cc is)
 
 -- a text that has begun goes on
-text_on : (came : List ℕ) (b : ℕ) → is_some (request_text came) ≡ true → request_text (came ++ b ∷ []) ≡ request_text came ++ b ∷ []
-text_on came b is = text_more came b ∙ ap (λ (t : Bool). if t then request_text came ++ b ∷ [] else request_text (b ∷ [])) is
+text_on : (came : List ℕ) (b : ℕ) → is_some (http_text came) ≡ true → http_text (came ++ b ∷ []) ≡ http_text came ++ b ∷ []
+text_on came b is = text_more came b ∙ ap (λ (t : Bool). if t then http_text came ++ b ∷ [] else http_text (b ∷ [])) is
 
 -- a byte that is no break begins one
-text_new : (came : List ℕ) (b : ℕ) → false ≡ is_some (request_text came) → is_break b ≡ false → request_text (came ++ b ∷ []) ≡ request_text came ++ b ∷ []
+text_new : (came : List ℕ) (b : ℕ) → false ≡ is_some (http_text came) → is_break b ≡ false → http_text (came ++ b ∷ []) ≡ http_text came ++ b ∷ []
 text_new came b is other =
-    text_more came b ∙ ap (λ (t : Bool). if t then request_text came ++ b ∷ [] else request_text (b ∷ [])) (sym is) ∙ ap (λ (t : Bool). if t then [] else b ∷ []) other
-    ∙ ap (λ (l : List ℕ). l ++ b ∷ []) (sym (none_text (request_text came) is))
+    text_more came b ∙ ap (λ (t : Bool). if t then http_text came ++ b ∷ [] else http_text (b ∷ [])) (sym is) ∙ ap (λ (t : Bool). if t then [] else b ∷ []) other
+    ∙ ap (λ (l : List ℕ). l ++ b ∷ []) (sym (none_text (http_text came) is))
 
-pub text_next : (came : List ℕ) (b : ℕ) (begun : Bool) → begun ≡ is_some (request_text came) → (begun ≡ false → is_break b ≡ false) → request_text (came ++ b ∷ []) ≡ request_text came ++ b ∷ []
+pub text_next : (came : List ℕ) (b : ℕ) (begun : Bool) → begun ≡ is_some (http_text came) → (begun ≡ false → is_break b ≡ false) → http_text (came ++ b ∷ []) ≡ http_text came ++ b ∷ []
 text_next came b true is other = text_on came b (sym is)
 text_next came b false is other = text_new came b is (other refl)
 
 -- nothing changes after the end of the line
 pub after_line : (came : List ℕ) (b : ℕ) (begun space : Bool) (word : List ℕ) → KnowsLine came begun true space word → KnowsLine (came ++ b ∷ []) begun true space word
 after_line came b begun space word k =
-    let some = some_whole (request_text came) k.ends in
+    let some = some_whole (http_text came) k.ends in
     let same = text_on came b some in
-    let lines : first_line_of (request_text (came ++ b ∷ [])) ≡ first_line_of (request_text came) = ap first_line_of same ∙ line_more (request_text came) b ∙ ap (λ (t : Bool). if t then first_line_of (request_text came) else first_line_of (request_text came) ++ first_line_of (b ∷ [])) (sym k.ends) in
+    let lines : first_line_of (http_text (came ++ b ∷ [])) ≡ first_line_of (http_text came) = ap first_line_of same ∙ line_more (http_text came) b ∙ ap (λ (t : Bool). if t then first_line_of (http_text came) else first_line_of (http_text came) ++ first_line_of (b ∷ [])) (sym k.ends) in
     record {
-      begins = k.begins ∙ some ∙ sym (ap is_some same ∙ some_more (request_text came) b);
-      ends = sym (ap is_whole same ∙ any_more (λ byte. byte == 10) (request_text came) b ∙ ap (λ (t : Bool). t || (b == 10)) (sym k.ends));
+      begins = k.begins ∙ some ∙ sym (ap is_some same ∙ some_more (http_text came) b);
+      ends = sym (ap is_whole same ∙ any_more (λ byte. byte == 10) (http_text came) b ∙ ap (λ (t : Bool). t || (b == 10)) (sym k.ends));
       spaced = k.spaced ∙ ap has_space (sym lines);
       last = k.last ∙ ap (λ (l : List ℕ). take 10 (last_word l)) (sym lines);
     }
@@ -127,9 +127,9 @@ after_line came b begun space word k =
 -- nor by a break before the line
 pub before_line : (came : List ℕ) (b : ℕ) (ended space : Bool) (word : List ℕ) → is_break b ≡ true → KnowsLine came false ended space word → KnowsLine (came ++ b ∷ []) false ended space word
 before_line came b ended space word breaks k =
-    let none = none_text (request_text came) k.begins in
-    let same : request_text (came ++ b ∷ []) ≡ request_text came =
-    text_more came b ∙ ap (λ (t : Bool). if t then request_text came ++ b ∷ [] else request_text (b ∷ [])) (sym k.begins) ∙ ap (λ (t : Bool). if t then [] else b ∷ []) breaks ∙ sym none in
+    let none = none_text (http_text came) k.begins in
+    let same : http_text (came ++ b ∷ []) ≡ http_text came =
+    text_more came b ∙ ap (λ (t : Bool). if t then http_text came ++ b ∷ [] else http_text (b ∷ [])) (sym k.begins) ∙ ap (λ (t : Bool). if t then [] else b ∷ []) breaks ∙ sym none in
     record {
       begins = k.begins ∙ ap is_some (sym same);
       ends = k.ends ∙ ap is_whole (sym same);
@@ -138,22 +138,22 @@ before_line came b ended space word breaks k =
     }
 
 module _ (came : List ℕ) (b : ℕ) (begun space : Bool) (word : List ℕ) (k : KnowsLine came begun false space word) (next : begun ≡ false → is_break b ≡ false) where
-  same : request_text (came ++ b ∷ []) ≡ request_text came ++ b ∷ []
+  same : http_text (came ++ b ∷ []) ≡ http_text came ++ b ∷ []
   same = text_next came b begun k.begins next
 
-  lines : first_line_of (request_text (came ++ b ∷ [])) ≡ first_line_of (request_text came) ++ first_line_of (b ∷ [])
-  lines = ap first_line_of same ∙ line_more (request_text came) b ∙ ap (λ (t : Bool). if t then first_line_of (request_text came) else first_line_of (request_text came) ++ first_line_of (b ∷ [])) (sym k.ends)
+  lines : first_line_of (http_text (came ++ b ∷ [])) ≡ first_line_of (http_text came) ++ first_line_of (b ∷ [])
+  lines = ap first_line_of same ∙ line_more (http_text came) b ∙ ap (λ (t : Bool). if t then first_line_of (http_text came) else first_line_of (http_text came) ++ first_line_of (b ∷ [])) (sym k.ends)
 
-  begins : true ≡ is_some (request_text (came ++ b ∷ []))
-  begins = sym (ap is_some same ∙ some_more (request_text came) b)
+  begins : true ≡ is_some (http_text (came ++ b ∷ []))
+  begins = sym (ap is_some same ∙ some_more (http_text came) b)
 
-  ends : (b == 10) ≡ is_whole (request_text (came ++ b ∷ []))
-  ends = sym (ap is_whole same ∙ any_more (λ byte. byte == 10) (request_text came) b ∙ ap (λ (t : Bool). t || (b == 10)) (sym k.ends))
+  ends : (b == 10) ≡ is_whole (http_text (came ++ b ∷ []))
+  ends = sym (ap is_whole same ∙ any_more (λ byte. byte == 10) (http_text came) b ∙ ap (λ (t : Bool). t || (b == 10)) (sym k.ends))
 
   -- its LF ends it
   pub line_ends : (b == 10) ≡ true → KnowsLine (came ++ b ∷ []) true true space word
   line_ends is =
-      let line : first_line_of (request_text (came ++ b ∷ [])) ≡ first_line_of (request_text came) = lines ∙ ap (λ (t : Bool). first_line_of (request_text came) ++ (if t then [] else b ∷ [])) is ∙ append-nil (first_line_of (request_text came)) in
+      let line : first_line_of (http_text (came ++ b ∷ [])) ≡ first_line_of (http_text came) = lines ∙ ap (λ (t : Bool). first_line_of (http_text came) ++ (if t then [] else b ∷ [])) is ∙ append-nil (first_line_of (http_text came)) in
       record {
         begins = begins;
         ends = sym is ∙ ends;
@@ -161,8 +161,8 @@ module _ (came : List ℕ) (b : ℕ) (begun space : Bool) (word : List ℕ) (k :
         last = k.last ∙ ap (λ (l : List ℕ). take 10 (last_word l)) (sym line);
       }
 
-  longer : (b == 10) ≡ false → first_line_of (request_text (came ++ b ∷ [])) ≡ first_line_of (request_text came) ++ b ∷ []
-  longer is = lines ∙ ap (λ (t : Bool). first_line_of (request_text came) ++ (if t then [] else b ∷ [])) is
+  longer : (b == 10) ≡ false → first_line_of (http_text (came ++ b ∷ [])) ≡ first_line_of (http_text came) ++ b ∷ []
+  longer is = lines ∙ ap (λ (t : Bool). first_line_of (http_text came) ++ (if t then [] else b ∷ [])) is
 
   -- a space ends its word
   pub word_ends : (b == 10) ≡ false → (b == 32) ≡ true → KnowsLine (came ++ b ∷ []) true false true []
@@ -171,8 +171,8 @@ module _ (came : List ℕ) (b : ℕ) (begun space : Bool) (word : List ℕ) (k :
       record {
         begins = begins;
         ends = sym other ∙ ends;
-        spaced = sym (ap has_space line ∙ any_more (λ byte. byte == 32) (first_line_of (request_text came)) b ∙ ap (λ (t : Bool). has_space (first_line_of (request_text came)) || t) is ∙ or_true (has_space (first_line_of (request_text came))));
-        last = sym (ap (λ (l : List ℕ). take 10 (last_word l)) line ∙ ap (take 10) (word_anew (first_line_of (request_text came)) b is));
+        spaced = sym (ap has_space line ∙ any_more (λ byte. byte == 32) (first_line_of (http_text came)) b ∙ ap (λ (t : Bool). has_space (first_line_of (http_text came)) || t) is ∙ or_true (has_space (first_line_of (http_text came))));
+        last = sym (ap (λ (l : List ℕ). take 10 (last_word l)) line ∙ ap (take 10) (word_anew (first_line_of (http_text came)) b is));
       }
     where
       or_true : (t : Bool) → (t || true) ≡ true
@@ -186,8 +186,8 @@ module _ (came : List ℕ) (b : ℕ) (begun space : Bool) (word : List ℕ) (k :
       record {
         begins = begins;
         ends = sym other ∙ ends;
-        spaced = k.spaced ∙ sym (ap has_space line ∙ any_more (λ byte. byte == 32) (first_line_of (request_text came)) b ∙ ap (λ (t : Bool). has_space (first_line_of (request_text came)) || t) no_space ∙ or_false (has_space (first_line_of (request_text came))));
-        last = keeps (last_word (first_line_of (request_text came))) k.last ∙ sym (ap (λ (l : List ℕ). take 10 (last_word l)) line ∙ ap (take 10) (word_more (first_line_of (request_text came)) b no_space));
+        spaced = k.spaced ∙ sym (ap has_space line ∙ any_more (λ byte. byte == 32) (first_line_of (http_text came)) b ∙ ap (λ (t : Bool). has_space (first_line_of (http_text came)) || t) no_space ∙ or_false (has_space (first_line_of (http_text came))));
+        last = keeps (last_word (first_line_of (http_text came))) k.last ∙ sym (ap (λ (l : List ℕ). take 10 (last_word l)) line ∙ ap (take 10) (word_more (first_line_of (http_text came)) b no_space));
       }
     where
       or_false : (t : Bool) → (t || false) ≡ t

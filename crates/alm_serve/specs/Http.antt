@@ -17,9 +17,9 @@ abbrev pub is_break : ℕ → Bool
 is_break byte = (byte == 10) || (byte == 13)
 
 -- what came, without the empty lines before it
-abbrev pub request_text : List ℕ → List ℕ
-request_text [] = []
-request_text (byte ∷ came) = if is_break byte then request_text came else (byte ∷ came)
+abbrev pub http_text : List ℕ → List ℕ
+http_text [] = []
+http_text (byte ∷ came) = if is_break byte then http_text came else (byte ∷ came)
 
 -- the first line of a text, as far as it came, without its LF
 abbrev pub first_line_of : List ℕ → List ℕ
@@ -56,4 +56,4 @@ is_request line = has_space line && ends_request (last_word line)
 
 -- what came begins with such a method, or its first line that isn't empty is such a line
 abbrev pub begins_as_http : List ℕ → Bool
-begins_as_http came = begins_with_method came || (is_whole (request_text came) && is_request (first_line_of (request_text came)))
+begins_as_http came = begins_with_method came || (is_whole (http_text came) && is_request (first_line_of (http_text came)))

@@ -1,7 +1,7 @@
 //! The first line of a connection.
 
 ghost use Rattle.std.specs.Prelude.{◌≡◌, ◌++◌, ◌∷◌, List, ℕ, [], length, take, true, false, not, ◌&&◌, ◌||◌};
-ghost use Rattle.alm_serve.specs.Http.{ends_request, is_break, is_request, is_version, is_whole, first_line_of, request_text};
+ghost use Rattle.alm_serve.specs.Http.{ends_request, is_break, is_request, is_version, is_whole, first_line_of, http_text};
 ghost use Rattle.alm_serve.specs.Beginnings.{KnowsLine};
 
 use arrayvec::ArrayVec;
@@ -114,7 +114,7 @@ impl FirstLine {
     pub fn is_request(&self) -> bool
         ensures { (came : List ℕ) →
             KnowsLine came self.now.has_begun self.now.has_ended self.now.has_space self.now.word.items →
-            result ≡ (is_whole (request_text came) && is_request (first_line_of (request_text came))) }
+            result ≡ (is_whole (http_text came) && is_request (first_line_of (http_text came))) }
     {
         self.has_ended && self.has_space && ends_request(self.word.as_slice())
     }
