@@ -26,10 +26,11 @@ from typing import Iterator, Optional
 
 from alarm_client import CLOCK, FEED, Lost, OtherPlant
 from arguments import add_port, add_slot
-from device_file import Action, NoDevice
+from device_file import Action, Damaged, NoDevice
 from table_file import Alarm
 
-from .mirror import Begun, Follower, Gap, Replaced, Served, Step, fixed
+from .judging import read_once
+from .mirror import Begun, Follower, Gap, News, Replaced, Served, Step, fixed
 from .model import AlarmState, Change, PlantModel
 from .store import Store, StoreFault
 from .upkeep import list_plants, prune
@@ -44,6 +45,8 @@ SLOTS = {"CLOCK": CLOCK, "VAL": FEED, "DESIGN": FEED}
 BEFORE, LOST = "before the archive", "no longer in the file"
 # Why the end of a plant is missing: its file was read no further, or nobody read it.
 REPLACED, UNSEEN = "replaced before a query showed them", "the plant's end wasn't seen"
+# The same, where bytes of it are others than those that were written.
+DAMAGED = "the device is damaged at byte {}"
 
 say = sayer("alm_archive")
 
@@ -158,18 +161,28 @@ class Archiver:
     def look(self) -> bool:
         """Archives what is new; whether there was anything."""
         any_news = False
-        for one in self.follower.look():
-            any_news = True
-            if isinstance(one, Begun):
-                self.begin()
-            elif isinstance(one, Gap):
-                self.gap(one.first, one.last, LOST)
-            elif isinstance(one, Replaced):
-                self.leave(one)
-            elif not self.step(one):
-                break
+        try:
+            for one in self.follower.look():
+                any_news = True
+                if not self.take(one):
+                    break
+        except Damaged:
+            self.write()
+            raise
         self.write()
         return any_news
+
+    def take(self, one: News) -> bool:
+        """Archives something new; whether the rest of what is new is of the same plant."""
+        if isinstance(one, Step):
+            return self.step(one)
+        if isinstance(one, Begun):
+            self.begin()
+        elif isinstance(one, Gap):
+            self.gap(one.first, one.last, LOST)
+        else:
+            self.leave(one)
+        return True
 
     @property
     def model(self) -> PlantModel:
@@ -265,6 +278,12 @@ class Archiver:
         self.store.run("UPDATE plant SET ends = ? WHERE plant = ?", (self.plant.last, self.plant.number))
         self.store.commit()
 
+    def close_damaged(self, at: int) -> None:
+        """The device's end isn't archived, since it is damaged there."""
+        if self.plant and not self.store.value("SELECT COUNT(*) FROM gap WHERE plant = ? AND first = ?", (self.plant.number, self.plant.last + 1)):
+            self.open_gap(self.plant, None, DAMAGED.format(at))
+            self.close()
+
     def step(self, step: Step) -> bool:
         """Archives an action, or holds one against the archive that has it; whether it is of this plant."""
         if step.number <= self.plant.last:
@@ -338,9 +357,19 @@ def run_stopped(chosen: argparse.Namespace, name: str) -> None:
     """Archives a stopped device up to its end."""
     with stopped(chosen.device), Store.open(chosen.database, make=True) as store, Follower(chosen.device, Served(None, chosen.slot)) as follower:
         archiver = Archiver(store, name, follower)
-        while archiver.look():
-            pass
+        try:
+            while archiver.look():
+                pass
+        except Damaged as damage:
+            archiver.close_damaged(damage.at)
+            raise
+        reading = read_once(chosen.device)
+        if reading.closed:
+            archiver.close_damaged(reading.closed.at)
+            raise NoDevice(str(reading.closed))
         archiver.close()
+        if reading.damage:  # of a checkpoint that the half before it made up for
+            raise reading.damage
         print(f"{name}: plant {archiver.plant.number}, {archiver.plant.last} actions, to its end")
 
 

@@ -20,15 +20,16 @@ it was held up while two were made, the actions between are a `Gap`. Another fil
 import collections
 import itertools
 import os
-import struct
 from dataclasses import dataclass, replace
 from typing import Callable, Iterator, NamedTuple, Optional, Union
 
 from alarm_client import Lost, OtherPlant, Place, Plant, Refused
 from arguments import add_port, add_slot
-from device_file import ACTION, FRAME_HEAD, GATE_OPEN, HEADER, Action, DeviceFile, Frame, Head, NoDevice
+from device_file import Action, Damaged, DeviceFile, Frame, Head, NoDevice
+from device_rules import GATE_OPEN, HEADER
 from table_file import Alarm
 
+from .judging import ClosedGate, closed_gate, is_admitted, judge, not_admitted, read_device
 from .model import Change, FloodChange, PlantModel
 from .words import Words, end_of, sayer
 
@@ -123,7 +124,7 @@ class Mirror:
             older = self.before(newest)
             heads = [head for head in ((older, newest) if far else (newest, older)) if head]
             for head in heads:
-                plant = self.image(head) if head.count <= limit else None
+                plant = self.image_within(head, limit, head != newest)
                 if plant:
                     self.plant = plant
                     self.enter(head)
@@ -142,16 +143,22 @@ class Mirror:
 
     def image(self, head: Head) -> Optional[PlantModel]:
         """The plant of a half's image; none if the half was overwritten meanwhile."""
-        image = self.device.read(self.device.segment_at(head.half) - self.device.image, self.device.image)
         try:
-            plant = PlantModel.of_image(image, self.device.rows, self.device.areas, head.count)
-        except (KeyError, IndexError, UnicodeDecodeError, struct.error):
-            plant = None
-        if not self.is_whole(head):
+            image = self.device.image_of(head)
+        except Damaged:
+            if self.is_whole(head):
+                raise
             return None
-        if plant is None:
-            raise NoDevice(f"{self.path}: the image of half {head.half} isn't one")
-        return plant
+        return PlantModel.of_image(image, self.device.rows, self.device.areas, head.count) if self.is_whole(head) else None
+
+    def image_within(self, head: Head, limit: int, is_dispensable: bool) -> Optional[PlantModel]:
+        """The plant of an image that isn't ahead of a limit. One that isn't needed may be damaged."""
+        try:
+            return self.image(head) if head.count <= limit else None
+        except Damaged:
+            if is_dispensable:
+                return None
+            raise
 
     def enter(self, head: Head) -> None:
         """Goes on at the first frame of a half. Those of its actions that the plant has already are passed over."""
@@ -159,18 +166,13 @@ class Mirror:
         self.passed: Optional[tuple[int, int, Frame]] = None
 
     def next_frames(self) -> list[Frame]:
-        """Some of the next frames of the half; none at the journal's end, or if the half was overwritten meanwhile."""
+        """Some of the next frames of the half; none at the journal's end, or if the half was overwritten meanwhile. Damage is told behind those before it."""
+        frames: list[Frame] = []
         try:
-            frames, at = [], self.at
-            for frame in itertools.islice(self.device.frames(self.head, self.at, self.first), FRAMES):
-                if frame.end != at + FRAME_HEAD + ACTION * len(frame.actions):
-                    raise ValueError("a frame that was cut")
-                at = frame.end
-                frames.append(frame)
-        except (KeyError, ValueError, struct.error):
-            if self.is_whole(self.head):
-                raise NoDevice(f"{self.path}: behind action {self.count} stands what is no frame") from None
-            return []
+            frames.extend(itertools.islice(self.device.frames(self.head, self.at, self.first), FRAMES))
+        except Damaged:
+            if not frames and self.is_whole(self.head):
+                raise
         return frames if self.is_whole(self.head) else []
 
     def rest(self, limit: int) -> Iterator[Step]:
@@ -179,39 +181,50 @@ class Mirror:
             for frame in frames:
                 for action in frame.actions:
                     if self.count < action.number <= limit:
-                        yield Step(action, *self.apply(action))
+                        yield self.step(frame, action)
                 if self.first + len(frame.actions) - 1 > self.count:
                     return
                 self.passed = (self.at, self.first, frame)
                 self.at, self.first = frame.end, self.first + len(frame.actions)
+
+    def step(self, frame: Frame, action: Action) -> Step:
+        """Does the next action, which has to be one that the plant admits."""
+        if not is_admitted(self.plant, action):
+            raise not_admitted(self.device, self.head, frame, action)
+        return Step(action, *self.apply(action))
 
     def apply(self, action: Action) -> tuple[int, list[Change], list[FloodChange]]:
         changes, floods = self.plant.apply(action)
         return self.plant.now, changes, floods
 
     def news(self, limit: int = ALL) -> Iterator[Step | Gap]:
-        """The actions since the last time, up to the limit, and which were missed."""
+        """The actions since the last time, up to the limit, and which were missed. `Damaged` is told behind what is before it."""
+        known: Optional[Head] = None  # what stood already as the rest was read
         while True:
-            before = self.count
-            yield from self.rest(limit)
+            before, damage = self.count, None
+            try:
+                yield from self.rest(limit)
+            except Damaged as fault:
+                damage = fault
             newest = self.device.standing()
             if newest == self.head:
+                if damage and self.is_whole(self.head):
+                    raise damage
                 return
             if newest.count <= self.count:
                 self.enter(newest)
             elif self.count >= limit:
                 return
-            elif self.is_whole(self.head):
-                if self.count == before:
-                    return
-            elif gap := self.leap(newest, limit):
+            elif self.is_whole(self.head) and not damage and (newest != known or self.count > before):
+                known = newest
+            elif gap := self.leap(newest, limit, self.is_whole(self.head)):
                 yield gap
-            elif newest.count > limit and not self.is_whole(self.head):
+            elif newest.count > limit:
                 return  # each image is ahead of the limit: the next look has a later one
 
-    def leap(self, newest: Head, limit: int) -> Optional[Gap]:
-        """Goes on in another half, as the one that was read is gone. What lies between isn't there any more."""
-        for head in filter(None, (self.before(newest), newest)):
+    def leap(self, newest: Head, limit: int, is_damaged: bool) -> Optional[Gap]:
+        """Goes on in another half, as the one that was read is gone, or is damaged and the newest isn't. What lies between isn't there any more."""
+        for head in filter(None, (None if is_damaged else self.before(newest), newest)):
             if head.count <= self.count:
                 self.enter(head)
                 return None
@@ -231,9 +244,13 @@ class Mirror:
         try:
             for frame in self.device.frames(self.head, self.at, self.first):
                 count = max(count, frame.actions[-1].number)
-        except (IndexError, KeyError, ValueError, struct.error):
-            pass  # it was overwritten, and what stands there now is another device's
+        except Damaged:
+            pass  # it was overwritten, and what stands there now is another device's; or it ends here
         return count
+
+    def closed_gate(self) -> Optional[ClosedGate]:
+        """A gate that is closed though actions stand behind it."""
+        return closed_gate(self.device, judge(self.device, self.device.standing()))
 
     def is_moved(self) -> bool:
         """Whether another file is at the path by now."""
@@ -253,7 +270,22 @@ class Mirror:
             return False
         if header != self.header or newest.epoch < self.head.epoch or (newest.epoch == self.head.epoch and newest != self.head):
             return True
-        return self.is_whole(self.head) and self.passed is not None and self.device.frame_at(self.head, *self.passed[:2]) != self.passed[2]
+        try:
+            return self.passed is not None and not self.still_has(*self.passed) and self.is_whole(self.head)
+        except Damaged:
+            if newest == self.head:
+                raise
+            return False  # it was overwritten, or a checkpoint has what is damaged here
+
+    def still_has(self, at: int, first: int, passed: Frame) -> bool:
+        """Whether a frame is there that was read. `Damaged` is one whose bytes are others, where all before it is as it was."""
+        try:
+            return self.device.frame_at(self.head, at, first) == passed
+        except Damaged:
+            for frame in self.device.frames(self.head):
+                if frame.end > at:
+                    break
+            return False
 
 
 class Served:
@@ -357,7 +389,8 @@ class Follower:
         if other:
             yield from self.change()
         elif stood == self.mirror.count < count < ALL:
-            self.served.say_once(f"the server shows {count} actions and the file has {stood}: is it the server's device?")
+            closed = self.mirror.closed_gate()
+            self.served.say_once(str(closed) if closed else f"the server shows {count} actions and the file has {stood}: is it the server's device?")
 
     def begin(self, count: int) -> Iterator[News]:
         """Begins as far back as the file reaches. Waits for a server that has shown less than the first image."""
@@ -387,6 +420,8 @@ def shown(path: str, place: Optional[Place], slot: int, say: Callable[..., None]
     served = Served(place, slot)
     limit = served.look()
     served.end()
+    for wrong in read_device(path).wrong():
+        raise NoDevice(str(wrong))
     if place is None:
         say("the plant is what stands in the file: it may be ahead of what was answered")
     elif served.said:

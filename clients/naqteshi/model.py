@@ -11,7 +11,8 @@ import struct
 from dataclasses import replace
 from typing import Iterable, NamedTuple, Optional
 
-from device_file import ALARM_IMAGE, AREA_IMAGE, KINDS, Action, NoDevice
+from device_file import Action, NoDevice
+from device_rules import ALARM_IMAGE, AREA_IMAGE, KINDS
 from table_file import Alarm
 
 CORES = ("NORM", "UNACK", "ACKED", "RTNUN", "LATUN", "LATAK")
