@@ -23,11 +23,12 @@ import time
 from typing import Iterator, Optional
 
 from arguments import add_port, add_slot, new_parser
-from device_file import Action, DeviceFile, NoDevice
+from device_file import Action, Damaged, DeviceFile, Frame, Head, NoDevice
 from table_file import NoTable, TableFile
 
 sys.path.append(os.path.join(os.path.dirname(os.path.realpath(__file__)), "..", "clients"))
 
+from naqteshi.judging import Reading, read_device
 from naqteshi.mirror import Begun, Follower, Gap, Mirror, Replaced, Served, Step
 
 PAUSE = 0.1
@@ -44,10 +45,10 @@ def say(*words: object) -> None:
 
 
 def summary(device: DeviceFile) -> str:
-    """What the journal of the half that stands holds."""
+    """What the journal of the half that stands holds, up to its first damage."""
     while True:
         head = device.standing()
-        frames, moment = list(device.frames(head)), device.clock(head)
+        frames, moment = whole_frames(device, head), device.clock(head)
         if device.standing().epoch == head.epoch:
             break
     actions = [action for frame in frames for action in frame.actions]
@@ -58,6 +59,30 @@ def summary(device: DeviceFile) -> str:
             f"clock {clocks[-1] if clocks else moment} count {head.count + len(actions)}\n"
             f"journal {used} of {device.segment} bytes, {100 * used / device.segment:.1f} %: "
             f"{len(actions)} actions in {len(frames)} frames, {each:.1f} a frame")
+
+
+def whole_frames(device: DeviceFile, head: Head) -> list[Frame]:
+    """The frames of a half, up to the first that is damaged."""
+    frames: list[Frame] = []
+    try:
+        frames.extend(device.frames(head))
+    except Damaged:
+        pass
+    return frames
+
+
+def print_summary(path: str) -> None:
+    """Prints what the journal holds, where there is a plant."""
+    reading = read_device(path)
+    if reading.judged and reading.judged.plant:
+        print(summary(DeviceFile(path)))
+    end_by(reading)
+
+
+def end_by(reading: Reading) -> None:
+    """Ends with what is damaged, if something is."""
+    for wrong in reading.wrong():
+        sys.exit(f"journal: {wrong}")
 
 
 def last_action(path: str) -> int:
@@ -158,6 +183,8 @@ def follow(trail: Trail, seconds: Optional[float]) -> None:
     while ends is None or time.monotonic() < ends:
         try:
             trail.look()
+        except Damaged as damage:
+            trail.served.say_once(str(damage), "- trying again")
         except (NoDevice, FileNotFoundError):
             pass  # it is being formatted, or replaced: the next look finds what is there then
         time.sleep(PAUSE)
@@ -175,14 +202,14 @@ def main() -> None:
     chosen = words.parse_args()
     try:
         if not chosen.follow and chosen.first is None:
-            print(summary(DeviceFile(chosen.device)))
-            return
+            return print_summary(chosen.device)
         trail = Trail(chosen.device, Served(chosen.port, chosen.slot, say), chosen.table and TableFile(chosen.table))
         trail.begin(chosen.first)
         if chosen.follow:
             follow(trail, chosen.seconds)
         else:
             trail.look()
+            end_by(read_device(chosen.device))
     except (NoDevice, NoTable, OSError) as error:
         sys.exit(f"journal: {error}")
     except KeyboardInterrupt:

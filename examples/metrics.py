@@ -7,13 +7,15 @@ It listens on loopback alone, at http://127.0.0.1:9464/metrics. Each time that i
 queries alone, and lets the slot go. Where the server doesn't answer, `alarms_up` is 0 and nothing else of the plant is there. Where it answers at
 another slot, another client has this one: then `alarms_up` is 1, `alarms_slot_taken` too, and of the plant is there what one query shows.
 
-With --device it also reads, from the file, how full the journal is, and the epoch, which grows by one with each checkpoint.
+With --device it also reads, from the file, how full the journal is, and the epoch, which grows by one with each checkpoint. `alarms_device_damaged`
+is 1 where bytes of it are damaged, with the half and the place, else 0.
 
 With --table it reads the table file each time, and ends with status 1 where the plant isn't that file's, or is on another device than
 before.
 """
 import collections
 import http.server
+import os
 import sys
 import threading
 import time
@@ -21,8 +23,12 @@ from typing import Iterable, Iterator, Optional
 
 from alarm_client import CONSOLES, HOST, PRIORITIES, Client, Lost, NoAnswer, Overview, OtherPlant, Plant, Refused
 from arguments import add_port, add_slot, add_table, new_parser
-from device_file import DeviceFile, NoDevice
+from device_file import Damaged, DeviceFile, Head, NoDevice
 from table_file import NoTable
+
+sys.path.append(os.path.join(os.path.dirname(os.path.realpath(__file__)), "..", "clients"))
+
+from naqteshi.judging import Reading, read_device
 
 # Seconds after which a client that says nothing is left.
 SILENCE = 10
@@ -97,7 +103,7 @@ def journal(path: str) -> Iterator[str]:
     device = DeviceFile(path)
     try:
         head = device.standing()
-        used = max((frame.end for frame in device.frames(head)), default=0)
+        used = used_bytes(device, head)
     finally:
         device.close()
     yield from metric("alarms_journal_bytes", "gauge", "Used bytes of the journal.", {"": used})
@@ -105,12 +111,42 @@ def journal(path: str) -> Iterator[str]:
     yield from metric("alarms_epoch", "gauge", "Epoch of the device: checkpoints and the formatting.", {"": head.epoch})
 
 
+def used_bytes(device: DeviceFile, head: Head) -> int:
+    """How many bytes of a journal the frames take, up to its first damage."""
+    used = 0
+    try:
+        for frame in device.frames(head):
+            used = frame.end
+    except Damaged:
+        pass
+    return used
+
+
+class Soundness:
+    """Whether a device is damaged. It is read again only once ten times as long has passed as that takes."""
+
+    def __init__(self, path: str):
+        self.path, self.due = path, 0.0
+
+    def read(self) -> Reading:
+        began = time.monotonic()
+        if began >= self.due:
+            self.reading = read_device(self.path)
+            self.due = began + 10 * (time.monotonic() - began)
+        return self.reading
+
+    def lines(self) -> Iterator[str]:
+        """1 for each place that is damaged, else 0."""
+        places = {f'{{half="{wrong.half}",at="{wrong.at}"}}': 1.0 for wrong in self.read().wrong()}
+        yield from metric("alarms_device_damaged", "gauge", "Whether bytes of the device are damaged, and where.", places or {"": 0})
+
+
 class Exporter(http.server.ThreadingHTTPServer):
     """Answers /metrics. Each client has a thread, and the plant is asked for one after the other."""
 
     def __init__(self, listen: int, plant: Plant, device: Optional[str]):
         super().__init__((HOST, listen), Handler)
-        self.plant, self.device = plant, device
+        self.plant, self.device, self.soundness = plant, device, device and Soundness(device)
         self.asking = threading.Lock()
         self.moment, self.moved = -1, 0.0
         self.fault: Optional[Exception] = None
@@ -119,9 +155,9 @@ class Exporter(http.server.ThreadingHTTPServer):
         """All metrics, as they are at the moment."""
         with self.asking:
             lines, up, taken = self.plant_lines()
-        if self.device:
+        for of_device in (self.soundness.lines(), journal(self.device)) if self.soundness and self.device else ():
             try:
-                lines += journal(self.device)
+                lines += of_device
             except (NoDevice, OSError):
                 pass
         head = [*metric("alarms_up", "gauge", "Whether the server answers.", {"": up}),
