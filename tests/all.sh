@@ -69,8 +69,8 @@ fi
 # clients.py mostly waits for its tools, so the others run beside it.
 timeout --kill-after=30 "$longest" "$top/tests/clients.py" "$program" "${short[@]}" >"$log/clients" 2>&1 &
 clients=$!
-# power.py isn't among them: it starts virtual machines, wants packages unpacked, and takes an hour. Its page says how it is run.
-for script in pages prose launcher streams examples sizes faults record memory damage place writeback surroundings sockets firewall units package quarter lines serve values history browser refused; do
+# power.py and checksums.py aren't among them: they start virtual machines and want packages unpacked, and power.py takes an hour. Their pages say how they are run.
+for script in pages prose launcher streams examples sizes faults record memory damage flips place writeback surroundings sockets firewall units package quarter lines serve values history browser refused; do
     why=$(lacks "$script")
     if [ -n "$why" ]; then
         echo "$script: left out: $why"

@@ -33,7 +33,7 @@ OPERATING = EXAMPLES.parent / "docs" / "OPERATING.md"
 # How many checks run beside each other.
 BESIDE = 6
 INSTALLED = re.compile(r"/opt/alarms-([0-9.]+[0-9])")
-MODULES = ("alarm_client.py", "arguments.py", "boards.py", "device_file.py", "feed_lines.py", "inbox.py", "table_file.py", "value_map.py")
+MODULES = ("alarm_client.py", "arguments.py", "boards.py", "device_file.py", "device_rules.py", "feed_lines.py", "inbox.py", "plant_lines.py", "table_file.py", "value_map.py")
 # A desk that answers each line and keeps none of those that come last: what is stored is a copy from before them.
 LOSER = """#!/bin/sh
 if [ "$1" != desk ] || [ "${2%/device}" = "$2" ]; then exec PROGRAM "$@"; fi

@@ -49,7 +49,7 @@ def install():
     check(output("bash", "-c", COMPLETE) == "serve\n", "the completion")
     for page in ("man8/alm_server.8.gz", "man5/alm_server.5.gz"):
         check("fault damaged" in output("zcat", f"/usr/share/man/{page}") or "max_shelve" in output("zcat", f"/usr/share/man/{page}"), page)
-    for tool in ("console", "feed", "clock", "metrics", "journal", "export", "csv2toml", "change_table"):
+    for tool in ("console", "feed", "clock", "metrics", "journal", "export", "csv2toml", "change_table", "check", "salvage"):
         check("--" in output(f"alm_{tool}", "--help"), tool)
     for client in ("alm_archive", "alm_mirror", "alm_reports"):
         check(client in output(client, "--help"), client)

@@ -1,0 +1,39 @@
+#!/usr/bin/env python3
+"""Flips bits of devices, and holds what the tools say of them against docs/FORMAT.md, and against the program's own fault lines.
+
+    tests/flips.py PROGRAM [--short]
+
+- The page's example, with one byte changed as the page has it: check.py says the page's fault.
+- Each bit of each gate of a journal: check.py sees all but those of the last frame. No power failure leaves what it calls damage: none of the
+  images that a power failure in any call leaves, some of them in a checkpoint that goes out in pieces with commits between; and nothing that is read
+  while a desk goes on.
+- Drawn flips: check.py names the place of the program's `fault damaged`, and else the plant that `show` shows. No tool ends in another way than by a
+  line and a status. The archive has the actions before the damage and no others.
+- What salvage.py brings onto a new device is what `show` showed at that action.
+- A served device that is damaged: the exporter goes on and says so, the follower and the archive say a line, and go on after the next checkpoint.
+"""
+import sys
+import time
+
+from tools import Yard, end_all  # first: the others find examples/ by it
+
+import check_flips
+import check_salvage
+from program import Wrong, begin, finish
+
+
+def main() -> None:
+    program, step, folder = begin("flips", sys.argv, 1, 10)
+    began = time.monotonic()
+    yard = Yard(program, folder)
+    try:
+        said = [check(yard, step) for check in (*check_flips.CHECKS, *check_salvage.CHECKS)]
+    except Wrong as wrong:
+        sys.exit(f"flips: {wrong}; devices are in {folder}")
+    finally:
+        end_all()
+    finish("flips", folder, f"{'; '.join(said)}; none wrong, {time.monotonic() - began:.0f} s")
+
+
+if __name__ == "__main__":
+    main()
