@@ -103,15 +103,15 @@ def libraries_of(paths, env):
     return found
 
 
-def first_files(packages, program, guest):
-    """The machine's first file system."""
+def first_files(packages, program, guest, names, wanted):
+    """The machine's first file system, with modules and tools of these names."""
     files = {folder: (0o40755, b"") for folder in FOLDERS if "/" not in folder}
     files |= {folder + "/.keep": (0o100644, b"") for folder in FOLDERS if "/" in folder}
     tools = {"alm_server": program, "guest": guest, "busybox": packages.find("busybox")}
-    tools |= {name: packages.find(name) for name in TOOLS}
+    tools |= {name: packages.find(name) for name in wanted}
     files |= {"bin/" + name: (0o100755, read(path)) for name, path in tools.items()}
     files |= {library[1:]: (0o100755, read(library)) for library in libraries_of(tools.values(), os.environ)}
-    modules = packages.modules()
+    modules = packages.modules(names)
     files |= {"modules.d/" + os.path.basename(path): (0o100644, read(path)) for path in modules}
     files["etc/passwd"] = (0o100644, b"root::0:0::/:/bin/sh\nalarms::1000:1000::/:/bin/sh\n")
     files["etc/group"] = (0o100644, b"root::0:\nalarms::1000:\n")
@@ -133,11 +133,11 @@ def qemu(packages, memory, console, said, processors, megabytes):
 class Machine:
     """A machine that runs a shell script, /task/run.sh. What it sends to the port $SAY is kept."""
 
-    def __init__(self, packages, program, folder):
+    def __init__(self, packages, program, folder, modules=tuple(MODULES), tools=tuple(TOOLS)):
         self.packages, self.folder = packages, folder
         guest = os.path.join(folder, "guest")
         subprocess.run(["cc", "-O2", "-static", "-pthread", "-o", guest, os.path.join(HERE, "guest.c")], check=True)
-        self.first = functools.cache(lambda: archive(first_files(packages, program, guest)))
+        self.first = functools.cache(lambda: archive(first_files(packages, program, guest, modules, tools)))
         self.console, self.said = os.path.join(folder, "console"), os.path.join(folder, "said")
 
     def run(self, files, drives, seconds):
