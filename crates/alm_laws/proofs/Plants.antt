@@ -32,7 +32,7 @@ answer-ok : (a : Action) (o : Option Refusal) → answer a o ≡ Ok a → o ≡ 
 answer-ok a None e = refl
 answer-ok a (Some r) e = absurd cc
 
-both-none : (o p : Option Refusal) → or_else o p ≡ None → (o ≡ None) × (p ≡ None)
+pub both-none : (o p : Option Refusal) → or_else o p ≡ None → (o ≡ None) × (p ≡ None)
 both-none None p e = (refl, e)
 both-none (Some r) p e = absurd (none-some _ (sym e))
 

@@ -1,2 +1,6 @@
 pub mod Alarm
+pub mod Left
 pub mod Plant
+pub mod Shown
+pub mod Table
+pub mod Taken

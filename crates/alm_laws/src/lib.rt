@@ -26,3 +26,4 @@ pub mod alarm;
 pub mod askers;
 pub mod plant;
 pub mod stamps;
+pub mod table;

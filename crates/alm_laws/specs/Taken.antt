@@ -1,0 +1,42 @@
+-- Which actions are taken.
+use Rattle.std.specs.Prelude.{◌≡◌, ◌<◌, ℕ, Bool, true, false, not, ◌&&◌, Some, is_some, nat_le, ◌==◌, slice_get}
+use Rattle.std.specs.Ordering.{int_eq}
+use Rattle.alm_types.specs.declared.attr.Attr.{Attr}
+use Rattle.alm_types.specs.declared.action.Action.{Action}
+use Rattle.alm_types.specs.declared.action.Action.TheVariants.{Clock, Value, Ack, Reset, Shelve, Unshelve, Oos, Design, SetPriority, SetSetpoint}
+use Rattle.alm_types.specs.declared.request.Request.{Request}
+use Rattle.alm_types.specs.Actions.{alarm_of}
+use Rattle.alm_types.specs.Sizes.{most_actions}
+use Rattle.alm_types.specs.Slots.{role_of}
+use Rattle.alm_state.specs.Rows.{State}
+use Rattle.alm_model.specs.Plant.{Panel}
+use Rattle.alm_laws.specs.Alarm.{is_unacknowledged, is_latched}
+use Rattle.alm_laws.specs.Left.{condition_left}
+use Rattle.alm_laws.specs.Plant.{asker_of}
+use Rattle.alm_laws.specs.Table.{same_bool}
+
+-- what an alarm takes: a value that changes its condition; ACK if it is unacknowledged; RESET if it is latched and acknowledged; a
+-- shelving of 1 second up to its longest if it isn't shelved; UNSHELVE if it is; another flag; another priority of 1 to 4; another setpoint
+abbrev pub is_taken : Action → Attr → State → Bool
+is_taken (Clock t) a s = true
+is_taken (Value i value) a s = not (same_bool (condition_left (Value i value) a s.active) s.active)
+is_taken (Ack i) a s = is_unacknowledged s.core
+is_taken (Reset i) a s = is_latched s.core && not (is_unacknowledged s.core)
+is_taken (Shelve i seconds) a s = not (is_some s.shelved_until) && nat_le 1 seconds && nat_le seconds a.max_shelve
+is_taken (Unshelve i) a s = is_some s.shelved_until
+is_taken (Oos i on) a s = not (same_bool on s.out_of_service)
+is_taken (Design i on) a s = not (same_bool on s.by_design)
+is_taken (SetPriority i priority) a s = nat_le 1 priority && nat_le priority 4 && not (priority == a.priority)
+is_taken (SetSetpoint i setpoint) a s = not (int_eq setpoint a.setpoint)
+
+-- the action is possible: CLOCK names a later moment, any other an alarm that takes it
+abbrev pub IsPossible : Panel → Action → Type 0
+IsPossible p (Clock t) = p.now < t
+IsPossible p action =
+    (a : Attr) × (s : State) × (slice_get p.attrs (alarm_of action) ≡ Some a) × (slice_get p.rows (alarm_of action) ≡ Some s) × (is_taken action a s ≡ true)
+
+-- a request is accepted if its slot may ask for the action, it is possible, and action numbers are left
+pub record IsAcceptable (p : Panel) (r : Request) : Type 0 where
+  pub asker : role_of r.slot ≡ asker_of r.want
+  pub possible : IsPossible p r.want
+  pub number : p.count < most_actions
