@@ -1,12 +1,12 @@
 pub mod AlarmLaws
 pub mod Asking
-pub mod Ending
 pub mod Left
 pub mod Listing
+pub mod Moved
 pub mod Moving
+pub mod OneTable
 pub mod Plants
 pub mod Shown
 pub mod Stamping
-pub mod OneTable
 pub mod Taken
 pub mod Time

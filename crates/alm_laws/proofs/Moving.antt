@@ -55,7 +55,7 @@ touched-here q i f a s (Some b) None e g h = absurd (none-some _ g)
 touched-here q i f a s (Some b) (Some r) e g h =
     put-here q i s (f b r) h ∙ ap (λ x. Some (row_left (f x r))) (same_Some _ _ e) ∙ ap (λ x. Some (row_left (f a x))) (same_Some _ _ g)
 
-touch-here : (q : Condensed) (i : ℕ) (f : Attr → State → Outcome) (a : Attr) (s : State)
+pub touch-here : (q : Condensed) (i : ℕ) (f : Attr → State → Outcome) (a : Attr) (s : State)
     → slice_get q.panel.attrs i ≡ Some a → slice_get q.panel.rows i ≡ Some s → slice_get (touch in_brief q i f).panel.rows i ≡ Some (row_left (f a s))
 touch-here q i f a s e g = touched-here q i f a s (slice_get q.panel.attrs i) (slice_get q.panel.rows i) e g g
 
@@ -64,7 +64,7 @@ touched-other q i j f None os d = refl
 touched-other q i j f (Some a) None d = refl
 touched-other q i j f (Some a) (Some s) d = put-other q i j (f a s) d
 
-touch-other : (q : Condensed) (i j : ℕ) (f : Attr → State → Outcome) → i ≢ j → slice_get (touch in_brief q i f).panel.rows j ≡ slice_get q.panel.rows j
+pub touch-other : (q : Condensed) (i j : ℕ) (f : Attr → State → Outcome) → i ≢ j → slice_get (touch in_brief q i f).panel.rows j ≡ slice_get q.panel.rows j
 touch-other q i j f d = touched-other q i j f (slice_get q.panel.attrs i) (slice_get q.panel.rows i) d
 
 touched-stamp : (q : Condensed) (i : ℕ) (f : Attr → State → Outcome) (oa : Option Attr) (os : Option State) → q.panel.next_stamp ≤ (with_touched_alarm in_brief q i f oa os).panel.next_stamp
@@ -80,27 +80,27 @@ touched-attrs q i f None os = refl
 touched-attrs q i f (Some a) None = refl
 touched-attrs q i f (Some a) (Some s) = put-attrs q i (f a s)
 
-touch-attrs : (q : Condensed) (i : ℕ) (f : Attr → State → Outcome) → (touch in_brief q i f).panel.attrs ≡ q.panel.attrs
+pub touch-attrs : (q : Condensed) (i : ℕ) (f : Attr → State → Outcome) → (touch in_brief q i f).panel.attrs ≡ q.panel.attrs
 touch-attrs q i f = touched-attrs q i f (slice_get q.panel.attrs i) (slice_get q.panel.rows i)
 
 -- ---- the shelvings that end, one after the other
 
-abbrev ending : Condensed → Attr → State → Outcome
+abbrev pub ending : Condensed → Attr → State → Outcome
 ending q a s = without_shelving q.panel.next_stamp s
 
 fold-stamp : (list : List ℕ) (q : Condensed) → q.panel.next_stamp ≤ (fold (unshelve in_brief) q list).panel.next_stamp
 fold-stamp [] q = omega arith
 fold-stamp (j ∷ list) q = omega (arith, touch-stamp q j (ending q), fold-stamp list (unshelve in_brief q j))
 
-fold-other : (list : List ℕ) (q : Condensed) (i : ℕ) → (Has i list → ⊥) → slice_get (fold (unshelve in_brief) q list).panel.rows i ≡ slice_get q.panel.rows i
+pub fold-other : (list : List ℕ) (q : Condensed) (i : ℕ) → (Has i list → ⊥) → slice_get (fold (unshelve in_brief) q list).panel.rows i ≡ slice_get q.panel.rows i
 fold-other [] q i out = refl
 fold-other (j ∷ list) q i out = fold-other list (unshelve in_brief q j) i (λ h. out (inr h)) ∙ touch-other q j i (ending q) (λ e. out (inl e))
 
-no-itself : (key : ℕ → ℕ) (i : ℕ) → Precedes key i i → ⊥
+pub no-itself : (key : ℕ → ℕ) (i : ℕ) → Precedes key i i → ⊥
 no-itself key i (inl l) = omega arith
 no-itself key i (inr e) = omega (arith, e.1)
 
-fold-here : (key : ℕ → ℕ) (list : List ℕ) (q : Condensed) (i : ℕ) (a : Attr) (s : State) → RisesByRecursion key list → Has i list → slice_get q.panel.attrs i ≡ Some a → slice_get q.panel.rows i ≡ Some s
+pub fold-here : (key : ℕ → ℕ) (list : List ℕ) (q : Condensed) (i : ℕ) (a : Attr) (s : State) → RisesByRecursion key list → Has i list → slice_get q.panel.attrs i ≡ Some a → slice_get q.panel.rows i ≡ Some s
     → (n : ℕ) × (q.panel.next_stamp ≤ n) × (slice_get (fold (unshelve in_brief) q list).panel.rows i ≡ Some (row_left (without_shelving n s)))
 fold-here key [] q i a s rises has e g = absurd has
 fold-here key (j ∷ list) q i a s rises has e g = elim (cases_eq j i) [
@@ -176,7 +176,7 @@ alarm-at q i s h e =
     let ms = there q.kept.moments i (let r = h.recent in omega arith) in
     record { attr = a.0; has = a.1; moments = ms.0; keeps = h.alarms i a.0 s ms.0 a.1 e ms.1 }
 
-own-first : (own last : Option Refusal) → or_else own last ≡ None → own ≡ None
+pub own-first : (own last : Option Refusal) → or_else own last ≡ None → own ≡ None
 own-first None last h = refl
 own-first (Some r) last h = absurd (none-some _ (sym h))
 

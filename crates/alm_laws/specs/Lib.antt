@@ -1,5 +1,6 @@
 pub mod Alarm
 pub mod Left
+pub mod Moved
 pub mod Plant
 pub mod Shown
 pub mod Table

@@ -1,5 +1,6 @@
 -- What an alarm engineer asks of a plant.
 use Rattle.std.specs.Prelude.{◌≡◌, ◌≢◌, ◌⊎◌, ℕ, ◌+◌, ◌≤◌, ◌<◌, List, [], ◌∷◌, length, if◌then◌else◌, Bool, true, false, ◌&&◌, ◌||◌, Some, None, Ok, slice_get}
+use Rattle.alm_types.specs.declared.attr.Attr.{Attr}
 use Rattle.alm_types.specs.declared.action.Action.{Action}
 use Rattle.alm_types.specs.declared.action.Action.TheVariants.{Clock, Value, Ack, Reset, Shelve, Unshelve, Oos, Design, SetPriority, SetSetpoint}
 use Rattle.alm_types.specs.declared.request.Request.{Request}
@@ -21,6 +22,12 @@ pub record Becomes (q : Condensed) (r : Request) (i : ℕ) (s t : State) : Type 
   pub accepted : accept q.panel r ≡ Ok r.want
   pub before : slice_get q.panel.rows i ≡ Some s
   pub after : slice_get (step q r.want).panel.rows i ≡ Some t
+
+-- an alarm of a plant that keeps the rules
+pub record IsAlarmOf (q : Condensed) (i : ℕ) (a : Attr) (s : State) : Type 0 where
+  pub rules : KeepsRules q
+  pub attr : slice_get q.panel.attrs i ≡ Some a
+  pub row : slice_get q.panel.rows i ≡ Some s
 
 -- who asks for an action
 abbrev pub asker_of : Action → Role
