@@ -49,7 +49,7 @@ module _ (A : Type 0) (part : State → A) (apart : (c : Core) (n : ℕ) (x : St
   part-flags-cases stamp t false true = apart Unack stamp t
   part-flags-cases stamp t false false = apart Normal 0 t
 
-  part-flags : (stamp : ℕ) (t : State) → part (row_left (after_flags stamp t)) ≡ part t
+  pub part-flags : (stamp : ℕ) (t : State) → part (row_left (after_flags stamp t)) ≡ part t
   part-flags stamp t = part-flags-cases stamp t (is_suppressed t) t.active
 
   -- of the others it moves with a value alone
@@ -95,7 +95,7 @@ either-design now stamp (Design i on) a s = inl refl
 either-design now stamp (SetPriority i n) a s = inr refl
 either-design now stamp (SetSetpoint i v) a s = inr refl
 
-either-active : (now stamp : ℕ) (action : Action) (a : Attr) (s : State) → (sends_value action ≡ true) ⊎ (active_of (row_left (outcome now stamp action a s)) ≡ active_of s)
+pub either-active : (now stamp : ℕ) (action : Action) (a : Attr) (s : State) → (sends_value action ≡ true) ⊎ (active_of (row_left (outcome now stamp action a s)) ≡ active_of s)
 either-active now stamp (Clock t) a s = inr refl
 either-active now stamp (Value i v) a s = inl refl
 either-active now stamp (Ack i) a s = inr (part-led Bool active_of (λ c n x. refl) stamp (next_core a.latching happening.Ack s.core) s)
@@ -183,7 +183,7 @@ touched-keeps q i f (Some a) (Some s) = put-keeps q i (f a s)
 touched-keeps q i f (Some a) None = (refl, refl)
 touched-keeps q i f None s = (refl, refl)
 
-touch-keeps : (q : Condensed) (i : ℕ) (f : Attr → State → Outcome) → ((touch in_brief q i f).panel.now ≡ q.panel.now) × ((touch in_brief q i f).panel.attrs ≡ q.panel.attrs)
+pub touch-keeps : (q : Condensed) (i : ℕ) (f : Attr → State → Outcome) → ((touch in_brief q i f).panel.now ≡ q.panel.now) × ((touch in_brief q i f).panel.attrs ≡ q.panel.attrs)
 touch-keeps q i f = touched-keeps q i f (slice_get q.panel.attrs i) (slice_get q.panel.rows i)
 
 fold-attrs : (list : List ℕ) (q : Condensed) → (fold (unshelve in_brief) q list).panel.attrs ≡ q.panel.attrs

@@ -1,5 +1,8 @@
 pub mod AlarmLaws
 pub mod Asking
+pub mod Clocked
+pub mod Condition
+pub mod Heard
 pub mod Left
 pub mod Listing
 pub mod Moved
@@ -9,4 +12,3 @@ pub mod Plants
 pub mod Shown
 pub mod Stamping
 pub mod Taken
-pub mod Time

@@ -111,7 +111,7 @@ fits-at q i a s h has row =
     let at = alarm-at q i s h row in
     subst (λ x. IsTrue (suits x.latching s.core)) (same_Some _ _ (sym at.has ∙ has)) at.keeps.suits
 
-alarm-takes : (q : Condensed) (action : Action) → KeepsRules q → alarm_refusal action (slice_get q.panel.attrs (alarm_of action)) (slice_get q.panel.rows (alarm_of action)) ≡ None → AlarmTakes q.panel action
+pub alarm-takes : (q : Condensed) (action : Action) → KeepsRules q → alarm_refusal action (slice_get q.panel.attrs (alarm_of action)) (slice_get q.panel.rows (alarm_of action)) ≡ None → AlarmTakes q.panel action
 alarm-takes q action h e =
     let t = alarm-there action (slice_get q.panel.attrs (alarm_of action)) (slice_get q.panel.rows (alarm_of action)) e in
     (t.0, t.1, t.2, t.3, sym (row-taken action t.0 t.1 (fits-at q (alarm_of action) t.0 t.1 h t.2 t.3)) ∙ ap is_none t.4)
@@ -157,7 +157,7 @@ may-ask (Design i on) = refl
 may-ask (SetPriority i n) = refl
 may-ask (SetSetpoint i v) = refl
 
-acceptable-by : (q : Condensed) (r : Request) → KeepsRules q → accept q.panel r ≡ Ok r.want → IsAcceptable q.panel r
+pub acceptable-by : (q : Condensed) (r : Request) → KeepsRules q → accept q.panel r ≡ Ok r.want → IsAcceptable q.panel r
 acceptable-by q r h e =
     let free = both-none (own_refusal q.panel r.want) (unless (nat_lt q.panel.count most_actions) Exhausted) (accepted-parts q.panel r e).1 in
     record {
@@ -166,7 +166,7 @@ acceptable-by q r h e =
       number = ltb-true q.panel.count most_actions (unless-none (nat_lt q.panel.count most_actions) Exhausted free.1);
     }
 
-acceptable-so : (q : Condensed) (r : Request) → KeepsRules q → IsAcceptable q.panel r → accept q.panel r ≡ Ok r.want
+pub acceptable-so : (q : Condensed) (r : Request) → KeepsRules q → IsAcceptable q.panel r → accept q.panel r ≡ Ok r.want
 acceptable-so q r h k =
     let asks : may_ask (role_of r.slot) r.want ≡ true = ap (λ x. may_ask x r.want) k.asker ∙ may-ask r.want in
     let numbered : nat_lt q.panel.count most_actions ≡ true = lt-ltb q.panel.count most_actions k.number in

@@ -1,5 +1,7 @@
 pub mod Alarm
+pub mod Clock
 pub mod Left
+pub mod Listed
 pub mod Moved
 pub mod Plant
 pub mod Shown

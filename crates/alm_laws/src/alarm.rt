@@ -8,7 +8,9 @@ ghost use Rattle.alm_state.specs.Outcome.{outcome, row_refusal};
 ghost use Rattle.alm_state.specs.Suits.{suits};
 ghost use Rattle.alm_state.specs.Showing.{shown_of};
 ghost use Rattle.alm_state.specs.declared.core_state.Core.TheVariants.{Normal};
+ghost use Rattle.alm_laws.specs.Left.{condition_left};
 ghost use Rattle.alm_laws.specs.Alarm.{
+  annunciates,
   TakesAction,
   acknowledges,
   resets,
@@ -72,4 +74,17 @@ pub fn shelving_is_the_operators()
         EndsShelvingJustByUnshelve action s (row_left (outcome now stamp action a s)) }
     ensures begins { (now stamp : ℕ) (action : Action) (a : Attr) (s : State) → TakesAction action a s →
         BeginsShelvingOnlyByShelve action s (row_left (outcome now stamp action a s)) }
+{}
+
+/// What is acknowledged asks for the operator anew only by an annunciation.
+pub fn acknowledged_until_annunciated_again()
+    ensures { (now stamp : ℕ) (action : Action) (a : Attr) (s : State) → TakesAction action a s → IsTrue (suits a.latching s.core) →
+        is_unacknowledged s.core ≡ false → is_unacknowledged (row_left (outcome now stamp action a s)).core ≡ true →
+        annunciates (outcome now stamp action a s) ≡ true }
+{}
+
+/// A value at the setpoint or beyond it leaves the alarm active, one back by more than the deadband leaves it inactive, any other
+/// leaves it as it was. No other action moves the condition.
+pub fn the_condition_follows_the_value()
+    ensures { (now stamp : ℕ) (action : Action) (a : Attr) (s : State) → (row_left (outcome now stamp action a s)).active ≡ condition_left action a s.active }
 {}

@@ -1,12 +1,17 @@
 //! Laws of who asks for what.
 
-ghost use Rattle.std.specs.Prelude.{ℕ, ◌≡◌, Ok};
+ghost use Rattle.std.specs.Prelude.{ℕ, ◌≡◌, ◌<◌, true, false, Ok};
+ghost use Rattle.alm_types.specs.Actions.{alarm_of};
+ghost use Rattle.alm_types.specs.Sizes.{most_actions};
+ghost use Rattle.alm_types.specs.declared.attr.Attr.{Attr};
+ghost use Rattle.alm_types.specs.declared.role.Role.TheVariants as role;
+ghost use Rattle.alm_laws.specs.Alarm.{acknowledges, resets, is_unacknowledged, is_latched};
 ghost use Rattle.alm_types.specs.Slots.{role_of};
 ghost use Rattle.alm_types.specs.declared.request.Request.{Request};
 ghost use Rattle.alm_state.specs.Rows.{State};
 ghost use Rattle.alm_model.specs.Plant.{Panel, Condensed};
 ghost use Rattle.alm_model.specs.Accept.{accept};
-ghost use Rattle.alm_laws.specs.Plant.{Becomes, asker_of, ShelvedOnlyByAConsole, ServiceOnlyByAConsole, DesignOnlyByTheFeed, ConditionOnlyByTheFeed, TimeOnlyByTheClock, AttributesOnlyByAConsole};
+ghost use Rattle.alm_laws.specs.Plant.{Becomes, IsAlarmOf, asker_of, ShelvedOnlyByAConsole, ServiceOnlyByAConsole, DesignOnlyByTheFeed, ConditionOnlyByTheFeed, TimeOnlyByTheClock, AttributesOnlyByAConsole};
 
 /// Each accepted action comes from a slot that may ask for it.
 pub fn each_action_has_its_asker()
@@ -29,4 +34,13 @@ pub fn only_the_feed_moves_conditions()
 /// Only the clock slot moves the time.
 pub fn only_the_clock_moves_time()
     ensures { (q : Condensed) (r : Request) → accept q.panel r ≡ Ok r.want → TimeOnlyByTheClock q r }
+{}
+
+/// Any console's acknowledgement of an unacknowledged alarm is accepted, and its reset of one that is latched and acknowledged.
+pub fn consoles_are_heard()
+    ensures acknowledge { (q : Condensed) (r : Request) (a : Attr) (s : State) → IsAlarmOf q (alarm_of r.want) a s → q.panel.count < most_actions →
+        role_of r.slot ≡ role.Console → acknowledges r.want ≡ true → is_unacknowledged s.core ≡ true → accept q.panel r ≡ Ok r.want }
+    ensures reset { (q : Condensed) (r : Request) (a : Attr) (s : State) → IsAlarmOf q (alarm_of r.want) a s → q.panel.count < most_actions →
+        role_of r.slot ≡ role.Console → resets r.want ≡ true → is_latched s.core ≡ true → is_unacknowledged s.core ≡ false →
+        accept q.panel r ≡ Ok r.want }
 {}

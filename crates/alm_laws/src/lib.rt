@@ -24,6 +24,9 @@
 
 pub mod alarm;
 pub mod askers;
+pub mod clock;
+pub mod lists;
 pub mod plant;
+pub mod showing;
 pub mod stamps;
 pub mod table;

@@ -1,0 +1,25 @@
+-- Which alarms belong to a list.
+use Rattle.std.specs.Prelude.{◌≡◌, ◌↔◌, ℕ, ◌%◌, List, true, Some, slice_get, Contains}
+use Rattle.alm_types.specs.declared.attr.Attr.{Attr}
+use Rattle.alm_state.specs.Rows.{State, is_annunciated}
+use Rattle.alm_model.specs.Plant.{Condensed}
+use Rattle.alm_model.specs.Lists.{list_of}
+use Rattle.alm_model.specs.declared.list.List.{List as Choice}
+use Rattle.alm_model.specs.declared.list.List.TheVariants.{Priority, Area, Wheel, Stale, Chatter}
+
+-- to that of its priority and to that of its area, if it asks for the operator; to a slot of the wheel, if its shelving ends there
+abbrev pub Belongs : Choice → Attr → State → Type 0
+Belongs (Priority n) a s = (is_annunciated s.core ≡ true) × (a.priority ≡ n)
+Belongs (Area n) a s = (is_annunciated s.core ≡ true) × (a.area ≡ n)
+Belongs (Wheel n) a s = (deadline : ℕ) × (s.shelved_until ≡ Some deadline) × (deadline % 256 ≡ n)
+Belongs Stale a s = ⊥
+Belongs Chatter a s = ⊥
+
+-- a list has just the alarms that belong to it
+abbrev pub HasJustThose : Condensed → Choice → List ℕ → Type 0
+HasJustThose q list out =
+    (i : ℕ) → Contains out i ↔ ((a : Attr) × (s : State) × (slice_get q.panel.attrs i ≡ Some a) × (slice_get q.panel.rows i ≡ Some s) × Belongs list a s)
+
+-- an operator finds it by its priority and by its area
+abbrev pub IsFound : Condensed → ℕ → Attr → Type 0
+IsFound q i a = Contains (list_of (Priority a.priority) q) i × Contains (list_of (Area a.area) q) i

@@ -1,0 +1,31 @@
+//! Laws of the lists.
+
+ghost use Rattle.std.specs.Prelude.{ℕ, List, ◌≡◌, ◌↔◌, ◌≤◌, ◌<◌, true, false, Some, Ok, slice_get, length, Contains};
+ghost use Rattle.alm_types.specs.declared.attr.Attr.{Attr};
+ghost use Rattle.alm_types.specs.declared.query.Query.TheVariants as query;
+ghost use Rattle.alm_types.specs.Reports.{alarms};
+ghost use Rattle.alm_state.specs.Rows.{State, is_suppressed};
+ghost use Rattle.alm_model.specs.Plant.{Condensed};
+ghost use Rattle.alm_model.specs.Lists.{list_of};
+ghost use Rattle.alm_model.specs.Look.{look};
+ghost use Rattle.alm_model.specs.Rising.{RisesByStamp, is_by_stamp};
+ghost use Rattle.alm_model.specs.Rules.{KeepsRules};
+ghost use Rattle.alm_model.specs.declared.list.List.{List as Choice};
+ghost use Rattle.alm_model.specs.declared.list.List.TheVariants.{Priority, Area};
+ghost use Rattle.alm_laws.specs.Plant.{IsAlarmOf};
+ghost use Rattle.alm_laws.specs.Listed.{HasJustThose, IsFound};
+
+/// No active alarm is hidden: without a flag it is in the list of its priority and in that of its area. A suppressed one is in none.
+pub fn an_active_alarm_is_listed()
+    ensures active { (q : Condensed) (i : ℕ) (a : Attr) (s : State) → IsAlarmOf q i a s → s.active ≡ true → is_suppressed s ≡ false → IsFound q i a }
+    ensures suppressed { (q : Condensed) (i area : ℕ) (s : State) → KeepsRules q → slice_get q.panel.rows i ≡ Some s → is_suppressed s ≡ true →
+        Contains (list_of (Area area) q) i → ⊥ }
+{}
+
+/// A list by stamp is the only one that rises by stamp and has just the alarms that belong to it; LIST and AREA tell it whole.
+pub fn the_laws_leave_one_list()
+    ensures one { (q : Condensed) (list : Choice) (out : List ℕ) → KeepsRules q → is_by_stamp list ≡ true →
+        (RisesByStamp q.panel out × HasJustThose q list out) ↔ (out ≡ list_of list q) }
+    ensures by_priority { (q : Condensed) (n : ℕ) → 1 ≤ n → n ≤ 4 → look q (query.Priority n) ≡ Ok (alarms (list_of (Priority n) q)) }
+    ensures by_area { (q : Condensed) (n : ℕ) → n < length q.floods → look q (query.Area n) ≡ Ok (alarms (list_of (Area n) q)) }
+{}
