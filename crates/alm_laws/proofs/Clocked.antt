@@ -1,7 +1,7 @@
 -- The clock, the count and what a console sets.
-use Rattle.std.proofs.Common.{◌≡◌, ◌≢◌, ℕ, ℤ, ◌+◌, ◌<◌, ◌≤◌, Bool, true, false, ◌&&◌, cond, List, [], ◌∷◌, Option, Some, None, Ok, is_some, unwrap_or, refl, sym, ap, ◌∙◌, subst, arith, inl, inr, ◌⊎◌, true≢false}
+use Rattle.std.proofs.Common.{◌≡◌, ◌≢◌, ℕ, ℤ, ◌+◌, ◌<◌, ◌≤◌, Bool, true, false, ◌&&◌, cond, List, [], ◌∷◌, Option, Some, None, is_some, unwrap_or, refl, sym, ap, ◌∙◌, subst, arith, inl, inr, ◌⊎◌, true≢false}
 use Rattle.std.specs.Prelude.{fold, slice_get, nat_le, length, T}
-use Rattle.std.proofs.lemmas.Bool.{cases_eq, cases_Bool, le-leb}
+use Rattle.std.proofs.lemmas.Bool.{cases_eq, le-leb}
 use Rattle.std.proofs.lemmas.Option.{none-some, same_Some}
 use Rattle.alm_types.specs.declared.attr.Attr.{Attr}
 use Rattle.alm_types.specs.declared.alarm_id.AlarmId.{AlarmId}
@@ -11,15 +11,14 @@ use Rattle.alm_types.specs.declared.request.Request.{Request}
 use Rattle.alm_types.specs.Changes.{where_passed, with_priority, with_setpoint}
 use Rattle.alm_types.specs.Readings.{is_reading}
 use Rattle.alm_state.specs.Rows.{State, is_suppressed, is_annunciated}
-use Rattle.alm_state.specs.Outcome.{outcome, without_shelving, after_flags}
+use Rattle.alm_state.specs.Outcome.{outcome, without_shelving}
 use Rattle.alm_state.specs.declared.core_state.Core.TheVariants.{Normal, Unack}
 use Rattle.alm_state.specs.declared.outcome.Outcome.{Outcome}
 use Rattle.alm_state.specs.declared.outcome.Outcome.TheVariants.{Changed, Annunciated, Shelved}
 use Rattle.alm_lists.specs.Orders.{Precedes, RisesByRecursion}
 use Rattle.alm_lists.proofs.Sorted.{rises-filter}
 use Rattle.alm_model.specs.Plant.{Condensed}
-use Rattle.alm_model.specs.Accept.{accept}
-use Rattle.alm_model.specs.Keeping.{in_brief, change}
+use Rattle.alm_model.specs.Keeping.{in_brief}
 use Rattle.alm_model.specs.Lists.{due, is_due, is_one, passes, deadline, key_of}
 use Rattle.alm_model.specs.Step.{with_outcome, with_touched_alarm, touch, unshelve, later, with_effect, with_one_more, step}
 use Rattle.alm_model.proofs.Listed.{listed-members}
@@ -28,10 +27,8 @@ use Rattle.alm_model.proofs.Members.{Has, Has-from, of_one}
 use Rattle.alm_laws.specs.Alarm.{row_left, annunciates}
 use Rattle.alm_laws.specs.Clock.{EndInOrder, SameButPriority, SameButSetpoint}
 use Rattle.alm_laws.specs.Plant.{Becomes}
-use Rattle.alm_laws.specs.Taken.{is_taken}
 use Rattle.alm_laws.proofs.Asking.{touch-keeps}
 use Rattle.alm_laws.proofs.Moving.{ending, touch-here, touch-other, touch-attrs, fold-here, fold-other, no-itself, alarm-at}
-use Rattle.alm_laws.proofs.Taken.{acceptable-by}
 
 -- ---- the time and the count
 

@@ -2,7 +2,7 @@
 use Rattle.std.proofs.Common.{◌≡◌, ℕ, ℤ, Bool, true, false, cond, Option, Some, None, unwrap_or, refl, sym, ap, ◌∙◌, inl, inr, true≢false}
 use Rattle.alm_types.specs.declared.attr.Attr.{Attr}
 use Rattle.alm_types.specs.declared.action.Action.{Action}
-use Rattle.alm_types.specs.declared.action.Action.TheVariants.{Clock, Value, Ack, Reset, Shelve, Unshelve, Oos, Design, SetPriority, SetSetpoint}
+use Rattle.alm_types.specs.declared.action.Action.TheVariants.{Value}
 use Rattle.alm_state.specs.Rows.{State, is_suppressed}
 use Rattle.alm_state.specs.Table.{next_core}
 use Rattle.alm_state.specs.Detection.{detection_of}
@@ -13,7 +13,6 @@ use Rattle.alm_state.specs.declared.happening.Happening.TheVariants as happening
 use Rattle.alm_state.specs.declared.outcome.Outcome.TheVariants.{Changed}
 use Rattle.alm_laws.specs.Alarm.{row_left}
 use Rattle.alm_laws.specs.Left.{is_beyond, is_back, condition_left}
-use Rattle.alm_laws.specs.Plant.{sends_value}
 use Rattle.alm_laws.proofs.Asking.{either-active}
 use Rattle.alm_laws.proofs.Left.{comes-is, goes-is, back-isnt}
 

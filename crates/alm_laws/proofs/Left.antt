@@ -1,10 +1,10 @@
 -- The row that an action leaves is the one that its laws describe, and no other.
-use Rattle.std.proofs.Common.{◌≡◌, ℕ, ℤ, ◌+◌, ◌<◌, Bool, true, false, not, ◌&&◌, ◌||◌, cond, is_some, IsTrue, Option, Some, None, zero, suc, inl, inr, refl, sym, ap, ◌∙◌, subst, arith, true≢false}
+use Rattle.std.proofs.Common.{◌≡◌, ℕ, ℤ, ◌<◌, Bool, true, false, not, ◌&&◌, ◌||◌, cond, is_some, IsTrue, Option, Some, None, zero, suc, inl, inr, refl, sym, ap, ◌∙◌, subst, arith, true≢false}
 use Rattle.std.specs.Prelude.{◌↔◌, int_le, int_lt, pos, ◌-ℤ◌, ◌+ℤ◌}
 use Rattle.std.specs.Ordering.{int_eq}
 use Rattle.std.proofs.lemmas.Int.{ints}
 use Rattle.std.proofs.lemmas.Bool.{cases_Bool}
-use Rattle.std.proofs.lemmas.Option.{none-some, same_Some}
+use Rattle.std.proofs.lemmas.Option.{none-some}
 use Rattle.alm_types.specs.declared.attr.Attr.{Attr}
 use Rattle.alm_types.specs.declared.kind.Kind.{Kind}
 use Rattle.alm_types.specs.declared.kind.Kind.TheVariants.{High, Low, Discrete}
@@ -21,7 +21,7 @@ use Rattle.alm_state.specs.declared.core_state.Core.TheVariants.{Normal, Unack, 
 use Rattle.alm_state.specs.declared.happening.Happening.TheVariants as happening
 use Rattle.alm_state.specs.declared.outcome.Outcome.{Outcome}
 use Rattle.alm_state.specs.declared.outcome.Outcome.TheVariants.{Changed, Annunciated, Shelved}
-use Rattle.alm_laws.specs.Alarm.{TakesAction, row_left, annunciates, is_unacknowledged, acknowledges, resets, shelves}
+use Rattle.alm_laws.specs.Alarm.{TakesAction, row_left, annunciates, is_unacknowledged, resets, shelves}
 use Rattle.alm_laws.specs.Left.{is_beyond, is_back, condition_left, shelving_left, design_left, service_left, is_suppressed_left, is_annunciated_then, is_unacknowledged_left, is_active_left, asks_left, stamp_left, is_shelved_then, IsLeft}
 use Rattle.alm_laws.proofs.AlarmLaws.{unless-none}
 

@@ -5,6 +5,7 @@ pub mod Condition
 pub mod Heard
 pub mod Left
 pub mod Listing
+pub mod Measuring
 pub mod Moved
 pub mod Moving
 pub mod OneTable

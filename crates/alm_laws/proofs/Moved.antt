@@ -1,28 +1,26 @@
 -- What an accepted action makes of each alarm of a plant.
-use Rattle.std.proofs.Common.{◌≡◌, ◌≢◌, ℕ, ℤ, ◌+◌, ◌<◌, ◌≤◌, Bool, true, false, not, ◌&&◌, ◌||◌, List, Option, Some, None, is_some, IsTrue, refl, sym, ap, ◌∙◌, subst, arith, inl, inr, ◌⊎◌, true≢false}
+use Rattle.std.proofs.Common.{◌≡◌, ℕ, ◌+◌, ◌<◌, ◌≤◌, Bool, true, false, not, ◌&&◌, ◌||◌, List, Option, Some, None, is_some, IsTrue, refl, sym, ap, ◌∙◌, subst, arith, inl, inr, ◌⊎◌, true≢false}
 use Rattle.std.specs.Prelude.{slice_get}
 use Rattle.std.proofs.lemmas.Bool.{cases_Bool}
 use Rattle.std.proofs.lemmas.Option.{none-some, same_Some}
 use Rattle.alm_types.specs.declared.attr.Attr.{Attr}
-use Rattle.alm_types.specs.declared.alarm_id.AlarmId.{AlarmId}
 use Rattle.alm_types.specs.declared.action.Action.{Action}
 use Rattle.alm_types.specs.declared.action.Action.TheVariants.{Clock, Value, Ack, Reset, Shelve, Unshelve, Oos, Design, SetPriority, SetSetpoint}
-use Rattle.alm_types.specs.declared.refusal.Refusal.{Refusal}
 use Rattle.alm_types.specs.declared.request.Request.{Request}
 use Rattle.alm_types.specs.declared.role.Role.TheVariants as role
 use Rattle.alm_types.specs.Actions.{alarm_of}
 use Rattle.alm_state.specs.Rows.{State, IsState, is_suppressed, is_annunciated}
 use Rattle.alm_state.specs.Suits.{suits, IsAhead}
-use Rattle.alm_state.specs.Outcome.{outcome, row_refusal, without_shelving}
+use Rattle.alm_state.specs.Outcome.{outcome, row_refusal}
 use Rattle.alm_state.specs.declared.outcome.Outcome.{Outcome}
 use Rattle.alm_model.specs.Plant.{Condensed}
-use Rattle.alm_model.specs.Accept.{own_refusal, alarm_refusal, refusal}
+use Rattle.alm_model.specs.Accept.{own_refusal, alarm_refusal}
 use Rattle.alm_model.specs.Step.{with_one_more, step, run}
 use Rattle.alm_model.specs.Rules.{KeepsRules, AreAdmitted}
 use Rattle.alm_model.proofs.Kept.{run-keeps}
 use Rattle.alm_laws.specs.Alarm.{TakesAction, row_left, annunciates, is_unacknowledged, acknowledges, resets, shelves, suppresses}
-use Rattle.alm_laws.specs.Left.{IsLeft, condition_left, shelving_left, is_suppressed_left, is_annunciated_then, is_unacknowledged_left, is_active_left, asks_left}
-use Rattle.alm_laws.specs.Plant.{Becomes, IsAlarmOf, ClockReaches, asker_of}
+use Rattle.alm_laws.specs.Left.{IsLeft, shelving_left, is_suppressed_left, is_annunciated_then, is_unacknowledged_left, is_active_left}
+use Rattle.alm_laws.specs.Plant.{Becomes, IsAlarmOf, asker_of}
 use Rattle.alm_laws.specs.Moved.{Names, LeftByItsAction, LeftByTheClock, EndsOnlyByReset, ShelvedAsAsked, FlaggedAsAsked, seconds_of}
 use Rattle.alm_laws.proofs.AlarmLaws.{calm, not-both, under-shelving}
 use Rattle.alm_laws.proofs.Asking.{shelved-by}

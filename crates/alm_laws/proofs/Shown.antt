@@ -1,19 +1,18 @@
 -- What is shown of an alarm is told by seven questions.
-use Rattle.std.proofs.Common.{◌≡◌, ℕ, Bool, true, false, not, ◌&&◌, is_some, Option, Some, None, Ok, refl, sym, ap, ◌∙◌, subst}
+use Rattle.std.proofs.Common.{◌≡◌, ℕ, Bool, true, false, Option, Some, None, Ok, refl, sym, ap, ◌∙◌, subst}
 use Rattle.std.specs.Prelude.{◌↔◌, slice_get}
 use Rattle.alm_types.specs.declared.alarm_id.AlarmId.{AlarmId}
 use Rattle.alm_types.specs.declared.query.Query.TheVariants.{State as StateOf}
 use Rattle.alm_types.specs.declared.shown.Shown.{Shown}
 use Rattle.alm_types.specs.declared.shown.Shown.TheVariants as shown
 use Rattle.alm_types.specs.Reports.{alarm}
-use Rattle.alm_state.specs.Rows.{State, is_annunciated, is_active_core}
+use Rattle.alm_state.specs.Rows.{State}
 use Rattle.alm_state.specs.Showing.{shown_of}
 use Rattle.alm_state.specs.declared.core_state.Core.{Core}
 use Rattle.alm_state.specs.declared.core_state.Core.TheVariants.{Normal, Unack, Acked, RtnUnack, LatchUnack, LatchAcked}
 use Rattle.alm_model.specs.Plant.{Condensed}
 use Rattle.alm_model.specs.Look.{look, state_report}
-use Rattle.alm_laws.specs.Alarm.{is_unacknowledged, is_latched}
-use Rattle.alm_laws.specs.Shown.{is_shown_oos, is_shown_by_design, is_shown_shelved, is_shown_annunciated, is_shown_active, is_shown_unacknowledged, is_shown_latched, has_no_flag, IsShownAsItIs, flags_shown}
+use Rattle.alm_laws.specs.Shown.{is_shown_oos, is_shown_by_design, is_shown_shelved, is_shown_annunciated, is_shown_active, is_shown_unacknowledged, is_shown_latched, IsShownAsItIs, flags_shown}
 
 -- what is shown, by the answers to the questions
 abbrev by-answers : Bool → Bool → Bool → Bool → Bool → Bool → Bool → Shown

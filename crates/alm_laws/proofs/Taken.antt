@@ -1,5 +1,5 @@
 -- What an alarm takes, and which requests are accepted.
-use Rattle.std.proofs.Common.{◌≡◌, ℕ, ℤ, ◌<◌, ◌≤◌, Bool, true, false, not, ◌&&◌, ◌||◌, cond, is_some, is_none, IsTrue, Option, Some, None, Ok, zero, suc, refl, sym, ap, ◌∙◌, subst, arith, true≢false}
+use Rattle.std.proofs.Common.{◌≡◌, ℕ, ℤ, Bool, true, false, not, ◌&&◌, ◌||◌, cond, is_some, is_none, IsTrue, Option, Some, None, Ok, refl, sym, ap, ◌∙◌, subst, arith, true≢false}
 use Rattle.std.specs.Prelude.{◌↔◌, slice_get, nat_lt, nat_le, ◌==◌}
 use Rattle.std.specs.Ordering.{int_eq}
 use Rattle.std.proofs.lemmas.Bool.{lt-ltb, ltb-true}
@@ -11,19 +11,16 @@ use Rattle.alm_types.specs.declared.action.Action.TheVariants.{Clock, Value, Ack
 use Rattle.alm_types.specs.declared.refusal.Refusal.{Refusal}
 use Rattle.alm_types.specs.declared.refusal.Refusal.TheVariants.{WrongRole, Exhausted, NoChange, AlreadyShelved, ShelveLength, PriorityRange, SameValue, ClockBack}
 use Rattle.alm_types.specs.declared.request.Request.{Request}
-use Rattle.alm_types.specs.declared.role.Role.{Role}
-use Rattle.alm_types.specs.declared.role.Role.TheVariants as role
 use Rattle.alm_types.specs.Actions.{alarm_of}
 use Rattle.alm_types.specs.Slots.{role_of}
 use Rattle.alm_types.specs.Sizes.{most_actions}
 use Rattle.alm_state.specs.Rows.{State}
 use Rattle.alm_state.specs.Suits.{suits}
-use Rattle.alm_state.specs.Detection.{detection_of, comes, goes}
-use Rattle.alm_state.specs.Outcome.{row_refusal, flag_refusal, priority_refusal, unless, or_else}
+use Rattle.alm_state.specs.Detection.{detection_of}
+use Rattle.alm_state.specs.Outcome.{row_refusal, flag_refusal, unless, or_else}
 use Rattle.alm_model.specs.Plant.{Panel, Condensed}
 use Rattle.alm_model.specs.Accept.{accept, answer, may_ask, refusal, own_refusal, alarm_refusal}
 use Rattle.alm_model.specs.Rules.{KeepsRules}
-use Rattle.alm_laws.specs.Alarm.{acknowledges, resets, is_unacknowledged, is_latched}
 use Rattle.alm_laws.specs.Left.{is_beyond, is_back}
 use Rattle.alm_laws.specs.Plant.{asker_of}
 use Rattle.alm_laws.specs.Table.{same_bool}

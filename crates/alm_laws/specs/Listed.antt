@@ -1,5 +1,5 @@
 -- Which alarms belong to a list.
-use Rattle.std.specs.Prelude.{◌≡◌, ◌↔◌, ℕ, ◌%◌, List, true, Some, slice_get, Contains}
+use Rattle.std.specs.Prelude.{◌≡◌, ◌↔◌, ℕ, ◌+◌, ◌≤◌, ◌%◌, List, ◌∷◌, Bool, true, Some, ◌&&◌, ◌||◌, nat_lt, nat_le, slice_get, Contains}
 use Rattle.alm_types.specs.declared.attr.Attr.{Attr}
 use Rattle.alm_state.specs.Rows.{State, is_annunciated}
 use Rattle.alm_model.specs.Plant.{Condensed}
@@ -23,3 +23,12 @@ HasJustThose q list out =
 -- an operator finds it by its priority and by its area
 abbrev pub IsFound : Condensed → ℕ → Attr → Type 0
 IsFound q i a = Contains (list_of (Priority a.priority) q) i × Contains (list_of (Area a.area) q) i
+
+-- it asks for the operator, and its last annunciation was a day ago or earlier
+abbrev pub IsStale : Condensed → ℕ → State → Type 0
+IsStale q i s =
+    (is_annunciated s.core ≡ true) × (last : ℕ) × (earlier : List ℕ) × (slice_get q.kept.moments i ≡ Some (last ∷ earlier)) × (last + 86400 ≤ q.panel.now)
+
+-- an area is flooded: its window is above 10, or it was flooded and the window isn't below 5
+abbrev pub is_flooded : ℕ → Bool → Bool
+is_flooded window before = nat_lt 10 window || before && nat_le 5 window

@@ -1,7 +1,7 @@
 -- What is shown of an alarm, said by what an operator reads from it.
 use Rattle.std.specs.Prelude.{◌≡◌, ℕ, ◌+◌, Bool, true, false, not, ◌&&◌, is_some, if◌then◌else◌}
 use Rattle.alm_types.specs.declared.shown.Shown.{Shown}
-use Rattle.alm_types.specs.declared.shown.Shown.TheVariants.{OutOfService, ByDesign, Shelved, Normal, Unack, Acked, RtnUnack, LatchUnack, LatchAcked}
+use Rattle.alm_types.specs.declared.shown.Shown.TheVariants.{OutOfService, ByDesign, Shelved, Unack, Acked, RtnUnack, LatchUnack, LatchAcked}
 use Rattle.alm_state.specs.Rows.{State, is_annunciated, is_active_core}
 use Rattle.alm_laws.specs.Alarm.{is_unacknowledged, is_latched}
 

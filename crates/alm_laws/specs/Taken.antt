@@ -1,5 +1,5 @@
 -- Which actions are taken.
-use Rattle.std.specs.Prelude.{◌≡◌, ◌<◌, ℕ, Bool, true, false, not, ◌&&◌, Some, is_some, nat_le, ◌==◌, slice_get}
+use Rattle.std.specs.Prelude.{◌≡◌, ◌<◌, Bool, true, not, ◌&&◌, Some, is_some, nat_le, ◌==◌, slice_get}
 use Rattle.std.specs.Ordering.{int_eq}
 use Rattle.alm_types.specs.declared.attr.Attr.{Attr}
 use Rattle.alm_types.specs.declared.action.Action.{Action}

@@ -13,6 +13,13 @@ ghost use Rattle.alm_model.specs.Plant.{Panel, Condensed};
 ghost use Rattle.alm_model.specs.Accept.{accept};
 ghost use Rattle.alm_laws.specs.Plant.{Becomes, IsAlarmOf, asker_of, ShelvedOnlyByAConsole, ServiceOnlyByAConsole, DesignOnlyByTheFeed, ConditionOnlyByTheFeed, TimeOnlyByTheClock, AttributesOnlyByAConsole};
 
+/// Slots 0 to 15 are consoles, 16 is the feed, 17 the clock.
+pub fn each_slot_has_its_role()
+    ensures consoles { (slot : ℕ) → slot < 16 → role_of slot ≡ role.Console }
+    ensures feed { role_of 16 ≡ role.Feed }
+    ensures clock { role_of 17 ≡ role.Clock }
+{}
+
 /// Each accepted action comes from a slot that may ask for it.
 pub fn each_action_has_its_asker()
     ensures { (p : Panel) (r : Request) → accept p r ≡ Ok r.want → role_of r.slot ≡ asker_of r.want }

@@ -1,7 +1,8 @@
 //! Laws of the lists.
 
-ghost use Rattle.std.specs.Prelude.{ℕ, List, ◌≡◌, ◌↔◌, ◌≤◌, ◌<◌, true, false, Some, Ok, slice_get, length, Contains};
+ghost use Rattle.std.specs.Prelude.{ℕ, List, Bool, sum, ◌≡◌, ◌↔◌, ◌≤◌, ◌<◌, true, false, Some, Ok, slice_get, length, Contains};
 ghost use Rattle.alm_types.specs.declared.attr.Attr.{Attr};
+ghost use Rattle.alm_types.specs.declared.action.Action.{Action};
 ghost use Rattle.alm_types.specs.declared.query.Query.TheVariants as query;
 ghost use Rattle.alm_types.specs.Reports.{alarms};
 ghost use Rattle.alm_state.specs.Rows.{State, is_suppressed};
@@ -10,10 +11,11 @@ ghost use Rattle.alm_model.specs.Lists.{list_of};
 ghost use Rattle.alm_model.specs.Look.{look};
 ghost use Rattle.alm_model.specs.Rising.{RisesByStamp, is_by_stamp};
 ghost use Rattle.alm_model.specs.Rules.{KeepsRules};
+ghost use Rattle.alm_model.specs.Step.{step};
 ghost use Rattle.alm_model.specs.declared.list.List.{List as Choice};
-ghost use Rattle.alm_model.specs.declared.list.List.TheVariants.{Priority, Area};
+ghost use Rattle.alm_model.specs.declared.list.List.TheVariants.{Priority, Area, Stale};
 ghost use Rattle.alm_laws.specs.Plant.{IsAlarmOf};
-ghost use Rattle.alm_laws.specs.Listed.{HasJustThose, IsFound};
+ghost use Rattle.alm_laws.specs.Listed.{HasJustThose, IsFound, IsStale, is_flooded};
 
 /// No active alarm is hidden: without a flag it is in the list of its priority and in that of its area. A suppressed one is in none.
 pub fn an_active_alarm_is_listed()
@@ -28,4 +30,15 @@ pub fn the_laws_leave_one_list()
         (RisesByStamp q.panel out × HasJustThose q list out) ↔ (out ≡ list_of list q) }
     ensures by_priority { (q : Condensed) (n : ℕ) → 1 ≤ n → n ≤ 4 → look q (query.Priority n) ≡ Ok (alarms (list_of (Priority n) q)) }
     ensures by_area { (q : Condensed) (n : ℕ) → n < length q.floods → look q (query.Area n) ≡ Ok (alarms (list_of (Area n) q)) }
+{}
+
+/// STALE has just the alarms that ask for the operator and were annunciated last a day ago or earlier.
+pub fn a_stale_alarm_is_listed()
+    ensures { (q : Condensed) (i : ℕ) (a : Attr) (s : State) → IsAlarmOf q i a s → Contains (list_of Stale q) i ↔ IsStale q i s }
+{}
+
+/// After each action an area is flooded if its window is above 10, or if it was flooded and the window isn't below 5.
+pub fn a_flood_begins_and_ends_by_its_window()
+    ensures { (q : Condensed) (action : Action) (area : ℕ) (ages : List ℕ) (before : Bool) → slice_get (step q action).kept.ages area ≡ Some ages →
+        slice_get q.floods area ≡ Some before → slice_get (step q action).floods area ≡ Some (is_flooded (sum ages) before) }
 {}
