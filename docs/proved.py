@@ -24,7 +24,7 @@ GROUPS = {
 # How each claim begins that stands on the page in place of its crate's first one; none, if what a crate is for is said by the claims of those
 # above it, or by another page.
 CHOSEN = {
-    "alm_laws": [],
+    "alm_laws": ["core states, what an action", "no active alarm is hidden"],
     "alm_links": [],
     "alm_wheel": [],
     "alm_measure": [],

@@ -6,7 +6,7 @@
 Each link to a file of the repository leads to one, and to a heading of it where it names one. Each block of Rust that a page of docs/ quotes
 stands in a source, whatever its spaces. The counts of wrong bodies and of crates below the program are the tree's, docs/BELIEVED.md is what the
 definitions unfold to, and its sums stand in docs/HEADLINE.md. docs/PROVED.md is what docs/proved.py makes of the root files, and each call that a
-root file names as carrying a claim is in the code of its crate or of those below it. Each wrong body applies: `rt ci` passes over one that doesn't. It
+root file names as carrying a claim is in the code of its crate or of those below it. docs/ALARMS.md has each law. Each wrong body applies: `rt ci` passes over one that doesn't. It
 changes code alone, but in alm_laws, which has none.
 """
 import re
@@ -18,6 +18,7 @@ TOP = Path(__file__).resolve().parent.parent
 sys.path.insert(0, str(TOP / "docs"))
 import proved as root_files  # noqa: E402
 
+LAW = re.compile(r"^pub fn (\w+)", re.MULTILINE)
 PAGES = sorted([*TOP.glob("*.md"), *TOP.glob("docs/*.md"), *TOP.glob("tests/*.md"), *TOP.glob("examples/*.md"), *TOP.glob("clients/*.md"), *TOP.glob("bench/*.md")])
 LINK = re.compile(r"\[[^\]]*\]\(([^)\s]+)\)")
 RUST = re.compile(r"```rust\n(.*?)```", re.DOTALL)
@@ -135,9 +136,16 @@ def claims(found):
             found.check(re.search(rf"\b{word}\b", source), "the root file of", claimed, "names as what carries a claim:", word)
 
 
+def laws(found):
+    """Each law of the alarm model stands on docs/ALARMS.md, and each word in code on that page that reads as one is a law."""
+    every = {law for path in TOP.glob("crates/alm_laws/src/*.rt") for law in LAW.findall(text_of(path))}
+    page = set(re.findall(r"`([a-z_]+)`", text_of(TOP / "docs" / "ALARMS.md")))
+    found.check(page == every, "docs/ALARMS.md and the laws of alm_laws differ in", " ".join(sorted(page ^ every)))
+
+
 def main():
     found = Found()
-    for look in (links, quotes, counts, edits, believed, proved, claims):
+    for look in (links, quotes, counts, edits, believed, proved, claims, laws):
         look(found)
     if found.wrong:
         sys.exit("\n".join(f"pages.py: {wrong}" for wrong in found.wrong))

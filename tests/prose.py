@@ -11,7 +11,7 @@ import sys
 from pathlib import Path
 
 TOP = Path(__file__).resolve().parent.parent
-PAGES = ["README.md", "CHANGELOG.md", "CONTRIBUTING.md", "docs/ARCHITECTURE.md", "docs/CONTROL_ROOM.md", "docs/DAMAGE.md", "docs/DECISIONS.md", "docs/DEFINITIONS.md", "docs/FIELD.md", "docs/FORMAT.md", "docs/HEADLINE.md",
+PAGES = ["README.md", "CHANGELOG.md", "CONTRIBUTING.md", "docs/ALARMS.md", "docs/ARCHITECTURE.md", "docs/CONTROL_ROOM.md", "docs/DAMAGE.md", "docs/DECISIONS.md", "docs/DEFINITIONS.md", "docs/FIELD.md", "docs/FORMAT.md", "docs/HEADLINE.md",
          "docs/HISTORY.md", "docs/OPERATING.md", "docs/PROTOCOL.md", "docs/PROVED.md", "docs/SPEED.md", "docs/STANDBY.md", "docs/TABLE.md", "docs/WAKING.md", "clients/README.md", "examples/README.md", "tests/README.md"]
 MOST_WORDS = 30
 MOST_CHARACTERS = 150

@@ -1,4 +1,4 @@
--- What is shown of an alarm is told by seven questions.
+-- What is shown of an alarm, by seven questions.
 use Rattle.std.proofs.Common.{◌≡◌, ℕ, Bool, true, false, Option, Some, None, Ok, refl, sym, ap, ◌∙◌, subst}
 use Rattle.std.specs.Prelude.{◌↔◌, slice_get}
 use Rattle.alm_types.specs.declared.alarm_id.AlarmId.{AlarmId}

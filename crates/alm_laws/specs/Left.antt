@@ -77,7 +77,7 @@ abbrev pub is_shelved_then : Outcome → Bool
 is_shelved_then (Shelved s) = true
 is_shelved_then _ = false
 
--- the core state is told by three questions: does its condition hold, is it unacknowledged, does it ask for the operator
+-- the core state by three questions: does its condition hold, is it unacknowledged, does it ask for the operator
 pub record IsLeft (now next : ℕ) (action : Action) (a : Attr) (s : State) (o : Outcome) : Type 0 where
   pub condition : (row_left o).active ≡ condition_left action a s.active
   pub shelving : (row_left o).shelved_until ≡ shelving_left now action s.shelved_until

@@ -52,15 +52,15 @@ abbrev pub is_reset : Happening → Bool
 is_reset Reset = true
 is_reset _ = false
 
--- eight sentences of an alarm that goes from a core state c to d:
--- d is a state that such an alarm can have;
--- its condition holds if it came, or if it held and didn't go;
--- a condition that comes makes it unacknowledged;
--- ACK acknowledges it;
--- nothing but ACK does;
--- what is acknowledged stays so until its condition comes;
--- what latches asks for the operator until it is reset;
--- RESET leaves it normal
+-- Eight sentences of an alarm that goes from a core state c to d.
+-- d is a state that such an alarm can have.
+-- Its condition holds if it came, or if it held and didn't go.
+-- A condition that comes makes it unacknowledged.
+-- ACK acknowledges it.
+-- Nothing but ACK does.
+-- What is acknowledged stays so until its condition comes.
+-- What latches asks for the operator until it is reset.
+-- RESET leaves it normal.
 abbrev pub meets_the_laws : Bool → Happening → Core → Core → Bool
 meets_the_laws latching h c d =
     suits latching d

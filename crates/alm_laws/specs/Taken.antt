@@ -15,8 +15,9 @@ use Rattle.alm_laws.specs.Left.{condition_left}
 use Rattle.alm_laws.specs.Plant.{asker_of}
 use Rattle.alm_laws.specs.Table.{same_bool}
 
--- what an alarm takes: a value that changes its condition; ACK if it is unacknowledged; RESET if it is latched and acknowledged; a
--- shelving of 1 second up to its longest if it isn't shelved; UNSHELVE if it is; another flag; another priority of 1 to 4; another setpoint
+-- What an alarm takes. A value that changes its condition; ACK if it is unacknowledged; RESET if it is latched and acknowledged.
+-- A shelving of 1 second up to its longest, if it isn't shelved; UNSHELVE if it is.
+-- Out of service or by design, if that changes; another priority of 1 to 4; another setpoint.
 abbrev pub is_taken : Action → Attr → State → Bool
 is_taken (Clock t) a s = true
 is_taken (Value i value) a s = not (same_bool (condition_left (Value i value) a s.active) s.active)

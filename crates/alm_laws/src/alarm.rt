@@ -76,7 +76,7 @@ pub fn shelving_is_the_operators()
         BeginsShelvingOnlyByShelve action s (row_left (outcome now stamp action a s)) }
 {}
 
-/// What is acknowledged asks for the operator anew only by an annunciation.
+/// What is acknowledged is unacknowledged again only by an annunciation.
 pub fn acknowledged_until_annunciated_again()
     ensures { (now stamp : ℕ) (action : Action) (a : Attr) (s : State) → TakesAction action a s → IsTrue (suits a.latching s.core) →
         is_unacknowledged s.core ≡ false → is_unacknowledged (row_left (outcome now stamp action a s)).core ≡ true →

@@ -1,4 +1,4 @@
-//! Laws of what is told and set: the time, the count, priorities and setpoints.
+//! Laws of what is set: the time, the count, priorities and setpoints.
 
 ghost use Rattle.std.specs.Prelude.{ℕ, ℤ, ◌+◌, ◌≤◌, ◌≡◌, true, Some, slice_get};
 ghost use Rattle.alm_types.specs.declared.alarm_id.AlarmId.{AlarmId};

@@ -24,7 +24,7 @@ pub fn an_active_alarm_is_listed()
         Contains (list_of (Area area) q) i → ⊥ }
 {}
 
-/// A list by stamp is the only one that rises by stamp and has just the alarms that belong to it; LIST and AREA tell it whole.
+/// A list by stamp is the only one that rises by stamp and has just the alarms that belong to it; LIST and AREA report all of it.
 pub fn the_laws_leave_one_list()
     ensures one { (q : Condensed) (list : Choice) (out : List ℕ) → KeepsRules q → is_by_stamp list ≡ true →
         (RisesByStamp q.panel out × HasJustThose q list out) ↔ (out ≡ list_of list q) }

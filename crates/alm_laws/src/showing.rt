@@ -11,8 +11,8 @@ ghost use Rattle.alm_model.specs.Plant.{Condensed};
 ghost use Rattle.alm_model.specs.Look.{look};
 ghost use Rattle.alm_laws.specs.Shown.{IsShownAsItIs, flags_shown};
 
-/// What is shown of an alarm is the only thing that answers seven questions as it does; STATE tells it with its condition, its flags
-/// and the end of its shelving.
+/// What is shown of an alarm is the only thing that answers seven questions as it does. STATE reports it, with its condition, its
+/// flags and the end of its shelving.
 pub fn an_alarm_is_shown_as_it_is()
     ensures one { (s : State) (x : Shown) → IsShownAsItIs s x ↔ (x ≡ shown_of s) }
     ensures told { (q : Condensed) (i : AlarmId) (s : State) → slice_get q.panel.rows i.0 ≡ Some s →

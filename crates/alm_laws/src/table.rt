@@ -19,7 +19,7 @@ ghost use Rattle.alm_laws.specs.Left.{IsLeft};
 ghost use Rattle.alm_laws.specs.Table.{can_happen, is_that, meets_the_laws};
 ghost use Rattle.alm_laws.specs.Taken.{is_taken, IsAcceptable};
 
-/// The table of the core states is the only one that meets eight sentences, and has a row just where something can happen.
+/// The table of the core states is the only one that meets eight sentences, and has a row exactly if something can happen.
 pub fn the_laws_leave_one_table()
     ensures rows { (latching : Bool) (h : Happening) (c : Core) → suits latching c ≡ true → is_some (next_core latching h c) ≡ can_happen h c }
     ensures one { (latching : Bool) (h : Happening) (c d : Core) → suits latching c ≡ true → is_some (next_core latching h c) ≡ true →
