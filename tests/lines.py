@@ -7,7 +7,7 @@ A drawn line follows the grammar, with numbers at their limits, and then often n
 lengthened, a space, a zero or a carriage return too many. The reading here is a page of regular expressions. It says which lines are
 bad or too long, and with which id they are refused; which roles may ask what; what a reply to a good line may look like. Where
 the line alone decides the refusal, it has to be that one. Each action has to be accepted in a run, and refused in each of its ways.
-Replies to PLANT and ATTR are what the accepted CLOCK, PRIO and SETP before them leave in force, to the byte.
+Each good line that this leaves open has to be answered as plain_plant.py answers it after the lines before, to the byte.
 """
 import multiprocessing
 import os
@@ -16,6 +16,7 @@ import re
 import sys
 import time
 
+from plain_plant import Plant
 from program import Wrong, begin, check, finish, run_words
 
 CHUNK = 20_000
@@ -29,11 +30,6 @@ ROLES = [*[CONSOLE] * 16, FEED, CLOCK]
 ACTIONS = {**CONSOLE, **FEED, **CLOCK}
 # Refusals that a line decides alone.
 BESIDES = {b"PRIO": b"19"}
-# Of the worked table: kinds, setpoints, deadbands, priorities, areas, longest shelvings, latching and tags.
-ATTRIBUTES = [["HIGH", 800, 10, 1, 0, 3600, "OFF", "TI-101"], ["LOW", 100, 5, 2, 0, 3600, "OFF", "PI-102"], ["DISCRETE", 1, 0, 1, 1, 0, "ON", "XS-201"],
-              ["HIGH", 50, 0, 3, 1, 0, "OFF", "LI-202"]]
-SETPOINT, PRIORITY = 1, 3
-AREAS = 2
 # Priorities, the alarm that latches, those that may be shelved, and for how long.
 RANKS, LATCHING, SHELVABLE, SECONDS = range(1, 5), (2,), (0, 1), range(1, 3601)
 
@@ -147,30 +143,10 @@ def read_query(word, found):
     return word + rb" \d+ (?:0|1 [0-3]|2(?: [0-3]){2}|3(?: [0-3]){3}|4(?: [0-3]){4})"
 
 
-class InForce:
-    """The moment, the count and the attributes that the accepted lines leave in force."""
-
-    def __init__(self):
-        self.moment, self.count = 0, 0
-        self.attributes = [list(attributes) for attributes in ATTRIBUTES]
-
-    def replies_as_it_should(self, line, reply):
-        """Whether a reply to PLANT or ATTR tells what is in force; what another line changes is kept."""
-        asked, told = line.split(b" ")[2:], reply.split(b" ")[2:]
-        if told[0] == b"OK":
-            self.accept(asked)
-        if told[0] == b"PLANT":
-            return told == f"PLANT {self.count} {self.moment} {len(self.attributes)} {AREAS}".encode().split()
-        if told[0] == b"ATTR":
-            return told == " ".join(str(word) for word in ["ATTR", self.count, *self.attributes[int(asked[1])]]).encode().split()
-        return True
-
-    def accept(self, asked):
-        self.count += 1
-        if asked[0] == b"CLOCK":
-            self.moment = int(asked[1])
-        if asked[0] in (b"PRIO", b"SETP"):
-            self.attributes[int(asked[1])][PRIORITY if asked[0] == b"PRIO" else SETPOINT] = int(asked[2])
+def is_as_modelled(plant, line, reply):
+    """Whether a reply to a good line is the model's. Refusals by slot, number of alarm or of list are read from the line alone."""
+    asked, told = line.decode().split(" ")[2:], reply.decode().split(" ", 2)[2]
+    return told in ("NO 11", "NO 1", "NO 17") or told == plant.answer(asked)
 
 
 def draw_number(dice):
@@ -247,14 +223,14 @@ def try_chunk(job):
         check(run.returncode == 0 and run.stderr == b"", seed, run.returncode, run.stderr)
         replies = run.stdout.split(b"\n")
         check(len(replies) == CHUNK + 1, seed, len(replies))
-        good, seen, in_force = 0, set(), InForce()
+        good, seen, plant = 0, set(), Plant()
         for line, reply in zip(lines, replies):
             wanted = read(line)
             check(re.fullmatch(wanted, reply), seed, line, "was answered", reply, "and not", wanted)
             if not wanted.endswith((b"NO 13", b"NO 14")):
                 good += 1
                 seen.add(outcome(line, reply))
-                check(in_force.replies_as_it_should(line, reply), seed, line, "was answered", reply, "with", vars(in_force), "in force")
+                check(is_as_modelled(plant, line, reply), seed, line, "was answered", reply, "in the state of", vars(plant))
         return good, seen
     except Wrong as wrong:
         return str(wrong)
