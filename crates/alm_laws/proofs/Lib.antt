@@ -10,6 +10,8 @@ pub mod Moved
 pub mod Moving
 pub mod OneTable
 pub mod Plants
+pub mod Queries
 pub mod Shown
 pub mod Stamping
+pub mod Sums
 pub mod Taken

@@ -16,11 +16,11 @@ use Rattle.alm_state.specs.declared.outcome.Outcome.{Outcome}
 use Rattle.alm_state.specs.declared.outcome.Outcome.TheVariants.{Changed, Annunciated, Shelved}
 use Rattle.alm_model.specs.Plant.{Condensed}
 use Rattle.alm_model.specs.Keeping.{in_brief}
-use Rattle.alm_model.specs.Lists.{list_of, alarms, stands_in, is_one, passes, is_old, moments_in, due}
+use Rattle.alm_model.specs.Lists.{list_of, alarms, stands_in, is_one, passes, is_old, is_frequent, moments_in, due}
 use Rattle.alm_model.specs.Step.{with_outcome, with_touched_alarm, touch, unshelve, later, with_effect, with_one_more, step, settled_floods, is_flood}
-use Rattle.alm_model.specs.declared.list.List.TheVariants.{Stale}
+use Rattle.alm_model.specs.declared.list.List.TheVariants.{Stale, Chatter}
 use Rattle.alm_model.proofs.Members.{Has-from, Contains-from, Has-filter, filter-Has, Has-range}
-use Rattle.alm_laws.specs.Listed.{IsStale, is_flooded}
+use Rattle.alm_laws.specs.Listed.{IsStale, is_flooded, in_last_minute}
 use Rattle.alm_laws.specs.Plant.{IsAlarmOf}
 use Rattle.alm_laws.proofs.Moving.{ending}
 
@@ -54,6 +54,21 @@ module _ (q : Condensed) (i : ℕ) (a : Attr) (s : State) (h : IsAlarmOf q i a s
 
 pub stale-so : (q : Condensed) (i : ℕ) (a : Attr) (s : State) → IsAlarmOf q i a s → Contains (list_of Stale q) i ↔ IsStale q i s
 stale-so q i a s h = (stale-there q i a s h, stale-in q i a s h)
+
+-- ---- chattering alarms
+
+chatter-one : (q : Condensed) (i : ℕ) (a : Attr) (s : State) → IsAlarmOf q i a s → is_one (stands_in Chatter) q.panel.attrs q.panel.rows i ≡ true
+chatter-one q i a s h = ap (λ o. passes (stands_in Chatter) o (slice_get q.panel.rows i)) h.attr ∙ ap (passes (stands_in Chatter) (Some a)) h.row
+
+pub chatter-so : (q : Condensed) (i : ℕ) (a : Attr) (s : State) (ms : List ℕ) → IsAlarmOf q i a s → slice_get q.kept.moments i ≡ Some ms → Contains (list_of Chatter q) i ↔ (3 ≤ in_last_minute q.panel.now ms)
+chatter-so q i a s ms h e =
+    let test : ℕ → Bool = λ j. is_frequent q.panel.now (moments_in (slice_get q.kept.moments j)) in
+    let here : test i ≡ is_frequent q.panel.now ms = ap (λ o. is_frequent q.panel.now (moments_in o)) e in
+    let within : i < length q.panel.rows = slice_get_within q.panel.rows i s h.row in
+    let inner = Has-filter (is_one (stands_in Chatter) q.panel.attrs q.panel.rows) i (range_with_len 0 (length q.panel.rows)) (Has-range i 0 (length q.panel.rows) (omega arith) (omega (arith, within))) (chatter-one q i a s h) in (
+      λ has. leb-true 3 (in_last_minute q.panel.now ms) (sym here ∙ (filter-Has test i (alarms (stands_in Chatter) q.panel.attrs q.panel.rows) (Has-from i (list_of Chatter q) has)).1),
+      λ l. Contains-from i (list_of Chatter q) (Has-filter test i (alarms (stands_in Chatter) q.panel.attrs q.panel.rows) inner (here ∙ le-leb 3 (in_last_minute q.panel.now ms) l)),
+    )
 
 -- ---- floods
 

@@ -1,5 +1,5 @@
 -- Which alarms belong to a list.
-use Rattle.std.specs.Prelude.{◌≡◌, ◌↔◌, ℕ, ◌+◌, ◌≤◌, ◌%◌, List, ◌∷◌, Bool, true, Some, ◌&&◌, ◌||◌, nat_lt, nat_le, slice_get, Contains}
+use Rattle.std.specs.Prelude.{◌≡◌, ◌↔◌, ℕ, ◌+◌, ◌≤◌, ◌%◌, List, ◌∷◌, Bool, true, Some, ◌&&◌, ◌||◌, nat_lt, nat_le, filter, length, slice_get, Contains}
 use Rattle.alm_types.specs.declared.attr.Attr.{Attr}
 use Rattle.alm_state.specs.Rows.{State, is_annunciated}
 use Rattle.alm_model.specs.Plant.{Condensed}
@@ -32,3 +32,11 @@ IsStale q i s =
 -- an area is flooded: its window is above 10, or it was flooded and the window isn't below 5
 abbrev pub is_flooded : ℕ → Bool → Bool
 is_flooded window before = nat_lt 10 window || before && nat_le 5 window
+
+-- an alarm that asks for the operator
+abbrev pub asks_for_operator : Attr → State → Bool
+asks_for_operator a s = is_annunciated s.core
+
+-- annunciations of the last minute
+abbrev pub in_last_minute : ℕ → List ℕ → ℕ
+in_last_minute now moments = length (filter (λ m. nat_lt now (m + 60)) moments)

@@ -1,21 +1,22 @@
 //! Laws of the lists.
 
-ghost use Rattle.std.specs.Prelude.{ℕ, List, Bool, sum, ◌≡◌, ◌↔◌, ◌≤◌, ◌<◌, true, false, Some, Ok, slice_get, length, Contains};
+ghost use Rattle.std.specs.Prelude.{ℕ, List, Bool, sum, map, ◌+◌, ◌≡◌, ◌↔◌, ◌≤◌, ◌<◌, true, false, Some, Ok, slice_get, length, Contains};
 ghost use Rattle.alm_types.specs.declared.attr.Attr.{Attr};
 ghost use Rattle.alm_types.specs.declared.action.Action.{Action};
 ghost use Rattle.alm_types.specs.declared.query.Query.TheVariants as query;
 ghost use Rattle.alm_types.specs.Reports.{alarms};
 ghost use Rattle.alm_state.specs.Rows.{State, is_suppressed};
 ghost use Rattle.alm_model.specs.Plant.{Condensed};
-ghost use Rattle.alm_model.specs.Lists.{list_of};
+ghost use Rattle.alm_model.specs.Lists.{list_of, alarms as annunciated};
+ghost use Rattle.std.specs.List.{range_with_len};
 ghost use Rattle.alm_model.specs.Look.{look};
 ghost use Rattle.alm_model.specs.Rising.{RisesByStamp, is_by_stamp};
 ghost use Rattle.alm_model.specs.Rules.{KeepsRules};
 ghost use Rattle.alm_model.specs.Step.{step};
 ghost use Rattle.alm_model.specs.declared.list.List.{List as Choice};
-ghost use Rattle.alm_model.specs.declared.list.List.TheVariants.{Priority, Area, Stale};
+ghost use Rattle.alm_model.specs.declared.list.List.TheVariants.{Priority, Area, Stale, Chatter};
 ghost use Rattle.alm_laws.specs.Plant.{IsAlarmOf};
-ghost use Rattle.alm_laws.specs.Listed.{HasJustThose, IsFound, IsStale, is_flooded};
+ghost use Rattle.alm_laws.specs.Listed.{HasJustThose, IsFound, IsStale, is_flooded, asks_for_operator, in_last_minute};
 
 /// No active alarm is hidden: without a flag it is in the list of its priority and in that of its area. A suppressed one is in none.
 pub fn an_active_alarm_is_listed()
@@ -41,4 +42,18 @@ pub fn a_stale_alarm_is_listed()
 pub fn a_flood_begins_and_ends_by_its_window()
     ensures { (q : Condensed) (action : Action) (area : ℕ) (ages : List ℕ) (before : Bool) → slice_get (step q action).kept.ages area ≡ Some ages →
         slice_get q.floods area ≡ Some before → slice_get (step q action).floods area ≡ Some (is_flooded (sum ages) before) }
+{}
+
+/// CHATTER has just the alarms with three annunciations or more within the last minute.
+pub fn a_chattering_alarm_is_listed()
+    ensures { (q : Condensed) (i : ℕ) (a : Attr) (s : State) (moments : List ℕ) → IsAlarmOf q i a s → slice_get q.kept.moments i ≡ Some moments →
+        Contains (list_of Chatter q) i ↔ (3 ≤ in_last_minute q.panel.now moments) }
+{}
+
+/// The lists by priority together have each annunciated alarm once, and so have those by area.
+pub fn the_lists_add_up()
+    ensures priorities { (q : Condensed) → length (list_of (Priority 1) q) + length (list_of (Priority 2) q) + length (list_of (Priority 3) q)
+        + length (list_of (Priority 4) q) ≡ length (annunciated asks_for_operator q.panel.attrs q.panel.rows) }
+    ensures areas { (q : Condensed) → KeepsRules q → sum (map (λ n. length (list_of (Area n) q)) (range_with_len 0 (length q.floods))) ≡
+        length (annunciated asks_for_operator q.panel.attrs q.panel.rows) }
 {}

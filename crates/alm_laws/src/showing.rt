@@ -1,14 +1,18 @@
 //! Laws of what is shown of an alarm.
 
-ghost use Rattle.std.specs.Prelude.{◌≡◌, ◌↔◌, Some, Ok, slice_get};
+ghost use Rattle.std.specs.Prelude.{◌≡◌, ◌↔◌, ℕ, Bool, List, Some, None, Ok, Err, slice_get, sum, length};
 ghost use Rattle.alm_types.specs.declared.alarm_id.AlarmId.{AlarmId};
-ghost use Rattle.alm_types.specs.declared.query.Query.TheVariants.{State as StateOf};
+ghost use Rattle.alm_types.specs.declared.attr.Attr.{Attr};
+ghost use Rattle.alm_types.specs.declared.query.Query.TheVariants as query;
+ghost use Rattle.alm_types.specs.declared.refusal.Refusal.TheVariants.{NoSuchAlarm};
 ghost use Rattle.alm_types.specs.declared.shown.Shown.{Shown};
-ghost use Rattle.alm_types.specs.Reports.{alarm};
+ghost use Rattle.alm_types.specs.Reports.{alarm, alarms, flood, plant, attributes};
 ghost use Rattle.alm_state.specs.Rows.{State};
 ghost use Rattle.alm_state.specs.Showing.{shown_of};
 ghost use Rattle.alm_model.specs.Plant.{Condensed};
+ghost use Rattle.alm_model.specs.Lists.{list_of};
 ghost use Rattle.alm_model.specs.Look.{look};
+ghost use Rattle.alm_model.specs.declared.list.List.TheVariants.{Stale, Chatter};
 ghost use Rattle.alm_laws.specs.Shown.{IsShownAsItIs, flags_shown};
 
 /// What is shown of an alarm is the only thing that answers seven questions as it does. STATE reports it, with its condition, its
@@ -16,5 +20,17 @@ ghost use Rattle.alm_laws.specs.Shown.{IsShownAsItIs, flags_shown};
 pub fn an_alarm_is_shown_as_it_is()
     ensures one { (s : State) (x : Shown) → IsShownAsItIs s x ↔ (x ≡ shown_of s) }
     ensures told { (q : Condensed) (i : AlarmId) (s : State) → slice_get q.panel.rows i.0 ≡ Some s →
-        look q (StateOf i) ≡ Ok (alarm (shown_of s) s.active (flags_shown s) s.shelved_until) }
+        look q (query.State i) ≡ Ok (alarm (shown_of s) s.active (flags_shown s) s.shelved_until) }
+{}
+
+/// FLOOD reports the window and the flag of an area, PLANT the moment and the sizes, ATTR the attributes in force, STALE and CHATTER all of
+/// their lists. STATE of an alarm that isn't there is refused.
+pub fn queries_report_the_plant()
+    ensures flood { (q : Condensed) (area : ℕ) (ages : List ℕ) (on : Bool) → slice_get q.kept.ages area ≡ Some ages → slice_get q.floods area ≡ Some on →
+        look q (query.Flood area) ≡ Ok (flood (sum ages) on) }
+    ensures plant { (q : Condensed) → look q query.Plant ≡ Ok (plant q.panel.now (length q.panel.rows) (length q.floods)) }
+    ensures attributes { (q : Condensed) (i : AlarmId) (a : Attr) → slice_get q.panel.attrs i.0 ≡ Some a → look q (query.Attributes i) ≡ Ok (attributes (Some a)) }
+    ensures stale { (q : Condensed) → look q query.Stale ≡ Ok (alarms (list_of Stale q)) }
+    ensures chatter { (q : Condensed) → look q query.Chatter ≡ Ok (alarms (list_of Chatter q)) }
+    ensures refused { (q : Condensed) (i : AlarmId) → slice_get q.panel.rows i.0 ≡ None → look q (query.State i) ≡ Err NoSuchAlarm }
 {}
