@@ -139,7 +139,7 @@ def claims(found):
 def laws(found):
     """Each law of the alarm model stands on docs/ALARMS.md, and each word in code on that page that reads as one is a law."""
     every = {law for path in TOP.glob("crates/alm_laws/src/*.rt") for law in LAW.findall(text_of(path))}
-    page = set(re.findall(r"`([a-z_]+)`", text_of(TOP / "docs" / "ALARMS.md")))
+    page = set(re.findall(r"`([a-z_0-9]+)`", text_of(TOP / "docs" / "ALARMS.md")))
     found.check(page == every, "docs/ALARMS.md and the laws of alm_laws differ in", " ".join(sorted(page ^ every)))
 
 

@@ -32,7 +32,7 @@ use Rattle.alm_laws.proofs.Moving.{ending, touch-here, touch-other, touch-attrs,
 
 -- ---- the time and the count
 
-fold-now : (list : List ℕ) (q : Condensed) → (fold (unshelve in_brief) q list).panel.now ≡ q.panel.now
+pub fold-now : (list : List ℕ) (q : Condensed) → (fold (unshelve in_brief) q list).panel.now ≡ q.panel.now
 fold-now [] q = refl
 fold-now (j ∷ list) q = fold-now list (unshelve in_brief q j) ∙ (touch-keeps q j (ending q)).0
 
@@ -81,7 +81,7 @@ freed-cases n t true y e = absurd (true≢false (sym e))
 freed-cases n t false true e = (refl, refl)
 freed-cases n t false false e = absurd (true≢false (sym e))
 
-freed : (n : ℕ) (s : State) → is_annunciated (row_left (without_shelving n s)).core ≡ true → (annunciates (without_shelving n s) ≡ true) × ((row_left (without_shelving n s)).stamp ≡ n)
+pub freed : (n : ℕ) (s : State) → is_annunciated (row_left (without_shelving n s)).core ≡ true → (annunciates (without_shelving n s) ≡ true) × ((row_left (without_shelving n s)).stamp ≡ n)
 freed n s e = freed-cases n (record s { shelved_until = None }) (is_suppressed (record s { shelved_until = None })) s.active e
 
 put-next : (q : Condensed) (i : ℕ) (o : Outcome) → annunciates o ≡ true → (with_outcome in_brief q i o).panel.next_stamp ≡ q.panel.next_stamp + 1

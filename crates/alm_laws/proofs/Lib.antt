@@ -1,7 +1,9 @@
 pub mod AlarmLaws
 pub mod Asking
+pub mod Chronic
 pub mod Clocked
 pub mod Condition
+pub mod Flooded
 pub mod Heard
 pub mod Left
 pub mod Listing

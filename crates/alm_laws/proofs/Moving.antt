@@ -28,12 +28,12 @@ use Rattle.alm_model.proofs.Stamps.{get-set-same, get-set-other}
 
 -- ---- one alarm is touched
 
-put-here : (q : Condensed) (i : ℕ) (s : State) (o : Outcome) → slice_get q.panel.rows i ≡ Some s → slice_get (with_outcome in_brief q i o).panel.rows i ≡ Some (row_left o)
+pub put-here : (q : Condensed) (i : ℕ) (s : State) (o : Outcome) → slice_get q.panel.rows i ≡ Some s → slice_get (with_outcome in_brief q i o).panel.rows i ≡ Some (row_left o)
 put-here q i s (Changed t) e = get-set-same q.panel.rows i s t e
 put-here q i s (Annunciated t) e = get-set-same q.panel.rows i s t e
 put-here q i s (Shelved t) e = get-set-same q.panel.rows i s t e
 
-put-other : (q : Condensed) (i j : ℕ) (o : Outcome) → i ≢ j → slice_get (with_outcome in_brief q i o).panel.rows j ≡ slice_get q.panel.rows j
+pub put-other : (q : Condensed) (i j : ℕ) (o : Outcome) → i ≢ j → slice_get (with_outcome in_brief q i o).panel.rows j ≡ slice_get q.panel.rows j
 put-other q i j (Changed t) d = get-set-other q.panel.rows i j t d
 put-other q i j (Annunciated t) d = get-set-other q.panel.rows i j t d
 put-other q i j (Shelved t) d = get-set-other q.panel.rows i j t d
@@ -167,6 +167,7 @@ pub record AlarmAt (q : Condensed) (i : ℕ) (s : State) : Type 0 where
   pub attr : Attr
   pub has : slice_get q.panel.attrs i ≡ Some attr
   pub moments : List ℕ
+  pub recorded : slice_get q.kept.moments i ≡ Some moments
   pub keeps : IsAlarm q.panel.now q.panel.next_stamp attr s moments
 
 pub alarm-at : (q : Condensed) (i : ℕ) (s : State) → KeepsRules q → slice_get q.panel.rows i ≡ Some s → AlarmAt q i s
@@ -174,7 +175,7 @@ alarm-at q i s h e =
     let inside = slice_get_within q.panel.rows i s e in
     let a = there q.panel.attrs i (let r = h.attrs in omega arith) in
     let ms = there q.kept.moments i (let r = h.recent in omega arith) in
-    record { attr = a.0; has = a.1; moments = ms.0; keeps = h.alarms i a.0 s ms.0 a.1 e ms.1 }
+    record { attr = a.0; has = a.1; moments = ms.0; recorded = ms.1; keeps = h.alarms i a.0 s ms.0 a.1 e ms.1 }
 
 pub own-first : (own last : Option Refusal) → or_else own last ≡ None → own ≡ None
 own-first None last h = refl

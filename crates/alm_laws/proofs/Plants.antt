@@ -82,7 +82,7 @@ or-second true c d e f = refl
 or-second false c d e f = rw (e, f) refl
 
 -- a row that asks for the operator without being annunciated again keeps its stamp
-outcome-stamp : (a : Attr) (now stamp : ℕ) (s : State) (o : Outcome) → IsOutcome a now stamp s o → annunciates o ≡ false → is_annunciated (row_left o).core ≡ true → (row_left o).stamp ≡ s.stamp
+pub outcome-stamp : (a : Attr) (now stamp : ℕ) (s : State) (o : Outcome) → IsOutcome a now stamp s o → annunciates o ≡ false → is_annunciated (row_left o).core ≡ true → (row_left o).stamp ≡ s.stamp
 outcome-stamp a now stamp s (Changed t) good e loud = elim good.stamp [
   | inl same ↦ same
   | inr zero ↦ (let some : 0 < t.stamp = good.state.stamped.0 (rw loud refl) in absurd (omega (arith, some, zero)))

@@ -1,5 +1,5 @@
 -- Which alarms belong to a list.
-use Rattle.std.specs.Prelude.{◌≡◌, ◌↔◌, ℕ, ◌+◌, ◌≤◌, ◌%◌, List, ◌∷◌, Bool, true, Some, ◌&&◌, ◌||◌, nat_lt, nat_le, filter, length, slice_get, Contains}
+use Rattle.std.specs.Prelude.{◌≡◌, ◌↔◌, ℕ, ◌+◌, ◌≤◌, ◌%◌, List, ◌∷◌, Bool, true, Some, ◌&&◌, ◌||◌, nat_lt, nat_le, filter, length, slice_get, Contains, ◌<◌}
 use Rattle.alm_types.specs.declared.attr.Attr.{Attr}
 use Rattle.alm_state.specs.Rows.{State, is_annunciated}
 use Rattle.alm_model.specs.Plant.{Condensed}
@@ -40,3 +40,10 @@ asks_for_operator a s = is_annunciated s.core
 -- annunciations of the last minute
 abbrev pub in_last_minute : ℕ → List ℕ → ℕ
 in_last_minute now moments = length (filter (λ m. nat_lt now (m + 60)) moments)
+
+-- of two alarms that ask for the operator, the one with the smaller stamp has the earlier last annunciation, or one of the same moment
+abbrev pub IsChronological : Condensed → Type 0
+IsChronological q =
+    (i j : ℕ) (s u : State) (m n : ℕ) (ms ns : List ℕ) → slice_get q.panel.rows i ≡ Some s → slice_get q.panel.rows j ≡ Some u
+    → slice_get q.kept.moments i ≡ Some (m ∷ ms) → slice_get q.kept.moments j ≡ Some (n ∷ ns)
+    → is_annunciated s.core ≡ true → is_annunciated u.core ≡ true → s.stamp < u.stamp → m ≤ n

@@ -12,7 +12,7 @@
 //! | [`table::taken_just_then`] | a request is accepted exactly if its slot may ask, the alarm takes it, and action numbers are left |
 //! | [`plant::each_alarm_is_left_by_the_laws`] | the alarm that is named, those whose shelving ends, and all others, which stay |
 //! | [`showing::an_alarm_is_shown_as_it_is`] | what is shown of an alarm is the only thing that answers seven questions as it does |
-//! | [`lists::the_laws_leave_one_list`] and those next to it | a list has just its alarms, by stamp; no active alarm is hidden; stale and chattering alarms, floods |
+//! | [`lists::the_laws_leave_one_list`] and those next to it | a list has just its alarms, in order of time; no active alarm is hidden; the lists add up; stale and chattering alarms, floods |
 //! | [`plant::nobody_acknowledges_for_the_operator`] | an alarm leaves the unacknowledged states by a console's ACK, or by a flag that is set |
 //! | [`plant::latched_stays_until_reset`] | a latched alarm becomes normal by a console's RESET, or by a flag that is set |
 //! | [`plant::a_latching_alarm_ends_only_by_reset`] | a latching alarm that asks for the operator ends so too, also after ACK and return |

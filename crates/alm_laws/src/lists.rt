@@ -11,12 +11,15 @@ ghost use Rattle.alm_model.specs.Lists.{list_of, alarms as annunciated};
 ghost use Rattle.std.specs.List.{range_with_len};
 ghost use Rattle.alm_model.specs.Look.{look};
 ghost use Rattle.alm_model.specs.Rising.{RisesByStamp, is_by_stamp};
-ghost use Rattle.alm_model.specs.Rules.{KeepsRules};
-ghost use Rattle.alm_model.specs.Step.{step};
+ghost use Rattle.alm_types.specs.Tables.{Listing, IsTable};
+ghost use Rattle.alm_model.specs.New.{new_plant};
+ghost use Rattle.alm_model.specs.Rules.{KeepsRules, AreAdmitted};
+ghost use Rattle.alm_model.specs.Step.{step, run};
 ghost use Rattle.alm_model.specs.declared.list.List.{List as Choice};
 ghost use Rattle.alm_model.specs.declared.list.List.TheVariants.{Priority, Area, Stale, Chatter};
 ghost use Rattle.alm_laws.specs.Plant.{IsAlarmOf};
-ghost use Rattle.alm_laws.specs.Listed.{HasJustThose, IsFound, IsStale, is_flooded, asks_for_operator, in_last_minute};
+ghost use Rattle.alm_laws.specs.Floods.{flag_of, windows_after, HoldsSinceAbove10};
+ghost use Rattle.alm_laws.specs.Listed.{HasJustThose, IsFound, IsStale, is_flooded, asks_for_operator, in_last_minute, IsChronological};
 
 /// No active alarm is hidden: without a flag it is in the list of its priority and in that of its area. A suppressed one is in none.
 pub fn an_active_alarm_is_listed()
@@ -56,4 +59,15 @@ pub fn the_lists_add_up()
         + length (list_of (Priority 4) q) ≡ length (annunciated asks_for_operator q.panel.attrs q.panel.rows) }
     ensures areas { (q : Condensed) → KeepsRules q → sum (map (λ n. length (list_of (Area n) q)) (range_with_len 0 (length q.floods))) ≡
         length (annunciated asks_for_operator q.panel.attrs q.panel.rows) }
+{}
+
+/// After any actions from a new plant on, of two alarms in a list by stamp the upper one's last annunciation is no later.
+pub fn lists_are_chronological()
+    ensures { (t : Listing) (actions : List Action) → IsTable t → AreAdmitted (new_plant t) actions → IsChronological (run (new_plant t) actions) }
+{}
+
+/// After any actions an area without a flood is flooded exactly if its window was above 10 after one of them, and not below 5 after any since.
+pub fn a_flood_lasts_from_above_10_to_below_5()
+    ensures { (q : Condensed) (actions : List Action) (area : ℕ) → KeepsRules q → AreAdmitted q actions → slice_get q.floods area ≡ Some false →
+        (flag_of (run q actions) area ≡ true) ↔ HoldsSinceAbove10 (windows_after q actions area) }
 {}
