@@ -191,7 +191,7 @@ run-chronological : (q : Condensed) (actions : List Action) → KeepsRules q →
 run-chronological q [] h all so = so
 run-chronological q (a ∷ actions) h all so = run-chronological (step q a) actions (step-keeps q a h all.0 all.1) all.2 (step-chronological q a h all.1 so)
 
-same-replicate : {A : Type 0} (n i : ℕ) (x y : A) → slice_get (replicate n x) i ≡ Some y → x ≡ y
+pub same-replicate : {A : Type 0} (n i : ℕ) (x y : A) → slice_get (replicate n x) i ≡ Some y → x ≡ y
 same-replicate zero i x y e = absurd (none-some _ e)
 same-replicate (suc n) zero x y e = same_Some _ _ e
 same-replicate (suc n) (suc i) x y e = same-replicate n i x y e

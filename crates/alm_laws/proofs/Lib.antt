@@ -1,8 +1,10 @@
 pub mod AlarmLaws
 pub mod Asking
+pub mod Begun
 pub mod Chronic
 pub mod Clocked
 pub mod Condition
+pub mod Counting
 pub mod Flooded
 pub mod Heard
 pub mod Left

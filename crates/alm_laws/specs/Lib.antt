@@ -1,5 +1,6 @@
 pub mod Alarm
 pub mod Clock
+pub mod Counts
 pub mod Floods
 pub mod Left
 pub mod Listed

@@ -7,6 +7,7 @@ use Rattle.alm_types.specs.declared.action.Action.TheVariants.{Clock, Shelve, Un
 use Rattle.alm_types.specs.declared.request.Request.{Request}
 use Rattle.alm_types.specs.Actions.{alarm_of}
 use Rattle.alm_state.specs.Rows.{State, is_annunciated}
+use Rattle.alm_state.specs.declared.core_state.Core.TheVariants.{Normal}
 use Rattle.alm_state.specs.declared.outcome.Outcome.{Outcome}
 use Rattle.alm_model.specs.Plant.{Condensed}
 use Rattle.alm_laws.specs.Alarm.{row_left, resets, shelves}
@@ -45,3 +46,12 @@ ShelvedAsAsked q r i s t =
 -- the other flags of the alarm that is named are as they were asked
 abbrev pub FlaggedAsAsked : Request → ℕ → State → State → Type 0
 FlaggedAsAsked r i s t = Names r.want i → (t.by_design ≡ design_left r.want s.by_design) × (t.out_of_service ≡ service_left r.want s.out_of_service)
+
+-- an alarm without a condition, a flag or a stamp
+pub record IsAtRest (s : State) : Type 0 where
+  pub inactive : s.active ≡ false
+  pub normal : s.core ≡ Normal
+  pub unshelved : s.shelved_until ≡ None
+  pub by_design : s.by_design ≡ false
+  pub in_service : s.out_of_service ≡ false
+  pub unstamped : s.stamp ≡ 0

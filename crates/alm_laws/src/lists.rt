@@ -12,12 +12,14 @@ ghost use Rattle.std.specs.List.{range_with_len};
 ghost use Rattle.alm_model.specs.Look.{look};
 ghost use Rattle.alm_model.specs.Rising.{RisesByStamp, is_by_stamp};
 ghost use Rattle.alm_types.specs.Tables.{Listing, IsTable};
+ghost use Rattle.alm_model.specs.Counted.{new_whole, run_whole};
 ghost use Rattle.alm_model.specs.New.{new_plant};
 ghost use Rattle.alm_model.specs.Rules.{KeepsRules, AreAdmitted};
 ghost use Rattle.alm_model.specs.Step.{step, run};
 ghost use Rattle.alm_model.specs.declared.list.List.{List as Choice};
 ghost use Rattle.alm_model.specs.declared.list.List.TheVariants.{Priority, Area, Stale, Chatter};
 ghost use Rattle.alm_laws.specs.Plant.{IsAlarmOf};
+ghost use Rattle.alm_laws.specs.Counts.{annunciated_within, last_three};
 ghost use Rattle.alm_laws.specs.Floods.{flag_of, windows_after, HoldsSinceAbove10};
 ghost use Rattle.alm_laws.specs.Listed.{HasJustThose, IsFound, IsStale, is_flooded, asks_for_operator, in_last_minute, IsChronological};
 
@@ -70,4 +72,13 @@ pub fn lists_are_chronological()
 pub fn a_flood_lasts_from_above_10_to_below_5()
     ensures { (q : Condensed) (actions : List Action) (area : ℕ) → KeepsRules q → AreAdmitted q actions → slice_get q.floods area ≡ Some false →
         (flag_of (run q actions) area ≡ true) ↔ HoldsSinceAbove10 (windows_after q actions area) }
+{}
+
+/// After any actions from a new plant on, the window of FLOOD is the number of the area's annunciations within the last 600 seconds.
+/// The moments that STALE and CHATTER go by are the alarm's last three.
+pub fn measures_count_every_annunciation()
+    ensures windows { (t : Listing) (actions : List Action) (area : ℕ) (ages : List ℕ) → IsTable t → AreAdmitted (new_plant t) actions →
+        slice_get (run (new_plant t) actions).kept.ages area ≡ Some ages → sum ages ≡ annunciated_within 600 (run_whole (new_whole t) actions) area }
+    ensures moments { (t : Listing) (actions : List Action) (i : ℕ) (moments : List ℕ) → IsTable t → AreAdmitted (new_plant t) actions →
+        slice_get (run (new_plant t) actions).kept.moments i ≡ Some moments → moments ≡ last_three (run_whole (new_whole t) actions) i }
 {}

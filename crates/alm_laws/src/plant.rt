@@ -1,6 +1,6 @@
 //! Laws of the alarms of a plant.
 
-ghost use Rattle.std.specs.Prelude.{ℕ, ◌+◌, ◌<◌, ◌≤◌, List, ◌≡◌, true, Some, slice_get, Contains};
+ghost use Rattle.std.specs.Prelude.{ℕ, ◌+◌, ◌<◌, ◌≤◌, List, Bool, ◌≡◌, true, false, Some, slice_get, Contains};
 ghost use Rattle.alm_types.specs.declared.attr.Attr.{Attr};
 ghost use Rattle.alm_types.specs.declared.action.Action.{Action};
 ghost use Rattle.alm_state.specs.Rows.{is_suppressed};
@@ -8,12 +8,23 @@ ghost use Rattle.alm_state.specs.declared.core_state.Core.TheVariants.{Normal};
 ghost use Rattle.alm_model.specs.Lists.{list_of};
 ghost use Rattle.alm_model.specs.Rules.{KeepsRules, AreAdmitted};
 ghost use Rattle.alm_model.specs.Step.{run};
-ghost use Rattle.alm_laws.specs.Moved.{LeftByItsAction, LeftByTheClock, EndsOnlyByReset, ShelvedAsAsked, FlaggedAsAsked};
+ghost use Rattle.alm_laws.specs.Moved.{LeftByItsAction, LeftByTheClock, EndsOnlyByReset, ShelvedAsAsked, FlaggedAsAsked, IsAtRest};
+ghost use Rattle.alm_types.specs.Tables.{Listing};
+ghost use Rattle.alm_model.specs.New.{new_plant};
 ghost use Rattle.alm_model.specs.declared.list.List.TheVariants.{Priority};
 ghost use Rattle.alm_types.specs.declared.request.Request.{Request};
 ghost use Rattle.alm_state.specs.Rows.{State};
 ghost use Rattle.alm_model.specs.Plant.{Condensed};
 ghost use Rattle.alm_laws.specs.Plant.{Becomes, IsAlarmOf, IsAcknowledgedByConsoleOrFlag, IsResetByConsoleOrFlag, ShelvingEndsOnlyByUnshelveOrClock, ClockEndsTheShelving, FreedIsAnnunciatedAnew, AnnunciatedOnlyThen, OthersStay};
+
+/// In a new plant each alarm is normal and has no flag, no area is flooded, and the moment and the count are 0.
+pub fn a_new_plant_is_at_rest()
+    ensures alarms { (t : Listing) (i : ℕ) (s : State) → slice_get (new_plant t).panel.rows i ≡ Some s → IsAtRest s }
+    ensures floods { (t : Listing) (area : ℕ) (flag : Bool) → slice_get (new_plant t).floods area ≡ Some flag → flag ≡ false }
+    ensures moment { (t : Listing) → (new_plant t).panel.now ≡ 0 }
+    ensures count { (t : Listing) → (new_plant t).panel.count ≡ 0 }
+    ensures attributes { (t : Listing) → (new_plant t).panel.attrs ≡ t.alarms }
+{}
 
 /// Only the operator acknowledges.
 pub fn nobody_acknowledges_for_the_operator()
