@@ -1,16 +1,17 @@
-"""A plain model of the worked table's alarms, by docs/PROTOCOL.md: what each good line of a desk is answered. A part of lines.py.
+"""A plain model of the worked table's alarms, by docs/PROTOCOL.md: what each good line of a desk is answered.
 
-It has no table of states. An alarm has a condition, it is unacknowledged or not, and it asks for the operator or not; its word follows.
+A part of lines.py. It has no table of states: an alarm has a condition, is unacknowledged or not, and asks for the
+operator or not. Its word follows from these.
 """
 
 # Kinds, setpoints, deadbands, priorities, areas, longest shelvings, latching and tags.
-TABLE = [("HIGH", 800, 10, 1, 0, 3600, "OFF", "TI-101"), ("LOW", 100, 5, 2, 0, 3600, "OFF", "PI-102"), ("DISCRETE", 1, 0, 1, 1, 0, "ON", "XS-201"),
-         ("HIGH", 50, 0, 3, 1, 0, "OFF", "LI-202")]
+TABLE = [("HIGH", 800, 10, 1, 0, 3600, "OFF", "TI-101"), ("LOW", 100, 5, 2, 0, 3600, "OFF", "PI-102"),
+         ("DISCRETE", 1, 0, 1, 1, 0, "ON", "XS-201"), ("HIGH", 50, 0, 3, 1, 0, "OFF", "LI-202")]
 AREAS = 2
 
 
 class Alarm:
-    """An alarm: its attributes, its condition, its flags, and whether it is unacknowledged and asks for the operator."""
+    """An alarm: attributes, condition, flags, and whether it is unacknowledged and asks for the operator."""
 
     def __init__(self, kind, setpoint, deadband, priority, area, longest, latching, tag):
         self.kind, self.setpoint, self.deadband, self.priority, self.area = kind, setpoint, deadband, priority, area

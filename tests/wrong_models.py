@@ -1,13 +1,14 @@
 #!/usr/bin/env python3
-"""Tries the wrong models: each is proved in its own crates, code and definition together, and has to be refused by alm_laws.
+"""Tries the wrong models: each is proved in its own crates, code and definition together, and refused by alm_laws.
 
     tests/wrong_models.py            every model of tests/models/
     tests/wrong_models.py NAME ..    these
 
-A model is a patch of definitions, of the code that follows them, and of proofs about both. Its first line says what is wrong, its second which
-law says otherwise. It is applied to a copy of the crates below alm_laws, where those that it changes have to be proved. Each line of the table
-has that law, and how many others aren't proved there either: some say otherwise too, some only share a proof with one that does.
-With status 1 a model is proved by that law, or isn't in its own crates, or no longer applies.
+A model is a patch of definitions, of the code that follows them, and of proofs about both. Its first line says what is
+wrong, its second which law says otherwise. It is applied to a copy of the crates below alm_laws, where those that it
+changes have to be proved. Each line of the table has that law, and how many others aren't proved there either: some say
+otherwise too, some only share a proof with one that does. With status 1 a model meets that law, isn't proved in its own
+crates, or no longer applies.
 """
 import re
 import shutil
@@ -35,10 +36,15 @@ def copied(room: Path) -> None:
     shutil.copy(TOP / "HANDLES", room)
 
 
+def run(words: list[str], folder: Path) -> subprocess.CompletedProcess[str]:
+    """A command in a folder, with its errors among its output."""
+    return subprocess.run(
+        words, cwd=folder, text=True, stdout=subprocess.PIPE, stderr=subprocess.STDOUT, check=False)
+
+
 def checked(room: Path, crate: str) -> str:
     """What a check of a crate prints."""
-    done = subprocess.run(["rt", "check"], cwd=room / "crates" / crate, text=True, stdout=subprocess.PIPE, stderr=subprocess.STDOUT, check=False)
-    return done.stdout
+    return run(["rt", "check"], room / "crates" / crate).stdout
 
 
 def touched(patch: Path) -> list[str]:
@@ -56,7 +62,7 @@ def said(patch: Path) -> tuple[str, str]:
 
 def tried(patch: Path, room: Path) -> tuple[bool, str]:
     """Whether the law against a model refuses it where it is proved, and what came of it."""
-    applied = subprocess.run(["patch", "-p1", "-s", "-f", "-i", str(patch)], cwd=room, text=True, stdout=subprocess.PIPE, stderr=subprocess.STDOUT, check=False)
+    applied = run(["patch", "-p1", "-s", "-f", "-i", str(patch)], room)
     if applied.returncode != 0:
         return False, "no longer applies: " + applied.stdout.strip().replace("\n", " ")
     for crate in touched(patch):
