@@ -6,8 +6,8 @@
 Each link to a file of the repository leads to one, and to a heading of it where it names one. Each block of Rust that a page of docs/ quotes
 stands in a source, whatever its spaces. The counts of wrong bodies and of crates below the program are the tree's, docs/BELIEVED.md is what the
 definitions unfold to, and its sums stand in docs/HEADLINE.md. docs/PROVED.md is what docs/proved.py makes of the root files, and each call that a
-root file names as carrying a claim is in the code of its crate or of those below it. docs/ALARMS.md has each law. Each wrong body applies: `rt ci` passes over one that doesn't. It
-changes code alone, but in alm_laws, which has none.
+root file names as carrying a claim is in the code of its crate or of those below it. docs/ALARMS.md has each law. Each wrong body and each
+wrong model applies: `rt ci` passes over a body that doesn't. A body changes code alone, but in alm_laws, which has none.
 """
 import re
 import subprocess
@@ -143,9 +143,24 @@ def laws(found):
     found.check(page == every, "docs/ALARMS.md and the laws of alm_laws differ in", " ".join(sorted(page ^ every)))
 
 
+def models(found):
+    """Each wrong model names a law of alm_laws, and applies: what it takes away stands in its files."""
+    every = {f"{path.stem}::{law}" for path in TOP.glob("crates/alm_laws/src/*.rt") for law in LAW.findall(text_of(path))}
+    for patch in sorted(TOP.glob("tests/models/*.patch")):
+        head, *files = re.split(r"^--- a/.*\n", text_of(patch), flags=re.MULTILINE)
+        against = head.splitlines()[1].removeprefix("Against: ")
+        found.check(against in every, patch.name, "names what is no law:", against)
+        for file in files:
+            name, *hunks = re.split(r"^@@ .*\n", file, flags=re.MULTILINE)
+            name = name.removeprefix("+++ b/").strip()
+            for hunk in hunks:
+                old = "".join(f"{line[1:]}\n" for line in hunk.splitlines() if line[:1] in (" ", "-"))
+                found.check(old in text_of(TOP / name), patch.name, "no longer applies to", name)
+
+
 def main():
     found = Found()
-    for look in (links, quotes, counts, edits, believed, proved, claims, laws):
+    for look in (links, quotes, counts, edits, believed, proved, claims, laws, models):
         look(found)
     if found.wrong:
         sys.exit("\n".join(f"pages.py: {wrong}" for wrong in found.wrong))
