@@ -22,32 +22,42 @@ pub fn each_slot_has_its_role()
 
 /// Each accepted action comes from a slot that may ask for it.
 pub fn each_action_has_its_asker()
-    ensures { (p : Panel) (r : Request) → accept p r ≡ Ok r.want → role_of r.slot ≡ asker_of r.want }
+    ensures { (p : Panel) (r : Request) → accept p r ≡ Ok r.want →
+        role_of r.slot ≡ asker_of r.want }
 {}
 
 /// Only a console shelves and sets out of service or back, and gives other priorities and setpoints.
 pub fn only_consoles_operate()
-    ensures shelves { (q : Condensed) (r : Request) (i : ℕ) (s t : State) → Becomes q r i s t → ShelvedOnlyByAConsole r i s t }
-    ensures service { (q : Condensed) (r : Request) (i : ℕ) (s t : State) → Becomes q r i s t → ServiceOnlyByAConsole r i s t }
-    ensures attributes { (q : Condensed) (r : Request) → accept q.panel r ≡ Ok r.want → (i : ℕ) → AttributesOnlyByAConsole q r i }
+    ensures shelves { (q : Condensed) (r : Request) (i : ℕ) (s t : State) → Becomes q r i s t →
+        ShelvedOnlyByAConsole r i s t }
+    ensures service { (q : Condensed) (r : Request) (i : ℕ) (s t : State) → Becomes q r i s t →
+        ServiceOnlyByAConsole r i s t }
+    ensures attributes { (q : Condensed) (r : Request) → accept q.panel r ≡ Ok r.want → (i : ℕ) →
+        AttributesOnlyByAConsole q r i }
 {}
 
 /// Only the feed moves a condition and suppresses by design.
 pub fn only_the_feed_moves_conditions()
-    ensures condition { (q : Condensed) (r : Request) (i : ℕ) (s t : State) → Becomes q r i s t → ConditionOnlyByTheFeed r i s t }
-    ensures design { (q : Condensed) (r : Request) (i : ℕ) (s t : State) → Becomes q r i s t → DesignOnlyByTheFeed r i s t }
+    ensures condition { (q : Condensed) (r : Request) (i : ℕ) (s t : State) → Becomes q r i s t →
+        ConditionOnlyByTheFeed r i s t }
+    ensures design { (q : Condensed) (r : Request) (i : ℕ) (s t : State) → Becomes q r i s t →
+        DesignOnlyByTheFeed r i s t }
 {}
 
 /// Only the clock slot moves the time.
 pub fn only_the_clock_moves_time()
-    ensures { (q : Condensed) (r : Request) → accept q.panel r ≡ Ok r.want → TimeOnlyByTheClock q r }
+    ensures { (q : Condensed) (r : Request) → accept q.panel r ≡ Ok r.want →
+        TimeOnlyByTheClock q r }
 {}
 
 /// Any console's acknowledgement of an unacknowledged alarm is accepted, and its reset of one that is latched and acknowledged.
 pub fn consoles_are_heard()
-    ensures acknowledge { (q : Condensed) (r : Request) (a : Attr) (s : State) → IsAlarmOf q (alarm_of r.want) a s → q.panel.count < most_actions →
-        role_of r.slot ≡ role.Console → acknowledges r.want ≡ true → is_unacknowledged s.core ≡ true → accept q.panel r ≡ Ok r.want }
-    ensures reset { (q : Condensed) (r : Request) (a : Attr) (s : State) → IsAlarmOf q (alarm_of r.want) a s → q.panel.count < most_actions →
-        role_of r.slot ≡ role.Console → resets r.want ≡ true → is_latched s.core ≡ true → is_unacknowledged s.core ≡ false →
-        accept q.panel r ≡ Ok r.want }
+    ensures acknowledge { (q : Condensed) (r : Request) (a : Attr) (s : State) →
+        IsAlarmOf q (alarm_of r.want) a s → q.panel.count < most_actions →
+        role_of r.slot ≡ role.Console → acknowledges r.want ≡ true →
+        is_unacknowledged s.core ≡ true → accept q.panel r ≡ Ok r.want }
+    ensures reset { (q : Condensed) (r : Request) (a : Attr) (s : State) →
+        IsAlarmOf q (alarm_of r.want) a s → q.panel.count < most_actions →
+        role_of r.slot ≡ role.Console → resets r.want ≡ true → is_latched s.core ≡ true →
+        is_unacknowledged s.core ≡ false → accept q.panel r ≡ Ok r.want }
 {}

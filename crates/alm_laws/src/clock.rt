@@ -25,15 +25,22 @@ pub fn each_action_is_counted()
 
 /// The shelvings that one CLOCK ends are annunciated by deadline, then by number.
 pub fn shelvings_end_in_order()
-    ensures { (q : Condensed) (r : Request) (i j : ℕ) (s t u v : State) → Becomes q r i s t → Becomes q r j u v → EndInOrder r i s t j u v }
+    ensures { (q : Condensed) (r : Request) (i j : ℕ) (s t u v : State) → Becomes q r i s t →
+        Becomes q r j u v → EndInOrder r i s t j u v }
 {}
 
 /// PRIO and SETP set that attribute of that alarm, and nothing else of it; no row changes.
 pub fn priority_and_setpoint_are_as_asked()
-    ensures priority { (q : Condensed) (i : AlarmId) (n : ℕ) (a b : Attr) → 1 ≤ n → n ≤ 4 → slice_get q.panel.attrs i.0 ≡ Some a →
-        slice_get (step q (SetPriority i n)).panel.attrs i.0 ≡ Some b → (b.priority ≡ n) × SameButPriority a b }
-    ensures setpoint { (q : Condensed) (i : AlarmId) (v : ℤ) (a b : Attr) → is_reading v ≡ true → slice_get q.panel.attrs i.0 ≡ Some a →
-        slice_get (step q (SetSetpoint i v)).panel.attrs i.0 ≡ Some b → (b.setpoint ≡ v) × SameButSetpoint a b }
-    ensures rows_priority { (q : Condensed) (i : AlarmId) (n : ℕ) → (step q (SetPriority i n)).panel.rows ≡ q.panel.rows }
-    ensures rows_setpoint { (q : Condensed) (i : AlarmId) (v : ℤ) → (step q (SetSetpoint i v)).panel.rows ≡ q.panel.rows }
+    ensures priority { (q : Condensed) (i : AlarmId) (n : ℕ) (a b : Attr) → 1 ≤ n → n ≤ 4 →
+        slice_get q.panel.attrs i.0 ≡ Some a →
+        slice_get (step q (SetPriority i n)).panel.attrs i.0 ≡ Some b →
+        (b.priority ≡ n) × SameButPriority a b }
+    ensures setpoint { (q : Condensed) (i : AlarmId) (v : ℤ) (a b : Attr) → is_reading v ≡ true →
+        slice_get q.panel.attrs i.0 ≡ Some a →
+        slice_get (step q (SetSetpoint i v)).panel.attrs i.0 ≡ Some b →
+        (b.setpoint ≡ v) × SameButSetpoint a b }
+    ensures rows_priority { (q : Condensed) (i : AlarmId) (n : ℕ) →
+        (step q (SetPriority i n)).panel.rows ≡ q.panel.rows }
+    ensures rows_setpoint { (q : Condensed) (i : AlarmId) (v : ℤ) →
+        (step q (SetSetpoint i v)).panel.rows ≡ q.panel.rows }
 {}

@@ -26,11 +26,16 @@ pub fn an_alarm_is_shown_as_it_is()
 /// FLOOD reports the window and the flag of an area, PLANT the moment and the sizes, ATTR the attributes in force, STALE and CHATTER all of
 /// their lists. STATE of an alarm that isn't there is refused.
 pub fn queries_report_the_plant()
-    ensures flood { (q : Condensed) (area : ℕ) (ages : List ℕ) (on : Bool) → slice_get q.kept.ages area ≡ Some ages → slice_get q.floods area ≡ Some on →
+    ensures flood { (q : Condensed) (area : ℕ) (ages : List ℕ) (on : Bool) →
+        slice_get q.kept.ages area ≡ Some ages → slice_get q.floods area ≡ Some on →
         look q (query.Flood area) ≡ Ok (flood (sum ages) on) }
-    ensures plant { (q : Condensed) → look q query.Plant ≡ Ok (plant q.panel.now (length q.panel.rows) (length q.floods)) }
-    ensures attributes { (q : Condensed) (i : AlarmId) (a : Attr) → slice_get q.panel.attrs i.0 ≡ Some a → look q (query.Attributes i) ≡ Ok (attributes (Some a)) }
+    ensures plant { (q : Condensed) →
+        look q query.Plant ≡ Ok (plant q.panel.now (length q.panel.rows) (length q.floods)) }
+    ensures attributes { (q : Condensed) (i : AlarmId) (a : Attr) →
+        slice_get q.panel.attrs i.0 ≡ Some a →
+        look q (query.Attributes i) ≡ Ok (attributes (Some a)) }
     ensures stale { (q : Condensed) → look q query.Stale ≡ Ok (alarms (list_of Stale q)) }
     ensures chatter { (q : Condensed) → look q query.Chatter ≡ Ok (alarms (list_of Chatter q)) }
-    ensures refused { (q : Condensed) (i : AlarmId) → slice_get q.panel.rows i.0 ≡ None → look q (query.State i) ≡ Err NoSuchAlarm }
+    ensures refused { (q : Condensed) (i : AlarmId) → slice_get q.panel.rows i.0 ≡ None →
+        look q (query.State i) ≡ Err NoSuchAlarm }
 {}

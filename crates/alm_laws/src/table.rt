@@ -21,19 +21,24 @@ ghost use Rattle.alm_laws.specs.Taken.{is_taken, IsAcceptable};
 
 /// The table of the core states is the only one that meets eight sentences, and has a row exactly if something can happen.
 pub fn the_laws_leave_one_table()
-    ensures rows { (latching : Bool) (h : Happening) (c : Core) → suits latching c ≡ true → is_some (next_core latching h c) ≡ can_happen h c }
-    ensures one { (latching : Bool) (h : Happening) (c d : Core) → suits latching c ≡ true → is_some (next_core latching h c) ≡ true →
+    ensures rows { (latching : Bool) (h : Happening) (c : Core) → suits latching c ≡ true →
+        is_some (next_core latching h c) ≡ can_happen h c }
+    ensures one { (latching : Bool) (h : Happening) (c d : Core) → suits latching c ≡ true →
+        is_some (next_core latching h c) ≡ true →
         meets_the_laws latching h c d ≡ is_that (next_core latching h c) d }
 {}
 
 /// What an action makes of an alarm is the only outcome whose fields are as the laws say.
 pub fn the_laws_leave_one_row()
-    ensures { (now stamp : ℕ) (action : Action) (a : Attr) (s : State) (o : Outcome) → TakesAction action a s → IsTrue (suits a.latching s.core) →
+    ensures { (now stamp : ℕ) (action : Action) (a : Attr) (s : State) (o : Outcome) →
+        TakesAction action a s → IsTrue (suits a.latching s.core) →
         IsLeft now stamp action a s o ↔ (o ≡ outcome now stamp action a s) }
 {}
 
 /// An alarm takes exactly what the laws say, and a request is accepted exactly if its slot may ask, it is possible, and numbers are left.
 pub fn taken_just_then()
-    ensures row { (action : Action) (a : Attr) (s : State) → IsTrue (suits a.latching s.core) → is_none (row_refusal action a s) ≡ is_taken action a s }
-    ensures request { (q : Condensed) (r : Request) → KeepsRules q → (accept q.panel r ≡ Ok r.want) ↔ IsAcceptable q.panel r }
+    ensures row { (action : Action) (a : Attr) (s : State) → IsTrue (suits a.latching s.core) →
+        is_none (row_refusal action a s) ≡ is_taken action a s }
+    ensures request { (q : Condensed) (r : Request) → KeepsRules q →
+        (accept q.panel r ≡ Ok r.want) ↔ IsAcceptable q.panel r }
 {}
