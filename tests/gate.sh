@@ -1,10 +1,10 @@
 #!/usr/bin/env bash
-# The whole gate: `rt ci` proves everything from nothing and runs the tests of each crate, then `tests/all.sh --short` tries the program
-# that it built. What happens to a file, no contract and no test of a crate can see.
+# The whole gate: `rt ci` proves everything from nothing and runs the tests of each crate, and eight wrong alarm models have to be refused by their
+# laws. Then `tests/all.sh --short` tries the program that was built. What happens to a file, no contract and no test of a crate can see.
 #
 #     tests/gate.sh
 #
-# The last line is `N passed, N failed` over both, and the status is 0 only where both are well. What the machine lacks is a failure. So is a
+# The last line is `N passed, N failed` over all, and the status is 0 only where all are well. What the machine lacks is a failure. So is a
 # wrong body that `rt ci` accepts though it shows nothing: one that can't be read, or that is refused only because a proof file names what it took away.
 set -uo pipefail
 top=$(cd "$(dirname "$0")/.." && pwd)
@@ -64,6 +64,7 @@ sum=$(. "$top/alm_server" && sum_of_sources)
 cd "$top" || exit 2
 add rt ci </dev/null
 look_at_edits
+add "$top/tests/wrong_models.py" --gate
 if [ -x "$program" ] && [ "$program" -nt "$room/begun" ]; then
     keep_sum "$sum"
     add "$top/tests/all.sh" --short "$program"
