@@ -12,6 +12,7 @@
 - What salvage.py brings onto a new device is what `show` showed at that action.
 - A served device that is damaged: the exporter goes on and says so, the follower and the archive say a line, and go on after the next checkpoint.
 """
+import os
 import sys
 import time
 
@@ -22,12 +23,17 @@ import check_salvage
 from program import Wrong, begin, finish
 
 
+def new_yard(program: str, folder: str, name: str) -> Yard:
+    """A folder of its own for each check."""
+    os.mkdir(os.path.join(folder, name))
+    return Yard(program, os.path.join(folder, name))
+
+
 def main() -> None:
     program, step, folder = begin("flips", sys.argv, 1, 10)
     began = time.monotonic()
-    yard = Yard(program, folder)
     try:
-        said = [check(yard, step) for check in (*check_flips.CHECKS, *check_salvage.CHECKS)]
+        said = [check(new_yard(program, folder, check.__name__), step) for check in (*check_flips.CHECKS, *check_salvage.CHECKS)]
     except Wrong as wrong:
         sys.exit(f"flips: {wrong}; devices are in {folder}")
     finally:
