@@ -53,11 +53,7 @@ fn serve_disk<
 fn serve_counted<
     D: Disk + Drop,
     R: Files<File = File> + Print + Net + Threads + Wait + Clock + Sync + AllocGlobal,
->(
-    rt: &R,
-    disk: D,
-    order: &ServeOrder,
-) -> Result<ServerEnd<CountedDisk<D>>, Fault>
+>(rt: &R, disk: D, order: &ServeOrder) -> Result<ServerEnd<CountedDisk<D>>, Fault>
     ensures { (start : List ℕ) → BeginsAs start (D.size disk) (D.honest disk) (D.state disk) →
         IfOk result
         (λ end. IsServedFrom ⟦<CountedDisk<D> as Disk>⟧ start end.back end.cause end.served) }
