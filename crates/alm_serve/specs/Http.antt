@@ -1,5 +1,5 @@
 -- Which connections begin as a request of HTTP (RFC 9110, section 9; RFC 9112, section 3).
-use Rattle.std.specs.Prelude.{ℕ, Bool, true, false, List, [], ◌∷◌, ◌==◌, ◌&&◌, ◌||◌, nat_le, codes, if◌then◌else◌, length, take, get_or}
+use Rattle.std.specs.Prelude.{ℕ, Bool, List, [], ◌∷◌, ◌==◌, ◌&&◌, ◌||◌, nat_le, codes, if◌then◌else◌, length, take, get_or}
 use Rattle.std.specs.List.{list_any, starts_with}
 
 -- the methods that a browser sends by itself, each with the space after it
