@@ -67,8 +67,9 @@ def opening():
 
 
 def opening_by_link():
-    """The same, by a symbolic link in another folder: its name is brought to the disk too."""
-    return [("openat", "link"), LOCK, FORGET, ("fsync", "device"), ("openat", "link's folder"), ("fsync", "link's folder"), *NAME_SYNC[1:], SYNC]
+    """The same, by a symbolic link in a folder of the device's folder: each of these names is brought to the disk, and then the device's."""
+    folder, links = NAME_SYNC[1:], [("openat", "link's folder"), ("fsync", "link's folder")]
+    return [("openat", "link"), LOCK, FORGET, ("fsync", "device"), *folder, *links, *folder, SYNC]
 
 
 def reading():
