@@ -10,6 +10,8 @@ forget them, but can't see whether it did: a page that another process has mappe
 Its status is 0 then. If a page stays for so long (5 seconds, or what --within says), it prints a line with the processes that have the file
 mapped, as far as it may see them, and ends with status 1: a server that was started now might count on what isn't there. The unit of a server
 runs it before each start.
+
+A file system in memory (tmpfs) has no disk that could refuse a byte, so nothing is asked there. A line says that a power failure takes the device.
 """
 import ctypes
 import mmap
@@ -59,6 +61,17 @@ class Cached:
             libc.munmap(self.mapping, self.size)
 
 
+def is_in_memory(file: int) -> bool:
+    """Whether a file's own file system is one that Linux keeps in memory alone."""
+    device = os.fstat(file).st_dev
+    with open("/proc/self/mountinfo", encoding="utf-8", errors="replace") as mounts:
+        for line in mounts:
+            words, _, of_system = line.partition(" - ")
+            if words.split(" ")[2] == f"{os.major(device)}:{os.minor(device)}":
+                return of_system.split(" ")[0] in ("tmpfs", "ramfs")
+    return False
+
+
 def mappers(file: int) -> list[int]:
     """The processes that have this file mapped, as far as they may be seen."""
     wanted = os.fstat(file)
@@ -77,6 +90,10 @@ def mappers(file: int) -> list[int]:
 def uncache(path: str, within: float) -> int:
     """The status of the tool."""
     file = os.open(path, os.O_RDONLY)
+    if is_in_memory(file):
+        print(f"uncache: {path} is in memory alone: a power failure takes it", file=sys.stderr)
+        os.close(file)
+        return 0
     cached = Cached(file)
     deadline = time.monotonic() + within
     try:

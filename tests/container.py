@@ -8,6 +8,7 @@ import contextlib
 import os
 import shutil
 import subprocess
+import tempfile
 import time
 from typing import Iterator
 
@@ -53,16 +54,31 @@ def furnish(folder, program):
     return here
 
 
+@contextlib.contextmanager
+def layered(root: str) -> Iterator[str]:
+    """A system that has all of a Debian, and what is written there in a folder of its own until the end. That folder is on a disk: a server's unit
+    asks that the kernel can forget the device's pages."""
+    with tempfile.TemporaryDirectory(dir="/var/tmp") as room:
+        upper, work, whole = (os.path.join(room, name) for name in ("upper", "work", "whole"))
+        for folder in (upper, work, whole):
+            os.mkdir(folder)
+        subprocess.run(["mount", "-t", "overlay", "overlay", "-o", f"lowerdir={os.path.abspath(root)},upperdir={upper},workdir={work}", whole], check=True)
+        try:
+            yield whole
+        finally:
+            subprocess.run(["umount", whole], check=True)
+
+
 def run_parts(script, root, folder, here):
     """Starts the Debian, runs `script --within` in it, and gives its status and what it said."""
     result = os.path.join(folder, "result")
     os.mkdir(result)
     with open(os.path.join(folder, "parts-test.service"), "w", encoding="ascii") as unit:
         unit.write(UNIT.format(here=HERE, result=RESULT, script=script))
-    words = ["systemd-nspawn", "--quiet", "--register=no", "--keep-unit", "--volatile=overlay", "-D", os.path.abspath(root), f"--bind={here}:{HERE}",
-             f"--bind={result}:{RESULT}", f"--bind-ro={folder}/parts-test.service:{PLACE}",
-             *os.environ.get("NSPAWN_WORDS", "").split(), "--boot", "systemd.wants=parts-test.service"]
-    with open(os.path.join(folder, "console"), "wb") as console:
+    with layered(root) as whole, open(os.path.join(folder, "console"), "wb") as console:
+        words = ["systemd-nspawn", "--quiet", "--register=no", "--keep-unit", "-D", whole, f"--bind={here}:{HERE}",
+                 f"--bind={result}:{RESULT}", f"--bind-ro={folder}/parts-test.service:{PLACE}",
+                 *os.environ.get("NSPAWN_WORDS", "").split(), "--boot", "systemd.wants=parts-test.service"]
         try:
             subprocess.run(words, stdin=subprocess.DEVNULL, stdout=console, stderr=console, timeout=900, check=False)
         except subprocess.TimeoutExpired:
@@ -100,9 +116,8 @@ def first_process(nspawn: subprocess.Popen) -> int:
 @contextlib.contextmanager
 def booted(root: str, folder: str, *more: str) -> Iterator[Booted]:
     """Starts a Debian, and ends it."""
-    words = ["systemd-nspawn", "--quiet", "--register=no", "--keep-unit", "--volatile=overlay", "-D", os.path.abspath(root), *more,
-             *os.environ.get("NSPAWN_WORDS", "").split(), "--boot"]
-    with open(os.path.join(folder, "console"), "wb") as console:
+    with layered(root) as whole, open(os.path.join(folder, "console"), "wb") as console:
+        words = ["systemd-nspawn", "--quiet", "--register=no", "--keep-unit", "-D", whole, *more, *os.environ.get("NSPAWN_WORDS", "").split(), "--boot"]
         nspawn = subprocess.Popen(words, stdin=subprocess.DEVNULL, stdout=console, stderr=console)
         try:
             there = Booted(first_process(nspawn))
