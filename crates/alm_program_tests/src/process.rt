@@ -7,6 +7,7 @@ use std::env::{Env, FillError};
 use std::fmt::Display;
 use std::fs::{File, Files, Metadata, OpenOptions};
 use std::io::{self, BufRead, Error, ErrorKind, Lines, Read};
+use std::path::PathBuf;
 
 /// A process: its words, each with an LF after it, its standard input, and a standard output. The output takes at most three
 /// bytes in a write, and fails at every write after a number of them.
@@ -113,6 +114,14 @@ impl Files for Process<'_> {
 
     fn remove_dir_all<A: Allocator>(&self, alloc: A, path: &str) -> io::Result<()> {
         self.files.remove_dir_all(alloc, path)
+    }
+
+    fn canonicalize<A: Allocator>(&self, alloc: A, path: &str) -> io::Result<PathBuf<A>> {
+        self.files.canonicalize(alloc, path)
+    }
+
+    fn read_link<A: Allocator>(&self, alloc: A, path: &str) -> io::Result<PathBuf<A>> {
+        self.files.read_link(alloc, path)
     }
 }
 

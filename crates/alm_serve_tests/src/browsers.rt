@@ -9,8 +9,8 @@ use std::test::Fail;
 use std::thread;
 use std::time::Duration;
 
-/// The methods, each with the space after it.
-const METHODS: [&[u8]; 10] = [
+/// Methods, each with the space after it: the ten that browsers send by themselves, and others that a page can have sent.
+const METHODS: [&[u8]; 14] = [
     b"GET ",
     b"HEAD ",
     b"POST ",
@@ -21,6 +21,10 @@ const METHODS: [&[u8]; 10] = [
     b"TRACE ",
     b"PATCH ",
     b"PRI ",
+    b"GETS ",
+    b"get ",
+    b"NAQTESHI ",
+    b"M-SEARCH ",
 ];
 
 /// What follows a method: the rest of the head, and a body with a line of the protocol.
@@ -37,14 +41,14 @@ fn is_ended(rt: &HostRuntime, port: u16, method: &[u8]) -> io::Result<bool> {
     Ok(matches!(browser.read(&mut [0_u8; 1]), Ok(0) | Err(_)))
 }
 
-/// Whether each method ends the connection, and a first line that only resembles one is answered as any other.
+/// Whether each method ends the connection, and a first line that only resembles a request is answered as any other.
 fn browse(rt: &HostRuntime, port: u16) -> io::Result<bool> {
     let mut all = true;
     for method in METHODS {
         all = is_ended(rt, port, method)? && all;
     }
     let mut client = connect(rt, port.saturating_add(17))?;
-    let lines = b"GETS / HTTP/1.1\nGET\nget /\nGET /\n1 CLOCK 1000\n";
+    let lines = b"GETS / HTTP/1\nGET\nget /\nGET / HTTP/1.1\n1 CLOCK 1000\n";
     let replies = b"0 NO 13\n0 NO 13\n0 NO 13\n0 NO 13\n1 OK 1\n";
     Ok(asks(&mut client, lines, replies)? && all)
 }
@@ -55,7 +59,7 @@ fn a_request_of_http_is_neither_answered_nor_done(rt: HostRuntime) -> Result<(),
     let disk = worked_disk(rt.alloc())?.ok_or("format")?;
     let clients = thread::spawn(&rt, move || browse(&rt, port))?;
     let mut output = Vec::new(rt.alloc());
-    let served = serve_run(&rt, rt.alloc(), disk, port, 11, &mut output);
+    let served = serve_run(&rt, rt.alloc(), disk, port, 15, &mut output);
     assert!(rt; served == Ok(1));
     assert!(rt; clients.join(&rt)?);
     Ok(())
