@@ -9,6 +9,7 @@ lacks() {
 }
 
 command -v cc >/dev/null || lacks 'no C compiler, cc'
+command -v patch >/dev/null || lacks 'no patch'
 if ! command -v python3 >/dev/null; then
     lacks 'no python3'
 elif ! python3 -c 'import sys; sys.exit(sys.version_info < (3, 11))'; then
