@@ -20,7 +20,7 @@ use Rattle.alm_model.specs.Lists.{list_of, alarms, stands_in, is_one, passes, is
 use Rattle.alm_model.specs.Step.{with_outcome, with_touched_alarm, touch, unshelve, later, with_effect, with_one_more, step, settled_floods, is_flood}
 use Rattle.alm_model.specs.declared.list.List.TheVariants.{Stale, Chatter}
 use Rattle.alm_model.proofs.Members.{Has-from, Contains-from, Has-filter, filter-Has, Has-range}
-use Rattle.alm_laws.specs.Listed.{IsStale, is_flooded, in_last_minute}
+use Rattle.alm_laws.specs.Listed.{IsStale, is_flooded_by, in_last_minute}
 use Rattle.alm_laws.specs.Plant.{IsAlarmOf}
 use Rattle.alm_laws.proofs.Moving.{ending}
 
@@ -72,7 +72,7 @@ chatter-so q i a s ms h e =
 
 -- ---- floods
 
-flood-is : (w : ℕ) (b : Bool) → is_flood w b ≡ is_flooded w b
+flood-is : (w : ℕ) (b : Bool) → is_flood w b ≡ is_flooded_by w b
 flood-is w true = grind (arith, nat_tests)
 flood-is w false = grind (arith, nat_tests)
 
@@ -113,7 +113,7 @@ effect-floods q (SetPriority i n) = refl
 effect-floods q (SetSetpoint i v) = refl
 
 pub flood-so : (q : Condensed) (action : Action) (n : ℕ) (ages : List ℕ) (before : Bool) → slice_get (step q action).kept.ages n ≡ Some ages → slice_get q.floods n ≡ Some before
-    → slice_get (step q action).floods n ≡ Some (is_flooded (sum ages) before)
+    → slice_get (step q action).floods n ≡ Some (is_flooded_by (sum ages) before)
 flood-so q action n ages before e f =
     let q1 : Condensed = with_effect in_brief (with_one_more q) action in
     settled-at q1.kept.ages q1.floods n ages before e (ap (λ l. slice_get l n) (effect-floods (with_one_more q) action) ∙ f) ∙ ap Some (flood-is (sum ages) before)

@@ -23,7 +23,7 @@ use Rattle.alm_model.specs.Accept.{accept, answer, may_ask, refusal, own_refusal
 use Rattle.alm_model.specs.Rules.{KeepsRules}
 use Rattle.alm_laws.specs.Left.{is_beyond, is_back}
 use Rattle.alm_laws.specs.Plant.{asker_of}
-use Rattle.alm_laws.specs.Table.{same_bool}
+use Rattle.alm_laws.specs.Table.{agree}
 use Rattle.alm_laws.specs.Taken.{is_taken, IsPossible, IsAcceptable}
 use Rattle.alm_laws.proofs.AlarmLaws.{acknowledge-taken, resets-taken, unless-none}
 use Rattle.alm_laws.proofs.Left.{comes-is, goes-is, back-isnt}
@@ -36,23 +36,23 @@ taken-by : (b : Bool) (r : Refusal) → is_none (unless b r) ≡ b
 taken-by true r = refl
 taken-by false r = refl
 
-came : (b g : Bool) → (g ≡ true → b ≡ false) → is_some (cond b (Some true) None) ≡ not (same_bool (cond b true (cond g false false)) false)
+came : (b g : Bool) → (g ≡ true → b ≡ false) → is_some (cond b (Some true) None) ≡ not (agree (cond b true (cond g false false)) false)
 came true g f = refl
 came false true f = refl
 came false false f = refl
 
-went : (b g : Bool) → (g ≡ true → b ≡ false) → is_some (cond g (Some false) None) ≡ not (same_bool (cond b true (cond g false true)) true)
+went : (b g : Bool) → (g ≡ true → b ≡ false) → is_some (cond g (Some false) None) ≡ not (agree (cond b true (cond g false true)) true)
 went true true f = absurd (true≢false (f refl))
 went true false f = refl
 went false true f = refl
 went false false f = refl
 
 value-taken : (a : Attr) (before : Bool) (v : ℤ)
-    → is_some (detection_of a before v) ≡ not (same_bool (cond (is_beyond a.kind a.setpoint v) true (cond (is_back a.kind a.setpoint a.deadband v) false before)) before)
+    → is_some (detection_of a before v) ≡ not (agree (cond (is_beyond a.kind a.setpoint v) true (cond (is_back a.kind a.setpoint a.deadband v) false before)) before)
 value-taken a false v = ap (λ b. is_some (cond b (Some true) None)) (comes-is a.kind a.setpoint v) ∙ came (is_beyond a.kind a.setpoint v) (is_back a.kind a.setpoint a.deadband v) (back-isnt a.kind a.setpoint a.deadband v)
 value-taken a true v = ap (λ b. is_some (cond b (Some false) None)) (goes-is a.kind a.setpoint a.deadband v) ∙ went (is_beyond a.kind a.setpoint v) (is_back a.kind a.setpoint a.deadband v) (back-isnt a.kind a.setpoint a.deadband v)
 
-flag-taken : (on flag : Bool) → is_none (flag_refusal on flag) ≡ not (same_bool on flag)
+flag-taken : (on flag : Bool) → is_none (flag_refusal on flag) ≡ not (agree on flag)
 flag-taken true true = refl
 flag-taken true false = refl
 flag-taken false true = refl

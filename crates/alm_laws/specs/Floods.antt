@@ -4,7 +4,7 @@ use Rattle.std.specs.List.{AllByRecursion}
 use Rattle.alm_types.specs.declared.action.Action.{Action}
 use Rattle.alm_model.specs.Plant.{Condensed}
 use Rattle.alm_model.specs.Step.{step}
-use Rattle.alm_laws.specs.Listed.{is_flooded}
+use Rattle.alm_laws.specs.Listed.{is_flooded_by}
 
 -- the flag and the window of an area
 abbrev pub flag_of : Condensed → ℕ → Bool
@@ -21,7 +21,7 @@ windows_after q (a ∷ actions) area = window_in (step q a) area ∷ windows_aft
 -- a flag after these windows
 abbrev pub flagged_after : Bool → List ℕ → Bool
 flagged_after flag [] = flag
-flagged_after flag (w ∷ windows) = flagged_after (is_flooded w flag) windows
+flagged_after flag (w ∷ windows) = flagged_after (is_flooded_by w flag) windows
 
 -- one of the windows was above 10, and none after it was below 5
 abbrev pub HoldsSinceAbove10 : List ℕ → Type 0

@@ -30,8 +30,8 @@ IsStale q i s =
     (is_annunciated s.core ≡ true) × (last : ℕ) × (earlier : List ℕ) × (slice_get q.kept.moments i ≡ Some (last ∷ earlier)) × (last + 86400 ≤ q.panel.now)
 
 -- an area is flooded: its window is above 10, or it was flooded and the window isn't below 5
-abbrev pub is_flooded : ℕ → Bool → Bool
-is_flooded window before = nat_lt 10 window || before && nat_le 5 window
+abbrev pub is_flooded_by : ℕ → Bool → Bool
+is_flooded_by window before = nat_lt 10 window || before && nat_le 5 window
 
 -- an alarm that asks for the operator
 abbrev pub asks_for_operator : Attr → State → Bool

@@ -48,7 +48,7 @@ abbrev pub FlaggedAsAsked : Request → ℕ → State → State → Type 0
 FlaggedAsAsked r i s t = Names r.want i → (t.by_design ≡ design_left r.want s.by_design) × (t.out_of_service ≡ service_left r.want s.out_of_service)
 
 -- an alarm without a condition, a flag or a stamp
-pub record IsAtRest (s : State) : Type 0 where
+pub record IsOfNewPlant (s : State) : Type 0 where
   pub inactive : s.active ≡ false
   pub normal : s.core ≡ Normal
   pub unshelved : s.shelved_until ≡ None

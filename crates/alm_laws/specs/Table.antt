@@ -15,9 +15,9 @@ can_happen Goes c = is_active_core c
 can_happen Ack c = is_unacknowledged c
 can_happen Reset c = is_latched c && not (is_unacknowledged c)
 
-abbrev pub same_bool : Bool → Bool → Bool
-same_bool true b = b
-same_bool false b = not b
+abbrev pub agree : Bool → Bool → Bool
+agree true b = b
+agree false b = not b
 
 abbrev pub implies : Bool → Bool → Bool
 implies a b = not a || b
@@ -64,7 +64,7 @@ is_reset _ = false
 abbrev pub meets_the_laws : Bool → Happening → Core → Core → Bool
 meets_the_laws latching h c d =
     suits latching d
-    && same_bool (is_active_core d) (is_comes h || is_active_core c && not (is_goes h))
+    && agree (is_active_core d) (is_comes h || is_active_core c && not (is_goes h))
     && implies (is_comes h) (is_unacknowledged d)
     && implies (is_ack h) (not (is_unacknowledged d))
     && implies (is_unacknowledged c && not (is_ack h)) (is_unacknowledged d)

@@ -13,20 +13,20 @@ use Rattle.alm_model.specs.Plant.{Panel}
 use Rattle.alm_laws.specs.Alarm.{is_unacknowledged, is_latched}
 use Rattle.alm_laws.specs.Left.{condition_left}
 use Rattle.alm_laws.specs.Plant.{asker_of}
-use Rattle.alm_laws.specs.Table.{same_bool}
+use Rattle.alm_laws.specs.Table.{agree}
 
 -- What an alarm takes. A value that changes its condition; ACK if it is unacknowledged; RESET if it is latched and acknowledged.
 -- A shelving of 1 second up to its longest, if it isn't shelved; UNSHELVE if it is.
 -- Out of service or by design, if that changes; another priority of 1 to 4; another setpoint.
 abbrev pub is_taken : Action → Attr → State → Bool
 is_taken (Clock t) a s = true
-is_taken (Value i value) a s = not (same_bool (condition_left (Value i value) a s.active) s.active)
+is_taken (Value i value) a s = not (agree (condition_left (Value i value) a s.active) s.active)
 is_taken (Ack i) a s = is_unacknowledged s.core
 is_taken (Reset i) a s = is_latched s.core && not (is_unacknowledged s.core)
 is_taken (Shelve i seconds) a s = not (is_some s.shelved_until) && nat_le 1 seconds && nat_le seconds a.max_shelve
 is_taken (Unshelve i) a s = is_some s.shelved_until
-is_taken (Oos i on) a s = not (same_bool on s.out_of_service)
-is_taken (Design i on) a s = not (same_bool on s.by_design)
+is_taken (Oos i on) a s = not (agree on s.out_of_service)
+is_taken (Design i on) a s = not (agree on s.by_design)
 is_taken (SetPriority i priority) a s = nat_le 1 priority && nat_le priority 4 && not (priority == a.priority)
 is_taken (SetSetpoint i setpoint) a s = not (int_eq setpoint a.setpoint)
 

@@ -21,7 +21,7 @@ ghost use Rattle.alm_model.specs.declared.list.List.TheVariants.{Priority, Area,
 ghost use Rattle.alm_laws.specs.Plant.{IsAlarmOf};
 ghost use Rattle.alm_laws.specs.Counts.{annunciated_within, last_three};
 ghost use Rattle.alm_laws.specs.Floods.{flag_of, windows_after, HoldsSinceAbove10};
-ghost use Rattle.alm_laws.specs.Listed.{HasJustThose, IsFound, IsStale, is_flooded, asks_for_operator, in_last_minute, IsChronological};
+ghost use Rattle.alm_laws.specs.Listed.{HasJustThose, IsFound, IsStale, is_flooded_by, asks_for_operator, in_last_minute, IsChronological};
 
 /// No active alarm is hidden: without a flag it is in the list of its priority and in that of its area. A suppressed one is in none.
 pub fn an_active_alarm_is_listed()
@@ -54,7 +54,7 @@ pub fn a_flood_begins_and_ends_by_its_window()
     ensures { (q : Condensed) (action : Action) (area : ℕ) (ages : List ℕ) (before : Bool) →
         slice_get (step q action).kept.ages area ≡ Some ages →
         slice_get q.floods area ≡ Some before →
-        slice_get (step q action).floods area ≡ Some (is_flooded (sum ages) before) }
+        slice_get (step q action).floods area ≡ Some (is_flooded_by (sum ages) before) }
 {}
 
 /// CHATTER has just the alarms with three annunciations or more within the last minute.

@@ -8,7 +8,7 @@ ghost use Rattle.alm_state.specs.declared.core_state.Core.TheVariants.{Normal};
 ghost use Rattle.alm_model.specs.Lists.{list_of};
 ghost use Rattle.alm_model.specs.Rules.{KeepsRules, AreAdmitted};
 ghost use Rattle.alm_model.specs.Step.{run};
-ghost use Rattle.alm_laws.specs.Moved.{LeftByItsAction, LeftByTheClock, EndsOnlyByReset, ShelvedAsAsked, FlaggedAsAsked, IsAtRest};
+ghost use Rattle.alm_laws.specs.Moved.{LeftByItsAction, LeftByTheClock, EndsOnlyByReset, ShelvedAsAsked, FlaggedAsAsked, IsOfNewPlant};
 ghost use Rattle.alm_types.specs.Tables.{Listing};
 ghost use Rattle.alm_model.specs.New.{new_plant};
 ghost use Rattle.alm_model.specs.declared.list.List.TheVariants.{Priority};
@@ -20,7 +20,7 @@ ghost use Rattle.alm_laws.specs.Plant.{Becomes, IsAlarmOf, IsAcknowledgedByConso
 /// In a new plant each alarm is normal and has no flag, no area is flooded, and the moment and the count are 0.
 pub fn a_new_plant_is_at_rest()
     ensures alarms { (t : Listing) (i : ℕ) (s : State) →
-        slice_get (new_plant t).panel.rows i ≡ Some s → IsAtRest s }
+        slice_get (new_plant t).panel.rows i ≡ Some s → IsOfNewPlant s }
     ensures floods { (t : Listing) (area : ℕ) (flag : Bool) →
         slice_get (new_plant t).floods area ≡ Some flag → flag ≡ false }
     ensures moment { (t : Listing) → (new_plant t).panel.now ≡ 0 }
