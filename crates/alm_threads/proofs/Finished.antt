@@ -17,13 +17,13 @@ use Rattle.alm_rings.specs.declared.outbox.Outbox.{Outbox}
 use Rattle.alm_rings.specs.declared.receipt.Receipt.{Receipt}
 use Rattle.alm_rings.specs.declared.slot_report.SlotReport.{SlotReport}
 use Rattle.alm_rings.specs.declared.told.Told.{Ghosts}
-use Rattle.alm_rings.specs.Ends.{SameConsole, sent_of}
+use Rattle.alm_rings.specs.Ends.{SameConsole, sent_of, received_of}
 use Rattle.alm_rings.specs.Placed.{SameInboxAt, inbox_at, taken_by, released_by}
 use Rattle.alm_seq.specs.Sequences.{SameInboxes}
 use Rattle.alm_threads.specs.Answered.{AllAnswered, IsSlotAnswered}
 use Rattle.alm_threads.specs.Finished.{HaveInboxes, IsAllAnswered, IsTaken}
 use Rattle.alm_threads.specs.Runs.{AreClosed, IsClosed}
-use Rattle.alm_threads.specs.Same.{AllSame}
+use Rattle.alm_threads.specs.Same.{AllIdle, AllSame}
 use Rattle.alm_threads.proofs.Serves.{some_still}
 use Rattle.alm_threads.proofs.Tied.{all_same_at, pair_on, received_count, replies_count, wants_count, was_in}
 
@@ -71,6 +71,25 @@ module _ {T : Type 0} {g : Ghosts T} where
   all_same_set [] (y ∷ ds) k c d all at same = absurd all
   all_same_set (x ∷ cs) (y ∷ ds) zero c d all at same = (same_on x y d all.0 (subst (λ z. SameConsole z d) (sym (same_Some y c at)) same), all.1)
   all_same_set (x ∷ cs) (y ∷ ds) (suc k) c d all at same = (all.0, all_same_set cs ds k c d all.1 at same)
+
+  pub all_idle_self : (cs : List (Console T g)) → AllIdle cs cs
+  all_idle_self [] = tt
+  all_idle_self (c ∷ cs) = (refl, refl, all_idle_self cs)
+
+  pub all_idle_on : (cs ds es : List (Console T g)) → AllIdle cs ds → AllIdle ds es → AllIdle cs es
+  all_idle_on [] [] es p q = q
+  all_idle_on [] (y ∷ ds) es p q = absurd p
+  all_idle_on (x ∷ cs) [] es p q = absurd p
+  all_idle_on (x ∷ cs) (y ∷ ds) [] p q = absurd q
+  all_idle_on (x ∷ cs) (y ∷ ds) (z ∷ es) p q = (q.0 ∙ p.0, q.1 ∙ p.1, all_idle_on cs ds es p.2 q.2)
+
+  pub all_idle_set : (cs ds : List (Console T g)) (k : ℕ) (c d : Console T g) → AllIdle cs ds → slice_get ds k ≡ Some c → sent_of d ≡ sent_of c → received_of d ≡ received_of c → AllIdle cs (slice_set ds k d)
+  all_idle_set cs [] k c d all at sent received = absurd (none-some c at)
+  all_idle_set [] (y ∷ ds) k c d all at sent received = absurd all
+  all_idle_set (x ∷ cs) (y ∷ ds) zero c d all at sent received =
+      let same = sym (same_Some y c at) in
+      (sent ∙ (ap (λ (z : Console T g). sent_of z) same ∙ all.0), received ∙ (ap (λ (z : Console T g). received_of z) same ∙ all.1), all.2)
+  all_idle_set (x ∷ cs) (y ∷ ds) (suc k) c d all at sent received = (all.0, all.1, all_idle_set cs ds k c d all.2 at sent received)
 
   -- consoles that are the same ends have their inboxes
   pub have_still : (cs ds : List (Console T g)) (is js : List Inbox) → AllSame cs ds → SameInboxes is js → HaveInboxes cs is → HaveInboxes ds js

@@ -1,3 +1,4 @@
+pub mod Accounts
 pub mod Answering
 pub mod Causes
 pub mod Closed

@@ -10,3 +10,4 @@ pub mod Same
 pub mod Sequencing
 pub mod Serving
 pub mod Slots
+pub mod Sources

@@ -5,7 +5,7 @@ ghost use Rattle.alm_rings.specs.Placed.{SameOutboxAt, outbox_at};
 ghost use Rattle.alm_seq.specs.Sequences.{SameInboxes, live_base};
 ghost use Rattle.alm_threads.specs.Histories.{JudgesAll};
 ghost use Rattle.alm_threads.specs.Parts.{EndForCause, FailsForCause, HaveFlushed};
-ghost use Rattle.alm_threads.specs.Same.{AllSame};
+ghost use Rattle.alm_threads.specs.Same.{AllIdle, AllSame};
 ghost use Rattle.alm_threads.specs.Slots.{AreTied};
 
 use crate::closes::Closes;
@@ -83,6 +83,7 @@ pub fn end_run<
     requires honest { K.Device.honest (K.disk flusher.first.value) ↔
         K.Device.honest (K.disk flusher.flusher.store) }
     ensures consoles { AllSame consoles.items result.consoles.items }
+    ensures idle { AllIdle consoles.items result.consoles.items }
     ensures inboxes { SameInboxes sequencer.inboxes.items result.rings.inboxes.items }
     ensures sealed { SameSealEnds sequencer.ends result.rings.ends }
     ensures judged { JudgesAll (live_base sequencer) result.rings.inboxes.items

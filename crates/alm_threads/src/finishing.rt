@@ -3,12 +3,12 @@ ghost use Rattle.std.specs.Prelude.{◌≡◌, ◌↔◌, ℕ, false, true, Some
 ghost use Rattle.rtrb.specs.Ring.{IsPair};
 ghost use Rattle.alm_rings.specs.declared.inbox.Inbox.{Inbox};
 ghost use Rattle.alm_rings.specs.Batches.{AreBatchEnds, SameFetchEnds, SameSealEnds};
-ghost use Rattle.alm_rings.specs.Ends.{SameConsole};
+ghost use Rattle.alm_rings.specs.Ends.{SameConsole, received_of, sent_of};
 ghost use Rattle.alm_rings.specs.Placed.{SameOutboxAt, inbox_at, outbox_at, taken_by};
 ghost use Rattle.alm_seq.specs.Sequences.{SameInboxes, live_base};
 ghost use Rattle.alm_threads.specs.Causes.{StopsFor};
 ghost use Rattle.alm_threads.specs.Finished.{AreAllTaken, HaveInboxes, IsAllAnswered, IsTaken};
-ghost use Rattle.alm_threads.specs.Same.{AllSame};
+ghost use Rattle.alm_threads.specs.Same.{AllIdle, AllSame};
 
 use crate::recorded_flusher::RecordedFlusher;
 use crate::stop_cause::StopCause;
@@ -30,6 +30,8 @@ fn take_one<T: Told + Drop, P: Alarms + Drop>(
     requires pair { (i : Inbox) → inbox_at console.old.slot sequencer.old.inboxes.items ≡ Some i →
         IsPair console.old.requests i.requests }
     ensures console { SameConsole console.old console.new }
+    ensures idle { (sent_of console.new ≡ sent_of console.old) ×
+        (received_of console.new ≡ received_of console.old) }
     ensures inboxes { SameInboxes sequencer.old.inboxes.items sequencer.new.inboxes.items }
     ensures ends { sequencer.new.ends ≡ sequencer.old.ends }
     ensures base { live_base sequencer.new ≡ live_base sequencer.old }
@@ -48,6 +50,7 @@ fn take_each<T: Told + Drop, P: Alarms + Drop>(
 ) -> bool
     requires tied { HaveInboxes consoles.old sequencer.old.inboxes.items }
     ensures consoles { AllSame consoles.old consoles.new }
+    ensures idle { AllIdle consoles.old consoles.new }
     ensures inboxes { SameInboxes sequencer.old.inboxes.items sequencer.new.inboxes.items }
     ensures ends { sequencer.new.ends ≡ sequencer.old.ends }
     ensures base { live_base sequencer.new ≡ live_base sequencer.old }
@@ -110,6 +113,7 @@ fn finish_some<
     requires tied { HaveInboxes consoles.old sequencer.old.inboxes.items }
     requires batches { AreBatchEnds sequencer.old.ends flusher.old.flusher.fetch }
     ensures consoles { AllSame consoles.old consoles.new }
+    ensures idle { AllIdle consoles.old consoles.new }
     ensures inboxes { SameInboxes sequencer.old.inboxes.items sequencer.new.inboxes.items }
     ensures ends { SameSealEnds sequencer.old.ends sequencer.new.ends }
     ensures live { live_base sequencer.new ≡ live_base sequencer.old }
@@ -154,6 +158,7 @@ pub fn finish<
     requires tied { HaveInboxes consoles.old sequencer.old.inboxes.items }
     requires batches { AreBatchEnds sequencer.old.ends flusher.old.flusher.fetch }
     ensures consoles { AllSame consoles.old consoles.new }
+    ensures idle { AllIdle consoles.old consoles.new }
     ensures inboxes { SameInboxes sequencer.old.inboxes.items sequencer.new.inboxes.items }
     ensures ends { SameSealEnds sequencer.old.ends sequencer.new.ends }
     ensures live { live_base sequencer.new ≡ live_base sequencer.old }

@@ -2,8 +2,8 @@
 //!
 //! ```text
 //! let parts = parts_of(rt, alloc, new, store, slots, &hold)?;
-//! let report = run_threads(rt, alloc, parts, &hold, sources)?;
-//! let count = report.keeper.count();
+//! let end = run_threads(rt, alloc, parts, &hold, sources)?;
+//! let count = end.report.keeper.count();
 //! ```
 //!
 //! | call | does |
@@ -30,6 +30,9 @@
 //! anything is published by it. So each receipt and each look says of itself that what it reports stays on the device, whether
 //! the run ever returns or not.
 //!
+//! The sources come back too ([`RunEnd`]). Turns of a source, one after another, led from its new console to the one that it ended
+//! with. Nothing else sent or received there.
+//!
 //! A run that isn't whole has a [`StopCause`]. A failed step of the store is one only if the device failed, or in the last epoch.
 //!
 //! How that is had: each thread returns the ends that it was given, the sequencer's in its sequencer. So the caller that joins
@@ -42,6 +45,8 @@
 //! Proved:
 //! - each thread returns the ends that it was given, at the join too; a source takes its turns at its own slot's console
 //!   (by `run_source`, `start_all`, `join_all`, `start_sequencer`)
+//! - **all that was sent and received at a console was so in turns of its source, which comes back with the report** (by
+//!   `run_source`, `join_all`, `run_with_bells`)
 //! - what was taken and sealed is one legal history; what was stored a prefix of what was fetched, what was released a
 //!   prefix of that (by `sequence`, `end_run`)
 //! - honest device, at the end: each image holds what is stored, or that with the one batch whose commit wasn't done (by
@@ -72,13 +77,14 @@
 mod closes;
 mod closing;
 mod closing_board;
-mod console_back;
 mod ending;
 mod ends;
 mod finishing;
 mod flusher_parts;
 mod flushing;
 mod go;
+mod joined;
+mod joined_ends;
 pub mod laws;
 mod middle;
 mod not_started;
@@ -88,12 +94,15 @@ mod recorded_flusher;
 mod report;
 mod reporting;
 mod rings;
+mod run_end;
 mod running;
 mod sequencer_back;
 mod sequencing;
 mod slot_parts;
 mod slots;
 mod source;
+mod source_back;
+mod source_end;
 mod source_thread;
 mod start;
 mod start_fault;
@@ -104,13 +113,14 @@ mod watched_look;
 
 pub use closes::Closes;
 pub use closing_board::ClosingBoard;
-pub use console_back::ConsoleBack;
 pub use ending::{close_flusher, end_run};
 pub use ends::Ends;
 pub use finishing::finish;
 pub use flusher_parts::FlusherParts;
 pub use flushing::flush;
 pub use go::Go;
+pub use joined::Joined;
+pub use joined_ends::JoinedEnds;
 pub use middle::Middle;
 pub use not_started::NotStarted;
 pub use opening::parts_of;
@@ -118,11 +128,14 @@ pub use parts::Parts;
 pub use recorded_flusher::RecordedFlusher;
 pub use report::RunReport;
 pub use rings::Rings;
+pub use run_end::RunEnd;
 pub use running::{run_threads, run_with_bells};
 pub use sequencer_back::SequencerBack;
 pub use sequencing::sequence;
 pub use slot_parts::SlotParts;
 pub use source::Source;
+pub use source_back::SourceBack;
+pub use source_end::SourceEnd;
 pub use source_thread::run_source;
 pub use start::{join_all, start_all, start_one};
 pub use start_fault::StartFault;

@@ -2,6 +2,7 @@
 ghost use Rattle.std.specs.Prelude.{◌≡◌, ◌<◌, ◌≤◌, ◌^◌, [], length, IfOk, IfErr};
 ghost use Rattle.alm_rings.specs.Placed.{AreApart};
 ghost use Rattle.alm_shared.specs.SharedBoards.{board_shown, board_pending};
+ghost use Rattle.alm_threads.specs.Slots.{AreNewConsoles};
 ghost use Rattle.alm_types.specs.Sizes.{most_actions};
 ghost use Rattle.alm_moments.specs.Naming.{IsNamedAfter};
 
@@ -70,6 +71,7 @@ pub fn parts_of<'h, J: RunId, K: Store, H: Hold, R: Wait>(
     requires apart { AreApart (λ s. s) slots.items }
     ensures store { IfOk result (λ parts. parts.middle.flusher.store ≡ store) }
     ensures slots { IfOk result (λ parts. parts.slots ≡ slots) }
+    ensures new_consoles { IfOk result (λ parts. AreNewConsoles parts.consoles.items) }
     ensures refused { IfErr result (λ back. back ≡ store) }
 {
     let NewRun { history, moments } = new;

@@ -4,19 +4,21 @@ ghost use Rattle.alm_threads.specs.Parts.{AreBack};
 ghost use Rattle.alm_threads.specs.Runs.{IsRunOver};
 ghost use Rattle.alm_threads.specs.Serving.{ServesSlots};
 ghost use Rattle.alm_threads.specs.Slots.{AreTied};
+ghost use Rattle.alm_threads.specs.Sources.{AllAccount, state_of, states_of};
 
 use crate::closes::Closes;
 use crate::closing_board::ClosingBoard;
 use crate::ending::end_run;
-use crate::ends::Ends;
 use crate::flusher_parts::FlusherParts;
 use crate::flushing::flush;
+use crate::joined::Joined;
+use crate::joined_ends::JoinedEnds;
 use crate::middle::Middle;
 use crate::not_started::NotStarted;
 use crate::parts::Parts;
 use crate::recorded_flusher::RecordedFlusher;
-use crate::report::RunReport;
 use crate::reporting::report_of;
+use crate::run_end::RunEnd;
 use crate::slot_parts::{SlotParts, slot_parts_of};
 use crate::source::Source;
 use crate::start::{join_all, start_all};
@@ -25,7 +27,7 @@ use crate::starting::start_sequencer;
 use alm_board::{Board, Look, Publish};
 use alm_disk::Hold;
 use alm_moments::{Moments, RunId};
-use alm_rings::{Console, SlotReport, Told};
+use alm_rings::{SlotReport, Told};
 use alm_store::Store;
 use alm_types::Slot;
 use alm_wake::{Bell, Bells, Flags, ThreadBell};
@@ -56,10 +58,10 @@ fn run_all<
     slots: &'s Vec<Slot>,
     hold: &'s H,
     slot_parts: Vec<SlotParts<T, L, S>>,
-    room: Vec<Console<T>>,
+    room: Joined<T, S>,
     board: B,
     middle: Middle<K, T, J>,
-) -> Result<Ends<K, T, J>, NotStarted<K>>
+) -> Result<JoinedEnds<K, T, J, S>, NotStarted<K>>
 where
     T: 's,
     L: 's,
@@ -71,10 +73,16 @@ where
         middle.flusher.outboxes.items }
     requires base { (K.state middle.flusher.store).stored ≡ B.Board.base board }
     requires fresh { (B.Board.published board ≡ []) × (B.Board.pending board ≡ []) }
-    requires room { (room.items ≡ []) × (vec_len slot_parts ≤ vec_capacity room) }
+    requires consoles { (room.consoles.items ≡ []) ×
+        (vec_len slot_parts ≤ vec_capacity room.consoles) }
+    requires sources { (room.sources.items ≡ []) ×
+        (vec_len slot_parts ≤ vec_capacity room.sources) }
     ensures back { IfOk result
         (λ e. AreBack K.Store K.Device.Disk (map (λ p. p.console) slot_parts.items) middle.rings
-        middle.flusher e) }
+        middle.flusher e.ends) }
+    ensures accounts { IfOk result
+        (λ e. AllAccount S.did (map (λ p. state_of p.source p.look p.console) slot_parts.items)
+        e.sources.items e.ends.consoles.items) }
     ensures refused { IfErr result (λ e. e.store ≡ middle.flusher.store) }
 {
     let Middle {
@@ -105,8 +113,11 @@ where
     };
     let mut flusher = RecordedFlusher::new(store, board, outboxes, fetch, recorder, moments);
     flush(rt, flags, &mut flusher);
-    let consoles = join_all(rt, sources, room);
-    Ok(end_run(rt, consoles, sequencer.join(rt), flusher))
+    let Joined { consoles, sources } = join_all(rt, sources, room);
+    Ok(JoinedEnds {
+        ends: end_run(rt, consoles, sequencer.join(rt), flusher),
+        sources,
+    })
 }
 
 // The same, in a scope of its own that joins all threads that were started.
@@ -128,34 +139,45 @@ fn in_scope<
     slots: &'s Vec<Slot>,
     hold: &'s H,
     slot_parts: Vec<SlotParts<T, L, S>>,
-    room: Vec<Console<T>>,
+    room: Joined<T, S>,
     board: B,
     middle: Middle<K, T, J>,
-) -> Result<Ends<K, T, J>, NotStarted<K>>
+) -> Result<JoinedEnds<K, T, J, S>, NotStarted<K>>
     requires serves { ServesSlots slots.now.items middle.rings.inboxes.items }
     requires tied { AreTied (map (λ p. p.console) slot_parts.items) middle.rings.inboxes.items
         middle.flusher.outboxes.items }
     requires base { (K.state middle.flusher.store).stored ≡ B.Board.base board }
     requires fresh { (B.Board.published board ≡ []) × (B.Board.pending board ≡ []) }
-    requires room { (room.items ≡ []) × (vec_len slot_parts ≤ vec_capacity room) }
+    requires consoles { (room.consoles.items ≡ []) ×
+        (vec_len slot_parts ≤ vec_capacity room.consoles) }
+    requires sources { (room.sources.items ≡ []) ×
+        (vec_len slot_parts ≤ vec_capacity room.sources) }
     ensures back { IfOk result
         (λ e. AreBack K.Store K.Device.Disk (map (λ p. p.console) slot_parts.items) middle.rings
-        middle.flusher e) }
+        middle.flusher e.ends) }
+    ensures accounts { IfOk result
+        (λ e. AllAccount S.did (map (λ p. state_of p.source p.look p.console) slot_parts.items)
+        e.sources.items e.ends.consoles.items) }
     ensures refused { IfErr result (λ e. e.store ≡ middle.flusher.store) }
 {
     let closing = ClosingBoard::new(board, rt);
     thread::scope(
         thread::scope_env(),
         rt,
-        |scope| -> Result<Ends<K, T, J>, NotStarted<K>>
+        |scope| -> Result<JoinedEnds<K, T, J, S>, NotStarted<K>>
             requires { ServesSlots slots.now.items middle.rings.inboxes.items ×
                 AreTied (map (λ p. p.console) slot_parts.items) middle.rings.inboxes.items
                 middle.flusher.outboxes.items × ((K.state middle.flusher.store).stored ≡ B.Board.base closing.board) ×
                 (B.Board.published closing.board ≡ []) × (B.Board.pending closing.board ≡ []) ×
-                (room.items ≡ []) × (vec_len slot_parts ≤ vec_capacity room) }
+                (room.consoles.items ≡ []) × (vec_len slot_parts ≤ vec_capacity room.consoles) ×
+                (room.sources.items ≡ []) × (vec_len slot_parts ≤ vec_capacity room.sources) }
             ensures back { IfOk result
                 (λ e. AreBack K.Store K.Device.Disk (map (λ p. p.console) slot_parts.items)
-                middle.rings middle.flusher e) }
+                middle.rings middle.flusher e.ends) }
+            ensures accounts { IfOk result
+                (λ e. AllAccount S.did
+                (map (λ p. state_of p.source p.look p.console) slot_parts.items) e.sources.items
+                e.ends.consoles.items) }
             ensures refused { IfErr result (λ e. e.store ≡ middle.flusher.store) }
         {
             run_all(
@@ -174,11 +196,11 @@ fn in_scope<
     )
 }
 
-// Room for the parts of the slots, for the consoles that are returned, and for what each slot reports.
+// Room for the parts of the slots, for what their threads return, and for what each slot reports.
 #[derive(Drop)]
 struct Room<T: Told + Drop, L: Look<Told = T> + Drop, S: Source<T, L> + Drop> {
     slot_parts: Vec<SlotParts<T, L, S>>,
-    consoles: Vec<Console<T>>,
+    joined: Joined<T, S>,
     reports: Vec<Option<SlotReport>>,
 }
 
@@ -190,15 +212,18 @@ fn room_for<T: Told + Drop, L: Look<Told = T> + Drop, S: Source<T, L> + Drop>(
     ensures slot_parts { IfOk result
         (λ r. (r.slot_parts.items ≡ []) × (slots ≤ vec_capacity r.slot_parts)) }
     ensures consoles { IfOk result
-        (λ r. (r.consoles.items ≡ []) × (slots ≤ vec_capacity r.consoles)) }
+        (λ r. (r.joined.consoles.items ≡ []) × (slots ≤ vec_capacity r.joined.consoles)) }
+    ensures sources { IfOk result
+        (λ r. (r.joined.sources.items ≡ []) × (slots ≤ vec_capacity r.joined.sources)) }
     ensures reports { IfOk result (λ r. (r.reports.items ≡ []) × (slots ≤ vec_capacity r.reports)) }
 {
     let slot_parts = Vec::with_capacity(alloc, slots)?;
     let consoles = Vec::with_capacity(alloc, slots)?;
+    let sources = Vec::with_capacity(alloc, slots)?;
     let reports = Vec::with_capacity(alloc, slots)?;
     Ok(Room {
         slot_parts,
-        consoles,
+        joined: Joined { consoles, sources },
         reports,
     })
 }
@@ -226,19 +251,23 @@ pub fn run_with_bells<
     hold: &H,
     bells: Vec<E>,
     sources: Vec<S>,
-) -> Result<RunReport<K, T, J>, NotStarted<K>>
+) -> Result<RunEnd<K, T, J, S>, NotStarted<K>>
     requires sources { length sources.items ≡ length parts.slots.items }
     requires place { (k n : ℕ) (s : _) → slice_get sources.items k ≡ Some s → S.slot s ≡ Some n →
         slice_get parts.slots.items k ≡ Some n }
     ensures run { IfOk result
-        (IsRunOver K.Store K.Device.Disk parts.middle.flusher.store parts.slots.items
-        parts.consoles.items) }
+        (λ end. IsRunOver K.Store K.Device.Disk parts.middle.flusher.store parts.slots.items
+        parts.consoles.items end.report) }
+    ensures accounts { IfOk result
+        (λ end. AllAccount S.did
+        (states_of sources.items parts.looks.items parts.consoles.items) end.sources.items
+        end.report.consoles.value.items) }
     ensures refused { IfErr result (λ e. e.store ≡ parts.middle.flusher.store) }
 {
     let Ok(
         Room {
             slot_parts,
-            consoles: back,
+            joined,
             reports,
         },
     ) = room_for(alloc, parts.slots.len())
@@ -254,10 +283,13 @@ pub fn run_with_bells<
     } = parts;
     let slot_parts = slot_parts_of(slot_parts, consoles, looks, sources);
     let flags = Flags::new(Bells::new(slots.as_slice(), bells));
-    let ends = in_scope(
-        rt, alloc, &flags, &slots, hold, slot_parts, back, board, middle,
+    let JoinedEnds { ends, sources } = in_scope(
+        rt, alloc, &flags, &slots, hold, slot_parts, joined, board, middle,
     )?;
-    Ok(report_of(ends, reports))
+    Ok(RunEnd {
+        report: report_of(ends, reports),
+        sources,
+    })
 }
 
 /// Runs these parts with a source for each slot, in the order of the slots, each woken when a receipt is released to it. A fault
@@ -277,13 +309,17 @@ pub fn run_threads<
     parts: Parts<T, L, B, K, J>,
     hold: &H,
     sources: Vec<S>,
-) -> Result<RunReport<K, T, J>, StartFault>
+) -> Result<RunEnd<K, T, J, S>, StartFault>
     requires sources { length sources.items ≡ length parts.slots.items }
     requires place { (k n : ℕ) (s : _) → slice_get sources.items k ≡ Some s → S.slot s ≡ Some n →
         slice_get parts.slots.items k ≡ Some n }
     ensures run { IfOk result
-        (IsRunOver K.Store K.Device.Disk parts.middle.flusher.store parts.slots.items
-        parts.consoles.items) }
+        (λ end. IsRunOver K.Store K.Device.Disk parts.middle.flusher.store parts.slots.items
+        parts.consoles.items end.report) }
+    ensures accounts { IfOk result
+        (λ end. AllAccount S.did
+        (states_of sources.items parts.looks.items parts.consoles.items) end.sources.items
+        end.report.consoles.value.items) }
 {
     let Ok(mut bells) = Vec::with_capacity(alloc, sources.len()) else {
         drop(parts.close(rt));
@@ -296,7 +332,7 @@ pub fn run_threads<
         }
     }
     match run_with_bells(rt, alloc, parts, hold, bells, sources) {
-        Ok(report) => Ok(report),
+        Ok(end) => Ok(end),
         Err(NotStarted { fault, store: _ }) => Err(fault),
     }
 }

@@ -2,7 +2,7 @@
 ghost use Rattle.std.specs.Prelude.{◌≡◌, map, IfOk};
 ghost use Rattle.alm_rings.specs.Placed.{AreApart};
 ghost use Rattle.alm_threads.specs.Serving.{ServesNoOthers};
-ghost use Rattle.alm_threads.specs.Slots.{AreNew, AreTied};
+ghost use Rattle.alm_threads.specs.Slots.{AreNew, AreNewConsoles, AreTied};
 
 use alm_rings::{SlotEnds, Told, open_slot};
 use alm_types::Slot;
@@ -13,6 +13,7 @@ pub fn open_some<T: Told + Drop>(alloc: Global, slots: &[Slot]) -> Result<SlotEn
     requires { AreApart (λ s. s) slots.now }
     ensures order { IfOk result (λ e. map (λ c. c.slot) e.consoles.items ≡ slots.now) }
     ensures new { IfOk result (λ e. AreNew e.inboxes.items e.outboxes.items) }
+    ensures new_consoles { IfOk result (λ e. AreNewConsoles e.consoles.items) }
     ensures tied { IfOk result (λ e. AreTied e.consoles.items e.inboxes.items e.outboxes.items) }
     ensures only { IfOk result (λ e. ServesNoOthers slots.now e.inboxes.items) }
 {

@@ -1,25 +1,28 @@
 //! A source's thread.
 ghost use Rattle.std.specs.Prelude.{◌≡◌, ℕ, Some};
 ghost use Rattle.alm_rings.specs.Ends.{SameConsole};
+ghost use Rattle.alm_threads.specs.Sources.{Accounts, state_of};
 
 use crate::go::Go;
 use crate::source::Source;
+use crate::source_end::SourceEnd;
 use alm_board::Look;
 use alm_rings::{Console, Told};
 use alm_wake::{Bell, Flags};
 use std::sync::Wait;
 
 /// Takes turns until the source ends or `stop` is set. The sequencer is woken after a turn that may have sent something, the
-/// flusher after one that may have received something that it waits for.
+/// flusher after one that may have received something that it waits for. Nothing but its turns sends or receives at the console.
 pub fn run_source<
     T: Told + Drop,
     L: Look<Told = T> + Drop,
     S: Source<T, L> + Drop,
     B: Bell + Drop,
     R: Wait,
->(rt: &R, flags: &Flags<B>, console: Console<T>, look: L, source: S) -> Console<T>
+>(rt: &R, flags: &Flags<B>, console: Console<T>, look: L, source: S) -> SourceEnd<T, S>
     requires slot { (n : ℕ) → S.slot source ≡ Some n → console.slot ≡ n }
-    ensures { SameConsole console result }
+    ensures same { SameConsole console result.console }
+    ensures accounts { Accounts S.did (state_of source look console) result.source result.console }
 {
     let mut console = console;
     let mut look = look;
@@ -50,5 +53,5 @@ pub fn run_source<
         }
     }
     flags.end_source();
-    console
+    SourceEnd { console, source }
 }

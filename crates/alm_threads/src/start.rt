@@ -2,10 +2,13 @@
 ghost use Rattle.std.specs.Prelude.{◌≡◌, ◌≤◌, ℕ, [], map, IfOk, Some, vec_len, vec_capacity};
 ghost use Rattle.alm_rings.specs.Ends.{SameConsole};
 ghost use Rattle.alm_threads.specs.Same.{AllSame};
+ghost use Rattle.alm_threads.specs.Sources.{Accounts, AllAccount, state_of};
 
-use crate::console_back::ConsoleBack;
+use crate::joined::Joined;
 use crate::slot_parts::SlotParts;
 use crate::source::Source;
+use crate::source_back::SourceBack;
+use crate::source_end::SourceEnd;
 use crate::source_thread::run_source;
 use crate::start_fault::StartFault;
 use alm_board::Look;
@@ -16,7 +19,7 @@ use std::snapshot::Snapshot;
 use std::sync::Wait;
 use std::thread::{PromisedHandle, Scope, Threads};
 
-type Handle<T> = PromisedHandle<Console<T>, ConsoleBack<T>>;
+type Handle<T, L, S> = PromisedHandle<SourceEnd<T, S>, SourceBack<T, L, S>>;
 
 /// Starts one source in a thread of its own.
 pub fn start_one<
@@ -32,25 +35,27 @@ pub fn start_one<
     rt: &'s R,
     flags: &'s Flags<B>,
     own: SlotParts<T, L, S>,
-) -> Result<Handle<T>, StartFault>
+) -> Result<Handle<T, L, S>, StartFault>
 where
     T: 's,
     L: 's,
     S: 's,
     B: 's,
-    ensures { IfOk result (λ handle. handle.promise.0.value ≡ own.console) }
+    ensures { IfOk result (λ handle. handle.promise.0.value ≡ own) }
 {
+    let promise = SourceBack(Snapshot::of(&own));
     let SlotParts {
         console,
         look,
         source,
     } = own;
-    let promise = ConsoleBack(Snapshot::of(&console));
     match scope.spawn_with(
         promise,
-        move || -> Console<T>
+        move || -> SourceEnd<T, S>
             requires { (n : ℕ) → S.slot source ≡ Some n → console.slot ≡ n }
-            ensures { SameConsole console result }
+            ensures same { SameConsole console result.console }
+            ensures accounts { Accounts S.did (state_of source look console) result.source
+                result.console }
         { run_source(rt, flags, console, look, source) },
     ) {
         Ok(handle) => Ok(handle),
@@ -73,7 +78,7 @@ pub fn start_all<
     alloc: Global,
     flags: &'s Flags<B>,
     slot_parts: Vec<SlotParts<T, L, S>>,
-) -> Result<Vec<Handle<T>>, StartFault>
+) -> Result<Vec<Handle<T, L, S>>, StartFault>
 where
     T: 's,
     L: 's,
@@ -81,8 +86,7 @@ where
     B: 's,
     ensures len { IfOk result (λ handles. vec_len handles ≡ vec_len slot_parts) }
     ensures each { IfOk result
-        (λ handles.
-        map (λ h. h.promise.0.value) handles.items ≡ map (λ p. p.console) slot_parts.items) }
+        (λ handles. map (λ h. h.promise.0.value) handles.items ≡ slot_parts.items) }
 {
     let mut handles = match Vec::with_capacity(alloc, slot_parts.len()) {
         Ok(handles) => handles,
@@ -93,12 +97,7 @@ where
     };
     for own in slot_parts {
         match start_one(scope, rt, flags, own) {
-            Ok(handle) => {
-                if handles.push(handle).is_err() {
-                    flags.stop_all();
-                    return Err(StartFault::OutOfMemory);
-                }
-            }
+            Ok(handle) => handles.push_reserved(handle),
             Err(fault) => {
                 flags.stop_all();
                 return Err(fault);
@@ -108,19 +107,29 @@ where
     Ok(handles)
 }
 
-/// Joins them in the order of the slots. Takes no memory: the consoles go into `room`.
-pub fn join_all<T: Told + Drop, R: Threads>(
+/// Joins them in the order of the slots. Takes no memory: the consoles and the sources go into `room`.
+pub fn join_all<T: Told + Drop, L: Look<Told = T> + Drop, S: Source<T, L> + Drop, R: Threads>(
     rt: &R,
-    handles: Vec<Handle<T>>,
-    room: Vec<Console<T>>,
-) -> Vec<Console<T>>
-    requires room { (room.items ≡ []) × (vec_len handles ≤ vec_capacity room) }
-    ensures len { vec_len result ≡ vec_len handles }
-    ensures each { AllSame (map (λ h. h.promise.0.value) handles.items) result.items }
+    handles: Vec<Handle<T, L, S>>,
+    room: Joined<T, S>,
+) -> Joined<T, S>
+    requires consoles { (room.consoles.items ≡ []) × (vec_len handles ≤ vec_capacity room.consoles) }
+    requires sources { (room.sources.items ≡ []) × (vec_len handles ≤ vec_capacity room.sources) }
+    ensures len { vec_len result.consoles ≡ vec_len handles }
+    ensures each { AllSame (map (λ p. p.console) (map (λ h. h.promise.0.value) handles.items))
+        result.consoles.items }
+    ensures accounts { AllAccount S.did
+        (map (λ p. state_of p.source p.look p.console) (map (λ h. h.promise.0.value) handles.items))
+        result.sources.items result.consoles.items }
 {
-    let mut consoles = room;
+    let Joined {
+        mut consoles,
+        mut sources,
+    } = room;
     for handle in handles {
-        consoles.push_reserved(handle.join(rt));
+        let end = handle.join(rt);
+        consoles.push_reserved(end.console);
+        sources.push_reserved(end.source);
     }
-    consoles
+    Joined { consoles, sources }
 }

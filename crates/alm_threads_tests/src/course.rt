@@ -69,7 +69,7 @@ fn run_parts<
     requires { length sources.items ≡ length parts.slots.items }
 {
     match run_threads(rt, alloc, parts, hold, sources) {
-        Ok(report) => Some(left_of(report)),
+        Ok(end) => Some(left_of(end.report)),
         Err(_) => None,
     }
 }

@@ -17,8 +17,6 @@
 
 pub mod all_slots;
 pub mod asker;
-#[cfg(test)]
-mod bells;
 pub mod caller;
 pub mod course;
 pub mod devices;

@@ -20,7 +20,7 @@ use alm_moments::RunId;
 use alm_plant::Plant;
 use alm_shared::{Durable, NewRun, SharedBoard, SharedLook};
 use alm_store::Store;
-use alm_threads::{Closes, Parts, StopCause, Storage, WatchedLook, parts_of, run_threads};
+use alm_threads::{Closes, Parts, RunEnd, StopCause, Storage, WatchedLook, parts_of, run_threads};
 use alm_types::{Action, Batch, Moment, Slot};
 use std::alloc::{AllocError, Global};
 use std::marker::Brand;
@@ -104,7 +104,9 @@ fn run_parts<
         middle,
     };
     match run_threads(rt, alloc, parts, hold, sources) {
-        Ok(report) => Some((report.storage, report.cause, report.keeper.count())),
+        Ok(RunEnd { report, sources: _ }) => {
+            Some((report.storage, report.cause, report.keeper.count()))
+        }
         Err(_) => None,
     }
 }

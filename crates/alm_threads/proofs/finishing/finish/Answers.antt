@@ -1,13 +1,14 @@
 use Rattle.std.proofs.Common.{◌∙◌, refl, rules}
 use Rattle.alm_rings.specs.Placed.{inbox_at, outbox_at}
 use Rattle.alm_rings.proofs.Slots.{same_inbox_at, same_outbox_at}
-use Rattle.alm_threads.proofs.Finished.{all_same_on, all_same_self, have_still}
+use Rattle.alm_threads.proofs.Finished.{all_idle_on, all_idle_self, all_same_on, all_same_self, have_still}
 use Rattle.alm_threads.proofs.Serves.{out_trans, same_at_trans}
 use Rattle.alm_threads.proofs.finishing.finish.Goals as goal
 
 pub loop-init : goal.loop-init
 loop-init g c = record {
   consoles = all_same_self c.args.consoles.now;
+  idle = all_idle_self c.args.consoles.now;
   inboxes = λ s. same_inbox_at (inbox_at s c.args.sequencer.now.inboxes.items);
   ends = search rules;
   live = refl;
@@ -25,12 +26,16 @@ finish_some-requires-clause-tied g c =
 pub returns-then-finish_some-clause-consoles : goal.returns-then-finish_some-clause-consoles
 returns-then-finish_some-clause-consoles g c = all_same_on c.args.consoles.now c.loop.consoles c.finish_some.new.consoles c.loop.invariant.consoles c.finish_some.ensures.consoles
 
+pub returns-then-finish_some-clause-idle : goal.returns-then-finish_some-clause-idle
+returns-then-finish_some-clause-idle g c = all_idle_on c.args.consoles.now c.loop.consoles c.finish_some.new.consoles c.loop.invariant.idle c.finish_some.ensures.idle
+
 pub loop-preserved : goal.loop-preserved
 loop-preserved g c =
     let l = c.loop.invariant in
     let e = c.finish_some.ensures in
     record {
       consoles = all_same_on c.args.consoles.now c.loop.consoles c.finish_some.new.consoles l.consoles e.consoles;
+      idle = all_idle_on c.args.consoles.now c.loop.consoles c.finish_some.new.consoles l.idle e.idle;
       inboxes = λ s. same_at_trans (inbox_at s c.args.sequencer.now.inboxes.items) (inbox_at s c.loop.sequencer.inboxes.items) (inbox_at s c.finish_some.new.sequencer.inboxes.items) (l.inboxes s) (e.inboxes s);
       ends = search rules;
       live = e.live ∙ l.live;

@@ -2,12 +2,13 @@ use Rattle.std.specs.Prelude.{◌≡◌, ◌↔◌, ℕ}
 use Rattle.alm_rings.specs.Batches.{SameFetchEnds, SameSealEnds}
 use Rattle.alm_rings.specs.Placed.{SameOutboxAt, outbox_at}
 use Rattle.alm_seq.specs.Sequences.{SameInboxes, live_base}
-use Rattle.alm_threads.specs.Same.{AllSame}
+use Rattle.alm_threads.specs.Same.{AllIdle, AllSame}
 use Rattle.alm_threads.proofs.finishing.finish.Given as goal
 
 abbrev pub invariant-loop : goal.invariant-loop
 invariant-loop g l = record {
   consoles : AllSame l.fn.consoles l.consoles;
+  idle : AllIdle l.fn.consoles l.consoles;
   inboxes : SameInboxes l.fn.sequencer.inboxes.items l.sequencer.inboxes.items;
   ends : SameSealEnds l.fn.sequencer.ends l.sequencer.ends;
   live : live_base l.sequencer ≡ live_base l.fn.sequencer;

@@ -4,12 +4,12 @@ use Rattle.std.proofs.lemmas.Option.{slice_get_read, slice_get_within}
 use Rattle.rtrb.specs.Ring.{IsPair}
 use Rattle.alm_rings.specs.declared.console.Console.{Console}
 use Rattle.alm_rings.specs.declared.inbox.Inbox.{Inbox}
-use Rattle.alm_rings.specs.Ends.{SameConsole}
+use Rattle.alm_rings.specs.Ends.{SameConsole, sent_of, received_of}
 use Rattle.alm_rings.specs.Placed.{inbox_at}
 use Rattle.alm_rings.proofs.Slots.{same_inbox_at}
 use Rattle.alm_threads.specs.Finished.{IsTaken}
 use Rattle.alm_threads.proofs.Causes.{clash}
-use Rattle.alm_threads.proofs.Finished.{all_same_length, all_same_self, all_same_set, get_set, have_still}
+use Rattle.alm_threads.proofs.Finished.{all_idle_self, all_idle_set, all_same_length, all_same_self, all_same_set, get_set, have_still}
 use Rattle.alm_threads.proofs.Serves.{same_at_trans}
 use Rattle.alm_threads.proofs.finishing.take_each.Goals.{then-take_one, else-take_one}
 use Rattle.alm_threads.proofs.finishing.take_each.Goals as goal
@@ -17,6 +17,7 @@ use Rattle.alm_threads.proofs.finishing.take_each.Goals as goal
 pub loop-console-init : goal.loop-console-init
 loop-console-init g c = record {
   consoles = all_same_self c.args.consoles.now;
+  idle = all_idle_self c.args.consoles.now;
   inboxes = λ s. same_inbox_at (inbox_at s c.args.sequencer.now.inboxes.items);
   ends = refl;
   base = refl;
@@ -46,6 +47,9 @@ loop-console-preserved g c =
     let at = slice_get_read l.consoles _ l.console-index _ (all_same_length c.args.consoles.now l.consoles l.invariant.consoles) c.loop-console-test.true c.console-item.is in
     record {
       consoles = all_same_set c.args.consoles.now l.consoles l.console-index c.console-item.result new l.invariant.consoles at (subst (λ (x : Console _ _). SameConsole x new) (sym c.console-item.is) e.console);
+      idle = all_idle_set c.args.consoles.now l.consoles l.console-index c.console-item.result new l.invariant.idle at
+          (subst (λ (x : Console _ _). sent_of new ≡ sent_of x) (sym c.console-item.is) e.idle.0)
+          (subst (λ (x : Console _ _). received_of new ≡ received_of x) (sym c.console-item.is) e.idle.1);
       inboxes = λ s. same_at_trans (inbox_at s c.args.sequencer.now.inboxes.items) (inbox_at s l.sequencer.inboxes.items) (inbox_at s boxes) (l.invariant.inboxes s) (e.inboxes s);
       ends = e.ends ∙ l.invariant.ends;
       base = e.base ∙ l.invariant.base;

@@ -1,4 +1,4 @@
-use Rattle.std.proofs.Common.{◌∙◌, ℕ, ap, rules, subst}
+use Rattle.std.proofs.Common.{◌∙◌, ℕ, map, ap, rules, subst}
 use Rattle.alm_model.specs.Plant.{Condensed}
 use Rattle.alm_rings.specs.Batches.{SameSealEnds}
 use Rattle.alm_rings.specs.Placed.{SameOutboxAt, inbox_at, outbox_at}
@@ -8,6 +8,8 @@ use Rattle.alm_threads.specs.Parts.{FailsForCause, HaveFlushed}
 use Rattle.alm_threads.specs.Same.{AllSame}
 use Rattle.alm_threads.specs.declared.rings.Rings.{Rings}
 use Rattle.alm_threads.proofs.Finished.{all_same_on}
+use Rattle.alm_threads.proofs.Accounts.{accounts_on}
+use Rattle.alm_threads.specs.Sources.{AllAccount, state_of}
 use Rattle.alm_threads.proofs.Serves.{out_trans, same_at_trans}
 use Rattle.alm_threads.proofs.Tied.{tied_still}
 use Rattle.alm_threads.proofs.running.run_all.Goals as goal
@@ -21,10 +23,10 @@ pub end_run-requires-clause-tied : goal.end_run-requires-clause-tied
 end_run-requires-clause-tied g c =
     let m = c.args.middle in
     let back = c.join.result in
-    let consoles = c.join_all-consoles.result.items in
+    let consoles = c.join_all-consoles.result.consoles.items in
     let flushed = c.flush.new.flusher.flusher.outboxes.items in
     tied_still _ consoles m.rings.inboxes.items back.inboxes.items m.flusher.outboxes.items flushed
-    (subst (λ cs. AllSame cs consoles) c.in-Ok-start_all.ensures.each c.join_all-consoles.ensures.each)
+    (subst (λ ps. AllSame (map (λ p. p.console) ps) consoles) c.in-Ok-start_all.ensures.each c.join_all-consoles.ensures.each)
     (subst (λ (r : Rings). SameInboxes r.inboxes.items back.inboxes.items) c.in-Ok.ensures.0 c.join.ensures.inboxes)
     (λ s. subst (λ o. SameOutboxAt (outbox_at s o.items) (outbox_at s flushed)) c.new-flusher.ensures.parts.2 (c.flush.ensures.outboxes s)) c.requires.tied
 
@@ -36,9 +38,9 @@ returns-clause-back g c =
     let back = c.join.result in
     let end = c.end_run.result in
     let e = c.end_run.ensures in
-    let consoles = c.join_all-consoles.result.items in
+    let consoles = c.join_all-consoles.result.consoles.items in
     let flushed = c.flush.new.flusher.flusher in
-    let joined = subst (λ cs. AllSame cs consoles) c.in-Ok-start_all.ensures.each c.join_all-consoles.ensures.each in
+    let joined = subst (λ ps. AllSame (map (λ p. p.console) ps) consoles) c.in-Ok-start_all.ensures.each c.join_all-consoles.ensures.each in
     let all = all_same_on _ consoles end.consoles.items joined e.consoles in
     let first = ap (λ x. x.value) c.flush.ensures.first ∙ c.new-flusher.ensures.first in
     let inboxes : SameInboxes m.rings.inboxes.items end.rings.inboxes.items = λ n.
@@ -65,3 +67,10 @@ returns-clause-back g c =
       end = e.end;
       failed = subst (λ k. FailsForCause s d end.cause k end.flusher.store) first e.failed;
     }
+
+pub returns-clause-accounts : goal.returns-clause-accounts
+returns-clause-accounts g c =
+    let joined = c.join_all-consoles in
+    let did = g.S.Source.did in
+    let all = subst (λ ps. AllAccount did (map (λ p. state_of p.source p.look p.console) ps) joined.result.sources.items joined.result.consoles.items) c.in-Ok-start_all.ensures.each joined.ensures.accounts in
+    accounts_on did (map (λ p. state_of p.source p.look p.console) c.args.slot_parts.items) joined.result.sources.items joined.result.consoles.items c.end_run.result.consoles.items c.end_run.ensures.idle all

@@ -1,4 +1,4 @@
-use Rattle.std.proofs.Common.{◌≡◌, ◌∙◌, ◌++◌, ℕ, Some, slice_get, length, ap, sym, subst, arith}
+use Rattle.std.proofs.Common.{◌≡◌, ◌∙◌, ◌++◌, ℕ, Some, slice_get, length, map, ap, sym, subst, arith}
 use Rattle.std.specs.Prelude.{IsSome}
 use Rattle.alm_model.specs.Judging.{accepted_of, entries_in, of_slot}
 use Rattle.alm_model.specs.Step.{run}
@@ -13,6 +13,8 @@ use Rattle.alm_threads.specs.Same.{AllSame}
 use Rattle.alm_threads.specs.Parts.{FailsForCause}
 use Rattle.alm_threads.specs.Runs.{AnswersConsole, HasReport}
 use Rattle.alm_threads.specs.Slots.{AreTied}
+use Rattle.alm_threads.specs.Sources.{AllAccount, states_of}
+use Rattle.alm_threads.proofs.Accounts.{states_are}
 use Rattle.alm_threads.proofs.Answering.{answers_by, nobody_asked}
 use Rattle.alm_threads.proofs.Tied.{stands_at, apart_by, map_count, front_on, entries_front, same_slots}
 use Rattle.alm_threads.proofs.running.run_with_bells.Goals as goal
@@ -37,14 +39,14 @@ in_scope-requires-clause-tied g c = λ _ _.
 pub report_of-requires-clause-apart : goal.report_of-requires-clause-apart
 report_of-requires-clause-apart g c =
     let p = c.args.parts in
-    let back = c.in_ok-ends.ends.consoles.items in
+    let back = c.in_ok-ends.field-0.ends.consoles.items in
     let all = subst (λ cs. AllSame cs back) c.slot_parts_of-slot_parts.ensures.consoles c.in_ok-ends.ensures.back.same in
     apart_by (λ (x : Console _ _). x.slot) back p.slots.items (same_slots p.consoles.items back all ∙ p.order) p.apart
 
 pub report_of-requires-clause-room : goal.report_of-requires-clause-room
 report_of-requires-clause-room g c =
     let p = c.args.parts in
-    let back = c.in_ok-ends.ends.consoles in
+    let back = c.in_ok-ends.field-0.ends.consoles in
     let all = subst (λ cs. AllSame cs back.items) c.slot_parts_of-slot_parts.ensures.consoles c.in_ok-ends.ensures.back.same in
     let order = same_slots p.consoles.items back.items all ∙ p.order in
     (c.in-Ok.ensures.reports.0, omega (arith, c.in-Ok.ensures.reports.1, c.len.ensures, back.ok, p.slots.ok, map_count (λ (x : Console _ _). x.slot) back.items, ap length order))
@@ -52,7 +54,7 @@ report_of-requires-clause-room g c =
 pub returns-clause-run : goal.returns-clause-run
 returns-clause-run g c =
     let p = c.args.parts in
-    let e = c.in_ok-ends.ends in
+    let e = c.in_ok-ends.field-0.ends in
     let f = c.in_ok-ends.ensures.back in
     let all = subst (λ cs. AllSame cs e.consoles.items) c.slot_parts_of-slot_parts.ensures.consoles f.same in
     let order = same_slots p.consoles.items e.consoles.items all ∙ p.order in
@@ -91,3 +93,20 @@ returns-clause-run g c =
       failed = failed_by c.report_of.result.storage c.report_of.result.cause e.cause (λ stopped. c.report_of.ensures.cause stopped) c.report_of.result.uncaused
           (subst (λ k. FailsForCause g.K.Store g.K.Device.Disk e.cause p.middle.flusher.store k) (sym c.report_of.ensures.keeper) f.failed);
     }
+
+pub returns-clause-accounts : goal.returns-clause-accounts
+returns-clause-accounts g c =
+    let p = c.args.parts in
+    let e = c.in_ok-ends in
+    let made = c.slot_parts_of-slot_parts in
+    let did = g.S.Source.did in
+    let sources = e.field-0.sources.items in
+    let looks = map (λ q. q.look) made.result.items in
+    let consoles = map (λ q. q.console) made.result.items in
+    let states =
+    states_are (λ q. q.source) (λ q. q.look) (λ q. q.console) made.result.items
+    ∙ (ap (λ xs. states_of xs looks consoles) made.ensures.sources
+    ∙ (ap (λ ls. states_of c.args.sources.items ls consoles) made.ensures.looks
+    ∙ ap (λ cs. states_of c.args.sources.items p.looks.items cs) made.ensures.consoles)) in
+    subst (λ (cs : _). AllAccount did (states_of c.args.sources.items p.looks.items p.consoles.items) sources cs.items) (sym c.report_of.ensures.consoles)
+    (subst (λ froms. AllAccount did froms sources e.field-0.ends.consoles.items) states e.ensures.accounts)

@@ -5,7 +5,7 @@ use Rattle.rtrb.specs.Ring.{IsPair}
 use Rattle.alm_rings.specs.declared.console.Console.{Console}
 use Rattle.alm_rings.specs.declared.inbox.Inbox.{Inbox}
 use Rattle.alm_rings.specs.declared.outbox.Outbox.{Outbox}
-use Rattle.alm_rings.specs.Ends.{taken_of, released_of}
+use Rattle.alm_rings.specs.Ends.{received_of, released_of, sent_of, taken_of}
 use Rattle.alm_rings.specs.Placed.{taken_in, released_in, inbox_at, outbox_at}
 use Rattle.alm_rings.proofs.Ordered.{push_cases, opt_cases}
 use Rattle.alm_rings.proofs.Slots.{place_of}
@@ -32,6 +32,10 @@ loop-slot-preserved g c =
       con_order = λ j k is. elim (at_c j k is) [
         | inl old ↦ inv.con_order j k old
         | inr new ↦ subst (λ (x : Console _ _). slice_get c.args.slots.now j ≡ Some x.slot) new.1 (ap (slice_get c.args.slots.now) (new.0 ∙ inv.consoles) ∙ (item ∙ ap Some (sym e.ensures.slot.0)))
+      ];
+      new = λ j k is. elim (at_c j k is) [
+        | inl old ↦ inv.new j k old
+        | inr new ↦ subst (λ (x : Console _ _). (sent_of x ≡ []) × (received_of x ≡ [])) new.1 (e.ensures.new.0, e.ensures.new.1)
       ];
       in_order = λ j k is. elim (at_i j k is) [
         | inl old ↦ inv.in_order j k old

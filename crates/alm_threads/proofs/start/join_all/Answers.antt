@@ -1,13 +1,25 @@
 use Rattle.std.proofs.Common.{◌∷◌, [], map, arith, length-append}
 use Rattle.std.proofs.lemmas.List.{map-append}
+use Rattle.alm_threads.specs.Sources.{state_of}
+use Rattle.alm_threads.proofs.Accounts.{accounts_snoc}
 use Rattle.alm_threads.proofs.Sames.{all_same_snoc}
 use Rattle.alm_threads.proofs.start.join_all.Goals as goal
 
 pub loop-handle-preserved : goal.loop-handle-preserved
 loop-handle-preserved g c =
-    let before = c.loop-handle.invariant in
-    let same = all_same_snoc (map (λ h. h.promise.0.value) c.loop-handle.yielded) c.loop-handle.consoles.items c.in-Some.handle.promise.0.value c.join.result before.2 c.join.ensures in (
-      omega (arith, before.0, c.push_reserved.ensures.items, length-append c.loop-handle.consoles.items (c.join.result ∷ []), length-append c.loop-handle.yielded (c.in-Some.handle ∷ [])),
-      omega (arith, before.1, c.push_reserved.ensures.capacity),
-      rw (c.push_reserved.ensures.items, map-append) same,
-    )
+    let inv = c.loop-handle.invariant in
+    let parts = map (λ h. h.promise.0.value) c.loop-handle.yielded in
+    let part = c.in-Some.handle.promise.0.value in
+    let end = c.join-end.result in
+    let same = all_same_snoc (map (λ p. p.console) parts) c.loop-handle.consoles.items part.console end.console inv.same c.join-end.ensures.0 in
+    let accounts = accounts_snoc g.S.Source.did (map (λ p. state_of p.source p.look p.console) parts) c.loop-handle.sources.items c.loop-handle.consoles.items (state_of part.source part.look part.console) end.source end.console inv.accounts c.join-end.ensures.1 in
+    let consoles = c.push_reserved.ensures in
+    let sources = c.push_reserved-in-loop-handle.ensures in
+    record {
+      consoles = omega (arith, inv.consoles, consoles.items, length-append c.loop-handle.consoles.items (end.console ∷ []), length-append c.loop-handle.yielded (c.in-Some.handle ∷ []));
+      console_room = omega (arith, inv.console_room, consoles.capacity);
+      sources = omega (arith, inv.sources, sources.items, length-append c.loop-handle.sources.items (end.source ∷ []), length-append c.loop-handle.yielded (c.in-Some.handle ∷ []));
+      source_room = omega (arith, inv.source_room, sources.capacity);
+      same = rw (consoles.items, map-append, map-append) same;
+      accounts = rw (consoles.items, sources.items, map-append, map-append) accounts;
+    }
