@@ -2,7 +2,6 @@
 use Rattle.std.proofs.Common.{◌≡◌, ℕ, ◌+◌, List, [], ◌∷◌, ◌++◌, length, refl, ap, sym, subst, ◌∙◌, arith}
 use Rattle.std.specs.Prelude.{map}
 use Rattle.std.specs.List.{flat_map}
-use Rattle.std.specs.Io.KnownBytes.{Appends}
 use Rattle.std.proofs.lemmas.List.{append-nil}
 use Rattle.alm_model.specs.Plant.{Condensed}
 use Rattle.alm_lines.specs.declared.line.Line.{Line}
@@ -36,7 +35,7 @@ answered_all {looks} base n a b p fresh finished =
       met = p.met;
       read = p.read;
       lines = ap (map line_kind) taken ∙ order;
-      written = subst (λ (t : List ℕ). Appends a.written b.written t) (sym text) p.written;
+      written = p.written ∙ ap (λ (t : List ℕ). a.written ++ t) (sym text);
       heard = p.heard;
       learnt = p.learnt;
       serials = λ have. subst (λ (k : ℕ). HaveSerials k (flat_map heards p.met)) (let same : 1 + length a.heard ≡ length a.sent + 1 = omega (arith, fresh.3) in same)

@@ -2,7 +2,7 @@
 use Rattle.std.proofs.Common.{◌≡◌, ℕ, ◌+◌, List, [], ◌∷◌, ◌++◌, length, take, refl, ap, sym, subst, ◌∙◌, arith, append_assoc, length-append}
 use Rattle.std.specs.Prelude.{Result, map, if◌then◌else◌}
 use Rattle.std.specs.List.{flat_map}
-use Rattle.std.proofs.KnownBytes.{Appends-trans, Consumes-trans}
+use Rattle.std.proofs.KnownBytes.{Consumes-trans}
 use Rattle.std.proofs.lemmas.List.{map-append}
 use Rattle.std.proofs.lemmas.Grind.{flat_map-append}
 use Rattle.std.proofs.Common.{Bool, true, false}
@@ -40,13 +40,17 @@ refused_over-append base n (x ∷ xs) ys = refused_over-append base (refused_nex
 across : {X : Type 0} (a b c s t u v : List X) → a ++ s ≡ u ++ b → b ++ t ≡ v ++ c → a ++ (s ++ t) ≡ (u ++ v) ++ c
 across a b c s t u v p q = sym (append_assoc a s t) ∙ ap (λ l. l ++ t) p ∙ append_assoc u b t ∙ ap (λ l. u ++ l) q ∙ sym (append_assoc u v c)
 
+-- a list that grew twice
+longer : {X : Type 0} (a b c s t : List X) → b ≡ a ++ s → c ≡ b ++ t → c ≡ a ++ (s ++ t)
+longer {X} a b c s t p q = q ∙ ap (λ (l : List X). l ++ t) p ∙ append_assoc a s t
+
 pub joined : {looks : Looks} {base : Condensed} {m n : ℕ} {a b c : SlotState} → IsTurn looks base m a b → IsTurn looks base n b c → IsTurn looks base (m + n) a c
 joined {looks} {base} {m} {n} {a} {b} {c} p q = record {
   got = p.got ++ q.got;
   wrote = p.wrote ++ q.wrote;
   taken = p.taken ++ q.taken;
   met = p.met ++ q.met;
-  read = Consumes-trans a.coming b.coming c.coming p.got q.got p.read q.read;
+  read = (longer a.input.came b.input.came c.input.came p.got q.got p.read.0 q.read.0, Consumes-trans a.input.coming b.input.coming c.input.coming p.got q.got p.read.1 q.read.1);
   lines = ap (λ (l : List Line). lines_in a.held ++ l) (lines_from-append (open_in a.held) p.got q.got ∙ ap (λ (h : List ℕ). lines_from (open_in a.held) p.got ++ lines_from h q.got) (sym p.open_line))
       ∙ across (lines_in a.held) (lines_in b.held) (lines_in c.held) (lines_from (open_in a.held) p.got) (lines_from (open_in b.held) q.got) p.taken q.taken p.lines q.lines;
   open_line = q.open_line ∙ ap (λ (h : List ℕ). held_behind h q.got) p.open_line ∙ sym (fed-append (open_in a.held) p.got q.got);
@@ -55,7 +59,7 @@ joined {looks} {base} {m} {n} {a} {b} {c} p q = record {
       ∙ ap (λ (l : List LineKind). l ++ map action c.waiting) (sym (flat_map-append kinds p.met q.met));
   text = ap (λ (l : List ℕ). a.left ++ l) (flat_map-append (answer_text base) p.met q.met)
       ∙ across a.left b.left c.left (flat_map (answer_text base) p.met) (flat_map (answer_text base) q.met) p.wrote q.wrote p.text q.text;
-  written = Appends-trans a.written b.written c.written p.wrote q.wrote p.written q.written;
+  written = longer a.written b.written c.written p.wrote q.wrote p.written q.written;
   sent = q.sent ∙ ap (λ (l : List Action). l ++ flat_map wants q.taken) p.sent ∙ append_assoc a.sent (flat_map wants p.taken) (flat_map wants q.taken) ∙ ap (λ (l : List Action). a.sent ++ l) (sym (flat_map-append wants p.taken q.taken));
   heard = q.heard ∙ ap (λ (l : List Heard). l ++ flat_map heards q.met) p.heard ∙ append_assoc a.heard (flat_map heards p.met) (flat_map heards q.met) ∙ ap (λ (l : List Heard). a.heard ++ l) (sym (flat_map-append heards p.met q.met));
   learnt = knows-append looks base a.known b.known c.known p.met q.met p.learnt q.learnt;

@@ -2,8 +2,7 @@
 use Rattle.std.proofs.Common.{◌≡◌, ℕ, ◌+◌, ◌≤◌, List, [], ◌∷◌, ◌++◌, Option, Some, None, length, take, drop, refl, ap, sym, ◌∙◌, arith, length-append}
 use Rattle.std.specs.Prelude.{map}
 use Rattle.std.specs.List.{flat_map}
-use Rattle.std.specs.Io.KnownBytes.{Consumes, Appends}
-use Rattle.std.proofs.KnownBytes.{Appends-nil}
+use Rattle.std.specs.Io.KnownBytes.{Consumes}
 use Rattle.std.proofs.lemmas.List.{take-append-drop, append-nil, length-take-le}
 use Rattle.alm_types.specs.declared.action.Action.{Action}
 use Rattle.alm_model.specs.Plant.{Condensed}
@@ -12,11 +11,15 @@ use Rattle.alm_lines.specs.Stream.{held_behind}
 use Rattle.alm_desk.specs.Answers.{verdict_reply}
 use Rattle.alm_board.specs.Fronts.{IsFront}
 use Rattle.alm_session.specs.Intakes.{Untaken, lines_from, lines_in, open_in}
+use Rattle.alm_session.specs.Wires.{WireInput, Gives}
 use Rattle.alm_session.specs.Turns.{Heard, LineAnswer, by_receipt, by_look, look_refused, no_room, stopped, bad_line, unasked, answer_text, LineKind, action, line_kind, kinds, heards, unasked_receipts, wants, LearnsAll, Learns, refused_next, refused_over, SlotState, IsTurn, Looks, no_looks}
 
-pub consumes_nil : (o : Option (List ℕ)) → Consumes o o []
+consumes_nil : (o : Option (List ℕ)) → Consumes o o []
 consumes_nil None = tt
 consumes_nil (Some xs) = refl
+
+gives_nil : (i : WireInput) → Gives i i []
+gives_nil i = (sym (append-nil i.came), consumes_nil i.coming)
 
 -- what stays of one that is put after no others
 one_text : (base : Condensed) (left : List ℕ) (m : LineAnswer) → left ++ flat_map (answer_text base) (m ∷ []) ≡ left ++ answer_text base m
@@ -24,18 +27,18 @@ one_text base left m = ap (λ (t : List ℕ). left ++ t) (append-nil (answer_tex
 
 -- the only change is that bytes are taken up to the next line
 pub still : {looks : Looks} (base : Condensed) (a b : SlotState) → lines_in b.held ≡ lines_in a.held → open_in b.held ≡ open_in a.held → b.waiting ≡ a.waiting → b.left ≡ a.left → b.known ≡ a.known
-    → b.coming ≡ a.coming → b.written ≡ a.written → b.sent ≡ a.sent → b.heard ≡ a.heard → b.refused ≡ a.refused → IsTurn looks base 0 a b
-still {looks} base a b lines opens waiting left known coming written sent heard refused = record {
+    → b.input ≡ a.input → b.written ≡ a.written → b.sent ≡ a.sent → b.heard ≡ a.heard → b.refused ≡ a.refused → IsTurn looks base 0 a b
+still {looks} base a b lines opens waiting left known input written sent heard refused = record {
   got = [];
   wrote = [];
   taken = [];
   met = [];
-  read = rw coming (consumes_nil a.coming);
+  read = rw input (gives_nil a.input);
   lines = append-nil (lines_in a.held) ∙ sym lines;
   open_line = opens;
   order = append-nil (map action a.waiting) ∙ ap (map action) (sym waiting);
   text = append-nil a.left ∙ sym left;
-  written = rw written (Appends-nil a.written);
+  written = written ∙ sym (append-nil a.written);
   sent = sent ∙ sym (append-nil a.sent);
   heard = heard ∙ sym (append-nil a.heard);
   learnt = known;
@@ -46,18 +49,18 @@ still {looks} base a b lines opens waiting left known coming written sent heard 
 
 -- a receipt answers the first line that waits
 pub answered : {looks : Looks} (base : Condensed) (a b : SlotState) (id : ℕ) (h : Heard) → b.held ≡ a.held → a.waiting ≡ id ∷ b.waiting → b.left ≡ a.left ++ answer_text base (by_receipt id h) → IsFront a.known b.known → IsFront h.list b.known
-    → b.coming ≡ a.coming → b.written ≡ a.written → b.sent ≡ a.sent → b.heard ≡ a.heard ++ h ∷ [] → b.refused ≡ a.refused → IsTurn looks base 1 a b
-answered {looks} base a b id h held waiting left known learnt coming written sent heard refused = record {
+    → b.input ≡ a.input → b.written ≡ a.written → b.sent ≡ a.sent → b.heard ≡ a.heard ++ h ∷ [] → b.refused ≡ a.refused → IsTurn looks base 1 a b
+answered {looks} base a b id h held waiting left known learnt input written sent heard refused = record {
   got = [];
   wrote = [];
   taken = [];
   met = by_receipt id h ∷ [];
-  read = rw coming (consumes_nil a.coming);
+  read = rw input (gives_nil a.input);
   lines = append-nil (lines_in a.held) ∙ ap lines_in (sym held);
   open_line = ap open_in held;
   order = append-nil (map action a.waiting) ∙ ap (map action) waiting;
   text = one_text base a.left (by_receipt id h) ∙ sym left;
-  written = rw written (Appends-nil a.written);
+  written = written ∙ sym (append-nil a.written);
   sent = sent ∙ sym (append-nil a.sent);
   heard = heard;
   learnt = (b.known, ((known, learnt), refl));
@@ -75,18 +78,18 @@ nothing_of (x ∷ xs) e = (let bad_line : ◌≡◌ {A = ℕ} 1 0 = omega (arith
 
 -- a receipt comes while no line waits
 pub strayed : {looks : Looks} (base : Condensed) (a b : SlotState) (h : Heard) → b.held ≡ a.held → a.waiting ≡ [] → b.waiting ≡ [] → b.left ≡ a.left → IsFront a.known b.known → IsFront h.list b.known
-    → b.coming ≡ a.coming → b.written ≡ a.written → b.sent ≡ a.sent → b.heard ≡ a.heard ++ h ∷ [] → b.refused ≡ a.refused → IsTurn looks base 1 a b
-strayed {looks} base a b h held waiting waits left known learnt coming written sent heard refused = record {
+    → b.input ≡ a.input → b.written ≡ a.written → b.sent ≡ a.sent → b.heard ≡ a.heard ++ h ∷ [] → b.refused ≡ a.refused → IsTurn looks base 1 a b
+strayed {looks} base a b h held waiting waits left known learnt input written sent heard refused = record {
   got = [];
   wrote = [];
   taken = [];
   met = unasked h ∷ [];
-  read = rw coming (consumes_nil a.coming);
+  read = rw input (gives_nil a.input);
   lines = append-nil (lines_in a.held) ∙ ap lines_in (sym held);
   open_line = ap open_in held;
   order = append-nil (map action a.waiting) ∙ ap (map action) (waiting ∙ sym waits);
   text = one_text base a.left (unasked h) ∙ append-nil a.left ∙ sym left;
-  written = rw written (Appends-nil a.written);
+  written = written ∙ sym (append-nil a.written);
   sent = sent ∙ sym (append-nil a.sent);
   heard = heard;
   learnt = (b.known, ((known, learnt), refl));
@@ -97,13 +100,13 @@ strayed {looks} base a b h held waiting waits left known learnt coming written s
 
 -- bytes are written
 pub wrote_some : {looks : Looks} (base : Condensed) (a b : SlotState) (n : ℕ) → 1 ≤ n → n ≤ length a.left → b.held ≡ a.held → b.waiting ≡ a.waiting → b.left ≡ drop n a.left → b.known ≡ a.known
-    → b.coming ≡ a.coming → Appends a.written b.written (take n a.left) → b.sent ≡ a.sent → b.heard ≡ a.heard → b.refused ≡ a.refused → IsTurn looks base 1 a b
-wrote_some {looks} base a b n some within held waiting left known coming written sent heard refused = record {
+    → b.input ≡ a.input → b.written ≡ a.written ++ take n a.left → b.sent ≡ a.sent → b.heard ≡ a.heard → b.refused ≡ a.refused → IsTurn looks base 1 a b
+wrote_some {looks} base a b n some within held waiting left known input written sent heard refused = record {
   got = [];
   wrote = take n a.left;
   taken = [];
   met = [];
-  read = rw coming (consumes_nil a.coming);
+  read = rw input (gives_nil a.input);
   lines = append-nil (lines_in a.held) ∙ ap lines_in (sym held);
   open_line = ap open_in held;
   order = append-nil (map action a.waiting) ∙ ap (map action) (sym waiting);
@@ -122,18 +125,18 @@ wrote_some {looks} base a b n some within held waiting left known coming written
 
 -- bytes are read, if no line was held
 pub read_some : {looks : Looks} (base : Condensed) (a b : SlotState) → a.held.line ≡ None → a.held.rest ≡ [] → b.held ≡ record a.held { rest = b.held.rest } → 1 ≤ length b.held.rest → b.waiting ≡ a.waiting → b.left ≡ a.left
-    → b.known ≡ a.known → Consumes a.coming b.coming b.held.rest → b.written ≡ a.written → b.sent ≡ a.sent → b.heard ≡ a.heard → b.refused ≡ a.refused → IsTurn looks base 1 a b
-read_some {looks} base a b none empty held some waiting left known coming written sent heard refused = record {
+    → b.known ≡ a.known → Gives a.input b.input b.held.rest → b.written ≡ a.written → b.sent ≡ a.sent → b.heard ≡ a.heard → b.refused ≡ a.refused → IsTurn looks base 1 a b
+read_some {looks} base a b none empty held some waiting left known input written sent heard refused = record {
   got = b.held.rest;
   wrote = [];
   taken = [];
   met = [];
-  read = coming;
+  read = input;
   lines = rw (none, empty) (sym (ap lines_in held ∙ lined a.held b.held.rest none));
   open_line = ap open_in held ∙ opened a.held b.held.rest empty;
   order = append-nil (map action a.waiting) ∙ ap (map action) (sym waiting);
   text = append-nil a.left ∙ sym left;
-  written = rw written (Appends-nil a.written);
+  written = written ∙ sym (append-nil a.written);
   sent = sent ∙ sym (append-nil a.sent);
   heard = heard ∙ sym (append-nil a.heard);
   learnt = known;
@@ -151,19 +154,19 @@ read_some {looks} base a b none empty held some waiting left known coming writte
 -- a line is taken and answered immediately, or sent
 pub took : {looks : Looks} (base : Condensed) (a b : SlotState) (line : Line) (met : List LineAnswer) → a.held.line ≡ Some line → b.held ≡ record a.held { line = None }
     → map action a.waiting ++ line_kind line ∷ [] ≡ flat_map kinds met ++ map action b.waiting → b.left ≡ a.left ++ flat_map (answer_text base) met
-    → b.coming ≡ a.coming → b.written ≡ a.written → b.sent ≡ a.sent ++ wants line → b.heard ≡ a.heard → flat_map heards met ≡ [] → flat_map unasked_receipts met ≡ [] → LearnsAll looks base a.known met b.known
+    → b.input ≡ a.input → b.written ≡ a.written → b.sent ≡ a.sent ++ wants line → b.heard ≡ a.heard → flat_map heards met ≡ [] → flat_map unasked_receipts met ≡ [] → LearnsAll looks base a.known met b.known
     → b.refused ≡ refused_over base a.refused met → length (wants line) + length a.waiting ≡ length b.waiting → IsTurn looks base 1 a b
-took {looks} base a b line met held later order left coming written sent heard none plain learnt refused count = record {
+took {looks} base a b line met held later order left input written sent heard none plain learnt refused count = record {
   got = [];
   wrote = [];
   taken = line ∷ [];
   met = met;
-  read = rw coming (consumes_nil a.coming);
+  read = rw input (gives_nil a.input);
   lines = append-nil (lines_in a.held) ∙ passed a.held line held ∙ ap (λ (h : Untaken). line ∷ lines_in h) (sym later);
   open_line = ap open_in later;
   order = order;
   text = sym left;
-  written = rw written (Appends-nil a.written);
+  written = written ∙ sym (append-nil a.written);
   sent = sent ∙ ap (λ (l : List Action). a.sent ++ l) (sym (append-nil (wants line)));
   heard = heard ∙ sym (ap (λ (l : List Heard). a.heard ++ l) none ∙ append-nil a.heard);
   learnt = learnt;
@@ -183,21 +186,21 @@ alone_order w v s l e f h = rw (e, f, h) refl
 
 -- a line is answered immediately, if no action waits and no byte is to be written
 pub at_once : {looks : Looks} (base : Condensed) (a b : SlotState) (line : Line) (m : LineAnswer) → a.held.line ≡ Some line → b.held ≡ record a.held { line = None } → a.waiting ≡ [] → b.waiting ≡ [] → a.left ≡ [] → b.left ≡ answer_text base m
-    → kinds m ≡ line_kind line ∷ [] → wants line ≡ [] → heards m ≡ [] → unasked_receipts m ≡ [] → Learns looks base a.known m b.known → b.coming ≡ a.coming → b.written ≡ a.written → b.sent ≡ a.sent → b.heard ≡ a.heard → b.refused ≡ refused_next base a.refused m → IsTurn looks base 1 a b
-at_once {looks} base a b line m held later waiting waits empty left slip want none plain known coming written sent heard refused =
-    took base a b line (m ∷ []) held later (alone_order a.waiting b.waiting (line_kind line) (kinds m) waiting waits slip) (at_end b.left a.left (answer_text base m) left empty) coming written
+    → kinds m ≡ line_kind line ∷ [] → wants line ≡ [] → heards m ≡ [] → unasked_receipts m ≡ [] → Learns looks base a.known m b.known → b.input ≡ a.input → b.written ≡ a.written → b.sent ≡ a.sent → b.heard ≡ a.heard → b.refused ≡ refused_next base a.refused m → IsTurn looks base 1 a b
+at_once {looks} base a b line m held later waiting waits empty left slip want none plain known input written sent heard refused =
+    took base a b line (m ∷ []) held later (alone_order a.waiting b.waiting (line_kind line) (kinds m) waiting waits slip) (at_end b.left a.left (answer_text base m) left empty) input written
     (sent ∙ sym (append-nil a.sent) ∙ ap (λ (l : List Action). a.sent ++ l) (sym want)) heard (append-nil (heards m) ∙ none) (append-nil (unasked_receipts m) ∙ plain) (b.known, (known, refl))
     refused (omega (arith, ap length want, ap length waiting, ap length waits))
 
 -- a receipt is received
 pub received : {looks : Looks} (base : Condensed) (a b : SlotState) (h : Heard) → b.held ≡ a.held → (a.waiting ≡ [] → (b.waiting ≡ []) × (b.left ≡ a.left))
     → ((id : ℕ) (ids : List ℕ) → a.waiting ≡ id ∷ ids → (b.waiting ≡ ids) × (b.left ≡ a.left ++ verdict_reply id h.number h.verdict)) → IsFront a.known b.known → IsFront h.list b.known
-    → b.coming ≡ a.coming → b.written ≡ a.written → b.sent ≡ a.sent → b.heard ≡ a.heard ++ h ∷ [] → b.refused ≡ a.refused → IsTurn looks base 1 a b
-received {looks} base a b h held none some known learnt coming written sent heard refused = by_waiting a.waiting refl
+    → b.input ≡ a.input → b.written ≡ a.written → b.sent ≡ a.sent → b.heard ≡ a.heard ++ h ∷ [] → b.refused ≡ a.refused → IsTurn looks base 1 a b
+received {looks} base a b h held none some known learnt input written sent heard refused = by_waiting a.waiting refl
   where
     by_waiting : (w : List ℕ) → a.waiting ≡ w → IsTurn looks base 1 a b
-    by_waiting [] e = strayed base a b h held e (none e).0 (none e).1 known learnt coming written sent heard refused
-    by_waiting (id ∷ ids) e = answered base a b id h held (e ∙ ap (λ (l : List ℕ). id ∷ l) (sym (some id ids e).0)) (some id ids e).1 known learnt coming written sent heard refused
+    by_waiting [] e = strayed base a b h held e (none e).0 (none e).1 known learnt input written sent heard refused
+    by_waiting (id ∷ ids) e = answered base a b id h held (e ∙ ap (λ (l : List ℕ). id ∷ l) (sym (some id ids e).0)) (some id ids e).1 known learnt input written sent heard refused
 
 -- turns without a look are turns with any
 knows_more : (looks : Looks) (base : Condensed) (known : List Action) (met : List LineAnswer) (later : List Action) → LearnsAll no_looks base known met later → LearnsAll looks base known met later

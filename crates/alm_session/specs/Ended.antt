@@ -1,10 +1,10 @@
 -- A connection from its beginning to its end.
 use Rattle.std.specs.Prelude.{◌≡◌, ℕ, ◌+◌, ◌≤◌, List, [], ◌∷◌, ◌++◌, None, length, map}
 use Rattle.std.specs.List.{flat_map}
-use Rattle.std.specs.Io.KnownBytes.{Consumes, Appends}
 use Rattle.alm_model.specs.Plant.{Condensed}
 use Rattle.alm_session.specs.Intakes.{lines_from, lines_in}
 use Rattle.alm_session.specs.Turns.{Heard, LineAnswer, answer_text, line_kind, kinds, heards, unasked_receipts, LearnsAll, Looks, SlotState}
+use Rattle.alm_session.specs.Wires.{Gives}
 
 -- no bytes have come, none are to be written, and no request of the slot is unanswered
 abbrev pub IsNew : SlotState → Type 0
@@ -26,9 +26,9 @@ HaveSerials next (heard ∷ heards) = (heard.serial ≡ next) × HaveSerials (ne
 pub record IsAnswered (looks : Looks) (base : Condensed) (a b : SlotState) : Type 0 where
   pub got : List ℕ
   pub met : List LineAnswer
-  pub read : Consumes a.coming b.coming got
+  pub read : Gives a.input b.input got
   pub lines : map line_kind (lines_from [] got) ≡ flat_map kinds met
-  pub written : Appends a.written b.written (flat_map (answer_text base) met)
+  pub written : b.written ≡ a.written ++ flat_map (answer_text base) met
   pub heard : b.heard ≡ a.heard ++ flat_map heards met
   pub learnt : LearnsAll looks base a.known met b.known
   pub own : length b.heard ≤ length b.sent → flat_map unasked_receipts met ≡ []

@@ -1,6 +1,10 @@
 -- What clauses read of a wire in memory.
-use Rattle.std.specs.Prelude.{ℕ, List, drop}
+use Rattle.std.specs.Prelude.{ℕ, List, drop, take}
 use Rattle.alm_session.specs.declared.mem_wire.MemWire.{MemWire}
+
+-- what was read
+abbrev pub given_of : MemWire → List ℕ
+given_of w = take w.at w.input.items
 
 -- what is still to come
 abbrev pub input_of : MemWire → List ℕ

@@ -10,7 +10,7 @@ use Rattle.alm_rings.specs.declared.told.Told.{Ghosts}
 use Rattle.alm_rings.specs.declared.console.Console.{Console}
 use Rattle.alm_rings.specs.declared.receipt.Receipt.{Receipt}
 use Rattle.alm_rings.specs.Ends.{sent_of, received_of, coming_to, room_of}
-use Rattle.alm_session.specs.Wires.{Counts, blocked_read, blocked_write, failed_call}
+use Rattle.alm_session.specs.Wires.{Counts, WireInput, blocked_read, blocked_write, failed_call}
 use Rattle.alm_session.specs.Turns.{SlotState, Heard}
 use Rattle.alm_session.specs.declared.session.Session.{Session}
 use Rattle.alm_session.specs.declared.turn.Turn.{Turn}
@@ -24,8 +24,8 @@ module _ {T : Type 0} {g : Ghosts T} where
   heard_by console = map heard_of (received_of console)
 
 -- one slot's side, with what the slot knows, the bytes of the wire, and all that was sent and received
-abbrev pub slot_state : Session → List Action → Option (List ℕ) → Option (List ℕ) → List Action → List Heard → SlotState
-slot_state s known coming written sent heard = record { held = s.intake; waiting = s.waiting.items; left = s.output.left; refused = s.answer.refused; known = known; coming = coming; written = written; sent = sent; heard = heard }
+abbrev pub slot_state : Session → List Action → WireInput → (written : List ℕ) → List Action → List Heard → SlotState
+slot_state s known input written sent heard = record { held = s.intake; waiting = s.waiting.items; left = s.output.left; refused = s.answer.refused; known = known; input = input; written = written; sent = sent; heard = heard }
 
 -- at least one, if the turn went
 abbrev pub least_of : Turn → ℕ

@@ -1,7 +1,6 @@
 -- What a session does in its turns.
-use Rattle.std.specs.Prelude.{◌≡◌, ℕ, ◌+◌, ◌≤◌, ◌<◌, List, [], ◌∷◌, ◌++◌, Option, Result, Ok, Err, IsOk, length, map}
+use Rattle.std.specs.Prelude.{◌≡◌, ℕ, ◌+◌, ◌≤◌, ◌<◌, List, [], ◌∷◌, ◌++◌, Result, Ok, Err, IsOk, length, map}
 use Rattle.std.specs.List.{flat_map}
-use Rattle.std.specs.Io.KnownBytes.{Consumes, Appends}
 use Rattle.alm_types.specs.declared.action.Action.{Action}
 use Rattle.alm_types.specs.declared.verdict.Verdict.{Verdict}
 use Rattle.alm_types.specs.declared.refusal.Refusal.{Refusal}
@@ -21,6 +20,7 @@ use Rattle.alm_desk.specs.declared.hindrance.Hindrance.TheVariants.{Nothing}
 use Rattle.alm_board.specs.Fronts.{IsFront}
 use Rattle.alm_session.specs.Intakes.{Untaken, lines_from, lines_in, open_in}
 use Rattle.alm_session.specs.Outputs.{output_limit}
+use Rattle.alm_session.specs.Wires.{WireInput, Gives}
 
 -- what looks were made: by the query, and its result
 abbrev pub Looks : Type 1
@@ -136,16 +136,16 @@ refused_over base n [] = n
 refused_over base n (m ∷ ms) = refused_over base (refused_next base n m) ms
 
 -- the state of one slot: what came and isn't taken, the ids of the unanswered actions, the replies to write, how many
--- growths were refused, and what the slot knows. Also what the wire will give and was given, and all that was sent and
--- received
+-- growths were refused, and what the slot knows. Also what the wire has given and will give, what was written
+-- to it, and all that was sent and received
 pub record SlotState : Type 0 where
   pub held : Untaken
   pub waiting : List ℕ
   pub left : List ℕ
   pub refused : ℕ
   pub known : List Action
-  pub coming : Option (List ℕ)
-  pub written : Option (List ℕ)
+  pub input : WireInput
+  pub written : List ℕ
   pub sent : List Action
   pub heard : List Heard
 
@@ -162,12 +162,12 @@ pub record IsTurn (looks : Looks) (base : Condensed) (least : ℕ) (a b : SlotSt
   pub wrote : List ℕ
   pub taken : List Line
   pub met : List LineAnswer
-  pub read : Consumes a.coming b.coming got
+  pub read : Gives a.input b.input got
   pub lines : lines_in a.held ++ lines_from (open_in a.held) got ≡ taken ++ lines_in b.held
   pub open_line : open_in b.held ≡ held_behind (open_in a.held) got
   pub order : map action a.waiting ++ map line_kind taken ≡ flat_map kinds met ++ map action b.waiting
   pub text : a.left ++ flat_map (answer_text base) met ≡ wrote ++ b.left
-  pub written : Appends a.written b.written wrote
+  pub written : b.written ≡ a.written ++ wrote
   pub sent : b.sent ≡ a.sent ++ flat_map wants taken
   pub heard : b.heard ≡ a.heard ++ flat_map heards met
   pub learnt : LearnsAll looks base a.known met b.known

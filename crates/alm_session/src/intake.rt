@@ -93,7 +93,7 @@ impl Intake {
     pub fn read<W: Wire>(&mut self, wire: &mut W) -> ReadGave
         requires { self.old.rest ≡ [] }
         ensures counts { ReadCounts result piece_len (W.counts wire.old) (W.counts wire.new) }
-        ensures bytes { ReadGives result self.old self.new (W.coming wire.old) (W.coming wire.new) }
+        ensures bytes { ReadGives result self.old self.new (W.input wire.old) (W.input wire.new) }
         ensures written { W.written wire.new ≡ W.written wire.old }
     {
         let gave = wire.read(&mut self.bytes);

@@ -47,13 +47,13 @@ impl MemWire {
 
 impl Wire for MemWire {
     ghost use Rattle.std.specs.Prelude.{◌≡◌, Some};
-    ghost use Rattle.alm_session.specs.MemWires.{input_of, output_of};
+    ghost use Rattle.alm_session.specs.MemWires.{given_of, input_of, output_of};
 
     ghost counts = { λ w. record { blocked_reads = 0; blocked_writes = w.blocked; failed = 0 } };
 
-    ghost coming = { λ w. Some (input_of w) };
+    ghost input = { λ w. record { came = given_of w; coming = Some (input_of w) } };
 
-    ghost written = { λ w. Some (output_of w) };
+    ghost written = { λ w. output_of w };
 
     fn read(&mut self, into: &mut [u8]) -> ReadGave {
         let rest = &self.input[self.at..];

@@ -136,7 +136,7 @@ impl Output {
         ensures sends { WritesFront result self.old self.new (W.written wire.old)
             (W.written wire.new) }
         ensures counts { SentCounts result (W.counts wire.old) (W.counts wire.new) }
-        ensures coming { W.coming wire.new ≡ W.coming wire.old }
+        ensures input { W.input wire.new ≡ W.input wire.old }
     {
         if self.written == self.text.len() {
             self.text.clear();

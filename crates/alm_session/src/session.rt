@@ -38,6 +38,7 @@ impl Session {
     ghost use Rattle.alm_model.specs.Plant.{Condensed};
     ghost use Rattle.alm_lines.specs.Reply.{no_text};
     ghost use Rattle.alm_desk.specs.Answers.{verdict_reply};
+    ghost use Rattle.alm_session.specs.Wires.{WireInput};
     ghost use Rattle.alm_session.specs.declared.turn.Turn.TheVariants as turn;
     ghost use Rattle.alm_lines.specs.declared.ask.Ask.TheVariants as ask;
 
@@ -95,11 +96,11 @@ impl Session {
     ) -> bool
         ensures base { L.Look.base look.new ≡ L.Look.base look.old }
         ensures end { SameConsole console.old console.new }
-        ensures turn { (coming written : Option (List ℕ)) →
+        ensures turn { (input : WireInput) (written : List ℕ) →
             IsTurn no_looks (L.Look.base look.old) (if result then 1 else 0)
-            (slot_state self.old (L.Look.knows look.old) coming written (sent_of console.old)
+            (slot_state self.old (L.Look.knows look.old) input written (sent_of console.old)
             (heard_by console.old))
-            (slot_state self.new (L.Look.knows look.new) coming written (sent_of console.new)
+            (slot_state self.new (L.Look.knows look.new) input written (sent_of console.new)
             (heard_by console.new)) }
         ensures quiet { result ≡ false → IsQuiet console.old }
         ensures one { result ≡ true →
@@ -123,10 +124,10 @@ impl Session {
         requires line { self.old.intake.line ≡ Some (record { id = id; ask = ask.Act want }) }
         requires empty { self.old.output.used ≡ 0 }
         ensures end { SameConsole console.old console.new }
-        ensures turn { (base : Condensed) (known : List Action) (coming written : Option (List ℕ)) →
+        ensures turn { (base : Condensed) (known : List Action) (input : WireInput) (written : List ℕ) →
             IsTurn no_looks base (least_of result)
-            (slot_state self.old known coming written (sent_of console.old) (heard_by console.old))
-            (slot_state self.new known coming written (sent_of console.new) (heard_by console.new)) }
+            (slot_state self.old known input written (sent_of console.old) (heard_by console.old))
+            (slot_state self.new known input written (sent_of console.new) (heard_by console.new)) }
         ensures cases { (result ≡ turn.Went) ⊎
             ((result ≡ turn.Idle) × IsStuck self.new console.new) }
         ensures left { self.new.output ≡ self.old.output }
@@ -150,11 +151,11 @@ impl Session {
         requires empty { (self.old.output.left ≡ []) × (self.old.output.used ≡ 0) }
         requires alone { self.old.waiting.items ≡ [] }
         ensures base { L.base look.new ≡ L.base look.old }
-        ensures turn { (coming written : Option (List ℕ)) (sent : List Action)
+        ensures turn { (input : WireInput) (written : List ℕ) (sent : List Action)
             (heard : List Heard) →
             IsTurn (between L.looked look.old look.new) (L.base look.old) 1
-            (slot_state self.old (L.knows look.old) coming written sent heard)
-            (slot_state self.new (L.knows look.new) coming written sent heard) }
+            (slot_state self.old (L.knows look.old) input written sent heard)
+            (slot_state self.new (L.knows look.new) input written sent heard) }
     {
         self.intake.pass();
         match look.look(query, &mut self.answer) {
@@ -192,12 +193,12 @@ impl Session {
         requires empty { (self.old.output.left ≡ []) × (self.old.output.used ≡ 0) }
         ensures base { L.Look.base look.new ≡ L.Look.base look.old }
         ensures end { SameConsole console.old console.new }
-        ensures turn { (coming written : Option (List ℕ)) →
+        ensures turn { (input : WireInput) (written : List ℕ) →
             IsTurn (between L.Look.looked look.old look.new) (L.Look.base look.old)
             (least_of result)
-            (slot_state self.old (L.Look.knows look.old) coming written (sent_of console.old)
+            (slot_state self.old (L.Look.knows look.old) input written (sent_of console.old)
             (heard_by console.old))
-            (slot_state self.new (L.Look.knows look.new) coming written (sent_of console.new)
+            (slot_state self.new (L.Look.knows look.new) input written (sent_of console.new)
             (heard_by console.new)) }
         ensures cases { (result ≡ turn.Went) ⊎
             ((result ≡ turn.Idle) × IsStuck self.new console.new × (self.new.output.left ≡ [])) }
@@ -228,10 +229,10 @@ impl Session {
         requires empty { self.old.output.left ≡ [] }
         ensures turn { (base : Condensed) (known sent : List Action) (heard : List Heard) →
             IsTurn no_looks base (least_of result)
-            (slot_state self.old known (W.coming wire.old) (W.written wire.old) sent heard)
-            (slot_state self.new known (W.coming wire.new) (W.written wire.new) sent heard) }
+            (slot_state self.old known (W.input wire.old) (W.written wire.old) sent heard)
+            (slot_state self.new known (W.input wire.new) (W.written wire.new) sent heard) }
         ensures answer { ReadTurns result self.old self.new (W.counts wire.old) (W.counts wire.new)
-            (W.coming wire.new) }
+            (W.input wire.new).coming }
     {
         match self.intake.read(wire) {
             ReadGave::Got(_) => Turn::Went,
@@ -258,14 +259,14 @@ impl Session {
         ensures end { SameConsole console.old console.new }
         ensures turn { IsTurn (between L.Look.looked look.old look.new) (L.Look.base look.old)
             (least_of result)
-            (slot_state self.old (L.Look.knows look.old) (W.coming wire.old) (W.written wire.old)
+            (slot_state self.old (L.Look.knows look.old) (W.input wire.old) (W.written wire.old)
             (sent_of console.old) (heard_by console.old))
-            (slot_state self.new (L.Look.knows look.new) (W.coming wire.new) (W.written wire.new)
+            (slot_state self.new (L.Look.knows look.new) (W.input wire.new) (W.written wire.new)
             (sent_of console.new) (heard_by console.new)) }
         ensures answer { GoOnTurns result self.new console.new (W.counts wire.old) (W.counts wire.new)
-            (W.coming wire.new) }
+            (W.input wire.new).coming }
         ensures takes_first { 0 < length (lines_in self.old.intake) →
-            W.coming wire.new ≡ W.coming wire.old }
+            W.input wire.new ≡ W.input wire.old }
     {
         match self.intake.line() {
             Some(line) => self.take(line, console, look),
@@ -284,22 +285,22 @@ impl Session {
         ensures end { SameConsole console.old console.new }
         ensures turn { IsTurn (between L.Look.looked look.old look.new) (L.Look.base look.old)
             (least_of result)
-            (slot_state self.old (L.Look.knows look.old) (W.coming wire.old) (W.written wire.old)
+            (slot_state self.old (L.Look.knows look.old) (W.input wire.old) (W.written wire.old)
             (sent_of console.old) (heard_by console.old))
-            (slot_state self.new (L.Look.knows look.new) (W.coming wire.new) (W.written wire.new)
+            (slot_state self.new (L.Look.knows look.new) (W.input wire.new) (W.written wire.new)
             (sent_of console.new) (heard_by console.new)) }
         ensures answer { Turns result self.new console.old console.new (W.counts wire.old)
-            (W.counts wire.new) (W.coming wire.new) }
+            (W.counts wire.new) (W.input wire.new).coming }
         // While a receipt is known to wait, a turn receives one and makes no call on the wire.
         ensures receives_first { 0 < length (coming_to console.old) →
             (result ≡ turn.Went) × (wire.new ≡ wire.old) ×
             (length (received_of console.new) ≡ length (received_of console.old) + 1) }
         // While a reply is still to be written no line is taken, and no byte is read;
         ensures writes_first { 0 < length self.old.output.left →
-            (self.new.intake ≡ self.old.intake) × (W.coming wire.new ≡ W.coming wire.old) }
+            (self.new.intake ≡ self.old.intake) × (W.input wire.new ≡ W.input wire.old) }
         // and no byte is read while a whole line is held.
         ensures takes_first { 0 < length (lines_in self.old.intake) →
-            W.coming wire.new ≡ W.coming wire.old }
+            W.input wire.new ≡ W.input wire.old }
     {
         if self.receive(console, look) {
             return Turn::Went;

@@ -46,7 +46,7 @@ impl PieceWire {
 }
 
 impl Wire for PieceWire {
-    ghost use Rattle.std.specs.Prelude.{None};
+    ghost use Rattle.std.specs.Prelude.{None, take};
 
     ghost counts = { λ w. record {
       blocked_reads = w.blocked_reads;
@@ -54,9 +54,9 @@ impl Wire for PieceWire {
       failed = w.failed;
     } };
 
-    ghost coming = { λ _. None };
+    ghost input = { λ w. record { came = take w.at w.input.items; coming = None } };
 
-    ghost written = { λ _. None };
+    ghost written = { λ w. w.output.items };
 
     fn read(&mut self, into: &mut [u8]) -> ReadGave {
         self.reads = !self.reads;

@@ -8,7 +8,7 @@ use Rattle.alm_session.proofs.session.Session.go_on.Goals as goal
 
 pub returns-in-Some-clause-turn : goal.returns-in-Some-clause-turn
 returns-in-Some-clause-turn g c =
-    behind (still _ _ _ c.line.ensures.lines c.line.ensures.open refl refl refl refl refl refl refl refl) (c.take.ensures.turn (g.W.Wire.coming c.args.wire.now) (g.W.Wire.written c.args.wire.now))
+    behind (still _ _ _ c.line.ensures.lines c.line.ensures.open refl refl refl refl refl refl refl refl) (c.take.ensures.turn (g.W.Wire.input c.args.wire.now) (g.W.Wire.written c.args.wire.now))
 
 pub returns-in-None-clause-turn : goal.returns-in-None-clause-turn
 returns-in-None-clause-turn g c =

@@ -8,11 +8,11 @@ use Rattle.alm_session.proofs.Steps.{still, received}
 use Rattle.alm_session.proofs.session.Session.receive.Goals as goal
 
 pub returns-in_default-clause-turn : goal.returns-in_default-clause-turn
-returns-in_default-clause-turn g c = λ coming written.
+returns-in_default-clause-turn g c = λ input written.
     still _ _ _ refl refl refl refl refl refl refl c.in_default.ensures.requests.0 (ap (map heard_of) (c.in_default.ensures.none.0)) refl
 
 pub returns-clause-turn : goal.returns-clause-turn
-returns-clause-turn g c = λ coming written.
+returns-clause-turn g c = λ input written.
     received _ _ _ (heard_of c.in-Some.receipt) c.answer_first.ensures.held c.answer_first.ensures.none c.answer_first.ensures.some c.learn.ensures.later c.learn.ensures.told refl refl c.in-Some.ensures.requests.0
     (ap (map heard_of) c.in-Some.ensures.some ∙ map-append heard_of (received_of c.args.console.now) (c.in-Some.receipt ∷ []))
     (ap (λ (a : Answer). a.refused) c.answer_first.ensures.answer)

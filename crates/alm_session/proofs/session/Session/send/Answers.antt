@@ -7,14 +7,14 @@ use Rattle.alm_session.proofs.Steps.{still, took}
 use Rattle.alm_session.proofs.session.Session.send.Goals as goal
 
 pub returns-then-is_full-clause-turn : goal.returns-then-is_full-clause-turn
-returns-then-is_full-clause-turn g c = λ base known coming written. still base _ _ refl refl refl refl refl refl refl refl refl refl
+returns-then-is_full-clause-turn g c = λ base known input written. still base _ _ refl refl refl refl refl refl refl refl refl refl
 
 pub returns-in-Err-clause-turn : goal.returns-in-Err-clause-turn
-returns-in-Err-clause-turn g c = λ base known coming written.
+returns-in-Err-clause-turn g c = λ base known input written.
     still base _ _ refl refl refl refl refl refl refl c.in-Err.ensures.busy.1 (ap (map heard_of) c.in-Err.ensures.receipts.0) refl
 
 pub returns-in-Ok-clause-turn : goal.returns-in-Ok-clause-turn
-returns-in-Ok-clause-turn g c = λ base known coming written.
+returns-in-Ok-clause-turn g c = λ base known input written.
     let heard = c.in-Ok.ensures.receipts.0 in
     took base _ _ _ [] c.requires.line c.pass.ensures (sym (ap (map action) c.push.ensures.items ∙ map-append action c.args.self.now.waiting.items (c.args.id ∷ []))) (sym (append-nil c.args.self.now.output.left)) refl refl
     c.in-Ok.ensures.sent.0 (ap (map heard_of) heard) refl refl refl refl
