@@ -34,7 +34,7 @@
 //! does. So what is proved of every device is said of the program's own file, under that premise on its answers: no proof can know
 //! beforehand what a file will give.
 //!
-//! Checked by reading, and by `tests/calls.py`: that [`read`](recorded_file::RecordedFile::read), `write` and `sync` of a
+//! Checked by reading, and by `tests/lib/calls.py`: that [`read`](recorded_file::RecordedFile::read), `write` and `sync` of a
 //! `RecordedFile` make the call which they note, three bodies in one file. And what an opening does before the record begins: the
 //! kernel forgets its cache of the file, the file is synced with its names, and `make` takes its room.
 //!

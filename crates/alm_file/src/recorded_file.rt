@@ -1,7 +1,7 @@
 //! A file with the record of its calls.
 //!
 //! In [`RecordedFile::read`], [`RecordedFile::write`] and [`RecordedFile::sync`] a call and its note stand side by side. That each
-//! makes the call which it notes is checked by reading, and by `tests/calls.py`: no contract of a file says it.
+//! makes the call which it notes is checked by reading, and by `tests/lib/calls.py`: no contract of a file says it.
 
 ghost use Rattle.std.specs.Prelude.{◌≡◌, ◌∷◌, [], pos, ◌<ℤ◌, length, true, false, OnOk, OnErr};
 ghost use Rattle.std.specs.Fd.{file_raw_fd};

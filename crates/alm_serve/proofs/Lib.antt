@@ -1,6 +1,9 @@
 mod Cut
+pub mod Attended
 pub mod Beginnings
 pub mod Runs
+pub mod Stores
+pub mod Talks
 pub mod Taken
 pub mod Turned
 pub mod Unasked

@@ -6,9 +6,10 @@ use Rattle.alm_rings.specs.declared.console.Console.{Console}
 use Rattle.alm_rings.specs.Ends.{sent_of, received_of}
 use Rattle.alm_session.specs.Draining.{IsDrained}
 use Rattle.alm_session.specs.Intakes.{Untaken}
-use Rattle.alm_session.specs.Turns.{IsTurn, Looks, SlotState}
+use Rattle.alm_session.specs.Turns.{Heard, IsTurn, Looks, SlotState}
 use Rattle.alm_session.specs.declared.turn.Turn.{Turn}
 use Rattle.alm_session.specs.declared.turn.Turn.TheVariants as turn
+use Rattle.alm_threads.specs.Sources.{Reported}
 use Rattle.alm_serve.specs.declared.connection.Connection.{Connection}
 use Rattle.alm_serve.specs.declared.connection.Connection.TheVariants.{Awaited, Open, Ended}
 use Rattle.alm_serve.specs.declared.served.Served.{Served}
@@ -17,6 +18,10 @@ use Rattle.alm_serve.specs.declared.served.Served.TheVariants as served
 -- no byte has come, no action waits, and no byte is to be written
 abbrev pub IsFresh : Untaken → List ℕ → List ℕ → Type 0
 IsFresh held waiting left = (held ≡ record { line = None; held = []; rest = [] }) × (waiting ≡ []) × (left ≡ [])
+
+-- a receipt as a session has it
+abbrev pub as_heard : Reported → Heard
+as_heard r = record { serial = r.serial; verdict = r.verdict; number = r.number; list = r.list }
 
 -- a connection, with this of its wire
 abbrev pub by_wire : {W X : Type 0} → (W → X) → Connection W → Connection X
@@ -48,16 +53,22 @@ module _ {W : Type 0} where
         ((result ≡ served.Over) × (connection ≡ Awaited) × (length (sent_of console) ≤ length (received_of console)))
         ⊎ ((result ≡ served.Idle) × (connection ≡ Ended) × (length (received_of console) < length (sent_of console)))
 
+-- nothing was read, written or sent
+pub record IsUntouched (a b : SlotState) : Type 0 where
+  pub input : b.input ≡ a.input
+  pub written : b.written ≡ a.written
+  pub sent : b.sent ≡ a.sent
+
 -- an open connection has ended
 abbrev pub without_wire : Connection (Unit {0}) → Connection (Unit {0})
 without_wire (Open wire) = Ended
 without_wire other = other
 
--- what a port does to its slot's side in a turn, by what its connection was and is, regardless of wires. Without a connection
--- nothing is sent, received or learnt, and one that begins is fresh. With an open one it is a turn of the session. What an ended one
--- leaves is received and dropped, nothing is sent, and the next one is awaited once no request is unanswered
+-- what a port does to its slot's side in a turn, by what its connection was and is. Without a connection nothing is read, written,
+-- sent, received or learnt, and one that begins is fresh. With an open one it is a turn of the session. What an ended one leaves is
+-- received and dropped, nothing is read, written or sent, and the next one is awaited once no request is unanswered
 abbrev pub Attends : Looks → Condensed → (was now : Connection (Unit {0})) → (a b : SlotState) → Type 0
-Attends looks base Awaited now a b = (b.sent ≡ a.sent) × (b.heard ≡ a.heard) × (b.known ≡ a.known) × (now ≡ Open tt → IsFresh b.held b.waiting b.left)
+Attends looks base Awaited now a b = IsUntouched a b × (b.heard ≡ a.heard) × (b.known ≡ a.known) × (now ≡ Open tt → IsFresh b.held b.waiting b.left)
 Attends looks base (Open wire) now a b = IsTurn looks base 0 a b × (now ≢ Awaited)
 Attends looks base Ended now a b =
-    (b.sent ≡ a.sent) × IsDrained base a.known a.heard b.known b.heard × (now ≢ Open tt) × (now ≡ Awaited → length b.sent ≤ length b.heard)
+    IsUntouched a b × IsDrained base a.known a.heard b.known b.heard × (now ≢ Open tt) × (now ≡ Awaited → length b.sent ≤ length b.heard)

@@ -10,6 +10,10 @@
 //! same contract; the first line names the port or the folder. Both return the device. [`serve_run`] is the first of them without a
 //! patience, and drops the device.
 //!
+//! All of them open the device, open the slots, and call [`serve_store`]. It serves an open store at open ports, in the run that its
+//! caller has named after the store, and returns that run. The ports' receipts are of this run by their type, so no other run can
+//! answer their clients.
+//!
 //! | step | if it fails | what is written by then |
 //! |---|---|---|
 //! | opens the device | `Open` with the fault | nothing |
@@ -22,7 +26,7 @@
 //!
 //! Slot k listens on the k-th port after the first one, or at the socket k of the folder. A [`slot_port::SlotPort`] is the source
 //! of a slot: it accepts one connection after another and gives each its turns. What of it is apart from sockets and polls is a
-//! [`SlotService`], whose contract names the bytes of any wire that has them.
+//! [`SlotService`], whose contract names the bytes of any wire. A port notes the bytes of all its connections.
 //!
 //! | a port | does in a turn |
 //! |---|---|
@@ -48,18 +52,24 @@
 //! A device call that hangs can't be ended. With a [`Patience`] the calls of a [`CountedDisk`] are counted, and the ports serve
 //! nobody while one takes too long. Requests that were sent before stay: they are done if the call comes back well.
 //!
-//! Not covered: what a socket gives or takes, that a wake comes, that the server ever ends, and time. Nor that a port makes no other
-//! calls on a socket than its service's, and closes while a device call takes too long. There are no accounts: a client that
+//! Checked by reading: that `read` and `write` of a `StreamWire` make the call which they note, and that accepting and closing a
+//! connection makes none.
+//!
+//! Not covered: that a wake comes, that the server ever ends, and time. Nor that a port closes while a device call takes too long. There are no accounts: a client that
 //! reaches a port of loopback, or may open a socket, has the role of its slot.
 //!
 //! Proved:
-//! - over any wire that has its bytes a slot's service writes and sends what its session does in its turns, and nothing else
+//! - over any wire a slot's service writes and sends what its session does in its turns, and nothing else
 //!   (by `SlotService`)
 //! - a connection begins fresh over the given wire, once all requests of the last one are answered (by `SlotService`)
 //! - as long as no whole line has come nothing is sent and nothing written (by `laws::nothing_goes_out_unasked`)
 //! - a port is the source of its slot alone, whatever its clients do, and sends what its service does (by `SlotPort`,
 //!   `StreamWire`)
-//! - a port and a bell for each slot asked for, in order (by `open_ports`, `open_sockets`)
+//! - a port and a bell for each slot asked for, in order, and nobody connected (by `open_ports`, `open_sockets`)
+//! - **of an open store and its ports: a run over it with these sources. All that a console sent and received was so in turns of
+//!   its port's session** (by `serve_store`)
+//! - **of each connection of such a port the lines are answered in order, and what was written is a prefix of the replies** (by
+//!   `serve_store`)
 //! - a connection has ended that begins as a request of HTTP, whatever its method, and no other has ended for its first bytes
 //!   (by `FirstBytes`)
 //! - what the server writes, by how it ends, or a prefix if the writer fails; why a device isn't opened (by `serve_ports`,
@@ -96,12 +106,20 @@ mod slot_service;
 mod slot_stream;
 mod socket_folder;
 mod sockets;
+mod store_end;
 mod stream_wire;
+mod traffic;
+mod transcript;
 
 pub use counted_disk::CountedDisk;
+pub use listen::Listen;
+pub use opening::SlotPorts;
 pub use patience::Patience;
+pub use port_fault::PortFault;
 pub use serve_fault::ServeFault;
 pub use served::Served;
 pub use server_end::ServerEnd;
-pub use serving::{serve_ports, serve_run, serve_sockets};
+pub use serving::{PortsEnd, serve_ports, serve_run, serve_sockets, serve_store};
+pub use slot_port::SlotPort;
 pub use slot_service::SlotService;
+pub use store_end::StoreEnd;

@@ -1,6 +1,7 @@
 //! Opens the slots' ports, or their sockets.
 
 ghost use Rattle.std.specs.Prelude.{◌≡◌, ◌≤◌, IfOk, length, map, vec_len};
+ghost use Rattle.alm_serve.specs.Ports.{AreUnused, IsUnused};
 
 use crate::bound::Bound;
 use crate::connection_count::ConnectionCount;
@@ -9,6 +10,7 @@ use crate::port_fault::PortFault;
 use crate::slot_bell::SlotBell;
 use crate::slot_port::SlotPort;
 use crate::socket_folder::bind_sockets;
+use alm_rings::Told;
 use alm_session::Session;
 use alm_types::Slot;
 use mio::{Events, Poll};
@@ -55,10 +57,10 @@ fn bells_of(alloc: Global, bounds: &[Bound]) -> Result<Vec<SlotBell>, PortFault>
     Ok(bells)
 }
 
-/// The ports of slots, in their order, with their bells.
+/// The ports of slots, in their order, with their bells. They can be sources of a run alone whose receipts are of the type `T`.
 #[derive(Drop)]
-pub struct SlotPorts<'r, R> {
-    pub ports: Vec<SlotPort<'r, R>>,
+pub struct SlotPorts<'r, R, T> {
+    pub ports: Vec<SlotPort<'r, R, T>>,
     pub bells: Vec<SlotBell>,
 }
 
@@ -73,14 +75,15 @@ fn count_of(
 }
 
 /// The port of a slot that is bound.
-fn open_port<'r, R: Clock>(
+fn open_port<'r, R: Clock, T: Told + Drop>(
     rt: &'r R,
     alloc: Global,
     bound: Bound,
     count: &Arc<ConnectionCount>,
     patience: Option<&Patience>,
-) -> Result<SlotPort<'r, R>, PortFault>
-    ensures { IfOk result (λ port. port.slot ≡ bound.slot) }
+) -> Result<SlotPort<'r, R, T>, PortFault>
+    ensures slot { IfOk result (λ port. port.slot ≡ bound.slot) }
+    ensures unused { IfOk result IsUnused }
 {
     let session = Session::new(alloc)?;
     let events = Events::with_capacity(alloc, EVENTS)?;
@@ -92,15 +95,16 @@ fn open_port<'r, R: Clock>(
 }
 
 /// The same for each of these.
-fn ports_of<'r, R: Clock>(
+fn ports_of<'r, R: Clock, T: Told + Drop>(
     rt: &'r R,
     alloc: Global,
     bounds: Vec<Bound>,
     count: &Arc<ConnectionCount>,
     patience: Option<&Patience>,
-) -> Result<Vec<SlotPort<'r, R>>, PortFault>
-    ensures { IfOk result
+) -> Result<Vec<SlotPort<'r, R, T>>, PortFault>
+    ensures slots { IfOk result
         (λ ports. map (λ p. p.slot) ports.items ≡ map (λ b. b.slot) bounds.items) }
+    ensures unused { IfOk result (λ ports. AreUnused ports.items) }
 {
     let mut ports = Vec::with_capacity(alloc, bounds.len())?;
     for bound in bounds {
@@ -126,15 +130,16 @@ fn try_descriptors<R: Net>(rt: &R, alloc: Global, bounds: &[Bound]) -> Result<()
 }
 
 /// Opens all that is bound, for `conns` connections in all; 0 is without end. There are descriptors for a connection of each.
-fn open_all<'r, R: Net + Clock>(
+fn open_all<'r, R: Net + Clock, T: Told + Drop>(
     rt: &'r R,
     alloc: Global,
     bounds: Vec<Bound>,
     conns: u32,
     patience: Option<&Patience>,
-) -> Result<SlotPorts<'r, R>, PortFault>
+) -> Result<SlotPorts<'r, R, T>, PortFault>
     ensures ports { IfOk result
         (λ d. map (λ port. port.slot) d.ports.items ≡ map (λ b. b.slot) bounds.items) }
+    ensures unused { IfOk result (λ d. AreUnused d.ports.items) }
     ensures bells { IfOk result (λ d. vec_len d.bells ≡ vec_len bounds) }
 {
     try_descriptors(rt, alloc, &bounds)?;
@@ -145,16 +150,17 @@ fn open_all<'r, R: Net + Clock>(
 }
 
 /// Binds the ports of these slots on loopback, the first slot's given, for `conns` connections in all; 0 is without end.
-pub fn open_ports<'r, R: Net + Clock>(
+pub fn open_ports<'r, R: Net + Clock, T: Told + Drop>(
     rt: &'r R,
     alloc: Global,
     slots: &[Slot],
     port: u16,
     conns: u32,
     patience: Option<&Patience>,
-) -> Result<SlotPorts<'r, R>, PortFault>
+) -> Result<SlotPorts<'r, R, T>, PortFault>
     requires port { port ≤ 65518 }
     ensures ports { IfOk result (λ d. map (λ port. port.slot) d.ports.items ≡ slots.now) }
+    ensures unused { IfOk result (λ d. AreUnused d.ports.items) }
     ensures bells { IfOk result (λ d. vec_len d.bells ≡ length slots.now) }
 {
     let bounds = bind_ports(rt, alloc, slots, port)?;
@@ -164,15 +170,16 @@ pub fn open_ports<'r, R: Net + Clock>(
 /// Makes the sockets of these slots in a folder that exists, each by its slot's number, for `conns` connections in all; 0 is
 /// without end. Only the owner and the group of a socket may open it. A dead server's socket is replaced. One that answers is
 /// refused, and so is anything else at its path, which stays as it is. The sockets stay after the server's end.
-pub fn open_sockets<'r, R: Net + Clock + Files<File = File>>(
+pub fn open_sockets<'r, R: Net + Clock + Files<File = File>, T: Told + Drop>(
     rt: &'r R,
     alloc: Global,
     slots: &[Slot],
     folder: &str,
     conns: u32,
     patience: Option<&Patience>,
-) -> Result<SlotPorts<'r, R>, PortFault>
+) -> Result<SlotPorts<'r, R, T>, PortFault>
     ensures ports { IfOk result (λ d. map (λ port. port.slot) d.ports.items ≡ slots.now) }
+    ensures unused { IfOk result (λ d. AreUnused d.ports.items) }
     ensures bells { IfOk result (λ d. vec_len d.bells ≡ length slots.now) }
 {
     let bounds = bind_sockets(rt, alloc, slots, folder)?;

@@ -7,6 +7,7 @@ use crate::opening::{SlotPorts, open_ports};
 use crate::patience::Patience;
 use crate::port_fault::PortFault;
 use alm_lines::Part;
+use alm_rings::Told;
 use alm_types::Slot;
 use std::alloc::Global;
 use std::net::Net;
@@ -30,13 +31,13 @@ impl<R: Net + Clock> Listen<R> for Ports<'_> {
         Part::Number(u64::from(self.first))
     }
 
-    fn open<'r>(
+    fn open<'r, T: Told + Drop>(
         &self,
         rt: &'r R,
         alloc: Global,
         slots: &[Slot],
         conns: u32,
-    ) -> Result<SlotPorts<'r, R>, PortFault> {
+    ) -> Result<SlotPorts<'r, R, T>, PortFault> {
         open_ports(rt, alloc, slots, self.first, conns, self.patience)
     }
 }

@@ -1,11 +1,13 @@
 //! Serves the slots of a device.
 
-ghost use Rattle.std.specs.Prelude.{◌≡◌, ◌≢◌, ◌≤◌, ◌<◌, ◌^◌, decimal, length, map, Option, Ok, Err, IfOk};
+ghost use Rattle.std.specs.Prelude.{◌≡◌, ◌≤◌, ◌<◌, ◌^◌, decimal, length, map, Option, IfOk, IfErr};
 ghost use Rattle.alm_lines.specs.Written.{Prints};
 ghost use Rattle.alm_rings.specs.Placed.{AreApart};
 ghost use Rattle.alm_keeper.specs.AsStore.{IsLastEpoch, StandsFor};
 ghost use Rattle.alm_serve.specs.Runs.{AreAllSlots, HasServed, IsLeftOpened, RunsBy, RunsWhole, ServeEnds};
 ghost use Rattle.alm_serve.specs.Serving.{serving_line, stopped_line, ServeWrites};
+ghost use Rattle.alm_serve.specs.Stores.{EndWrites, IsResultOf, IsRunOfPorts, ServesStore, WritesOf};
+ghost use Rattle.alm_threads.specs.Slots.{AreNewConsoles};
 ghost use Rattle.alm_types.specs.Sizes.{most_actions, slot_count};
 ghost use Rattle.alm_threads.specs.declared.stop_cause.StopCause.{StopCause};
 ghost use Rattle.alm_moments.specs.Naming.{IsNamedAfter};
@@ -17,7 +19,9 @@ use crate::port_fault::PortFault;
 use crate::ports::Ports;
 use crate::serve_fault::ServeFault;
 use crate::server_end::ServerEnd;
+use crate::slot_port::SlotPort;
 use crate::sockets::Sockets;
+use crate::store_end::StoreEnd;
 use alm_disk::{Disk, Free};
 use alm_keeper::{Keeper, Phase};
 use alm_lines::{Part, put_parts};
@@ -27,7 +31,7 @@ use alm_plant::Plant;
 use alm_rings::Told;
 use alm_shared::{Durable, NewRun, SharedBoard, SharedLook};
 use alm_store::Store;
-use alm_threads::{Parts, RunReport, Storage, WatchedLook, parts_of, run_with_bells};
+use alm_threads::{Parts, RunEnd, RunReport, Storage, WatchedLook, parts_of, run_with_bells};
 use alm_types::{SLOTS, Slot};
 use std::alloc::{AllocError, Global};
 use std::fs::{File, Files};
@@ -79,39 +83,36 @@ fn all_slots(alloc: Global) -> Result<Vec<Slot>, AllocError>
     Ok(slots)
 }
 
-/// How a run has ended, by its report.
-fn end_of<K: Store, T: Told + Drop, J: RunId>(report: RunReport<K, T, J>) -> ServerEnd<K>
-    ensures whole { report.storage ≡ Storage.Whole →
-        result.served ≡ Ok (K.state report.keeper).stored.panel.count }
-    ensures stopped { report.storage ≡ Storage.Stopped → result.served ≡ Err ServeFault.Storage }
-    ensures cause { result.cause ≡ report.cause }
-    ensures store { result.back ≡ report.keeper }
-    ensures spent { K.Device.honest (K.disk report.keeper) → K.exhausted report.keeper →
-        K.spent (K.Device.state (K.disk report.keeper)) }
+/// The result of a run by its report; after a whole one it writes how many actions are stored.
+fn print_end<K: Store, T: Told + Drop, J: RunId, W: io::Write>(
+    report: &RunReport<K, T, J>,
+    writer: &mut W,
+) -> Result<u64, ServeFault>
+    ensures result { IsResultOf K.Store K.Device.Disk result report.now }
+    ensures writes { EndWrites (W.contents writer.old) (W.contents writer.new)
+        (K.state report.now.keeper).stored.panel.count result }
 {
-    let RunReport {
-        keeper,
-        storage,
-        slots: _,
-        consoles: _,
-        cause,
-        moments: _,
-    } = report;
-    // for the proof: the contract of `images` says when a device is at its last epoch
-    keeper.images();
-    let served = match storage {
-        Storage::Whole => Ok(keeper.count()),
+    match report.storage {
+        Storage::Whole => {
+            let count = report.keeper.count();
+            match print_stopped(count, writer) {
+                Ok(()) => Ok(count),
+                Err(_) => Err(ServeFault::Write),
+            }
+        }
         Storage::Stopped => Err(ServeFault::Storage),
-    };
-    ServerEnd {
-        served,
-        cause,
-        back: keeper,
     }
 }
 
-/// Runs these parts with these ports.
+/// A run whose sources are ports, each of which can be a source of no other run.
+type PortsRun<'r, K, J, R> = RunEnd<K, Durable<J>, J, SlotPort<'r, R, Durable<J>>>;
+
+/// What a server over an open store returns.
+pub type PortsEnd<'r, K, J, R> = StoreEnd<K, Durable<J>, J, SlotPort<'r, R, Durable<J>>>;
+
+/// Runs these parts with these ports. The store is returned if out of memory or no thread can be made.
 fn run_parts<
+    'r,
     'h,
     J: RunId + Send + Sync,
     P: Alarms + Drop + Send + Sync,
@@ -121,46 +122,86 @@ fn run_parts<
     rt: &R,
     alloc: Global,
     parts: Parts<Durable<J>, WatchedLook<'h, SharedLook<J, P>, Free>, SharedBoard<J, P>, K, J>,
-    ports: SlotPorts<'_, R>,
-) -> ServerEnd<K>
+    ports: SlotPorts<'r, R, Durable<J>>,
+) -> Result<PortsRun<'r, K, J, R>, K>
     requires ports { map (λ port. port.slot) ports.ports.items ≡ parts.slots.items }
-    requires slots { AreAllSlots parts.slots.items }
-    ensures ends { RunsBy K.Device.Disk K.recovers K.spent
-        (K.state parts.entry.middle.flusher.store).stored
-        (K.disk parts.entry.middle.flusher.store) (K.disk result.back) result.cause result.served }
-    ensures net { result.served ≢ Err ServeFault.Net }
+    requires new { AreNewConsoles parts.consoles.items }
+    ensures run { IfOk result
+        (IsRunOfPorts K.Store K.Device.Disk parts.entry.middle.flusher.store
+        ports.entry.ports.items) }
+    ensures refused { IfErr result (λ back. back ≡ parts.entry.middle.flusher.store) }
 {
     let SlotPorts { ports, bells } = ports;
     match run_with_bells(rt, alloc, parts, &Free, bells, ports) {
-        Ok(report) => end_of(report),
-        Err(started) => ServerEnd::unserved(ServeFault::Memory, started.store),
+        Ok(run) => Ok(run),
+        Err(started) => Err(started.store),
     }
 }
 
-/// Runs the parts over a store with these ports.
-fn run_behind<J: RunId + Send + Sync, K: Store, R: Threads + Wait + Clock + Sync>(
+/// Runs the parts over a store with these ports. The store is returned if out of memory or no thread can be made.
+fn run_behind<'r, J: RunId + Send + Sync, K: Store, R: Threads + Wait + Clock + Sync>(
     rt: &R,
     alloc: Global,
     new: NewRun,
     store: K,
     slots: Vec<Slot>,
-    ports: SlotPorts<'_, R>,
-) -> ServerEnd<K>
+    ports: SlotPorts<'r, R, Durable<J>>,
+) -> Result<PortsRun<'r, K, J, R>, K>
     requires books { (new.history.seen.book ≡ J.book) × (new.moments.seen.book ≡ J.moments) }
     requires named { IsNamedAfter J.RunId K.Store K.Device.Disk store }
     requires idle { (K.state store).phase ≡ Phase.Idle }
     requires limit { (K.state store).stored.panel.count ≤ most_actions }
     requires some { (0 < length slots.items) × (length slots.items < 2 ^ 32) }
     requires apart { AreApart (λ s. s) slots.items }
-    requires slots { AreAllSlots slots.items }
     requires ports { map (λ port. port.slot) ports.ports.items ≡ slots.items }
-    ensures ends { RunsBy K.Device.Disk K.recovers K.spent (K.state store).stored (K.disk store)
-        (K.disk result.back) result.cause result.served }
-    ensures net { result.served ≢ Err ServeFault.Net }
+    ensures run { IfOk result
+        (IsRunOfPorts K.Store K.Device.Disk store ports.entry.ports.items) }
+    ensures refused { IfErr result (λ back. back ≡ store) }
 {
-    match parts_of::<J, K, Free, R>(rt, alloc, new, store, slots, &Free) {
-        Ok(parts) => run_parts::<J, Plant, K, R>(rt, alloc, parts, ports),
-        Err(store) => ServerEnd::unserved(ServeFault::Memory, store),
+    let parts = parts_of::<J, K, Free, R>(rt, alloc, new, store, slots, &Free)?;
+    run_parts::<J, Plant, K, R>(rt, alloc, parts, ports)
+}
+
+/// Serves an open store at the open ports of these slots, in their order, and returns the run, or the store if nothing was run.
+///
+/// It writes `serving` and what they listen at, starts the threads, and writes `stopped N` at the end of a whole run: how many
+/// actions are stored. The receipts of these ports are of the run `J`, which the caller names after the store. So no other run
+/// answers their clients, and each reply `OK` of this one has moments of this store's device.
+pub fn serve_store<
+    'r,
+    J: RunId + Send + Sync,
+    K: Store,
+    L: Listen<R>,
+    W: io::Write,
+    R: Threads + Wait + Clock + Sync,
+>(
+    rt: &R,
+    alloc: Global,
+    new: NewRun,
+    store: K,
+    slots: Vec<Slot>,
+    ports: SlotPorts<'r, R, Durable<J>>,
+    listen: &L,
+    writer: &mut W,
+) -> PortsEnd<'r, K, J, R>
+    requires books { (new.history.seen.book ≡ J.book) × (new.moments.seen.book ≡ J.moments) }
+    requires named { IsNamedAfter J.RunId K.Store K.Device.Disk store }
+    requires idle { (K.state store).phase ≡ Phase.Idle }
+    requires limit { (K.state store).stored.panel.count ≤ most_actions }
+    requires some { (0 < length slots.items) × (length slots.items < 2 ^ 32) }
+    requires apart { AreApart (λ s. s) slots.items }
+    requires ports { map (λ port. port.slot) ports.ports.items ≡ slots.items }
+    ensures serves { ServesStore K.Store K.Device.Disk store ports.entry.ports.items result }
+    ensures writes { WritesOf K.Store K.Device.Disk (L.name listen.now) (W.contents writer.old)
+        (W.contents writer.new) result }
+{
+    match print_serving::<R, L, W>(listen, writer) {
+        Ok(()) => {}
+        Err(_) => return StoreEnd::Unserved(ServeFault::Write, store),
+    }
+    match run_behind::<J, K, R>(rt, alloc, new, store, slots, ports) {
+        Ok(run) => StoreEnd::Served(print_end(&run.report, writer), run),
+        Err(store) => StoreEnd::Unserved(ServeFault::Memory, store),
     }
 }
 
@@ -200,27 +241,7 @@ fn serve_over<
         Err(PortFault::Net) => return ServerEnd::unserved(ServeFault::Net, store),
         Err(PortFault::OutOfMemory) => return ServerEnd::unserved(ServeFault::Memory, store),
     };
-    match print_serving::<R, L, W>(listen, writer) {
-        Ok(()) => {}
-        Err(_) => return ServerEnd::unserved(ServeFault::Write, store),
-    }
-    let ServerEnd {
-        served,
-        cause,
-        back,
-    } = run_behind::<J, K, R>(rt, alloc, new, store, slots, ports);
-    let served = match served {
-        Ok(count) => match print_stopped(count, writer) {
-            Ok(()) => Ok(count),
-            Err(_) => Err(ServeFault::Write),
-        },
-        Err(fault) => Err(fault),
-    };
-    ServerEnd {
-        served,
-        cause,
-        back,
-    }
+    ServerEnd::of(serve_store::<J, K, L, W, R>(rt, alloc, new, store, slots, ports, listen, writer))
 }
 
 /// Opens a device, serves its slots for `conns` connections in all, 0 without end, and returns the device.

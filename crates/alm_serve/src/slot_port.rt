@@ -1,7 +1,7 @@
 //! One slot's port.
 
 ghost use Rattle.std.specs.Prelude.{◌≡◌};
-ghost use Rattle.alm_serve.specs.Service.{stage};
+ghost use Rattle.alm_serve.specs.Service.{by_wire, stage};
 
 use crate::bound::Bound;
 use crate::call_watch::CallWatch;
@@ -12,6 +12,7 @@ use crate::slot_listener::SlotListener;
 use crate::slot_service::SlotService;
 use crate::slot_stream::SlotStream;
 use crate::stream_wire::StreamWire;
+use crate::traffic::Traffic;
 use alm_board::FreeLook;
 use alm_rings::{Console, Told};
 use alm_session::Session;
@@ -19,6 +20,7 @@ use alm_threads::{Go, Source};
 use alm_types::Slot;
 use mio::{Events, Poll, Token};
 use std::io;
+use std::marker::PhantomData;
 use std::sync::Arc;
 use std::time::{Clock, Duration};
 
@@ -42,6 +44,8 @@ fn is_stuck<R: Clock>(watch: &mut Option<CallWatch<'_, R>>) -> bool {
 fn find_ready(events: &Events, service: &mut SlotService<StreamWire<SlotStream>>)
     ensures session { service.new.session ≡ service.old.session }
     ensures stage { stage service.new.connection ≡ stage service.old.connection }
+    ensures traffic { by_wire (λ wire. wire.traffic) service.new.connection ≡
+        by_wire (λ wire. wire.traffic) service.old.connection }
 {
     for event in events {
         let reads_on = event.is_read_closed() || event.is_error() || event.is_priority();
@@ -51,9 +55,10 @@ fn find_ready(events: &Events, service: &mut SlotService<StreamWire<SlotStream>>
     }
 }
 
-/// One slot's port: one connection after another, each answered by the slot's session.
+/// One slot's port: one connection after another, each answered by the slot's session. It can be the source of a run alone whose
+/// receipts are of the type `T`.
 #[derive(Drop)]
-pub struct SlotPort<'r, R> {
+pub struct SlotPort<'r, R, T> {
     pub slot: Slot,
     listener: SlotListener,
     poll: Poll,
@@ -62,15 +67,19 @@ pub struct SlotPort<'r, R> {
     count: Arc<ConnectionCount>,
     // None if a device call may take any time.
     watch: Option<CallWatch<'r, R>>,
-    service: SlotService<StreamWire<SlotStream>>,
+    pub service: SlotService<StreamWire<SlotStream>>,
+    // The bytes of the connections that have ended, while none is open.
+    traffic: Traffic,
+    told: PhantomData<T>,
 }
 
-impl<'r, R: Clock> SlotPort<'r, R> {
-    ghost use Rattle.std.specs.Prelude.{◌≡◌, IfOk, None};
+impl<'r, R: Clock, T: Told + Drop> SlotPort<'r, R, T> {
+    ghost use Rattle.std.specs.Prelude.{◌≡◌, IfOk};
     ghost use Rattle.alm_rings.specs.Ends.{SameConsole, sent_of};
-    ghost use Rattle.alm_session.specs.Sides.{slot_state, heard_by};
+    ghost use Rattle.alm_session.specs.Sides.{heard_by};
     ghost use Rattle.alm_session.specs.Turns.{between};
     ghost use Rattle.alm_serve.specs.declared.connection.Connection.TheVariants as connection;
+    ghost use Rattle.alm_serve.specs.Ports.{IsUnused, side_of, traffic_of};
     ghost use Rattle.alm_serve.specs.Service.{Attends, IsFresh, stage, without_wire};
 
     /// A port with nobody connected, whose listener is polled from now on.
@@ -82,6 +91,7 @@ impl<'r, R: Clock> SlotPort<'r, R> {
         session: Session,
     ) -> io::Result<Self>
         ensures slot { IfOk result (λ port. port.slot ≡ bound.slot) }
+        ensures unused { IfOk result IsUnused }
     {
         let Bound {
             mut listener,
@@ -99,6 +109,8 @@ impl<'r, R: Clock> SlotPort<'r, R> {
             count,
             watch,
             service: SlotService::new(session),
+            traffic: Traffic::new(),
+            told: PhantomData,
         })
     }
 
@@ -109,18 +121,22 @@ impl<'r, R: Clock> SlotPort<'r, R> {
         ensures fresh { stage self.new.service.connection ≡ connection.Open tt →
             IsFresh self.new.service.session.intake self.new.service.session.waiting.items
             self.new.service.session.output.left }
+        ensures traffic { traffic_of self.new ≡ traffic_of self.old }
     {
-        let Ok(mut stream) = self.listener.accept() else {
-            return false;
-        };
-        if stream.register(self.poll.registry(), STREAM).is_err() {
-            self.service.close();
-            return true;
+        match self
+            .listener
+            .accept(self.poll.registry(), STREAM, &mut self.traffic)
+        {
+            Ok(Some(wire)) => {
+                self.service.begin(wire);
+                true
+            }
+            Ok(None) => {
+                self.service.close();
+                true
+            }
+            Err(_) => false,
         }
-        let reads_on = stream.reads_in_parts();
-        self.service.begin(StreamWire::new(stream));
-        self.service.find_ready(reads_on);
-        true
     }
 
     /// Ends the connection, or else closes the next one that waits: whether there was one.
@@ -129,28 +145,26 @@ impl<'r, R: Clock> SlotPort<'r, R> {
         ensures session { self.new.service.session ≡ self.old.service.session }
         ensures stage { stage self.new.service.connection ≡
             without_wire (stage self.old.service.connection) }
+        ensures traffic { traffic_of self.new ≡ traffic_of self.old }
     {
-        if !self.service.is_awaited() && self.service.close().is_some() {
-            return true;
+        if !self.service.is_awaited() {
+            if let Some(wire) = self.service.close() {
+                self.traffic = wire.close();
+                return true;
+            }
         }
-        self.listener.accept().is_ok()
+        self.listener.turn_away()
     }
 
     /// Does what can be done without waiting, or turns clients away while a device call is stuck: whether there was something.
-    fn step<T: Told + Drop, L: FreeLook<Told = T>>(
-        &mut self,
-        console: &mut Console<T>,
-        look: &mut L,
-    ) -> bool
+    fn step<L: FreeLook<Told = T>>(&mut self, console: &mut Console<T>, look: &mut L) -> bool
         ensures ends { SameConsole console.old console.new }
         ensures slot { self.new.slot ≡ self.old.slot }
         ensures base { L.Look.base look.new ≡ L.Look.base look.old }
         ensures attends { Attends (between L.Look.looked look.old look.new) (L.Look.base look.old)
             (stage self.old.service.connection) (stage self.new.service.connection)
-            (slot_state self.old.service.session (L.Look.knows look.old) None None
-            (sent_of console.old) (heard_by console.old))
-            (slot_state self.new.service.session (L.Look.knows look.new) None None
-            (sent_of console.new) (heard_by console.new)) }
+            (side_of self.old (L.Look.knows look.old) (sent_of console.old) (heard_by console.old))
+            (side_of self.new (L.Look.knows look.new) (sent_of console.new) (heard_by console.new)) }
     {
         if is_stuck(&mut self.watch) {
             return self.turn_away();
@@ -162,7 +176,7 @@ impl<'r, R: Clock> SlotPort<'r, R> {
             Served::Went => true,
             Served::Idle => false,
             Served::Closed(wire) => {
-                drop(wire);
+                self.traffic = wire.close();
                 true
             }
             Served::Over => {
@@ -177,6 +191,7 @@ impl<'r, R: Clock> SlotPort<'r, R> {
         ensures slot { self.new.slot ≡ self.old.slot }
         ensures session { self.new.service.session ≡ self.old.service.session }
         ensures stage { stage self.new.service.connection ≡ stage self.old.service.connection }
+        ensures traffic { traffic_of self.new ≡ traffic_of self.old }
     {
         if !self.bell.listens() {
             self.bell.listen();
@@ -188,27 +203,16 @@ impl<'r, R: Clock> SlotPort<'r, R> {
         self.bell.attend();
         find_ready(&self.events, &mut self.service);
     }
-}
 
-impl<R: Clock, T: Told + Drop, L: FreeLook<Told = T>> Source<T, L> for SlotPort<'_, R> {
-    ghost use Rattle.std.specs.Prelude.{◌≡◌, Some, None};
-    ghost use Rattle.alm_rings.specs.Ends.{SameConsole, sent_of};
-    ghost use Rattle.alm_session.specs.Sides.{slot_state, heard_by};
-    ghost use Rattle.alm_session.specs.Turns.{between};
-    ghost use Rattle.alm_serve.specs.Service.{Attends, stage};
-
-    ghost slot = { λ port. Some port.slot };
-
-    fn turn(&mut self, console: &mut Console<T>, look: &mut L) -> Go
+    /// A turn at its slot's console: ends once all connections are over.
+    fn attend<L: FreeLook<Told = T>>(&mut self, console: &mut Console<T>, look: &mut L) -> Go
         ensures ends { SameConsole console.old console.new }
         ensures slot { self.new.slot ≡ self.old.slot }
         ensures base { L.Look.base look.new ≡ L.Look.base look.old }
         ensures attends { Attends (between L.Look.looked look.old look.new) (L.Look.base look.old)
             (stage self.old.service.connection) (stage self.new.service.connection)
-            (slot_state self.old.service.session (L.Look.knows look.old) None None
-            (sent_of console.old) (heard_by console.old))
-            (slot_state self.new.service.session (L.Look.knows look.new) None None
-            (sent_of console.new) (heard_by console.new)) }
+            (side_of self.old (L.Look.knows look.old) (sent_of console.old) (heard_by console.old))
+            (side_of self.new (L.Look.knows look.new) (sent_of console.new) (heard_by console.new)) }
     {
         if self.count.are_over() {
             return Go::End;
@@ -219,5 +223,34 @@ impl<R: Clock, T: Told + Drop, L: FreeLook<Told = T>> Source<T, L> for SlotPort<
         }
         self.rest();
         Go::Rest
+    }
+}
+
+impl<R: Clock, T: Told + Drop, L: FreeLook<Told = T>> Source<T, L> for SlotPort<'_, R, T> {
+    ghost use Rattle.std.specs.Prelude.{◌≡◌, Some, map};
+    ghost use Rattle.alm_rings.specs.Ends.{SameConsole, received_of, sent_of};
+    ghost use Rattle.alm_session.specs.Turns.{between};
+    ghost use Rattle.alm_threads.specs.Sources.{reported_of};
+    ghost use Rattle.alm_serve.specs.Ports.{side_of};
+    ghost use Rattle.alm_serve.specs.Service.{Attends, as_heard, stage};
+
+    ghost slot = { λ port. Some port.slot };
+
+    ghost did = { λ a b. (L.Look.base b.look ≡ L.Look.base a.look) ×
+        Attends (between L.Look.looked a.look b.look) (L.Look.base a.look)
+        (stage a.source.service.connection) (stage b.source.service.connection)
+        (side_of a.source (L.Look.knows a.look) a.sent (map as_heard a.received))
+        (side_of b.source (L.Look.knows b.look) b.sent (map as_heard b.received)) };
+
+    fn turn(&mut self, console: &mut Console<T>, look: &mut L) -> Go
+        ensures ends { SameConsole console.old console.new }
+        ensures slot { self.new.slot ≡ self.old.slot }
+        ensures did { (L.Look.base look.new ≡ L.Look.base look.old) ×
+            Attends (between L.Look.looked look.old look.new) (L.Look.base look.old)
+            (stage self.old.service.connection) (stage self.new.service.connection)
+            (side_of self.old (L.Look.knows look.old) (sent_of console.old) (map as_heard (map reported_of (received_of console.old))))
+            (side_of self.new (L.Look.knows look.new) (sent_of console.new) (map as_heard (map reported_of (received_of console.new)))) }
+    {
+        self.attend(console, look)
     }
 }

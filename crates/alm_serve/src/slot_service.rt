@@ -19,8 +19,8 @@ use std::io::{Read, Write};
 /// | has ended | drops the receipts of its requests; [`Served::Over`] once all are answered |
 #[derive(Drop)]
 pub struct SlotService<W> {
-    session: Session,
-    connection: Connection<W>,
+    pub session: Session,
+    pub connection: Connection<W>,
 }
 
 impl<W> SlotService<W> {
@@ -98,12 +98,12 @@ impl<W: Wire + Drop> SlotService<W> {
         ensures open { (wire : W) → self.old.connection ≡ connection.Open wire →
             (turn : Turn) × ((now : W) × TurnServes turn now result self.new.connection ×
             IsTurn (between L.Look.looked look.old look.new) (L.Look.base look.old) (least_of turn)
-            (slot_state self.old.session (L.Look.knows look.old) (W.coming wire) (W.written wire)
+            (slot_state self.old.session (L.Look.knows look.old) (W.input wire) (W.written wire)
             (sent_of console.old) (heard_by console.old))
-            (slot_state self.new.session (L.Look.knows look.new) (W.coming now) (W.written now)
+            (slot_state self.new.session (L.Look.knows look.new) (W.input now) (W.written now)
             (sent_of console.new) (heard_by console.new)) ×
             Turns turn self.new.session console.old console.new (W.counts wire) (W.counts now)
-            (W.coming now)) }
+            (W.input now).coming) }
         // What an ended connection leaves is received and dropped, and nothing is sent.
         ensures ended { self.old.connection ≡ connection.Ended →
             Settles result self.new.connection console.new ×
@@ -144,6 +144,8 @@ impl<S: Read + Write + Drop> SlotService<StreamWire<S>> {
         ensures stage { stage self.new.connection ≡ stage self.old.connection }
         ensures stream { by_wire (λ wire. wire.stream) self.new.connection ≡
             by_wire (λ wire. wire.stream) self.old.connection }
+        ensures traffic { by_wire (λ wire. wire.traffic) self.new.connection ≡
+            by_wire (λ wire. wire.traffic) self.old.connection }
     {
         if let Connection::Open(wire) = &mut self.connection {
             wire.find_ready(reads_on);

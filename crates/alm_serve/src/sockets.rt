@@ -5,6 +5,7 @@ use crate::opening::{SlotPorts, open_sockets};
 use crate::patience::Patience;
 use crate::port_fault::PortFault;
 use alm_lines::Part;
+use alm_rings::Told;
 use alm_types::Slot;
 use std::alloc::Global;
 use std::fs::{File, Files};
@@ -26,13 +27,13 @@ impl<R: Net + Clock + Files<File = File>> Listen<R> for Sockets<'_> {
         Part::Word(self.folder)
     }
 
-    fn open<'r>(
+    fn open<'r, T: Told + Drop>(
         &self,
         rt: &'r R,
         alloc: Global,
         slots: &[Slot],
         conns: u32,
-    ) -> Result<SlotPorts<'r, R>, PortFault> {
+    ) -> Result<SlotPorts<'r, R, T>, PortFault> {
         open_sockets(rt, alloc, slots, self.folder, conns, self.patience)
     }
 }

@@ -4,6 +4,7 @@ ghost use Rattle.std.specs.Prelude.{◌≡◌, ◌↔◌, ◌⊎◌, ◌-◌, Is
 ghost use Rattle.std_io.specs.declared.io.kind.ErrorKind.TheVariants.{WouldBlock, Interrupted};
 
 use crate::first_bytes::FirstBytes;
+use crate::traffic::Traffic;
 use alm_session::{ReadGave, Wire, WriteTook};
 use std::io::{ErrorKind, Read, Write};
 
@@ -15,10 +16,15 @@ use std::io::{ErrorKind, Read, Write};
 /// without a call until a poll finds the stream ready. There are three exceptions, in which reads continue. Once the other side
 /// has ended its sending, no poll reports it again. A read ends before urgent data. And a read at a socket of a folder may end
 /// early.
+///
+/// In `read` and `write` a call of the stream and its note stand side by side. That each makes the call which it notes is checked
+/// by reading: no contract of a socket says what it carries.
 #[derive(Drop)]
 pub struct StreamWire<S: Read + Write + Drop> {
     stream: S,
     first: FirstBytes,
+    /// The bytes of the slot's connections, up to now.
+    pub traffic: Traffic,
     is_dry: bool,
     reads_on: bool,
     blocked_reads: u64,
@@ -27,11 +33,16 @@ pub struct StreamWire<S: Read + Write + Drop> {
 }
 
 impl<S: Read + Write + Drop> StreamWire<S> {
-    /// A wire over a stream that never waits.
-    pub fn new(stream: S) -> Self {
+    ghost use Rattle.std.specs.Prelude.{◌≡◌};
+
+    /// A wire over a stream that never waits, with the bytes of the slot's connections before it.
+    pub fn new(stream: S, traffic: Traffic) -> Self
+        ensures { result.traffic ≡ traffic }
+    {
         StreamWire {
             stream,
             first: FirstBytes::new(),
+            traffic,
             is_dry: false,
             reads_on: false,
             blocked_reads: 0,
@@ -44,9 +55,17 @@ impl<S: Read + Write + Drop> StreamWire<S> {
     /// ended its sending, or sent urgent data. The stream itself isn't called.
     pub fn find_ready(&mut self, reads_on: bool)
         ensures stream { self.new.stream ≡ self.old.stream }
+        ensures traffic { self.new.traffic ≡ self.old.traffic }
     {
         self.is_dry = false;
         self.reads_on = self.reads_on || reads_on;
+    }
+
+    /// Closes the stream: the bytes of the slot's connections, with those of this one.
+    pub fn close(self) -> Traffic
+        ensures { result ≡ self.traffic }
+    {
+        self.traffic
     }
 }
 
@@ -66,9 +85,9 @@ impl<S: Read + Write + Drop> Wire for StreamWire<S> {
       failed = w.failed;
     } };
 
-    ghost coming = { λ _. None };
+    ghost input = { λ w. record { came = w.traffic.came.bytes; coming = None } };
 
-    ghost written = { λ _. None };
+    ghost written = { λ w. w.traffic.written.bytes };
 
     fn read(&mut self, into: &mut [u8]) -> ReadGave {
         if self.is_dry {
@@ -80,7 +99,11 @@ impl<S: Read + Write + Drop> Wire for StreamWire<S> {
             Ok(0) => ReadGave::End,
             Ok(count) => {
                 self.is_dry = count < room && !self.reads_on;
-                self.first.give(&into[..count])
+                let gave = self.first.give(&into[..count]);
+                if let ReadGave::Got(_) = gave {
+                    self.traffic.came.note(&into[..count]);
+                }
+                gave
             }
             Err(error) if is_for_later(error.kind()) => {
                 self.is_dry = error.kind() == ErrorKind::WouldBlock && !self.reads_on;
@@ -96,7 +119,10 @@ impl<S: Read + Write + Drop> Wire for StreamWire<S> {
 
     fn write(&mut self, bytes: &[u8]) -> WriteTook {
         match self.stream.write(bytes) {
-            Ok(count) if count > 0 => WriteTook::Wrote(count),
+            Ok(count) if count > 0 => {
+                self.traffic.written.note(&bytes[..count]);
+                WriteTook::Wrote(count)
+            }
             Err(error) if is_for_later(error.kind()) => {
                 self.blocked_writes = self.blocked_writes.saturating_add(1);
                 WriteTook::Blocked

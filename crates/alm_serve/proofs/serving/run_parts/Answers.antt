@@ -1,57 +1,31 @@
-use Rattle.std.proofs.Common.{◌≡◌, ◌∙◌, Some, slice_get, refl, ap, sym, subst}
-use Rattle.std.proofs.Props.{props}
-use Rattle.std.proofs.Math.Logic.{∥∥₁_elim}
+use Rattle.std.proofs.Common.{◌≡◌, ◌∙◌, Some, slice_get, length, map, ap, sym, subst}
+use Rattle.alm_rings.specs.declared.console.Console.{Console}
 use Rattle.alm_serve.specs.declared.slot_port.SlotPort.{SlotPort}
-use Rattle.alm_serve.specs.Runs.{RunsBy}
-use Rattle.alm_threads.proofs.Closed.{there_is}
-use Rattle.alm_threads.proofs.Tied.{numbered}
-use Rattle.alm_serve.proofs.Runs.{by_storage}
+use Rattle.alm_threads.proofs.Tied.{map_count, numbered}
+use Rattle.alm_serve.specs.Ports.{AllAttended}
+use Rattle.alm_serve.proofs.Attended.{all_attended, all_talked}
+use Rattle.alm_serve.proofs.Stores.{over_on}
 use Rattle.alm_serve.proofs.serving.run_parts.Goals as goal
 
 pub run_with_bells-requires-clause-place : goal.run_with_bells-requires-clause-place
-run_with_bells-requires-clause-place g c κs within = λ k n s at is. subst (λ l. slice_get l k ≡ Some n) c.requires.ports (numbered (λ (p : SlotPort _). p.slot) c.args.ports.ports.items k s at ∙ is)
+run_with_bells-requires-clause-place g c κs within = λ k n s at is. subst (λ l. slice_get l k ≡ Some n) c.requires.ports (numbered (λ (p : SlotPort _ _). p.slot) c.args.ports.ports.items k s at ∙ is)
 
-pub returns-in-Ok-clause-ends : goal.returns-in-Ok-clause-ends
-returns-in-Ok-clause-ends g c =
-    let s = g.K.Store in
-    let d = g.K.Device.Disk in
-    let r = c.in-Ok.report in
-    let e = c.end_of.ensures in
-    let run = c.in-Ok.ensures.run in
-    let store = c.args.parts.middle.flusher.store in
-    rw (e.store, e.cause) (by_storage r.storage
-    (λ whole. subst (λ result. RunsBy d s.recovers s.spent (s.state store).stored (s.disk store) (s.disk r.keeper) r.cause result) (sym (e.whole whole)) (record {
-      slots = c.args.parts.slots.items;
-      all = c.requires.slots;
-      stored = (s.state r.keeper).stored;
-      counted = refl;
-      reports = r.slots.items;
-      end = r.answered whole;
-      history = r.moments;
-      run = run.run;
-    }))
-    (λ stopped.
-    let why = there_is r.cause (r.caused stopped) in
-    subst (λ result. RunsBy d s.recovers s.spent (s.state store).stored (s.disk store) (s.disk r.keeper) r.cause result) (sym (e.stopped stopped)) (
-      why.0,
-      why.1,
-      record {
-        count = (s.state r.keeper).stored.panel.count;
-        run = record {
-          slots = c.args.parts.slots.items;
-          all = c.requires.slots;
-          stored = (s.state r.keeper).stored;
-          counted = refl;
-          reports = r.slots.items;
-          end = λ other whole. ∥∥₁_elim whole (hlevel props) (λ answered. absurd (cc (sym (r.whole (λ phase. other (cc (why.1, r.stopped phase))) answered) ∙ stopped)));
-          history = r.moments;
-          run = run.run;
-        };
-        failed = λ is honest notspent. run.failed (why.1 ∙ ap Some is) (λ ex. notspent (e.spent honest ex));
-      },
-    )))
-
-pub returns-in-Ok-clause-net : goal.returns-in-Ok-clause-net
-returns-in-Ok-clause-net g c = λ net. by_storage c.in-Ok.report.storage
-    (λ whole. absurd (cc (sym (c.end_of.ensures.whole whole) ∙ net)))
-    (λ stopped. absurd (cc (sym (c.end_of.ensures.stopped stopped) ∙ net)))
+pub returns-in-Ok-clause-run : goal.returns-in-Ok-clause-run
+returns-in-Ok-clause-run g c =
+    let parts = c.args.parts in
+    let ports = c.args.ports.ports.items in
+    let e = c.in-Ok.ensures in
+    let run = c.in-Ok.run' in
+    let store = parts.middle.flusher.store in
+    let consoles = run.report.consoles.value.items in
+    let count : length ports ≡ length parts.slots.items = sym (map_count (λ (p : SlotPort _ _). p.slot) ports) ∙ ap length c.requires.ports in
+    let attended : AllAttended (g.K.Store.state store).stored ports run.sources.items consoles = subst (λ base. AllAttended base ports run.sources.items consoles) parts.middle.base
+    (all_attended g.J.RunId.base _ _ (λ a b did. did.1) ports parts.looks.items parts.consoles.items run.sources.items consoles
+    (parts.each_looks ∙ sym count)
+    (sym (map_count (λ (x : Console _ _). x.slot) parts.consoles.items) ∙ ap length parts.order ∙ sym count)
+    c.requires.new e.accounts) in
+    record {
+      over = over_on g.K.Store g.K.Device.Disk store parts.slots.items (map (λ (p : SlotPort _ _). p.slot) ports) parts.consoles.items run.report (sym c.requires.ports) e.run;
+      attended = attended;
+      talked = λ unused. all_talked (g.K.Store.state store).stored ports run.sources.items consoles unused attended;
+    }
