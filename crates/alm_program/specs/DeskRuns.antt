@@ -1,18 +1,25 @@
 -- What a desk over a device has done.
-use Rattle.std.specs.Prelude.{◌≡◌, ◌↔◌, ℕ, List, [], ◌∷◌, Contains, Option, Some, Result, OnOk, IfSome}
+use Rattle.std.specs.Prelude.{◌≡◌, ◌↔◌, ◌⊎◌, ℕ, List, [], ◌∷◌, Contains, Option, Some, Result, OnOk, IfSome}
 use Rattle.alm_types.specs.declared.request.Request.{Request}
 use Rattle.alm_model.specs.Plant.{Condensed}
 use Rattle.alm_disk.specs.Device.{IsImage}
+use Rattle.alm_disk.specs.Failures.{HasFailed}
 use Rattle.alm_disk.specs.declared.disk.Disk
 use Rattle.alm_desk.specs.Answers.{DeskState, standing_of}
 use Rattle.alm_desk.specs.Backends.{IsJudged, kept_by}
 use Rattle.alm_desk.specs.DeskLines.{IsDesk}
 use Rattle.alm_desk.specs.declared.judged_request.JudgedRequest.{JudgedRequest}
 use Rattle.alm_desk.specs.declared.stopped.Stopped.{Stopped}
+use Rattle.alm_file.specs.declared.file_fault.FileFault.{FileFault}
 use Rattle.alm_file.specs.Replay.{BeginsAs}
 use Rattle.alm_keeper.specs.AsStore.{StandsFor}
-use Rattle.alm_store.specs.Calls.{OpensBy}
+use Rattle.alm_store.specs.Calls.{IsRefusedBy, OpensBy}
+use Rattle.alm_store.specs.Opening.{HasCause}
+use Rattle.alm_store.specs.declared.open_fault.OpenFault.{OpenFault}
+use Rattle.alm_store.specs.declared.open_fault.OpenFault.TheVariants as opening
 use Rattle.alm_program.specs.declared.fault.Fault.{Fault}
+use Rattle.alm_program.specs.declared.fault.Fault.TheVariants.{OutOfMemory}
+use Rattle.alm_program.specs.Faults.{fault_of_file, fault_of_open}
 
 -- a request, and what came of it
 pub record JudgedAtDesk : Type 0 where
@@ -54,3 +61,21 @@ pub record IsDeskFrom {D : Type 0} (d : Disk.Ghosts D) (start : List ℕ) (back 
   pub old : Option (List ℕ)
   pub new : Option (List ℕ)
   pub over : IsDeskOver d device back input old new done
+
+-- the device isn't opened, for its cause, and this is the fault of that
+pub record IsRefused {D : Type 0} (d : Disk.Ghosts D) (device : D) (fault : Fault) : Type 0 where
+  pub why : OpenFault
+  pub now : D
+  pub named : fault ≡ fault_of_open why
+  pub by : IsRefusedBy why d.serves device now
+  pub failed : why ≡ opening.Disk → HasFailed (d.failures device) (d.failures now)
+  pub cause : d.honest now → HasCause StandsFor (d.state device) why (d.failures device) (d.failures now)
+
+-- no desk is run over the device: there is no memory, or it isn't opened
+abbrev pub IsNotRun : {D : Type 0} (d : Disk.Ghosts D) (device : D) (fault : Fault) → Type 0
+IsNotRun d device fault = (fault ≡ OutOfMemory) ⊎ IsRefused d device fault
+
+-- a file held the bytes `start`, and no desk is run over it: the file isn't opened, or a device that began with these bytes isn't run
+abbrev pub IsNotRunFrom : {D : Type 0} (d : Disk.Ghosts D) (start : List ℕ) (fault : Fault) → Type 0
+IsNotRunFrom {D} d start fault =
+    ((cause : FileFault) × (fault ≡ fault_of_file cause)) ⊎ ((device : D) × BeginsAs start (d.size device) (d.honest device) (d.state device) × IsNotRun d device fault)

@@ -10,7 +10,7 @@ ghost use Rattle.alm_desk.specs.DeskLines.{IsDesk};
 ghost use Rattle.alm_stack.specs.Stacks.{kept_of, stands_of, store_of};
 ghost use Rattle.alm_store.specs.Calls.{IsRefusedBy, OpensBy};
 ghost use Rattle.alm_store.specs.Opening.{HasCause};
-ghost use Rattle.alm_program.specs.DeskRuns.{IsDeskFrom, IsDeskOver, RunsDesk};
+ghost use Rattle.alm_program.specs.DeskRuns.{IsDeskFrom, IsDeskOver, IsNotRun, IsNotRunFrom, RunsDesk};
 ghost use Rattle.alm_program.specs.Ends.{DeskEnds, IsUnread, IsUnwritten};
 ghost use Rattle.alm_program.specs.Faults.{fault_of_open};
 
@@ -158,6 +158,7 @@ fn run_disk_between<I: Read + Drop, D: Disk + Drop, W: Write + Drop>(
     ensures from { (start : List ℕ) →
         BeginsAs start (D.size disk) (D.honest disk) (D.state disk) →
         IfOk result (λ end. IsDeskFrom D.Disk start end.back end.done) }
+    ensures refused { IfErr result (IsNotRun D.Disk disk) }
 {
     let stack = open_stack(alloc, disk)?;
     let DeskEnd { done, back } = run_stack_between::<Brand, I, D, W>(alloc, stack, reader, writer)?;
@@ -172,8 +173,9 @@ pub fn run_device_desk<S: Start, R: Input + Print + Files<File = File> + AllocGl
     device: &str,
     start: S,
 ) -> Result<DeskEnd<FileDisk<S>>, Fault>
-    ensures { IfOk result
+    ensures from { IfOk result
         (λ end. IsDeskFrom ⟦<FileDisk<S> as Disk>⟧ S.Start.bytes end.back end.done) }
+    ensures refused { IfErr result (IsNotRunFrom ⟦<FileDisk<S> as Disk>⟧ S.Start.bytes) }
 {
     let disk = match FileDisk::open(rt, device, start) {
         Ok(disk) => disk,
@@ -181,6 +183,9 @@ pub fn run_device_desk<S: Start, R: Input + Print + Files<File = File> + AllocGl
     };
     let alloc = rt.alloc();
     let mut reader = CountedReader::new(rt.reader());
-    let writer = BufWriter::with_capacity(alloc, 65536, io::writer(rt)).map_err(io_fault)?;
+    let writer = match BufWriter::with_capacity(alloc, 65536, io::writer(rt)) {
+        Ok(writer) => writer,
+        Err(error) => return Err(io_fault(error)),
+    };
     run_disk_between(alloc, disk, &mut reader, &mut CountedWriter::new(writer))
 }

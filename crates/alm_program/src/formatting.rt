@@ -1,15 +1,16 @@
 //! Making a device of a table file.
 
-ghost use Rattle.std.specs.Prelude.{◌≡◌, ℕ, length, false, IfOk, IfErr};
+ghost use Rattle.std.specs.Prelude.{◌≡◌, ℕ, List, length, false, IfOk, IfErr};
 ghost use Rattle.alm_lines.specs.Written.{Prints};
 ghost use Rattle.alm_checkpoint.specs.Headers.{segment_fits};
 ghost use Rattle.alm_keeper.specs.Formatting.{IsLongest};
-ghost use Rattle.alm_program.specs.Formatted.{formatted_text};
+ghost use Rattle.alm_program.specs.Formatted.{IsFormattedFor, IsMadeFor, formatted_text};
 
 use crate::fault::Fault;
 use crate::io_faults::{file_fault, io_fault};
 use alm_checkpoint::Layout;
 use alm_codec::Version;
+use alm_disk::Disk;
 use alm_file::{FileDisk, Start};
 use alm_keeper::format;
 use alm_lines::{Part, put_parts};
@@ -38,28 +39,43 @@ fn layout_for(size: u64, table: &Table) -> Result<Layout, Fault>
     Layout::longest(rows, table.areas(), size, Version::V02).ok_or(Fault::TooSmall)
 }
 
-/// Formats the file of a device for a table, and returns the length of its segments. The file is made or set to this size first,
-/// and stays so if a refusal follows. All that its layout uses gets room on the disk, so that no later write meets a full disk.
+/// A device that was formatted, and the length of its segments.
+#[derive(Drop)]
+struct Formatted<D: Drop> {
+    device: D,
+    segment: u32,
+}
+
+/// Formats the file of a device for a table. The file is made or set to this size first, and stays so if a refusal follows. All
+/// that its layout uses gets room on the disk, so that no later write meets a full disk.
 fn format_file<S: Start, R: Files<File = File> + AllocGlobal>(
     rt: &R,
     device: &str,
     size: u64,
     table: &Table,
     start: S,
-) -> Result<u32, Fault>
-    ensures { IfOk result
-        (λ segment. (layout : Layout) × IsLongest size table.now layout ×
-        (layout.segment ≡ segment)) }
+) -> Result<Formatted<FileDisk<S>>, Fault>
+    ensures longest { IfOk result
+        (λ done. (layout : Layout) × IsLongest size table.now layout ×
+        (layout.segment ≡ done.segment)) }
+    ensures formatted { IfOk result
+        (λ done. IsMadeFor ⟦<FileDisk<S> as Disk>⟧ S.Start.bytes size table.now done.device) }
 {
     let fitting = layout_for(size, table);
     let used = match &fitting {
         Ok(layout) => layout.device_len(),
         Err(_) => 0,
     };
-    let disk = FileDisk::make(rt, device, size, used, start).map_err(file_fault)?;
+    let disk = match FileDisk::make(rt, device, size, used, start) {
+        Ok(disk) => disk,
+        Err(fault) => return Err(file_fault(fault)),
+    };
     let layout = fitting?;
     match format(rt.alloc(), disk, table) {
-        Ok(_) => Ok(layout.segment),
+        Ok(device) => Ok(Formatted {
+            device,
+            segment: layout.segment,
+        }),
         Err((fault, _)) => Err(Fault::from(fault)),
     }
 }
@@ -86,19 +102,40 @@ fn print_formatted<W: io::Write>(table: &Table, segment: u32, writer: &mut W) ->
     )
 }
 
-/// Makes a device of a table file, and prints its rows, areas and segment. No file is made if the table is refused; but a table
-/// that is too large for its `size` leaves a file of that size.
+/// Makes a device of a table's text, prints its rows, areas and segment, and returns it. No file is made if the table is refused;
+/// but a table that is too large for its `size` leaves a file of that size.
+fn format_text<S: Start, R: Files<File = File> + Print + AllocGlobal>(
+    rt: &R,
+    device: &str,
+    text: &[u8],
+    start: S,
+) -> Result<FileDisk<S>, Fault>
+    ensures { IfOk result
+        (λ made. IsFormattedFor ⟦<FileDisk<S> as Disk>⟧ S.Start.bytes text.now made) }
+{
+    let (size, table) = table_of(rt.alloc(), text)?;
+    let done = format_file(rt, device, size, &table, start)?;
+    match print_formatted(&table, done.segment, &mut io::writer(rt)) {
+        Ok(()) => Ok(done.device),
+        Err(error) => Err(io_fault(error)),
+    }
+}
+
+/// Makes a device of a table file, prints its rows, areas and segment, and returns it, as [`format_text`] does of the file's text.
 pub fn run_format<S: Start, R: Files<File = File> + Print + AllocGlobal>(
     rt: &R,
     device: &str,
     table: &str,
     start: S,
-) -> Result<(), Fault> {
+) -> Result<FileDisk<S>, Fault>
+    ensures { IfOk result (λ made. (text : List ℕ) ×
+        IsFormattedFor ⟦<FileDisk<S> as Disk>⟧ S.Start.bytes text made) }
+{
     if is_same_file(rt, device, table) {
         return Err(Fault::Usage);
     }
-    let text = fs::read(rt, table).map_err(io_fault)?;
-    let (size, table) = table_of(rt.alloc(), text.as_slice())?;
-    let segment = format_file(rt, device, size, &table, start)?;
-    print_formatted(&table, segment, &mut io::writer(rt)).map_err(io_fault)
+    match fs::read(rt, table) {
+        Ok(text) => format_text(rt, device, text.as_slice(), start),
+        Err(error) => Err(io_fault(error)),
+    }
 }

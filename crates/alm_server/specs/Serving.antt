@@ -1,13 +1,14 @@
 -- What the program says of a server's fault, and of the device's file that it served.
-use Rattle.std.specs.Prelude.{ℕ, List, Option, Result}
+use Rattle.std.specs.Prelude.{◌≡◌, ◌⊎◌, ℕ, List, Option, Result}
 use Rattle.alm_disk.specs.declared.disk.Disk
+use Rattle.alm_file.specs.declared.file_fault.FileFault.{FileFault}
 use Rattle.alm_file.specs.Replay.{BeginsAs}
 use Rattle.alm_keeper.specs.AsStore.{IsLastEpoch, StandsFor}
 use Rattle.alm_threads.specs.declared.stop_cause.StopCause.{StopCause}
 use Rattle.alm_serve.specs.Runs.{ServeEnds}
 use Rattle.alm_program.specs.declared.fault.Fault.{Fault}
 use Rattle.alm_program.specs.declared.fault.Fault.TheVariants as program
-use Rattle.alm_program.specs.Faults.{fault_of_open}
+use Rattle.alm_program.specs.Faults.{fault_of_file, fault_of_open}
 use Rattle.alm_serve.specs.declared.serve_fault.ServeFault.{ServeFault}
 use Rattle.alm_serve.specs.declared.serve_fault.ServeFault.TheVariants.{Open, Net, Write, Memory, Storage}
 
@@ -25,3 +26,7 @@ pub record IsServedFrom {D : Type 0} (d : Disk.Ghosts D) (start : List ℕ) (bac
   pub device : D
   pub begins : BeginsAs start (d.size device) (d.honest device) (d.state device)
   pub ends : ServeEnds d StandsFor IsLastEpoch device back why served
+
+-- nothing is served: there is no memory, or the file isn't opened
+abbrev pub IsNotServed : Fault → Type 0
+IsNotServed fault = (fault ≡ program.OutOfMemory) ⊎ ((cause : FileFault) × (fault ≡ fault_of_file cause))

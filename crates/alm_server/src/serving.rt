@@ -1,10 +1,10 @@
 //! Serving a device's file.
 
-ghost use Rattle.std.specs.Prelude.{◌≡◌, ℕ, List, IfOk};
+ghost use Rattle.std.specs.Prelude.{◌≡◌, ℕ, List, IfErr, IfOk};
 ghost use Rattle.alm_file.specs.Replay.{BeginsAs};
 ghost use Rattle.alm_keeper.specs.AsStore.{IsLastEpoch, StandsFor};
 ghost use Rattle.alm_serve.specs.Runs.{ServeEnds};
-ghost use Rattle.alm_server.specs.Serving.{IsServedFrom, fault_of_serve};
+ghost use Rattle.alm_server.specs.Serving.{IsNotServed, IsServedFrom, fault_of_serve};
 
 use alm_disk::Disk;
 use alm_file::{PlacedDisk, Start};
@@ -54,9 +54,10 @@ fn serve_counted<
     D: Disk + Drop,
     R: Files<File = File> + Print + Net + Threads + Wait + Clock + Sync + AllocGlobal,
 >(rt: &R, disk: D, order: &ServeOrder) -> Result<ServerEnd<CountedDisk<D>>, Fault>
-    ensures { (start : List ℕ) → BeginsAs start (D.size disk) (D.honest disk) (D.state disk) →
+    ensures from { (start : List ℕ) → BeginsAs start (D.size disk) (D.honest disk) (D.state disk) →
         IfOk result
         (λ end. IsServedFrom ⟦<CountedDisk<D> as Disk>⟧ start end.back end.cause end.served) }
+    ensures memory { IfErr result (λ fault. fault ≡ Fault.OutOfMemory) }
 {
     let patience = Patience::new(rt.alloc(), order.patience.unwrap_or(0))?;
     let counted = patience.count(disk)?;
@@ -76,9 +77,10 @@ pub fn serve_file<
     order: &'r ServeOrder,
     start: S,
 ) -> Result<ServerEnd<CountedDisk<PlacedDisk<'r, R, S>>>, Fault>
-    ensures { IfOk result
+    ensures from { IfOk result
         (λ end. IsServedFrom ⟦<CountedDisk<PlacedDisk<'r, R, S>> as Disk>⟧ S.Start.bytes end.back
         end.cause end.served) }
+    ensures refused { IfErr result IsNotServed }
 {
     match PlacedDisk::open(rt, order.device.as_str(), start) {
         Ok(disk) => serve_counted(rt, disk, order),

@@ -31,4 +31,5 @@ returns g c =
     record {
       over = over;
       from = λ start begins. record { device = c.args.disk; begins = begins; input = input; old = old; new = new; over = over };
+      refused = tt;
     }
