@@ -1,5 +1,6 @@
-# What the benchmarks share: our program of benchmarks and a plain one beside it, in turns, and the ratios of their best times.
-# A run.sh sources it; `work` is a folder that goes when it ends.
+# shellcheck shell=bash
+# What the benchmarks share: our program of benchmarks and a plain one beside it, in turns, and the ratios of their best
+# times. A run.sh sources it; `work` is a folder that goes when it ends.
 top="$(cd "$(dirname "${BASH_SOURCE[0]}")/.." && pwd)"
 work="$(mktemp -d)"
 trap 'rm -rf "$work"' EXIT
@@ -15,8 +16,8 @@ build() {
     }
 }
 
-# Runs our benchmark of a name, and the plain program, with the same arguments, five times. Each says on its standard error or output what it
-# timed, its answer and the nanoseconds.
+# Runs our benchmark of a name, and the plain program, with the same arguments, five times. Each says on its standard
+# error or output what it timed, its answer and the nanoseconds.
 run_in_turns() {
     local name="$1"
     shift
@@ -26,8 +27,8 @@ run_in_turns() {
     done
 }
 
-# Prints the best times in a unit, which is so many nanoseconds (an expression over `key`), and their ratio. The answers have to
-# be the same. What the plain program doesn't do is printed alone.
+# Prints the best times in a unit, which is so many nanoseconds (an expression over `key`), and their ratio. The answers
+# have to be the same. What the plain program doesn't do is printed alone.
 print_ratios() {
     awk '
         { key = $2; if (!(key in sum)) { order[++n] = key; sum[key] = $3 } }

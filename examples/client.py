@@ -3,14 +3,18 @@
 
     examples/client.py              starts `./alm_server desk`, and asks it through a pipe
     examples/client.py --port P     asks a server, `./alm_server serve DEVICE --port P`
+
+It needs the package `alarms`: `PYTHONPATH=tools` where that isn't installed.
 """
 import contextlib
 import pathlib
 import time
-from typing import Callable
+from typing import Callable, Optional
 
-from alarm_client import CLOCK, FEED, Client, DeskProcess, Refused
-from arguments import add_port, new_parser
+from alarms.client import CLOCK, FEED, Client, Place, Refused
+from alarms.desk import DeskProcess
+from alarms.ending import end_of
+from alarms.arguments import add_port, new_parser
 
 PROGRAM = pathlib.Path(__file__).resolve().parent.parent / "alm_server"
 CONSOLE = 0
@@ -41,18 +45,27 @@ def morning(console: Client, feed: Client, clock: Client) -> None:
     show(console, 0)
 
 
-def main() -> None:
-    words = new_parser(__doc__)
-    add_port(words, required=False)
-    words.add_argument("--program", default=str(PROGRAM), help="the alm_server whose desk is started; the repository's where it is left out")
-    chosen = words.parse_args()
-    if chosen.port is None:
-        desk = DeskProcess(chosen.program)
+def run(place: Optional[Place], program: str) -> None:
+    """Asks a server, or a desk that is started."""
+    if place is None:
+        desk = DeskProcess(program)
         morning(desk.at(CONSOLE), desk.at(FEED), desk.at(CLOCK))
         print("status", desk.end())
         return
     with contextlib.ExitStack() as stack:
-        morning(*(stack.enter_context(Client.connect(chosen.port, slot)) for slot in (CONSOLE, FEED, CLOCK)))
+        morning(*(stack.enter_context(Client.connect(place, slot)) for slot in (CONSOLE, FEED, CLOCK)))
+
+
+def main() -> None:
+    words = new_parser(__doc__)
+    add_port(words, required=False)
+    words.add_argument(
+        "--program",
+        default=str(PROGRAM),
+        help="the alm_server whose desk is started; the repository's where it is left out",
+    )
+    chosen = words.parse_args()
+    end_of("client", lambda: run(chosen.port, chosen.program))
 
 
 if __name__ == "__main__":

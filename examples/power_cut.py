@@ -1,15 +1,16 @@
 #!/usr/bin/env python3
 """Kills the desk over a device at random moments, and compares what the device stands for with what was answered.
 
-    examples/power_cut.py PROGRAM [ROUNDS]
+    examples/power_cut.py PROGRAM [ROUNDS]      with PYTHONPATH=tools where the package `alarms` isn't installed
 
-PROGRAM is the built program, ROUNDS is 100 where it is left out. Two devices are formatted for plant.toml. In each round lines go
-to the desk over the first one, each after the answer to the one before, then some at once. Then the process is killed with SIGKILL.
-The second device gets the lines that were answered, without a kill, and then the others one by one. At one of these moments `show`
-must print the same of both. The epoch alone may differ, since a checkpoint that was cut short is made again.
+PROGRAM is the built program, ROUNDS is 100 where it is left out. Two devices are formatted for plant.toml. In each
+round lines go to the desk over the first one, each after the answer to the one before, then some at once. Then the
+process is killed with SIGKILL. The second device gets the lines that were answered, without a kill, and then the others
+one by one. At one of these moments `show` must print the same of both. The epoch alone may differ, since a checkpoint
+that was cut short is made again.
 
-What is killed here is the process. The system goes on, and what it holds of the file stays. A real power failure takes more, and is
-what the device model of the proofs is about.
+What is killed here is the process. The system goes on, and what it holds of the file stays. A real power failure takes
+more, and is what the device model of the proofs is about.
 """
 import os
 import pathlib
@@ -21,7 +22,8 @@ import sys
 import tempfile
 import time
 
-from arguments import new_parser
+from alarms.arguments import new_parser
+from alarms.known import known
 
 # The longest pause before a kill, in seconds: about as long as the last lines take.
 PAUSE = 0.0002
@@ -40,13 +42,22 @@ class Lines:
         self.number, self.clock = 0, 1000
 
     def next(self) -> str:
+        """A line: a slot, a number and a request."""
         dice = self.dice
         self.number, self.clock = self.number + 1, self.clock + dice.randrange(1, 5)
         alarm, console, switch = dice.randrange(4), dice.randrange(16), dice.choice(["ON", "OFF"])
-        requests = {"VAL": (16, f"{alarm} {dice.randrange(0, 1000)}"), "DESIGN": (16, f"{alarm} {switch}"), "CLOCK": (17, self.clock),
-                    "ACK": (console, alarm), "RESET": (console, alarm), "UNSHELVE": (console, alarm), "OOS": (console, f"{alarm} {switch}"),
-                    "SHELVE": (console, f"{alarm} {dice.randrange(1, 3600)}"), "PRIO": (console, f"{alarm} {dice.randint(1, 4)}"),
-                    "SETP": (console, f"{alarm} {dice.randrange(0, 1000)}")}
+        requests = {
+            "VAL": (16, f"{alarm} {dice.randrange(0, 1000)}"),
+            "DESIGN": (16, f"{alarm} {switch}"),
+            "CLOCK": (17, self.clock),
+            "ACK": (console, alarm),
+            "RESET": (console, alarm),
+            "UNSHELVE": (console, alarm),
+            "OOS": (console, f"{alarm} {switch}"),
+            "SHELVE": (console, f"{alarm} {dice.randrange(1, 3600)}"),
+            "PRIO": (console, f"{alarm} {dice.randint(1, 4)}"),
+            "SETP": (console, f"{alarm} {dice.randrange(0, 1000)}"),
+        }
         word = dice.choice([*requests, *["VAL"] * 6, *["ACK"] * 2])
         slot, words = requests[word]
         return f"{slot} {self.number} {word} {words}"
@@ -74,16 +85,19 @@ class Cuts:
 
     def kill(self) -> tuple[list[str], list[str]]:
         """Gives lines to the device's desk until it is killed: those that were answered, and those that were not."""
-        desk = subprocess.Popen([self.program, "desk", self.device], stdin=subprocess.PIPE, stdout=subprocess.PIPE, text=True, bufsize=1)
+        desk = subprocess.Popen(
+            [self.program, "desk", self.device], stdin=subprocess.PIPE, stdout=subprocess.PIPE, text=True, bufsize=1
+        )
+        asks, replies = known(desk.stdin), known(desk.stdout)
         answered = [self.lines.next() for _ in range(self.lines.dice.randrange(0, 40))]
         for line in answered:
-            desk.stdin.write(line + "\n")
-            desk.stdin.flush()
-            if not desk.stdout.readline():
+            asks.write(line + "\n")
+            asks.flush()
+            if not replies.readline():
                 raise Wrong("the desk ended by itself")
         waiting = [self.lines.next() for _ in range(self.lines.dice.randrange(1, 9))]
-        desk.stdin.write("".join(line + "\n" for line in waiting))
-        desk.stdin.flush()
+        asks.write("".join(line + "\n" for line in waiting))
+        asks.flush()
         time.sleep(self.lines.dice.random() * PAUSE)
         desk.send_signal(signal.SIGKILL)
         count = desk.communicate()[0].count("\n")
@@ -106,7 +120,14 @@ class Cuts:
 def main() -> None:
     words = new_parser(__doc__)
     words.add_argument("program", metavar="PROGRAM", help="the built program, crates/alm_server/out/alm_server")
-    words.add_argument("rounds", metavar="ROUNDS", nargs="?", type=int, default=100, help="how often it is killed; %(default)s where it is left out")
+    words.add_argument(
+        "rounds",
+        metavar="ROUNDS",
+        nargs="?",
+        type=int,
+        default=100,
+        help="how often it is killed; %(default)s where it is left out",
+    )
     chosen = words.parse_args()
     with tempfile.TemporaryDirectory() as folder:
         cuts = Cuts(os.path.abspath(chosen.program), folder)

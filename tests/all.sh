@@ -1,16 +1,18 @@
 #!/usr/bin/env bash
-# What proofs leave to tests, at the built program: each script of the list below, and a line of summary of each.
+# What proofs leave to tests, at the built program: each script of the folders pages, program, tools and machines, and a
+# line of summary of each. A script is what may be executed there; what else lies there is a part of one.
 #
 #     tests/all.sh [--short] [PROGRAM]
 #
-# Without a PROGRAM it is the launcher's, which is proved and built first if need be. With --short it takes some four minutes. A script that
-# can't run here is left out, and says why. One that finds something wrong doesn't end the others. The last line counts them, and the status
-# is 0 only where none found something wrong.
+# Without a PROGRAM it is the launcher's, which is proved and built first if need be. With --short it takes some four
+# minutes. A script that can't run here ends with status 77 and says why: it is left out. One that finds something wrong
+# doesn't end the others. The last line counts them, and the status is 0 only where none found something wrong.
 set -u
 top=$(cd "$(dirname "$0")/.." && pwd)
 program=
 short=()
-# Seconds that a script may take. One that hangs is ended with all that it started; at a terminal it stays in the foreground, so that Ctrl-C ends it.
+# Seconds that a script may take. One that hangs is ended with all that it started; at a terminal it stays in the
+# foreground, so that Ctrl-C ends it.
 longest=14400
 bounds=(--kill-after=30)
 [ ! -t 0 ] || bounds+=(--foreground)
@@ -30,16 +32,6 @@ left_out=()
 trap '[ -z "$clients" ] || kill "$clients" 2>/dev/null; wait; rm -rf "$log"' EXIT
 trap 'exit 130' INT TERM
 
-# What a script wants that isn't here; empty where nothing is missing.
-lacks() {
-    if [ "$1" = refused ]; then
-        for source in "$top"/crates/*_tests/src/refused.rt; do
-            name=$(basename "${source%/src/refused.rt}")
-            [ -x "$top/crates/$name/out/${name}_tests" ] || { echo "rt ci hasn't built the tests of $name"; return; }
-        done
-    fi
-}
-
 # Takes note of how a script ended: 77 is one that was left out, and has said why.
 note() {
     case $2 in
@@ -54,11 +46,12 @@ note() {
 }
 
 echo "all: needs Python 3.11 and a C compiler, cc; refused.py also what \`rt ci\` builds, writeback.py also root and file systems, see its page"
-echo "all: uses tmux, systemd-analyze, promtool, chromium, selenium, aiohttp, nginx and nft where they are there, mosquitto too; and systemd-nspawn over a Debian in the folder DEBIAN_ROOT, see units.py"
+echo "all: uses tmux, systemd-analyze, promtool, chromium, selenium, aiohttp, nginx and nft where they are there, mosquitto too; and systemd-nspawn over a Debian in the folder DEBIAN_ROOT, see machines/container.py"
 "$top/tests/needs.sh" || exit 2
 if [ -z "$program" ]; then
     program=$top/crates/alm_server/out/alm_server
-    # Proves and builds the program if need be, which says how far it is; called without words the program says `fault usage`.
+    # Proves and builds the program if need be, which says how far it is; called without words the program says `fault
+    # usage`.
     "$top/alm_server" 2>&1 >/dev/null | grep --line-buffered -v '^fault usage$' >&2
     if [ "${PIPESTATUS[0]}" -gt 125 ]; then
         echo "all: the program isn't built" >&2
@@ -66,21 +59,15 @@ if [ -z "$program" ]; then
     fi
 fi
 
-# clients.py mostly waits for its tools, so the others run beside it.
-timeout --kill-after=30 "$longest" "$top/tests/clients.py" "$program" "${short[@]}" >"$log/clients" 2>&1 &
+# tools/clients.py mostly waits for its tools, so the others run beside it.
+timeout --kill-after=30 "$longest" "$top/tests/tools/clients.py" "$program" "${short[@]}" >"$log/clients" 2>&1 &
 clients=$!
-# power.py and checksums.py aren't among them: they start virtual machines and want packages unpacked, and power.py takes an hour. Their pages say how they are run.
-for script in pages prose launcher streams examples sizes faults record memory damage flips place writeback surroundings sockets firewall units package quarter lines serve values history browser refused; do
-    why=$(lacks "$script")
-    if [ -n "$why" ]; then
-        echo "$script: left out: $why"
-        left_out+=("$script")
-        continue
-    fi
+for path in "$top"/tests/{pages,program,tools,machines}/*.py; do
+    script=$(basename "${path%.py}")
+    if [ ! -x "$path" ] || [ "$script" = clients ]; then continue; fi
     words=("$program" "${short[@]}")
-    case $script in pages | prose | launcher) words=() ;; esac # these read the repository alone
-    case $script in units | package | quarter) [ -z "${DEBIAN_ROOT:-}" ] || words+=(--root "$DEBIAN_ROOT") ;; esac
-    timeout "${bounds[@]}" "$longest" "$top/tests/$script.py" "${words[@]}"
+    case $path in */pages/*) words=() ;; esac # these read the repository alone
+    timeout "${bounds[@]}" "$longest" "$path" "${words[@]}"
     note "$script" $?
 done
 wait "$clients"

@@ -1,11 +1,13 @@
 #!/usr/bin/env bash
-# The whole gate: `rt ci` proves everything from nothing and runs the tests of each crate, and eight wrong alarm models have to be refused by their
-# laws. Then `tests/all.sh --short` tries the program that was built. What happens to a file, no contract and no test of a crate can see.
+# The whole gate: `rt ci` proves everything from nothing and runs the tests of each crate, and eight wrong alarm models
+# have to be refused by their laws. Then `tests/all.sh --short` tries the program that was built. What happens to a
+# file, no contract and no test of a crate can see.
 #
 #     tests/gate.sh
 #
-# The last line is `N passed, N failed` over all, and the status is 0 only where all are well. What the machine lacks is a failure. So is a
-# wrong body that `rt ci` accepts though it shows nothing: one that can't be read, or that is refused only because a proof file names what it took away.
+# The last line is `N passed, N failed` over all, and the status is 0 only where all are well. What the machine lacks is
+# a failure. So is a wrong body that `rt ci` accepts though it shows nothing: one that can't be read, or that is refused
+# only because a proof file names what it took away.
 set -uo pipefail
 top=$(cd "$(dirname "$0")/.." && pwd)
 program=$top/crates/alm_server/out/alm_server
@@ -24,7 +26,8 @@ fail() {
     failed=$((failed + 1))
 }
 
-# Runs a command, shows what it says, and adds what its last line counts. It fails too where that line is none, or says less than its status.
+# Runs a command, shows what it says, and adds what its last line counts. It fails too where that line is none, or says
+# less than its status.
 add() {
     local counted status
     "$@" 2>&1 | tee "$room/said"
@@ -43,7 +46,8 @@ look_at_edits() {
     while read -r line; do fail "$line"; done < <(sed -nE 's/^rt: ([^:]+): .*(BAD EDIT|only because a proof file names).*/\1 shows nothing: "\2"/p' "$room/said")
 }
 
-# Tells the launcher of which sources the program was built, so that it doesn't prove them again. If one was changed meanwhile, it does.
+# Tells the launcher of which sources the program was built, so that it doesn't prove them again. If one was changed
+# meanwhile, it does.
 keep_sum() {
     echo "$1" >"$program.sources"
 }

@@ -1,7 +1,7 @@
 #!/usr/bin/env bash
-# Tries the wrong bodies that stand beside the gate: of each crate named, or of all, each edit in its folder wrong/ has to be refused
-# by the crate's own contracts, as those in must-fail/ are in the gate. A body that is still proved fails it, and so does an edit that
-# can't be read, or that is refused only since a proof file names what it took away.
+# Tries the wrong bodies that stand beside the gate: of each crate named, or of all, each edit in its folder wrong/ has
+# to be refused by the crate's own contracts, as those in must-fail/ are in the gate. A body that is still proved fails
+# it, and so does an edit that can't be read, or that is refused only since a proof file names what it took away.
 #
 #     tests/wrong-bodies.sh [CRATE..]
 #
@@ -16,7 +16,8 @@ if [ ${#names[@]} -eq 0 ]; then
         names+=("$(basename "$(dirname "$folder")")")
     done
 fi
-# A copy of the crates, in which each named one has its bodies of wrong/ in must-fail/. What is proved goes to this checkout.
+# A copy of the crates, in which each named one has its bodies of wrong/ in must-fail/. What is proved goes to this
+# checkout.
 cp "$top/crates.txt" "$top/HANDLES" "$room/"
 mkdir "$room/crates"
 (cd "$top/crates" && tar cf - --exclude='./*/out' --exclude='./*/must-fail' .) | tar xf - -C "$room/crates"

@@ -8,8 +8,8 @@
 A model is a patch of definitions, of the code that follows them, and of proofs about both. Its first line says what is
 wrong, its second which law says otherwise. It is applied to a copy of the crates below alm_laws, where those that it
 changes have to be proved. Each line of the table has that law, and how many others aren't proved there either: some say
-otherwise too, some only share a proof with one that does. The last line is `N passed, N failed`. With status 1 a model meets that law, isn't proved in its own
-crates, or no longer applies.
+otherwise too, some only share a proof with one that does. The last line is `N passed, N failed`. With status 1 a model
+meets that law, isn't proved in its own crates, or no longer applies.
 """
 import concurrent.futures
 import re
@@ -24,8 +24,16 @@ MODELS = TOP / "tests" / "models"
 BELOW = ["alm_types", "alm_lists", "alm_state", "alm_model"]
 LAWS = "alm_laws"
 # In the gate: all of them met the laws that came before the ones that leave one model.
-GATE = ["returned_acknowledged_asks_again", "a_latching_alarm_ends_by_itself", "no_acknowledgement_is_accepted", "no_high_alarm_comes",
-        "every_shelving_lasts_its_longest", "out_of_service_never_ends", "priority_4_is_never_listed", "acknowledged_is_shown_normal"]
+GATE = [
+    "returned_acknowledged_asks_again",
+    "a_latching_alarm_ends_by_itself",
+    "no_acknowledgement_is_accepted",
+    "no_high_alarm_comes",
+    "every_shelving_lasts_its_longest",
+    "out_of_service_never_ends",
+    "priority_4_is_never_listed",
+    "acknowledged_is_shown_normal",
+]
 # How many are tried at once: a check takes up to 2 GB.
 AT_ONCE = 2
 NOT_PROVED = re.compile(r"^(?:fn|impl) alm_laws::(\S+): not proved", re.MULTILINE)
@@ -45,8 +53,7 @@ def copied(room: Path) -> None:
 
 def run(words: list[str], folder: Path) -> subprocess.CompletedProcess[str]:
     """A command in a folder, with its errors among its output."""
-    return subprocess.run(
-        words, cwd=folder, text=True, stdout=subprocess.PIPE, stderr=subprocess.STDOUT, check=False)
+    return subprocess.run(words, cwd=folder, text=True, stdout=subprocess.PIPE, stderr=subprocess.STDOUT, check=False)
 
 
 def checked(room: Path, crate: str) -> str:

@@ -1,8 +1,9 @@
 #!/usr/bin/env bash
-# Times the largest image, written and read, beside a loop in C that copies and sums as many bytes, in turns, and prints the
-# ratios of the best times. It needs rt and cc.
+# Times the largest image, written and read, beside a loop in C that copies and sums as many bytes, in turns, and prints
+# the ratios of the best times. It needs rt and cc.
 set -eu
 here="$(cd "$(dirname "$0")" && pwd)"
+# shellcheck source=bench/turns.sh
 . "$here/../turns.sh"
 
 build

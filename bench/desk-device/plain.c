@@ -1,4 +1,5 @@
-/* Two writes and two fdatasync a line, as many times as told: what a desk over a device asks of the system for an action. */
+/* Two writes and two fdatasync a line, as many times as told: what a desk over a device asks of the system for an
+   action. */
 #include <fcntl.h>
 #include <stdio.h>
 #include <stdlib.h>

@@ -1,6 +1,7 @@
 #!/usr/bin/env bash
-# Lines a second of the desk over a device on a memory file system, beside a plain C loop that asks the same of the system
-# for each: two writes and two fdatasync. Words: how many lines (200000), and a folder on a memory file system (/dev/shm).
+# Lines a second of the desk over a device on a memory file system, beside a plain C loop that asks the same of the
+# system for each: two writes and two fdatasync. Words: how many lines (200000), and a folder on a memory file system
+# (/dev/shm).
 set -eu
 top=$(cd "$(dirname "$0")/../.." && pwd)
 lines=${1:-200000}

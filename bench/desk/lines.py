@@ -1,4 +1,5 @@
-"""Prints desk lines over the worked table: `plain` is VAL, ACK and STATE; `mixed` half VAL, a quarter ACK, the rest CLOCK, SHELVE, LIST."""
+"""Prints desk lines over the worked table: `plain` is VAL, ACK and STATE; `mixed` half VAL, a quarter ACK, the rest
+CLOCK, SHELVE, LIST."""
 import random
 import sys
 

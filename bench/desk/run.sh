@@ -2,6 +2,7 @@
 # Lines a second of the built program, in 16 MB of address space, beside the same lines through cat.
 set -eu
 here="$(cd "$(dirname "$0")" && pwd)"
+# shellcheck source=bench/turns.sh
 . "$here/../turns.sh"
 
 "$top/alm_server" desk </dev/null

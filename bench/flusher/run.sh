@@ -1,9 +1,10 @@
 #!/usr/bin/env bash
-# Times requests on their way from a console to a receipt, beside plain Rust on the same input: refusals, and actions that are
-# committed to a file in memory. Twice: beside rings that tell of their places by exchanges, as those of the toolchain do, and by
-# plain stores. It needs rt and rustc.
+# Times requests on their way from a console to a receipt, beside plain Rust on the same input: refusals, and actions
+# that are committed to a file in memory. Twice: beside rings that tell of their places by exchanges, as those of the
+# toolchain do, and by plain stores. It needs rt and rustc.
 set -eu
 here="$(cd "$(dirname "$0")" && pwd)"
+# shellcheck source=bench/turns.sh
 . "$here/../turns.sh"
 
 build

@@ -1,8 +1,10 @@
 #!/usr/bin/env bash
-# Times checkpoints and the making of their bodies, and commits, to a file in memory, beside plain Rust: a copy of as many bytes, and the same calls. Then
-# opening the device with an empty segment and with a full one, each time by a process of its own, as a server does. It needs rt and rustc.
+# Times checkpoints and the making of their bodies, and commits, to a file in memory, beside plain Rust: a copy of as
+# many bytes, and the same calls. Then opening the device with an empty segment and with a full one, each time by a
+# process of its own, as a server does. It needs rt and rustc.
 set -eu
 here="$(cd "$(dirname "$0")" && pwd)"
+# shellcheck source=bench/turns.sh
 . "$here/../turns.sh"
 
 build

@@ -2,6 +2,7 @@
 # Times the chains and the wheel beside plain Rust on the same input. It needs rt and rustc.
 set -eu
 here="$(cd "$(dirname "$0")" && pwd)"
+# shellcheck source=bench/turns.sh
 . "$here/../turns.sh"
 
 build

@@ -1,10 +1,11 @@
 #!/usr/bin/env bash
-# Requests a second through a slot's two rings between two threads, beside the same exchange over channels of Rust's library: polled
-# by turns as the rings are, and with the calls that block. They run in turns; medians and ranges of nine. Each program looks into
-# each request and each receipt, and has to print that all went through. It needs rt and rustc. A number after it says how many
-# requests.
+# Requests a second through a slot's two rings between two threads, beside the same exchange over channels of Rust's
+# library: polled by turns as the rings are, and with the calls that block. They run in turns; medians and ranges of
+# nine. Each program looks into each request and each receipt, and has to print that all went through. It needs rt and
+# rustc. A number after it says how many requests.
 set -eu
 here="$(cd "$(dirname "$0")" && pwd)"
+# shellcheck source=bench/turns.sh
 . "$here/../turns.sh"
 requests=${1:-10000000}
 

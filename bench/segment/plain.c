@@ -1,4 +1,5 @@
-/* Scans a full segment, and reads and checks every field of each frame and action: what `alm_speed segment` is compared with. */
+/* Scans a full segment, and reads and checks every field of each frame and action: what `alm_speed segment` is
+   compared with. */
 #include <stdint.h>
 #include <stdio.h>
 #include <stdlib.h>

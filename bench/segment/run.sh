@@ -2,6 +2,7 @@
 # Times a full segment of 16 MiB, scanned, beside a loop in C that reads and checks the same fields. It needs rt and cc.
 set -eu
 here="$(cd "$(dirname "$0")" && pwd)"
+# shellcheck source=bench/turns.sh
 . "$here/../turns.sh"
 
 build

@@ -1,9 +1,10 @@
-/* A server of the same lines, ports and frames, as one would write it in C without proofs: `plain FILE PORT [gather]`.
-   One thread a connection, one plant under a mutex, and one committer, which writes all actions that came while it last
-   committed as one frame: the body, fdatasync, the gate, fdatasync. A connection reads what has come, judges each line,
-   waits until all that its replies tell of is stored, and answers in one write. With `gather` the committer waits behind a frame of at most
-   18 actions until as many more have come, half of a commit at most: so it does what ours does for clients with one request out.
-   Left out: lists and the other queries but STATE, the flood windows, checkpoints (the journal begins anew where it is full). */
+/* A server of the same lines, ports and frames, as one would write it in C without proofs: `plain FILE PORT
+   [gather]`. One thread a connection, one plant under a mutex, and one committer, which writes all actions that came
+   while it last committed as one frame: the body, fdatasync, the gate, fdatasync. A connection reads what has come,
+   judges each line, waits until all that its replies tell of is stored, and answers in one write. With `gather` the
+   committer waits behind a frame of at most 18 actions until as many more have come, half of a commit at most: so it
+   does what ours does for clients with one request out. Left out: lists and the other queries but STATE, the flood
+   windows, checkpoints (the journal begins anew where it is full). */
 #include <arpa/inet.h>
 #include <errno.h>
 #include <fcntl.h>

@@ -1,20 +1,24 @@
 #!/usr/bin/env python3
 """Servers beside each other, in turns, under the loads that users bring about.
 
-    bench/serve/run.py [NAME=PROGRAM..] [gather] [plain] [--turns 3] [--seconds 2] [--loads WORD,..] [--largest] [--disk BYTES]
+    bench/serve/run.py [NAME=PROGRAM..] [gather] [plain] [--turns 3] [--seconds 2] [--loads WORD,..] [--largest] [--disk
+    BYTES]
 
-PROGRAM is a build of alm_server, `plain` the server in C beside this file, `gather` the same where it waits for those whom it answered; without
-names it is this repository's build beside plain. The last one is what the others are compared with. Each fdatasync sleeps 0.2 ms (sync.c), and with
---disk longer, a microsecond for so many bytes. Servers and clients run under one scheduling class (SCHED_RR), each load of each server on a new
-device, the servers in turn, another of them first in each turn: who comes behind the last one of the turn before is some 2 % slower. A turn of
-which the host stole more than 5 % is made again, twice at most.
+PROGRAM is a build of alm_server, `plain` the server in C beside this file, `gather` the same where it waits for those
+whom it answered; without names it is this repository's build beside plain. The last one is what the others are compared
+with. Each fdatasync sleeps 0.2 ms (sync.c), and with --disk longer, a microsecond for so many bytes. Servers and
+clients run under one scheduling class (SCHED_RR), each load of each server on a new device, the servers in turn,
+another of them first in each turn: who comes behind the last one of the turn before is some 2 % slower. A turn of which
+the host stole more than 5 % is made again, twice at most.
 
-Loads (--loads takes names, and beginnings of names): closed_1, closed_4, closed_18 clients with one request out; closed_18_64 with 64; open_CLIENTS_RATE_regular
-and _random, requests at their own times, so many a second in all; idle, 18 connections that say nothing, whose cpu is per cent of a core.
---largest: 16,384 alarms in 64 areas and segments of 452,651 bytes, else 16 alarms and segments of 16 MiB.
+Loads (--loads takes names, and beginnings of names): closed_1, closed_4, closed_18 clients with one request out;
+closed_18_64 with 64; open_CLIENTS_RATE_regular and _random, requests at their own times, so many a second in all; idle,
+18 connections that say nothing, whose cpu is per cent of a core. --largest: 16,384 alarms in 64 areas and segments of
+452,651 bytes, else 16 alarms and segments of 16 MiB.
 
-A line for each load and server: medians of the turns (the memory and the steal too); beside the last server's, requests a second, p50, p99 and the
-processor's time a request; beside p50 of its own closed_1, p50 and p99. Each turn stands on standard error.
+A line for each load and server: medians of the turns (the memory and the steal too); beside the last server's, requests
+a second, p50, p99 and the processor's time a request; beside p50 of its own closed_1, p50 and p99. Each turn stands on
+standard error.
 """
 import argparse
 import collections
@@ -35,17 +39,29 @@ BUILT = TOP / "crates/alm_server/out/alm_server"
 STEAL_LIMIT, TRIES = 5.0, 3
 CLASS = ["chrt", "-r", "10"]
 FIGURES = ("rate", "p50", "p99", "greatest", "late", "cpu", "batch", "memory", "steal")
-LOADS = {"closed_1": "closed 1 1", "closed_4": "closed 4 1", "closed_18": "closed 18 1", "closed_18_64": "closed 18 64",
-         **{f"open_{clients}_{rate}_{kind}": f"open {clients} {rate} {kind}" for kind in ("regular", "random")
-            for clients, rates in ((1, (1000, 2000, 5500, 10_000, 20_000)), (18, (10_000, 30_000, 60_000))) for rate in rates},
-         "idle": "idle"}
+LOADS = {
+    "closed_1": "closed 1 1",
+    "closed_4": "closed 4 1",
+    "closed_18": "closed 18 1",
+    "closed_18_64": "closed 18 64",
+    **{
+        f"open_{clients}_{rate}_{kind}": f"open {clients} {rate} {kind}"
+        for kind in ("regular", "random")
+        for clients, rates in ((1, (1000, 2000, 5500, 10_000, 20_000)), (18, (10_000, 30_000, 60_000)))
+        for rate in rates
+    },
+    "idle": "idle",
+}
 
 
 def table(largest: bool) -> str:
     """The plant: each console has an alarm of its own, at its slot's number."""
     size, areas, alarms = (7_483_711, 64, 16_384) if largest else (40_000_000, 1, 16)
     first = 'kind = "high"\nsetpoint = 800\ndeadband = 10\npriority = 1\narea = 0\ntag = "FEED"\n'
-    others = (f'kind = "high"\nsetpoint = 50\npriority = {1 + alarm % 4}\narea = {alarm % areas}\ntag = "T-{alarm}"\n' for alarm in range(1, alarms))
+    others = (
+        f'kind = "high"\nsetpoint = 50\npriority = {1 + alarm % 4}\narea = {alarm % areas}\ntag = "T-{alarm}"\n'
+        for alarm in range(1, alarms)
+    )
     return f"size = {size}\nareas = {areas}\n" + "".join(f"\n[[alarm]]\n{alarm}" for alarm in (first, *others))
 
 
@@ -65,7 +81,11 @@ class Bench:
     environment: dict[str, str]
 
     def compile(self, largest: bool) -> None:
-        for name, words in {"client": ["client.c", "-lm"], "plain": ["plain.c", "-pthread"], "sync.so": ["sync.c", "-shared", "-fPIC"]}.items():
+        for name, words in {
+            "client": ["client.c", "-lm"],
+            "plain": ["plain.c", "-pthread"],
+            "sync.so": ["sync.c", "-shared", "-fPIC"],
+        }.items():
             source, *flags = words
             subprocess.run(["cc", "-O2", "-o", self.folder / name, HERE / source, *flags], check=True)
         (self.folder / "plant.toml").write_text(table(largest), encoding="ascii")
@@ -78,7 +98,9 @@ class Bench:
             return [str(self.folder / "plain"), str(device), str(self.port), program]
         fresh = self.folder / f"fresh{abs(hash(program))}"
         if not fresh.exists():
-            subprocess.run([program, "format", fresh, self.folder / "plant.toml"], check=True, stdout=subprocess.DEVNULL)
+            subprocess.run(
+                [program, "format", fresh, self.folder / "plant.toml"], check=True, stdout=subprocess.DEVNULL
+            )
         shutil.copyfile(fresh, device)
         return [program, "serve", str(device), "--port", str(self.port)]
 
@@ -95,7 +117,11 @@ class Bench:
             before, took = stolen(), self.idle if load == "idle" else self.load
             figures = took(server, load.split(), seconds)
             after = stolen()
-            return {**figures, "memory": server.memory(), "steal": 100 * (after[0] - before[0]) / max(1, after[1] - before[1])}
+            return {
+                **figures,
+                "memory": server.memory(),
+                "steal": 100 * (after[0] - before[0]) / max(1, after[1] - before[1]),
+            }
 
     def idle(self, server: "Server", _: list[str], seconds: float) -> dict[str, float]:
         """Per cent of a core, from a second behind the connections on."""
@@ -115,7 +141,15 @@ class Bench:
         rate, p50, p99, greatest, late, requests, accepted = map(float, run.stdout.split())
         if accepted != requests:
             sys.exit(f"{load}: {accepted} of {requests} accepted")
-        return {"rate": rate, "p50": p50, "p99": p99, "greatest": greatest, "late": late, "cpu": 1e6 * cpu / requests, "batch": 2 * accepted / max(1, syncs)}
+        return {
+            "rate": rate,
+            "p50": p50,
+            "p99": p99,
+            "greatest": greatest,
+            "late": late,
+            "cpu": 1e6 * cpu / requests,
+            "batch": 2 * accepted / max(1, syncs),
+        }
 
 
 class Server:
@@ -123,8 +157,11 @@ class Server:
 
     def __init__(self, bench: Bench, words: list[str]):
         preload = {"LD_PRELOAD": str(bench.folder / "sync.so"), "SYNC_COUNT": str(bench.folder / "count")}
-        self.process = subprocess.Popen([*CLASS, "env", *(f"{name}={value}" for name, value in preload.items()), *words], stdout=subprocess.PIPE,
-                                        env={**os.environ, **bench.environment})
+        self.process = subprocess.Popen(
+            [*CLASS, "env", *(f"{name}={value}" for name, value in preload.items()), *words],
+            stdout=subprocess.PIPE,
+            env={**os.environ, **bench.environment},
+        )
 
     def __enter__(self) -> "Server":
         if not self.process.stdout.readline().startswith(b"serving"):
@@ -151,7 +188,12 @@ def turn(bench: Bench, name: str, program: str, load: str, seconds: float) -> di
     """A turn, made again where the host stole much of it."""
     for _ in range(TRIES):
         figures = bench.measure(program, LOADS[load], seconds)
-        print(f"{load:26} {name:8}", *(f"{key} {value:.1f}" for key, value in figures.items()), file=sys.stderr, flush=True)
+        print(
+            f"{load:26} {name:8}",
+            *(f"{key} {value:.1f}" for key, value in figures.items()),
+            file=sys.stderr,
+            flush=True,
+        )
         if figures["steal"] <= STEAL_LIMIT:
             break
     return figures
@@ -159,14 +201,27 @@ def turn(bench: Bench, name: str, program: str, load: str, seconds: float) -> di
 
 def print_table(names: list[str], turns: dict[tuple[str, str], list[dict[str, float]]]) -> None:
     """The medians, and what they are beside others."""
-    medians = {key: {figure: statistics.median(made[figure] for made in all_made) for figure in all_made[0]} for key, all_made in turns.items()}
-    print(f"{'load':26} {'server':8} {'a second':>9} {'p50 us':>7} {'p99 us':>7} {'greatest':>8} {'late99':>6} {'cpu us':>7} {'a batch':>7} {'MB':>5} "
-          f"{'steal%':>6} | {'rate':>5} {'p50':>5} {'p99':>5} {'cpu':>5} beside {names[-1]} | {'p50':>5} {'p99':>6} beside a lone p50")
+    medians = {
+        key: {figure: statistics.median(made[figure] for made in all_made) for figure in all_made[0]}
+        for key, all_made in turns.items()
+    }
+    print(
+        f"{'load':26} {'server':8} {'a second':>9} {'p50 us':>7} {'p99 us':>7} {'greatest':>8} {'late99':>6}"
+        f" {'cpu us':>7} {'a batch':>7} {'MB':>5} {'steal%':>6} |"
+        f" {'rate':>5} {'p50':>5} {'p99':>5} {'cpu':>5} beside {names[-1]} | {'p50':>5} {'p99':>6} beside a lone p50"
+    )
     for (load, name), figures in medians.items():
-        cells = [f"{figures[figure]:{width}.{places}f}" if figure in figures else "-".rjust(width)
-                 for figure, width, places in zip(FIGURES, (9, 7, 7, 8, 6, 7, 7, 5, 6), (0, 0, 0, 0, 0, 2, 1, 1, 1))]
+        cells = [
+            f"{figures[figure]:{width}.{places}f}" if figure in figures else "-".rjust(width)
+            for figure, width, places in zip(FIGURES, (9, 7, 7, 8, 6, 7, 7, 5, 6), (0, 0, 0, 0, 0, 2, 1, 1, 1))
+        ]
         other, lone = medians[load, names[-1]], medians.get(("closed_1", name))
-        cells += ["|", *(ratio(figures, figure, other, figure, 5) for figure in ("rate", "p50", "p99", "cpu")), " " * (7 + len(names[-1])), "|"]
+        cells += [
+            "|",
+            *(ratio(figures, figure, other, figure, 5) for figure in ("rate", "p50", "p99", "cpu")),
+            " " * (7 + len(names[-1])),
+            "|",
+        ]
         cells += [ratio(figures, "p50", lone, "p50", 5), ratio(figures, "p99", lone, "p50", 6)]
         print(f"{load:26} {name:8}", *cells)
 
@@ -187,8 +242,15 @@ def main() -> None:
     words.add_argument("--disk", type=int, default=0, help="bytes that the disk takes in a microsecond; 0: any")
     words.add_argument("--port", type=int, default=25_000)
     chosen = words.parse_args()
-    programs = dict((name, str(pathlib.Path(path).resolve()) if path else name) for name, _, path in (word.partition("=") for word in chosen.servers))
-    loads = [load for load in LOADS if any(load == word if word in LOADS else load.startswith(word) for word in chosen.loads.split(","))]
+    programs = dict(
+        (name, str(pathlib.Path(path).resolve()) if path else name)
+        for name, _, path in (word.partition("=") for word in chosen.servers)
+    )
+    loads = [
+        load
+        for load in LOADS
+        if any(load == word if word in LOADS else load.startswith(word) for word in chosen.loads.split(","))
+    ]
     turns = collections.defaultdict(list)
     with tempfile.TemporaryDirectory(prefix="serve", dir="/dev/shm") as folder:
         bench = Bench(pathlib.Path(folder), chosen.port, {"SYNC_BYTES_A_US": str(chosen.disk)})
@@ -196,7 +258,7 @@ def main() -> None:
         began, names = time.monotonic(), list(programs)
         for number in range(chosen.turns):
             for load in loads:
-                for name in names[number % len(names):] + names[:number % len(names)]:
+                for name in names[number % len(names) :] + names[: number % len(names)]:
                     turns[load, name].append(turn(bench, name, programs[name], load, chosen.seconds))
             print(f"turn {number + 1} of {chosen.turns}, {time.monotonic() - began:.0f} s", file=sys.stderr, flush=True)
     print_table(list(programs), turns)

@@ -1,6 +1,7 @@
-/* Preloaded into a server: each fdatasync sleeps 0.2 ms, as a good disk would take, or SYNC_US microseconds, and succeeds; with
-   SYNC_BYTES_A_US it sleeps longer, a microsecond for so many bytes that were written since the last one. The calls are counted in the
-   first 8 bytes of the file that SYNC_COUNT names, so that another process can read the count at any moment. */
+/* Preloaded into a server: each fdatasync sleeps 0.2 ms, as a good disk would take, or SYNC_US microseconds, and
+   succeeds; with SYNC_BYTES_A_US it sleeps longer, a microsecond for so many bytes that were written since the last
+   one. The calls are counted in the first 8 bytes of the file that SYNC_COUNT names, so that another process can
+   read the count at any moment. */
 #include <fcntl.h>
 #include <stdatomic.h>
 #include <stdlib.h>

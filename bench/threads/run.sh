@@ -1,9 +1,11 @@
 #!/usr/bin/env bash
-# Times the server's threads beside plain Rust threads with the same rings and batches, over a file whose syncs take 0.2 ms: 18 slots
-# that ask with one request out and with 64, each of which is stored before it is answered; and looks, of one reader and of eight, beside a
-# slot that asks, where plain Rust has an RwLock round the plant. It needs rt, rustc and a C compiler.
+# Times the server's threads beside plain Rust threads with the same rings and batches, over a file whose syncs take 0.2
+# ms: 18 slots that ask with one request out and with 64, each of which is stored before it is answered; and looks, of
+# one reader and of eight, beside a slot that asks, where plain Rust has an RwLock round the plant. It needs rt, rustc
+# and a C compiler.
 set -eu
 here="$(cd "$(dirname "$0")" && pwd)"
+# shellcheck source=bench/turns.sh
 . "$here/../turns.sh"
 
 build

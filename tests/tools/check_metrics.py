@@ -1,0 +1,288 @@
+"""alm_metrics and its rules against the built program. tests/tools/clients.py runs these checks."""
+import collections
+import json
+import re
+import shutil
+import signal
+import socket
+import subprocess
+import time
+import urllib.error
+import urllib.parse
+import urllib.request
+
+from alarms.client import CLOCK, FEED, PRIORITIES, Client
+from lib.places import DEPLOY, EXAMPLES
+from lib.program import check, free_ports
+from lib.server import Server
+from alarms.table_file import image_length, load_table
+from lib.tools import Yard, await_said, await_true, ended, start, started, stop
+
+PLANT, REFINERY = str(EXAMPLES / "plant.toml"), str(EXAMPLES / "refinery.toml")
+MAP = "name,tag,silent,watch\na,TI-101,60,YS-124\n"
+PROMETHEUS = """global: {scrape_interval: 1s, evaluation_interval: 1s}
+scrape_configs:
+  - {job_name: alarms, static_configs: [{targets: ["%s"]}]}
+  - {job_name: alarms-feed, static_configs: [{targets: ["%s"]}]}
+"""
+DAY = 86_400
+
+
+def metrics(yard: Yard) -> str:
+    """What the exporter shows is what the server shows."""
+    device = yard.format("metrics.device", REFINERY)
+    server = yard.serve(device)
+    running = start("alm_metrics", "--port", server.port, "--listen", 0, "--device", device, "--table", REFINERY)
+    address = await_said(running, "/metrics").split()[1]
+    counts(address, {}, {})  # from here on
+    with Client.connect(server.port, CLOCK) as clock, Client.connect(server.port, FEED) as feed, Client.connect(
+        server.port, 0
+    ) as console:
+        clock.clock(1000)
+        came = load_table(REFINERY).alarms[:12]
+        for alarm, entry in enumerate(came):
+            feed.value(alarm, entry.setpoint)
+        console.acknowledge(1)
+        console.shelve(5, 60)
+        for priority in PRIORITIES:
+            number = sum(entry.priority == priority for entry in came) - (
+                priority in (came[1].priority, came[5].priority)
+            )
+            holds(address, f'alarms_annunciated{{priority="{priority}",state="UNACK"}} {number}')
+        size = (16_777_216 - 23) // 2 - 25 - image_length(200, 8)
+        holds(
+            address,
+            'alarms_annunciated{priority="1",state="ACKED"} 1',
+            "alarms_up 1",
+            "alarms_shelved 1",
+            "alarms_stale 0",
+            "alarms_actions_total 15",
+            "alarms_moment_seconds 1000",
+            "alarms_configured 200",
+            "alarms_chattering 0",
+            'alarms_area_annunciations{area="0"} 12',
+            'alarms_area_flooded{area="0"} 1',
+            'alarms_area_flooded{area="7"} 0',
+            f"alarms_journal_size_bytes {size}",
+            "alarms_epoch 1",
+            f"alarms_journal_bytes {15 * 35}",
+        )
+        of_priority = collections.Counter(entry.priority for entry in came)
+        counts(address, of_priority, {came[1].priority: 1})
+        stands_still(address)
+        for value in (0, 5000, 0, 5000):
+            feed.value(0, value)
+        holds(address, "alarms_chattering 1", "alarms_stale 0")
+        counts(address, of_priority + collections.Counter({came[0].priority: 2}), {came[1].priority: 1})
+        clock.clock(1000 + DAY)
+        holds(address, "alarms_chattering 0", "alarms_stale 11")
+        slot_taken(address, server)
+    checked = lint(address)
+    silent(address)
+    server.end()
+    holds(address, "alarms_up 0")
+    stop(running)
+    stops_at_another(yard, device)
+    return f"alm_metrics, {checked}"
+
+
+def counts(address: str, annunciated: dict[int, int], acknowledged: dict[int, int]) -> None:
+    """The exporter has counted so many by priority, and all of them."""
+    for name, wanted in (("annunciations", annunciated), ("acknowledgements", acknowledged)):
+        holds(address, *(f'alarms_{name}_total{{priority="{one}"}} {wanted.get(one, 0)}' for one in PRIORITIES))
+    holds(address, "alarms_uncounted_actions_total 0")
+
+
+def slot_taken(address: str, server: Server) -> None:
+    """Another client at the exporter's slot isn't a server that is down, whatever other slots are taken too; a server
+    that halts is, in time.
+    """
+    others = [Client.connect(server.port, slot) for slot in (15, 14, 13)]
+    for other in others:
+        other.plant()
+    holds(
+        address, "alarms_up 1", "alarms_slot_taken 1", f"alarms_actions_total {others[0].seen}", "alarms_configured 200"
+    )
+    check("alarms_annunciated" not in scrape(address), "a page of one query has more")
+    for other in others:
+        other.close()
+    holds(address, "alarms_up 1", "alarms_slot_taken 0")
+    server.process.send_signal(signal.SIGSTOP)
+    began = time.monotonic()
+    holds(address, "alarms_up 0", "alarms_slot_taken 0")
+    took = time.monotonic() - began
+    server.process.send_signal(signal.SIGCONT)
+    check(took < 9, "the page of a server that halts took", took, "s, and Prometheus waits ten")
+    await_true("a server that goes on", lambda: "alarms_up 1" in scrape(address).splitlines())
+
+
+def stands_still(address: str) -> None:
+    """The exporter tells for how long the clock stands, which nobody moves here."""
+    found = [float(re.search(r"^alarms_clock_still_seconds (\S+)$", scrape(address), re.M)[1])]
+    time.sleep(1.2)
+    found.append(float(re.search(r"^alarms_clock_still_seconds (\S+)$", scrape(address), re.M)[1]))
+    check(found[0] + 1 < found[1] < found[0] + 60, "the clock stands still for", found)
+
+
+def holds(address: str, *lines: str) -> None:
+    text = scrape(address)
+    for line in lines:
+        check(line in text.splitlines(), line, "isn't in", text)
+
+
+def scrape(address: str) -> str:
+    """What an exporter says."""
+    return urllib.request.urlopen(address, timeout=60).read().decode()
+
+
+def lint(address: str) -> str:
+    """Prometheus' own tool takes it, where that is there."""
+    if not shutil.which("promtool"):
+        return "no promtool"
+    run = subprocess.run(
+        ["promtool", "check", "metrics"], input=scrape(address), capture_output=True, text=True, timeout=60
+    )
+    check(run.returncode == 0 and not run.stdout + run.stderr, run.stdout, run.stderr)
+    return "promtool"
+
+
+# A plant with an unacknowledged alarm and a flood, whose server dies after ten minutes and is back, in order, half an
+# hour later; and a taken slot.
+RULES = """
+rule_files: [RULES]
+evaluation_interval: 15s
+tests:
+  - interval: 15s
+    input_series:
+      - {series: 'up{job="alarms"}', values: '1x400'}
+      - {series: 'alarms_up', values: '1x39 0x119 1x240'}
+      - {series: 'alarms_slot_taken', values: '0x250 1x150'}
+      - {series: 'alarms_clock_still_seconds', values: '1x39 stale _x118 1x240'}
+      - {series: 'alarms_annunciated{priority="1",state="UNACK"}', values: '1x39 stale _x118 0x90 stale _x150'}
+      - {series: 'alarms_annunciated{priority="2",state="UNACK"}', values: '1x39 stale _x118 0x90 stale _x150'}
+      - {series: 'alarms_area_flooded{area="0"}', values: '1x39 stale _x118 0x90 stale _x150'}
+    alert_rule_test:
+CASES
+"""
+
+
+def rules(yard: Yard) -> str:
+    """Prometheus' own tool finds the rules right: what stood as the server died stands, and ends once the server is
+    back and says so.
+    """
+    if not shutil.which("promtool"):
+        return "no promtool: rules left out"
+    cases = []
+    for moment, firing in (
+        ("9m", {"AlarmUnacknowledged", "AlarmFlood"}),
+        ("15m", {"AlarmUnacknowledged", "AlarmFlood", "AlarmServerDown"}),
+        ("38m", {"AlarmUnacknowledged", "AlarmFlood", "AlarmServerDown"}),
+        ("45m", set()),
+        ("60m", set()),
+        ("70m", {"AlarmSlotTaken"}),
+    ):
+        for name, labels in (
+            ("AlarmUnacknowledged", 'priority: "1", state: UNACK'),
+            ("AlarmFlood", 'area: "0"'),
+            ("AlarmServerDown", ""),
+            ("AlarmSlotTaken", ""),
+            ("AlarmClockStill", ""),
+            ("AlarmMetricsGone", ""),
+        ):
+            expected = f"[{{exp_labels: {{{labels}}}}}]" if name in firing else "[]"
+            cases.append(f"      - {{eval_time: {moment}, alertname: {name}, exp_alerts: {expected}}}")
+    text = re.sub(
+        r"\n +annotations:\n +summary: .*", "", (DEPLOY / "prometheus" / "alarms.rules.yml").read_text(encoding="utf-8")
+    )
+    bare = yard.write("bare.yml", text)
+    tested = yard.write("rules.yml", RULES.replace("RULES", bare).replace("CASES", "\n".join(cases)))
+    for words in (("check", "rules", str(DEPLOY / "prometheus" / "alarms.rules.yml")), ("test", "rules", tested)):
+        run = subprocess.run(["promtool", *words], capture_output=True, text=True, timeout=60)
+        check(run.returncode == 0, run.stdout, run.stderr)
+    return "rules"
+
+
+def silent(address: str) -> None:
+    """Clients that connect and say nothing hold nobody up."""
+    port = int(address.split(":")[2].partition("/")[0])
+    silent_ones = [socket.create_connection(("127.0.0.1", port)) for _ in range(4)]
+    began = time.monotonic()
+    scrape(address)
+    check(time.monotonic() - began < 25, "silent clients held the exporter up")
+    for one in silent_ones:
+        one.close()
+
+
+def stops_at_another(yard: Yard, device: str) -> None:
+    """The exporter ends, with one line, where the plant has fewer actions than before, or doesn't fit the table."""
+    for path, table, why in (
+        (yard.format("fewer.device", REFINERY), REFINERY, "its count of actions is 0, and it was "),
+        (None, PLANT, f"{PLANT}: the plant has more alarms than the table's 4"),
+    ):
+        server = yard.serve(device)
+        words = ("--port", server.port, "--listen", 0, "--table", table, "--device", device)
+        running = start("alm_metrics", *words)
+        address = await_said(running, "/metrics").split()[1]
+        if path:
+            for _ in range(2):
+                counts(address, {}, {})  # what was before isn't counted
+            server.end()
+            server = yard.serve(path, server.port)
+        try:
+            check(False, "of another plant the exporter says", scrape(address))
+        except urllib.error.HTTPError as error:
+            check(error.code == 503, error)
+        status, _, said = ended(running)
+        server.end()
+        check(status == 1 and said.count("\n") == 1 and why in said, said)
+
+
+def dashboard(yard: Yard) -> str:
+    """A real Prometheus answers each expression of the dashboard and of the rules, over the pages of alm_metrics and
+    alm_feed.
+    """
+    if not shutil.which("prometheus"):
+        return "no prometheus: dashboard left out"
+    device = yard.format("board.device", REFINERY)
+    server = yard.serve(device)
+    pages = (
+        start("alm_metrics", "--port", server.port, "--listen", 0, "--device", device),
+        start("alm_feed", "--port", server.port, "--map", yard.write("map.csv", MAP), "--metrics", 0),
+    )
+    pages[1].stdin.write("a,3000\n")
+    pages[1].stdin.flush()
+    jobs = [await_said(page, "/metrics").split("http://")[1].split("/")[0] for page in pages]
+    config = yard.write("prometheus.yml", PROMETHEUS % tuple(jobs))
+    port = free_ports()
+    words = [
+        f"--config.file={config}",
+        f"--storage.tsdb.path={yard.path('tsdb')}",
+        f"--web.listen-address=127.0.0.1:{port}",
+    ]
+    started(subprocess.Popen(["prometheus", *words], stdout=subprocess.DEVNULL, stderr=subprocess.DEVNULL))
+    panels = json.loads((DEPLOY / "prometheus" / "dashboard.json").read_text(encoding="utf-8"))["panels"]
+    for target in (target for panel in panels for target in panel["targets"]):
+        await_true(target["expr"], lambda: bool(queried(port, target["expr"])))
+    rules_text = (DEPLOY / "prometheus" / "alarms.rules.yml").read_text(encoding="utf-8")
+    expressions = re.findall(r"(?m)^ +expr: (.*)$", rules_text)
+    check(len(expressions) > 10, expressions)
+    for expression in expressions:
+        queried(port, expression)
+    for page in pages:
+        stop(page)
+    server.end()
+    return f"{len(panels)} panels"
+
+
+def queried(port: int, expression: str) -> list[object]:
+    """What a Prometheus finds; none while it isn't there. Each metric that an expression names is one that there is."""
+    query = urllib.parse.urlencode({"query": expression})
+    try:
+        with urllib.request.urlopen(f"http://127.0.0.1:{port}/api/v1/query?{query}", timeout=30) as answer:
+            found = json.loads(answer.read())
+    except urllib.error.HTTPError as error:
+        check(error.code == 503, expression, error.read().decode())  # it isn't ready yet
+        return []
+    except urllib.error.URLError:
+        return []
+    return found["data"]["result"]

@@ -1,0 +1,334 @@
+"""The mirror against `show` of the built program. tests/tools/history.py runs these checks."""
+import collections
+import os
+import random
+import shutil
+import subprocess
+
+from lib.drawn_plants import CONSOLE, WORDS, Hand, draw_plant, module, new_device
+from alarms.client import CLOCK, Client
+from alarms.mirror import Follower, Served
+from alarms.plant_mirror import Begun, Gap, Mirror, Replaced, Step
+from alarms.model import SHELVED
+from lib.places import AT_TOOLS, EXAMPLES
+from lib.program import check
+from lib.tools import Yard, await_true
+
+SLOT = 13
+EARLIER = str(EXAMPLES / "earlier_release" / "plant.device")
+# Requests between two looks, and looks between two comparisons with `show`.
+ROUND, ROUNDS = 40, 12
+
+
+class Watched:
+    """A follower, and what it gave: each action once, in order, as the server numbered it."""
+
+    def __init__(self, device: str, port: int):
+        self.follower = Follower(device, Served(port, SLOT))
+        self.steps: list[Step] = []
+        self.gaps: list[Gap] = []
+        self.next = None
+
+    def look(self) -> None:
+        for one in self.follower.look():
+            if isinstance(one, Begun):
+                self.next = one.number + 1
+                continue
+            check(not isinstance(one, Replaced), "a replaced device, and nobody replaced one")
+            check(
+                one.first == self.next if isinstance(one, Gap) else one.number == self.next,
+                one,
+                "comes where",
+                self.next,
+                "was due",
+            )
+            self.next = one.last + 1 if isinstance(one, Gap) else one.number + 1
+            (self.gaps if isinstance(one, Gap) else self.steps).append(one)
+
+    def end(self) -> None:
+        self.follower.__exit__()
+
+
+def words_of(step: Step) -> str:
+    """The request that an action was."""
+    action = step.action
+    switch = {1: "ON", 0: "OFF"}[action.argument] if action.word in ("OOS", "DESIGN") else str(action.argument)
+    if action.word == "CLOCK":
+        return f"CLOCK {action.argument}"
+    return f"{action.word} {action.alarm}" + ("" if action.word in ("ACK", "RESET", "UNSHELVE") else f" {switch}")
+
+
+def drawn(yard: Yard, actions: int) -> str:
+    """A mirror that follows a served plant, one that begins now and one that begins far back are what `show` prints, at
+    each stop of a server."""
+    dice, words, compared, asked, checkpoints, plants = random.Random(7), collections.Counter(), 0, 0, 0, 0
+    while sum(words.values()) < actions:
+        table = draw_plant(dice, dice.randint(3, 40), dice.randint(1, 6))
+        device = new_device(yard, f"drawn{plants}", table)
+        plants += 1
+        hand, told = Hand(dice, table), None
+        server = yard.serve(device)
+        watched = Watched(device, server.port)
+        for _ in range(4):
+            hand.connect(server)
+            watched.look()  # it may notice the end of its connection
+            for _ in range(ROUNDS):
+                hand.ask(ROUND)
+                watched.look()
+                asked += compare_answers(hand.clients[CONSOLE], watched.follower.mirror)
+            check(watched.follower.mirror.count == hand.count(), "the mirror isn't where the server is")
+            hand.leave()
+            server.end()
+            told = compare(yard, device, watched.follower.mirror)
+            compared += 1
+            server = yard.serve(device, server.port)
+        server.end()
+        watched.end()
+        check(
+            [words_of(step) for step in watched.steps] == [hand.accepted[step.number] for step in watched.steps]
+            and not watched.gaps,
+            "the actions are others than those that were accepted",
+        )
+        check(len(watched.steps) == len(hand.accepted), "actions are missing")
+        words.update(request.split()[0] for request in hand.accepted.values())
+        checkpoints += int(told.split()[5]) - 1
+    check(set(words) == set(WORDS) and checkpoints * 500 >= actions, words, checkpoints, "checkpoints")
+    return (
+        f"mirror: {sum(words.values())} actions of {len(words)} words in {plants} plants, {checkpoints} checkpoints,"
+        f" {compared} times what `show` prints, {asked} answers"
+    )
+
+
+def compare_answers(client: Client, mirror: Mirror) -> int:
+    """Holds a mirror against what an idle server answers: states, lists in their order, those of the shelved too, and
+    floods. How many answers."""
+    plant, asked = mirror.plant, {}
+    for line in mirror.show().splitlines()[1:]:
+        kind, *words = line.split(" ")
+        if kind == "ALARM":
+            asked[f"STATE {words[0]}"] = ["STATE", *words[2:]]
+        elif kind == "P":
+            asked[f"LIST P {words[0]}"] = ["LIST", *words[1:]]
+        else:
+            *listed, _flood, window, flooded = words
+            asked[f"LIST A {listed[0]}"], asked[f"FLOOD {listed[0]}"] = ["LIST", *listed[1:]], [
+                "FLOOD",
+                window,
+                flooded,
+            ]
+    shelved = sorted((alarm for alarm in plant.alarms if alarm.flags & SHELVED), key=lambda alarm: alarm.stamp)
+    for slot in {alarm.deadline % 256 for alarm in shelved}:
+        numbers = [str(alarm.number) for alarm in shelved if alarm.deadline % 256 == slot]
+        asked[f"LIST S {slot}"] = ["LIST", str(len(numbers)), *numbers]
+    for (request, wanted), reply in zip(asked.items(), client.ask_all(list(asked))):
+        check(
+            reply[:1] + reply[2:] == wanted and int(reply[1]) == mirror.count,
+            request,
+            "is answered",
+            reply,
+            "and the mirror has",
+            wanted,
+            mirror.count,
+        )
+    return len(asked)
+
+
+def compare(yard: Yard, device: str, followed: Mirror) -> str:
+    """Holds mirrors against the program over a stopped device; what it shows."""
+    shown = yard.run("show", device)
+    for what, far in (("begun now", False), ("begun far back", True)):
+        mirror = Mirror(device, far)
+        for _ in mirror.news():
+            pass
+        check(mirror.show() == shown, "a mirror", what, "shows", mirror.show(), "and the program", shown)
+        mirror.close()
+    check(followed.show() == shown, "a mirror that followed shows", followed.show(), "and the program", shown)
+    return shown
+
+
+def tool_shows(yard: Yard, _count: int) -> str:
+    """alm_mirror prints what the program does, of a served plant; and ends by one line if it can't."""
+    table = draw_plant(random.Random(8), 12, 3)
+    device = new_device(yard, "tool", table)
+    server = yard.serve(device)
+    hand = Hand(random.Random(9), table)
+    hand.connect(server)
+    hand.ask(300)
+    hand.leave()
+    served = subprocess.run(
+        module("mirror", device, "--port", server.port), env=AT_TOOLS, capture_output=True, text=True, timeout=60
+    )
+    other = new_device(yard, "other", table)
+    yard.run("desk", other, lines="".join(f"17 {moment} CLOCK {moment}\n" for moment in range(1, 301)))
+    wrong = subprocess.run(
+        module("mirror", other, "--port", server.port), env=AT_TOOLS, capture_output=True, text=True, timeout=60
+    )
+    server.end()
+    check(
+        served.returncode == 0 and served.stderr == "" and served.stdout == yard.run("show", device),
+        served.stdout,
+        served.stderr,
+    )
+    check(
+        wrong.returncode == 1
+        and wrong.stdout == ""
+        and wrong.stderr.count("\n") == 1
+        and "is it the server's device?" in wrong.stderr,
+        wrong.stderr,
+    )
+    for old in (shutil.copyfile(EARLIER, yard.path("earlier")), shutil.copyfile(EARLIER, yard.path("went_on"))):
+        if old.endswith("went_on"):
+            yard.run("desk", old, lines="0 1 PRIO 0 2\n")
+        run = subprocess.run(module("mirror", old), env=AT_TOOLS, capture_output=True, text=True, timeout=60)
+        check(
+            run.stdout == yard.run("show", old),
+            "of a device that an earlier release wrote it shows",
+            run.stdout,
+            run.stderr,
+        )
+    for words, status, said in (
+        (("--port", server.port), 1, "Connection refused"),
+        (("--slot", 99), 2, "invalid choice"),
+        ((), 0, "may be ahead"),
+    ):
+        run = subprocess.run(module("mirror", device, *words), env=AT_TOOLS, capture_output=True, text=True, timeout=60)
+        check(
+            run.returncode == status and said in run.stderr and "Traceback" not in run.stderr,
+            words,
+            run.returncode,
+            run.stderr,
+        )
+    for path, said in (
+        (yard.path("none"), "No such file"),
+        (yard.write("text", "no device" * 9), "isn't formatted"),
+        (yard.folder, "directory"),
+    ):
+        run = subprocess.run(module("mirror", path), env=AT_TOOLS, capture_output=True, text=True, timeout=60)
+        check(
+            run.returncode == 1 and said in run.stderr and "Traceback" not in run.stderr,
+            path,
+            run.returncode,
+            run.stderr,
+        )
+    return "alm_mirror"
+
+
+def held_up(yard: Yard, count: int) -> str:
+    """A mirror that sleeps over checkpoints tells a gap, goes on behind it, and is what `show` prints."""
+    dice, gaps = random.Random(10), 0
+    for number in range(max(1, count // 3000)):
+        table = draw_plant(dice, 8, 2)
+        device = new_device(yard, f"held{number}", table)
+        server, hand = yard.serve(device), Hand(dice, table)
+        watched = Watched(device, server.port)
+        hand.connect(server)
+        for _ in range(8):
+            hand.ask(20)
+            watched.look()
+            hand.ask(dice.choice([100, 500, 900]))
+            watched.look()
+        hand.leave()
+        server.end()
+        compare(yard, device, watched.follower.mirror)
+        watched.end()
+        covered = [step.number for step in watched.steps] + [
+            one for gap in watched.gaps for one in range(gap.first, gap.last + 1)
+        ]
+        check(sorted(covered) == sorted(hand.accepted), "steps and gaps aren't each action once")
+        check(
+            [words_of(step) for step in watched.steps] == [hand.accepted[step.number] for step in watched.steps],
+            "other actions",
+        )
+        gaps += len(watched.gaps)
+    check(gaps, "no gap came")
+    return f"{gaps} gaps"
+
+
+def crowded(yard: Yard, count: int) -> str:
+    """A mirror that looks while a server writes as fast as it can misses nothing, over checkpoints that are made in
+    pieces."""
+    dice = random.Random(11)
+    table = draw_plant(dice, 30, 30, segment=200_000)
+    device = new_device(yard, "crowded", table)
+    server, hand = yard.serve(device), Hand(dice, table)
+    watched = Watched(device, server.port)
+    watched.look()
+    hand.connect(server)
+    moments = iter(range(10_000, 10**9))
+    while len(watched.steps) < count * 4:
+        hand.ask_at(CLOCK, [f"CLOCK {next(moments)}" for _ in range(2000)])
+        hand.moment = next(moments)
+        hand.ask(400)
+        hand.moment = max(hand.moment, next(moments))
+        moments = iter(range(hand.moment + 1, 10**9))
+        watched.look()
+    hand.leave()
+    server.end()
+    shown = compare(yard, device, watched.follower.mirror)
+    watched.end()
+    check(count < 2000 or reaches_far(device), "no action was committed while a checkpoint was made")
+    check(
+        not watched.gaps
+        and [words_of(step) for step in watched.steps] == [hand.accepted[number] for number in sorted(hand.accepted)],
+        "missed some",
+    )
+    return f"{len(watched.steps)} actions in {shown.split()[5]} epochs at full speed"
+
+
+def reaches_far(path: str) -> bool:
+    """A mirror begins with the half before, also where that has actions which were committed while the checkpoint was
+    made; whether it has."""
+    mirror = Mirror(path, far=True)
+    newest, older = mirror.device.standing(), mirror.device.head_of(1 - mirror.device.standing().half)
+    held = [action.number for frame in mirror.device.frames(older) for action in frame.actions]
+    check(mirror.head == older and mirror.count == older.count, "a mirror doesn't begin with the half before")
+    mirror.close()
+    return held[-1] > newest.count
+
+
+def another(yard: Yard, _count: int) -> str:
+    """A device that is put in the place, one that is formatted again in its place, one of another table: each is told,
+    and followed."""
+    dice = random.Random(12)
+    for number, table_differs in enumerate((False, True, False)):
+        table = draw_plant(dice, 6, 2)
+        device = new_device(yard, f"another{number}", table)
+        server, hand = yard.serve(device), Hand(dice, table)
+        follower = Follower(device, Served(server.port, SLOT))
+        hand.connect(server)
+        hand.ask(60)
+        before = [one for one in follower.look() if isinstance(one, Step)]
+        check(len(before) == len(hand.accepted), "not all actions")
+        hand.leave()
+        server.end()
+        other = draw_plant(dice, 7, 3) if table_differs else table
+        put_in_place(yard, device, other, number)
+        server = yard.serve(device, server.port)
+        hand = Hand(dice, other)
+        hand.connect(server)
+        hand.ask(40)
+        news = []
+        await_true("another device", lambda: news.extend(follower.look()) or len(news) >= 2 + len(hand.accepted))
+        kinds = [type(one).__name__ for one in news]
+        check(kinds[:2] == ["Replaced", "Begun"] and set(kinds[2:]) == {"Step"}, kinds)
+        check(
+            [words_of(one) for one in news[2:]] == [hand.accepted[one] for one in sorted(hand.accepted)],
+            "other actions",
+        )
+        hand.leave()
+        server.end()
+        check(follower.mirror.show() == yard.run("show", device), "it shows another plant")
+        follower.__exit__()
+    return "replaced devices"
+
+
+def put_in_place(yard: Yard, device: str, table: object, number: int) -> None:
+    """Another device by a rename, or the same file formatted again."""
+    fresh = new_device(yard, "fresh", table)
+    if number == 2:
+        shutil.copyfile(fresh, device)
+    else:
+        os.replace(fresh, device)
+
+
+CHECKS = {"drawn": drawn, "mirror_tool": tool_shows, "held": held_up, "crowded": crowded, "another": another}

@@ -1,0 +1,68 @@
+// The heads of the columns, by which the list is sorted, and how wide the tags are.
+import {$, allOf, button, made, target} from "./dom.js";
+import {areSeveral, isJournal, look, plants} from "./state.js";
+import {COLUMNS, columns} from "./views.js";
+
+/**
+ * What stands over the columns of the journal, and their classes.
+ * @type {[string, string][]}
+ */
+const JOURNAL = [["Time", "c-time"], ["Action", "c-number number"], ["Plant", "c-plant"], ["Tag", "c-tag"],
+  ["What happened", "c-what"], ["Became", "c-state"], ["By", "c-user"], ["Reason", "c-reason"]];
+
+/**
+ * The columns as they are: a name, where one can sort by it, the words and the class.
+ * @returns {[string, string, string][]}
+ */
+function heads() {
+  if (!isJournal()) return columns().map(name => [name, COLUMNS[name][0], COLUMNS[name][1]]);
+  return JOURNAL.filter(([text]) => text !== "Plant" || areSeveral()).map(([text, kind]) => ["", text, kind]);
+}
+
+function head(/** @type {[string, string, string]} */ [name, text, kind]) {
+  const one = made("th"), isSort = name !== "" && name === look.sort, isDot = name === "mark" && look.sort === "order";
+  one.className = kind;
+  one.setAttribute("role", "columnheader");
+  one.setAttribute("scope", "col");
+  if (isSort) one.setAttribute("aria-sort", look.down ? "descending" : "ascending");
+  const sign = isSort ? (look.down ? " ▾" : " ▴") : isDot ? " ●" : "";
+  const press = button({textContent: text + sign, disabled: !name || name === "box" || name === "marks"});
+  if (name) press.dataset.sort = name === "mark" && look.sort !== "order" ? "order" : name;
+  if (name === "mark") press.setAttribute("aria-label", "Unacknowledged, then priority, then time");
+  if (name === "box") press.setAttribute("aria-label", "Selected");
+  one.append(press);
+  return one;
+}
+
+/** Draws the heads; whether they are others than before. */
+export function drawColumns() {
+  const all = heads(), key = JSON.stringify([all, look.sort, look.down]), place = $("columns");
+  if (place.dataset.key === key) return false;
+  const focused = document.activeElement instanceof HTMLElement ? document.activeElement.dataset.sort : undefined;
+  place.dataset.key = key;
+  place.replaceChildren(...all.map(head));
+  if (focused !== undefined) allOf(`[data-sort="${focused}"]`, place)[0]?.focus();
+  measureTags();
+  return true;
+}
+
+// The tags are whole: their column is as wide as the longest one, and one that is wider than a screen has room for has
+// a second line.
+export function measureTags() {
+  const context = document.createElement("canvas").getContext("2d");
+  if (!context) return;
+  context.font = getComputedStyle(allOf(".tag-font")[0]).font;
+  let most = 0;
+  for (const {table} of plants) for (const {tag} of table) most = Math.max(most, context.measureText(tag).width);
+  document.documentElement.style.setProperty("--tag", `${Math.ceil(most) + 18}px`);
+  const column = allOf("#columns .c-tag")[0];
+  document.body.classList.toggle("long-tags", column !== undefined && column.offsetWidth < most + 18);
+}
+
+/** Listens to the heads. */
+export function prepareColumns(/** @type {(name: string) => void} */ sortBy) {
+  $("columns").addEventListener("click", event => {
+    const name = target(event, "button")?.dataset.sort;
+    if (name) sortBy(name);
+  });
+}

@@ -1,0 +1,95 @@
+// What stands over the list: counts, clocks, plants, views and filters.
+import {$, allOf, button, childrenOf, choice, field, made, put} from "./dom.js";
+import {AREAS} from "./model.js";
+import {areSeveral, areaName, areaOf, isJournal, look, me, of_, plants, screen} from "./state.js";
+import {isSounding, soundWord} from "./sound.js";
+import {VIEWS} from "./views.js";
+import {time} from "./words.js";
+/** @typedef {import("./model.js").Plant} Plant */
+
+/** The counts of the priorities, who looks, and the sound. */
+export function drawHead() {
+  for (const one of childrenOf($("priorities"))) {
+    const priority = Number(one.dataset.priority), [unacknowledged, all] = screen.priorities[priority];
+    put(/** @type {Element} */ (one.lastElementChild), `${unacknowledged} / ${all}`);
+    one.setAttribute("aria-pressed", String(look.priorities.has(priority)));
+    one.setAttribute("aria-label", `Priority ${priority}: ${unacknowledged} unacknowledged of ${all}`);
+  }
+  put($("clock"), plants[0].era && !areSeveral() ? `Plant ${time(plants[0].head.now, plants[0])}` : "");
+  put($("who"), me.user ? `${me.user} (${me.role})` : "");
+  $("who").title = $("who").textContent ?? "";
+  const [word, isOn] = soundWord();
+  put($("sound"), word);
+  $("sound").setAttribute("aria-pressed", String(isOn));
+  field("silence").disabled = !isSounding();
+  const unacknowledged = screen.priorities.reduce((sum, pair) => sum + pair[0], 0);
+  document.title = unacknowledged ? `(${unacknowledged}) Alarm list` : "Alarm list";
+}
+
+/** Of several plants: how many alarms nobody has acknowledged, of how many, and the plant's clock. */
+export function drawPlants() {
+  const place = $("plants");
+  for (const one of [place, ...allOf("[data-several]")]) one.hidden = !areSeveral();
+  if (!areSeveral()) return place.replaceChildren();
+  while (place.children.length > plants.length) place.lastElementChild?.remove();
+  while (place.children.length < plants.length) place.append(button());
+  plants.forEach((plant, at) => {
+    const one = childrenOf(place)[at], [unacknowledged, all] = plant.counts;
+    one.dataset.plant = String(at);
+    put(one, `${plant.name}  ${unacknowledged} / ${all}  ${plant.isOld ? "no server" : time(plant.head.now, plant)}`);
+    one.classList.toggle("old", plant.isOld);
+    one.setAttribute("aria-pressed", String(look.plants.has(at)));
+    const said = `${plant.name}: ${unacknowledged} unacknowledged of ${all}${plant.isOld ? ", no server" : ""}`;
+    one.setAttribute("aria-label", said);
+  });
+}
+
+/** The views, with how many rows each has. */
+export function drawTabs() {
+  for (const tab of childrenOf($("tabs"))) {
+    const view = tab.dataset.view ?? "", isCounted = view !== "journal" && view !== "all";
+    put(tab, VIEWS[view][0] + (isCounted ? ` ${screen.counts[view]}` : ""));
+    tab.setAttribute("aria-selected", String(view === look.view));
+    tab.tabIndex = view === look.view ? 0 : -1;
+  }
+}
+
+/** How many areas a plant has, as far as it is known. */
+const areasOf = (/** @type {Plant | undefined} */ plant) => plant?.head.floods?.length ?? 0;
+
+/** The filters, and what they hide. */
+export function drawFilters() {
+  put($("hidden"), screen.hidden ? `${screen.hidden} hidden by filters` : "");
+  const select = choice("area"), names = plants.flatMap(plant =>
+    Array.from({length: areasOf(plant)}, (_, area) => [of_(plant, areaName(plant, area)), areaOf(plant, area)]));
+  const key = JSON.stringify(names);
+  if (select.dataset.names !== key) {
+    select.dataset.names = key;
+    select.replaceChildren(...[["all", ""], ...names].map(([name, area]) => new Option(String(name), String(area))));
+  }
+  const plant = look.area === "" ? undefined : plants[Math.floor(look.area / AREAS)];
+  if (look.area !== "" && look.area % AREAS >= areasOf(plant) && (!plant || plant.era)) look.area = "";
+  select.value = String(look.area);
+  choice("state").disabled = isJournal();
+}
+
+/** Makes what stands over the list for as long as the page is open. */
+export function prepareTabs() {
+  for (const view of Object.keys(VIEWS)) {
+    const tab = button();
+    tab.dataset.view = view;
+    tab.setAttribute("role", "tab");
+    tab.setAttribute("aria-controls", "list");
+    $("tabs").append(tab);
+  }
+}
+
+/** Makes a button of each priority. */
+export function preparePriorities(/** @type {(priority: number) => Node} */ markOf) {
+  for (const priority of [1, 2, 3, 4]) {
+    const one = button();
+    one.dataset.priority = String(priority);
+    one.append(markOf(priority), made("span"));
+    $("priorities").append(one);
+  }
+}

@@ -1,0 +1,84 @@
+// What an operator asks for goes out by /do, bound to the annunciation that was on the screen; what came of it is said.
+import {touch} from "./draw.js";
+import {link, within} from "./link.js";
+import {say} from "./messages.js";
+import {ALARMS, idOf} from "./model.js";
+import {GLANCE, stampSeen} from "./seen.js";
+import {pass} from "./selection.js";
+import {me, of_, plantOf, plants, tagAndPlant} from "./state.js";
+/** @typedef {import("./model.js").Plant} Plant */
+/** @typedef {[number, string, number | null, string]} Answer an alarm, the outcome, the action's number, the words */
+/** @typedef {{word: string, ids: number[], value?: number, reason?: string, glance: number}} Order */
+
+const MOST_ALARMS = 1000;
+// Milliseconds that a reply may take.
+export const REPLY = 5000;
+/** @type {Record<string, string>} */
+const DONE = {ACK: "acknowledged", RESET: "reset", SHELVE: "shelved", UNSHELVE: "unshelved",
+  PRIO: "given another priority", SETP: "given another setpoint"};
+
+/**
+ * Says what was done of an order, and why the rest wasn't.
+ * @param {Order} order
+ * @param {Answer[]} answers
+ * @param {string[]} faults
+ */
+function sayAnswers({word, value}, answers, faults) {
+  const done = answers.filter(answer => answer[1] === "done");
+  const which = word === "OOS" ? (value ? "out of service" : "back in service") : DONE[word];
+  const head = done.length === 1 ? `${tagAndPlant(done[0][0])} ${which}` : `${done.length} ${which}`;
+  /** @type {Map<string, string[]>} */
+  const reasons = new Map();
+  for (const [id, , , why] of answers) if (why) reasons.set(why, [...(reasons.get(why) ?? []), tagAndPlant(id)]);
+  const rest = [...reasons].map(([why, tags]) => `${several(tags)}: ${why}`).concat(faults);
+  say([done.length || !rest.length ? head : "", ...rest].filter(Boolean).join("; "), rest.length > 0);
+}
+
+function several(/** @type {string[]} */ tags) {
+  return `${tags.slice(0, 4).join(", ")}${tags.length > 4 ? ` and ${tags.length - 4} more` : ""}`;
+}
+
+/**
+ * Asks a plant for an action of some of its alarms: what came of each, or why nothing is known of them.
+ * @param {Plant} plant
+ * @param {Order} order
+ * @returns {Promise<{answers: Answer[], fault: string}>}
+ */
+async function askPlant(plant, {word, ids, value, reason, glance}) {
+  const alarms = ids.map(id => [id % ALARMS, stampSeen(id, glance)]);
+  const body = JSON.stringify({plant: plant.place, era: plant.era, word, alarms, value, reason});
+  const headers = {"Content-Type": "application/json", "X-Alarms-Key": me.key};
+  try {
+    const reply = await fetch("/do", {method: "POST", headers, body, signal: within(REPLY)});
+    if (reply.status === 401) link.again();
+    if (!reply.ok) return {answers: [], fault: of_(plant, `not done: ${(await reply.text()).trim().slice(0, 100)}`)};
+    const told = /** @type {{answers: Answer[]}} */ (await reply.json());
+    return {answers: told.answers.map(([n, ...rest]) => [idOf(plant, n), ...rest]), fault: ""};
+  } catch (error) {
+    const late = error instanceof DOMException && error.name === "TimeoutError" ? ` within ${REPLY / 1000} s` : "";
+    return {answers: [], fault: of_(plant, `no reply came${late}: look whether it was done`)};
+  }
+}
+
+/**
+ * Asks for an action of some alarms, each at its own plant.
+ * @param {string} word
+ * @param {number[]} ids
+ * @param {{value?: number, reason?: string, glance?: number}} [more] `glance`: for how many milliseconds each has to
+ *     have been on the screen
+ */
+export async function ask(word, ids, more = {}) {
+  const {value, reason, glance = GLANCE} = more;
+  if (!ids.length || ids.length > MOST_ALARMS) {
+    return say(ids.length ? `choose at most ${MOST_ALARMS} alarms` : "nothing to do", true);
+  }
+  say("..");
+  const asked = plants.filter(plant => ids.some(id => plantOf(id) === plant));
+  const results = await Promise.all(asked.map(plant =>
+    askPlant(plant, {word, ids: ids.filter(id => plantOf(id) === plant), value, reason, glance})));
+  const faults = results.map(result => result.fault).filter(Boolean);
+  const answers = results.flatMap(result => result.answers);
+  sayAnswers({word, ids, value, glance}, answers, faults);
+  if (word !== "PRIO" && word !== "SETP") pass(answers.filter(answer => answer[1] === "done").map(([id]) => id));
+  touch();
+}

@@ -1,0 +1,70 @@
+// What the page has: the plants as they were told, who the operator is, what is looked at and what is on the screen.
+// Nothing is kept here that the servers haven't shown.
+import {ALARMS, AREAS, newPlant} from "./model.js";
+/** @typedef {import("./model.js").Plant} Plant */
+/** @typedef {import("./model.js").Row} Row */
+/** @typedef {import("./model.js").Event} Event */
+
+/** @type {Plant[]} */
+export let plants = [newPlant("", 0)];
+
+/** Other plants than before. */
+export function setPlants(/** @type {string[]} */ names) {
+  plants = names.map(newPlant);
+}
+
+/**
+ * Who the operator is, what the operator may, and of how many alarms at once what wants a reason.
+ * @type {{user: string, role: string, may: string[], most: number, key: string}}
+ */
+export const me = {user: "", role: "viewer", may: [], most: 1, key: ""};
+
+export const look = {
+  view: "alarms", sort: "order", down: false, area: /** @type {number | ""} */ (""), state: "", text: "",
+  priorities: /** @type {Set<number>} */ (new Set()), plants: /** @type {Set<number>} */ (new Set()),
+};
+
+/** The rows or the events of the view in their order, and what is selected of them. */
+export const screen = {
+  rows: /** @type {Row[]} */ ([]),
+  events: /** @type {Event[]} */ ([]),
+  chosen: /** @type {Set<number>} */ (new Set()),
+  anchor: /** @type {number | null} */ (null),
+  cursor: 0,
+  /** whether something was done of the row on which the keys stand */
+  isPassed: false,
+  /** @type {Record<string, number>} how many rows each view has */
+  counts: {},
+  /** of each priority how many nobody has acknowledged, of how many */
+  priorities: /** @type {[number, number][]} */ ([]),
+  /** @type {Record<string, number>} how many are suppressed while the condition holds, by the word of the state */
+  holding: {},
+  hidden: 0,
+};
+
+export const isJournal = () => look.view === "journal";
+/** How many lines the view has. */
+export const lines = () => isJournal() ? screen.events.length : screen.rows.length;
+/** The row on which the keys stand, where there is one. */
+export const cursorRow = () => isJournal() ? undefined : screen.rows[screen.cursor];
+
+export const areSeveral = () => plants.length > 1;
+export const plantOf = (/** @type {number} */ id) => plants[Math.floor(id / ALARMS)];
+export const rowOf = (/** @type {number} */ id) => plantOf(id).rows[id % ALARMS];
+export const alarmOf = (/** @type {Row} */ row) => row.plant.table[row.n];
+export const tagOf = (/** @type {number} */ id) => plantOf(id).table[id % ALARMS].tag;
+/** The id of a plant's area. */
+export const areaOf = (/** @type {Plant} */ plant, /** @type {number} */ area) => plant.place * AREAS + area;
+export const areaName = (/** @type {Plant} */ plant, /** @type {number} */ area) => plant.areas[area] || `Area ${area}`;
+/** A text with the name of its plant, where there are several. */
+export function of_(/** @type {Plant} */ plant, /** @type {string} */ text) {
+  return areSeveral() ? `${plant.name}: ${text}` : text;
+}
+
+/** The tag of an alarm, with its plant where there are several. */
+export function tagAndPlant(/** @type {number} */ id) {
+  return areSeveral() ? `${tagOf(id)} (${plantOf(id).name})` : tagOf(id);
+}
+
+/** Whether a row's plant may be old while others aren't: it is asked nothing, and the others go on. */
+export const isLeftOut = (/** @type {Row} */ row) => areSeveral() && row.plant.isOld;

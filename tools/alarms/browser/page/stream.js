@@ -1,0 +1,74 @@
+// The stream of what is shown: it is connected to, watched, and connected to again.
+import {kept} from "./kept.js";
+import {link, within} from "./link.js";
+import {hearEvent, takeEvents} from "./news.js";
+import {REPLY} from "./orders.js";
+import {begin, shareLink} from "./sharing.js";
+import {me} from "./state.js";
+import {SILENCE} from "./trouble.js";
+
+// Milliseconds between two tries.
+const AGAIN = 700;
+
+// Each stream that is begun is another one; what an older one left to be done isn't done.
+const stream = {run: 0, stop: () => {}};
+
+/** Begins: with a stream, or with that of another window of this browser. */
+export function listenToStream() {
+  me.key = kept("key") ?? "";
+  begin({connect, stop: () => stream.stop(), hear: hearEvent});
+}
+
+/** Connects, and takes what comes until the end. */
+async function connect() {
+  const control = new AbortController(), run = ++stream.run;
+  me.key = kept("key") ?? me.key;
+  stream.stop = () => {
+    stream.run++;
+    control.abort();
+    clearInterval(watched);
+  };
+  // A stream that is silent is taken for lost, also where the system doesn't say so.
+  const watched = setInterval(() => {
+    if (performance.now() - link.heard > 4 * SILENCE) again();
+  }, SILENCE);
+  const again = link.again = () => {
+    if (stream.run !== run) return;
+    stream.stop();
+    const next = stream.run;
+    setTimeout(() => enter(next), AGAIN);
+  };
+  try {
+    await listen(control.signal);
+  } catch (error) {
+    // it is lost, or was refused
+  }
+  again();
+}
+
+async function listen(/** @type {AbortSignal} */ signal) {
+  const reply = await fetch("/stream", {headers: {"X-Alarms-Key": me.key}, signal});
+  if (!reply.ok || !reply.body) throw new Error(link.refused = (await reply.text()).trim().slice(0, 100));
+  const reader = reply.body.pipeThrough(new TextDecoderStream()).getReader();
+  for (let rest = "", part = await reader.read(); !part.done; part = await reader.read()) {
+    rest = takeEvents(rest + part.value);
+  }
+}
+
+/** After a restart a proxy's user is let in again by the page; a token's has to sign in. */
+async function enter(/** @type {number} */ run) {
+  let status = 0;
+  if (stream.run !== run) return;
+  try {
+    status = (await fetch("/", {signal: within(REPLY)})).status;
+  } catch (error) {
+    link.refused = "";  // nobody is there
+  }
+  if (stream.run !== run) return;
+  link.signedOut = status === 401;
+  shareLink();
+  if (status !== 200) return void setTimeout(() => enter(run), AGAIN);
+  // a new stream has its time to begin
+  if (!link.refused) link.heard = Math.max(link.heard, performance.now() - 3 * SILENCE);
+  connect();
+}

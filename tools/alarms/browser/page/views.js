@@ -1,0 +1,113 @@
+// Which rows a view has, which of them the filters leave, and their order.
+import {AREAS, BY_DESIGN, OUT_OF_SERVICE, SHELVED, WORDS} from "./model.js";
+import {isAnnunciated, isChattering, isStale, isUnacknowledged} from "./model.js";
+import {alarmOf, areSeveral, look} from "./state.js";
+import {happening} from "./words.js";
+/** @typedef {import("./model.js").Plant} Plant */
+/** @typedef {import("./model.js").Row} Row */
+/** @typedef {import("./model.js").Event} Event */
+/** @typedef {number | string} Key */
+
+/**
+ * The views: what each is called, and which rows it has.
+ * @type {Record<string, [string, ((row: Row) => unknown)?]>}
+ */
+export const VIEWS = {
+  alarms: ["Alarms", isAnnunciated],
+  shelved: ["Shelved", row => row.flags & SHELVED],
+  design: ["By design", row => row.flags & BY_DESIGN],
+  service: ["Out of service", row => row.flags & OUT_OF_SERVICE],
+  chatter: ["Chattering", isChattering],
+  stale: ["Stale", isStale],
+  all: ["All", () => true],
+  journal: ["Journal"],
+};
+
+/** @type {Record<string, (row: Row) => boolean>} */
+const STATES = {
+  "": () => true,
+  unacknowledged: isUnacknowledged,
+  acknowledged: row => row.shown === "ACKED" || row.shown === "LATAK",
+  standing: row => row.active,
+  returned: row => ["RTNUN", "LATUN", "LATAK"].includes(row.shown),
+};
+
+/**
+ * The columns: what stands over each, its class, and by what it sorts.
+ * @type {Record<string, [string, string, ((row: Row) => Key)?]>}
+ */
+export const COLUMNS = {
+  box: ["", "c-box"],
+  mark: ["P", "c-mark", row => row.priority],
+  time: ["Time", "c-time", row => row.since ?? -1],
+  state: ["State", "c-state", row => WORDS[row.shown]],
+  plant: ["Plant", "c-plant", row => row.plant.name],
+  tag: ["Tag", "c-tag", row => alarmOf(row).tag],
+  text: ["Text", "c-text", row => alarmOf(row).text],
+  value: ["Value", "c-value number", row => row.value === null ? -Infinity : row.value / Number(alarmOf(row).scale)],
+  limit: ["Limit", "c-limit number", row => row.limit / Number(alarmOf(row).scale)],
+  area: ["Area", "c-area", row => row.area],
+  left: ["Left", "c-left number", row => row.deadline ?? Infinity],
+  marks: ["Marks", "c-marks"],
+};
+
+/** The names of the columns that the view has. */
+export function columns() {
+  const out = new Set(areSeveral() ? [] : ["plant"]);
+  if (look.view !== "shelved" && look.view !== "all") out.add("left");
+  if (look.view === "shelved") out.add("value");
+  return Object.keys(COLUMNS).filter(name => !out.has(name));
+}
+
+const isOfPlant = (/** @type {Plant} */ plant) => !look.plants.size || look.plants.has(plant.place);
+
+function isInArea(/** @type {Plant} */ plant, /** @type {number} */ area) {
+  return look.area === "" || (plant.place === Math.floor(look.area / AREAS) && area === look.area % AREAS);
+}
+
+/** Whether the filters leave a row. */
+export function isLeft(/** @type {Row} */ row) {
+  const alarm = alarmOf(row), isOfPriority = !look.priorities.size || look.priorities.has(row.priority);
+  return isOfPriority && isOfPlant(row.plant) && isInArea(row.plant, row.area) &&
+    STATES[look.state](row) && (!look.text || `${alarm.tag} ${alarm.text}`.toLowerCase().includes(look.text));
+}
+
+/** Whether the filters leave an event. */
+export function isListed(/** @type {Event} */ event) {
+  const {plant} = event, row = event.alarm === null ? null : plant.rows[event.alarm];
+  if (!isOfPlant(plant) || !isInArea(plant, row ? row.area : event.value)) return false;
+  if (look.priorities.size && !(row && look.priorities.has(row.priority))) return false;
+  const of = row ? `${alarmOf(row).tag} ${alarmOf(row).text}` : "";
+  const said = `${of} ${happening(event)} ${event.user ?? ""} ${event.reason ?? ""}`;
+  return said.toLowerCase().includes(look.text);
+}
+
+// The moment of an annunciation. Of one plant a later stamp has no earlier moment; stamps of two say nothing of each
+// other.
+const annunciatedAt = (/** @type {Row} */ row) => row.stamp ? row.since ?? -1 : -1;
+
+/** Unacknowledged first, then by priority, then the newest. */
+function inOrder(/** @type {Row} */ one, /** @type {Row} */ other) {
+  return Number(isUnacknowledged(other)) - Number(isUnacknowledged(one)) || one.priority - other.priority ||
+    annunciatedAt(other) - annunciatedAt(one) || one.plant.place - other.plant.place ||
+    other.stamp - one.stamp || one.n - other.n;
+}
+
+/** Of one moment what came first: a plant's stamps have the order of its annunciations. */
+function byStamp(/** @type {Row} */ one, /** @type {Row} */ other) {
+  return one.plant.place - other.plant.place || one.stamp - other.stamp;
+}
+
+/**
+ * How two rows stand to each other in the order that is chosen.
+ * @returns {(one: Row, other: Row) => number}
+ */
+export function order() {
+  const key = COLUMNS[look.sort]?.[2], sign = look.down ? -1 : 1;
+  if (!key) return inOrder;
+  const tied = look.sort === "time" ? byStamp : () => 0;
+  return (one, other) => {
+    const [first, second] = [key(one), key(other)];
+    return first < second ? -sign : first > second ? sign : sign * tied(one, other) || inOrder(one, other);
+  };
+}

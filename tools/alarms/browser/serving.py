@@ -1,0 +1,217 @@
+"""The processes of the alarm list in a browser: what follows the plants, what browsers ask, and both in one."""
+import argparse
+import asyncio
+import functools
+import getpass
+import os
+import signal
+from pathlib import Path
+from typing import Any, Callable, Optional, Sequence
+
+from aiohttp import web
+
+from ..connecting import HOST
+from ..details_file import Details, differences, load_details
+from ..ending import sayer
+from .arguments import Given
+from .board import BrowserBoard
+from .doors import Door
+from .gate import BACKLOG, Gate, most_connections
+from .listening import Ended, open_port, open_socket
+from .notes import Notes
+from .orders import Order, Rules
+from .relay import MOST_ORDER, Source, Teller
+from .watch import STOP, Batch, WatchedServer, Watch
+from .web import Site
+
+say = sayer("alm_browser")
+
+
+def read_areas(path: Optional[str]) -> list[str]:
+    if path is None:
+        return []
+    try:
+        return [line.strip() for line in Path(path).read_text(encoding="utf-8").splitlines()]
+    except UnicodeDecodeError:
+        raise Ended(f"{path}: it isn't UTF-8") from None
+
+
+def read_details(path: Optional[str]) -> dict[str, Details]:
+    return load_details(path) if path else {}
+
+
+def told_details(details: dict[str, Details]) -> dict[str, list[Any]]:
+    """The details as the page has them: model.js has the names of the places."""
+    return {
+        tag: [
+            one.unit,
+            str(one.scale),
+            one.decimals,
+            one.text,
+            one.cause,
+            one.consequence,
+            one.response,
+            one.respond,
+            one.display,
+        ]
+        for tag, one in details.items()
+    }
+
+
+def rules_of(chosen: argparse.Namespace) -> Rules:
+    return Rules(chosen.out_of_service, chosen.most)
+
+
+def user_of(chosen: argparse.Namespace) -> str:
+    if chosen.user is not None:
+        return chosen.user
+    try:
+        return getpass.getuser()
+    except (KeyError, OSError):
+        return str(os.getuid())
+
+
+def follow(
+    number: int,
+    plant: Given,
+    chosen: argparse.Namespace,
+    say_of: Callable[..., None],
+    fail: Callable[[Exception], None],
+) -> tuple[BrowserBoard, Watch]:
+    """What browsers are told of a plant, and the thread that will follow it."""
+    loop, shown = asyncio.get_running_loop(), WatchedServer(plant.place, chosen.slots, say_of)
+    details = read_details(plant.details)
+    board = BrowserBoard(number, plant.short, read_areas(plant.areas), told_details(details), lambda: shown.answered)
+    notes = Notes(chosen.notes or ":memory:", plant.name)
+
+    def tell(batch: Batch) -> None:
+        if details and batch.is_whole and batch.era and batch.era != board.era:
+            for line in differences(details, (tag for tag, *_ in batch.table)):
+                say_of(f"{plant.details}: {line}")
+        loop.call_soon_threadsafe(board.take, batch)
+
+    return board, Watch(plant.device, shown, notes, tell, fail)
+
+
+def followed(
+    chosen: argparse.Namespace, plants: list[Given], fail: Callable[[Exception], None]
+) -> tuple[tuple[BrowserBoard, ...], tuple[Watch, ...]]:
+    """Of each plant what browsers are told, and the thread that follows it."""
+    says: list[Callable[..., None]] = [say] * len(plants)
+    if len(plants) > 1:
+        says = [functools.partial(say, f"{plant.name}:") for plant in plants]
+    boards, watches = zip(*(follow(number, plant, chosen, says[number], fail) for number, plant in enumerate(plants)))
+    return boards, watches
+
+
+def failing(ended: "asyncio.Future[None]") -> Callable[[Any], None]:
+    """What a thread or a task calls whose fault ends the process."""
+    loop = asyncio.get_running_loop()
+
+    def fail(fault: Any) -> None:
+        loop.call_soon_threadsafe(lambda: ended.done() or ended.set_exception(fault))
+
+    return fail
+
+
+async def serve(chosen: argparse.Namespace, plants: list[Given]) -> None:
+    """Serves until a signal, or until what follows a plant has failed."""
+    loop, ended = asyncio.get_running_loop(), asyncio.get_running_loop().create_future()
+    for number in (signal.SIGTERM, signal.SIGINT):
+        loop.add_signal_handler(number, lambda: ended.done() or ended.set_result(None))
+    if chosen.source:
+        await serve_from(chosen, ended)
+        return
+    listening = opened(chosen)
+    boards, watches = followed(chosen, plants, failing(ended))
+    order = lambda order: watches[order.plant].orders.put(order)
+    begin = lambda: [watch.thread.start() for watch in watches]
+    try:
+        if chosen.tell:
+            await tell(chosen, listening, Teller(boards, order, rules_of(chosen)), begin, ended)
+        else:
+            await show(chosen, listening, boards, order, begin, ended)
+    finally:
+        for watch in watches:
+            watch.orders.put(STOP)
+        await asyncio.gather(
+            *(loop.run_in_executor(None, watch.thread.join, 3) for watch in watches if watch.thread.is_alive())
+        )
+
+
+async def serve_from(chosen: argparse.Namespace, ended: "asyncio.Future[None]") -> None:
+    """Serves browsers what another process tells."""
+    source = Source(chosen.source, say)
+    following = asyncio.create_task(source.follow())
+    following.add_done_callback(lambda task: task.cancelled() or failing(ended)(task.exception()))
+    there = asyncio.create_task(source.is_there.wait())
+    try:
+        waits: list[asyncio.Future[Any]] = [there, ended]
+        await asyncio.wait(waits, return_when=asyncio.FIRST_COMPLETED)
+        if not ended.done():
+            await show(chosen, opened(chosen), source.boards, source.take, lambda: None, ended)
+        await ended
+    finally:
+        there.cancel()
+        following.cancel()
+
+
+def opened(chosen: argparse.Namespace) -> Any:
+    """The socket that listens."""
+    path = chosen.socket or chosen.tell
+    return open_port(chosen.listen) if path is None else open_socket(path, chosen.group)
+
+
+async def tell(
+    chosen: argparse.Namespace,
+    listening: Any,
+    teller: Teller,
+    begin: Callable[[], object],
+    ended: "asyncio.Future[None]",
+) -> None:
+    """Tells the other part until the end."""
+    server = await asyncio.start_unix_server(teller.serve, sock=listening, limit=MOST_ORDER)
+    begin()
+    print(f"alm_browser: {chosen.tell}", flush=True)
+    try:
+        await ended
+    finally:
+        server.close()
+        Path(chosen.tell).unlink(missing_ok=True)
+
+
+async def show(
+    chosen: argparse.Namespace,
+    listening: Any,
+    boards: Sequence[BrowserBoard],
+    order: Callable[[Order], None],
+    begin: Callable[[], object],
+    ended: "asyncio.Future[None]",
+) -> None:
+    """Shows browsers the plants until the end."""
+    place = chosen.proxy or chosen.origin or f"http://{HOST}:{listening.getsockname()[1]}"
+    door = Door(
+        place,
+        bool(chosen.proxy),
+        user_of(chosen),
+        chosen.role,
+        rules_of(chosen),
+        lambda address: print(f"alm_browser: {address}", flush=True),
+    )
+    runner = web.AppRunner(Site(door, boards, order).application(), access_log=None)
+    await runner.setup()
+    connections = runner.server
+    assert connections is not None  # after setup
+    gate = Gate(connections, most_connections())
+    server = await asyncio.get_running_loop().create_server(gate, sock=listening, backlog=BACKLOG)
+    begin()
+    door.open()
+    try:
+        await ended
+    finally:
+        server.close()
+        await runner.shutdown()
+        await connections.shutdown(1)
+        await runner.cleanup()
+        if chosen.socket:
+            Path(chosen.socket).unlink(missing_ok=True)

@@ -1,0 +1,287 @@
+"""An exporter of what a server shows, in the text format that Prometheus reads.
+
+    alm_metrics --port P [--listen 9464] [--slot 15] [--device DEVICE] [--table TABLE.toml]
+
+It listens on loopback alone, at http://127.0.0.1:9464/metrics. Each time that it is read it asks the server at a
+console's slot, by queries alone, and lets the slot go. Where the server doesn't answer, `alarms_up` is 0 and nothing
+else of the plant is there. Where it answers at another slot, another client has this one: then `alarms_up` is 1,
+`alarms_slot_taken` too, and of the plant is there what one query shows.
+
+With --device it also reads, from the file, how full the journal is, and the epoch, which grows by one with each
+checkpoint. `alarms_device_damaged` is 1 where bytes of it are damaged, with the half and the place, else 0. From there
+come counters too, of annunciations and acknowledgements by priority: those since the exporter began, up to the last one
+that a query showed.
+
+With --table it reads the table file each time, and ends with status 1 where the plant isn't that file's, or is on
+another device than before.
+"""
+import collections
+import http.server
+import sys
+import threading
+import time
+from typing import Iterable, Iterator, Optional
+
+from .client import CONSOLES, PRIORITIES, Client, Lost, NoAnswer, Overview, OtherPlant, Plant, Refused
+from .arguments import add_port, add_slot, add_table, listen_port, new_parser
+from .connecting import HOST
+from .device_file import Damaged, DeviceFile, Head, NoDevice
+from .table_file import NoTable
+from .judging import Reading, read_device
+from .metrics_counts import Tally
+
+# Seconds after which a client that says nothing is left.
+SILENCE = 10
+# Seconds to wait at each other slot for a query's answer: all of them take less than the ten seconds that Prometheus
+# waits for a page.
+BRIEFLY = 0.1
+STATES = ("UNACK", "ACKED", "RTNUN", "LATUN", "LATAK")
+
+
+def metric(name: str, kind: str, page: str, samples: dict[str, float]) -> Iterator[str]:
+    """The lines of a metric: its samples by their labels."""
+    yield f"# HELP {name} {page}"
+    yield f"# TYPE {name} {kind}"
+    for labels, value in samples.items():
+        yield f"{name}{labels} {value:g}" if isinstance(value, float) else f"{name}{labels} {value}"
+
+
+def annunciated(client: Client) -> dict[str, float]:
+    """How many alarms are annunciated, by priority and state."""
+    counts: collections.Counter[str] = collections.Counter()
+    for priority in PRIORITIES:
+        counts.update({f'{{priority="{priority}",state="{state}"}}': 0 for state in STATES})
+        for state in client.states(client.priority_list(priority).alarms):
+            if state.shown in STATES:
+                counts[f'{{priority="{priority}",state="{state.shown}"}}'] += 1
+    return dict(counts)
+
+
+def by_area(values: Iterable[int]) -> dict[str, float]:
+    """The samples of the areas."""
+    return {f'{{area="{area}"}}': value for area, value in enumerate(values)}
+
+
+def shown(client: Client) -> Iterator[str]:
+    """What the plant shows. Between two queries it may go on."""
+    began = time.perf_counter()
+    plant = client.plant()
+    yield from of_query(plant, time.perf_counter() - began)
+    yield from metric("alarms_annunciated", "gauge", "Annunciated alarms by priority and state.", annunciated(client))
+    yield from metric("alarms_shelved", "gauge", "Shelved alarms.", {"": len(client.shelved())})
+    yield from metric(
+        "alarms_stale", "gauge", "Alarms annunciated for a day or more.", {"": len(client.stale().alarms)}
+    )
+    yield from metric(
+        "alarms_chattering",
+        "gauge",
+        "Alarms with three annunciations in a minute.",
+        {"": len(client.chattering().alarms)},
+    )
+    floods = client.floods()
+    yield from metric(
+        "alarms_area_annunciations",
+        "gauge",
+        "Annunciations in the last 600 seconds.",
+        by_area(flood.window for flood in floods),
+    )
+    yield from metric(
+        "alarms_area_flooded", "gauge", "Whether the area is flooded.", by_area(int(flood.flooded) for flood in floods)
+    )
+
+
+def of_query(plant: Overview, seconds: float) -> Iterator[str]:
+    """What one query shows."""
+    yield from metric("alarms_query_seconds", "gauge", "Time of a query's round trip.", {"": seconds})
+    yield from metric("alarms_actions_total", "counter", "Accepted actions.", {"": plant.count})
+    yield from metric("alarms_moment_seconds", "gauge", "The plant's moment.", {"": plant.moment})
+    yield from metric("alarms_configured", "gauge", "Alarms of the plant.", {"": plant.alarms})
+
+
+def at_another_slot(plant: Plant) -> Optional[tuple[Overview, float]]:
+    """What a server shows at the first console's slot that nobody has, and how long that took in seconds; none if it
+    doesn't answer at any.
+    """
+    for slot in reversed(CONSOLES):
+        try:
+            if slot != plant.slot:
+                with Client.connect(plant.place, slot, BRIEFLY) as client:
+                    began = time.perf_counter()
+                    return client.plant(), time.perf_counter() - began
+        except NoAnswer:
+            pass
+        except Lost:
+            return None
+    return None
+
+
+def journal(path: str) -> Iterator[str]:
+    """What the device file shows of its journal."""
+    device = DeviceFile(path)
+    try:
+        head = device.standing()
+        used = used_bytes(device, head)
+    finally:
+        device.close()
+    yield from metric("alarms_journal_bytes", "gauge", "Used bytes of the journal.", {"": used})
+    yield from metric("alarms_journal_size_bytes", "gauge", "Bytes of the journal.", {"": device.segment})
+    yield from metric("alarms_epoch", "gauge", "Epoch of the device: checkpoints and the formatting.", {"": head.epoch})
+
+
+def used_bytes(device: DeviceFile, head: Head) -> int:
+    """How many bytes of a journal the frames take, up to its first damage."""
+    used = 0
+    try:
+        for frame in device.frames(head):
+            used = frame.end
+    except Damaged:
+        pass
+    return used
+
+
+class Soundness:
+    """Whether a device is damaged. It is read again only once ten times as long has passed as that takes."""
+
+    def __init__(self, path: str):
+        self.path, self.due = path, 0.0
+
+    def read(self) -> Reading:
+        began = time.monotonic()
+        if began >= self.due:
+            self.reading = read_device(self.path)
+            self.due = began + 10 * (time.monotonic() - began)
+        return self.reading
+
+    def lines(self) -> Iterator[str]:
+        """1 for each place that is damaged, else 0."""
+        places = {f'{{half="{wrong.half}",at="{wrong.at}"}}': 1.0 for wrong in self.read().wrong()}
+        yield from metric(
+            "alarms_device_damaged", "gauge", "Whether bytes of the device are damaged, and where.", places or {"": 0}
+        )
+
+
+class Exporter(http.server.ThreadingHTTPServer):
+    """Answers /metrics. Each client has a thread, and the plant is asked for one after the other."""
+
+    def __init__(self, listen: int, plant: Plant, device: Optional[str]):
+        super().__init__((HOST, listen), Handler)
+        self.plant, self.device = plant, device
+        self.soundness, self.tally = (Soundness(device), Tally(device)) if device else (None, None)
+        self.asking = threading.Lock()
+        self.moment, self.moved = -1, 0.0
+        self.fault: Optional[Exception] = None
+
+    def page(self) -> str:
+        """All metrics, as they are at the moment."""
+        with self.asking:
+            lines, up, taken = self.plant_lines()
+            lines += self.counters()
+        for of_device in (self.soundness.lines(), journal(self.device)) if self.soundness and self.device else ():
+            try:
+                lines += of_device
+            except (NoDevice, OSError):
+                pass
+        head = [
+            *metric("alarms_up", "gauge", "Whether the server answers.", {"": up}),
+            *metric(
+                "alarms_slot_taken",
+                "gauge",
+                "Whether another client has the slot at which metrics are asked.",
+                {"": taken},
+            ),
+        ]
+        return "\n".join([*head, *lines]) + "\n"
+
+    def plant_lines(self) -> tuple[list[str], int, int]:
+        """What the plant shows, whether the server answers, and whether another client has the slot."""
+        try:
+            with self.plant.connect() as client:
+                return [*shown(client), *self.seen(client.plant())], 1, 0
+        except NoAnswer:
+            found = at_another_slot(self.plant)
+            return ([*of_query(*found), *self.seen(found[0])], 1, 1) if found else ([], 0, 0)
+        except (Lost, Refused):
+            return [], 0, 0
+
+    def seen(self, plant: Overview) -> Iterator[str]:
+        """Takes note of the plant's count and moment."""
+        if self.tally:
+            self.tally.look(plant.count)
+        yield from self.still(plant.moment)
+
+    def counters(self) -> Iterator[str]:
+        """What was counted so far in the device's file."""
+        for name, page, samples in self.tally.samples() if self.tally else ():
+            yield from metric(name, "counter", page, samples)
+
+    def still(self, moment: int) -> Iterator[str]:
+        """For how long the plant's moment hasn't been seen to move: no clock runs, or the server can't store."""
+        if moment != self.moment:
+            self.moment, self.moved = moment, time.monotonic()
+        yield from metric(
+            "alarms_clock_still_seconds",
+            "gauge",
+            "Time since the plant's moment was seen to move.",
+            {"": time.monotonic() - self.moved},
+        )
+
+    def stop(self, fault: Exception) -> None:
+        """Ends the exporter, since what it would say is of another plant."""
+        self.fault = fault
+        self.shutdown()
+
+
+class Handler(http.server.BaseHTTPRequestHandler):
+    """A client of the exporter."""
+
+    server: Exporter
+    timeout = SILENCE
+
+    def do_GET(self) -> None:
+        if self.path != "/metrics":
+            self.send_error(404)
+            return
+        try:
+            body = self.server.page().encode("ascii")
+        except (OtherPlant, NoTable) as fault:
+            self.send_error(503)
+            self.server.stop(fault)
+            return
+        self.send_response(200)
+        self.send_header("Content-Type", "text/plain; version=0.0.4; charset=utf-8")
+        self.send_header("Content-Length", str(len(body)))
+        self.end_headers()
+        self.wfile.write(body)
+
+    def log_message(self, *_: object) -> None:
+        pass
+
+
+def main() -> None:
+    words = new_parser(__doc__)
+    add_port(words)
+    words.add_argument(
+        "--listen",
+        type=listen_port,
+        default=9464,
+        metavar="PORT",
+        help="the port of this exporter, on loopback; 0 for any that is free",
+    )
+    add_slot(words, 15)
+    words.add_argument("--device", help="the device file, for the journal")
+    add_table(words)
+    chosen = words.parse_args()
+    try:
+        exporter = Exporter(chosen.listen, Plant(chosen.port, chosen.slot, chosen.table, names=False), chosen.device)
+    except (NoTable, OSError) as error:
+        sys.exit(f"metrics: {error}")
+    print(f"metrics: http://{HOST}:{exporter.server_port}/metrics", file=sys.stderr, flush=True)
+    try:
+        exporter.serve_forever()
+    except KeyboardInterrupt:
+        pass
+    sys.exit(f"metrics: {exporter.fault}" if exporter.fault else None)
+
+
+if __name__ == "__main__":
+    main()
