@@ -1,5 +1,7 @@
 //! A wire that gives and takes a few bytes in a call.
 
+ghost use Rattle.std.specs.Prelude.{◌≤◌, vec_len};
+
 use alm_session::{ReadGave, Wire, WriteTook};
 
 /// A wire that gives and takes at most a number of bytes in a call, and is blocked before each call that it serves.
@@ -15,6 +17,7 @@ pub struct PieceWire {
     blocked_reads: u64,
     blocked_writes: u64,
     failed: u64,
+    ghost within: { at ≤ vec_len input },
 }
 
 impl PieceWire {
@@ -64,15 +67,13 @@ impl Wire for PieceWire {
             self.blocked_reads = self.blocked_reads.saturating_add(1);
             return ReadGave::Blocked;
         }
-        let Some(rest) = self.input.get(self.at..) else {
-            return ReadGave::End;
-        };
+        let rest = &self.input[self.at..];
         let count = rest.len().min(into.len()).min(self.piece);
         if count == 0 {
             return ReadGave::End;
         }
         into[..count].copy_from_slice(&rest[..count]);
-        self.at = self.at.saturating_add(count);
+        self.at += count;
         ReadGave::Got(count)
     }
 
