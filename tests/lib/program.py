@@ -18,7 +18,7 @@ from .places import EXAMPLES, TESTS
 PLANT = str(EXAMPLES / "plant.toml")
 
 # What drawn lines ask besides actions.
-QUERIES = ["LIST P 1", "LIST A 0", "STATE 0", "CHATTER", "NOTHING", "FLOOD 1", "ATTR 1", "PLANT"]
+QUERIES = ["LIST P 1", "LIST A 0", "STATE 0", "CHATTER", "NOTHING", "FLOOD 1", "ATTR 1", "ROW 1", "PLANT"]
 
 # Where the first of a server's ports is looked for: below those that the system gives to clients.
 PORTS = (10_000, 32_000)

@@ -70,7 +70,7 @@ LEADING = re.compile(rb"(0|[1-9]\d{0,9})(?: |$)", re.DOTALL)
 NUM = rb"(?:0|[1-9]\d*)"
 REQUEST = re.compile(
     rb"(?P<id>NUM) (?:"
-    rb"(?P<one>ACK|RESET|UNSHELVE|STATE|ATTR) (?P<alarm>NUM)"
+    rb"(?P<one>ACK|RESET|UNSHELVE|STATE|ATTR|ROW) (?P<alarm>NUM)"
     rb"|(?P<shelve>SHELVE) (?P<shelved>NUM) (?P<secs>NUM)"
     rb"|(?P<flag>OOS|DESIGN) (?P<flagged>NUM) (?P<how>ON|OFF)"
     rb"|(?P<prio>PRIO) (?P<ranked>NUM) (?P<rank>NUM)"
@@ -177,6 +177,8 @@ def read_query(word, found):
     lists = {b"P": (1, 4), b"A": (0, 1), b"S": (0, 255)}
     if word == b"ATTR":
         return rb"ATTR \d+ [^\n]+"
+    if word == b"ROW":
+        return rb"ROW \d+ [A-Z]{4,5} [01] (?:-|O?D?S?) (?:-|\d+) \d+ [1-4] -?\d+ (?:0|1 \d+|2(?: \d+){2}|3(?: \d+){3})"
     if word == b"PLANT":
         return rb"PLANT \d+ \d+ 4 2"
     low, high = lists[found["which"]] if found["which"] else (0, 1)
@@ -224,7 +226,9 @@ def draw_request(dice):
             "CHATTER",
             "PLANT",
             "ATTR",
-            "ATTR",
+            "ROW",
+            "ROW",
+            "ROW",
         ]
     )
     fields = [word]
@@ -326,6 +330,7 @@ def main():
                 sys.exit(f"lines: {answer}")
             good, seen = good + answer[0], seen | answer[1]
     queries = {(b"ATTR", b"ATTR"), (b"ATTR", b"NO 1"), (b"PLANT", b"PLANT")}
+    queries |= {(b"ROW", b"ROW"), (b"ROW", b"NO 1")}
     missing = ({(word, how) for word in ACTIONS for how in outcomes(word)} | queries) - seen
     if missing:
         sys.exit(f"lines: never seen: {sorted(missing)}")

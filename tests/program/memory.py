@@ -207,8 +207,7 @@ class Steady:
         all_of_them, replies = self.desk_requests(lines, body)
         kinds = collections.Counter(reply.split()[2] for reply in replies[400:])
         check(
-            min(kinds[word] for word in (b"OK", b"NO", b"STATE", b"LIST", b"FLOOD", b"CHATTER", b"PLANT", b"ATTR"))
-            >= self.more // 400,
+            min(kinds[word] for word in b"OK NO STATE LIST FLOOD CHATTER PLANT ATTR ROW".split()) >= self.more // 400,
             "too few of",
             kinds,
         )

@@ -190,3 +190,9 @@ class Plant:
 
     def look_attr(self, _words, numbers):
         return self.alarms[numbers[0]].attributes()
+
+    def look_row(self, words, numbers):
+        alarm = self.alarms[numbers[0]]
+        stamp = alarm.order if alarm.asks or alarm.until is not None else 0
+        limits = [stamp, alarm.priority, alarm.setpoint]
+        return [*self.look_state(words, numbers), *limits, len(alarm.moments), *reversed(alarm.moments)]

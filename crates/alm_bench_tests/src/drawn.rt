@@ -72,7 +72,7 @@ fn sender(drawn: u64, action: &Action) -> Result<Slot, Fail> {
 }
 
 fn query(drawn: u64) -> Query {
-    match below(drawn, 20, 9) {
+    match below(drawn, 20, 10) {
         0 => Query::State(AlarmId(below(drawn, 8, 5))),
         1 => Query::Priority(below(drawn, 8, 6)),
         2 => Query::Flood(below(drawn, 8, 3)),
@@ -81,6 +81,7 @@ fn query(drawn: u64) -> Query {
         5 => Query::Chatter,
         6 => Query::Plant,
         7 => Query::Attributes(AlarmId(below(drawn, 8, 5))),
+        8 => Query::Row(AlarmId(below(drawn, 8, 5))),
         _ => Query::Wheel(below(drawn, 8, 300)),
     }
 }

@@ -79,7 +79,9 @@ fn lines(alloc: Global) -> Result<Vec<Line>, AllocError> {
 /// Whether the worked table has what a query asks for.
 fn exists(query: &Query) -> bool {
     match query {
-        Query::State(AlarmId(alarm)) | Query::Attributes(AlarmId(alarm)) => *alarm < 4,
+        Query::State(AlarmId(alarm))
+        | Query::Attributes(AlarmId(alarm))
+        | Query::Row(AlarmId(alarm)) => *alarm < 4,
         Query::Priority(priority) => *priority >= 1 && *priority <= 4,
         Query::Area(area) => *area < 2,
         Query::Flood(area) => *area < 2,

@@ -1,19 +1,35 @@
 -- What the queries report.
-use Rattle.std.proofs.Common.{◌≡◌, ℕ, Bool, List, Some, None, Ok, Err, sum, ap, ◌∙◌}
+use Rattle.std.proofs.Common.{◌≡◌, ℕ, Bool, List, Option, Some, None, Ok, Err, sum, take, refl, ap, ◌∙◌}
 use Rattle.std.specs.Prelude.{slice_get}
 use Rattle.alm_types.specs.declared.alarm_id.AlarmId.{AlarmId}
 use Rattle.alm_types.specs.declared.attr.Attr.{Attr}
 use Rattle.alm_types.specs.declared.query.Query.TheVariants as query
 use Rattle.alm_types.specs.declared.refusal.Refusal.TheVariants.{NoSuchAlarm}
-use Rattle.alm_types.specs.Reports.{flood, attributes}
+use Rattle.alm_types.specs.Reports.{flood, attributes, row}
+use Rattle.alm_state.specs.Rows.{State}
+use Rattle.alm_state.specs.Showing.{shown_of}
 use Rattle.alm_model.specs.Plant.{Condensed}
-use Rattle.alm_model.specs.Look.{look, state_report, flood_report, attributes_report}
+use Rattle.alm_model.specs.Look.{look, state_report, flood_report, attributes_report, row_report, row_of}
+use Rattle.alm_model.specs.Lists.{moments_in}
+use Rattle.alm_laws.specs.Shown.{flags_shown}
 
 pub flood-reported : (q : Condensed) (area : ℕ) (ages : List ℕ) (on : Bool) → slice_get q.kept.ages area ≡ Some ages → slice_get q.floods area ≡ Some on → look q (query.Flood area) ≡ Ok (flood (sum ages) on)
 flood-reported q area ages on e f = ap (λ o. flood_report o (slice_get q.floods area)) e ∙ ap (flood_report (Some ages)) f
 
 pub attributes-reported : (q : Condensed) (i : AlarmId) (a : Attr) → slice_get q.panel.attrs i.0 ≡ Some a → look q (query.Attributes i) ≡ Ok (attributes (Some a))
 attributes-reported q i a e = ap attributes_report e
+
+row-shown : (o : Option State) (p : Option Attr) (m : Option (List ℕ)) (s : State) (a : Attr) (moments : List ℕ) → o ≡ Some s → p ≡ Some a → m ≡ Some moments
+    → row_report o p (moments_in m) ≡ Ok (row (Some (row_of s a moments)))
+row-shown o p m s a moments e f g = rw (e, f, g) refl
+
+pub row-reported : (q : Condensed) (i : AlarmId) (s : State) (a : Attr) (moments : List ℕ) → slice_get q.panel.rows i.0 ≡ Some s → slice_get q.panel.attrs i.0 ≡ Some a
+    → slice_get q.kept.moments i.0 ≡ Some moments
+    → look q (query.Row i) ≡ Ok (row (Some record { shown = shown_of s; active = s.active; flags = flags_shown s; until = s.shelved_until; stamp = s.stamp; priority = a.priority; setpoint = a.setpoint; moments = take 3 moments }))
+row-reported q i s a moments e f g = row-shown _ _ _ s a moments e f g
+
+pub row-refused : (q : Condensed) (i : AlarmId) → slice_get q.panel.rows i.0 ≡ None → look q (query.Row i) ≡ Err NoSuchAlarm
+row-refused q i e = ap (λ o. row_report o (slice_get q.panel.attrs i.0) (moments_in (slice_get q.kept.moments i.0))) e
 
 pub state-refused : (q : Condensed) (i : AlarmId) → slice_get q.panel.rows i.0 ≡ None → look q (query.State i) ≡ Err NoSuchAlarm
 state-refused q i e = ap state_report e

@@ -1,12 +1,12 @@
 //! Laws of what is shown of an alarm.
 
-ghost use Rattle.std.specs.Prelude.{◌≡◌, ◌↔◌, ℕ, Bool, List, Some, None, Ok, Err, slice_get, sum, length};
+ghost use Rattle.std.specs.Prelude.{◌≡◌, ◌↔◌, ℕ, Bool, List, Some, None, Ok, Err, slice_get, sum, length, take};
 ghost use Rattle.alm_types.specs.declared.alarm_id.AlarmId.{AlarmId};
 ghost use Rattle.alm_types.specs.declared.attr.Attr.{Attr};
 ghost use Rattle.alm_types.specs.declared.query.Query.TheVariants as query;
 ghost use Rattle.alm_types.specs.declared.refusal.Refusal.TheVariants.{NoSuchAlarm};
 ghost use Rattle.alm_types.specs.declared.shown.Shown.{Shown};
-ghost use Rattle.alm_types.specs.Reports.{alarm, alarms, flood, plant, attributes};
+ghost use Rattle.alm_types.specs.Reports.{alarm, alarms, flood, plant, attributes, row};
 ghost use Rattle.alm_state.specs.Rows.{State};
 ghost use Rattle.alm_state.specs.Showing.{shown_of};
 ghost use Rattle.alm_model.specs.Plant.{Condensed};
@@ -24,7 +24,8 @@ pub fn an_alarm_is_shown_as_it_is()
 {}
 
 /// FLOOD reports the window and the flag of an area, PLANT the moment and the sizes, ATTR the attributes in force, STALE and CHATTER all of
-/// their lists. STATE of an alarm that isn't there is refused.
+/// their lists. ROW reports what STATE does, with the stamp, the priority and the setpoint in force, and the moments of the last three
+/// annunciations. STATE and ROW of an alarm that isn't there are refused.
 pub fn queries_report_the_plant()
     ensures flood { (q : Condensed) (area : ℕ) (ages : List ℕ) (on : Bool) →
         slice_get q.kept.ages area ≡ Some ages → slice_get q.floods area ≡ Some on →
@@ -34,8 +35,21 @@ pub fn queries_report_the_plant()
     ensures attributes { (q : Condensed) (i : AlarmId) (a : Attr) →
         slice_get q.panel.attrs i.0 ≡ Some a →
         look q (query.Attributes i) ≡ Ok (attributes (Some a)) }
+    ensures row { (q : Condensed) (i : AlarmId) (s : State) (a : Attr) (moments : List ℕ) →
+        slice_get q.panel.rows i.0 ≡ Some s → slice_get q.panel.attrs i.0 ≡ Some a →
+        slice_get q.kept.moments i.0 ≡ Some moments →
+        look q (query.Row i) ≡ Ok (row (Some record {
+          shown = shown_of s;
+          active = s.active;
+          flags = flags_shown s;
+          until = s.shelved_until;
+          stamp = s.stamp;
+          priority = a.priority;
+          setpoint = a.setpoint;
+          moments = take 3 moments;
+        })) }
     ensures stale { (q : Condensed) → look q query.Stale ≡ Ok (alarms (list_of Stale q)) }
     ensures chatter { (q : Condensed) → look q query.Chatter ≡ Ok (alarms (list_of Chatter q)) }
     ensures refused { (q : Condensed) (i : AlarmId) → slice_get q.panel.rows i.0 ≡ None →
-        look q (query.State i) ≡ Err NoSuchAlarm }
+        (look q (query.State i) ≡ Err NoSuchAlarm) × (look q (query.Row i) ≡ Err NoSuchAlarm) }
 {}

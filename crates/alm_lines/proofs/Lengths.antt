@@ -6,7 +6,7 @@ use Rattle.std.proofs.lemmas.Fmt.{length-decimal-le}
 use Rattle.alm_types.specs.declared.action.Action.{Action}
 use Rattle.alm_types.specs.declared.action.Action.TheVariants.{Clock, Value, Ack, Reset, Shelve, Unshelve, Oos, Design, SetPriority, SetSetpoint}
 use Rattle.alm_types.specs.declared.query.Query.{Query}
-use Rattle.alm_types.specs.declared.query.Query.TheVariants.{State, Priority, Area, Wheel, Flood, Stale, Chatter, Plant, Attributes}
+use Rattle.alm_types.specs.declared.query.Query.TheVariants.{State, Priority, Area, Wheel, Flood, Stale, Chatter, Plant, Attributes, Row}
 use Rattle.alm_types.specs.Actions.{IsAction}
 use Rattle.alm_types.specs.Readings.{IsReading}
 use Rattle.alm_lines.specs.declared.ask.Ask.{Ask}
@@ -61,6 +61,7 @@ query-length Stale h = omega arith
 query-length Chatter h = omega arith
 query-length Plant h = omega arith
 query-length (Attributes i) h = one-length (codes "ATTR") (decimal i.0) (omega arith) (omega (arith, alarm-length i.0 h))
+query-length (Row i) h = one-length (codes "ROW") (decimal i.0) (omega arith) (omega (arith, alarm-length i.0 h))
 
 ask-length : (ask : Ask) → IsAskInRange ask → length (ask_text ask) ≤ 60
 ask-length (Act action) h = action-length action h

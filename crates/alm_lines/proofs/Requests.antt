@@ -12,7 +12,7 @@ use Rattle.alm_types.specs.declared.action.Action.{Action}
 use Rattle.alm_types.specs.declared.action.Action.TheVariants.{Clock, Value, Ack, Reset, Shelve, Unshelve, Oos, Design, SetPriority, SetSetpoint}
 use Rattle.alm_types.specs.declared.refusal.Refusal.TheVariants.{BadLine}
 use Rattle.alm_types.specs.declared.query.Query.{Query}
-use Rattle.alm_types.specs.declared.query.Query.TheVariants.{State, Priority, Area, Wheel, Flood, Stale, Chatter, Plant, Attributes}
+use Rattle.alm_types.specs.declared.query.Query.TheVariants.{State, Priority, Area, Wheel, Flood, Stale, Chatter, Plant, Attributes, Row}
 use Rattle.alm_lines.specs.declared.ask.Ask.{Ask}
 use Rattle.alm_lines.specs.declared.ask.Ask.TheVariants.{Act, Look, Bad}
 use Rattle.alm_lines.specs.Line.{number, word, alarm, moment_in, negative, reading_from, same, switch, cut_at_space, of_none, of_one, of_letter, of_two, of_fields, of_rest, ask_in, line_under, line_of}
@@ -70,7 +70,8 @@ taken-one name first =
     (λ _. pick (same name (codes "STATE")) _ _ text (one-alarm (λ i. Look (State i)) (codes "STATE") name first (word first) refl (λ i. refl))
     (λ _. pick (same name (codes "FLOOD")) _ _ text (one-number (2 ^ 32) (λ n. Look (Flood n)) (codes "FLOOD") name first (word first) refl small (λ n. refl))
     (λ _. pick (same name (codes "ATTR")) _ _ text (one-alarm (λ i. Look (Attributes i)) (codes "ATTR") name first (word first) refl (λ i. refl))
-    (λ _. nothing text)))))))
+    (λ _. pick (same name (codes "ROW")) _ _ text (one-alarm (λ i. Look (Row i)) (codes "ROW") name first (word first) refl (λ i. refl))
+    (λ _. nothing text))))))))
 
 -- an alarm and a second field of some kind
 two-alarm : {A : Type 0} (f : AlarmId → A → Ask) (w name first second : List ℕ) (spell : A → List ℕ) (o : Option ℕ) (p : Option A)
@@ -250,6 +251,7 @@ query-read Stale h = refl
 query-read Chatter h = refl
 query-read Plant h = refl
 query-read (Attributes i) h = rw (cut-spaced (codes "ATTR") (decimal i.0) refl, cut-alone (decimal i.0) (spaceless-decimal i.0 (omega (arith, h))), alarm-read i h) refl
+query-read (Row i) h = rw (cut-spaced (codes "ROW") (decimal i.0) refl, cut-alone (decimal i.0) (spaceless-decimal i.0 (omega (arith, h))), alarm-read i h) refl
 
 ask-read : (ask : Ask) → IsAskInRange ask → ask_in (Some (ask_text ask)) ≡ Some ask
 ask-read (Act action) h = action-read action h

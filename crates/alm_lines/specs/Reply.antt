@@ -1,6 +1,7 @@
 -- Reply lines.
-use Rattle.std.specs.Prelude.{ℕ, List, [], ◌∷◌, ◌++◌, Bool, Option, Some, None, length, codes, decimal, if◌then◌else◌, ◌==◌}
+use Rattle.std.specs.Prelude.{ℕ, List, [], ◌∷◌, ◌++◌, Bool, Option, Some, None, length, map, codes, decimal, if◌then◌else◌, ◌==◌}
 use Rattle.std.specs.List.{flat_map}
+use Rattle.alm_types.specs.declared.alarm_row.AlarmRow.{AlarmRow}
 use Rattle.alm_types.specs.declared.attr.Attr.{Attr}
 use Rattle.alm_types.specs.declared.kind.Kind.{Kind}
 use Rattle.alm_types.specs.declared.kind.Kind.TheVariants.{High, Low, Discrete}
@@ -9,8 +10,8 @@ use Rattle.alm_types.specs.declared.refusal.Refusal.{Refusal}
 use Rattle.alm_types.specs.declared.shown.Shown.{Shown}
 use Rattle.alm_types.specs.declared.shown.Shown.TheVariants.{OutOfService, ByDesign, Shelved, Normal, Unack, Acked, RtnUnack, LatchUnack, LatchAcked}
 use Rattle.alm_types.specs.declared.query.Query.{Query}
-use Rattle.alm_types.specs.declared.query.Query.TheVariants.{State, Priority, Area, Wheel, Flood, Stale, Chatter, Plant, Attributes}
-use Rattle.alm_types.specs.Reports.{Report, alarm, flood, alarms, plant, attributes, report}
+use Rattle.alm_types.specs.declared.query.Query.TheVariants.{State, Priority, Area, Wheel, Flood, Stale, Chatter, Plant, Attributes, Row}
+use Rattle.alm_types.specs.Reports.{Report, alarm, flood, alarms, plant, attributes, row, report}
 use Rattle.std.specs.Fmt.{signed_decimal}
 use Rattle.alm_lines.specs.Texts.{switch_text}
 use Rattle.alm_lines.specs.declared.reply.Reply.{Reply}
@@ -64,6 +65,7 @@ query_word Stale = codes " STALE "
 query_word Chatter = codes " CHATTER "
 query_word Plant = codes " PLANT "
 query_word (Attributes i) = codes " ATTR "
+query_word (Row i) = codes " ROW "
 
 -- the word of a kind
 abbrev pub kind_word : Kind → List ℕ
@@ -91,6 +93,12 @@ attributes_text a =
     fields (kind_word a.kind ∷ signed_decimal a.setpoint ∷ decimal a.deadband ∷ decimal a.priority ∷ decimal a.area ∷ decimal a.max_shelve
     ∷ switch_text a.latching ∷ a.tag ∷ text_field a.text)
 
+-- the row of an alarm: what STATE tells, its stamp, the limits in force, and its last moments behind their number
+abbrev pub row_text : AlarmRow → List ℕ
+row_text r =
+    fields (shown_word r.shown ∷ decimal (digit r.active) ∷ letters r.flags ∷ deadline_text r.until ∷ decimal r.stamp ∷ decimal r.priority
+    ∷ signed_decimal r.setpoint ∷ decimal (length r.moments) ∷ map decimal r.moments)
+
 -- what follows the count, without the line's end
 abbrev pub report_text : Report → List ℕ
 report_text (alarm shown active flags until) =
@@ -100,6 +108,8 @@ report_text (alarms list) = codes " " ++ decimal (length list) ++ with_spaces li
 report_text (plant now rows areas) = codes " " ++ decimal now ++ codes " " ++ decimal rows ++ codes " " ++ decimal areas
 report_text (attributes (Some a)) = attributes_text a
 report_text (attributes None) = codes " -"
+report_text (row (Some r)) = row_text r
+report_text (row None) = codes " -"
 
 -- an accepted action, by its number
 abbrev pub ok_text : ℕ → ℕ → List ℕ

@@ -4,7 +4,7 @@ use Rattle.alm_types.specs.Actions.{IsAction}
 use Rattle.alm_types.specs.declared.action.Action.{Action}
 use Rattle.alm_types.specs.declared.action.Action.TheVariants.{Clock, Value, Ack, Reset, Shelve, Unshelve, Oos, Design, SetPriority, SetSetpoint}
 use Rattle.alm_types.specs.declared.query.Query.{Query}
-use Rattle.alm_types.specs.declared.query.Query.TheVariants.{State, Priority, Area, Wheel, Flood, Stale, Chatter, Plant, Attributes}
+use Rattle.alm_types.specs.declared.query.Query.TheVariants.{State, Priority, Area, Wheel, Flood, Stale, Chatter, Plant, Attributes, Row}
 use Rattle.alm_lines.specs.declared.ask.Ask.{Ask}
 use Rattle.alm_lines.specs.declared.ask.Ask.TheVariants.{Act, Look, Bad}
 
@@ -47,6 +47,7 @@ query_text Stale = codes "STALE"
 query_text Chatter = codes "CHATTER"
 query_text Plant = codes "PLANT"
 query_text (Attributes i) = with_one (codes "ATTR") (decimal i.0)
+query_text (Row i) = with_one (codes "ROW") (decimal i.0)
 
 -- what follows the id and its space; a line that asks nothing has no such text
 abbrev pub ask_text : Ask → List ℕ
@@ -69,6 +70,7 @@ IsQueryInRange Stale = Unit {0}
 IsQueryInRange Chatter = Unit {0}
 IsQueryInRange Plant = Unit {0}
 IsQueryInRange (Attributes i) = i.0 < 2 ^ 32
+IsQueryInRange (Row i) = i.0 < 2 ^ 32
 
 -- a line asks for an action or a query, in range
 abbrev pub IsAskInRange : Ask → Type 0

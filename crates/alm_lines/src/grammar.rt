@@ -106,6 +106,9 @@ fn of_one(name: &[u8], first: &[u8]) -> Option<Ask>
     if name == b"ATTR".as_slice() {
         return Some(Ask::Look(Query::Attributes(alarm(first)?)));
     }
+    if name == b"ROW".as_slice() {
+        return Some(Ask::Look(Query::Row(alarm(first)?)));
+    }
     None
 }
 

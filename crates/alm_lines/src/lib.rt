@@ -11,7 +11,7 @@
 //! <id> STATE <alarm>          <id> LIST P|A|S <number>
 //! <id> FLOOD <area>           <id> STALE
 //! <id> CHATTER                <id> PLANT
-//! <id> ATTR <alarm>
+//! <id> ATTR <alarm>           <id> ROW <alarm>
 //! ```
 //!
 //! `id`, `alarm`, `secs`, `num`, `number` and `area` are decimal digits up to 4294967295 without a leading zero; `moment` is
@@ -41,6 +41,7 @@ mod numbers;
 mod part;
 mod printing;
 mod reply;
+mod rows;
 mod short_text;
 mod writing;
 
@@ -54,4 +55,5 @@ pub use numbers::number;
 pub use part::{Part, put_parts};
 pub use printing::{letters, print_reply, print_told, query_word, shown_word};
 pub use reply::Reply;
+pub use rows::{ROW_PARTS, row_parts};
 pub use writing::put;

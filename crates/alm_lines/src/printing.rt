@@ -1,7 +1,7 @@
 //! The texts of replies.
 
 ghost use Rattle.std.specs.Prelude.{◌≡◌, ◌++◌};
-ghost use Rattle.alm_types.specs.Reports.{report, alarms, attributes};
+ghost use Rattle.alm_types.specs.Reports.{report, alarms, attributes, row};
 ghost use Rattle.alm_lines.specs.Parts.{part_text, text_of_parts};
 ghost use Rattle.alm_lines.specs.Reply.{text_of, shown_word, letters, query_word, told_text, report_text, with_spaces, deadline_text};
 ghost use Rattle.alm_lines.specs.Written.{Prints};
@@ -9,6 +9,7 @@ ghost use Rattle.alm_lines.specs.Written.{Prints};
 use crate::attributes::attribute_parts;
 use crate::part::{Part, put_each, put_parts};
 use crate::reply::Reply;
+use crate::rows::row_parts;
 use crate::short_text::ShortText;
 use crate::writing::put;
 use alm_types::{Answer, Query, Shown};
@@ -59,11 +60,12 @@ pub fn query_word(query: Query) -> &'static str
         Query::Chatter => " CHATTER ",
         Query::Plant => " PLANT ",
         Query::Attributes(_) => " ATTR ",
+        Query::Row(_) => " ROW ",
     }
 }
 
 /// The end of a shelving, if there is one.
-fn deadline_part(until: Option<u64>) -> Part<'static>
+pub fn deadline_part(until: Option<u64>) -> Part<'static>
     ensures { part_text result ≡ deadline_text until }
 {
     match until {
@@ -100,6 +102,19 @@ fn print_attributes<W: io::Write>(answer: &Answer, writer: &mut W) -> io::Result
 {
     match &answer.attr {
         Some(attr) => put_each(&attribute_parts(attr), writer),
+        None => put(b" -", writer),
+    }
+}
+
+/// Prints an alarm's row. It is a function of its own, since inlined the room for its parts would cost each other reply
+/// time.
+#[inline(never)]
+fn print_row<W: io::Write>(answer: &Answer, writer: &mut W) -> io::Result<()>
+    ensures { Prints (W.contents writer.old) (W.contents writer.new)
+        (report_text (row answer.now.row)) result }
+{
+    match &answer.row {
+        Some(row) => put_each(&row_parts(row), writer),
         None => put(b" -", writer),
     }
 }
@@ -147,6 +162,7 @@ fn print_report<W: io::Write>(query: Query, answer: &Answer, writer: &mut W) -> 
             writer,
         ),
         Query::Attributes(_) => print_attributes(answer, writer),
+        Query::Row(_) => print_row(answer, writer),
     }
 }
 

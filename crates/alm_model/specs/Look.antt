@@ -1,17 +1,18 @@
 -- What a plant answers to a query.
-use Rattle.std.specs.Prelude.{◌≡◌, ◌<◌, ℕ, List, Bool, true, false, Option, Some, None, Result, Ok, Err, slice_get, length, vec_capacity, sum, if◌then◌else◌}
+use Rattle.std.specs.Prelude.{◌≡◌, ◌<◌, ℕ, List, Bool, true, false, Option, Some, None, Result, Ok, Err, slice_get, length, take, vec_capacity, sum, if◌then◌else◌}
 use Rattle.alm_types.specs.declared.refusal.Refusal.{Refusal}
 use Rattle.alm_types.specs.declared.refusal.Refusal.TheVariants.{NoSuchAlarm, NoSuchList, OutOfMemory}
 use Rattle.alm_types.specs.declared.query.Query.{Query}
-use Rattle.alm_types.specs.declared.query.Query.TheVariants.{State, Priority, Area, Wheel, Flood, Stale, Chatter, Plant, Attributes}
+use Rattle.alm_types.specs.declared.query.Query.TheVariants.{State, Priority, Area, Wheel, Flood, Stale, Chatter, Plant, Attributes, Row}
 use Rattle.alm_types.specs.declared.answer.Answer.{Answer}
+use Rattle.alm_types.specs.declared.alarm_row.AlarmRow.{AlarmRow}
 use Rattle.alm_types.specs.declared.attr.Attr.{Attr}
-use Rattle.alm_types.specs.Reports.{Report, report, flood, alarms, plant, attributes}
+use Rattle.alm_types.specs.Reports.{Report, report, flood, alarms, plant, attributes, row}
 use Rattle.alm_types.specs.Counts.{one_more}
 use Rattle.alm_state.specs.Rows.{State as RowState}
-use Rattle.alm_state.specs.Showing.{report_of}
+use Rattle.alm_state.specs.Showing.{report_of, shown_of, flags_of}
 use Rattle.alm_model.specs.Plant.{Condensed}
-use Rattle.alm_model.specs.Lists.{exists, list_of}
+use Rattle.alm_model.specs.Lists.{exists, list_of, moments_in}
 use Rattle.alm_model.specs.declared.list.List.{List as Choice}
 use Rattle.alm_model.specs.declared.list.List.TheVariants as choice
 
@@ -26,6 +27,7 @@ asks_list Stale = Some choice.Stale
 asks_list Chatter = Some choice.Chatter
 asks_list Plant = None
 asks_list (Attributes i) = None
+asks_list (Row i) = None
 
 abbrev pub state_report : Option RowState → Result Report Refusal
 state_report None = Err NoSuchAlarm
@@ -44,6 +46,23 @@ abbrev pub attributes_report : Option Attr → Result Report Refusal
 attributes_report None = Err NoSuchAlarm
 attributes_report (Some a) = Ok (attributes (Some a))
 
+-- the row of an alarm in this state, with these attributes and moments
+abbrev pub row_of : RowState → Attr → List ℕ → AlarmRow
+row_of s a moments = record {
+  shown = shown_of s;
+  active = s.active;
+  flags = flags_of s;
+  until = s.shelved_until;
+  stamp = s.stamp;
+  priority = a.priority;
+  setpoint = a.setpoint;
+  moments = take 3 moments;
+}
+
+abbrev pub row_report : Option RowState → Option Attr → List ℕ → Result Report Refusal
+row_report (Some s) (Some a) moments = Ok (row (Some (row_of s a moments)))
+row_report _ _ _ = Err NoSuchAlarm
+
 -- what a plant reports, or why not
 abbrev pub look : Condensed → Query → Result Report Refusal
 look q (State i) = state_report (slice_get q.panel.rows i.0)
@@ -55,6 +74,7 @@ look q Stale = list_report choice.Stale q
 look q Chatter = list_report choice.Chatter q
 look q Plant = Ok (plant q.panel.now (length q.panel.rows) (length q.floods))
 look q (Attributes i) = attributes_report (slice_get q.panel.attrs i.0)
+look q (Row i) = row_report (slice_get q.panel.rows i.0) (slice_get q.panel.attrs i.0) (moments_in (slice_get q.kept.moments i.0))
 
 -- the answer's fields on one alarm
 abbrev pub KeepsAlarm : Answer → Answer → Type 0
@@ -77,6 +97,10 @@ KeepsPlant before after = (after.moment ≡ before.moment) × (after.alarms ≡ 
 abbrev pub KeepsAttributes : Answer → Answer → Type 0
 KeepsAttributes before after = after.attr ≡ before.attr
 
+-- the answer's row of an alarm
+abbrev pub KeepsRow : Answer → Answer → Type 0
+KeepsRow before after = after.row ≡ before.row
+
 -- an answer with all fields as before
 pub record IsUnchanged (before after : Answer) : Type 0 where
   pub alarm : KeepsAlarm before after
@@ -84,22 +108,30 @@ pub record IsUnchanged (before after : Answer) : Type 0 where
   pub list : after.list.items ≡ before.list.items
   pub plant : KeepsPlant before after
   pub attributes : KeepsAttributes before after
+  pub row : KeepsRow before after
 
 -- all fields but the list
 abbrev pub KeepsUnlisted : Answer → Answer → Type 0
-KeepsUnlisted before after = KeepsAlarm before after × KeepsFlood before after × KeepsPlant before after × KeepsAttributes before after
+KeepsUnlisted before after =
+    KeepsAlarm before after × KeepsFlood before after × KeepsPlant before after × KeepsAttributes before after × KeepsRow before after
 
 -- what a query doesn't ask for stays
 abbrev pub KeepsOthers : Query → Answer → Answer → Type 0
-KeepsOthers (State i) before after = KeepsFlood before after × KeepsList before after × KeepsPlant before after × KeepsAttributes before after
-KeepsOthers (Flood a) before after = KeepsAlarm before after × KeepsList before after × KeepsPlant before after × KeepsAttributes before after
+KeepsOthers (State i) before after =
+    KeepsFlood before after × KeepsList before after × KeepsPlant before after × KeepsAttributes before after × KeepsRow before after
+KeepsOthers (Flood a) before after =
+    KeepsAlarm before after × KeepsList before after × KeepsPlant before after × KeepsAttributes before after × KeepsRow before after
 KeepsOthers (Priority n) before after = KeepsUnlisted before after
 KeepsOthers (Area n) before after = KeepsUnlisted before after
 KeepsOthers (Wheel n) before after = KeepsUnlisted before after
 KeepsOthers Stale before after = KeepsUnlisted before after
 KeepsOthers Chatter before after = KeepsUnlisted before after
-KeepsOthers Plant before after = KeepsAlarm before after × KeepsFlood before after × KeepsList before after × KeepsAttributes before after
-KeepsOthers (Attributes i) before after = KeepsAlarm before after × KeepsFlood before after × KeepsList before after × KeepsPlant before after
+KeepsOthers Plant before after =
+    KeepsAlarm before after × KeepsFlood before after × KeepsList before after × KeepsAttributes before after × KeepsRow before after
+KeepsOthers (Attributes i) before after =
+    KeepsAlarm before after × KeepsFlood before after × KeepsList before after × KeepsPlant before after × KeepsRow before after
+KeepsOthers (Row i) before after =
+    KeepsAlarm before after × KeepsFlood before after × KeepsList before after × KeepsPlant before after × KeepsAttributes before after
 
 -- a growth was refused that the list of a plant's alarms needs, and there was no other change
 abbrev pub WantsRoom : Condensed → Answer → Answer → Type 0

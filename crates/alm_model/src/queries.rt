@@ -1,11 +1,11 @@
 //! What a plant answers to a query.
 
-ghost use Rattle.alm_types.specs.declared.query.Query.TheVariants.{Attributes};
+ghost use Rattle.alm_types.specs.declared.query.Query.TheVariants.{Attributes, Row};
 ghost use Rattle.alm_model.specs.Look.{IsListed, IsLook};
 
 use crate::alarms::Alarms;
 use crate::list::List;
-use alm_types::{AlarmId, Answer, Query, Refusal};
+use alm_types::{AlarmId, AlarmRow, Answer, LastMoments, Query, Refusal};
 
 /// Fills in a list: `NoSuchList` if it doesn't exist, `OutOfMemory` if its growth was refused.
 fn look_at_list<P: Alarms>(plant: &P, list: List, answer: &mut Answer) -> Result<u64, Refusal>
@@ -32,6 +32,26 @@ fn look_at_attributes<P: Alarms>(
     ensures { IsLook (P.plant plant.now) (Attributes alarm) answer.old answer.new result }
 {
     answer.attr = Some(plant.attr(alarm).ok_or(Refusal::NoSuchAlarm)?);
+    Ok(plant.count())
+}
+
+/// Fills in an alarm's row. It is a function of its own, since inlined its stack frame would cost each other query time.
+#[inline(never)]
+fn look_at_row<P: Alarms>(plant: &P, alarm: AlarmId, answer: &mut Answer) -> Result<u64, Refusal>
+    ensures { IsLook (P.plant plant.now) (Row alarm) answer.old answer.new result }
+{
+    let state = plant.state(alarm).ok_or(Refusal::NoSuchAlarm)?;
+    let attr = plant.attr(alarm).ok_or(Refusal::NoSuchAlarm)?;
+    answer.row = Some(AlarmRow {
+        shown: state.shown(),
+        active: state.active,
+        flags: state.flags(),
+        until: state.shelved_until,
+        stamp: state.stamp,
+        priority: attr.priority,
+        setpoint: attr.setpoint,
+        moments: LastMoments::of(plant.moments(alarm)),
+    });
     Ok(plant.count())
 }
 
@@ -68,5 +88,6 @@ pub fn look<P: Alarms>(plant: &P, query: Query, answer: &mut Answer) -> Result<u
             Ok(plant.count())
         }
         Query::Attributes(alarm) => look_at_attributes(plant, alarm, answer),
+        Query::Row(alarm) => look_at_row(plant, alarm, answer),
     }
 }

@@ -1,6 +1,6 @@
 -- No reply to a query is longer than the room for replies.
 use Rattle.std.proofs.Common.{◌≡◌, inl, inr, ℕ, ◌+◌, ◌*◌, ◌^◌, ◌<◌, ◌≤◌, Bool, true, false, List, [], ◌∷◌, ◌++◌, length, refl, sym, ◌∙◌, arith, Option, Some, None, subst, ℤ, pos, negsuc}
-use Rattle.std.specs.Prelude.{filter, sum, sum_by, slice_get, codes, decimal, Ok, Err, if◌then◌else◌, ◌==◌}
+use Rattle.std.specs.Prelude.{filter, sum, sum_by, slice_get, map, take, codes, decimal, Ok, Err, if◌then◌else◌, ◌==◌}
 use Rattle.std.specs.List.{AllByRecursion, range_with_len}
 use Rattle.std.proofs.lemmas.Fmt.{length-decimal-le, length_signed_le}
 use Rattle.std.proofs.Math.Facts.{leb_yes}
@@ -19,13 +19,14 @@ use Rattle.alm_types.specs.declared.kind.Kind.TheVariants as kind
 use Rattle.alm_types.proofs.Padding.{length-tag, length-text}
 use Rattle.alm_types.specs.Attributes.{deadband_limit}
 use Rattle.alm_types.specs.Readings.{IsReading}
-use Rattle.alm_types.specs.Reports.{Report, flood, alarms, plant, attributes}
+use Rattle.alm_types.specs.declared.alarm_row.AlarmRow.{AlarmRow}
+use Rattle.alm_types.specs.Reports.{Report, flood, alarms, plant, attributes, row}
 use Rattle.alm_types.specs.declared.shown.Shown.{Shown}
 use Rattle.alm_types.specs.declared.shown.Shown.TheVariants as shown
 use Rattle.alm_lists.proofs.Each.{all-filter, all-in_order, all-range, every}
 use Rattle.alm_model.specs.Plant.{Condensed}
-use Rattle.alm_model.specs.Look.{state_report, flood_report, attributes_report}
-use Rattle.alm_model.specs.Rules.{KeepsRules}
+use Rattle.alm_model.specs.Look.{state_report, flood_report, attributes_report, row_report, row_of}
+use Rattle.alm_model.specs.Rules.{KeepsRules, IsAlarm, IsFalling}
 use Rattle.alm_model.proofs.Listed.{listed-few}
 use Rattle.alm_state.specs.Rows.{State}
 use Rattle.alm_state.specs.Suits.{IsAhead}
@@ -37,7 +38,7 @@ use Rattle.alm_model.specs.Lists as lists
 use Rattle.alm_model.specs.declared.list.List.{List as Choice}
 use Rattle.alm_model.specs.declared.list.List.TheVariants as choice
 use Rattle.alm_lines.specs.Texts.{switch_text}
-use Rattle.alm_lines.specs.Reply.{fields, text_field, kind_word, attributes_text, with_spaces, report_text, no_text, told_text, query_word, shown_word, letters, deadline_text, digit}
+use Rattle.alm_lines.specs.Reply.{fields, text_field, kind_word, attributes_text, row_text, with_spaces, report_text, no_text, told_text, query_word, shown_word, letters, deadline_text, digit}
 
 -- each number after a space: six bytes at most
 pub spaced-short : (xs : List ℕ) → AllByRecursion (λ x. x < 16384) xs → length (with_spaces xs) ≤ 6 * length xs
@@ -78,6 +79,7 @@ word-short query.Stale = omega arith
 word-short query.Chatter = omega arith
 word-short query.Plant = omega arith
 word-short (query.Attributes i) = omega arith
+word-short (query.Row i) = omega arith
 
 either-short : (k : ℕ) (b : Bool) (x y : List ℕ) → length x ≤ k → length y ≤ k → length (if b then x else y) ≤ k
 either-short k true x y h j = h
@@ -156,6 +158,46 @@ attributes-short a =
     (fields-short 6 118 (decimal a.max_shelve) latching (length-decimal-le 6 a.max_shelve (omega arith) (omega (arith, a.max_shelve_limit)) (omega (arith, a.max_shelve_limit)))
     (fields-short 3 114 (switch_text a.latching) tag (switch-short a.latching)
     (fields-short 32 81 a.tag (text_field a.text) (length-tag a.tag a.tag_limits) (text-short a.text (length-text a.text a.text_limits)))))))))
+
+-- the moments of a row are its alarm's
+three : (ms : List ℕ) → length ms ≤ 3 → take 3 ms ≡ ms
+three [] few = refl
+three (t ∷ []) few = refl
+three (t ∷ u ∷ []) few = refl
+three (t ∷ u ∷ w ∷ []) few = refl
+three (t ∷ u ∷ w ∷ x ∷ more) few = absurd (omega (arith, few))
+
+moments-short : (now : ℕ) (ms : List ℕ) → now < 2 ^ 40 → IsFalling now ms → length (fields (map decimal ms)) ≤ 14 * length ms
+moments-short now [] small falls = omega arith
+moments-short now (t ∷ ms) small falls =
+    omega (
+      arith,
+      length-append (32 ∷ decimal t) (fields (map decimal ms)),
+      length-decimal-le 13 t (omega arith) (omega (arith, falls.0, small)) (omega (arith, falls.0, small)),
+      moments-short t ms (omega (arith, falls.0, small)) falls.1,
+    )
+
+-- a row has at most 107 bytes
+row-text-short : (now next : ℕ) (a : Attr) (s : State) (ms : List ℕ) → now < 2 ^ 40 → next ≤ 1 + 2 ^ 62 → IsAlarm now next a s ms → length (deadline_text s.shelved_until) ≤ 13
+    → length (row_text (row_of s a ms)) ≤ 107
+row-text-short now next a s ms small stamps is until = rw (three ms is.few)
+    (let moments = map decimal ms in
+    let count = decimal (length ms) ∷ moments in
+    let setpoint = signed_decimal a.setpoint ∷ count in
+    let priority = decimal a.priority ∷ setpoint in
+    let stamp = decimal s.stamp ∷ priority in
+    let deadline = deadline_text s.shelved_until ∷ stamp in
+    let flags = letters (flags_of s) ∷ deadline in
+    let active = decimal (digit s.active) ∷ flags in
+    let last : length (fields moments) ≤ 42 = omega (arith, moments-short now ms small is.moments, is.few) in
+    fields-short 5 101 (shown_word (shown_of s)) active (shown-short (shown_of s))
+    (fields-short 1 99 (decimal (digit s.active)) flags (digit-short s.active)
+    (fields-short 3 95 (letters (flags_of s)) deadline (letters-short (flags_of s))
+    (fields-short 13 81 (deadline_text s.shelved_until) stamp until
+    (fields-short 19 61 (decimal s.stamp) priority (length-decimal-le 19 s.stamp (omega arith) (omega (arith, is.stamp, stamps)) (omega (arith, is.stamp, stamps)))
+    (fields-short 1 59 (decimal a.priority) setpoint (length-decimal-le 1 a.priority (omega arith) (omega (arith, a.priority_limits)) (omega (arith, a.priority_limits)))
+    (fields-short 14 44 (signed_decimal a.setpoint) count (reading-short a.setpoint a.setpoint_range)
+    (fields-short 1 42 (decimal (length ms)) moments (length-decimal-le 1 (length ms) (omega arith) (omega (arith, is.few)) (omega (arith, is.few))) last))))))))
 
 module _ (q : Condensed) (id : ℕ) (rules : KeepsRules q) (actions : q.panel.count ≤ 2 ^ 48) (small : id < 2 ^ 32) where
   -- what is reported is as long as its report, and a little more
@@ -250,6 +292,17 @@ module _ (q : Condensed) (id : ℕ) (rules : KeepsRules q) (actions : q.panel.co
   alarm-short asked i (Some s) (Some a) None e f g = absurd (outside q.kept.moments i g (omega (arith, slice_get_within q.panel.rows i s e, rules.recent)))
   alarm-short asked i (Some s) (Some a) (Some ms) e f g = told-short asked (report_of s) (report-short s (deadline-short a.max_shelve a.max_shelve_limit s.shelved_until (rules.alarms i a s ms f e g).deadline))
 
+  -- the row of an alarm
+  row-short : (asked : Query) (i : ℕ) (o : Option State) (a : Option Attr) (ms : Option (List ℕ)) → slice_get q.panel.rows i ≡ o → slice_get q.panel.attrs i ≡ a → slice_get q.kept.moments i ≡ ms → length (report_reply id q.panel.count asked (row_report o a (lists.moments_in ms))) ≤ 131072
+  row-short asked i None a ms e f g = refused-short refusal.NoSuchAlarm (length-decimal-le 2 1 (omega arith) (omega arith) (omega arith))
+  row-short asked i (Some s) None ms e f g = refused-short refusal.NoSuchAlarm (length-decimal-le 2 1 (omega arith) (omega arith) (omega arith))
+  row-short asked i (Some s) (Some a) None e f g = absurd (outside q.kept.moments i g (omega (arith, slice_get_within q.panel.rows i s e, rules.recent)))
+  row-short asked i (Some s) (Some a) (Some ms) e f g =
+      let is = rules.alarms i a s ms f e g in
+      let until = deadline-short a.max_shelve a.max_shelve_limit s.shelved_until is.deadline in
+      let size = row-text-short q.panel.now q.panel.next_stamp a s ms rules.now (omega (arith, rules.stamps, actions)) is until in
+      told-short asked (row (Some (row_of s a ms))) (omega (arith, size))
+
   -- the plant's moment and sizes
   plant-short : length (report_text (plant q.panel.now (length q.panel.rows) (length q.floods))) ≤ 131000
   plant-short =
@@ -277,3 +330,4 @@ module _ (q : Condensed) (id : ℕ) (rules : KeepsRules q) (actions : q.panel.co
   short query.Chatter = listed-short query.Chatter choice.Chatter (lists.exists choice.Chatter q)
   short query.Plant = told-short query.Plant (plant q.panel.now (length q.panel.rows) (length q.floods)) plant-short
   short (query.Attributes i) = attributed-short (query.Attributes i) (slice_get q.panel.attrs i.0)
+  short (query.Row i) = row-short (query.Row i) i.0 (slice_get q.panel.rows i.0) (slice_get q.panel.attrs i.0) (slice_get q.kept.moments i.0) refl refl refl

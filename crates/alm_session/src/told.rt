@@ -1,11 +1,11 @@
 //! The replies to queries, into a buffer.
 
 ghost use Rattle.std.specs.Prelude.{◌≡◌, ◌≤◌, ◌<◌, ◌+◌, ◌++◌, OnOk, OnErr, length, vec_capacity, vec_len, decimal};
-ghost use Rattle.alm_types.specs.Reports.{report, attributes};
+ghost use Rattle.alm_types.specs.Reports.{report, attributes, row};
 ghost use Rattle.alm_lines.specs.Parts.{part_text, text_of_parts};
 ghost use Rattle.alm_lines.specs.Reply.{told_text, report_text, with_spaces};
 
-use alm_lines::{Part, attribute_parts, letters, query_word, shown_word};
+use alm_lines::{Part, attribute_parts, letters, query_word, row_parts, shown_word};
 use alm_types::{Answer, Query};
 use std::alloc::AllocError;
 
@@ -80,6 +80,23 @@ fn put_attributes(text: &mut Vec<u8>, answer: &Answer) -> Result<(), AllocError>
     }
 }
 
+/// Puts an alarm's row. It is a function of its own, since inlined the room for its parts would cost each other reply
+/// time.
+#[inline(never)]
+fn put_row(text: &mut Vec<u8>, answer: &Answer) -> Result<(), AllocError>
+    ensures items { OnOk result
+        (text.new.items ≡ text.old.items ++ report_text (row answer.now.row)) }
+    ensures full { OnErr result
+        (vec_capacity text.old <
+        vec_len text.old + length (report_text (row answer.now.row))) }
+    ensures room { vec_capacity text.old ≤ vec_capacity text.new }
+{
+    match &answer.row {
+        Some(row) => put_parts(text, &row_parts(row)),
+        None => text.extend_from_slice(b" -"),
+    }
+}
+
 /// Puts what an answer reports.
 fn put_report(text: &mut Vec<u8>, query: Query, answer: &Answer) -> Result<(), AllocError>
     ensures items { OnOk result
@@ -123,6 +140,7 @@ fn put_report(text: &mut Vec<u8>, query: Query, answer: &Answer) -> Result<(), A
             put_number(text, answer.areas)
         }
         Query::Attributes(_) => put_attributes(text, answer),
+        Query::Row(_) => put_row(text, answer),
     }
 }
 

@@ -6,15 +6,15 @@ use Rattle.std.proofs.lemmas.Option.{slice_get_past, slice_get_cases}
 use Rattle.alm_types.specs.declared.action.Action.{Action}
 use Rattle.alm_types.specs.declared.answer.Answer.{Answer}
 use Rattle.alm_types.specs.declared.query.Query.{Query}
-use Rattle.alm_types.specs.declared.query.Query.TheVariants.{State, Priority, Area, Wheel, Flood, Stale, Chatter, Plant, Attributes}
+use Rattle.alm_types.specs.declared.query.Query.TheVariants.{State, Priority, Area, Wheel, Flood, Stale, Chatter, Plant, Attributes, Row}
 use Rattle.alm_types.specs.declared.refusal.Refusal.{Refusal}
 use Rattle.alm_types.specs.declared.refusal.Refusal.TheVariants.{NoSuchList, OutOfMemory, Stopped}
 use Rattle.alm_types.specs.declared.attr.Attr.{Attr}
 use Rattle.alm_types.specs.Reports.{alarms}
 use Rattle.alm_state.specs.Rows.{State as RowState}
 use Rattle.alm_model.specs.Plant.{Condensed}
-use Rattle.alm_model.specs.Look.{IsLook, look, state_report, flood_report, list_report, attributes_report}
-use Rattle.alm_model.specs.Lists.{exists, list_of}
+use Rattle.alm_model.specs.Look.{IsLook, look, state_report, flood_report, list_report, attributes_report, row_report}
+use Rattle.alm_model.specs.Lists.{exists, list_of, moments_in}
 use Rattle.alm_model.specs.declared.list.List.{List as Choice}
 use Rattle.alm_model.specs.declared.list.List.TheVariants as choice
 use Rattle.alm_model.specs.Step.{run}
@@ -34,6 +34,19 @@ some_attributes : (attrs : List Attr) (i : ℕ) → i < length attrs → IsOk (a
 some_attributes attrs i within = elim (slice_get_cases attrs i).1 [
   | inl here ↦ subst (λ o. IsOk (attributes_report o)) (sym here.2) refl
   | inr past ↦ absurd (omega (arith, within, past.0))
+]
+
+whole_row : (state : Option RowState) (attr : Option Attr) (moments : List ℕ) (s : RowState) (a : Attr) → state ≡ Some s → attr ≡ Some a → IsOk (row_report state attr moments)
+whole_row state attr moments s a here there = rw (here, there) refl
+
+some_row : (rows : List RowState) (attrs : List Attr) (moments : List ℕ) (i : ℕ) → length attrs ≡ length rows → i < length rows
+    → IsOk (row_report (slice_get rows i) (slice_get attrs i) moments)
+some_row rows attrs moments i same within = elim (slice_get_cases rows i).1 [
+  | inr past ↦ absurd (omega (arith, within, past.0))
+  | inl here ↦ elim (slice_get_cases attrs i).1 [
+    | inr past ↦ absurd (omega (arith, within, past.0, same))
+    | inl there ↦ whole_row _ _ moments here.0 there.0 here.2 there.2
+  ]
 ]
 
 some_flood : (ages : Option (List ℕ)) (flood : Option Bool) (counts : List ℕ) (on : Bool) → ages ≡ Some counts → flood ≡ Some on → IsOk (flood_report ages flood)
@@ -69,6 +82,7 @@ tells q Stale named same is = refl
 tells q Chatter named same is = refl
 tells q Plant named same is = refl
 tells q (Attributes i) named same is = some_attributes q.panel.attrs i.0 (omega (arith, named, ltb-true _ _ is))
+tells q (Row i) named same is = some_row q.panel.rows q.panel.attrs (moments_in (slice_get q.kept.moments i.0)) i.0 named (ltb-true _ _ is)
 
 pub refuses : (q : Condensed) (query : Query) → length q.panel.attrs ≡ length q.panel.rows → length q.kept.ages ≡ length q.floods → is_there q query ≡ false → (list : List Action) → look (run q list) query ≡ Err (missing query)
 refuses q (State i) named same is list = ap state_report (slice_get_past (run q list).panel.rows i.0 (omega (arith, (run_sizes q list same).0, ltb-false _ _ is)))
@@ -82,6 +96,9 @@ refuses q Chatter named same is list = absurd (cc is)
 refuses q Plant named same is list = absurd (cc is)
 refuses q (Attributes i) named same is list =
     ap attributes_report (slice_get_past (run q list).panel.attrs i.0 (omega (arith, named, run_attrs q list same, ltb-false _ _ is)))
+refuses q (Row i) named same is list =
+    ap (λ o. row_report o (slice_get (run q list).panel.attrs i.0) (moments_in (slice_get (run q list).kept.moments i.0)))
+    (slice_get_past (run q list).panel.rows i.0 (omega (arith, (run_sizes q list same).0, ltb-false _ _ is)))
 
 -- what doesn't exist is refused by what is known
 pub missing_answers : (base : Condensed) (known : List Action) (query : Query) (answer : Answer) → ((list : List Action) → look (run base list) query ≡ Err (missing query)) → LookAnswers base known known query answer answer (Err (missing query))
@@ -94,6 +111,7 @@ missing_answers base known Stale answer none = (refl, (known, (front_self known,
 missing_answers base known Chatter answer none = (refl, (known, (front_self known, (none known, refl))))
 missing_answers base known Plant answer none = (refl, (known, (front_self known, (none known, refl))))
 missing_answers base known (Attributes i) answer none = (refl, (known, (front_self known, (none known, refl))))
+missing_answers base known (Row i) answer none = (refl, (known, (front_self known, (none known, refl))))
 
 -- a look that is refused reports no more than was known
 pub refused_answers : (base : Condensed) (known list : List Action) (query : Query) (before after : Answer) (refusal : Refusal) → IsOk (look base query) → IsFront known list → IsLook (run base list) query before after (Err refusal) → LookAnswers base known known query before after (Err refusal)

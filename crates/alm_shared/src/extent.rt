@@ -49,7 +49,9 @@ impl<J: RunId> Extent<J> {
         ensures { result ≡ is_there J.base query }
     {
         match query {
-            Query::State(alarm) | Query::Attributes(alarm) => (alarm.0 as usize) < self.alarms,
+            Query::State(alarm) | Query::Attributes(alarm) | Query::Row(alarm) => {
+                (alarm.0 as usize) < self.alarms
+            }
             Query::Flood(area) | Query::Area(area) => (area as usize) < self.areas,
             Query::Priority(priority) => 1 <= priority && priority <= 4,
             Query::Wheel(slot) => slot < WHEEL_SLOTS,
@@ -76,7 +78,7 @@ fn refuse(query: Query) -> Refusal
     ensures { result ≡ missing query }
 {
     match query {
-        Query::State(_) | Query::Attributes(_) => Refusal::NoSuchAlarm,
+        Query::State(_) | Query::Attributes(_) | Query::Row(_) => Refusal::NoSuchAlarm,
         _ => Refusal::NoSuchList,
     }
 }

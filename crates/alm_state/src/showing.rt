@@ -81,6 +81,7 @@ impl Row {
         ensures plant { (answer.new.moment ≡ answer.old.moment) ×
             (answer.new.alarms ≡ answer.old.alarms) × (answer.new.areas ≡ answer.old.areas) }
         ensures attr { answer.new.attr ≡ answer.old.attr }
+        ensures row { answer.new.row ≡ answer.old.row }
         ensures refused { answer.new.refused ≡ answer.old.refused }
     {
         answer.shown = self.shown();

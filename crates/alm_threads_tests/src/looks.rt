@@ -19,7 +19,7 @@ use std::sync::Wait;
 use std::test::Fail;
 
 /// Queries of four alarms in two areas, and their answers after the board's owner has ended.
-const ASKED: [(Query, Refusal); 15] = [
+const ASKED: [(Query, Refusal); 17] = [
     (Query::State(AlarmId(3)), Refusal::Stopped),
     (Query::State(AlarmId(4)), Refusal::NoSuchAlarm),
     (Query::Priority(0), Refusal::NoSuchList),
@@ -35,6 +35,8 @@ const ASKED: [(Query, Refusal); 15] = [
     (Query::Plant, Refusal::Stopped),
     (Query::Attributes(AlarmId(3)), Refusal::Stopped),
     (Query::Attributes(AlarmId(4)), Refusal::NoSuchAlarm),
+    (Query::Row(AlarmId(3)), Refusal::Stopped),
+    (Query::Row(AlarmId(4)), Refusal::NoSuchAlarm),
 ];
 
 /// How many of them are answered so.

@@ -1,7 +1,8 @@
 -- What an answer reports.
 use Rattle.std.specs.Prelude.{ℕ, List, Bool, Option}
 use Rattle.alm_types.specs.declared.query.Query.{Query}
-use Rattle.alm_types.specs.declared.query.Query.TheVariants.{State, Priority, Area, Wheel, Flood, Stale, Chatter, Plant, Attributes}
+use Rattle.alm_types.specs.declared.query.Query.TheVariants.{State, Priority, Area, Wheel, Flood, Stale, Chatter, Plant, Attributes, Row}
+use Rattle.alm_types.specs.declared.alarm_row.AlarmRow.{AlarmRow}
 use Rattle.alm_types.specs.declared.attr.Attr.{Attr}
 use Rattle.alm_types.specs.declared.answer.Answer.{Answer}
 use Rattle.alm_types.specs.declared.shown.Shown.{Shown}
@@ -17,6 +18,8 @@ pub data Report : Type 0 where
   plant : ℕ → ℕ → ℕ → Report
   -- the attributes of an alarm; those of none are in no answer of a plant
   attributes : Option Attr → Report
+  -- the row of an alarm; that of none is in no answer of a plant
+  row : Option AlarmRow → Report
 
 -- what an answer reports to a query
 abbrev pub report : Query → Answer → Report
@@ -29,3 +32,4 @@ report Stale a = alarms a.list.items
 report Chatter a = alarms a.list.items
 report Plant a = plant a.moment a.alarms a.areas
 report (Attributes i) a = attributes a.attr
+report (Row i) a = row a.row

@@ -4,6 +4,7 @@ ghost use Rattle.std.specs.Prelude.{◌≡◌, ◌<◌, ◌≤◌, OnOk, OnErr, 
 ghost use Rattle.alm_types.specs.Counts.{one_more};
 ghost use Rattle.alm_types.specs.declared.shown.Shown.TheVariants.{Normal};
 
+use crate::alarm_row::AlarmRow;
 use crate::attr::Attr;
 use crate::refused_growths::RefusedGrowths;
 use crate::shown::Shown;
@@ -31,6 +32,8 @@ pub struct Answer {
     pub areas: u64,
     /// The attributes of an alarm that are in force.
     pub attr: Option<Attr>,
+    /// The row of an alarm.
+    pub row: Option<AlarmRow>,
     /// How many growths of the list were refused.
     pub refused: RefusedGrowths,
 }
@@ -44,6 +47,7 @@ impl Answer {
         ensures list { result.list.items ≡ [] }
         ensures plant { (result.moment ≡ 0) × (result.alarms ≡ 0) × (result.areas ≡ 0) }
         ensures attr { result.attr ≡ None }
+        ensures row { result.row ≡ None }
         ensures refused { result.refused ≡ 0 }
     {
         Answer {
@@ -58,6 +62,7 @@ impl Answer {
             alarms: 0,
             areas: 0,
             attr: None,
+            row: None,
             refused: RefusedGrowths::none(),
         }
     }
@@ -75,6 +80,7 @@ impl Answer {
         ensures plant { (self.new.moment ≡ self.old.moment) × (self.new.alarms ≡ self.old.alarms) ×
             (self.new.areas ≡ self.old.areas) }
         ensures attr { self.new.attr ≡ self.old.attr }
+        ensures row { self.new.row ≡ self.old.row }
     {
         self.refused.reserve(&mut self.list, alarms)
     }

@@ -31,12 +31,14 @@
 
 mod action;
 mod alarm_id;
+mod alarm_row;
 mod answer;
 mod attr;
 mod attr_fault;
 mod batch;
 mod entry;
 mod kind;
+mod last_moments;
 mod moment;
 mod printed;
 mod query;
@@ -56,12 +58,14 @@ mod verdict;
 
 pub use action::{Action, MOST_ACTIONS};
 pub use alarm_id::AlarmId;
+pub use alarm_row::AlarmRow;
 pub use answer::Answer;
 pub use attr::Attr;
 pub use attr_fault::AttrFault;
 pub use batch::{Batch, MOST_ENTRIES};
 pub use entry::Entry;
 pub use kind::Kind;
+pub use last_moments::LastMoments;
 pub use moment::Moment;
 pub use query::Query;
 pub use reading::Reading;

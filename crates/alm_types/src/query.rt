@@ -23,4 +23,6 @@ pub enum Query {
     Plant,
     /// The attributes of an alarm that are in force.
     Attributes(AlarmId),
+    /// The row of an alarm: what is shown of it, when it was annunciated, and which limits are in force.
+    Row(AlarmId),
 }

@@ -3,14 +3,14 @@ use Rattle.std.specs.Prelude.{Err, Ok, slice_get, if◌then◌else◌}
 use Rattle.alm_types.specs.declared.answer.Answer.{Answer}
 use Rattle.alm_types.specs.declared.attr.Attr.{Attr}
 use Rattle.alm_types.specs.declared.query.Query.{Query}
-use Rattle.alm_types.specs.declared.query.Query.TheVariants.{State, Priority, Area, Wheel, Flood, Stale, Chatter, Plant, Attributes}
+use Rattle.alm_types.specs.declared.query.Query.TheVariants.{State, Priority, Area, Wheel, Flood, Stale, Chatter, Plant, Attributes, Row}
 use Rattle.alm_types.specs.declared.refusal.Refusal.{Refusal}
 use Rattle.alm_types.specs.declared.refusal.Refusal.TheVariants.{NoSuchList, OutOfMemory, Stopped}
 use Rattle.alm_types.specs.Reports.{alarms}
 use Rattle.alm_state.specs.Rows.{State as RowState}
 use Rattle.alm_model.specs.Plant.{Condensed}
-use Rattle.alm_model.specs.Look.{IsLook, look, state_report, flood_report, attributes_report}
-use Rattle.alm_model.specs.Lists.{exists, list_of}
+use Rattle.alm_model.specs.Look.{IsLook, look, state_report, flood_report, attributes_report, row_report}
+use Rattle.alm_model.specs.Lists.{exists, list_of, moments_in}
 use Rattle.alm_model.specs.declared.list.List.{List as Choice}
 use Rattle.alm_model.specs.declared.list.List.TheVariants as choice
 use Rattle.alm_board.specs.Looks.{LookAnswers}
@@ -30,6 +30,11 @@ attributes_show : (o : Option Attr) → attributes_report o ≡ Err Stopped → 
 attributes_show None h = absurd (cc h)
 attributes_show (Some a) h = absurd (cc h)
 
+row_shows : (state : Option RowState) (attr : Option Attr) (moments : List ℕ) → row_report state attr moments ≡ Err Stopped → ⊥
+row_shows None attr moments h = absurd (cc h)
+row_shows (Some s) None moments h = absurd (cc h)
+row_shows (Some s) (Some a) moments h = absurd (cc h)
+
 list_shows : (list : Choice) (q : Condensed) (b : Bool) → (if b then Ok (alarms (list_of list q)) else Err NoSuchList) ≡ Err Stopped → ⊥
 list_shows list q true h = absurd (cc h)
 list_shows list q false h = absurd (cc h)
@@ -45,6 +50,7 @@ never_stopped q Stale h = list_shows choice.Stale q true h
 never_stopped q Chatter h = list_shows choice.Chatter q true h
 never_stopped q Plant h = absurd (cc h)
 never_stopped q (Attributes i) h = attributes_show (slice_get q.panel.attrs i.0) h
+never_stopped q (Row i) h = row_shows (slice_get q.panel.rows i.0) (slice_get q.panel.attrs i.0) (moments_in (slice_get q.kept.moments i.0)) h
 
 still_refuses : (q : Condensed) (query : Query) (before after : Answer) (refusal : Refusal) → IsLook q query before after (Err refusal) → LookAnswers q [] [] query before after (Err refusal)
 still_refuses q query before after Stopped h = absurd (never_stopped q query h.0)
