@@ -9,7 +9,7 @@ from lib.drawn_plants import CONSOLE, WORDS, Hand, draw_plant, module, new_devic
 from alarms.client import CLOCK, Client
 from alarms.mirror import Follower, Served
 from alarms.plant_mirror import Begun, Gap, Mirror, Replaced, Step
-from alarms.model import SHELVED
+from alarms.model import SHELVED, AlarmState
 from lib.places import AT_TOOLS, EXAMPLES
 from lib.program import check
 from lib.tools import Yard, await_true
@@ -99,14 +99,22 @@ def drawn(yard: Yard, actions: int) -> str:
     )
 
 
+def row_rest(alarm: AlarmState) -> list[int]:
+    """What ROW tells of an alarm beside what STATE does."""
+    stamp = alarm.stamp if alarm.core != "NORM" or alarm.flags & SHELVED else 0
+    limits = alarm.attributes.priority, alarm.attributes.setpoint
+    return [stamp, *limits, len(alarm.moments), *alarm.moments]
+
+
 def compare_answers(client: Client, mirror: Mirror) -> int:
-    """Holds a mirror against what an idle server answers: states, lists in their order, those of the shelved too, and
-    floods. How many answers."""
+    """Holds a mirror against what an idle server answers: states, rows, floods, and lists in their order, those of the
+    shelved too. How many answers."""
     plant, asked = mirror.plant, {}
     for line in mirror.show().splitlines()[1:]:
         kind, *words = line.split(" ")
         if kind == "ALARM":
             asked[f"STATE {words[0]}"] = ["STATE", *words[2:]]
+            asked[f"ROW {words[0]}"] = ["ROW", *words[2:], *map(str, row_rest(plant.alarms[int(words[0])]))]
         elif kind == "P":
             asked[f"LIST P {words[0]}"] = ["LIST", *words[1:]]
         else:

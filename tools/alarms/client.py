@@ -32,11 +32,13 @@ from .replies import (
     Overview,
     Refusal,
     Refused,
+    Row,
     State,
     read_attributes,
     read_flood,
     read_listing,
     read_overview,
+    read_row,
     read_state,
     split_reply,
 )
@@ -227,6 +229,10 @@ class Client:
     def attributes(self, alarm: int) -> Alarm:
         """An alarm's attributes, with the priority and the setpoint in force."""
         return read_attributes(self.ask(f"ATTR {alarm}")[1:])
+
+    def rows(self, alarms: Iterable[int]) -> list[Row]:
+        """The rows of alarms. Each has a count of its own, since others may act meanwhile."""
+        return [read_row(granted(reply)[1:]) for reply in self.ask_all(f"ROW {alarm}" for alarm in alarms)]
 
     def table(self) -> Table:
         """The plant's table, with the priorities and setpoints in force. The size of its device isn't told."""

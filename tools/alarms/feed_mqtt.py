@@ -91,11 +91,12 @@ class MqttSource:
     def new_client(self) -> paho.Client:
         """A client of the broker; `OSError` where a certificate can't be read."""
         settings = self.settings
-        words = [paho.CallbackAPIVersion.VERSION1] if hasattr(paho, "CallbackAPIVersion") else []  # from release 2 on
-        if settings.version == 5:
-            client = paho.Client(*words, client_id=settings.client, protocol=paho.MQTTv5)
-        else:
-            client = paho.Client(*words, client_id=settings.client, clean_session=False, protocol=paho.MQTTv311)
+        options: dict[str, Any] = {"client_id": settings.client, "protocol": paho.MQTTv5}
+        if settings.version != 5:
+            options |= {"clean_session": False, "protocol": paho.MQTTv311}
+        if hasattr(paho, "CallbackAPIVersion"):  # from release 2 on
+            options["callback_api_version"] = paho.CallbackAPIVersion.VERSION1
+        client = paho.Client(**options)
         if settings.user is not None:
             client.username_pw_set(settings.user, settings.password)
         if settings.tls:
@@ -201,11 +202,8 @@ class MqttSource:
         if self.client.is_connected():
             group = self.groups.take()
             if group:
-                _, self.groups.waits_for = self.client.subscribe(
-                    [(topic, 1) for topic in group]
-                    if self.settings.version == 3
-                    else [(topic, paho.SubscribeOptions(qos=1)) for topic in group]
-                )
+                quality: Any = 1 if self.settings.version == 3 else paho.SubscribeOptions(qos=1)
+                _, self.groups.waits_for = self.client.subscribe([(topic, quality) for topic in group])
         now = time.monotonic()
         is_answered = not self.groups.first_round and self.groups.waits_for is None
         if self.settle_by and (now >= self.settle_by or (now >= self.settled_at and is_answered)):

@@ -59,6 +59,19 @@ class State:
 
 
 @dataclass(frozen=True)
+class Row(State):
+    """What is shown of an alarm, with its stamp, its limits in force, and when it was annunciated last.
+
+    `moments` has at most three, in seconds, the newest first.
+    """
+
+    stamp: int
+    priority: int
+    setpoint: int
+    moments: tuple[int, ...]
+
+
+@dataclass(frozen=True)
 class Listing:
     """The alarms of a list, and the count of actions of the plant that was looked at."""
 
@@ -95,6 +108,20 @@ def read_state(words: list[str]) -> State:
     """The state in the words after STATE."""
     count, shown, condition, flags, deadline = words
     return State(int(count), shown, condition == "1", flags.strip("-"), None if deadline == "-" else int(deadline))
+
+
+def read_row(words: list[str]) -> Row:
+    """The row in the words after ROW."""
+    state, (stamp, priority, setpoint, length, *moments) = read_state(words[:5]), words[5:]
+    if len(moments) != int(length):
+        raise Lost(f"a row of {length} moments has {len(moments)}")
+    return Row(
+        **vars(state),
+        stamp=int(stamp),
+        priority=int(priority),
+        setpoint=int(setpoint),
+        moments=tuple(map(int, moments)),
+    )
 
 
 def read_listing(words: list[str]) -> Listing:

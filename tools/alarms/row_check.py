@@ -1,0 +1,97 @@
+"""Whether the rows that a tool computes are those that the server shows.
+
+A tool that follows the journal has a model of the plant. So it asks the server for the rows too, some at a time, and
+holds each against the model's at the same count of actions.
+"""
+import collections
+from typing import Callable, Iterable, Optional
+
+from .model import SHELVED, AlarmState, PlantModel
+from .replies import Row
+
+# What is compared of a row, by its name in a message.
+Fields = dict[str, object]
+LETTERS = "SDO"
+
+
+def of_model(alarm: AlarmState) -> Fields:
+    """The row of an alarm in the model."""
+    return {
+        "state": alarm.shown,
+        "condition": alarm.active,
+        "flags": alarm.flags,
+        "deadline": alarm.deadline if alarm.flags & SHELVED else None,
+        "stamp": alarm.stamp if alarm.core != "NORM" or alarm.flags & SHELVED else 0,
+        "priority": alarm.attributes.priority,
+        "setpoint": alarm.attributes.setpoint,
+        "moments": alarm.moments,
+    }
+
+
+def of_server(row: Row) -> Fields:
+    """The row of an alarm in a reply to ROW."""
+    return {
+        "state": row.shown,
+        "condition": row.condition,
+        "flags": sum(1 << bit for bit, letter in enumerate(LETTERS) if letter in row.flags),
+        "deadline": row.deadline,
+        "stamp": row.stamp,
+        "priority": row.priority,
+        "setpoint": row.setpoint,
+        "moments": row.moments,
+    }
+
+
+class RowCheck:
+    """Holds a plant's rows against the server's. `ours` and `theirs` say what is compared of an alarm and of a reply."""
+
+    def __init__(
+        self, ours: Callable[[AlarmState], Fields] = of_model, theirs: Callable[[Row], Fields] = of_server
+    ) -> None:
+        self.ours, self.theirs = ours, theirs
+        self.begin()
+
+    def begin(self) -> None:
+        """Another plant: nothing is known of its rows."""
+        self.next = 0
+        # Replies of a plant that the model hasn't reached, by their count; and what was found of each alarm that is
+        # denied.
+        self.waiting: dict[int, list[tuple[int, Row]]] = collections.defaultdict(list)
+        self.denied: dict[int, str] = {}
+
+    def due(self, alarms: int, part: int) -> list[int]:
+        """The alarms that are asked now: at most so many, one round after the other."""
+        asked = [(self.next + step) % alarms for step in range(min(part, alarms))]
+        self.next = (self.next + len(asked)) % alarms
+        return asked
+
+    def came(self, plant: PlantModel, rows: Iterable[tuple[int, Row]]) -> None:
+        """Takes replies: those of a later plant wait for it."""
+        for number, row in rows:
+            if row.count == plant.count:
+                self.compare(plant, number, row)
+            elif row.count > plant.count:
+                self.waiting[row.count].append((number, row))
+
+    def reached(self, plant: PlantModel) -> None:
+        """Compares what waits for this count of actions, and drops what waits for an earlier one."""
+        for count in [count for count in self.waiting if count <= plant.count]:
+            rows = self.waiting.pop(count)
+            if count == plant.count:
+                for number, row in rows:
+                    self.compare(plant, number, row)
+
+    def compare(self, plant: PlantModel, number: int, row: Row) -> None:
+        """Notes whether the server denies an alarm's row."""
+        alarm = plant.alarms[number]
+        ours, theirs = self.ours(alarm), self.theirs(row)
+        wrong = next((name for name in ours if ours[name] != theirs[name]), None)
+        if wrong is None:
+            self.denied.pop(number, None)
+        else:
+            self.denied[number] = f"{alarm.attributes.tag}: its {wrong} is {ours[wrong]} here, and {theirs[wrong]} there"
+
+    def fault(self) -> Optional[str]:
+        """What the server denies, if it denies a row."""
+        first = next(iter(self.denied.values()), None)
+        return first and f"the server denies {len(self.denied)} of the rows. {first}"
