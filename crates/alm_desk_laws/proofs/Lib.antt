@@ -1,0 +1,3 @@
+pub mod Timely
+pub mod Done
+pub mod Printed

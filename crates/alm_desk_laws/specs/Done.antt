@@ -1,0 +1,52 @@
+-- What the lines of a desk have done.
+use Rattle.std.specs.Prelude.{◌≡◌, ℕ, List, [], ◌∷◌, ◌++◌, Option, Some, None, Result, map}
+use Rattle.std.specs.Prelude.{Ok as Good, Err as Wrong}
+use Rattle.alm_types.specs.declared.action.Action.{Action}
+use Rattle.alm_types.specs.declared.query.Query.{Query}
+use Rattle.alm_types.specs.declared.refusal.Refusal.{Refusal}
+use Rattle.alm_types.specs.Tables.{Listing, IsTable}
+use Rattle.alm_model.specs.Plant.{Condensed}
+use Rattle.alm_model.specs.Accept.{accept}
+use Rattle.alm_model.specs.New.{new_plant}
+use Rattle.alm_lines.specs.declared.ask.Ask.{Ask}
+use Rattle.alm_lines.specs.declared.ask.Ask.TheVariants.{Act, Look}
+use Rattle.alm_desk.specs.Answers.{DeskState, SlotLine, AnsweredLine, answered_at, request, reply, after_line, after_lines}
+use Rattle.alm_desk.specs.Desks.{Tagged, lines_among}
+use Rattle.alm_desk.specs.Feeding.{line_asked}
+use Rattle.alm_desk.specs.declared.hindrance.Hindrance.{Hindrance}
+use Rattle.alm_desk.specs.declared.hindrance.Hindrance.TheVariants as hindrance
+
+abbrev pub accepted_in : Result Action Refusal → List Action
+accepted_in (Good action) = action ∷ []
+accepted_in (Wrong refusal) = []
+
+-- what a line does at a plant: its action, if it is accepted, and the storage didn't stop in it
+abbrev pub done_by : Condensed → ℕ → Ask → Hindrance → List Action
+done_by q slot (Act want) hindrance.Stopped = []
+done_by q slot (Act want) _ = accepted_in (accept q.panel (request slot want))
+done_by q slot _ c = []
+
+abbrev pub done_on : Option Condensed → SlotLine → Hindrance → List Action
+done_on None l c = []
+done_on (Some q) l c = done_by q l.slot l.line.ask c
+
+-- the actions that lines do, in their order
+abbrev pub done : DeskState → List AnsweredLine → List Action
+done s [] = []
+done s (m ∷ ms) = done_on s.plant m.asked m.hindrance ++ done (after_line s m) ms
+
+-- a desk began with the new plant of a table, bytes ended these lines, and its plant is then this one
+pub record HasAnswered (t : Listing) (s : DeskState) (lines : List AnsweredLine) (q : Condensed) : Type 0 where
+  pub table : IsTable t
+  pub begun : s.plant ≡ Some (new_plant t)
+  pub helds : List (List ℕ)
+  pub bytes : List Tagged
+  pub read : map line_asked lines ≡ lines_among helds bytes
+  pub stands : (after_lines s lines).plant ≡ Some q
+
+-- what it replies next, to an action and to a query at a slot
+abbrev pub reply_to_action : DeskState → List AnsweredLine → ℕ → ℕ → Action → List ℕ
+reply_to_action s lines slot id want = reply (after_lines s lines) (answered_at slot (record { id = id; ask = Act want }) hindrance.Nothing)
+
+abbrev pub reply_to_query : DeskState → List AnsweredLine → ℕ → ℕ → Query → List ℕ
+reply_to_query s lines slot id asked = reply (after_lines s lines) (answered_at slot (record { id = id; ask = Look asked }) hindrance.Nothing)

@@ -1,0 +1,80 @@
+//! Laws of a desk that began with a new plant.
+
+ghost use Rattle.std.specs.Prelude.{◌≡◌, ◌+◌, ◌<◌, ◌≤◌, ℕ, List, Some, length, slice_get, take};
+ghost use Rattle.alm_types.specs.declared.action.Action.{Action};
+ghost use Rattle.alm_types.specs.declared.alarm_id.AlarmId.{AlarmId};
+ghost use Rattle.alm_types.specs.declared.attr.Attr.{Attr};
+ghost use Rattle.alm_types.specs.declared.query.Query.TheVariants as query;
+ghost use Rattle.alm_types.specs.declared.shown.Shown.{Shown};
+ghost use Rattle.alm_types.specs.Reports.{alarm, alarms, row};
+ghost use Rattle.alm_types.specs.Tables.{Listing};
+ghost use Rattle.alm_state.specs.Rows.{State};
+ghost use Rattle.alm_model.specs.Plant.{Condensed};
+ghost use Rattle.alm_model.specs.New.{new_plant};
+ghost use Rattle.alm_model.specs.Rising.{RisesByStamp};
+ghost use Rattle.alm_model.specs.Rules.{AreAdmitted};
+ghost use Rattle.alm_model.specs.Step.{run};
+ghost use Rattle.alm_model.specs.declared.list.List.TheVariants.{Priority, Area};
+ghost use Rattle.alm_lines.specs.Reply.{ok_text, told_text};
+ghost use Rattle.alm_desk.specs.Answers.{DeskState, AnsweredLine, request};
+ghost use Rattle.alm_laws.specs.Listed.{HasJustThose};
+ghost use Rattle.alm_laws.specs.Shown.{IsShownAsItIs, flags_shown};
+ghost use Rattle.alm_laws.specs.Taken.{IsAcceptable};
+ghost use Rattle.alm_desk_laws.specs.Done.{HasAnswered, done, reply_to_action, reply_to_query};
+
+/// The plant is the new one after the actions that the lines have done. Each was admitted at its turn.
+pub fn the_plant_is_what_its_lines_have_done()
+    ensures run { (t : Listing) (s : DeskState) (lines : List AnsweredLine) (q : Condensed) →
+        HasAnswered t s lines q → q ≡ run (new_plant t) (done s lines) }
+    ensures admitted { (t : Listing) (s : DeskState) (lines : List AnsweredLine) (q : Condensed) →
+        HasAnswered t s lines q → AreAdmitted (new_plant t) (done s lines) }
+    ensures count { (t : Listing) (s : DeskState) (lines : List AnsweredLine) (q : Condensed) →
+        HasAnswered t s lines q → q.panel.count ≡ length (done s lines) }
+{}
+
+/// A request that its slot may ask for, and that is possible, is answered with the next number.
+pub fn ok_is_printed_where_it_may_be_done()
+    ensures { (t : Listing) (s : DeskState) (lines : List AnsweredLine) (q : Condensed) →
+        HasAnswered t s lines q → (slot id : ℕ) (want : Action) →
+        IsAcceptable q.panel (request slot want) →
+        reply_to_action s lines slot id want ≡ ok_text id (length (done s lines) + 1) }
+{}
+
+/// STATE prints the only thing that answers seven questions on the alarm as it is, ROW that with stamp, limits and moments.
+pub fn an_alarm_is_printed_as_it_is()
+    ensures state { (t : Listing) (s : DeskState) (lines : List AnsweredLine) (q : Condensed) →
+        HasAnswered t s lines q → (slot id : ℕ) (i : AlarmId) (r : State) (x : Shown) →
+        slice_get q.panel.rows i.0 ≡ Some r → IsShownAsItIs r x →
+        reply_to_query s lines slot id (query.State i) ≡
+        told_text id (length (done s lines)) (query.State i)
+        (alarm x r.active (flags_shown r) r.shelved_until) }
+    ensures row { (t : Listing) (s : DeskState) (lines : List AnsweredLine) (q : Condensed) →
+        HasAnswered t s lines q → (slot id : ℕ) (i : AlarmId) (r : State) (a : Attr) (x : Shown)
+        (moments : List ℕ) → slice_get q.panel.rows i.0 ≡ Some r →
+        slice_get q.panel.attrs i.0 ≡ Some a → slice_get q.kept.moments i.0 ≡ Some moments →
+        IsShownAsItIs r x → reply_to_query s lines slot id (query.Row i) ≡
+        told_text id (length (done s lines)) (query.Row i) (row (Some record {
+          shown = x;
+          active = r.active;
+          flags = flags_shown r;
+          until = r.shelved_until;
+          stamp = r.stamp;
+          priority = a.priority;
+          setpoint = a.setpoint;
+          moments = take 3 moments;
+        })) }
+{}
+
+/// LIST prints the only list that has just the alarms that belong to it, the earliest stamp first.
+pub fn a_list_is_printed_whole()
+    ensures by_priority { (t : Listing) (s : DeskState) (lines : List AnsweredLine) (q : Condensed) →
+        HasAnswered t s lines q → (slot id n : ℕ) (out : List ℕ) → 1 ≤ n → n ≤ 4 →
+        RisesByStamp q.panel out → HasJustThose q (Priority n) out →
+        reply_to_query s lines slot id (query.Priority n) ≡
+        told_text id (length (done s lines)) (query.Priority n) (alarms out) }
+    ensures by_area { (t : Listing) (s : DeskState) (lines : List AnsweredLine) (q : Condensed) →
+        HasAnswered t s lines q → (slot id n : ℕ) (out : List ℕ) → n < length q.floods →
+        RisesByStamp q.panel out → HasJustThose q (Area n) out →
+        reply_to_query s lines slot id (query.Area n) ≡
+        told_text id (length (done s lines)) (query.Area n) (alarms out) }
+{}
