@@ -43,11 +43,9 @@ def of_server(row: Row) -> Fields:
 
 
 class RowCheck:
-    """Holds a plant's rows against the server's. `ours` and `theirs` say what is compared of an alarm and of a reply."""
+    """Holds a plant's rows against the server's. `ours` and `theirs` say what is compared of an alarm and a reply."""
 
-    def __init__(
-        self, ours: Callable[[AlarmState], Fields] = of_model, theirs: Callable[[Row], Fields] = of_server
-    ) -> None:
+    def __init__(self, ours: Callable[[AlarmState], Fields] = of_model, theirs: Callable[[Row], Fields] = of_server):
         self.ours, self.theirs = ours, theirs
         self.begin()
 
@@ -89,7 +87,8 @@ class RowCheck:
         if wrong is None:
             self.denied.pop(number, None)
         else:
-            self.denied[number] = f"{alarm.attributes.tag}: its {wrong} is {ours[wrong]} here, and {theirs[wrong]} there"
+            tag = alarm.attributes.tag
+            self.denied[number] = f"{tag}: its {wrong} is {ours[wrong]} here, and {theirs[wrong]} there"
 
     def fault(self) -> Optional[str]:
         """What the server denies, if it denies a row."""
