@@ -28,7 +28,7 @@
 //!
 //! The first half begins at 23, the second after it. The half that stands is the one with an open gate; if both gates are open,
 //! the one with the greater epoch. Its image is that of a plant, and the frames of its segment up to the first closed gate make
-//! of it the plant that the device encodes. No other bytes are read. docs/FORMAT.md gives each field's rule, and the place at
+//! of it the plant that the device encodes. No other bytes are read. docs/develop/FORMAT.md gives each field's rule, and the place at
 //! which its fault is reported.
 //!
 //! The definitions are in specs/:

@@ -93,7 +93,7 @@ attributes_text a =
     fields (kind_word a.kind ∷ signed_decimal a.setpoint ∷ decimal a.deadband ∷ decimal a.priority ∷ decimal a.area ∷ decimal a.max_shelve
     ∷ switch_text a.latching ∷ a.tag ∷ text_field a.text)
 
--- the row of an alarm: what STATE tells, its stamp, the limits in force, and its last moments behind their number
+-- the row of an alarm: what STATE reports, its stamp, the limits in force, the number of its last moments, and these
 abbrev pub row_text : AlarmRow → List ℕ
 row_text r =
     fields (shown_word r.shown ∷ decimal (digit r.active) ∷ letters r.flags ∷ deadline_text r.until ∷ decimal r.stamp ∷ decimal r.priority

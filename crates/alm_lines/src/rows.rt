@@ -36,8 +36,8 @@ fn moment_part(moments: &[Moment], at: usize) -> Part<'static>
     }
 }
 
-/// The text of an alarm's row, in parts, each field after a space. The moments of its last annunciations come last, behind how
-/// many they are.
+/// The text of an alarm's row, in parts, each field after a space. The moments of its last annunciations come last, after their
+/// number.
 pub fn row_parts(row: &AlarmRow) -> [Part<'_>; ROW_PARTS]
     ensures { text_of_parts result ≡ row_text row.now }
 {

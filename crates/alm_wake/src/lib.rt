@@ -13,7 +13,7 @@
 //! | the flusher's | a [`FlusherPace`] | no sealed batch is there, or a console has no room for a receipt |
 //!
 //! [`Flags`] are what they share: hints, each read before the step that it bounds. A lost wake-up costs 100 milliseconds, and a
-//! second at a slot: then each thread checks by itself. docs/WAKING.md has the states of the two threads, and who reads and writes
+//! second at a slot: then each thread checks by itself. docs/develop/WAKING.md has the states of the two threads, and who reads and writes
 //! each atomic. All numbers stand in `bounds`.
 //!
 //! Not covered: how long anything takes, since no contract speaks of time that passes.
