@@ -2,7 +2,7 @@
 """Writes what a reader of the headline has to believe: the definitions of specs/ to which its contracts unfold, counted
 by file.
 
-    tests/pages/believed.py             whether docs/BELIEVED.md is that; also which files of specs/ no claim needs
+    tests/pages/believed.py             whether docs/proof/BELIEVED.md is that; and which files no claim needs
     tests/pages/believed.py --write     writes the page, a line a crate
     tests/pages/believed.py --names     the same by name, for each contract apart
     tests/pages/believed.py --mark      begins each of these files with the line that says so
@@ -18,7 +18,7 @@ from pathlib import Path
 import proved
 
 TOP = Path(__file__).resolve().parents[2]
-CRATES, PAGE = TOP / "crates", TOP / "docs" / "BELIEVED.md"
+CRATES, PAGE = TOP / "crates", TOP / "docs" / "proof" / "BELIEVED.md"
 # The crate of each call, whose contract's words are read from its code. After it, words that a type which the call
 # names says besides.
 CLAIMS = {
@@ -39,7 +39,7 @@ LAWS = ["alm_laws", "alm_progress"]
 MARK = "-- For the proofs.\n"
 HEAD = """# What the headline unfolds to
 
-Whoever believes these definitions, and the Rust types that they name, need not read the code to know what [HEADLINE.md](HEADLINE.md) says. The
+Whoever believes these definitions, and the Rust types that they name, need not read the code to know what [the theorems](README.md) say. The
 page is made by `tests/pages/believed.py`; with `--names` that prints which definitions they are. A case or a field counts as the definition that it belongs to.
 """
 BEGINS = re.compile(r"\s*(?:(?:pub|abbrev|unfoldable|opaque) )*(?:(?:pub|abbrev|unfoldable|opaque|record|data) )(\S+)")
@@ -216,7 +216,7 @@ def page(specs):
             ", ".join(counted(specs, file, named) for file, (named, _) in files.items() if file.startswith(f"{crate}."))
             for files in found.values()
         ]
-        lines.append(f"| [{crate}](../crates/{crate}/specs) | {' | '.join(cells)} |")
+        lines.append(f"| [{crate}](../../crates/{crate}/specs) | {' | '.join(cells)} |")
     return HEAD + "\n".join(lines) + "\n"
 
 
@@ -233,16 +233,14 @@ def main(words):
     specs = {file: Specs(path) for file, path in paths.items()}
     if not words:
         if PAGE.read_text(encoding="utf-8") != page(specs):
-            sys.exit(
-                "believed.py: docs/BELIEVED.md isn't what the definitions unfold to: tests/pages/believed.py --write"
-            )
+            sys.exit("believed.py: docs/proof/BELIEVED.md isn't that: tests/pages/believed.py --write")
         wrong = [
             f"{file} is {'needed by a claim' if is_needed else 'for the proofs alone'}"
             for file, _, is_needed in misplaced(specs, paths)
         ]
         if wrong:
             sys.exit("\n".join(f"believed.py: {line}: tests/pages/believed.py --mark" for line in wrong))
-        print(f"believed.py: docs/BELIEVED.md is what {len(specs)} files of definitions unfold to")
+        print(f"believed.py: docs/proof/BELIEVED.md is what {len(specs)} files of definitions unfold to")
     elif words == ["--mark"]:
         for _, path, is_needed in misplaced(specs, paths):
             text = path.read_text(encoding="utf-8")

@@ -5,9 +5,10 @@
 
 Each link to a file of the repository leads to one, and to a heading of it where it names one. Each block of Rust that a
 page of docs/ quotes stands in a source, whatever its spaces. The counts of wrong bodies and of crates below the program
-are the tree's. The sums of docs/BELIEVED.md stand in docs/HEADLINE.md. Each call that a root file names as carrying a
-claim is in the code of its crate or of those below it. docs/ALARMS.md has each law. Each wrong body and each wrong
-model applies: `rt ci` passes over a body that doesn't. A body changes code alone, but in alm_laws, which has none.
+are the tree's. The sums of docs/proof/BELIEVED.md stand in docs/proof/README.md. Each call that a root file names as
+carrying a claim is in the code of its crate or of those below it. docs/ALARMS.md has each law. Each wrong body and each
+wrong model applies: `rt ci` passes over a body that doesn't. A body changes code alone, but in alm_laws, which has
+none.
 """
 import re
 import sys
@@ -16,12 +17,13 @@ from pathlib import Path
 import proved as root_files
 
 TOP = Path(__file__).resolve().parents[2]
+PROOF = TOP / "docs" / "proof"
 
 LAW = re.compile(r"^pub fn (\w+)", re.MULTILINE)
 PAGES = sorted(
     [
         *TOP.glob("*.md"),
-        *TOP.glob("docs/*.md"),
+        *TOP.glob("docs/**/*.md"),
         *TOP.glob("tests/*.md"),
         *TOP.glob("examples/*.md"),
         *TOP.glob("tools/*.md"),
@@ -65,9 +67,11 @@ def links(found):
                 continue
             name, _, anchor = link.partition("#")
             target = (page.parent / name).resolve() if name else page
-            found.check(target.exists(), page.name, "links to", link, "which isn't there")
+            found.check(target.exists(), page.relative_to(TOP), "links to", link, "which isn't there")
             if anchor and target.suffix == ".md" and target.exists():
-                found.check(anchor in anchors(target), page.name, "links to", link, "which has no such heading")
+                found.check(
+                    anchor in anchors(target), page.relative_to(TOP), "links to", link, "which has no such heading"
+                )
 
 
 def bare(text):
@@ -76,7 +80,7 @@ def bare(text):
 
 def quotes(found):
     sources = [bare(text_of(path)) for path in TOP.glob("crates/*/src/**/*.rt")]
-    for page in TOP.glob("docs/*.md"):
+    for page in TOP.glob("docs/**/*.md"):
         for quote in RUST.findall(text_of(page)):
             found.check(
                 any(bare(quote) in source for source in sources),
@@ -116,19 +120,19 @@ def counts(found):
 
 
 def waits(found):
-    """PROVED has the number of the functions that may wait below the server, and each that loops without an end."""
-    page = text_of(TOP / "docs" / "PROVED.md")
+    """CLAIMS has the number of the functions that may wait below the server, and each that loops without an end."""
+    page = text_of(PROOF / "CLAIMS.md")
     listed = (line.split("#")[0] for line in text_of(TOP / "crates.txt").splitlines())
     heads = [line.split(":")[0].split() for line in listed if ":" in line]
     below = crates_below("alm_server")
     words = (word for name, *words in heads if name in below for word in words)
     number = sum(int(word.partition("=")[2]) for word in words if word.startswith("may_wait="))
-    found.check(f"on {number} such functions" in page, "PROVED.md: the server stands on", number, "that may wait")
+    found.check(f"on {number} such functions" in page, "CLAIMS.md: the server stands on", number, "that may wait")
     for crate in sorted(below):
         for path in TOP.glob(f"crates/{crate}/src/**/*.rt"):
             for before in text_of(path).split(".forever()")[:-1]:
                 name = re.findall(r"\bfn (\w+)", before)[-1]
-                found.check(f"`{name}`" in page, "PROVED.md doesn't name", name, "of", crate, "which has no end")
+                found.check(f"`{name}`" in page, "CLAIMS.md doesn't name", name, "of", crate, "which has no end")
 
 
 def edits(found):
@@ -159,11 +163,11 @@ def edits(found):
 
 
 def believed(found):
-    """The sums of docs/BELIEVED.md stand in docs/HEADLINE.md."""
-    page = text_of(TOP / "docs" / "BELIEVED.md")
-    headline = " ".join(text_of(TOP / "docs" / "HEADLINE.md").split())
+    """The sums of docs/proof/BELIEVED.md stand in docs/proof/README.md."""
+    page = text_of(PROOF / "BELIEVED.md")
+    theorems = " ".join(text_of(PROOF / "README.md").split())
     for total in re.findall(r"^\d+ files, .*$", page, re.MULTILINE):
-        found.check(total in headline, "docs/HEADLINE.md doesn't say", total)
+        found.check(total in theorems, "docs/proof/README.md doesn't say", total)
 
 
 def claims(found):

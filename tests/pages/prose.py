@@ -1,7 +1,7 @@
 #!/usr/bin/env python3
 """Checks how the pages and the comments of the crates are written.
 
-    tests/pages/prose.py [PAGE..]      without a PAGE, those of the list below and all comments
+    tests/pages/prose.py [PAGE..]      without a PAGE, all but BELIEVED and all comments
 
 A sentence has at most 30 words, a cell of a table at most 150 characters, and no page has a word of the list below. A
 comment has none of a second list either. Code in blocks and in backticks, quotes and the targets of links are no words.
@@ -11,33 +11,16 @@ import sys
 from pathlib import Path
 
 TOP = Path(__file__).resolve().parents[2]
-PAGES = [
-    "README.md",
-    "CHANGELOG.md",
-    "CONTRIBUTING.md",
-    "docs/ALARMS.md",
-    "docs/ARCHITECTURE.md",
-    "docs/CALL_OUT.md",
-    "docs/CONTROL_ROOM.md",
-    "docs/DAMAGE.md",
-    "docs/DECISIONS.md",
-    "docs/DEFINITIONS.md",
-    "docs/FIELD.md",
-    "docs/FORMAT.md",
-    "docs/HEADLINE.md",
-    "docs/HISTORY.md",
-    "docs/OPERATING.md",
-    "docs/PROTOCOL.md",
-    "docs/PROVED.md",
-    "docs/SPEED.md",
-    "docs/STANDBY.md",
-    "docs/TABLE.md",
-    "docs/WAKING.md",
-    "tools/README.md",
-    "deploy/README.md",
-    "examples/README.md",
-    "tests/README.md",
-]
+# A page that a script writes by lines of names is none to be read from its first line to its last.
+WRITTEN = TOP / "docs" / "proof" / "BELIEVED.md"
+PAGES = sorted(
+    {
+        *TOP.glob("*.md"),
+        *TOP.glob("docs/**/*.md"),
+        *(TOP / folder / "README.md" for folder in ("tools", "deploy", "examples", "tests")),
+    }
+    - {WRITTEN}
+)
 MOST_WORDS = 30
 MOST_CHARACTERS = 150
 # A pattern of words that went, and what stands in their place.
@@ -134,7 +117,7 @@ def sources():
 
 
 def main():
-    pages = [Path(word) for word in sys.argv[1:]] or [TOP / page for page in PAGES]
+    pages = [Path(word) for word in sys.argv[1:]] or PAGES
     wrong = [f"prose.py: {page.name}: {said}" for page in pages for said in wrong_of(page.read_text(encoding="utf-8"))]
     files = [] if sys.argv[1:] else sources()
     wrong += [

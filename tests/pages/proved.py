@@ -1,5 +1,5 @@
 #!/usr/bin/env python3
-"""Writes the table of docs/PROVED.md from the lines under `Proved:` in the root file of each crate.
+"""Writes the table of docs/proof/CLAIMS.md from the lines under `Proved:` in the root file of each crate.
 
     tests/pages/proved.py             whether the page has that table
     tests/pages/proved.py --write     writes it
@@ -12,7 +12,7 @@ import sys
 from pathlib import Path
 
 TOP = Path(__file__).resolve().parents[2]
-PAGE = TOP / "docs" / "PROVED.md"
+PAGE = TOP / "docs" / "proof" / "CLAIMS.md"
 GROUPS = {
     "Values, alarms, plants": [
         "alm_types",
@@ -140,9 +140,9 @@ def main():
     if sys.argv[1:] == ["--write"]:
         PAGE.write_text(page(), encoding="utf-8")
     elif page() != PAGE.read_text(encoding="utf-8"):
-        sys.exit("proved.py: docs/PROVED.md isn't what the crates say: tests/pages/proved.py --write")
+        sys.exit("proved.py: docs/proof/CLAIMS.md isn't what the crates say: tests/pages/proved.py --write")
     else:
-        print(f"proved.py: docs/PROVED.md has the claims of {len(crates())} crates, as their root files say")
+        print(f"proved.py: docs/proof/CLAIMS.md has the claims of {len(crates())} crates, as their root files say")
 
 
 if __name__ == "__main__":

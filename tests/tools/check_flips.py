@@ -1,5 +1,5 @@
-"""What alm_check says of damaged devices, against docs/FORMAT.md and the program. tests/tools/flips.py runs these
-checks."""
+"""What alm_check says of damaged devices, against docs/develop/FORMAT.md and the program. tests/tools/flips.py runs
+these checks."""
 import concurrent.futures
 import re
 import time
@@ -30,7 +30,7 @@ from damaged_devices import (
     written,
 )
 
-PAGE = DOCS / "FORMAT.md"
+PAGE = DOCS / "develop" / "FORMAT.md"
 # Frames of one action, and a segment whose half they don't fill once more.
 FRAME, SEGMENT, GATES = 35, 12_000, 165
 # What looks damaged is read again at once.

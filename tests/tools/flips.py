@@ -1,6 +1,6 @@
 #!/usr/bin/env python3
-"""Flips bits of devices, and holds what the tools say of them against docs/FORMAT.md, and against the program's own
-fault lines.
+"""Flips bits of devices, and holds what the tools say of them against docs/develop/FORMAT.md, and against the program's
+own fault lines.
 
     tests/tools/flips.py PROGRAM [--short]
 

@@ -3,8 +3,8 @@
     alm_check DEVICE
 
 DEVICE may be a copy, or one that a server has open: it is read without the lock, and nothing is written. Every field
-that a server reads as it opens a device is held against its rule in docs/FORMAT.md, and each action is done again. The
-first field that breaks its rule is named with its place. It is the one of `fault damaged`.
+that a server reads as it opens a device is held against its rule in docs/develop/FORMAT.md, and each action is done
+again. The first field that breaks its rule is named with its place. It is the one of `fault damaged`.
 
 A server doesn't notice all damage: a gate that is closed ends the journal. So a gate is named too if what stands behind
 it was only written once the gate was stored, since no power failure closes that. The actions behind it are hidden from

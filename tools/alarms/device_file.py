@@ -1,4 +1,5 @@
-"""The bytes of a device file, after docs/FORMAT.md: read without the server and without its lock, also while it runs.
+"""The bytes of a device file, after docs/develop/FORMAT.md: read without the server and without its lock, also while it
+runs.
 
 A half that is being written isn't read. What is read is kept only if the same half stands afterwards, so that a reader
 never sees a torn piece. Nothing is written. A field that breaks its rule is `Damaged`: of header, heads and frames each
@@ -40,8 +41,8 @@ class NoDevice(Fault):
 
 
 class Damaged(NoDevice):
-    """A field breaks its rule: its half, 2 for the header; its place in the file; and its name in docs/FORMAT.md. Of an
-    action also the part of its frame that is before it."""
+    """A field breaks its rule: its half, 2 for the header; its place in the file; its name in docs/develop/FORMAT.md.
+    Of an action also the part of its frame that is before it."""
 
     def __init__(self, path: str, half: int, at: int, field: str, before: Optional["Frame"] = None):
         super().__init__(

@@ -1,5 +1,5 @@
-"""The rules of a device's fields, after docs/FORMAT.md and in its order: which field of some bytes is the first that
-breaks its rule.
+"""The rules of a device's fields, after docs/develop/FORMAT.md and in its order: which field of some bytes is the first
+that breaks its rule.
 
 Whether the plant admits an action is no rule of bytes: judging.py asks that.
 """

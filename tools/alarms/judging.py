@@ -1,4 +1,4 @@
-"""What a device's file stands for, judged by each rule of docs/FORMAT.md and by none of the server's code.
+"""What a device's file stands for, judged by each rule of docs/develop/FORMAT.md and by none of the server's code.
 
     judged = judge(DeviceFile(path), head)
     judged.plant, judged.count, judged.damage       # the plant up to the first broken field, and that field

@@ -1,5 +1,5 @@
-"""A plant in memory: the image that begins it is docs/FORMAT.md's, and what an action does is docs/PROTOCOL.md's, `What
-the plant does`.
+"""A plant in memory: the image that begins it is docs/develop/FORMAT.md's, and what an action does is
+docs/PROTOCOL.md's, `What the plant does`.
 
     plant = PlantModel.of_image(image, rows, areas, count)
     changes, floods = plant.apply(action)
