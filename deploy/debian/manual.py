@@ -86,5 +86,5 @@ def of_tool(command: str) -> str:
         f'.TH {command.upper()} 1 "" "alarms {VERSION}" "User commands"\n.SH NAME\n{command} \\-'
         f' {escaped(name[:1].lower() + name[1:])}\n.SH SYNOPSIS\n{"".join(blocks(uses))}.SH'
         f' DESCRIPTION\n{"".join(blocks(more))}.SH ARGUMENTS\n{"".join(arguments(run.stdout))}.SH SEE ALSO\n.BR'
-        " alm_server (8),\n.I /usr/share/doc/alarms/docs/OPERATING.md\n"
+        " alm_server (8),\n.I /usr/share/doc/alarms/docs/START.md\n"
     )

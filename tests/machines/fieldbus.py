@@ -4,7 +4,7 @@
     tests/machines/fieldbus.py PROGRAM --root FOLDER [--short]
 
 The package is built of PROGRAM, and FOLDER is started in a container: container.py says how it is made. It needs
-python3-pymodbus and python3-serial-asyncio too. The plant is formatted and started by OPERATING's blocks; then the
+python3-pymodbus and python3-serial-asyncio too. The plant is formatted and started by START's blocks; then the
 blocks of "A register, step by step" are pasted in their order, word for word, as by one who knows no field bus. The
 device is one of Debian's own pymodbus, at the page's address. It is judged that the page's own line comes from --show,
 that the alarm comes with the level and goes with it, and that the watching alarm comes as the device's cable is pulled
@@ -126,7 +126,7 @@ def serve_plant(one: Newcomer) -> None:
     """The package is installed, and a plant served, by the pages."""
     one.paste("apt-get install -y ./alarms_*_amd64.deb")
     for heading in ("Format", "Start, and the clock"):
-        one.paste(next(one.blocks("OPERATING.md", heading)))
+        one.paste(next(one.blocks("START.md", heading)))
     check(one.alarms()["LI-107"][0].setpoint == 850, "the page says that the setpoint of LI-107 is 850")
 
 

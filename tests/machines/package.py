@@ -86,7 +86,7 @@ def install():
 def life():
     """The blocks of the package's own pages, as units.py runs those of the repository; then nothing of that plant is
     left."""
-    systemd.PAGE = "/usr/share/doc/alarms/docs/OPERATING.md"
+    systemd.PAGES = "/usr/share/doc/alarms/docs"
     for step in units.LIFE:
         step()
     output("systemctl", "disable", "--now", *(f"alm_{part}@plant" for part in ("server", "clock", "feed", "metrics")))

@@ -324,7 +324,7 @@ def upkeep(walk: Walk) -> None:
     }
     check(archived >= walk.came, "the copy lacks", walk.came - archived)
     if walk.is_alone:
-        walk.paste(walk.blocks("OPERATING.md", "Security")[0])
+        walk.paste(walk.blocks("START.md", "Security")[0])
         check("tcp dport 5016 meta skuid" in walk.paste("nft list table inet alarms"), "no rules")
 
 

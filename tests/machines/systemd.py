@@ -22,7 +22,8 @@ SERVER, CLOCK_UNIT, FEED_UNIT, METRICS_UNIT = (
 FOLDER = "/run/alarms/plant"
 
 
-PAGE, PROGRAM = os.path.join(HERE, "docs", "OPERATING.md"), "alm_server"
+# The pages whose blocks are run, below the folder of the pages.
+PAGES, OF_UNITS, PROGRAM = os.path.join(HERE, "docs"), ("START.md", "OPERATING.md"), "alm_server"
 
 
 GROUPS = {**dict.fromkeys(range(16), "alarms-consoles"), 16: "alarms-feed", 17: "alarms-clock"}
@@ -38,11 +39,13 @@ def check(holds, *said):
 
 
 def blocks_of(heading, page=None):
-    """The blocks of a section, of OPERATING if no page is named."""
-    with open(page or PAGE, encoding="utf-8") as file:
-        section = re.search(rf"(?ms)^## {re.escape(heading)}\n(.*?)(?=^## |\Z)", file.read())
-    check(section, "the page has no section", heading)
-    return re.findall(r"(?ms)^```sh\n(.*?)^```", section[1])
+    """The blocks of a section, of START or OPERATING if no page is named."""
+    found = []
+    for path in [page] if page else [os.path.join(PAGES, name) for name in OF_UNITS]:
+        with open(path, encoding="utf-8") as file:
+            found += re.findall(rf"(?ms)^## {re.escape(heading)}\n(.*?)(?=^## |\Z)", file.read())
+    check(len(found) == 1, len(found), "sections of the pages are called", heading)
+    return re.findall(r"(?ms)^```sh\n(.*?)^```", found[0])
 
 
 def block_of(heading, word):

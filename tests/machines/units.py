@@ -5,10 +5,10 @@
 
 FOLDER is the root of a Debian with systemd, which is started in a container over it: container.py says how it is made.
 
-The blocks of docs/OPERATING.md are run word for word, as root, in the order of a plant's life: try it, install, format,
-start, feed and consoles, watch, a second plant, backup, restore, a change of the table, a clock that ran ahead, upgrade
-and the way back. Behind each it is judged what runs, who may open which socket, and what the plant shows. A server that
-is killed comes back; one whose device is missing or damaged stays down.
+The blocks of docs/START.md and docs/OPERATING.md are run word for word, as root, in the order of a plant's life: try
+it, install, format, start, feed and consoles, watch, a second plant, backup, restore, a change of the table, a clock
+that ran ahead, upgrade and the way back. Behind each it is judged what runs, who may open which socket, and what the
+plant shows. A server that is killed comes back; one whose device is missing or damaged stays down.
 
 It needs root and systemd-nspawn (Debian: systemd-container), and ends with status 77 where one isn't there or no FOLDER
 is given.

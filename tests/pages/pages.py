@@ -60,18 +60,21 @@ def anchors(path):
     return {re.sub(r"[^\w\- ]", "", heading.lower()).replace(" ", "-") for heading in headings}
 
 
+def links_of(page):
+    """Each link of a page to a file: where that has to be, the heading that is named, and the link."""
+    for link in LINK.findall(FENCE.sub("", text_of(page))):
+        name, _, anchor = link.partition("#")
+        if "://" not in link:
+            yield (page.parent / name).resolve() if name else page, anchor, link
+
+
 def links(found):
     for page in PAGES:
-        for link in LINK.findall(FENCE.sub("", text_of(page))):
-            if "://" in link:
-                continue
-            name, _, anchor = link.partition("#")
-            target = (page.parent / name).resolve() if name else page
-            found.check(target.exists(), page.relative_to(TOP), "links to", link, "which isn't there")
+        for target, anchor, link in links_of(page):
+            said = page.relative_to(TOP), "links to", link
+            found.check(target.exists(), *said, "which isn't there")
             if anchor and target.suffix == ".md" and target.exists():
-                found.check(
-                    anchor in anchors(target), page.relative_to(TOP), "links to", link, "which has no such heading"
-                )
+                found.check(anchor in anchors(target), *said, "which has no such heading")
 
 
 def bare(text):

@@ -34,7 +34,6 @@ from lib.places import DEPLOY, DOCS, EXAMPLES, TOOLS, TOP
 from lib.program import Wrong, begin, check, finish
 
 VERSION = (TOP / "VERSION").read_text(encoding="ascii").strip()
-OPERATING = DOCS / "OPERATING.md"
 # How many checks run beside each other.
 BESIDE = 6
 INSTALLED = re.compile(r"/opt/alarms-([0-9.]+[0-9])")
