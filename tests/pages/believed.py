@@ -1,10 +1,9 @@
 #!/usr/bin/env python3
-"""Writes what a reader of the headline has to believe: the definitions of specs/ to which its contracts unfold, counted
-by file.
+"""Writes what a reader of the theorems has to believe: the definitions to which their contracts unfold, by name.
 
     tests/pages/believed.py             whether docs/proof/BELIEVED.md is that; and which files no claim needs
-    tests/pages/believed.py --write     writes the page, a line a crate
-    tests/pages/believed.py --names     the same by name, for each contract apart
+    tests/pages/believed.py --write     writes the page
+    tests/pages/believed.py --names     the same for each theorem apart
     tests/pages/believed.py --mark      begins each of these files with the line that says so
     tests/pages/believed.py CRATE.FILE:NAME ..     what these definitions unfold to
 
@@ -37,10 +36,18 @@ CLAIMS = {
 }
 LAWS = ["alm_laws", "alm_progress"]
 MARK = "-- For the proofs.\n"
-HEAD = """# What the headline unfolds to
+# The theorem that takes an hour, by its title.
+FIRST = "A receipt and a look: `what_is_told_stays_stored`"
+HEAD = """# What to believe
 
-Whoever believes these definitions, and the Rust types that they name, need not read the code to know what [the theorems](README.md) say. The
-page is made by `tests/pages/believed.py`; with `--names` that prints which definitions they are. A case or a field counts as the definition that it belongs to.
+Whoever believes these definitions, and the Rust types that they name, need not read the code to know what [the theorems](README.md) say.
+[DEFINITIONS](DEFINITIONS.md) says what each file is for. The page is made by `tests/pages/believed.py`, which with `--names` prints it for each theorem
+apart. A case or a field counts as the definition that it belongs to.
+
+## How much
+
+| | contract | unfolds to |
+|---|---|---|
 """
 BEGINS = re.compile(r"\s*(?:(?:pub|abbrev|unfoldable|opaque) )*(?:(?:pub|abbrev|unfoldable|opaque|record|data) )(\S+)")
 IMPORT = re.compile(r"\s*use Rattle\.(alm_\w+)\.specs\.(\w+)\.\{(.*)\}")
@@ -188,42 +195,71 @@ def sums(found):
     )
 
 
+def after(below):
+    """Names in an order in which each comes after those below it."""
+    ordered = []
+
+    def visit(name):
+        if name not in ordered:
+            for other in sorted(below[name] - {name}):
+                visit(other)
+            ordered.append(name)
+
+    for name in sorted(below):
+        visit(name)
+    return ordered
+
+
+def crate_of(file):
+    return file.partition(".")[0]
+
+
+def reading_order(specs, files):
+    """These files, crate after crate, each after those on whose words it stands."""
+    below = {file: {holder for holder, _ in specs[file].brings.values()} & set(files) for file in files}
+    crates = {crate: set() for crate in map(crate_of, files)}
+    for file, others in below.items():
+        crates[crate_of(file)] |= {crate_of(other) for other in others}
+    place = {crate: number for number, crate in enumerate(after(crates))}
+    return sorted(after(below), key=lambda file: place[crate_of(file)])
+
+
+def which(specs, file, named):
+    """The names of the definitions of a file that are needed."""
+    others = sorted(specs[file].lines.keys() - set(named))
+    quoted = lambda names: ", ".join(f"`{name}`" for name in names)
+    return "all" if not others else f"all but {quoted(others)}" if len(others) < len(named) else quoted(named)
+
+
 def named_table(specs, names):
     """The files to which these definitions unfold, each with its definitions, and their counts."""
-    lines, found = ["| file | definitions | lines |", "|---|---|---|"], by_file(specs, names)
-    for file, (named, count) in found.items():
-        others = sorted(specs[file].lines.keys() - set(named))
-        quoted = lambda names: ", ".join(f"`{name}`" for name in names)
-        which = "all" if not others else f"all but {quoted(others)}" if len(others) < len(named) else quoted(named)
-        lines.append(f"| {file} | {which} | {count} |")
+    found = by_file(specs, names)
+    lines = ["| file | definitions | lines |", "|---|---|---|"]
+    for file in reading_order(specs, found):
+        lines.append(f"| {linked(file)} | {which(specs, file, found[file][0])} | {found[file][1]} |")
     return [*lines, "", sums(found)]
 
 
+def linked(file):
+    """A file as a link from the page."""
+    crate, _, name = file.partition(".")
+    return f"[{crate} {name}](../../crates/{crate}/specs/{name}.antt)"
+
+
 def page(specs):
-    """The whole page: how much each contract unfolds to, and a line a crate."""
+    """The whole page: how much each contract unfolds to, the definitions of one, and those of all."""
     found = {title: by_file(specs, claimed(title)) for title in CLAIMS}
-    lines = [line for title in found for line in ("", f"## {title}", "", sums(found[title]))]
-    lines += [
-        "",
-        "## By crate",
-        "",
-        "Of each file in specs/, how many definitions a contract needs: `6` is all six of a file, `14/18` is 14 of 18.",
-        "",
-    ]
-    lines += [f"| crate | {' | '.join(title.partition(':')[0] for title in found)} |", "|---" * (len(found) + 1) + "|"]
-    for crate in sorted({file.partition(".")[0] for files in found.values() for file in files}):
-        cells = [
-            ", ".join(counted(specs, file, named) for file, (named, _) in files.items() if file.startswith(f"{crate}."))
-            for files in found.values()
-        ]
-        lines.append(f"| [{crate}](../../crates/{crate}/specs) | {' | '.join(cells)} |")
+    every = by_file(specs, [name for title in CLAIMS for name in claimed(title)])
+    letters = dict(zip(CLAIMS, "ABCDEFG"))
+    lines = [f"| {letters[title]} | {title} | {sums(files)} |" for title, files in found.items()]
+    lines += [f"| | all of them | {sums(every)} |", "", f"## {FIRST.partition(':')[0]}", ""]
+    lines += ["In reading order: each file stands on those before it.", "", *named_table(specs, claimed(FIRST))[:-2]]
+    lines += ["", "## All of them", "", "| file | definitions | lines | of |", "|---|---|---|---|"]
+    for file in reading_order(specs, every):
+        named, count = every[file]
+        users = " ".join(letters[title] for title in CLAIMS if file in found[title])
+        lines.append(f"| {linked(file)} | {which(specs, file, named)} | {count} | {users} |")
     return HEAD + "\n".join(lines) + "\n"
-
-
-def counted(specs, file, named):
-    """A file with the count of the definitions that are needed, and of all if there are more."""
-    has = len(specs[file].lines)
-    return f"{file.partition('.')[2]} {len(named)}" + (f"/{has}" if has > len(named) else "")
 
 
 def main(words):

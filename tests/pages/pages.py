@@ -122,20 +122,28 @@ def counts(found):
     )
 
 
+def promise(found):
+    """README quotes what START promises."""
+    quoted = re.findall(r"^> .*$", text_of(TOP / "README.md"), re.MULTILINE)
+    found.check(quoted, "README.md promises nothing")
+    for line in quoted:
+        found.check(line in text_of(TOP / "docs" / "START.md"), "docs/START.md doesn't promise:", line)
+
+
 def waits(found):
-    """CLAIMS has the number of the functions that may wait below the server, and each that loops without an end."""
-    page = text_of(PROOF / "CLAIMS.md")
+    """The page of the theorems has the number of functions below the server that may wait, and each without an end."""
+    page = text_of(PROOF / "README.md")
     listed = (line.split("#")[0] for line in text_of(TOP / "crates.txt").splitlines())
     heads = [line.split(":")[0].split() for line in listed if ":" in line]
     below = crates_below("alm_server")
     words = (word for name, *words in heads if name in below for word in words)
     number = sum(int(word.partition("=")[2]) for word in words if word.startswith("may_wait="))
-    found.check(f"on {number} such functions" in page, "CLAIMS.md: the server stands on", number, "that may wait")
+    found.check(f"on {number} such functions" in page, "proof/README.md: the server stands on", number, "that may wait")
     for crate in sorted(below):
         for path in TOP.glob(f"crates/{crate}/src/**/*.rt"):
             for before in text_of(path).split(".forever()")[:-1]:
                 name = re.findall(r"\bfn (\w+)", before)[-1]
-                found.check(f"`{name}`" in page, "CLAIMS.md doesn't name", name, "of", crate, "which has no end")
+                found.check(f"`{name}`" in page, "proof/README.md doesn't name", name, "of", crate, "which has no end")
 
 
 def edits(found):
@@ -169,7 +177,7 @@ def believed(found):
     """The sums of docs/proof/BELIEVED.md stand in docs/proof/README.md."""
     page = text_of(PROOF / "BELIEVED.md")
     theorems = " ".join(text_of(PROOF / "README.md").split())
-    for total in re.findall(r"^\d+ files, .*$", page, re.MULTILINE):
+    for total in re.findall(r"\d+ files, \d+ definitions, \d+ lines", page):
         found.check(total in theorems, "docs/proof/README.md doesn't say", total)
 
 
@@ -217,7 +225,7 @@ def models(found):
 
 def main():
     found = Found()
-    for look in (links, quotes, counts, waits, edits, believed, claims, laws, models):
+    for look in (links, quotes, counts, promise, waits, edits, believed, claims, laws, models):
         look(found)
     if found.wrong:
         sys.exit("\n".join(f"pages.py: {wrong}" for wrong in found.wrong))
