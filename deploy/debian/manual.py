@@ -25,18 +25,19 @@ def rows(page: str, heading: str) -> list[list[str]]:
     found = re.search(rf"(?ms)^## {re.escape(heading)}\n.*?^\|[^\n]*\n\|[-| ]+\n(.*?)^(?!\|)", text)
     if not found:
         raise NoManual(f"docs/{page} has no table under {heading}")
-    return [[plain(cell) for cell in re.split(r"(?<!\\)\|", line.strip().strip("|"))] for line in found[1].splitlines()]
+    cells = (re.split(r"(?<!\\)\|", line.strip().strip("|")) for line in found[1].splitlines())
+    return [[plain(cell, page) for cell in row] for row in cells]
 
 
-def named(found: re.Match[str]) -> str:
-    """A link as its text, and the page that it leads to if the text isn't its name."""
-    page = os.path.basename(found[2].partition("#")[0])
-    return found[1] if not page or found[1] in page else f"{found[1]} ({page})"
+def named(found: re.Match[str], own: str) -> str:
+    """A link of a page as its text, and the page that it leads to if the text isn't its name."""
+    page = os.path.basename(found[2].partition("#")[0]) or own
+    return found[1] if found[1] in page else f"{found[1]} ({page})"
 
 
-def plain(cell: str) -> str:
+def plain(cell: str, page: str) -> str:
     """A cell of a page as text of a manual."""
-    text = re.sub(r"\[([^\]]*)\]\(([^)]*)\)", named, cell.strip())
+    text = re.sub(r"\[([^\]]*)\]\(([^)]*)\)", lambda found: named(found, page), cell.strip())
     text = re.sub(r"`([^`]*)`|\*\*", lambda m: m[1] or "", text)
     return text.replace("\\", "\\e").replace("-", "\\-").replace("'", "\\(aq")
 
