@@ -32,6 +32,7 @@ CLAIMS = {
     "A server's run: `serve_store`": ["alm_serve", "alm_threads.Answered:AllAnswered"],
     "The server's threads: `run_with_bells`": ["alm_threads", "alm_threads.Answered:AllAnswered"],
     "A receipt and a look: `what_is_told_stays_stored`": ["alm_shared", "alm_moments.Moments:AreHeld"],
+    "Any number of outages: `what_was_told_outlasts_outages`": ["alm_threads"],
     "One thread: `life`": ["alm_bench"],
 }
 LAWS = ["alm_laws", "alm_progress"]
@@ -250,7 +251,7 @@ def page(specs):
     """The whole page: how much each contract unfolds to, the definitions of one, and those of all."""
     found = {title: by_file(specs, claimed(title)) for title in CLAIMS}
     every = by_file(specs, [name for title in CLAIMS for name in claimed(title)])
-    letters = dict(zip(CLAIMS, "ABCDEFG"))
+    letters = dict(zip(CLAIMS, "ABCDEFGH"))
     lines = [f"| {letters[title]} | {title} | {sums(files)} |" for title, files in found.items()]
     lines += [f"| | all of them | {sums(every)} |", "", f"## {FIRST.partition(':')[0]}", ""]
     lines += ["In reading order: each file stands on those before it.", "", *named_table(specs, claimed(FIRST))[:-2]]
