@@ -24,7 +24,15 @@ GROUPS = {
         "alm_measure",
         "alm_plant",
     ],
-    "Lines, the desk, the program": ["alm_lines", "alm_desk", "alm_export", "alm_table", "alm_program", "alm_server"],
+    "Lines, the desk, the program": [
+        "alm_lines",
+        "alm_desk",
+        "alm_desk_laws",
+        "alm_export",
+        "alm_table",
+        "alm_program",
+        "alm_server",
+    ],
     "The device and what is stored": [
         "alm_disk",
         "alm_file",
@@ -42,6 +50,7 @@ GROUPS = {
 # by the claims of those above it, or by another page.
 CHOSEN = {
     "alm_laws": ["core states, what an action", "no active alarm is hidden"],
+    "alm_desk_laws": ["OK answers exactly"],
     "alm_links": [],
     "alm_wheel": [],
     "alm_measure": [],
