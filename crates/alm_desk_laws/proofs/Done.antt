@@ -8,7 +8,7 @@ use Rattle.alm_types.specs.declared.refusal.Refusal.{Refusal}
 use Rattle.alm_types.specs.declared.verdict.Verdict.TheVariants.{Accepted}
 use Rattle.alm_types.specs.Tables.{Listing}
 use Rattle.alm_model.specs.Plant.{Condensed}
-use Rattle.alm_model.specs.Accept.{accept, refusal}
+use Rattle.alm_model.specs.Accept.{accept}
 use Rattle.alm_model.specs.Judging.{verdict_of, verdict_from}
 use Rattle.alm_model.specs.New.{new_plant}
 use Rattle.alm_model.specs.Rules.{AreAdmitted, IsTimely}
@@ -17,7 +17,7 @@ use Rattle.alm_model.proofs.Runs.{run_append, run_count, admitted_join}
 use Rattle.alm_model.proofs.Legal.{accepted_is}
 use Rattle.alm_lines.specs.declared.ask.Ask.{Ask}
 use Rattle.alm_lines.specs.declared.ask.Ask.TheVariants.{Act, Look, Bad}
-use Rattle.alm_desk.specs.Answers.{DeskState, SlotLine, AnsweredLine, request, after_line, after_lines, plant_after, ask_after}
+use Rattle.alm_desk.specs.Answers.{DeskState, AnsweredLine, request, after_line, after_lines, plant_after, ask_after}
 use Rattle.alm_desk.specs.Backends.{if_accepted}
 use Rattle.alm_desk.specs.declared.hindrance.Hindrance.{Hindrance}
 use Rattle.alm_desk.specs.declared.hindrance.Hindrance.TheVariants as hindrance

@@ -10,10 +10,8 @@ use Rattle.alm_types.specs.declared.shown.Shown.{Shown}
 use Rattle.alm_types.specs.Reports.{Report, alarm, alarms, row}
 use Rattle.alm_types.specs.Tables.{Listing}
 use Rattle.alm_state.specs.Rows.{State}
-use Rattle.alm_state.specs.Showing.{shown_of}
 use Rattle.alm_model.specs.Plant.{Condensed}
 use Rattle.alm_model.specs.Look.{look}
-use Rattle.alm_model.specs.Lists.{list_of}
 use Rattle.alm_model.specs.New.{new_plant}
 use Rattle.alm_model.specs.Rising.{RisesByStamp}
 use Rattle.alm_model.specs.Rules.{KeepsRules}
@@ -21,7 +19,7 @@ use Rattle.alm_model.specs.declared.list.List.TheVariants.{Priority, Area}
 use Rattle.alm_model.proofs.Kept.{new-keeps, run-keeps}
 use Rattle.alm_lines.specs.Reply.{ok_text, told_text}
 use Rattle.alm_lines.specs.declared.ask.Ask.TheVariants.{Act, Look}
-use Rattle.alm_desk.specs.Answers.{DeskState, AnsweredLine, request, reply_on, after_lines, report_reply, judged_reply}
+use Rattle.alm_desk.specs.Answers.{DeskState, AnsweredLine, request, reply_on, report_reply, judged_reply}
 use Rattle.alm_desk.specs.Backends.{judged_by}
 use Rattle.alm_desk.specs.declared.hindrance.Hindrance.TheVariants.{Nothing}
 use Rattle.alm_laws.specs.Listed.{HasJustThose}
@@ -59,7 +57,7 @@ module _ (t : Listing) (s : DeskState) (lines : List AnsweredLine) (q : Condense
   pub row-printed : (slot id : ℕ) (i : AlarmId) (r : State) (a : Attr) (x : Shown) (moments : List ℕ) → slice_get q.panel.rows i.0 ≡ Some r → slice_get q.panel.attrs i.0 ≡ Some a
       → slice_get q.kept.moments i.0 ≡ Some moments → IsShownAsItIs r x
       → reply_to_query s lines slot id (query.Row i) ≡ told_text id (length (done s lines)) (query.Row i)
-          (row (Some record { shown = x; active = r.active; flags = flags_shown r; until = r.shelved_until; stamp = r.stamp; priority = a.priority; setpoint = a.setpoint; moments = take 3 moments }))
+      (row (Some record { shown = x; active = r.active; flags = flags_shown r; until = r.shelved_until; stamp = r.stamp; priority = a.priority; setpoint = a.setpoint; moments = take 3 moments }))
   row-printed slot id i r a x moments e f g is =
       told slot id (query.Row i) _
       (subst (λ y. look q (query.Row i) ≡ Ok (row (Some record { shown = y; active = r.active; flags = flags_shown r; until = r.shelved_until; stamp = r.stamp; priority = a.priority; setpoint = a.setpoint; moments = take 3 moments })))

@@ -19,7 +19,6 @@ use Rattle.alm_types.specs.declared.kind.Kind.TheVariants as kind
 use Rattle.alm_types.proofs.Padding.{length-tag, length-text}
 use Rattle.alm_types.specs.Attributes.{deadband_limit}
 use Rattle.alm_types.specs.Readings.{IsReading}
-use Rattle.alm_types.specs.declared.alarm_row.AlarmRow.{AlarmRow}
 use Rattle.alm_types.specs.Reports.{Report, flood, alarms, plant, attributes, row}
 use Rattle.alm_types.specs.declared.shown.Shown.{Shown}
 use Rattle.alm_types.specs.declared.shown.Shown.TheVariants as shown

@@ -27,8 +27,19 @@ pub returns : goal.returns
 returns c =
     let kept = to_z-of_z w64 c.value.result (reading_fits c.value.result c.value.ensures.range) in
     rw (
-      c.shown_word.ensures, c.digit.ensures, c.letters.ensures, c.deadline_part.ensures, c.from.ensures, kept, c.value.ensures.value,
-      c.space_before.ensures, c.moment_part.ensures, c.space_before-2.ensures, c.moment_part-2.ensures, c.space_before-3.ensures, c.moment_part-3.ensures,
-      c.as_slice-moments.ensures.moments
+      c.shown_word.ensures,
+      c.digit.ensures,
+      c.letters.ensures,
+      c.deadline_part.ensures,
+      c.from.ensures,
+      kept,
+      c.value.ensures.value,
+      c.space_before.ensures,
+      c.moment_part.ensures,
+      c.space_before-2.ensures,
+      c.moment_part-2.ensures,
+      c.space_before-3.ensures,
+      c.moment_part-3.ensures,
+      c.as_slice-moments.ensures.moments,
     )
     (joined _ _ _ _ _ _ _ _ c.args.row.now.moments (rw (← c.as_slice-moments.ensures.moments) c.as_slice-moments.ensures.few))
