@@ -30,6 +30,7 @@ PARTS = (
     "check_windows",
     "check_hand",
     "check_details",
+    "check_positions",
     "check_screen",
     "check_hold",
     "check_flood",

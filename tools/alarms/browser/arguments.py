@@ -7,7 +7,8 @@ from urllib.parse import urlsplit
 
 from ..arguments import Parser, add_places, group_of, listen_port, names_of_servers, of_each, places_of_servers
 from ..client import CONSOLES, Place
-from .orders import ACTIONS, MOST_ALARMS, MOST_AT_ONCE, ROLES
+from .orders import ACTIONS, MOST_ALARMS, MOST_AT_ONCE
+from .positions import ROLES
 
 
 @dataclass(frozen=True)
@@ -80,6 +81,11 @@ def arguments(page: Optional[str]) -> Parser:
         default=[],
         metavar="FILE",
         help="what operators are told of each alarm: units, texts, responses (docs/TABLE.md)",
+    )
+    words.add_argument(
+        "--positions",
+        metavar="FILE",
+        help="the positions of the control room: areas, roles, what each may (docs/CONTROL_ROOM.md)",
     )
     return words
 

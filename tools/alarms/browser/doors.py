@@ -14,7 +14,8 @@ from urllib.parse import urlsplit
 
 from aiohttp import web
 
-from .orders import ROLES, Rules
+from .orders import Rules
+from .positions import ROLES
 
 USER, ROLE, KEY = "X-Alarms-User", "X-Alarms-Role", "X-Alarms-Key"
 # Sessions that a user has at once; the oldest one goes first.
@@ -119,8 +120,8 @@ class Door:
         return response
 
     def words(self, session: Session) -> list[str]:
-        """The actions that a session has."""
-        return self.rules.words(session.role)
+        """The actions that a session has by its role; where there are positions none by that."""
+        return [] if self.rules.desks else self.rules.words(session.role)
 
     def has_key(self, request: web.Request, session: Session) -> bool:
         return secrets.compare_digest(request.headers.get(KEY, "").encode(), session.key.encode())

@@ -4,11 +4,13 @@ A device stores neither. A row is written before the server is asked, and has th
 answered: so an action that was done while this process was killed has at least a row of who asked for it.
 docs/CONTROL_ROOM.md says what each column means, and how the rows are joined to those of an archive.
 """
+import json
 import sqlite3
 import time
 from typing import Iterable, NamedTuple, Optional
 
 from ..ending import Fault
+from .positions import TAKE, Holder
 
 FORMAT = 1
 TABLES = (
@@ -20,6 +22,14 @@ TABLES = (
     "CREATE INDEX note_number ON note (name, number)",
     "CREATE TABLE about (format INTEGER NOT NULL)",
     f"INSERT INTO about VALUES ({FORMAT})",
+)
+# Files of before these have the others alone.
+LATER = (
+    (
+        "CREATE TABLE IF NOT EXISTS shift (id INTEGER PRIMARY KEY, name TEXT NOT NULL, position TEXT NOT NULL, word"
+        " TEXT NOT NULL, user TEXT NOT NULL, role TEXT NOT NULL, remark TEXT NOT NULL, asked REAL NOT NULL, moment"
+        " BIGINT, stands TEXT NOT NULL)"
+    ),
 )
 # Notes that are read again as a plant begins.
 MOST = 5000
@@ -73,6 +83,8 @@ class Notes:
                 for statement in TABLES:
                     run(statement)
         run("PRAGMA synchronous = FULL")
+        for statement in LATER:
+            run(statement)
         found = run("SELECT format FROM about").fetchone()
         if found != (FORMAT,):
             raise NoNotes(f"{self.path} has notes of format {found and found[0]}, and this tool knows {FORMAT}")
@@ -129,6 +141,42 @@ class Notes:
             "UPDATE note SET moment = ? WHERE name = ? AND number = ? AND moment IS NULL",
             [(moment, self.name, number) for number, moment in moments],
         )
+
+    def shift(self, asker: NoteAsker, position: str, word: str, moment: Optional[int], stands: list[list[str]]) -> None:
+        """Notes that somebody took or left a position; `stands` has the tags and states of its areas' alarms that
+        aren't normal."""
+        self.write(
+            "INSERT INTO shift (name, position, word, user, role, remark, asked, moment, stands) VALUES (?, ?, ?, ?, ?,"
+            " ?, ?, ?, ?)",
+            [
+                (
+                    self.name,
+                    position,
+                    word,
+                    asker.user,
+                    asker.role,
+                    asker.reason,
+                    time.time(),
+                    moment,
+                    json.dumps(stands),
+                )
+            ],
+        )
+
+    def holders(self) -> dict[str, Holder]:
+        """Who had each position as this was noted last, by its name."""
+        query = (
+            "SELECT position, word, user, asked, remark FROM shift WHERE id IN (SELECT MAX(id) FROM shift WHERE name = ?"
+            " GROUP BY position)"
+        )
+        try:
+            rows = self.connection.execute(query, (self.name,)).fetchall()
+        except sqlite3.Error as error:
+            self.fault, rows = str(error), []
+        return {
+            position: Holder(user if word == TAKE else "", int(asked), remark)
+            for position, word, user, asked, remark in rows
+        }
 
     def write(self, statement: str, rows: list[tuple]) -> None:
         try:

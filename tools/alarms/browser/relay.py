@@ -9,11 +9,12 @@ import asyncio
 import itertools
 import json
 import time
-from typing import Any, Callable, Iterator, Sequence
+from typing import Any, Callable, Optional, Sequence
 
 from ..ending import Fault
 from .board import REST, BrowserBoard, Reader, written
 from .orders import NO_REPLY, NO_SERVER, Answer, BadOrder, NotAllowed, Order, Rules, read_order
+from .positions import Desks, Position, position_of
 from .watch import Batch
 
 # Bytes of an order, and of an event; seconds that the other part may take what it is sent, and between two tries to
@@ -45,6 +46,8 @@ class Teller:
         reader, telling = Reader(self.boards), None
         try:
             if self.parts <= MOST_PARTS:
+                told = [one.told() for one in self.rules.desks.positions] if self.rules.desks else []
+                writer.write(f"event: positions\ndata: {written(told)}\n\n".encode())
                 writer.write(f"event: plants\ndata: {written([plant_of(board) for board in self.boards])}\n\n".encode())
                 telling = asyncio.create_task(self.tell(writer, reader))
                 while line := await lines.readline():
@@ -82,7 +85,8 @@ class Teller:
             asked, user, role = sent["asked"], str(sent["user"]), sent["role"]
             self.take(read_order(asked, user, role, self.rules, answer, len(self.boards)))
         except (BadOrder, NotAllowed) as refused:
-            answer([Answer(alarm, "refused", None, str(refused)) for alarm, _ in sent["asked"]["alarms"]])
+            alarms = sent["asked"]["alarms"] or [(0, 0)]
+            answer([Answer(alarm, "refused", None, str(refused)) for alarm, _ in alarms])
 
 
 class Source:
@@ -91,6 +95,7 @@ class Source:
     def __init__(self, path: str, say: Callable[..., None]):
         self.path, self.say, self.said = path, say, ""
         self.boards: list[BrowserBoard] = []
+        self.positions: list[Position] = []
         self.answered: list[float] = []
         self.pending: dict[int, Order] = {}
         self.numbers = itertools.count()
@@ -125,7 +130,9 @@ class Source:
 
     def told(self, kind: str, what: Any) -> None:
         """Takes an event."""
-        if kind == "plants":
+        if kind == "positions":
+            self.seat([position_of(one) for one in what])
+        elif kind == "plants":
             self.begin([(str(name), list(areas), dict(details)) for name, areas, details in what])
         elif kind == "answers":
             order = self.pending.pop(what[0], None)
@@ -138,6 +145,16 @@ class Source:
                 board.events.clear()
             rows = {row[0]: row for row in what["rows"]}
             board.take(Batch(what.get("era"), kind == "all", rows, what["events"], what["head"], what.get("table", [])))
+
+    def seat(self, positions: list[Position]) -> None:
+        """The positions that there are, which stay the same too."""
+        if self.boards and self.positions != positions:
+            raise OtherPlants(f"{self.path}: it has other positions than before")
+        self.positions = positions
+
+    def desks(self) -> Optional[Desks]:
+        """Who has each position, as the other part tells it; none where there are no positions."""
+        return Desks(self.positions, lambda: self.boards[0].head.get("held")) if self.positions else None
 
     def begin(self, plants: list[PlantTold]) -> None:
         """The plants that there are. They stay the same for as long as this process runs."""
@@ -154,7 +171,7 @@ class Source:
     def take(self, order: Order) -> None:
         """Sends an order."""
         if self.writer is None or self.writer.is_closing():
-            order.answer(list(outcomes(order, "refused", NO_SERVER)))
+            order.refuse(NO_SERVER)
             return
         number = next(self.numbers)
         self.pending[number] = order
@@ -167,7 +184,7 @@ class Source:
             self.writer.close()
         self.writer = None
         for order in self.pending.values():
-            order.answer(list(outcomes(order, "lost", NO_REPLY)))
+            order.refuse(NO_REPLY, "lost")
         self.pending.clear()
 
 
@@ -177,7 +194,3 @@ class OtherPlants(Fault):
 
 def answered_of(answered: list[float], number: int) -> Callable[[], float]:
     return lambda: answered[number]
-
-
-def outcomes(order: Order, outcome: str, said: str) -> Iterator[Answer]:
-    return (Answer(alarm, outcome, None, said) for alarm, _ in order.alarms)

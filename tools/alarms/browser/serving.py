@@ -13,13 +13,15 @@ from aiohttp import web
 from ..connecting import HOST
 from ..details_file import Details, differences, load_details
 from ..ending import sayer
+from ..known import known
 from .arguments import Given
 from .board import BrowserBoard
 from .doors import Door
 from .gate import BACKLOG, Gate, most_connections
 from .listening import Ended, open_port, open_socket
 from .notes import Notes
-from .orders import Order, Rules
+from .orders import MOST_ALARMS, Order, Rules
+from .positions import Desks, area_lines, load_positions
 from .relay import MOST_ORDER, Source, Teller
 from .watch import STOP, Batch, WatchedServer, Watch
 from .web import Site
@@ -58,8 +60,16 @@ def told_details(details: dict[str, Details]) -> dict[str, list[Any]]:
     }
 
 
-def rules_of(chosen: argparse.Namespace) -> Rules:
-    return Rules(chosen.out_of_service, chosen.most)
+def rules_of(chosen: argparse.Namespace, desks: Optional[Desks]) -> Rules:
+    return Rules(chosen.out_of_service, chosen.most, desks)
+
+
+def read_desks(chosen: argparse.Namespace, plants: list[Given]) -> Optional[Desks]:
+    """The positions of the file, where there is one."""
+    if not chosen.positions:
+        return None
+    names = [plant.short for plant in plants]
+    return Desks(load_positions(chosen.positions, names, MOST_ALARMS, chosen.most))
 
 
 def user_of(chosen: argparse.Namespace) -> str:
@@ -77,31 +87,59 @@ def follow(
     chosen: argparse.Namespace,
     say_of: Callable[..., None],
     fail: Callable[[Exception], None],
+    desks: Optional[Desks],
 ) -> tuple[BrowserBoard, Watch]:
     """What browsers are told of a plant, and the thread that will follow it."""
     loop, shown = asyncio.get_running_loop(), WatchedServer(plant.place, chosen.slots, say_of)
     details = read_details(plant.details)
     board = BrowserBoard(number, plant.short, read_areas(plant.areas), told_details(details), lambda: shown.answered)
     notes = Notes(chosen.notes or ":memory:", plant.name)
+    if desks and number == 0:
+        desks.restore(notes.holders())
+
+    def judge(batch: Batch) -> None:
+        """Holds the files against the plant."""
+        for line in differences(details, (tag for tag, *_ in batch.table)) if details else ():
+            say_of(f"{plant.details}: {line}")
+        for line in area_lines(desks.positions, number, len(batch.head["floods"])) if desks else ():
+            say_of(f"{chosen.positions}: {line}")
 
     def tell(batch: Batch) -> None:
-        if details and batch.is_whole and batch.era and batch.era != board.era:
-            for line in differences(details, (tag for tag, *_ in batch.table)):
-                say_of(f"{plant.details}: {line}")
+        if batch.is_whole and batch.era and batch.era != board.era:
+            judge(batch)
         loop.call_soon_threadsafe(board.take, batch)
 
-    return board, Watch(plant.device, shown, notes, tell, fail)
+    return board, Watch(plant.device, shown, notes, tell, fail, desks, number)
 
 
 def followed(
-    chosen: argparse.Namespace, plants: list[Given], fail: Callable[[Exception], None]
+    chosen: argparse.Namespace, plants: list[Given], fail: Callable[[Exception], None], desks: Optional[Desks]
 ) -> tuple[tuple[BrowserBoard, ...], tuple[Watch, ...]]:
     """Of each plant what browsers are told, and the thread that follows it."""
     says: list[Callable[..., None]] = [say] * len(plants)
     if len(plants) > 1:
         says = [functools.partial(say, f"{plant.name}:") for plant in plants]
-    boards, watches = zip(*(follow(number, plant, chosen, says[number], fail) for number, plant in enumerate(plants)))
+    boards, watches = zip(
+        *(follow(number, plant, chosen, says[number], fail, desks) for number, plant in enumerate(plants))
+    )
     return boards, watches
+
+
+def taker(watches: Sequence[Watch], desks: Optional[Desks]) -> Callable[[Order], None]:
+    """What takes orders: each goes to its plant. Who takes or leaves a position has done so here, and each plant notes
+    what stands there."""
+
+    def take(order: Order) -> None:
+        if not order.is_shift:
+            return watches[order.plant].orders.put(order)
+        asker = order.asker
+        why = known(desks).change(order.word, known(order.value), asker.user, asker.role, asker.reason)
+        if why:
+            return order.refuse(why)
+        for watch in watches:
+            watch.orders.put(order)
+
+    return take
 
 
 def failing(ended: "asyncio.Future[None]") -> Callable[[Any], None]:
@@ -122,15 +160,16 @@ async def serve(chosen: argparse.Namespace, plants: list[Given]) -> None:
     if chosen.source:
         await serve_from(chosen, ended)
         return
+    desks = read_desks(chosen, plants)
     listening = opened(chosen)
-    boards, watches = followed(chosen, plants, failing(ended))
-    order = lambda order: watches[order.plant].orders.put(order)
+    boards, watches = followed(chosen, plants, failing(ended), desks)
+    order, rules = taker(watches, desks), rules_of(chosen, desks)
     begin = lambda: [watch.thread.start() for watch in watches]
     try:
         if chosen.tell:
-            await tell(chosen, listening, Teller(boards, order, rules_of(chosen)), begin, ended)
+            await tell(chosen, listening, Teller(boards, order, rules), begin, ended)
         else:
-            await show(chosen, listening, boards, order, begin, ended)
+            await show(chosen, listening, boards, order, rules, begin, ended)
     finally:
         for watch in watches:
             watch.orders.put(STOP)
@@ -149,7 +188,8 @@ async def serve_from(chosen: argparse.Namespace, ended: "asyncio.Future[None]") 
         waits: list[asyncio.Future[Any]] = [there, ended]
         await asyncio.wait(waits, return_when=asyncio.FIRST_COMPLETED)
         if not ended.done():
-            await show(chosen, opened(chosen), source.boards, source.take, lambda: None, ended)
+            rules = rules_of(chosen, source.desks())
+            await show(chosen, opened(chosen), source.boards, source.take, rules, lambda: None, ended)
         await ended
     finally:
         there.cancel()
@@ -185,6 +225,7 @@ async def show(
     listening: Any,
     boards: Sequence[BrowserBoard],
     order: Callable[[Order], None],
+    rules: Rules,
     begin: Callable[[], object],
     ended: "asyncio.Future[None]",
 ) -> None:
@@ -195,7 +236,7 @@ async def show(
         bool(chosen.proxy),
         user_of(chosen),
         chosen.role,
-        rules_of(chosen),
+        rules,
         lambda address: print(f"alm_browser: {address}", flush=True),
     )
     runner = web.AppRunner(Site(door, boards, order).application(), access_log=None)

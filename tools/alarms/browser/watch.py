@@ -20,7 +20,8 @@ from ..mirror import Follower, Served
 from ..plant_mirror import Begun, News, Replaced, Step, fixed
 from ..model import SHELVED, AlarmState, PlantModel
 from .notes import LOST, OK, Notes
-from .orders import AGAIN, ALSO_AGAIN, NO_REPLY, NO_SERVER, OTHER_PLANT, REASONS, SEEN, Answer, Order
+from .orders import AGAIN, ALSO_AGAIN, NO_REPLY, NO_SERVER, OTHER_AREA, OTHER_PLANT, REASONS, SEEN, Answer, Order
+from .positions import Desks, Position
 
 # Seconds between two looks; and to wait for the reply to a query, and to an action, which has to be stored.
 PERIOD, PATIENCE, ACTION_PATIENCE = 0.1, 1.2, 5.0
@@ -103,7 +104,10 @@ class Watch:
         notes: Notes,
         tell: Callable[[Batch], None],
         fail: Callable[[Exception], None],
+        desks: Optional[Desks] = None,
+        number: int = 0,
     ):
+        self.desks, self.number = desks, number
         self.thread = threading.Thread(target=self.run, daemon=True)
         self.follower, self.shown, self.notes = Follower(device, shown), shown, notes
         self.tell, self.fail = tell, fail
@@ -254,6 +258,8 @@ class Watch:
     def head_of(self, plant: Optional[PlantModel]) -> dict[str, Any]:
         """What is shown of the plant beside its alarms."""
         head: dict[str, Any] = {"fault": self.notes.fault, "trouble": self.trouble()}
+        if self.desks:
+            head["held"] = self.desks.holders()
         if plant:
             head |= {
                 "now": plant.now,
@@ -278,8 +284,18 @@ class Watch:
             return OTHER_PLANT
         return ""
 
+    def note_shift(self, order: Order) -> None:
+        """Notes that a position was taken or left, and what stands there, once that is shown."""
+        position, plant = known(self.desks).positions[known(order.value)], self.plant
+        stands = standing(plant, position, self.number) if plant else []
+        self.notes.shift(order.asker, position.name, order.word, plant.now if plant else None, stands)
+        self.look()
+        order.answer([Answer(0, "done", None, "")])
+
     def do(self, order: Order) -> None:
         """Does an order, and tells what came of each alarm once the plant is shown behind it."""
+        if order.is_shift:
+            return self.note_shift(order)
         answers: list[Answer] = []
         for part in parts(order.alarms):
             self.look()
@@ -315,6 +331,8 @@ class Watch:
         if alarm >= len(known(self.plant).alarms):
             return REASONS[Refusal.NO_SUCH_ALARM]
         found = known(self.plant).alarms[alarm]
+        if order.areas is not None and (self.number, found.attributes.area) not in order.areas:
+            return OTHER_AREA
         if order.word not in SEEN or (found.core != "NORM" and found.stamp == stamp):
             return ""
         return REASONS[SEEN[order.word]] if found.core == "NORM" else AGAIN
@@ -345,6 +363,18 @@ STOP: Any = object()
 
 def plant_tag(plant: PlantModel, alarm: int) -> str:
     return plant.alarms[alarm].attributes.tag
+
+
+def standing(plant: PlantModel, position: Position, number: int) -> list[list[str]]:
+    """The tags and states of a position's alarms that aren't normal, the most urgent first; of the plant of a
+    number."""
+    own = [
+        alarm
+        for alarm in plant.alarms
+        if alarm.shown != "NORM" and (position.areas is None or (number, alarm.attributes.area) in position.areas)
+    ]
+    own.sort(key=lambda alarm: (alarm.attributes.priority, alarm.number))
+    return [[alarm.attributes.tag, alarm.shown] for alarm in own]
 
 
 def parts(alarms: list[tuple[int, int]]) -> Iterator[list[tuple[int, int]]]:

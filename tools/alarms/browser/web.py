@@ -144,6 +144,7 @@ class Site:
             "role": session.role,
             "may": self.door.words(session),
             "most": self.door.rules.most,
+            "positions": self.door.rules.told_positions(),
             "plants": [board.name for board in self.boards],
         }
         return f"event: hello\ndata: {written(told | ({'key': session.key} if self.door.is_proxied else {}))}\n\n"

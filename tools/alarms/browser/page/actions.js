@@ -3,9 +3,10 @@ import {$, allOf, childrenOf, dialog, put, target} from "./dom.js";
 import {openDialog} from "./asking.js";
 import {OUT_OF_SERVICE, SHELVED, isUnacknowledged} from "./model.js";
 import {ask} from "./orders.js";
+import {mayAsk} from "./positions.js";
 import {shownRows} from "./rows.js";
 import {READ, isRead} from "./seen.js";
-import {isJournal, isLeftOut, me, plants, rowOf, screen} from "./state.js";
+import {isJournal, isLeftOut, plants, rowOf, screen} from "./state.js";
 /** @typedef {import("./model.js").Row} Row */
 
 /**
@@ -23,17 +24,19 @@ const FOR = {
   SETP: () => screen.chosen.size === 1,
 };
 
-const unacknowledgedShown = () => shownRows().filter(row => isUnacknowledged(row) && !isLeftOut(row) && isRead(row));
+const unacknowledgedShown = () => shownRows().filter(row =>
+  isUnacknowledged(row) && mayAsk("ACK", row) && !isLeftOut(row) && isRead(row));
 const chosenRows = () => isJournal() ? [] : [...screen.chosen].map(rowOf).filter(row => !isLeftOut(row));
-const mayDo = (/** @type {string} */ name) => me.may.includes(name === "SHOWN" ? "ACK" : name.split(" ")[0]);
+const wordOf = (/** @type {string} */ name) => name === "SHOWN" ? "ACK" : name.split(" ")[0];
+const isFor = (/** @type {string} */ name, /** @type {Row} */ row) => FOR[name](row) && mayAsk(wordOf(name), row);
 
 /** Draws which actions there are now. */
 export function drawActions() {
   const chosen = chosenRows(), shown = unacknowledgedShown().length, isOld = plants.every(plant => plant.isOld);
   for (const one of /** @type {HTMLButtonElement[]} */ (allOf("button", $("actions")))) {
     const name = one.dataset.act ?? "";
-    one.hidden = !mayDo(name);
-    one.disabled = isOld || (name === "SHOWN" ? !shown : !chosen.some(FOR[name]));
+    one.hidden = !mayAsk(wordOf(name));
+    one.disabled = isOld || (name === "SHOWN" ? !shown : !chosen.some(row => isFor(name, row)));
     if (name === "SHOWN") put(childrenOf(one)[0], shown ? `Acknowledge ${shown} shown` : "Acknowledge shown");
   }
 }
@@ -43,7 +46,7 @@ export function act(/** @type {string} */ name) {
   const one = /** @type {HTMLButtonElement | undefined} */ (allOf(`[data-act="${name}"]`, $("actions"))[0]);
   if (!one || one.disabled || one.hidden) return;
   if (name === "SHOWN") return void ask("ACK", unacknowledgedShown().map(row => row.id), {glance: READ});
-  const ids = chosenRows().filter(FOR[name]).map(row => row.id);
+  const ids = chosenRows().filter(row => isFor(name, row)).map(row => row.id);
   if (name === "ACK" || name === "RESET" || name === "UNSHELVE") return void ask(name, ids);
   openDialog(name, ids);
 }

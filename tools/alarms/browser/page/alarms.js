@@ -16,6 +16,7 @@ import {keepLook, prepareLooking, sortBy} from "./looking.js";
 import {drawNewcomers, prepareNewcomers} from "./newcomers.js";
 import {drawList, drawRows} from "./rows.js";
 import {prepareSelection} from "./selection.js";
+import {drawShift, prepareShift} from "./shift.js";
 import {prepareSound} from "./sound.js";
 import {listenToStream} from "./stream.js";
 import {drawTrouble} from "./trouble.js";
@@ -51,10 +52,11 @@ prepareDialog();
 prepareSelection();
 prepareKeys();
 prepareHold();
+prepareShift();
 prepareNewcomers();
 prepareList();
-drawBy(arrange, drawHead, drawPlants, drawFloods, drawHolding, drawTabs, drawFilters, drawDetail, drawList, drawActions,
-  drawNewcomers, keepLook);
+drawBy(arrange, drawHead, drawShift, drawPlants, drawFloods, drawHolding, drawTabs, drawFilters, drawDetail, drawList,
+  drawActions, drawNewcomers, keepLook);
 draw();
 setInterval(() => $("list").classList.toggle("flash"), FLASH);
 setInterval(drawTrouble, WATCH);

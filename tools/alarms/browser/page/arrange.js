@@ -1,8 +1,9 @@
 // Which rows the view has, in their order, and how many there are of each kind.
 import {heldEvents, heldRows, isHolding} from "./hold.js";
 import {isAnnunciated, isUnacknowledged} from "./model.js";
+import {isOwnRow} from "./positions.js";
 import {areSeveral, cursorRow, isJournal, lines, look, plants, screen} from "./state.js";
-import {VIEWS, isLeft, isListed, order} from "./views.js";
+import {VIEWS, isLeft, isListed, isOwnEvent, order} from "./views.js";
 /** @typedef {import("./model.js").Row} Row */
 
 /** Arranges what is drawn then. */
@@ -21,7 +22,8 @@ function arrangeRows(/** @type {Row[]} */ listed) {
   screen.events = [];
   const left = listed.filter(isLeft).sort(order());
   screen.rows = heldRows(left);
-  screen.hidden = listed.length - left.length;
+  screen.others = look.area === "" ? listed.filter(row => !isOwnRow(row)).length : 0;
+  screen.hidden = listed.length - left.length - screen.others;
 }
 
 /** The events of all plants, the newest first. */
@@ -31,7 +33,8 @@ function arrangeJournal() {
   screen.rows = [];
   const left = all.filter(isListed).reverse();
   screen.events = heldEvents(left);
-  screen.hidden = all.length - left.length;
+  screen.others = look.area === "" ? all.filter(event => !isOwnEvent(event)).length : 0;
+  screen.hidden = all.length - left.length - screen.others;
 }
 
 /** Counts the rows of each view, of each priority and of each plant; those of the view that is looked at. */
@@ -43,11 +46,13 @@ function counted() {
   for (const plant of plants) {
     plant.counts = [0, 0];
     for (const row of plant.rows) {
+      const isMine = isOwnRow(row);
       for (const [view, [, has]] of views) {
         if (!has || !has(row)) continue;
-        screen.counts[view]++;
+        if (isMine) screen.counts[view]++;
         if (view === look.view) listed.push(row);
       }
+      if (!isMine) continue;
       if (row.flags && row.active) screen.holding[row.shown]++;
       if (isAnnunciated(row)) for (const pair of [screen.priorities[row.priority], plant.counts]) count(row, pair);
     }

@@ -2,7 +2,8 @@
 import {$, allOf, choice, dialog, field, put} from "./dom.js";
 import {say} from "./messages.js";
 import {ask} from "./orders.js";
-import {alarmOf, me, plantOf, plants, rowOf, tagAndPlant} from "./state.js";
+import {mostOf} from "./positions.js";
+import {alarmOf, plantOf, plants, rowOf, tagAndPlant} from "./state.js";
 import {readValue, shownValue} from "./values.js";
 import {length} from "./words.js";
 /** @typedef {import("./model.js").Plant} Plant */
@@ -18,8 +19,9 @@ const MOST_TAGS = 30;
 /** Asks what an action of some alarms wants to know. */
 export function openDialog(/** @type {string} */ name, /** @type {number[]} */ ids) {
   const tags = ids.map(tagAndPlant), row = rowOf(ids[0]);
-  if (ids.length > me.most) {
-    return say(`that is for ${me.most} alarms at once at most, and ${ids.length} are selected`, true);
+  const most = mostOf(name.split(" ")[0]);
+  if (ids.length > most) {
+    return say(`that is for ${most} alarms at once at most, and ${ids.length} are selected`, true);
   }
   Object.assign(asking, {name, ids, eras: plants.map(plant => plant.era)});
   put($("asking-what"), TITLES[name]);

@@ -2,12 +2,15 @@
 import {$, allOf, button, childrenOf, dialog, put, target} from "./dom.js";
 import {draw} from "./draw.js";
 import {WORDS} from "./model.js";
+import {isOwnArea} from "./positions.js";
 import {areaName, areaOf, look, of_, plants, screen} from "./state.js";
 
 /** The areas in flood, each with its id and what is said of it. */
 function floods() {
-  return plants.flatMap(plant => (plant.head.floods ?? []).flatMap(([total, flooded], area) =>
-    flooded ? [{id: areaOf(plant, area), text: of_(plant, `${areaName(plant, area)}: ${total} in 10 min`)}] : []));
+  return plants.flatMap(plant => (plant.head.floods ?? []).flatMap(([total, flooded], area) => {
+    const text = of_(plant, `${areaName(plant, area)}: ${total} in 10 min`);
+    return flooded && isOwnArea(plant, area) ? [{id: areaOf(plant, area), text}] : [];
+  }));
 }
 
 function floodButton(/** @type {{id: number, text: string}} */ {id, text}) {

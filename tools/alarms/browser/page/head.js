@@ -1,6 +1,8 @@
 // What stands over the list: counts, clocks, plants, views and filters.
 import {$, allOf, button, childrenOf, choice, field, made, put} from "./dom.js";
 import {AREAS} from "./model.js";
+import {t} from "./language.js";
+import {ownPositions} from "./positions.js";
 import {areSeveral, areaName, areaOf, isJournal, look, me, of_, plants, screen} from "./state.js";
 import {isSounding, soundWord} from "./sound.js";
 import {VIEWS} from "./views.js";
@@ -59,16 +61,19 @@ const areasOf = (/** @type {Plant | undefined} */ plant) => plant?.head.floods?.
 
 /** The filters, and what they hide. */
 export function drawFilters() {
+  put($("others"), screen.others ? t("{count} of others' areas", {count: screen.others}) : "");
   put($("hidden"), screen.hidden ? `${screen.hidden} hidden by filters` : "");
   const select = choice("area"), names = plants.flatMap(plant =>
     Array.from({length: areasOf(plant)}, (_, area) => [of_(plant, areaName(plant, area)), areaOf(plant, area)]));
-  const key = JSON.stringify(names);
+  const whole = ownPositions().length ? [[t("my areas"), ""], [t("all"), "all"]] : [[t("all"), ""]];
+  const key = JSON.stringify([whole, names]);
   if (select.dataset.names !== key) {
     select.dataset.names = key;
-    select.replaceChildren(...[["all", ""], ...names].map(([name, area]) => new Option(String(name), String(area))));
+    select.replaceChildren(...[...whole, ...names].map(([name, area]) => new Option(String(name), String(area))));
   }
-  const plant = look.area === "" ? undefined : plants[Math.floor(look.area / AREAS)];
-  if (look.area !== "" && look.area % AREAS >= areasOf(plant) && (!plant || plant.era)) look.area = "";
+  const plant = typeof look.area === "number" ? plants[Math.floor(look.area / AREAS)] : undefined;
+  const isGone = typeof look.area === "number" && look.area % AREAS >= areasOf(plant) && (!plant || plant.era);
+  if (isGone || (look.area === "all" && whole.length < 2)) look.area = "";
   select.value = String(look.area);
   choice("state").disabled = isJournal();
 }

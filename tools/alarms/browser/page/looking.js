@@ -76,7 +76,8 @@ export function prepareLooking() {
   }
   $("tabs").addEventListener("keydown", turnByKey);
   choice("area").addEventListener("change", () => {
-    look.area = choice("area").value === "" ? "" : Number(choice("area").value);
+    const {value} = choice("area");
+    look.area = value === "" || value === "all" ? value : Number(value);
     draw();
   });
   choice("state").addEventListener("change", () => {

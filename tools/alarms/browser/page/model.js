@@ -40,6 +40,7 @@ export const DAY = 86400;
  * @property {number} age seconds since the server's last answer
  * @property {number} still seconds for which the plant's clock hasn't moved
  * @property {string} fault why notes aren't kept
+ * @property {[string, number, string][]} [held] of each position who has it, since when, and what was said then
  * @property {number} [now] the plant's moment
  * @property {[number, number][]} [floods] of each area its annunciations in ten minutes, and whether it is in flood
  */

@@ -61,6 +61,21 @@ async function askPlant(plant, {word, ids, value, reason, glance}) {
 }
 
 /**
+ * Takes or leaves the position of a place.
+ * @param {"TAKE" | "LEAVE"} word
+ * @param {number} place
+ * @param {string} reason what the next one should know
+ * @param {string} done what is said once it is done
+ */
+export async function askShift(word, place, reason, done) {
+  say("..");
+  const {answers, fault} = await askPlant(plants[0], {word, ids: [], value: place, reason, glance: 0});
+  const why = fault || answers[0]?.[3] || "";
+  say(why || done, Boolean(why));
+  touch();
+}
+
+/**
  * Asks for an action of some alarms, each at its own plant.
  * @param {string} word
  * @param {number[]} ids

@@ -3,7 +3,8 @@ import {$} from "./dom.js";
 import {touch} from "./draw.js";
 import {keep, kept} from "./kept.js";
 import {isUnacknowledged} from "./model.js";
-import {plants} from "./state.js";
+import {isOwnArea} from "./positions.js";
+import {me, plants} from "./state.js";
 
 /**
  * Pitches, in Hz.
@@ -22,6 +23,7 @@ const sound = {
   silenced: /** @type {Map<number, number>} */ (new Map()),
 };
 
+const channel = "BroadcastChannel" in window ? new BroadcastChannel("silence") : null;
 /** The alarms that were silenced. */
 export const silenced = sound.silenced;
 export const isSounding = () => Boolean(sound.priority);
@@ -40,7 +42,8 @@ function loudest() {
   let least = 0;
   for (const plant of plants) {
     for (const row of plant.rows) {
-      if (isUnacknowledged(row) && sound.silenced.get(row.id) !== row.stamp && (!least || row.priority < least)) {
+      const sounds = isUnacknowledged(row) && sound.silenced.get(row.id) !== row.stamp;
+      if (sounds && (!least || row.priority < least) && isOwnArea(plant, row.area, "sound")) {
         least = row.priority;
       }
     }
@@ -85,13 +88,21 @@ export function allowSound() {
   if (sound.context.state !== "running") sound.context.resume().then(touch, () => 0);
 }
 
-/** Ends the sound until another annunciation comes. */
+/** Ends the sound until another annunciation comes, in all windows of the browser: of what sounds here. */
 export function silence() {
-  for (const plant of plants) {
-    for (const row of plant.rows) if (isUnacknowledged(row)) sound.silenced.set(row.id, row.stamp);
-  }
+  const here = plants.flatMap(plant => plant.rows).filter(row =>
+    isUnacknowledged(row) && isOwnArea(row.plant, row.area, "sound"));
+  for (const row of here) sound.silenced.set(row.id, row.stamp);
+  channel?.postMessage({user: me.user, silenced: here.map(row => [row.id, row.stamp])});
   hear();
   touch();
+}
+
+/** Another window was silenced. */
+function hearSilence(/** @type {{user: string, silenced: [number, number][]}} */ {user, silenced: there}) {
+  if (user !== me.user) return;
+  for (const [id, stamp] of there) sound.silenced.set(id, stamp);
+  hear();
 }
 
 /** The sound's button: allows it where the browser doesn't yet, else turns it on or off. */
@@ -106,6 +117,7 @@ function pressSound() {
 export function prepareSound() {
   $("sound").addEventListener("click", pressSound);
   $("silence").addEventListener("click", silence);
+  if (channel) channel.onmessage = event => hearSilence(event.data);
   for (const kind of ["pointerdown", "keydown"]) document.addEventListener(kind, allowSound);
   allowSound();
 }

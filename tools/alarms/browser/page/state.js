@@ -14,13 +14,22 @@ export function setPlants(/** @type {string[]} */ names) {
 }
 
 /**
- * Who the operator is, what the operator may, and of how many alarms at once what wants a reason.
- * @type {{user: string, role: string, may: string[], most: number, key: string}}
+ * A position: what it may, its areas by the plants' places, and of how many alarms at once; all areas where there are
+ * none.
+ * @typedef {{name: string, role: string, may: string[], most: number, areas: [number, number][] | null,
+ *     sound: [number, number][] | null}} Position
  */
-export const me = {user: "", role: "viewer", may: [], most: 1, key: ""};
+
+/**
+ * Who the operator is, what the operator may without positions, and of how many alarms at once what wants a reason.
+ * @type {{user: string, role: string, may: string[], most: number, key: string, positions: Position[]}}
+ */
+export const me = {user: "", role: "viewer", may: [], most: 1, key: "", positions: []};
 
 export const look = {
-  view: "alarms", sort: "order", down: false, area: /** @type {number | ""} */ (""), state: "", text: "",
+  view: "alarms", sort: "order", down: false, state: "", text: "",
+  /** an area's id, "all", or nothing for the operator's own */
+  area: /** @type {number | "" | "all"} */ (""),
   priorities: /** @type {Set<number>} */ (new Set()), plants: /** @type {Set<number>} */ (new Set()),
 };
 
@@ -40,6 +49,8 @@ export const screen = {
   /** @type {Record<string, number>} how many are suppressed while the condition holds, by the word of the state */
   holding: {},
   hidden: 0,
+  /** how many rows of the view are of others' areas */
+  others: 0,
 };
 
 export const isJournal = () => look.view === "journal";

@@ -2,6 +2,7 @@
 import {$, put} from "./dom.js";
 import {draw} from "./draw.js";
 import {link} from "./link.js";
+import {untaken} from "./shift.js";
 import {play} from "./sound.js";
 import {areSeveral, of_, plants} from "./state.js";
 import {span} from "./words.js";
@@ -48,6 +49,7 @@ export function drawTrouble() {
     isLost ||= isOld && !plant.isOld;
     plant.isOld = isOld;
   }
+  lines.push(untaken());
   put($("trouble"), lines.filter(Boolean).join(". "));
   $("trouble").hidden = !$("trouble").textContent;
   drawConnection();

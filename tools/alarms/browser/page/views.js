@@ -1,6 +1,7 @@
 // Which rows a view has, which of them the filters leave, and their order.
 import {AREAS, BY_DESIGN, OUT_OF_SERVICE, SHELVED, WORDS} from "./model.js";
 import {isAnnunciated, isChattering, isStale, isUnacknowledged} from "./model.js";
+import {isOwnArea} from "./positions.js";
 import {alarmOf, areSeveral, look} from "./state.js";
 import {happening} from "./words.js";
 /** @typedef {import("./model.js").Plant} Plant */
@@ -62,7 +63,8 @@ export function columns() {
 const isOfPlant = (/** @type {Plant} */ plant) => !look.plants.size || look.plants.has(plant.place);
 
 function isInArea(/** @type {Plant} */ plant, /** @type {number} */ area) {
-  return look.area === "" || (plant.place === Math.floor(look.area / AREAS) && area === look.area % AREAS);
+  if (look.area === "") return isOwnArea(plant, area);
+  return look.area === "all" || (plant.place === Math.floor(look.area / AREAS) && area === look.area % AREAS);
 }
 
 /** Whether the filters leave a row. */
@@ -72,10 +74,22 @@ export function isLeft(/** @type {Row} */ row) {
     STATES[look.state](row) && (!look.text || `${alarm.tag} ${alarm.text}`.toLowerCase().includes(look.text));
 }
 
+/** The area of an event; none where it is of no area. */
+function areaOfEvent(/** @type {Event} */ event) {
+  if (event.alarm !== null) return event.plant.rows[event.alarm].area;
+  return event.word.startsWith("FLOOD") ? event.value : null;
+}
+
+/** Whether an event is of the operator's areas. */
+export function isOwnEvent(/** @type {Event} */ event) {
+  const area = areaOfEvent(event);
+  return area === null || isOwnArea(event.plant, area);
+}
+
 /** Whether the filters leave an event. */
 export function isListed(/** @type {Event} */ event) {
-  const {plant} = event, row = event.alarm === null ? null : plant.rows[event.alarm];
-  if (!isOfPlant(plant) || !isInArea(plant, row ? row.area : event.value)) return false;
+  const {plant} = event, row = event.alarm === null ? null : plant.rows[event.alarm], area = areaOfEvent(event);
+  if (!isOfPlant(plant) || (area !== null && !isInArea(plant, area))) return false;
   if (look.priorities.size && !(row && look.priorities.has(row.priority))) return false;
   const of = row ? `${alarmOf(row).tag} ${alarmOf(row).text}` : "";
   const said = `${of} ${happening(event)} ${event.user ?? ""} ${event.reason ?? ""}`;

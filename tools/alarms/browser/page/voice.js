@@ -1,5 +1,6 @@
 // What a screen reader is told of annunciations: at once of priorities 1 and 2, in its turn of 3 and 4.
 import {$, put} from "./dom.js";
+import {isOwnRow} from "./positions.js";
 import {alarmOf, areaName, of_} from "./state.js";
 /** @typedef {import("./model.js").Row} Row */
 
@@ -10,6 +11,7 @@ let fresh = [];
 
 /** Something was annunciated. */
 export function announce(/** @type {Row} */ row) {
+  if (!isOwnRow(row)) return;
   if (!fresh.length) setTimeout(tell, GATHER);
   fresh.push(row);
 }
