@@ -31,6 +31,7 @@ PARTS = (
     "check_hand",
     "check_details",
     "check_positions",
+    "check_language",
     "check_screen",
     "check_hold",
     "check_flood",

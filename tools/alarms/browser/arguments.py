@@ -7,6 +7,7 @@ from urllib.parse import urlsplit
 
 from ..arguments import Parser, add_places, group_of, listen_port, names_of_servers, of_each, places_of_servers
 from ..client import CONSOLES, Place
+from .language import ENGLISH, shipped
 from .orders import ACTIONS, MOST_ALARMS, MOST_AT_ONCE
 from .positions import ROLES
 
@@ -81,6 +82,12 @@ def arguments(page: Optional[str]) -> Parser:
         default=[],
         metavar="FILE",
         help="what operators are told of each alarm: units, texts, responses (docs/TABLE.md)",
+    )
+    words.add_argument(
+        "--language",
+        default=ENGLISH,
+        metavar="WORDS",
+        help=f"the page's language: {', '.join(shipped())}, or a file of words (docs/CONTROL_ROOM.md)",
     )
     words.add_argument(
         "--positions",

@@ -9,13 +9,13 @@ import json
 import time
 from typing import Any, Callable, Optional, Sequence
 
-from .watch import EVENTS, Batch
+from .batch import EVENTS, Batch
+from .orders import READING
 
 # Seconds between two words to a browser to which nothing changed, and the least between two to which something did.
 TICK, REST = 0.5, 0.03
 # Seconds after which a plant's clock that hasn't moved stands still.
 STANDS = 5
-READING = "the plant is being read"
 
 
 def written(value: Any) -> str:

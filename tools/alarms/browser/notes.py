@@ -30,6 +30,10 @@ LATER = (
         " TEXT NOT NULL, user TEXT NOT NULL, role TEXT NOT NULL, remark TEXT NOT NULL, asked REAL NOT NULL, moment"
         " BIGINT, stands TEXT NOT NULL)"
     ),
+    (
+        "CREATE TABLE IF NOT EXISTS suppressed (name TEXT NOT NULL, tag TEXT NOT NULL, word TEXT NOT NULL, number BIGINT"
+        " NOT NULL, moment BIGINT NOT NULL, user TEXT NOT NULL, reason TEXT NOT NULL, PRIMARY KEY (name, tag, word))"
+    ),
 )
 # Notes that are read again as a plant begins.
 MOST = 5000
@@ -60,6 +64,15 @@ class Note(NamedTuple):
 
     def is_of(self, moment: int, word: str, tag: Optional[str]) -> bool:
         return (self.word, self.tag) == (word, tag) and self.moment in (None, moment)
+
+
+class Suppression(NamedTuple):
+    """How a suppression began: the action's number, the plant's moment, who asked and why, as far as that was noted."""
+
+    number: int
+    moment: int
+    user: str
+    reason: str
 
 
 class Notes:
@@ -177,6 +190,23 @@ class Notes:
             position: Holder(user if word == TAKE else "", int(asked), remark)
             for position, word, user, asked, remark in rows
         }
+
+    def keep_suppressions(self, fresh: dict[tuple[str, str], Suppression]) -> None:
+        """Keeps how suppressions began, by tag and word, in the place of those before."""
+        self.write(
+            "INSERT OR REPLACE INTO suppressed (name, tag, word, number, moment, user, reason) VALUES (?, ?, ?, ?, ?, ?,"
+            " ?)",
+            [(self.name, *key, *one) for key, one in fresh.items()],
+        )
+
+    def suppressions(self) -> dict[tuple[str, str], Suppression]:
+        """How the suppression of each tag by each word began last."""
+        query = "SELECT tag, word, number, moment, user, reason FROM suppressed WHERE name = ?"
+        try:
+            rows = self.connection.execute(query, (self.name,)).fetchall()
+        except sqlite3.Error as error:
+            self.fault, rows = str(error), []
+        return {(tag, word): Suppression(*rest) for tag, word, *rest in rows}
 
     def write(self, statement: str, rows: list[tuple]) -> None:
         try:

@@ -5,6 +5,7 @@ from typing import Any, Callable, NamedTuple, Optional
 from ..client import Refusal
 from ..table_file import READING_LIMIT, SHELVE_LIMIT
 
+from .language import fill
 from .notes import NoteAsker
 from .positions import LEAVE, ROLES, TAKE, Desks, Places
 
@@ -45,6 +46,8 @@ NO_SERVER = "no server: nothing was asked"
 NO_REPLY = "no reply came: look whether it was done once the server is back"
 OTHER_PLANT = "the plant is another one than was seen: look again"
 OTHER_AREA = "its area is another position's"
+OTHER_DEVICE = "the server has another plant than the device file"
+READING = "the plant is being read"
 NO_POSITION = "take a position first"
 
 
@@ -58,12 +61,20 @@ class Answer(NamedTuple):
     said: str
 
 
-class BadOrder(Exception):
+class NotTaken(Exception):
+    """An order isn't taken: why, as a text with values in braces, for the operator's language."""
+
+    def __init__(self, text: str, **values: object):
+        super().__init__(fill(text, values))
+        self.text, self.values = text, values
+
+
+class BadOrder(NotTaken):
     """A page of ours doesn't ask so."""
 
 
-class NotAllowed(Exception):
-    """The role doesn't have this action."""
+class NotAllowed(NotTaken):
+    """The role or the position doesn't have this action."""
 
 
 @dataclass
@@ -133,7 +144,7 @@ class Rules:
         """The areas in which a user in a role may ask for a word of so many alarms; `NotAllowed` where there are
         none."""
         if self.desks is None:
-            self.judge(f"the role {role}", self.words(role), self.most, word, count)
+            self.judge(role, self.words(role), self.most, word, count)
             return None
         own = self.desks.of(user, role)
         if not own:
@@ -149,9 +160,9 @@ class Rules:
     def judge(self, who: str, words: list[str], most: int, word: str, count: int) -> None:
         """Refuses a word that somebody hasn't, or hasn't for so many alarms."""
         if word not in words:
-            raise NotAllowed(f"{who} doesn't have {word}")
+            raise NotAllowed("{who} doesn't have {word}", who=who, word=word)
         if word in WITH_REASON and count > most:
-            raise NotAllowed(f"{word} is for {most} alarms at once at most")
+            raise NotAllowed("{word} is for {most} alarms at once at most", word=word, most=most)
 
 
 def is_number(value: Any, least: int, most: int) -> bool:
@@ -187,7 +198,7 @@ def read_order(
 def read_reason(reason: Any) -> str:
     """A reason, or what is said as a position is taken or left."""
     if not isinstance(reason, str) or len(reason) > MOST_REASON:
-        raise BadOrder(f"a reason has at most {MOST_REASON} letters")
+        raise BadOrder("a reason has at most {most} letters", most=MOST_REASON)
     if not reason.isprintable():
         raise BadOrder("a reason has no line end, no joined sign, and no blank but the plain one")
     return reason.strip()

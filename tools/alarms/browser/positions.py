@@ -22,6 +22,10 @@ MOST_POSITIONS, MOST_LETTERS = 64, 40
 # What changes who has a position: who begins there, and who ends.
 TAKE, LEAVE = "TAKE", "LEAVE"
 
+# Why a position isn't taken or left.
+NOT_YOURS, YOURS = "it isn't yours", "you have it"
+WANTS = {"operator": "it wants the role operator", "engineer": "it wants the role engineer"}
+
 # Areas of plants by the plants' numbers; all where it is none.
 Places = Optional[frozenset[tuple[int, int]]]
 
@@ -101,10 +105,10 @@ class Desks:
         """Why a user in a role can't take or leave a position; empty where nothing is against it."""
         position, holder = self.positions[number], self.holders()[number]
         if word == LEAVE:
-            return "" if holder.user == user else "it isn't yours"
+            return "" if holder.user == user else NOT_YOURS
         if holder.user == user:
-            return "you have it"
-        return "" if is_enough(role, position.role) else f"it wants the role {position.role}"
+            return YOURS
+        return "" if is_enough(role, position.role) else WANTS[position.role]
 
     def change(self, word: str, number: int, user: str, role: str, remark: str) -> str:
         """Gives or takes a position; says why not."""

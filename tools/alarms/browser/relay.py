@@ -12,10 +12,10 @@ import time
 from typing import Any, Callable, Optional, Sequence
 
 from ..ending import Fault
+from .batch import Batch
 from .board import REST, BrowserBoard, Reader, written
 from .orders import NO_REPLY, NO_SERVER, Answer, BadOrder, NotAllowed, Order, Rules, read_order
 from .positions import Desks, Position, position_of
-from .watch import Batch
 
 # Bytes of an order, and of an event; seconds that the other part may take what it is sent, and between two tries to
 # connect.

@@ -5,6 +5,7 @@ import functools
 import getpass
 import os
 import signal
+from dataclasses import dataclass
 from pathlib import Path
 from typing import Any, Callable, Optional, Sequence
 
@@ -15,18 +16,30 @@ from ..details_file import Details, differences, load_details
 from ..ending import sayer
 from ..known import known
 from .arguments import Given
+from .batch import Batch
 from .board import BrowserBoard
 from .doors import Door
 from .gate import BACKLOG, Gate, most_connections
+from .language import ENGLISH, Words, load_words, word_lines
 from .listening import Ended, open_port, open_socket
 from .notes import Notes
 from .orders import MOST_ALARMS, Order, Rules
 from .positions import Desks, area_lines, load_positions
 from .relay import MOST_ORDER, Source, Teller
-from .watch import STOP, Batch, WatchedServer, Watch
+from .watch import STOP, WatchedServer, Watch
 from .web import Site
 
 say = sayer("alm_browser")
+
+
+@dataclass(frozen=True)
+class Shown:
+    """What browsers are shown and may ask: the boards, who takes orders, what operators may, and the page's words."""
+
+    boards: Sequence[BrowserBoard]
+    take: Callable[[Order], None]
+    rules: Rules
+    words: Words
 
 
 def read_areas(path: Optional[str]) -> list[str]:
@@ -152,13 +165,22 @@ def failing(ended: "asyncio.Future[None]") -> Callable[[Any], None]:
     return fail
 
 
+def read_language(name: str) -> Words:
+    """The words of the page; what a file has too few or too many is said."""
+    words = load_words(name)
+    for line in word_lines(words):
+        say(f"{name}: {line}")
+    return words
+
+
 async def serve(chosen: argparse.Namespace, plants: list[Given]) -> None:
     """Serves until a signal, or until what follows a plant has failed."""
+    words = read_language(ENGLISH if chosen.tell else chosen.language)
     loop, ended = asyncio.get_running_loop(), asyncio.get_running_loop().create_future()
     for number in (signal.SIGTERM, signal.SIGINT):
         loop.add_signal_handler(number, lambda: ended.done() or ended.set_result(None))
     if chosen.source:
-        await serve_from(chosen, ended)
+        await serve_from(chosen, words, ended)
         return
     desks = read_desks(chosen, plants)
     listening = opened(chosen)
@@ -169,7 +191,7 @@ async def serve(chosen: argparse.Namespace, plants: list[Given]) -> None:
         if chosen.tell:
             await tell(chosen, listening, Teller(boards, order, rules), begin, ended)
         else:
-            await show(chosen, listening, boards, order, rules, begin, ended)
+            await show(chosen, listening, Shown(boards, order, rules, words), begin, ended)
     finally:
         for watch in watches:
             watch.orders.put(STOP)
@@ -178,7 +200,7 @@ async def serve(chosen: argparse.Namespace, plants: list[Given]) -> None:
         )
 
 
-async def serve_from(chosen: argparse.Namespace, ended: "asyncio.Future[None]") -> None:
+async def serve_from(chosen: argparse.Namespace, words: Words, ended: "asyncio.Future[None]") -> None:
     """Serves browsers what another process tells."""
     source = Source(chosen.source, say)
     following = asyncio.create_task(source.follow())
@@ -188,8 +210,8 @@ async def serve_from(chosen: argparse.Namespace, ended: "asyncio.Future[None]") 
         waits: list[asyncio.Future[Any]] = [there, ended]
         await asyncio.wait(waits, return_when=asyncio.FIRST_COMPLETED)
         if not ended.done():
-            rules = rules_of(chosen, source.desks())
-            await show(chosen, opened(chosen), source.boards, source.take, rules, lambda: None, ended)
+            shown = Shown(source.boards, source.take, rules_of(chosen, source.desks()), words)
+            await show(chosen, opened(chosen), shown, lambda: None, ended)
         await ended
     finally:
         there.cancel()
@@ -221,13 +243,7 @@ async def tell(
 
 
 async def show(
-    chosen: argparse.Namespace,
-    listening: Any,
-    boards: Sequence[BrowserBoard],
-    order: Callable[[Order], None],
-    rules: Rules,
-    begin: Callable[[], object],
-    ended: "asyncio.Future[None]",
+    chosen: argparse.Namespace, listening: Any, shown: Shown, begin: Callable[[], object], ended: "asyncio.Future[None]"
 ) -> None:
     """Shows browsers the plants until the end."""
     place = chosen.proxy or chosen.origin or f"http://{HOST}:{listening.getsockname()[1]}"
@@ -236,10 +252,10 @@ async def show(
         bool(chosen.proxy),
         user_of(chosen),
         chosen.role,
-        rules,
+        shown.rules,
         lambda address: print(f"alm_browser: {address}", flush=True),
     )
-    runner = web.AppRunner(Site(door, boards, order).application(), access_log=None)
+    runner = web.AppRunner(Site(door, shown.boards, shown.take, shown.words).application(), access_log=None)
     await runner.setup()
     connections = runner.server
     assert connections is not None  # after setup

@@ -9,7 +9,6 @@ import queue
 import secrets
 import threading
 import time
-from dataclasses import dataclass, field
 from typing import Any, Callable, Iterable, Iterator, Optional
 
 from ..client import Lost, OtherPlant, Place, Plant, Refusal, Refused
@@ -18,30 +17,20 @@ from ..device_file import NoDevice
 from ..known import known
 from ..mirror import Follower, Served
 from ..plant_mirror import Begun, News, Replaced, Step, fixed
-from ..model import SHELVED, AlarmState, PlantModel
+from ..model import PlantModel
+from .batch import EVENTS, Batch, row_of, standing, table_of
 from .notes import LOST, OK, Notes
-from .orders import AGAIN, ALSO_AGAIN, NO_REPLY, NO_SERVER, OTHER_AREA, OTHER_PLANT, REASONS, SEEN, Answer, Order
-from .positions import Desks, Position
+from .orders import AGAIN, ALSO_AGAIN, NO_REPLY, NO_SERVER, OTHER_AREA, OTHER_DEVICE, OTHER_PLANT, READING, REASONS
+from .orders import SEEN, Answer, Order
+from .positions import Desks
+from .suppressed import Suppressions
 
 # Seconds between two looks; and to wait for the reply to a query, and to an action, which has to be stored.
 PERIOD, PATIENCE, ACTION_PATIENCE = 0.1, 1.2, 5.0
 # Actions that are asked before the plant is looked at again.
 PART = 64
-# Events of the journal that are kept, and acknowledgements whose annunciation is remembered.
-EVENTS, REMEMBERED = 1000, 4096
-
-
-@dataclass
-class Batch:
-    """What is new since the last look. `era` is another one with each plant, and none while there is no plant; with
-    `rows` of all alarms it is whole."""
-
-    era: Optional[str]
-    is_whole: bool
-    rows: dict[int, list[Any]]
-    events: list[list[Any]]
-    head: dict[str, Any]
-    table: list[list[Any]] = field(default_factory=list)
+# Acknowledgements whose annunciation is remembered.
+REMEMBERED = 4096
 
 
 class WatchedServer(Served):
@@ -70,30 +59,6 @@ class WatchedServer(Served):
         self.asked.patience = PATIENCE
 
 
-def row_of(alarm: AlarmState, value: Optional[int]) -> list[Any]:
-    """What the page shows of an alarm: model.js has the names of the places."""
-    attributes, moments = alarm.attributes, alarm.moments
-    return [
-        alarm.number,
-        attributes.priority,
-        attributes.area,
-        alarm.shown,
-        alarm.flags,
-        int(alarm.active),
-        moments[0] if moments else None,
-        moments[2] if len(moments) > 2 else None,
-        alarm.deadline if alarm.flags & SHELVED else None,
-        alarm.stamp if alarm.core != "NORM" else 0,
-        value,
-        attributes.setpoint,
-    ]
-
-
-def table_of(plant: PlantModel) -> list[list[Any]]:
-    """What never changes of the alarms."""
-    return [[one.tag, one.text, one.kind, one.deadband, one.max_shelve, int(one.latching)] for one in plant.table()]
-
-
 class Watch:
     """Looks each tenth of a second, tells what is new, and does orders."""
 
@@ -110,6 +75,7 @@ class Watch:
         self.desks, self.number = desks, number
         self.thread = threading.Thread(target=self.run, daemon=True)
         self.follower, self.shown, self.notes = Follower(device, shown), shown, notes
+        self.suppressed = Suppressions(notes)
         self.tell, self.fail = tell, fail
         self.orders: "queue.SimpleQueue[Optional[Order]]" = queue.SimpleQueue()
         self.era: Optional[str] = None
@@ -158,6 +124,7 @@ class Watch:
             self.shown.say_once(str(fault), "- trying again")
         self.compare()
         self.notes.came(self.moments)
+        self.suppressed.keep()
         self.publish()
 
     def compare(self) -> None:
@@ -187,6 +154,7 @@ class Watch:
             if isinstance(one, Begun):
                 self.era, self.compared, self.events = secrets.token_hex(8), None, []
                 self.notes.load()
+                self.suppressed.begin(self.follower.mirror.plant)
             else:
                 self.events.append(
                     [one.last, known(self.plant).now, None, "GAP", one.last - one.first + 1, None, None, None, None]
@@ -212,6 +180,7 @@ class Watch:
             self.changed.add(change.alarm)
             if change.annunciated:
                 self.stamps[change.alarm] = plant.alarms[change.alarm].stamp
+        self.suppressed.step(step, plant)
         self.note_events(step)
 
     def note_events(self, step: Step) -> None:
@@ -249,7 +218,8 @@ class Watch:
         if self.whole or self.changed or self.events or head != self.head:
             alarms = plant.alarms if plant else []
             numbers: Iterable[int] = range(len(alarms)) if self.whole else self.changed if plant else ()
-            rows = {number: row_of(alarms[number], self.values.get(number)) for number in numbers}
+            why = self.suppressed.of
+            rows = {one: row_of(alarms[one], self.values.get(one), why(alarms[one])) for one in numbers}
             table = table_of(plant) if plant and self.whole else []
             self.tell(Batch(self.era if plant else None, self.whole, rows, self.events, head, table))
         self.head = head
@@ -273,8 +243,8 @@ class Watch:
         if not self.client:
             return self.shown.said
         if self.compared is not self.client or self.plant is None or self.plant.count < self.shown.count:
-            return self.shown.said or "the plant is being read"
-        return "" if self.is_same else "the server has another plant than the device file"
+            return self.shown.said or READING
+        return "" if self.is_same else OTHER_DEVICE
 
     def blocked(self, order: Order) -> str:
         """Why nothing can be asked; empty where it can."""
@@ -363,18 +333,6 @@ STOP: Any = object()
 
 def plant_tag(plant: PlantModel, alarm: int) -> str:
     return plant.alarms[alarm].attributes.tag
-
-
-def standing(plant: PlantModel, position: Position, number: int) -> list[list[str]]:
-    """The tags and states of a position's alarms that aren't normal, the most urgent first; of the plant of a
-    number."""
-    own = [
-        alarm
-        for alarm in plant.alarms
-        if alarm.shown != "NORM" and (position.areas is None or (number, alarm.attributes.area) in position.areas)
-    ]
-    own.sort(key=lambda alarm: (alarm.attributes.priority, alarm.number))
-    return [[alarm.attributes.tag, alarm.shown] for alarm in own]
 
 
 def parts(alarms: list[tuple[int, int]]) -> Iterator[list[tuple[int, int]]]:

@@ -12,6 +12,7 @@ from aiohttp import web
 from .board import REST, BrowserBoard, Reader, written
 from .doors import HEADERS, Door, Session
 from .gate import IDLE, REQUEST, line_of
+from .language import Words
 from .orders import NO_REPLY, Answer, BadOrder, NotAllowed, Order, read_order
 
 PAGE = Path(__file__).resolve().parent / "page"
@@ -20,17 +21,26 @@ TYPES = {".css": "text/css", ".js": "text/javascript", ".svg": "image/svg+xml"}
 # Streams at once, those of one user, bytes of a request. Seconds that a browser may take what it is sent, and may take
 # to send a request; and those after which an order is answered, whatever became of it.
 MOST_STREAMS, MOST_OF_USER, MOST_BYTES, PATIENCE, ASKING, ANSWERING = 240, 32, 65_536, 20, 5, 4.5
+# The part of the page that has the operator's words.
+TOLD = "told_words.js"
+# Why there is no stream.
+OWN_WINDOWS = "{user} has {most} windows with the list open: close one"
+ALL_WINDOWS = "{most} windows with the list are open, and no more are served"
 FORM = "application/x-www-form-urlencoded"
 
 
 class Site:
     """The handlers, and what they stand on: the boards, and who takes orders."""
 
-    def __init__(self, door: Door, boards: Sequence[BrowserBoard], take: Callable[[Order], None]):
-        self.door, self.boards, self.take = door, boards, take
+    def __init__(self, door: Door, boards: Sequence[BrowserBoard], take: Callable[[Order], None], words: Words):
+        self.door, self.boards, self.take, self.words = door, boards, take, words
         self.readers: dict[Reader, str] = {}
         self.is_ending = False
         self.files = {path.name: path.read_bytes() for path in PAGE.iterdir()}
+        for name, page in self.files.items():
+            if name.endswith(".html"):
+                self.files[name] = words.page(page.decode()).encode()
+        self.files[TOLD] = words.script().encode()
 
     def application(self) -> web.Application:
         site = web.Application(middlewares=[self.guard], client_max_size=MOST_BYTES)
@@ -112,13 +122,10 @@ class Site:
         """What is shown, as events: first all of it, then what changes."""
         session = self.door.may_watch(request)
         if collections.Counter(self.readers.values())[session.user] >= MOST_OF_USER:
-            raise web.HTTPServiceUnavailable(
-                text=f"{session.user} has {MOST_OF_USER} windows with the list open: close one\n"
-            )
+            said = self.words.of(OWN_WINDOWS, user=session.user, most=MOST_OF_USER)
+            raise web.HTTPServiceUnavailable(text=f"{said}\n")
         if len(self.readers) >= MOST_STREAMS:
-            raise web.HTTPServiceUnavailable(
-                text=f"{MOST_STREAMS} windows with the list are open, and no more are served\n"
-            )
+            raise web.HTTPServiceUnavailable(text=f"{self.words.of(ALL_WINDOWS, most=MOST_STREAMS)}\n")
         hold(request)
         response = web.StreamResponse(
             headers={**HEADERS, "Content-Type": "text/event-stream", "X-Accel-Buffering": "no"}
@@ -171,9 +178,9 @@ class Site:
             )
             self.take(order)
         except BadOrder as bad:
-            raise web.HTTPBadRequest(text=f"{bad}\n") from None
+            raise web.HTTPBadRequest(text=f"{self.words.of(bad.text, **bad.values)}\n") from None
         except NotAllowed as refused:
-            raise web.HTTPForbidden(text=f"{refused}\n") from None
+            raise web.HTTPForbidden(text=f"{self.words.of(refused.text, **refused.values)}\n") from None
         try:
             answers = await asyncio.wait_for(answered, ANSWERING)
         except asyncio.TimeoutError:

@@ -1,6 +1,7 @@
 // The buttons over the list: which of them are offered, and what each does.
 import {$, allOf, childrenOf, dialog, put, target} from "./dom.js";
 import {openDialog} from "./asking.js";
+import {t} from "./language.js";
 import {OUT_OF_SERVICE, SHELVED, isUnacknowledged} from "./model.js";
 import {ask} from "./orders.js";
 import {mayAsk} from "./positions.js";
@@ -37,7 +38,8 @@ export function drawActions() {
     const name = one.dataset.act ?? "";
     one.hidden = !mayAsk(wordOf(name));
     one.disabled = isOld || (name === "SHOWN" ? !shown : !chosen.some(row => isFor(name, row)));
-    if (name === "SHOWN") put(childrenOf(one)[0], shown ? `Acknowledge ${shown} shown` : "Acknowledge shown");
+    const many = shown ? t("Acknowledge {count} shown", {count: shown}) : t("Acknowledge shown");
+    if (name === "SHOWN") put(childrenOf(one)[0], many);
   }
 }
 

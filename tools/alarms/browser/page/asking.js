@@ -1,5 +1,6 @@
 // What an action wants to know: for how long, which number, and why.
 import {$, allOf, choice, dialog, field, put} from "./dom.js";
+import {t, w} from "./language.js";
 import {say} from "./messages.js";
 import {ask} from "./orders.js";
 import {mostOf} from "./positions.js";
@@ -10,8 +11,8 @@ import {length} from "./words.js";
 
 const asking = {name: "", ids: /** @type {number[]} */ ([]), eras: /** @type {(string | null)[]} */ ([])};
 /** @type {Record<string, string>} */
-const TITLES = {SHELVE: "Shelve", "OOS ON": "Put out of service", "OOS OFF": "Put back in service",
-  PRIO: "Another priority", SETP: "Another setpoint"};
+const TITLES = {SHELVE: w("Shelve"), "OOS ON": w("Put out of service"), "OOS OFF": w("Put back in service"),
+  PRIO: w("Another priority"), SETP: w("Another setpoint")};
 // Seconds for which alarms are shelved.
 const DURATIONS = [900, 1800, 3600, 7200, 14400, 28800, 43200, 86400, 172800, 604800];
 const MOST_TAGS = 30;
@@ -21,13 +22,14 @@ export function openDialog(/** @type {string} */ name, /** @type {number[]} */ i
   const tags = ids.map(tagAndPlant), row = rowOf(ids[0]);
   const most = mostOf(name.split(" ")[0]);
   if (ids.length > most) {
-    return say(`that is for ${most} alarms at once at most, and ${ids.length} are selected`, true);
+    const values = {most, count: ids.length};
+    return say(t("that is for {most} alarms at once at most, and {count} are selected", values), true);
   }
   Object.assign(asking, {name, ids, eras: plants.map(plant => plant.era)});
-  put($("asking-what"), TITLES[name]);
-  const more = tags.length > MOST_TAGS ? " .." : "";
+  put($("asking-what"), t(TITLES[name]));
+  const some = tags.slice(0, MOST_TAGS).join(", ") + (tags.length > MOST_TAGS ? " .." : "");
   put($("asking-whom"), tags.length === 1 ? `${tags[0]}, ${alarmOf(row).text}`
-    : `${tags.length} alarms: ${tags.slice(0, MOST_TAGS).join(", ")}${more}`);
+    : t("{count} alarms: {tags}", {count: tags.length, tags: some}));
   put($("asking-said"), "");
   for (const part of ["duration", "minutes", "priority", "setpoint"]) $(`asking-${part}`).hidden = true;
   field("reason").value = "";
@@ -44,16 +46,16 @@ export function openDialog(/** @type {string} */ name, /** @type {number[]} */ i
 
 function offerDurations(/** @type {number[]} */ ids) {
   const limits = ids.map(id => alarmOf(rowOf(id)).maxShelve).filter(Boolean);
-  if (!limits.length) return put($("asking-said"), "The table doesn't let them be shelved.");
+  if (!limits.length) return put($("asking-said"), t("The table doesn't let them be shelved."));
   const most = Math.min(...limits), fit = DURATIONS.filter(seconds => seconds <= most);
   if (!fit.includes(most)) fit.push(most);
   const options = fit.map(seconds => new Option(length(seconds), String(seconds)));
-  choice("duration").replaceChildren(...options, new Option("minutes..", "other"));
+  choice("duration").replaceChildren(...options, new Option(t("minutes.."), "other"));
   choice("duration").value = String(fit.includes(3600) ? 3600 : fit[0]);
   $("asking-duration").hidden = false;
   field("minutes").max = String(Math.floor(most / 60));
   const left = ids.length - limits.length;
-  if (left) put($("asking-said"), `The table doesn't let ${left} of them be shelved.`);
+  if (left) put($("asking-said"), t("The table doesn't let {count} of them be shelved.", {count: left}));
 }
 
 /** The number that an action has, as it was typed; a text says why it is none. */
@@ -61,7 +63,7 @@ function typed() {
   const duration = choice("duration").value;
   const seconds = duration === "other" ? Number(field("minutes").value) * 60 : Number(duration);
   switch (asking.name) {
-    case "SHELVE": return Number.isSafeInteger(seconds) && seconds > 0 ? seconds : "That is no number.";
+    case "SHELVE": return Number.isSafeInteger(seconds) && seconds > 0 ? seconds : t("That is no number.");
     case "OOS ON": return 1;
     case "OOS OFF": return 0;
     case "PRIO": return Number(choice("priority").value);
@@ -72,11 +74,11 @@ function typed() {
 function submit(/** @type {Event} */ event) {
   const value = typed(), reason = field("reason").value.trim();
   event.preventDefault();
-  if (!reason) return put($("asking-said"), "A reason is wanted.");
+  if (!reason) return put($("asking-said"), t("A reason is wanted."));
   if (typeof value === "string") return put($("asking-said"), value);
   dialog("asking").close();
   if (asking.ids.some(id => asking.eras[plantOf(id).place] !== plantOf(id).era)) {
-    return say("the plant is another one than was seen: look again", true);
+    return say(t("the plant is another one than was seen: look again"), true);
   }
   ask(asking.name.split(" ")[0], asking.ids, {value, reason});
 }

@@ -1,9 +1,10 @@
 // The cells of a row and of an event.
 import {made, mark} from "./dom.js";
+import {t, w} from "./language.js";
 import {BY_DESIGN, SHELVED, WORDS, isAnnunciated, isChattering, isStale} from "./model.js";
 import {alarmOf, areSeveral, areaName, isLeftOut} from "./state.js";
 import {shownValue} from "./values.js";
-import {columns} from "./views.js";
+import {columns, whyOf} from "./views.js";
 import {happening, span, time} from "./words.js";
 /** @typedef {import("./model.js").Row} Row */
 /** @typedef {import("./model.js").Event} Event */
@@ -22,10 +23,10 @@ function tips(/** @type {Row} */ row) {
   const all = made("span", {className: "two"}), {flags, shown, plant} = row;
   const flood = isAnnunciated(row) && plant.head.floods?.[row.area]?.[1];
   /** @type {[string, unknown][]} */
-  const marks = [["No server", isLeftOut(row)], ["Flood", flood], ["Stale", isStale(row)],
-    ["Chatter", isChattering(row)], ["Shelved", flags & SHELVED && shown !== "SHLVD"],
-    ["By design", flags & BY_DESIGN && shown !== "DSUPR"], ["Holds", flags && row.active]];
-  for (const [word, has] of marks) if (has) all.append(made("span", {className: "tip", textContent: word}));
+  const marks = [[w("No server"), isLeftOut(row)], [w("Flood"), flood], [w("Stale"), isStale(row)],
+    [w("Chatter"), isChattering(row)], [w("Shelved"), flags & SHELVED && shown !== "SHLVD"],
+    [w("By design"), flags & BY_DESIGN && shown !== "DSUPR"], [w("Holds"), flags && row.active]];
+  for (const [word, has] of marks) if (has) all.append(made("span", {className: "tip", textContent: t(word)}));
   return all;
 }
 
@@ -44,13 +45,16 @@ const CELLS = {
   box: (_, isChosen) => cell("box", isChosen ? "☑" : "☐"),
   mark: row => cell("mark-cell", mark(row.priority)),
   time: row => cell("time", time(row.since, row.plant)),
-  state: row => cell("state", WORDS[row.shown]),
+  state: row => cell("state", t(WORDS[row.shown])),
   plant: row => cell("plant", row.plant.name),
   tag: row => cell("tag", alarmOf(row).tag),
   text: row => cell("text", alarmOf(row).text),
   value: row => cell("value number", row.value === null ? "" : shownValue(alarmOf(row), row.value)),
   limit: row => cell("limit number", limit(row)),
   area: row => cell("area", areaName(row.plant, row.area)),
+  begun: row => cell("time", time(whyOf(row)?.[1], row.plant)),
+  by: row => cell("user", whyOf(row)?.[2] ?? ""),
+  reason: row => cell("reason", whyOf(row)?.[3] ?? ""),
   left: row => cell("left number", left(row)),
   marks: row => cell("marks", tips(row)),
 };
@@ -69,7 +73,7 @@ export function textsOf(/** @type {Event} */ event) {
   return [["time", time(event.moment, plant)], ["number", String(event.number)],
     ...(areSeveral() ? [/** @type {[string, string]} */ (["plant", plant.name])] : []),
     ["tag", alarm === null ? "" : plant.table[alarm].tag], ["text", happening(event)],
-    ["state", WORDS[event.after ?? ""] ?? ""], ["user", event.user ?? ""], ["reason", event.reason ?? ""]];
+    ["state", t(WORDS[event.after ?? ""] ?? "")], ["user", event.user ?? ""], ["reason", event.reason ?? ""]];
 }
 
 /** The cells of an event. */

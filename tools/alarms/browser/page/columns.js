@@ -1,5 +1,6 @@
 // The heads of the columns, by which the list is sorted, and how wide the tags are.
 import {$, allOf, button, made, target} from "./dom.js";
+import {t, w} from "./language.js";
 import {areSeveral, isJournal, look, plants} from "./state.js";
 import {COLUMNS, columns} from "./views.js";
 
@@ -7,16 +8,17 @@ import {COLUMNS, columns} from "./views.js";
  * What stands over the columns of the journal, and their classes.
  * @type {[string, string][]}
  */
-const JOURNAL = [["Time", "c-time"], ["Action", "c-number number"], ["Plant", "c-plant"], ["Tag", "c-tag"],
-  ["What happened", "c-what"], ["Became", "c-state"], ["By", "c-user"], ["Reason", "c-reason"]];
+const JOURNAL = [[w("Time"), "c-time"], [w("Action"), "c-number number"], [w("Plant"), "c-plant"],
+  [w("Tag"), "c-tag"], [w("What happened"), "c-what"], [w("Became"), "c-state"], [w("By"), "c-user"],
+  [w("Reason"), "c-reason"]];
 
 /**
  * The columns as they are: a name, where one can sort by it, the words and the class.
  * @returns {[string, string, string][]}
  */
 function heads() {
-  if (!isJournal()) return columns().map(name => [name, COLUMNS[name][0], COLUMNS[name][1]]);
-  return JOURNAL.filter(([text]) => text !== "Plant" || areSeveral()).map(([text, kind]) => ["", text, kind]);
+  if (!isJournal()) return columns().map(name => [name, t(COLUMNS[name][0]), COLUMNS[name][1]]);
+  return JOURNAL.filter(([, kind]) => kind !== "c-plant" || areSeveral()).map(([text, kind]) => ["", t(text), kind]);
 }
 
 function head(/** @type {[string, string, string]} */ [name, text, kind]) {
@@ -28,8 +30,8 @@ function head(/** @type {[string, string, string]} */ [name, text, kind]) {
   const sign = isSort ? (look.down ? " ▾" : " ▴") : isDot ? " ●" : "";
   const press = button({textContent: text + sign, disabled: !name || name === "box" || name === "marks"});
   if (name) press.dataset.sort = name === "mark" && look.sort !== "order" ? "order" : name;
-  if (name === "mark") press.setAttribute("aria-label", "Unacknowledged, then priority, then time");
-  if (name === "box") press.setAttribute("aria-label", "Selected");
+  if (name === "mark") press.setAttribute("aria-label", t("Unacknowledged, then priority, then time"));
+  if (name === "box") press.setAttribute("aria-label", t("Selected"));
   one.append(press);
   return one;
 }

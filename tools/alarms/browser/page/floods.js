@@ -1,20 +1,26 @@
 // The areas in flood, and what is suppressed while its condition holds.
 import {$, allOf, button, childrenOf, dialog, put, target} from "./dom.js";
 import {draw} from "./draw.js";
-import {WORDS} from "./model.js";
+import {t, w} from "./language.js";
 import {isOwnArea} from "./positions.js";
 import {areaName, areaOf, look, of_, plants, screen} from "./state.js";
+
+/**
+ * What is silent, by the word of its state.
+ * @type {Record<string, string>}
+ */
+const SILENT = {OOSRV: w("{count} out of service"), SHLVD: w("{count} shelved"), DSUPR: w("{count} by design")};
 
 /** The areas in flood, each with its id and what is said of it. */
 function floods() {
   return plants.flatMap(plant => (plant.head.floods ?? []).flatMap(([total, flooded], area) => {
-    const text = of_(plant, `${areaName(plant, area)}: ${total} in 10 min`);
+    const text = of_(plant, t("{area}: {count} in 10 min", {area: areaName(plant, area), count: total}));
     return flooded && isOwnArea(plant, area) ? [{id: areaOf(plant, area), text}] : [];
   }));
 }
 
 function floodButton(/** @type {{id: number, text: string}} */ {id, text}) {
-  const one = button({textContent: text, title: `${text}. Show this area alone`});
+  const one = button({textContent: text, title: `${text}. ${t("Show this area alone")}`});
   one.dataset.area = String(id);
   return one;
 }
@@ -43,10 +49,10 @@ function boundFloods() {
   more.hidden = true;
   if (!beyond().length) return;
   more.hidden = false;
-  put(more, `+ ${all.length} areas`);
+  put(more, t("+ {count} areas", {count: all.length}));
   const left = beyond();
   for (const one of left) one.hidden = true;
-  put(more, `+ ${left.length} areas`);
+  put(more, t("+ {count} areas", {count: left.length}));
 }
 
 function showFlood(/** @type {Event} */ event) {
@@ -61,10 +67,10 @@ function showFlood(/** @type {Event} */ event) {
 export function drawHolding() {
   const {holding} = screen, total = Object.values(holding).reduce((sum, one) => sum + one, 0);
   $("holding").hidden = !total || look.view !== "alarms";
-  put($("holding-all"), `${total} suppressed while the condition holds:`);
+  put($("holding-all"), t("{count} suppressed while the condition holds:", {count: total}));
   for (const one of allOf("button", $("holding"))) {
     const state = one.dataset.state ?? "";
-    put(one, `${holding[state]} ${WORDS[state].toLowerCase()}`);
+    put(one, t(SILENT[state], {count: holding[state]}));
     one.hidden = !holding[state];
   }
 }

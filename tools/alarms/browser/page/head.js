@@ -1,7 +1,7 @@
 // What stands over the list: counts, clocks, plants, views and filters.
 import {$, allOf, button, childrenOf, choice, field, made, put} from "./dom.js";
 import {AREAS} from "./model.js";
-import {t} from "./language.js";
+import {t, w} from "./language.js";
 import {ownPositions} from "./positions.js";
 import {areSeveral, areaName, areaOf, isJournal, look, me, of_, plants, screen} from "./state.js";
 import {isSounding, soundWord} from "./sound.js";
@@ -9,23 +9,27 @@ import {VIEWS} from "./views.js";
 import {time} from "./words.js";
 /** @typedef {import("./model.js").Plant} Plant */
 
+/** @type {Record<string, string>} */
+const ROLES = {viewer: w("viewer"), operator: w("operator"), engineer: w("engineer")};
+
 /** The counts of the priorities, who looks, and the sound. */
 export function drawHead() {
   for (const one of childrenOf($("priorities"))) {
     const priority = Number(one.dataset.priority), [unacknowledged, all] = screen.priorities[priority];
     put(/** @type {Element} */ (one.lastElementChild), `${unacknowledged} / ${all}`);
     one.setAttribute("aria-pressed", String(look.priorities.has(priority)));
-    one.setAttribute("aria-label", `Priority ${priority}: ${unacknowledged} unacknowledged of ${all}`);
+    one.setAttribute("aria-label", t("Priority {priority}: {unacknowledged} unacknowledged of {all}",
+      {priority, unacknowledged, all}));
   }
-  put($("clock"), plants[0].era && !areSeveral() ? `Plant ${time(plants[0].head.now, plants[0])}` : "");
-  put($("who"), me.user ? `${me.user} (${me.role})` : "");
+  put($("clock"), plants[0].era && !areSeveral() ? t("Plant {time}", {time: time(plants[0].head.now, plants[0])}) : "");
+  put($("who"), me.user ? `${me.user} (${t(ROLES[me.role])})` : "");
   $("who").title = $("who").textContent ?? "";
   const [word, isOn] = soundWord();
   put($("sound"), word);
   $("sound").setAttribute("aria-pressed", String(isOn));
   field("silence").disabled = !isSounding();
   const unacknowledged = screen.priorities.reduce((sum, pair) => sum + pair[0], 0);
-  document.title = unacknowledged ? `(${unacknowledged}) Alarm list` : "Alarm list";
+  document.title = (unacknowledged ? `(${unacknowledged}) ` : "") + t("Alarm list");
 }
 
 /** Of several plants: how many alarms nobody has acknowledged, of how many, and the plant's clock. */
@@ -38,11 +42,12 @@ export function drawPlants() {
   plants.forEach((plant, at) => {
     const one = childrenOf(place)[at], [unacknowledged, all] = plant.counts;
     one.dataset.plant = String(at);
-    put(one, `${plant.name}  ${unacknowledged} / ${all}  ${plant.isOld ? "no server" : time(plant.head.now, plant)}`);
+    const now = plant.isOld ? t("no server") : time(plant.head.now, plant);
+    put(one, `${plant.name}  ${unacknowledged} / ${all}  ${now}`);
     one.classList.toggle("old", plant.isOld);
     one.setAttribute("aria-pressed", String(look.plants.has(at)));
-    const said = `${plant.name}: ${unacknowledged} unacknowledged of ${all}${plant.isOld ? ", no server" : ""}`;
-    one.setAttribute("aria-label", said);
+    const said = t("{plant}: {unacknowledged} unacknowledged of {all}", {plant: plant.name, unacknowledged, all});
+    one.setAttribute("aria-label", said + (plant.isOld ? `, ${t("no server")}` : ""));
   });
 }
 
@@ -50,7 +55,7 @@ export function drawPlants() {
 export function drawTabs() {
   for (const tab of childrenOf($("tabs"))) {
     const view = tab.dataset.view ?? "", isCounted = view !== "journal" && view !== "all";
-    put(tab, VIEWS[view][0] + (isCounted ? ` ${screen.counts[view]}` : ""));
+    put(tab, t(VIEWS[view][0]) + (isCounted ? ` ${screen.counts[view]}` : ""));
     tab.setAttribute("aria-selected", String(view === look.view));
     tab.tabIndex = view === look.view ? 0 : -1;
   }
@@ -62,7 +67,7 @@ const areasOf = (/** @type {Plant | undefined} */ plant) => plant?.head.floods?.
 /** The filters, and what they hide. */
 export function drawFilters() {
   put($("others"), screen.others ? t("{count} of others' areas", {count: screen.others}) : "");
-  put($("hidden"), screen.hidden ? `${screen.hidden} hidden by filters` : "");
+  put($("hidden"), screen.hidden ? t("{count} hidden by filters", {count: screen.hidden}) : "");
   const select = choice("area"), names = plants.flatMap(plant =>
     Array.from({length: areasOf(plant)}, (_, area) => [of_(plant, areaName(plant, area)), areaOf(plant, area)]));
   const whole = ownPositions().length ? [[t("my areas"), ""], [t("all"), "all"]] : [[t("all"), ""]];

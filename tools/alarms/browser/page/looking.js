@@ -3,12 +3,13 @@ import {$, allOf, choice, field, target} from "./dom.js";
 import {draw} from "./draw.js";
 import {keep, kept} from "./kept.js";
 import {look, plants, screen} from "./state.js";
-import {COLUMNS, VIEWS} from "./views.js";
+import {COLUMNS, VIEWS, columns} from "./views.js";
 /** @typedef {typeof look} Look */
 
 /** Turns to a view. */
 export function turn(/** @type {string} */ view) {
-  Object.assign(look, {view, sort: look.sort === "left" ? "order" : look.sort});
+  look.view = view;
+  if (!columns().includes(look.sort)) look.sort = "order";
   screen.chosen.clear();
   Object.assign(screen, {cursor: 0, anchor: null, isPassed: false});
   $("list").scrollTop = 0;

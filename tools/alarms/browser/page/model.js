@@ -1,4 +1,5 @@
 // What the stream tells of the plants: rows, the table, events and heads, with names for their places.
+import {w} from "./language.js";
 
 /** How many alarms and areas a plant has at most: by these the ids of several plants go on. */
 export const ALARMS = 16384, AREAS = 64;
@@ -6,8 +7,8 @@ export const ALARMS = 16384, AREAS = 64;
 export const SHELVED = 1, BY_DESIGN = 2, OUT_OF_SERVICE = 4;
 /** @type {Record<string, string>} */
 export const WORDS = {
-  NORM: "Normal", UNACK: "Unack", ACKED: "Acked", RTNUN: "RTN unack", LATUN: "Latch unack", LATAK: "Latched",
-  SHLVD: "Shelved", DSUPR: "By design", OOSRV: "Out of service",
+  NORM: w("Normal"), UNACK: w("Unack"), ACKED: w("Acked"), RTNUN: w("RTN unack"), LATUN: w("Latch unack"),
+  LATAK: w("Latched"), SHLVD: w("Shelved"), DSUPR: w("By design"), OOSRV: w("Out of service"),
 };
 export const UNACKNOWLEDGED = new Set(["UNACK", "RTNUN", "LATUN"]);
 export const ANNUNCIATED = new Set([...UNACKNOWLEDGED, "ACKED", "LATAK"]);
@@ -75,6 +76,7 @@ export const DAY = 86400;
  * @property {number} stamp that of its annunciation; 0 where there is none
  * @property {number | null} value
  * @property {number} limit
+ * @property {[number, number, string, string][]} why of each flag the flag, since when, who and why
  * @property {Plant} plant
  * @property {number} id which no other plant's alarm has
  */
@@ -101,7 +103,7 @@ export const DAY = 86400;
  * @returns {Plant}
  */
 export function newPlant(name, place) {
-  const head = {trouble: "the plant is being read", age: 0, still: 0, fault: ""};
+  const head = {trouble: w("the plant is being read"), age: 0, still: 0, fault: ""};
   return {name, place, era: null, areas: [], table: [], rows: [], events: [], counts: [0, 0], isOld: false,
     isDetailed: false, head};
 }
@@ -118,9 +120,9 @@ export function idOf(/** @type {Plant} */ plant, /** @type {number} */ n) {
  * @returns {Row}
  */
 export function readRow(told, plant) {
-  const [n, priority, area, shown, flags, active, since, third, deadline, stamp, value, limit] = told;
-  return {n, priority, area, shown, flags, active: Boolean(active), since, third, deadline, stamp, value, limit, plant,
-    id: idOf(plant, n)};
+  const [n, priority, area, shown, flags, active, since, third, deadline, stamp, value, limit, why] = told;
+  return {n, priority, area, shown, flags, active: Boolean(active), since, third, deadline, stamp, value, limit, why,
+    plant, id: idOf(plant, n)};
 }
 
 /**

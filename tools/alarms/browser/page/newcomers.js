@@ -2,10 +2,14 @@
 import {$, put} from "./dom.js";
 import {rowHeight} from "./geometry.js";
 import {newcomers} from "./hold.js";
+import {t, w} from "./language.js";
 import {screen} from "./state.js";
 
 /** @typedef {"above" | "below"} Where */
 
+/** @type {Record<Where, string>} */
+const SAID = {above: w("▲ {count} new above, priority {priority}"),
+  below: w("▼ {count} new below, priority {priority}")};
 /** The first of each. */
 const first = {above: -1, below: -1};
 
@@ -19,7 +23,7 @@ function drawOnes(/** @type {Where} */ where, /** @type {number[]} */ found) {
   const one = $(`new-${where}`), urgent = Math.min(...found.map(place => screen.rows[place].priority));
   first[where] = found[0] ?? -1;
   one.classList.toggle("none", !found.length);
-  put(one, found.length ? `${where === "above" ? "▲" : "▼"} ${found.length} new ${where}, priority ${urgent}` : "");
+  put(one, found.length ? t(SAID[where], {count: found.length, priority: urgent}) : "");
 }
 
 function show(/** @type {Where} */ where) {

@@ -3,6 +3,7 @@ import {kept} from "./kept.js";
 import {leaveDialog} from "./asking.js";
 import {measureTags} from "./columns.js";
 import {touch} from "./draw.js";
+import {t} from "./language.js";
 import {link} from "./link.js";
 import {clearFilters, restoreLook} from "./looking.js";
 import {say} from "./messages.js";
@@ -59,7 +60,7 @@ function forget(/** @type {Plant} */ plant) {
   for (const known of [sights, silenced]) for (const id of known.keys()) if (plantOf(id) === plant) known.delete(id);
   clearRows();
   leaveDialog(plant);
-  if (plant.era) say(of_(plant, "the plant is another one than before"), true);
+  if (plant.era) say(of_(plant, t("the plant is another one than before")), true);
 }
 
 /** @type {Record<string, (told: any) => void>} */

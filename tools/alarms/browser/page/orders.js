@@ -1,5 +1,6 @@
 // What an operator asks for goes out by /do, bound to the annunciation that was on the screen; what came of it is said.
 import {touch} from "./draw.js";
+import {t, w} from "./language.js";
 import {link, within} from "./link.js";
 import {say} from "./messages.js";
 import {ALARMS, idOf} from "./model.js";
@@ -14,8 +15,9 @@ const MOST_ALARMS = 1000;
 // Milliseconds that a reply may take.
 export const REPLY = 5000;
 /** @type {Record<string, string>} */
-const DONE = {ACK: "acknowledged", RESET: "reset", SHELVE: "shelved", UNSHELVE: "unshelved",
-  PRIO: "given another priority", SETP: "given another setpoint"};
+const DONE = {ACK: w("{what} acknowledged"), RESET: w("{what} reset"), SHELVE: w("{what} shelved"),
+  UNSHELVE: w("{what} unshelved"), PRIO: w("{what} given another priority"), SETP: w("{what} given another setpoint"),
+  "OOS ON": w("{what} out of service"), "OOS OFF": w("{what} back in service")};
 
 /**
  * Says what was done of an order, and why the rest wasn't.
@@ -25,17 +27,18 @@ const DONE = {ACK: "acknowledged", RESET: "reset", SHELVE: "shelved", UNSHELVE: 
  */
 function sayAnswers({word, value}, answers, faults) {
   const done = answers.filter(answer => answer[1] === "done");
-  const which = word === "OOS" ? (value ? "out of service" : "back in service") : DONE[word];
-  const head = done.length === 1 ? `${tagAndPlant(done[0][0])} ${which}` : `${done.length} ${which}`;
+  const which = DONE[word === "OOS" ? (value ? "OOS ON" : "OOS OFF") : word];
+  const head = t(which, {what: done.length === 1 ? tagAndPlant(done[0][0]) : done.length});
   /** @type {Map<string, string[]>} */
   const reasons = new Map();
   for (const [id, , , why] of answers) if (why) reasons.set(why, [...(reasons.get(why) ?? []), tagAndPlant(id)]);
-  const rest = [...reasons].map(([why, tags]) => `${several(tags)}: ${why}`).concat(faults);
+  const rest = [...reasons].map(([why, tags]) => `${several(tags)}: ${t(why)}`).concat(faults);
   say([done.length || !rest.length ? head : "", ...rest].filter(Boolean).join("; "), rest.length > 0);
 }
 
 function several(/** @type {string[]} */ tags) {
-  return `${tags.slice(0, 4).join(", ")}${tags.length > 4 ? ` and ${tags.length - 4} more` : ""}`;
+  const some = tags.slice(0, 4).join(", ");
+  return tags.length > 4 ? t("{tags} and {count} more", {tags: some, count: tags.length - 4}) : some;
 }
 
 /**
@@ -51,12 +54,17 @@ async function askPlant(plant, {word, ids, value, reason, glance}) {
   try {
     const reply = await fetch("/do", {method: "POST", headers, body, signal: within(REPLY)});
     if (reply.status === 401) link.again();
-    if (!reply.ok) return {answers: [], fault: of_(plant, `not done: ${(await reply.text()).trim().slice(0, 100)}`)};
+    if (!reply.ok) {
+      const why = (await reply.text()).trim().slice(0, 150);
+      return {answers: [], fault: of_(plant, t("not done: {why}", {why: t(why)}))};
+    }
     const told = /** @type {{answers: Answer[]}} */ (await reply.json());
     return {answers: told.answers.map(([n, ...rest]) => [idOf(plant, n), ...rest]), fault: ""};
   } catch (error) {
-    const late = error instanceof DOMException && error.name === "TimeoutError" ? ` within ${REPLY / 1000} s` : "";
-    return {answers: [], fault: of_(plant, `no reply came${late}: look whether it was done`)};
+    const isLate = error instanceof DOMException && error.name === "TimeoutError";
+    const fault = isLate ? t("no reply came within {seconds} s: look whether it was done", {seconds: REPLY / 1000})
+      : t("no reply came: look whether it was done");
+    return {answers: [], fault: of_(plant, fault)};
   }
 }
 
@@ -70,7 +78,7 @@ async function askPlant(plant, {word, ids, value, reason, glance}) {
 export async function askShift(word, place, reason, done) {
   say("..");
   const {answers, fault} = await askPlant(plants[0], {word, ids: [], value: place, reason, glance: 0});
-  const why = fault || answers[0]?.[3] || "";
+  const why = fault || t(answers[0]?.[3] ?? "");
   say(why || done, Boolean(why));
   touch();
 }
@@ -85,7 +93,7 @@ export async function askShift(word, place, reason, done) {
 export async function ask(word, ids, more = {}) {
   const {value, reason, glance = GLANCE} = more;
   if (!ids.length || ids.length > MOST_ALARMS) {
-    return say(ids.length ? `choose at most ${MOST_ALARMS} alarms` : "nothing to do", true);
+    return say(ids.length ? t("choose at most {most} alarms", {most: MOST_ALARMS}) : t("nothing to do"), true);
   }
   say("..");
   const asked = plants.filter(plant => ids.some(id => plantOf(id) === plant));

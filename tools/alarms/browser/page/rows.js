@@ -4,6 +4,7 @@ import {cellsOf, eventCells, textsOf} from "./cells.js";
 import {drawColumns} from "./columns.js";
 import {onScreen, room, rowHeight} from "./geometry.js";
 import {drawnHeld, dropHeld, isHolding, isScrolled, scrollHeld} from "./hold.js";
+import {t} from "./language.js";
 import {isUnacknowledged} from "./model.js";
 import {noteSeen} from "./seen.js";
 import {isJournal, isLeftOut, lines, screen} from "./state.js";
@@ -57,7 +58,7 @@ export function drawRows() {
   space("below", Math.max(0, lines() - first - drawn.size) * height + Math.max(0, top - most));
   if (Math.abs(list.scrollTop - top) >= 1) list.scrollTop = top;
   list.setAttribute("aria-rowcount", String(lines() + 1));
-  put($("empty"), lines() ? "" : screen.hidden ? "None but those that the filters hide." : "None.");
+  put($("empty"), lines() ? "" : screen.hidden ? t("None but those that the filters hide.") : t("None."));
   $("empty").hidden = Boolean(lines());
   noteMoves(first * height - top, wasScrolled);
   drawnHeld(wasScrolled);

@@ -2,6 +2,7 @@
 import {$, target} from "./dom.js";
 import {draw, touch} from "./draw.js";
 import {reveal} from "./geometry.js";
+import {t} from "./language.js";
 import {say} from "./messages.js";
 import {steadyFor} from "./rows.js";
 import {isJournal, screen} from "./state.js";
@@ -65,7 +66,7 @@ export function prepareSelection() {
   $("rows").addEventListener("click", event => {
     const id = target(event, "tr")?.dataset.n;
     if (id === undefined) return;
-    if (steadyFor(Number(id)) < STEADY) return say("the list moved just before: look where you press", true);
+    if (steadyFor(Number(id)) < STEADY) return say(t("the list moved just before: look where you press"), true);
     const place = screen.rows.findIndex(row => row.id === Number(id));
     select(place, target(event)?.classList.contains("box") ? {ctrlKey: true} : event);
     $("list").focus({preventScroll: true});

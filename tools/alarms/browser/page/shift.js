@@ -1,6 +1,6 @@
 // The change of a shift: who has which position, and the dialog in which one is taken or left.
 import {$, button, dialog, field, made, put, target} from "./dom.js";
-import {t} from "./language.js";
+import {t, w} from "./language.js";
 import {isUnacknowledged} from "./model.js";
 import {askShift} from "./orders.js";
 import {freePositions, holderOf, isOwn, ownPositions} from "./positions.js";
@@ -71,7 +71,7 @@ function press(/** @type {Event} */ event) {
   const place = Number(target(event, "button")?.dataset.place ?? NaN), position = me.positions[place];
   if (!position) return;
   const reason = field("remark").value.trim(), isLeft = isOwn(place);
-  const said = t(isLeft ? "{position} left: {standing}" : "{position} taken: {standing}",
+  const said = t(isLeft ? w("{position} left: {standing}") : w("{position} taken: {standing}"),
     {position: position.name, standing: standing(position)});
   askShift(isLeft ? "LEAVE" : "TAKE", place, reason, said);
   dialog("shift").close();

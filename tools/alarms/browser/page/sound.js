@@ -2,6 +2,7 @@
 import {$} from "./dom.js";
 import {touch} from "./draw.js";
 import {keep, kept} from "./kept.js";
+import {t} from "./language.js";
 import {isUnacknowledged} from "./model.js";
 import {isOwnArea} from "./positions.js";
 import {me, plants} from "./state.js";
@@ -34,7 +35,7 @@ const isAllowed = () => sound.context?.state === "running";
  * @returns {[string, boolean]}
  */
 export function soundWord() {
-  return [!sound.on ? "Sound off" : isAllowed() ? "Sound on" : "Sound: press to allow", sound.on];
+  return [!sound.on ? t("Sound off") : isAllowed() ? t("Sound on") : t("Sound: press to allow"), sound.on];
 }
 
 /** The most urgent priority of what sounds; 0 where nothing does. */

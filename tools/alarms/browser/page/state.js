@@ -1,5 +1,6 @@
 // What the page has: the plants as they were told, who the operator is, what is looked at and what is on the screen.
 // Nothing is kept here that the servers haven't shown.
+import {t} from "./language.js";
 import {ALARMS, AREAS, newPlant} from "./model.js";
 /** @typedef {import("./model.js").Plant} Plant */
 /** @typedef {import("./model.js").Row} Row */
@@ -66,7 +67,8 @@ export const alarmOf = (/** @type {Row} */ row) => row.plant.table[row.n];
 export const tagOf = (/** @type {number} */ id) => plantOf(id).table[id % ALARMS].tag;
 /** The id of a plant's area. */
 export const areaOf = (/** @type {Plant} */ plant, /** @type {number} */ area) => plant.place * AREAS + area;
-export const areaName = (/** @type {Plant} */ plant, /** @type {number} */ area) => plant.areas[area] || `Area ${area}`;
+export const areaName = (/** @type {Plant} */ plant, /** @type {number} */ area) =>
+  plant.areas[area] || t("Area {number}", {number: area});
 /** A text with the name of its plant, where there are several. */
 export function of_(/** @type {Plant} */ plant, /** @type {string} */ text) {
   return areSeveral() ? `${plant.name}: ${text}` : text;

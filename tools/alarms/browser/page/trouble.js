@@ -1,6 +1,7 @@
 // Why the list may be old, and what else an operator should be told of.
 import {$, put} from "./dom.js";
 import {draw} from "./draw.js";
+import {t, w} from "./language.js";
 import {link} from "./link.js";
 import {untaken} from "./shift.js";
 import {play} from "./sound.js";
@@ -10,30 +11,34 @@ import {span} from "./words.js";
 
 // Milliseconds of silence that are a loss, and seconds without an answer of the server after which the list may be old.
 export const SILENCE = 1500, OLD = 1;
-const MAY_BE_OLD = "the list may be old";
 
 /** Why nothing is heard of alm_browser itself; empty while something is. */
 function silentSince() {
   const silent = performance.now() - link.heard;
-  if (link.signedOut) return `SIGNED OUT, ${MAY_BE_OLD}. Open the address that alm_browser printed last.`;
+  if (link.signedOut) return t("SIGNED OUT, the list may be old. Open the address that alm_browser printed last.");
   if (silent <= SILENCE) return "";
-  if (link.refused) return `NO LIST, what is shown may be old: ${link.refused}`;
-  return `NO SERVER, ${MAY_BE_OLD}: nothing heard for ${Math.round(silent / 1000)} s`;
+  if (link.refused) return t("NO LIST, what is shown may be old: {why}", {why: t(link.refused)});
+  return t("NO SERVER, the list may be old: nothing heard for {seconds} s", {seconds: Math.round(silent / 1000)});
 }
 
 /** Why a plant's rows may be old; empty while they aren't. */
 function oldness(/** @type {Plant} */ plant) {
-  const {age, trouble} = plant.head, what = areSeveral() ? "its rows may be old" : MAY_BE_OLD;
-  if (age > OLD) return `NO SERVER, ${what}: no answer for ${Math.round(age)} s${trouble ? ` (${trouble})` : ""}`;
-  if (trouble) return `NO SERVER, ${what}: ${trouble}`;
-  return plant.era ? "" : "NO SERVER, there is no list yet";
+  const {age, trouble} = plant.head, what = areSeveral() ? w("NO SERVER, its rows may be old: {why}")
+    : w("NO SERVER, the list may be old: {why}");
+  const since = t("no answer for {seconds} s", {seconds: Math.round(age)}), why = t(trouble);
+  if (age > OLD) return t(what, {why: why ? `${since} (${why})` : since});
+  if (trouble) return t(what, {why});
+  return plant.era ? "" : t("NO SERVER, there is no list yet");
 }
 
 /** What else there is to say of a plant. */
 function faults(/** @type {Plant} */ plant, /** @type {boolean} */ isOld) {
   const {still, fault} = plant.head, said = [];
-  if (!isOld && still) said.push(`The plant's clock has stood still for ${span(still)}: no shelving and no flood ends`);
-  if (fault) said.push(`Who does what isn't kept: ${fault}`);
+  const time = span(still);
+  if (!isOld && still) {
+    said.push(t("The plant's clock has stood still for {time}: no shelving and no flood ends", {time}));
+  }
+  if (fault) said.push(t("Who does what isn't kept: {why}", {why: fault}));
   return said.map(text => of_(plant, text));
 }
 
@@ -59,7 +64,7 @@ export function drawTrouble() {
 
 function drawConnection() {
   const answering = plants.filter(plant => !plant.isOld).length;
-  const one = answering ? "Server answers" : "No server";
-  put($("connection"), areSeveral() ? `${answering} of ${plants.length} servers answer` : one);
+  const one = answering ? t("Server answers") : t("No server"), all = plants.length;
+  put($("connection"), areSeveral() ? t("{count} of {all} servers answer", {count: answering, all}) : one);
   document.body.classList.toggle("old", !answering);
 }

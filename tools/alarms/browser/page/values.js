@@ -1,4 +1,5 @@
 // Values as an operator has them: those of the plant by the alarm's scale, with its decimals and its unit.
+import {t} from "./language.js";
 /** @typedef {import("./model.js").Alarm} Alarm */
 
 /** A value of the plant in the operator's unit, without it. */
@@ -27,10 +28,11 @@ function digits(/** @type {string} */ text) {
  * @returns {number | string}
  */
 export function readValue(alarm, text) {
-  if (!/^-?[0-9]{1,13}([.][0-9]{1,12})?$/.test(text)) return "That is no number.";
+  if (!/^-?[0-9]{1,13}([.][0-9]{1,12})?$/.test(text)) return t("That is no number.");
   const [value, behind] = digits(text), [scale, more] = digits(alarm.scale), one = 10n ** BigInt(behind + more);
   const product = value * scale;
-  if (product % one) return `${text} is finer than the plant's values, which have steps of ${1 / Number(alarm.scale)}.`;
+  const step = 1 / Number(alarm.scale);
+  if (product % one) return t("{text} is finer than the plant's values, which have steps of {step}.", {text, step});
   const whole = Number(product / one);
-  return Number.isSafeInteger(whole) ? whole : "That is too large.";
+  return Number.isSafeInteger(whole) ? whole : t("That is too large.");
 }

@@ -1,4 +1,5 @@
 // Which rows a view has, which of them the filters leave, and their order.
+import {t, w} from "./language.js";
 import {AREAS, BY_DESIGN, OUT_OF_SERVICE, SHELVED, WORDS} from "./model.js";
 import {isAnnunciated, isChattering, isStale, isUnacknowledged} from "./model.js";
 import {isOwnArea} from "./positions.js";
@@ -14,14 +15,14 @@ import {happening} from "./words.js";
  * @type {Record<string, [string, ((row: Row) => unknown)?]>}
  */
 export const VIEWS = {
-  alarms: ["Alarms", isAnnunciated],
-  shelved: ["Shelved", row => row.flags & SHELVED],
-  design: ["By design", row => row.flags & BY_DESIGN],
-  service: ["Out of service", row => row.flags & OUT_OF_SERVICE],
-  chatter: ["Chattering", isChattering],
-  stale: ["Stale", isStale],
-  all: ["All", () => true],
-  journal: ["Journal"],
+  alarms: [w("Alarms"), isAnnunciated],
+  shelved: [w("Shelved"), row => row.flags & SHELVED],
+  design: [w("By design"), row => row.flags & BY_DESIGN],
+  service: [w("Out of service"), row => row.flags & OUT_OF_SERVICE],
+  chatter: [w("Chattering"), isChattering],
+  stale: [w("Stale"), isStale],
+  all: [w("All"), () => true],
+  journal: [w("Journal")],
 };
 
 /** @type {Record<string, (row: Row) => boolean>} */
@@ -39,24 +40,39 @@ const STATES = {
  */
 export const COLUMNS = {
   box: ["", "c-box"],
-  mark: ["P", "c-mark", row => row.priority],
-  time: ["Time", "c-time", row => row.since ?? -1],
-  state: ["State", "c-state", row => WORDS[row.shown]],
-  plant: ["Plant", "c-plant", row => row.plant.name],
-  tag: ["Tag", "c-tag", row => alarmOf(row).tag],
-  text: ["Text", "c-text", row => alarmOf(row).text],
-  value: ["Value", "c-value number", row => row.value === null ? -Infinity : row.value / Number(alarmOf(row).scale)],
-  limit: ["Limit", "c-limit number", row => row.limit / Number(alarmOf(row).scale)],
-  area: ["Area", "c-area", row => row.area],
-  left: ["Left", "c-left number", row => row.deadline ?? Infinity],
-  marks: ["Marks", "c-marks"],
+  mark: [w("P"), "c-mark", row => row.priority],
+  time: [w("Time"), "c-time", row => row.since ?? -1],
+  state: [w("State"), "c-state", row => t(WORDS[row.shown])],
+  plant: [w("Plant"), "c-plant", row => row.plant.name],
+  tag: [w("Tag"), "c-tag", row => alarmOf(row).tag],
+  text: [w("Text"), "c-text", row => alarmOf(row).text],
+  value: [w("Value"), "c-value number", row => row.value === null ? -Infinity : row.value / Number(alarmOf(row).scale)],
+  limit: [w("Limit"), "c-limit number", row => row.limit / Number(alarmOf(row).scale)],
+  area: [w("Area"), "c-area", row => row.area],
+  begun: [w("Since"), "c-time", row => whyOf(row)?.[1] ?? -1],
+  by: [w("By"), "c-user", row => whyOf(row)?.[2] ?? ""],
+  reason: [w("Reason"), "c-reason", row => whyOf(row)?.[3] ?? ""],
+  left: [w("Left"), "c-left number", row => row.deadline ?? Infinity],
+  marks: [w("Marks"), "c-marks"],
 };
+
+/**
+ * The flag of each view of what is suppressed.
+ * @type {Record<string, number>}
+ */
+const FLAGS = {shelved: SHELVED, design: BY_DESIGN, service: OUT_OF_SERVICE};
+
+/** Since when a row is suppressed as the view has it, who asked for that, and why, as far as it is known. */
+export function whyOf(/** @type {Row} */ row) {
+  return row.why.find(([flag]) => flag === FLAGS[look.view]);
+}
 
 /** The names of the columns that the view has. */
 export function columns() {
   const out = new Set(areSeveral() ? [] : ["plant"]);
   if (look.view !== "shelved" && look.view !== "all") out.add("left");
-  if (look.view === "shelved") out.add("value");
+  const isSuppressed = look.view in FLAGS;
+  for (const name of isSuppressed ? ["time", "value", "limit"] : ["begun", "by", "reason"]) out.add(name);
   return Object.keys(COLUMNS).filter(name => !out.has(name));
 }
 

@@ -1,5 +1,6 @@
 // What a screen reader is told of annunciations: at once of priorities 1 and 2, in its turn of 3 and 4.
 import {$, put} from "./dom.js";
+import {t} from "./language.js";
 import {isOwnRow} from "./positions.js";
 import {alarmOf, areaName, of_} from "./state.js";
 /** @typedef {import("./model.js").Row} Row */
@@ -18,7 +19,8 @@ export function announce(/** @type {Row} */ row) {
 
 function words(/** @type {Row} */ row) {
   const {tag, text} = alarmOf(row);
-  return of_(row.plant, `Priority ${row.priority}, ${tag}, ${text}, ${areaName(row.plant, row.area)}`);
+  return of_(row.plant, t("Priority {priority}, {tag}, {text}, {area}",
+    {priority: row.priority, tag, text, area: areaName(row.plant, row.area)}));
 }
 
 function tell() {
@@ -30,6 +32,6 @@ function tell() {
 
 function tellSome(/** @type {string} */ id, /** @type {Row[]} */ rows) {
   if (!rows.length) return;
-  const more = rows.length > MOST ? [`${rows.length} new alarms`] : [];
+  const more = rows.length > MOST ? [t("{count} new alarms", {count: rows.length})] : [];
   put($(id), [...more, ...rows.slice(0, MOST).map(words)].join(". "));
 }

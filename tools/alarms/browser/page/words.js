@@ -1,4 +1,5 @@
 // Moments, spans and events in words.
+import {t} from "./language.js";
 import {DAY} from "./model.js";
 import {areaName} from "./state.js";
 import {withUnit} from "./values.js";
@@ -11,7 +12,7 @@ const DATES = 1e9;
 /** A plant's moment: a time of the day, with the date where it is half a day away. */
 export function time(/** @type {number | null | undefined} */ moment, /** @type {Plant} */ plant) {
   if (moment === null || moment === undefined) return "";
-  if (moment < DATES) return `${moment} s`;
+  if (moment < DATES) return t("{count} s", {count: moment});
   const date = new Date(moment * 1000), clock = date.toLocaleTimeString("en-GB");
   if (Math.abs((plant.head.now ?? moment) - moment) < DAY / 2) return clock;
   return `${date.toLocaleDateString("en-CA").slice(5)} ${clock.slice(0, 5)}`;
@@ -21,14 +22,15 @@ export function time(/** @type {number | null | undefined} */ moment, /** @type 
 export function span(/** @type {number} */ seconds) {
   const hours = Math.floor(seconds / 3600), two = (/** @type {number} */ number) => String(number).padStart(2, "0");
   const rest = `${two(Math.floor(seconds / 60) % 60)}:${two(seconds % 60)}`;
-  return hours >= 48 ? `${Math.floor(hours / 24)} d ${hours % 24} h` : hours ? `${hours}:${rest}` : rest;
+  if (hours >= 48) return t("{days} d {hours} h", {days: Math.floor(hours / 24), hours: hours % 24});
+  return hours ? `${hours}:${rest}` : rest;
 }
 
 /** Seconds as they are given: 30 min. */
 export function length(/** @type {number} */ seconds) {
-  if (seconds % DAY === 0) return `${seconds / DAY} d`;
-  if (seconds % 3600 === 0) return `${seconds / 3600} h`;
-  return seconds % 60 === 0 ? `${seconds / 60} min` : `${seconds} s`;
+  if (seconds % DAY === 0) return t("{count} d", {count: seconds / DAY});
+  if (seconds % 3600 === 0) return t("{count} h", {count: seconds / 3600});
+  return seconds % 60 === 0 ? t("{count} min", {count: seconds / 60}) : t("{count} s", {count: seconds});
 }
 
 const valueOf = (/** @type {Event} */ event) => withUnit(event.plant.table[event.alarm ?? -1], event.value);
@@ -36,21 +38,22 @@ const valueOf = (/** @type {Event} */ event) => withUnit(event.plant.table[event
 /** @type {Record<string, (event: Event) => string>} */
 const HAPPENINGS = {
   VAL: event => {
-    if (event.after === event.before) return `value ${valueOf(event)}, suppressed`;
-    return event.after === "UNACK" ? `came at ${valueOf(event)}` : `returned at ${valueOf(event)}`;
+    const value = valueOf(event);
+    if (event.after === event.before) return t("value {value}, suppressed", {value});
+    return event.after === "UNACK" ? t("came at {value}", {value}) : t("returned at {value}", {value});
   },
-  ACK: () => "acknowledged",
-  RESET: () => "reset",
-  SHELVE: event => `shelved for ${length(event.value)}`,
-  UNSHELVE: () => "unshelved",
-  CLOCK: () => "its shelving ended",
-  OOS: event => event.value ? "out of service" : "back in service",
-  DESIGN: event => event.value ? "suppressed by design" : "no longer suppressed by design",
-  PRIO: event => `given priority ${event.value}`,
-  SETP: event => `given setpoint ${valueOf(event)}`,
-  FLOOD: event => `${areaName(event.plant, event.value)}: a flood began`,
-  "FLOOD END": event => `${areaName(event.plant, event.value)}: the flood ended`,
-  GAP: event => `${event.value} actions aren't known: the file no longer has them`,
+  ACK: () => t("acknowledged"),
+  RESET: () => t("reset"),
+  SHELVE: event => t("shelved for {time}", {time: length(event.value)}),
+  UNSHELVE: () => t("unshelved"),
+  CLOCK: () => t("its shelving ended"),
+  OOS: event => event.value ? t("out of service") : t("back in service"),
+  DESIGN: event => event.value ? t("suppressed by design") : t("no longer suppressed by design"),
+  PRIO: event => t("given priority {priority}", {priority: event.value}),
+  SETP: event => t("given setpoint {value}", {value: valueOf(event)}),
+  FLOOD: event => t("{area}: a flood began", {area: areaName(event.plant, event.value)}),
+  "FLOOD END": event => t("{area}: the flood ended", {area: areaName(event.plant, event.value)}),
+  GAP: event => t("{count} actions aren't known: the file no longer has them", {count: event.value}),
 };
 
 /** What happened, in words. */
