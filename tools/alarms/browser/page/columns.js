@@ -40,6 +40,7 @@ function head(/** @type {[string, string, string]} */ [name, text, kind]) {
 export function drawColumns() {
   const all = heads(), key = JSON.stringify([all, look.sort, look.down]), place = $("columns");
   if (place.dataset.key === key) return false;
+  document.body.classList.toggle("suppressed", !isJournal() && columns().includes("begun"));
   const focused = document.activeElement instanceof HTMLElement ? document.activeElement.dataset.sort : undefined;
   place.dataset.key = key;
   place.replaceChildren(...all.map(head));
