@@ -29,6 +29,7 @@ import check_feed
 import check_journal
 import check_metrics
 import check_tables
+import check_units
 from alarms.client import Lost, Refused
 from lib.places import DEPLOY, DOCS, EXAMPLES, TOOLS, TOP
 from lib.program import Wrong, begin, check, finish
@@ -150,6 +151,7 @@ CHECKS: dict[str, Callable[[Yard, int], str]] = {
     "snippets": lambda yard, _: check_feed.snippets(yard),
     "methods": lambda yard, _: check_feed.methods(yard),
     "units": lambda yard, _: units(yard),
+    "details": lambda yard, _: check_units.units(yard),
 }
 
 

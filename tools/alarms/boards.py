@@ -13,6 +13,7 @@ from dataclasses import dataclass, field, replace
 from typing import Any, Callable, Iterable, NamedTuple, Optional
 
 from .client import PRIORITIES, Client, Lost, Plant, State
+from .details_file import Details
 from .table_file import Table
 
 # Seconds to wait for a reply; and after which a plant's clock that hasn't moved, or a server that hasn't answered,
@@ -188,8 +189,10 @@ class Asker(threading.Thread):
 class Server:
     """A server whose plant is shown: what it showed last, and why that may be old by now."""
 
-    def __init__(self, name: str, plant: Plant):
+    def __init__(self, name: str, plant: Plant, details: Optional[dict[str, Details]] = None):
         self.name, self.plant, self.asker = name, plant, Asker()
+        # What operators are told of its alarms beside the table, by their tags; none where no file has it.
+        self.details = details or {}
         # These two are the asker's: the connection, and the board that it began with.
         self.client: Optional[Client] = None
         self.begun = Board(plant.table)

@@ -21,6 +21,9 @@ It looks again each second, and asks the states of those rows alone that are on 
 the alarms that are suppressed by design or out of service. So these two views ask the states of all alarms, of large
 plants a part each second.
 
+With --details FILE texts are the operator's, setpoints are in his unit, and what to do of the selected alarm stands
+below the list.
+
 While the plant's clock doesn't move, as where no clock runs or the server can't store, that is shown with its seconds.
 
 The names are the plant's own, asked at each new connection. Where a connection ends it is made again, also to a plant
@@ -44,9 +47,10 @@ from typing import Callable, Optional
 
 from .client import CONSOLES, Client, Lost, Plant, Refused
 from .arguments import Parser, add_places, name_of, names_of_servers, of_each, places_of_servers
+from .details_file import add_details, load_details
 from .ending import Fault, end_of
 from .boards import PATIENCE, NotAsked, ListRow, Server, View
-from .screen import REASONS, alarm_of, hide_cursor, number_in
+from .screen import REASONS, alarm_of, details_of, hide_cursor, number_in
 
 from .known import known
 from .list_screen import ListScreen
@@ -136,9 +140,28 @@ class Console(ListScreen):
             self.act(f"given priority {priority}", lambda client, alarm: client.priority(alarm, known(priority)))
 
     def setpoint(self) -> None:
+        """Another setpoint: where a file has the alarm, in the operator's unit."""
+        if self.row.server.details:
+            return self.setpoint_in_unit()
         value = self.ask_number(f"{self.tag}: setpoint: ")
         if value is not None:
             self.act(f"given setpoint {value}", lambda client, alarm: client.setpoint(alarm, known(value)))
+
+    def setpoint_in_unit(self) -> None:
+        """Asks for a setpoint in the operator's unit, and shows the one in force."""
+        tag, (server, alarm), details = self.tag, self.row, details_of(self.row)
+        try:
+            now = server.call(lambda client: client.attributes(alarm)).setpoint
+            typed = self.ask(f"{tag}: setpoint, now {details.with_unit(now)}: ", 30)
+            value = details.whole(typed) if typed else now
+        except (Lost, NotAsked, Refused) as fault:
+            self.message = f"{tag}: nothing was asked: {fault}"
+        except Fault as fault:
+            self.message = f"{tag}: {fault}"
+        else:
+            if typed:
+                words = f"given setpoint {details.with_unit(value)}"
+                self.act(words, lambda client, number: client.setpoint(number, value))
 
     def filter(self) -> None:
         """Shows one area alone; of several servers one of these alone, or an area of it."""
@@ -228,7 +251,9 @@ def given_servers(words: argparse.ArgumentParser, chosen: argparse.Namespace) ->
     slots = of_each(words, "--slot", chosen.slots, len(places), 0, shared=True)
     tables = of_each(words, "--table", chosen.tables, len(places))
     plants = [Plant(place, slot, table, PATIENCE) for place, slot, table in zip(places, slots, tables)]
-    return [Server(name, plant) for name, plant in zip(names_of_servers(words, names), plants)]
+    files = of_each(words, "--details", chosen.details, len(places))
+    details = [load_details(path) if path else None for path in files]
+    return [Server(*one) for one in zip(names_of_servers(words, names), plants, details)]
 
 
 def show(servers: list[Server]) -> None:
@@ -273,6 +298,7 @@ def main() -> None:
         metavar="TABLE.toml",
         help="a table file: a plant that isn't that file's ends this tool; of several servers once for each",
     )
+    add_details(words, "; of several servers once for each")
     chosen = words.parse_args()
     end_of("console", lambda: show(given_servers(words, chosen)), interrupted=0)
 

@@ -7,15 +7,19 @@ deadband, max_shelve, latching (true or false) and text may be. Cells are separa
 row 1 has one. An empty cell stands for a key that is left out. The number of areas is one more than the greatest, and
 `size` is worked out: 926,067 bytes for four alarms in two areas, more with a longer segment.
 
+With --details FILE setpoints and deadbands are in the operator's units of that file: 410.0 of a scale of 10 becomes
+4100. A fraction that the scale drops is a fault; tags that one of the files has too many are told.
+
 A fault is reported with its row, as the spreadsheet counts them, and its column; nothing is printed then, and the
 status is 1.
 """
 import csv
 import io
-from typing import Any, Callable
+from typing import Any, Callable, Optional
 
 from .arguments import Parser, whole_number
-from .ending import Fault, end_of
+from .details_file import NONE, Details, add_details, differences, load_details
+from .ending import Fault, end_of, sayer
 from .table_file import ALARM_LIMIT, AREA_LIMIT, CALM_SEGMENT, KINDS, READING_LIMIT, SHELVE_LIMIT, device_size, written
 
 REQUIRED = ("tag", "kind", "setpoint", "priority", "area")
@@ -70,6 +74,18 @@ READERS: dict[str, Callable[[str, str], object]] = {
 }
 
 
+def scaled(cells: dict[str, str], details: Details) -> dict[str, str]:
+    """The cells of an alarm with its values as the plant has them, of those in the operator's unit."""
+    found = dict(cells)
+    for key in ("setpoint", "deadband"):
+        try:
+            if cells.get(key):
+                found[key] = str(details.whole(cells[key]))
+        except Fault as fault:
+            raise Fault(f"{key}: {fault}") from None
+    return found
+
+
 def read_row(cells: dict[str, str]) -> dict[str, object]:
     """The keys of an alarm and their values."""
     alarm: dict[str, object] = {}
@@ -86,8 +102,8 @@ def read_row(cells: dict[str, str]) -> dict[str, object]:
     return alarm
 
 
-def read_rows(text: str) -> list[dict[str, Any]]:
-    """The alarms of a CSV text."""
+def read_rows(text: str, details: Optional[dict[str, Details]] = None) -> list[dict[str, Any]]:
+    """The alarms of a CSV text; with details their values are in the operator's units."""
     separator = ";" if ";" in text.partition("\n")[0] else ","
     rows = csv.DictReader(io.StringIO(text, newline=""), delimiter=separator, skipinitialspace=True)
     columns = rows.fieldnames or []
@@ -100,7 +116,8 @@ def read_rows(text: str) -> list[dict[str, Any]]:
         if None in cells or None in cells.values():
             raise Fault(f"row {rows.line_num}: it has more or fewer cells than row 1")
         try:
-            alarms.append(read_row({key: cell.strip() for key, cell in cells.items()}))
+            row = {key: cell.strip() for key, cell in cells.items()}
+            alarms.append(read_row(row if details is None else scaled(row, details.get(row["tag"], NONE))))
         except Fault as fault:
             raise Fault(f"row {rows.line_num}, {fault}") from None
     if not 1 <= len(alarms) <= ALARM_LIMIT:
@@ -117,11 +134,20 @@ def print_table(alarms: list[dict[str, Any]], segment: int) -> None:
             print(f"{key} = {written(value)}")
 
 
-def load_rows(path: str) -> list[dict[str, Any]]:
+def load_rows(path: str, details: Optional[dict[str, Details]] = None) -> list[dict[str, Any]]:
     """The alarms of a CSV file; `Fault` says which row is wrong."""
     # a byte that is no UTF-8 becomes a character that no cell may have, and so is reported with its row
     with open(path, encoding="utf-8-sig", errors="surrogateescape", newline="") as file:
-        return read_rows(file.read())
+        return read_rows(file.read(), details)
+
+
+def convert(path: str, details: Optional[str], segment: int) -> None:
+    """Prints the table of a CSV file, whose values are in the units of a file of details where one is given."""
+    told = load_details(details) if details else None
+    alarms = load_rows(path, told)
+    for line in differences(told, (alarm["tag"] for alarm in alarms)) if told is not None else ():
+        sayer("csv2toml")(f"{details}: {line}")
+    print_table(alarms, segment)
 
 
 def main() -> None:
@@ -134,8 +160,9 @@ def main() -> None:
         metavar="BYTES",
         help="bytes of a segment of the device; %(default)s where it is left out",
     )
+    add_details(words)
     chosen = words.parse_args()
-    end_of("csv2toml", lambda: print_table(load_rows(chosen.table), chosen.segment))
+    end_of("csv2toml", lambda: convert(chosen.table, chosen.details, chosen.segment))
 
 
 if __name__ == "__main__":

@@ -8,6 +8,7 @@
 A value of an operator is that of the plant, divided by `scale`: the number by which a feed multiplies. The file is
 judged alone as it is read, and held against a plant's tags by `differences`.
 """
+import argparse
 import csv
 import io
 import re
@@ -52,6 +53,10 @@ class Details:
         """A value of the plant in the operator's unit."""
         quotient = EXACT.divide(Decimal(value), self.scale)
         return f"{quotient.quantize(Decimal(1).scaleb(-self.decimals), ROUND_HALF_EVEN, EXACT):f}"
+
+    def with_unit(self, value: int) -> str:
+        """A value of the plant in the operator's unit, with it."""
+        return f"{self.told(value)} {self.unit}".rstrip()
 
     def whole(self, text: str) -> int:
         """The plant's value of an operator's; `Fault` where that has a fraction that the plant can't hold, or none."""
@@ -150,6 +155,20 @@ def load_details(path: str) -> dict[str, Details]:
         raise NoDetails(f"{path}: it isn't UTF-8") from None
     except (Fault, csv.Error) as fault:
         raise NoDetails(f"{path}: {fault}") from None
+
+
+NONE = Details()
+
+
+def add_details(words: argparse.ArgumentParser, several: str = "") -> None:
+    """The argument that names a file of details; of several servers that of each."""
+    words.add_argument(
+        "--details",
+        action="append" if several else "store",
+        default=[] if several else None,
+        metavar="FILE",
+        help=f"what operators are told of each alarm: units, decimals, texts (docs/TABLE.md){several}",
+    )
 
 
 def differences(details: dict[str, Details], tags: Iterable[str]) -> list[str]:

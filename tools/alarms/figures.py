@@ -10,6 +10,7 @@ import itertools
 import statistics
 from typing import Iterable, Optional, Sequence
 
+from .details_file import NONE, Details
 from .life import KINDS, STANDING, UNACKNOWLEDGED, WINDOW, Life, ChangeRow, Spell
 from .moments import date
 from .measures import Bins, Chatter, Figure, Fleeting, FloodSpell, FigureTable, covered, percentile, steps
@@ -39,8 +40,8 @@ AREA_BOUNDS = (None, None, HOUR_BOUND, TEN_MOST, SHARE_BOUND, None, SHARE_BOUND)
 class Figures:
     """What a report says of a life."""
 
-    def __init__(self, life: Life):
-        self.life, self.begin, self.end = life, life.begin, life.end
+    def __init__(self, life: Life, details: Optional[dict[str, Details]] = None):
+        self.life, self.begin, self.end, self.details = life, life.begin, life.end, details
         self.counted = life.counted()
         moments = [one.moment for one in self.counted]
         self.hours = Bins(moments, self.begin, self.end, HOUR)
@@ -209,11 +210,7 @@ class Figures:
                 ("tag", "annunciations", "first", "last"),
                 [(one.tag, one.annunciations, one.first, one.last) for one in self.fleeting()],
             ),
-            FigureTable(
-                "attributes",
-                ("moment", "tag", "attribute", "value"),
-                [tuple(one) for one in self.life.attribute_changes],
-            ),
+            self.attributes(),
             self.spell_table("stale", ["stale"]),
             self.priorities(),
             self.acknowledgements(),
@@ -226,6 +223,18 @@ class Figures:
                 [(gap.plant, gap.first, gap.last, gap.began, gap.ended, gap.why) for gap in self.life.gaps],
             ),
         ]
+
+    def attributes(self) -> FigureTable:
+        """The priorities and setpoints that alarms were given; with details these are in the operator's unit."""
+        columns = ("moment", "tag", "attribute", "value")
+        if self.details is None:
+            return FigureTable("attributes", columns, [tuple(one) for one in self.life.attribute_changes])
+        rows: list[tuple] = []
+        for one in self.life.attribute_changes:
+            told = self.details.get(one.tag, NONE)
+            is_setpoint = one.attribute == "setpoint"
+            rows.append((*one[:3], told.told(one.value), told.unit) if is_setpoint else (*one, ""))
+        return FigureTable("attributes", (*columns, "unit"), rows)
 
     def bins(self, name: str, bins: Bins, bound: int) -> FigureTable:
         rows = [

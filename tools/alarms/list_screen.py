@@ -4,15 +4,16 @@ import time
 from typing import Callable, Optional
 
 from .client import OtherPlant, Refused
+from .details_file import differences
 from .boards import Board, ListRow, Server, View, rows_of
 from .table_file import NoTable
-from .screen import alarm_of, moment, set_colours
+from .screen import alarm_of, details_of, moment, response_of, set_colours
 
 # Seconds for which one of several servers is waited for.
 MOMENT = 0.5
 HELP = "a A ack  r reset  s u shelve  o oos  p prio  t setp  f area  1-7 v view  q quit"
-# The line above the list, with room for one more column, and how many lines are below it.
-HEADING, BELOW = "   P{} TAG            STATE AR FSC UNTIL    TEXT", 1
+# The line above the list, with room for one more column.
+HEADING = "   P{} TAG            STATE AR FSC UNTIL    TEXT"
 
 
 class ListScreen:
@@ -36,7 +37,12 @@ class ListScreen:
 
     @property
     def height(self) -> int:
-        return max(1, self.screen.getmaxyx()[0] - len(self.head) - BELOW)
+        return max(1, self.screen.getmaxyx()[0] - len(self.head) - self.below)
+
+    @property
+    def below(self) -> int:
+        """How many lines are below the list: where a file has responses one more, for the selected alarm's."""
+        return 2 if any(server.details for server in self.servers) else 1
 
     @property
     def on_screen(self) -> list[ListRow]:
@@ -86,6 +92,9 @@ class ListScreen:
             self.rows, self.selected, self.top = [], 0, 0
         if server.board.other or not self.are_several:
             self.message = self.of(server, server.board.other or "")
+        tags = [alarm.tag for alarm in server.board.table.alarms]
+        for line in differences(server.details, tags) if server.details and tags else ():
+            self.message = f"{self.message}  {self.of(server, line)}".strip()
 
     def of(self, server: Server, text: str) -> str:
         """A text with the name of its server, where there are several."""
@@ -143,8 +152,9 @@ class ListScreen:
         return max(len("PLANT"), *(len(server.name) for server in self.servers))
 
     def put(self, row: int, text: str, style: int = 0) -> None:
-        """Writes a line of the screen, as wide as that is."""
+        """Writes a line of the screen, as wide as that is. What the terminal's letters lack is a question mark."""
         rows, columns = self.screen.getmaxyx()
+        text = text.encode(self.screen.encoding, "replace").decode(self.screen.encoding)
         if row < rows and columns > 1:
             self.screen.addnstr(row, 0, text.ljust(columns - 1), columns - 1, style)
 
@@ -160,8 +170,10 @@ class ListScreen:
                 (">" if chosen else " ") + self.line(row),
                 self.style(row) | (curses.A_BOLD if chosen else 0),
             )
-        said = self.said()
-        self.put(len(self.head) + self.height, said or HELP, curses.A_BOLD if said else 0)
+        said, last = self.said(), len(self.head) + self.height + self.below - 1
+        if self.below > 1 and self.rows:
+            self.put(last - 1, response_of(self.rows[self.selected]))
+        self.put(last, said or HELP, curses.A_BOLD if said else 0)
         self.screen.refresh()
 
     def said(self) -> str:
@@ -190,4 +202,4 @@ class ListScreen:
         name = f" {row.server.name:{self.width}}" if self.are_several else ""
         priority = board.priorities.get(row.alarm, "-")
         head = f"{mark} {priority}{name} {entry.tag:14.14} {shown:5} {entry.area:2}"
-        return f"{head} {board.marks(row.alarm)} {until:8.8} {entry.text}"
+        return f"{head} {board.marks(row.alarm)} {until:8.8} {details_of(row).text or entry.text}"

@@ -8,6 +8,7 @@ beside the bounds of ISA-18.2 and EEMUA 191.
 
 DATABASE is what alm_archive writes: a file of SQLite, or a database of PostgreSQL. Where it has one plant alone, --name
 can be left out. The bounds are those of one operating position: --area K, once for each of its areas, reports one.
+With --details FILE setpoints that were given are in the operator's unit, which is a column then.
 Pages need matplotlib (Debian: python3-matplotlib). In CSV moments are seconds of the plant's clock, and shares parts of
 1.
 """
@@ -17,6 +18,7 @@ import os
 from typing import Optional
 
 from .arguments import Parser
+from .details_file import add_details, load_details
 from .ending import Fault, end_of
 from .figures import Figures, in_words
 from .life import read_life
@@ -59,11 +61,12 @@ def write_pages(figures: Figures, folder: Optional[str], file: Optional[str]) ->
 
 def report(chosen: argparse.Namespace) -> None:
     """Writes what the arguments ask for, and prints the figures."""
+    details = load_details(chosen.details) if chosen.details else None
     with Store.open(chosen.database) as store:
         life = read_life(
             store, only_name(store, chosen.name), chosen.begin, chosen.end, set(chosen.areas) if chosen.areas else None
         )
-    figures = Figures(life)
+    figures = Figures(life, details)
     if chosen.csv:
         write_csv(figures, chosen.csv)
     if chosen.png or chosen.pdf:
@@ -94,6 +97,7 @@ def main() -> None:
     words.add_argument("--csv", metavar="FOLDER", help="write each table as a file of CSV")
     words.add_argument("--png", metavar="FOLDER", help="write the pages as images")
     words.add_argument("--pdf", metavar="FILE", help="write the pages as one file")
+    add_details(words)
     chosen = words.parse_args()
     end_of("alm_reports", lambda: report(chosen))
 

@@ -5,6 +5,7 @@ import time
 from typing import Optional
 from .client import Refusal
 from .boards import ListRow
+from .details_file import NONE, Details
 from .table_file import Alarm
 
 
@@ -43,6 +44,18 @@ def moment(deadline: Optional[int]) -> str:
 def alarm_of(row: ListRow) -> Alarm:
     """The attributes of a row's alarm."""
     return row.server.board.table.alarms[row.alarm]
+
+
+def details_of(row: ListRow) -> Details:
+    """What operators are told of a row's alarm beside the table."""
+    return row.server.details.get(alarm_of(row).tag, NONE)
+
+
+def response_of(row: ListRow) -> str:
+    """What is to be done about a row's alarm, and within how many seconds; empty where the file has nothing."""
+    told = details_of(row)
+    within = f" within {told.respond} s" if told.respond else ""
+    return f"response{within}: {told.response}" if told.response else ""
 
 
 def number_in(typed: str) -> Optional[int]:
