@@ -5,6 +5,7 @@ import socket
 import stat
 import subprocess
 import time
+from pathlib import Path
 from typing import Callable
 
 from lib.browsers import List, Page, Plant
@@ -125,6 +126,7 @@ def proxy(yard: Yard, _count: int) -> str:
     through_the_proxy(path, port, place)
     took = eight_windows(page, place, plant)
     back_by_itself(listed, page, plant)
+    goes_on_amid_guesses(yard, plant, page, port)
     for one in (page, other):
         one.end()
     process.terminate()
@@ -164,14 +166,19 @@ def eight_windows(page: Page, place: str, plant: Plant) -> float:
     return took
 
 
-def through_the_proxy(path: str, port: int, place: str) -> None:
-    """Without a password, with names that the browser claims, and at the socket without the proxy's names."""
-    curl = lambda *words: subprocess.run(
-        ["curl", "-sk", "--max-time", "5", "--resolve", f"alarms.example:{port}:127.0.0.1", *words],
+def curl_at(port: int) -> Callable[..., str]:
+    """What curl prints of a request to nginx."""
+    return lambda *words: subprocess.run(
+        ["curl", "-sk", "--max-time", "20", "--resolve", f"alarms.example:{port}:127.0.0.1", *words],
         capture_output=True,
         text=True,
         check=False,
     ).stdout
+
+
+def through_the_proxy(path: str, port: int, place: str) -> None:
+    """Without a password, with names that the browser claims, and at the socket without the proxy's names."""
+    curl = curl_at(port)
     status = ("-o", os.devnull, "-w", "%{http_code}")
     check(
         curl("-o", os.devnull, "-w", "%{http_version}", place + "/") == "2",
@@ -183,7 +190,6 @@ def through_the_proxy(path: str, port: int, place: str) -> None:
     )
     check(curl(*status, "-u", "mallory:of mallory", place + "/stream") == "401", "an unknown user is let in")
     through_tls(port)
-    guesses(curl, place)
     claimed = ("-H", "X-Alarms-User: anna", "-H", "X-Alarms-Role: engineer")
     jar = path + ".jar"
     curl("-u", f"carl:{PASSWORDS['carl']}", "-c", jar, *claimed, place + "/")
@@ -223,15 +229,33 @@ def through_tls(port: int) -> None:
         check((run.returncode == 0) == is_taken, cipher, "ends with", run.returncode, run.stdout[-300:])
 
 
-def guesses(curl: Callable[..., str], place: str) -> None:
-    """Who tries passwords of one user is let try few; another user behind the same address goes on."""
-    tries = 120
-    urls = [word for number in range(tries) for word in ("-o", os.devnull, f"{place}/?{number}")]
-    said = curl("--parallel", "--parallel-max", "60", "-w", "%{http_code}\n", "-u", "anna:guess", *urls).split()
-    judged = said.count("401")
-    check(len(said) == tries and judged < 90, "of", tries, "guesses there were judged", judged)
+def guesses(curl: Callable[..., str], place: str, log_of: str) -> None:
+    """Who tries passwords of one user is let try few, wherever he tries; another user behind the same address goes
+    on."""
+    tries, judged = 120, lambda: log().count("password mismatch")
+    log = lambda: Path(log_of).read_text(encoding="utf-8", errors="replace")
+    for path, most in (("/", 40), ("/stream", 0), ("/do", 0)):
+        before = judged()
+        urls = [word for number in range(tries) for word in ("-o", os.devnull, f"{place}{path}?{number}")]
+        words = ("-b", "__Host-alarms=guess", "-u", "anna:guess", *urls)
+        said = curl("--parallel", "--parallel-max", "60", "-w", "%{http_code}\n", *words).split()
+        found = judged() - before
+        check(len(said) == tries and set(said) <= {"401", "429"}, path, "was answered", said)
+        check(found <= most, "of", tries, "guesses at", path, "there were judged", found)
     status = ("-o", os.devnull, "-w", "%{http_code}")
+    check(curl(*status, "-u", f"anna:{PASSWORDS['anna']}", f"{place}/") == "429", "the right guess is let in")
     check(curl(*status, "-u", f"ben:{PASSWORDS['ben']}", f"{place}/") == "200", "ben is kept out by guesses at anna's")
+
+
+def goes_on_amid_guesses(yard: Yard, plant: Plant, page: Page, port: int) -> None:
+    """The open page of a user whose password is being guessed goes on."""
+    guesses(curl_at(port), f"https://alarms.example:{port}", yard.path("nginx.log"))
+    plant.comes("TI-102")
+    page.shows("TI-102", "Unack")
+    page.rest()
+    page.choose("TI-102")
+    page.act("ACK")
+    page.until("who is guessed at goes on", lambda: plant.shown("TI-102") == "ACKED")
 
 
 def back_by_itself(listed: List, page: Page, plant: Plant) -> None:

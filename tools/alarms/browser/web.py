@@ -48,6 +48,7 @@ class Site:
         site.router.add_post("/sign-in", self.sign_in)
         site.router.add_get("/stream", self.stream)
         site.router.add_post("/do", self.do)
+        site.router.add_get("/session", self.has_session)
         for name in self.files:
             if Path(name).suffix in TYPES:
                 site.router.add_get(f"/{name}", self.file)
@@ -113,6 +114,12 @@ class Site:
         if session is None:
             return self.html("sign_in.html", 401)
         return self.door.give(self.see_other(), session) if self.door.is_proxied else self.entered(session)
+
+    async def has_session(self, request: web.Request) -> web.Response:
+        """Whether a request has a session: a proxy asks before it judges a password."""
+        if self.door.session(request) is None:
+            raise web.HTTPUnauthorized(text="no session\n")
+        return web.Response(status=204)
 
     async def file(self, request: web.Request) -> web.Response:
         name = request.path[1:]

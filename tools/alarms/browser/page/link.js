@@ -7,6 +7,12 @@ export function within(/** @type {number} */ patience) {
   return control.signal;
 }
 
+/** What a reply that refuses says; nothing where it isn't alm_browser's. */
+export async function wordsOf(/** @type {Response} */ reply) {
+  const isPlain = (reply.headers.get("Content-Type") ?? "").startsWith("text/plain");
+  return isPlain ? (await reply.text()).trim().slice(0, 150) : "";
+}
+
 /** When it was heard; whether and why it lets nobody in; and what begins the stream again. */
 export const link = {
   heard: performance.now(), signedOut: false, refused: "", again: /** @type {() => void} */ (() => undefined),

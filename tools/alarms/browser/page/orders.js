@@ -1,7 +1,7 @@
 // What an operator asks for goes out by /do, bound to the annunciation that was on the screen; what came of it is said.
 import {touch} from "./draw.js";
 import {t, w} from "./language.js";
-import {link, within} from "./link.js";
+import {link, within, wordsOf} from "./link.js";
 import {say} from "./messages.js";
 import {ALARMS, idOf} from "./model.js";
 import {GLANCE, stampSeen} from "./seen.js";
@@ -55,8 +55,8 @@ async function askPlant(plant, {word, ids, value, reason, glance}) {
     const reply = await fetch("/do", {method: "POST", headers, body, signal: within(REPLY)});
     if (reply.status === 401) link.again();
     if (!reply.ok) {
-      const why = (await reply.text()).trim().slice(0, 150);
-      return {answers: [], fault: of_(plant, t("not done: {why}", {why: t(why)}))};
+      const why = t(await wordsOf(reply)) || reply.status;
+      return {answers: [], fault: of_(plant, t("not done: {why}", {why}))};
     }
     const told = /** @type {{answers: Answer[]}} */ (await reply.json());
     return {answers: told.answers.map(([n, ...rest]) => [idOf(plant, n), ...rest]), fault: ""};

@@ -1,14 +1,14 @@
 // The stream of what is shown: it is connected to, watched, and connected to again.
 import {kept} from "./kept.js";
-import {link, within} from "./link.js";
+import {link, within, wordsOf} from "./link.js";
 import {hearEvent, takeEvents} from "./news.js";
 import {REPLY} from "./orders.js";
 import {begin, shareLink} from "./sharing.js";
 import {me} from "./state.js";
 import {SILENCE} from "./trouble.js";
 
-// Milliseconds between two tries.
-const AGAIN = 700;
+// Milliseconds between two tries; and where too many have asked for the page.
+const AGAIN = 700, LOCKED = 10000;
 
 // Each stream that is begun is another one; what an older one left to be done isn't done.
 const stream = {run: 0, stop: () => {}};
@@ -48,7 +48,7 @@ async function connect() {
 
 async function listen(/** @type {AbortSignal} */ signal) {
   const reply = await fetch("/stream", {headers: {"X-Alarms-Key": me.key}, signal});
-  if (!reply.ok || !reply.body) throw new Error(link.refused = (await reply.text()).trim().slice(0, 100));
+  if (!reply.ok || !reply.body) throw new Error(link.refused = await wordsOf(reply));
   const reader = reply.body.pipeThrough(new TextDecoderStream()).getReader();
   for (let rest = "", part = await reader.read(); !part.done; part = await reader.read()) {
     rest = takeEvents(rest + part.value);
@@ -60,14 +60,17 @@ async function enter(/** @type {number} */ run) {
   let status = 0;
   if (stream.run !== run) return;
   try {
-    status = (await fetch("/", {signal: within(REPLY)})).status;
+    // a proxy counts who asks for the page, and not for its parts
+    if ((await fetch("/icon.svg", {signal: within(REPLY)})).ok) {
+      status = (await fetch("/", {signal: within(REPLY)})).status;
+    }
   } catch (error) {
     link.refused = "";  // nobody is there
   }
   if (stream.run !== run) return;
   link.signedOut = status === 401;
   shareLink();
-  if (status !== 200) return void setTimeout(() => enter(run), AGAIN);
+  if (status !== 200) return void setTimeout(() => enter(run), status === 429 ? LOCKED : AGAIN);
   // a new stream has its time to begin
   if (!link.refused) link.heard = Math.max(link.heard, performance.now() - 3 * SILENCE);
   connect();
