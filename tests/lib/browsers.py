@@ -42,8 +42,9 @@ AREAS = [
 OWN = 3
 NUMBERS = itertools.count()
 PAGES: list["Page"] = []
-# The folder for screenshots, where one is asked for.
+# The folder for screenshots, where one is asked for, and the number of aimed clicks, where another one is.
 SHOTS: list[str] = []
+CLICKS: list[int] = []
 # The rows as they are drawn: the alarm's number, the text of each cell by its first class, and the row's classes.
 ROWS = """return [...document.querySelectorAll('#rows tr')].map(row => ({n: row.dataset.n, kinds: row.className, top: row.getBoundingClientRect().top,
 bottom: row.getBoundingClientRect().bottom, selected: row.getAttribute('aria-selected'),

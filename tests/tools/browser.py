@@ -2,6 +2,7 @@
 """The alarm list in a browser, tools/alarms/browser, in a real Chromium over the built program.
 
     tests/tools/browser.py PROGRAM [--short] [--only CHECK,..]
+    tests/tools/browser.py PROGRAM --only aims --clicks 1000      an hour of aimed clicks; 40 where it is left out
 
 Each control is used as an operator does, and the server is asked at another slot what came of it. Two browsers stand
 side by side; servers are killed and held, and one page has two of them; tables change; pages of another origin try each
@@ -17,6 +18,7 @@ import signal
 import subprocess
 import sys
 import time
+from typing import Callable
 
 from lib import chromium
 
@@ -53,13 +55,20 @@ def chosen(argv: list[str], checks: dict) -> tuple[list[str], list[str]]:
     return argv[:at] + argv[at + 2 :], names
 
 
-def take_shots(argv: list[str]) -> list[str]:
-    """The arguments without --shots, whose folder the checks are told."""
-    if "--shots" not in argv[:-1]:
+def take_option(argv: list[str], option: str, take: Callable[[str], object]) -> list[str]:
+    """The arguments without an option and its value, which the checks are told."""
+    if option not in argv[:-1]:
         return argv
-    at = argv.index("--shots")
-    importlib.import_module("lib.browsers").SHOTS.append(os.path.abspath(argv[at + 1]))
+    at = argv.index(option)
+    take(argv[at + 1])
     return argv[:at] + argv[at + 2 :]
+
+
+def take_options(argv: list[str]) -> list[str]:
+    """The arguments without --shots and --clicks."""
+    told = importlib.import_module("lib.browsers")
+    argv = take_option(argv, "--shots", lambda folder: told.SHOTS.append(os.path.abspath(folder)))
+    return take_option(argv, "--clicks", lambda number: told.CLICKS.append(int(number)))
 
 
 def run(program: str, folder: str, checks: dict, names: list[str], count: int) -> list[str]:
@@ -94,7 +103,7 @@ def main() -> None:
         if os.path.exists(os.path.join(here, f"{part}.py"))
         for name, check in importlib.import_module(part).CHECKS.items()
     }
-    argv, names = chosen(take_shots(sys.argv), checks)
+    argv, names = chosen(take_options(sys.argv), checks)
     program, count, folder = begin("browser", argv, 20, 5)
     began = time.monotonic()
     for number in (signal.SIGTERM, signal.SIGINT):  # whatever was started is ended

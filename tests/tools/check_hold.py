@@ -3,7 +3,7 @@ looked at outlasts a reload. tests/tools/browser.py runs these checks."""
 import random
 import time
 
-from lib.browsers import AREAS, List, Page, Plant, engineer
+from lib.browsers import AREAS, CLICKS, List, Page, Plant, engineer
 from check_looks import SCREENS
 from check_screen import NAMES, largest_table, screen
 from lib.program import check
@@ -163,7 +163,7 @@ def aims(yard: Yard, count: int) -> str:
     page.until("a list", lambda: len(page.rows()) > 10)
     page.js(WATCH)
     hand = Hand(page, storm)
-    turns, began = count * 2 if count < 1000 else count, time.monotonic()
+    turns, began = CLICKS[0] if CLICKS else count * 2, time.monotonic()
     while hand.done < turns and hand.tried < 4 * turns:
         hand.acknowledges()
     said = f"{hand.done} acknowledgements in a flood of 64 areas, none wrong; {hand.refused} clicks refused"
