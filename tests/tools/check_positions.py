@@ -104,6 +104,7 @@ def positions(yard: Yard, _count: int) -> str:
     has_none(plant, ben)
     see_their_own(plant, ben, anna)
     do_their_own(plant, ben, anna)
+    goes_home(ben, anna)
     changes_shift(yard, ben, anna)
     listed.end()
     for page in (ben, anna):
@@ -130,7 +131,7 @@ def has_none(plant: Plant, ben: Page) -> None:
     ben.shows("TI-701", "Unack")
     ben.shows("TI-101", "Unack")
     ben.until("no position", lambda: ben.of("#position") == "No position")
-    ben.until("what nobody has", lambda: "Nobody has Crude desk, Tank desk, Engineer" in ben.of("#trouble"))
+    ben.until("what nobody has", lambda: "Nobody is at Crude desk, Tank desk, Engineer" in ben.of("#trouble"))
     buttons = ben.driver.find_elements("css selector", "#actions button")
     check(not any(one.is_displayed() for one in buttons), "ben is offered something")
     asks(ben, 403, "take a position first", "ACK", ("TI-101",))
@@ -147,7 +148,7 @@ def see_their_own(plant: Plant, ben: Page, anna: Page) -> None:
     """Rows, counts and the sound are of the own areas, and of those that nobody has; one silence isn't the other's."""
     takes(ben, "Crude desk", "night shift")
     ben.until("its buttons", lambda: ben.find("[data-act=SHELVE]").is_displayed())
-    ben.until("what is left", lambda: "Nobody has Tank desk, Engineer" in ben.of("#trouble"))
+    ben.until("what is left", lambda: "Nobody is at Tank desk, Engineer" in ben.of("#trouble"))
     ben.shows("TI-701", "Unack")  # nobody has that area yet
     takes(anna, "Tank desk")
     takes(anna, "Engineer")
@@ -199,11 +200,24 @@ def do_their_own(plant: Plant, ben: Page, anna: Page) -> None:
     anna.until("hers", lambda: anna.of("#holding [data-state=OOSRV]") == "1 out of service")
 
 
+def goes_home(ben: Page, anna: Page) -> None:
+    """Of who has a position and no list open the areas are everybody's, until he is back."""
+    at = anna.driver.current_url
+    anna.driver.get("about:blank")
+    ben.until("who has left", lambda: "Nobody is at Tank desk, Engineer" in ben.of("#trouble"), 40)
+    ben.shows("TI-702", "Unack")
+    ben.until("a sound", lambda: sounding(ben) != "0")
+    anna.driver.get(at)
+    ben.until("who is back", lambda: "Nobody" not in ben.of("#trouble"))
+    ben.hides("TI-702")
+    anna.until("her positions", lambda: anna.of("#position") == "Tank desk, Engineer")
+
+
 def changes_shift(yard: Yard, ben: Page, anna: Page) -> None:
     """Ben leaves, anna takes his position from nobody; then each is noted, with what stands."""
     takes(ben, "Crude desk", "TI-101 is calibrated", "Leave")
     ben.until("none", lambda: ben.of("#position") == "No position")
-    anna.until("it is free", lambda: "Nobody has Crude desk" in anna.of("#trouble"))
+    anna.until("it is free", lambda: "Nobody is at Crude desk" in anna.of("#trouble"))
     anna.click("#position")
     anna.until("what ben said", lambda: ": TI-101 is calibrated" in anna.of("#shifts"))
     check(

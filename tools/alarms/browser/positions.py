@@ -98,14 +98,14 @@ class Desks:
         return [
             position
             for position, holder in zip(self.positions, self.holders())
-            if holder.user == user and is_enough(role, position.role)
+            if user and holder.user == user and is_enough(role, position.role)
         ]
 
     def refusal(self, word: str, number: int, user: str, role: str) -> str:
         """Why a user in a role can't take or leave a position; empty where nothing is against it."""
         position, holder = self.positions[number], self.holders()[number]
         if word == LEAVE:
-            return "" if holder.user == user else NOT_YOURS
+            return "" if user and holder.user == user else NOT_YOURS
         if holder.user == user:
             return YOURS
         return "" if is_enough(role, position.role) else WANTS[position.role]

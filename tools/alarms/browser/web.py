@@ -3,6 +3,7 @@ import asyncio
 import collections
 import json
 import logging
+import time
 from pathlib import Path
 from typing import Any, Callable, Sequence
 from urllib.parse import parse_qs
@@ -26,6 +27,8 @@ TOLD = "told_words.js"
 # Why there is no stream.
 OWN_WINDOWS = "{user} has {most} windows with the list open: close one"
 ALL_WINDOWS = "{most} windows with the list are open, and no more are served"
+# Seconds after which a user has left whose last stream ended.
+AWAY = 10
 FORM = "application/x-www-form-urlencoded"
 
 
@@ -35,6 +38,9 @@ class Site:
     def __init__(self, door: Door, boards: Sequence[BrowserBoard], take: Callable[[Order], None], words: Words):
         self.door, self.boards, self.take, self.words = door, boards, take, words
         self.readers: dict[Reader, str] = {}
+        # When each user's last stream ended: who had a position before this began may come again.
+        holders = door.rules.desks.holders() if door.rules.desks else []
+        self.left = {holder.user: time.monotonic() for holder in holders if holder.user}
         self.is_ending = False
         self.files = {path.name: path.read_bytes() for path in PAGE.iterdir()}
         for name, page in self.files.items():
@@ -147,6 +153,7 @@ class Site:
             pass
         finally:
             del self.readers[reader]
+            self.left[session.user] = time.monotonic()
             reader.leave()
         return response
 
@@ -163,9 +170,20 @@ class Site:
         }
         return f"event: hello\ndata: {written(told | ({'key': session.key} if self.door.is_proxied else {}))}\n\n"
 
+    def present(self) -> list[str]:
+        """The users who have the list open, or had it just before: who has a position is at it."""
+        now = time.monotonic()
+        self.left = {user: left for user, left in self.left.items() if now - left < AWAY}
+        return sorted({*self.readers.values(), *self.left})
+
     async def tell(self, response: web.StreamResponse, reader: Reader) -> None:
+        """Tells a browser what is new, until it leaves."""
+        present: list[str] = []
         while not self.is_ending:
-            await asyncio.wait_for(response.write(reader.told().encode()), PATIENCE)
+            text, now = reader.told(), self.present() if self.door.rules.desks else present
+            if now != present:
+                text, present = f"event: present\ndata: {written(now)}\n\n{text}", now
+            await asyncio.wait_for(response.write(text.encode()), PATIENCE)
             await asyncio.sleep(REST)
             await reader.wait()
 

@@ -64,7 +64,8 @@ function forget(/** @type {Plant} */ plant) {
 }
 
 /** @type {Record<string, (told: any) => void>} */
-const TOLD = {hello: greet, all: news => take(news, true), news: news => take(news, false)};
+const TOLD = {hello: greet, present: users => Object.assign(me, {present: users}),
+  all: news => take(news, true), news: news => take(news, false)};
 
 /** Takes an event. */
 export function hearEvent(/** @type {string} */ kind, /** @type {any} */ told) {

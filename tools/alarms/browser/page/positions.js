@@ -12,11 +12,13 @@ export function holderOf(/** @type {number} */ place) {
   return /** @type {Holder} */ (plants[0].head.held?.[place] ?? ["", 0, ""]);
 }
 
-export const isOwn = (/** @type {number} */ place) => holderOf(place)[0] === me.user;
+export const isOwn = (/** @type {number} */ place) => me.user !== "" && holderOf(place)[0] === me.user;
+/** Whether somebody has a position, and has the list open. */
+export const isManned = (/** @type {number} */ place) => me.present.includes(holderOf(place)[0]);
 /** The positions that the operator has. */
 export const ownPositions = () => me.positions.filter((_, place) => isOwn(place));
-/** Those that nobody has. */
-export const freePositions = () => me.positions.filter((_, place) => !holderOf(place)[0]);
+/** Those at which nobody is. */
+export const freePositions = () => me.positions.filter((_, place) => !isManned(place));
 
 /** Whether a position's areas, all where there are none, have one of them. */
 function hasArea(/** @type {Areas} */ areas, /** @type {number} */ plant, /** @type {number} */ area) {
@@ -27,7 +29,7 @@ function hasArea(/** @type {Areas} */ areas, /** @type {number} */ plant, /** @t
 const others = {head: /** @type {object | null} */ (null), user: "", areas: new Set(), sound: new Set()};
 
 function findOthers() {
-  const own = ownPositions(), taken = me.positions.filter((_, place) => holderOf(place)[0]);
+  const own = ownPositions(), taken = me.positions.filter((_, place) => isManned(place));
   Object.assign(others, {head: plants[0].head, user: me.user, areas: new Set(), sound: new Set()});
   if (!own.length) return;
   for (const which of /** @type {("areas" | "sound")[]} */ (["areas", "sound"])) {
@@ -39,8 +41,8 @@ function findOthers() {
 }
 
 /**
- * Whether an area is the operator's: of a position that he has, or one that nobody has. It is everybody's where there
- * are no positions, and that of who has none.
+ * Whether an area is the operator's: of a position that he has, or one at which nobody is. It is everybody's where
+ * there are no positions, and that of who has none.
  * @param {Plant} plant
  * @param {number} area
  * @param {"areas" | "sound"} [which] those that the position has, or those that sound there

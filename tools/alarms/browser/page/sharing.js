@@ -8,6 +8,8 @@ import {link} from "./link.js";
 const copies = new Map();
 /** @type {any} */
 let hello = null;
+/** @type {string[]} */
+let present = [];
 const name = String(Math.random());
 const sharing = {
   isFirst: false, channel: /** @type {BroadcastChannel | null} */ (null),
@@ -23,6 +25,7 @@ const MOST_EVENTS = 1000;
 /** Keeps what was told, as a stream tells it at its begin. */
 function copy(/** @type {string} */ kind, /** @type {any} */ told) {
   if (kind === "hello") hello = told;
+  else if (kind === "present") present = told;
   else if (kind === "all") {
     const rows = new Map(told.rows.map((/** @type {any[]} */ row) => [row[0], row]));
     copies.set(told.plant, {...told, rows});
@@ -54,6 +57,7 @@ export function shareLink() {
 function welcome(/** @type {string} */ to) {
   if (!hello) return;
   post({kind: "hello", told: hello, to});
+  post({kind: "present", told: present, to});
   for (const one of copies.values()) post({kind: "all", told: {...one, rows: [...one.rows.values()]}, to});
 }
 

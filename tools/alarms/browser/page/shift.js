@@ -3,7 +3,7 @@ import {$, button, dialog, field, made, put, target} from "./dom.js";
 import {t, w} from "./language.js";
 import {isUnacknowledged} from "./model.js";
 import {askShift} from "./orders.js";
-import {freePositions, holderOf, isOwn, ownPositions} from "./positions.js";
+import {freePositions, holderOf, isManned, isOwn, ownPositions} from "./positions.js";
 import {areaName, me, of_, plants} from "./state.js";
 /** @typedef {import("./state.js").Position} Position */
 
@@ -25,7 +25,8 @@ function standing(/** @type {Position} */ {areas}) {
 function who(/** @type {number} */ place) {
   const [user, since, remark] = holderOf(place), at = since ? new Date(since * 1000).toLocaleString("en-CA",
     {dateStyle: "short", timeStyle: "short", hour12: false}) : "";
-  const said = user ? t("{user} since {at}", {user, at}) : since ? t("nobody since {at}", {at}) : t("nobody");
+  const how = isManned(place) ? w("{user} since {at}") : w("{user} since {at}, has no list open");
+  const said = user ? t(how, {user, at}) : since ? t("nobody since {at}", {at}) : t("nobody");
   return remark ? `${said}: ${remark}` : said;
 }
 
@@ -53,10 +54,10 @@ export function drawShift() {
   if (active !== undefined) /** @type {HTMLElement | null} */ (cards[Number(active)]?.firstElementChild)?.focus();
 }
 
-/** The positions that nobody has, where there are such. */
+/** The positions at which nobody is, where there are such. */
 export function untaken() {
   const names = freePositions().map(one => one.name);
-  return names.length ? t("Nobody has {positions}", {positions: names.join(", ")}) : "";
+  return names.length ? t("Nobody is at {positions}", {positions: names.join(", ")}) : "";
 }
 
 /** Opens the dialog. */

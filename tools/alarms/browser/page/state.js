@@ -22,10 +22,12 @@ export function setPlants(/** @type {string[]} */ names) {
  */
 
 /**
- * Who the operator is, what the operator may without positions, and of how many alarms at once what wants a reason.
- * @type {{user: string, role: string, may: string[], most: number, key: string, positions: Position[]}}
+ * Who the operator is, what the operator may without positions, and of how many alarms at once what wants a reason;
+ * where there are positions also which users have the list open.
+ * @type {{user: string, role: string, may: string[], most: number, key: string, positions: Position[],
+ *     present: string[]}}
  */
-export const me = {user: "", role: "viewer", may: [], most: 1, key: "", positions: []};
+export const me = {user: "", role: "viewer", may: [], most: 1, key: "", positions: [], present: []};
 
 export const look = {
   view: "alarms", sort: "order", down: false, state: "", text: "",
