@@ -6,6 +6,8 @@ import sqlite3
 import subprocess
 from typing import Any
 
+from alarms.browser.positions import area_lines, position_of, read_positions
+from alarms.ending import Fault
 from lib.browsers import AREAS, List, Page, Plant, areas_file
 from lib.drawn_plants import module
 from lib.places import AT_TOOLS
@@ -87,7 +89,7 @@ def sounding(page: Page) -> str:
 
 def positions(yard: Yard, _count: int) -> str:
     """Each position sees, hears and does its own; what nobody has is everybody's; a shift changes, and is noted."""
-    refused = are_refused(yard)
+    refused = are_refused(yard) + of_two_plants()
     if not shutil.which("nginx") or not shutil.which("openssl"):
         return f"{refused} files that are none; no nginx: positions weren't tried (Debian: nginx, openssl)"
     plant = Plant(yard)
@@ -281,6 +283,23 @@ def are_refused(yard: Yard) -> int:
         run = subprocess.run(words, env=AT_TOOLS, capture_output=True, text=True, timeout=60)
         check(run.returncode == 1 and f"{path}: {said}" in run.stderr and run.stderr.count("\n") == 1, path, run.stderr)
     return len(files)
+
+
+def of_two_plants() -> int:
+    """Of several plants each has a list of areas by its name."""
+    plants = ["north", "south"]
+    one = read_positions(HEAD + "areas = {south = [1, 2], north = [0]}\n", plants, 1000, 20)[0]
+    check(one.areas == one.sound == {(0, 0), (1, 1), (1, 2)} and (one.role, one.most) == ("operator", 20), "it is", one)
+    check(position_of(one.told()) == one, "it is told as", one.told())
+    check(area_lines([one], 1, 2) == ["areas that the plant hasn't: 2", "areas that no position has: 0"], "of areas")
+    check(read_positions(HEAD, plants, 1000, 20)[0].areas is None, "without areas it hasn't all")
+    wrong = ((HEAD + "areas = [1]\n", "each has a list of its own"), (HEAD + "sound = {west = [1]}\n", "no plant west"))
+    for text, said in wrong:
+        try:
+            check(False, "it was read as", read_positions(text, plants, 1000, 20))
+        except Fault as fault:
+            check(said in str(fault), "of", text, "it says", fault)
+    return len(wrong)
 
 
 CHECKS = {"positions": positions}

@@ -96,11 +96,11 @@ class Notes:
                 for statement in TABLES:
                     run(statement)
         run("PRAGMA synchronous = FULL")
-        for statement in LATER:
-            run(statement)
         found = run("SELECT format FROM about").fetchone()
         if found != (FORMAT,):
             raise NoNotes(f"{self.path} has notes of format {found and found[0]}, and this tool knows {FORMAT}")
+        for statement in LATER:
+            run(statement)
 
     def transaction(self) -> "Transaction":
         return Transaction(self.connection)
