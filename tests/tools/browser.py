@@ -26,6 +26,7 @@ PARTS = (
     "check_list",
     "check_looks",
     "check_lost",
+    "check_denied",
     "check_several",
     "check_doors",
     "check_listen",

@@ -90,7 +90,7 @@ def counts(address: str, annunciated: dict[int, int], acknowledged: dict[int, in
     """The exporter has counted so many by priority, and all of them."""
     for name, wanted in (("annunciations", annunciated), ("acknowledgements", acknowledged)):
         holds(address, *(f'alarms_{name}_total{{priority="{one}"}} {wanted.get(one, 0)}' for one in PRIORITIES))
-    holds(address, "alarms_uncounted_actions_total 0")
+    holds(address, "alarms_uncounted_actions_total 0", "alarms_rows_denied 0")
 
 
 def slot_taken(address: str, server: Server) -> None:

@@ -10,7 +10,7 @@ else of the plant is there. Where it answers at another slot, another client has
 With --device it also reads, from the file, how full the journal is, and the epoch, which grows by one with each
 checkpoint. `alarms_device_damaged` is 1 where bytes of it are damaged, with the half and the place, else 0. From there
 come counters too, of annunciations and acknowledgements by priority: those since the exporter began, up to the last one
-that a query showed.
+that a query showed. `alarms_rows_denied` is how many alarms have another row by the journal than the server shows.
 
 With --table it reads the table file each time, and ends with status 1 where the plant isn't that file's, or is on
 another device than before.
@@ -28,7 +28,7 @@ from .connecting import HOST
 from .device_file import Damaged, DeviceFile, Head, NoDevice
 from .table_file import NoTable
 from .judging import Reading, read_device
-from .metrics_counts import Tally
+from .metrics_counts import DENIED, DENIED_PAGE, Tally
 
 # Seconds after which a client that says nothing is left.
 SILENCE = 10
@@ -196,7 +196,7 @@ class Exporter(http.server.ThreadingHTTPServer):
         """What the plant shows, whether the server answers, and whether another client has the slot."""
         try:
             with self.plant.connect() as client:
-                return [*shown(client), *self.seen(client.plant())], 1, 0
+                return [*shown(client), *self.seen(client.plant()), *self.held(client)], 1, 0
         except NoAnswer:
             found = at_another_slot(self.plant)
             return ([*of_query(*found), *self.seen(found[0])], 1, 1) if found else ([], 0, 0)
@@ -208,6 +208,15 @@ class Exporter(http.server.ThreadingHTTPServer):
         if self.tally:
             self.tally.look(plant.count)
         yield from self.still(plant.moment)
+
+    def held(self, client: Client) -> Iterator[str]:
+        """Holds rows of the device's plant against those that the server shows; a server of before ROW shows none."""
+        if self.tally:
+            try:
+                self.tally.hold(client)
+            except Refused:
+                return
+            yield from metric(DENIED, "gauge", DENIED_PAGE, {"": len(self.tally.rows.denied)})
 
     def counters(self) -> Iterator[str]:
         """What was counted so far in the device's file."""

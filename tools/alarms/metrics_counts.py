@@ -5,15 +5,21 @@ The counters begin at 0 where the count begins, and again where another device i
 import collections
 from typing import Iterator, Optional
 
-from .client import PRIORITIES
+from .client import PRIORITIES, Client
 from .ending import Fault
+from .known import known
 from .plant_mirror import Gap, Mirror, News, Step
+from .row_check import RowCheck
 
 # Name and page of each counter that has a sample by priority.
 BY_PRIORITY = {
     "alarms_annunciations_total": "Annunciations since the exporter began, by priority.",
     "alarms_acknowledgements_total": "Accepted acknowledgements since the exporter began, by priority.",
 }
+# How many rows are held against the server's at a look.
+ROWS = 4096
+DENIED = "alarms_rows_denied"
+DENIED_PAGE = "Alarms whose row by the device's journal isn't the server's."
 UNCOUNTED = "alarms_uncounted_actions_total"
 UNCOUNTED_PAGE = "Actions that the file had no longer when they were to be counted."
 
@@ -33,6 +39,7 @@ class Tally:
         if self.mirror:
             self.mirror.close()
         self.mirror, self.uncounted = None, 0
+        self.rows = RowCheck()
         self.counts = {name: dict.fromkeys(PRIORITIES, 0) for name in BY_PRIORITY}
 
     def look(self, count: int) -> None:
@@ -49,14 +56,22 @@ class Tally:
         except (Fault, OSError):
             self.restart()
 
+    def hold(self, client: Client) -> None:
+        """Holds some rows of the file's plant against those that the server shows."""
+        if self.mirror:
+            numbers = self.rows.due(len(self.mirror.plant.alarms), ROWS)
+            self.rows.came(self.mirror.plant, list(zip(numbers, client.rows(numbers))))
+
     def note(self, one: News) -> None:
         """Counts what an action did."""
         if isinstance(one, Gap):
             self.uncounted += one.last - one.first + 1
+            self.rows.begin()
         elif isinstance(one, Step):
             for change in one.changes:
                 self.counts["alarms_annunciations_total"][change.priority] += change.annunciated
                 self.counts["alarms_acknowledgements_total"][change.priority] += one.action.word == "ACK"
+            self.rows.reached(known(self.mirror).plant)
 
     def samples(self) -> Iterator[tuple[str, str, dict[str, float]]]:
         """Name, page and samples of each counter; none before the count has begun."""

@@ -28,12 +28,17 @@ def of_model(alarm: AlarmState) -> Fields:
     }
 
 
+def flags_of(row: Row) -> int:
+    """The flags of a reply as the model has them."""
+    return sum(1 << bit for bit, letter in enumerate(LETTERS) if letter in row.flags)
+
+
 def of_server(row: Row) -> Fields:
     """The row of an alarm in a reply to ROW."""
     return {
         "state": row.shown,
         "condition": row.condition,
-        "flags": sum(1 << bit for bit, letter in enumerate(LETTERS) if letter in row.flags),
+        "flags": flags_of(row),
         "deadline": row.deadline,
         "stamp": row.stamp,
         "priority": row.priority,

@@ -3,6 +3,8 @@ from dataclasses import dataclass, field
 from typing import Any, Optional
 
 from ..model import SHELVED, AlarmState, PlantModel
+from ..replies import Row
+from ..row_check import Fields, flags_of
 from .positions import Position
 
 # Events of the journal that are kept.
@@ -40,6 +42,41 @@ def row_of(alarm: AlarmState, value: Optional[int], suppressed: list[list[Any]])
         attributes.setpoint,
         suppressed,
     ]
+
+
+# Of the places of a row those that the server tells too.
+PRIORITY, STATE, FLAGS, CONDITION, SINCE, THIRD, DEADLINE, STAMP, SETPOINT = 1, 3, 4, 5, 6, 7, 8, 9, 11
+
+
+def drawn_of(alarm: AlarmState) -> Fields:
+    """What the page draws of an alarm and the server tells too."""
+    row = row_of(alarm, None, [])
+    return {
+        "priority": row[PRIORITY],
+        "state": row[STATE],
+        "flags": row[FLAGS],
+        "condition": row[CONDITION],
+        "last annunciation": row[SINCE],
+        "last but two": row[THIRD],
+        "deadline": row[DEADLINE],
+        "stamp": row[STAMP],
+        "setpoint": row[SETPOINT],
+    }
+
+
+def told_of(row: Row) -> Fields:
+    """The same by a reply to ROW. The page draws no stamp of what is shelved."""
+    return {
+        "priority": row.priority,
+        "state": row.shown,
+        "flags": flags_of(row),
+        "condition": int(row.condition),
+        "last annunciation": row.moments[0] if row.moments else None,
+        "last but two": row.moments[2] if len(row.moments) > 2 else None,
+        "deadline": row.deadline,
+        "stamp": 0 if row.flags else row.stamp,
+        "setpoint": row.setpoint,
+    }
 
 
 def table_of(plant: PlantModel) -> list[list[Any]]:

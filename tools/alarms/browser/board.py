@@ -67,7 +67,7 @@ class BrowserBoard:
         self.rows: dict[int, Any] = {}
         self.events: collections.deque[list[Any]] = collections.deque(maxlen=EVENTS)
         self.told = 0
-        self.head: dict[str, Any] = {"trouble": READING, "fault": ""}
+        self.head: dict[str, Any] = {"trouble": READING, "fault": "", "denied": []}
         self.now, self.moved = None, time.monotonic()
         self.places: set[Place] = set()
 

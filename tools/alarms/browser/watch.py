@@ -5,6 +5,7 @@ plant is looked at, so an action never goes to a server whose device isn't the o
 counts only once a look behind it found the same device and the same alarms.
 """
 import itertools
+import math
 import queue
 import secrets
 import threading
@@ -18,7 +19,8 @@ from ..known import known
 from ..mirror import Follower, Served
 from ..plant_mirror import Begun, News, Replaced, Step, fixed
 from ..model import PlantModel
-from .batch import EVENTS, Batch, row_of, standing, table_of
+from ..row_check import RowCheck
+from .batch import EVENTS, Batch, drawn_of, row_of, standing, table_of, told_of
 from .notes import LOST, OK, Notes
 from .orders import AGAIN, ALSO_AGAIN, NO_REPLY, NO_SERVER, OTHER_AREA, OTHER_DEVICE, OTHER_PLANT, READING, REASONS
 from .orders import SEEN, Answer, Order
@@ -29,6 +31,8 @@ from .suppressed import Suppressions
 PERIOD, PATIENCE, ACTION_PATIENCE = 0.1, 1.2, 5.0
 # Actions that are asked before the plant is looked at again.
 PART = 64
+# Seconds in which each row is held against the server's once, and the most rows that are asked at a look.
+ROUND, ROWS = 20.0, 64
 # Acknowledgements whose annunciation is remembered.
 REMEMBERED = 4096
 
@@ -76,6 +80,7 @@ class Watch:
         self.thread = threading.Thread(target=self.run, daemon=True)
         self.follower, self.shown, self.notes = Follower(device, shown), shown, notes
         self.suppressed = Suppressions(notes)
+        self.rows = RowCheck(drawn_of, told_of)
         self.tell, self.fail = tell, fail
         self.orders: "queue.SimpleQueue[Optional[Order]]" = queue.SimpleQueue()
         self.era: Optional[str] = None
@@ -123,6 +128,7 @@ class Watch:
         except (NoDevice, FileNotFoundError) as fault:
             self.shown.say_once(str(fault), "- trying again")
         self.compare()
+        self.hold_rows()
         self.notes.came(self.moments)
         self.suppressed.keep()
         self.publish()
@@ -136,6 +142,24 @@ class Watch:
             self.is_same = plant.now == self.shown.moment and fixed(plant.table()) == fixed(
                 self.shown.asked.table.alarms
             )
+
+    def hold_rows(self) -> None:
+        """Asks the server for some rows, and holds what is drawn against them."""
+        client, plant = self.client, self.plant
+        if not client or not plant or client is not self.compared or not self.is_same:
+            return
+        alarms = len(plant.alarms)
+        numbers = self.rows.due(alarms, min(ROWS, math.ceil(alarms * PERIOD / ROUND)))
+        try:
+            self.rows.came(plant, list(zip(numbers, client.rows(numbers))))
+        except Refused:  # its storage has stopped, or it is one of before ROW
+            return
+        except (Lost, OtherPlant):
+            self.shown.end()
+            return
+        fault = self.rows.fault()
+        if fault:
+            self.shown.say_once(fault)
 
     @property
     def client(self) -> Any:
@@ -163,6 +187,7 @@ class Watch:
     def take_image(self, plant: PlantModel) -> None:
         """The plant is that of an image: what led to it isn't known."""
         self.whole = True
+        self.rows.begin()
         self.values: dict[int, int] = {}
         self.stamps = {alarm.number: alarm.stamp for alarm in plant.alarms if alarm.core != "NORM"}
         self.acknowledged: dict[int, int] = {}
@@ -181,6 +206,7 @@ class Watch:
             if change.annunciated:
                 self.stamps[change.alarm] = plant.alarms[change.alarm].stamp
         self.suppressed.step(step, plant)
+        self.rows.reached(plant)
         self.note_events(step)
 
     def note_events(self, step: Step) -> None:
@@ -227,7 +253,7 @@ class Watch:
 
     def head_of(self, plant: Optional[PlantModel]) -> dict[str, Any]:
         """What is shown of the plant beside its alarms."""
-        head: dict[str, Any] = {"fault": self.notes.fault, "trouble": self.trouble()}
+        head: dict[str, Any] = {"fault": self.notes.fault, "trouble": self.trouble(), "denied": self.denied()}
         if self.desks:
             head["held"] = self.desks.holders()
         if plant:
@@ -237,6 +263,10 @@ class Watch:
                 "floods": [[window.total, int(window.flooded)] for window in plant.windows],
             }
         return head
+
+    def denied(self) -> list[str]:
+        """The tags of the alarms whose row the server denies."""
+        return [plant_tag(known(self.plant), number) for number in self.rows.denied]
 
     def trouble(self) -> str:
         """Why the list may be old although a server answers; empty where it isn't."""

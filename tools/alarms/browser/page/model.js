@@ -41,6 +41,7 @@ export const DAY = 86400;
  * @property {number} age seconds since the server's last answer
  * @property {number} still seconds for which the plant's clock hasn't moved
  * @property {string} fault why notes aren't kept
+ * @property {string[]} denied the tags of the alarms whose row the server denies
  * @property {[string, number, string][]} [held] of each position who has it, since when, and what was said then
  * @property {number} [now] the plant's moment
  * @property {[number, number][]} [floods] of each area its annunciations in ten minutes, and whether it is in flood
@@ -103,7 +104,7 @@ export const DAY = 86400;
  * @returns {Plant}
  */
 export function newPlant(name, place) {
-  const head = {trouble: w("the plant is being read"), age: 0, still: 0, fault: ""};
+  const head = {trouble: w("the plant is being read"), age: 0, still: 0, fault: "", denied: []};
   return {name, place, era: null, areas: [], table: [], rows: [], events: [], counts: [0, 0], isOld: false,
     isDetailed: false, head};
 }

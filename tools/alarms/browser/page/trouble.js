@@ -33,10 +33,13 @@ function oldness(/** @type {Plant} */ plant) {
 
 /** What else there is to say of a plant. */
 function faults(/** @type {Plant} */ plant, /** @type {boolean} */ isOld) {
-  const {still, fault} = plant.head, said = [];
+  const {still, fault, denied} = plant.head, said = [];
   const time = span(still);
   if (!isOld && still) {
     said.push(t("The plant's clock has stood still for {time}: no shelving and no flood ends", {time}));
+  }
+  if (denied.length) {
+    said.push(t("NOT AS THE SERVER SAYS: {count} of these rows, first {tag}", {count: denied.length, tag: denied[0]}));
   }
   if (fault) said.push(t("Who does what isn't kept: {why}", {why: fault}));
   return said.map(text => of_(plant, text));
