@@ -101,6 +101,6 @@ fn a_look_after_the_owner_is_gone(rt: HostRuntime) -> Result<(), Fail> {
     let table = worked_table(rt.alloc())?;
     let disk = formatted(rt.alloc(), &table).ok_or("formatted")?;
     let answered = answered_by::<Keeper<MemDisk>, _>(&rt, rt.alloc(), disk);
-    assert_eq!(rt; answered, Some((7, 15)));
+    assert_eq!(rt; answered, Some((8, 17)));
     Ok(())
 }
