@@ -310,7 +310,7 @@ def reply(yard: Yard, _count: int) -> str:
     )
     listed = List(yard, device, server.port)
     page = Page(yard, listed.url)
-    page.until("the list", lambda: page.of("#empty") == "None." and page.of("#trouble") == "")
+    page.until("the list", lambda: page.of("#empty") == "None." and "NO SERVER" not in page.of("#trouble"))
     early = []
     with Client.connect(server.port, FEED, patience=60) as feed:
         needed = syncs(yard) + 2
