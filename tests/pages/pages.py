@@ -7,8 +7,8 @@ Each link to a file of the repository leads to one, and to a heading of it where
 page of docs/ quotes stands in a source, whatever its spaces. The counts of wrong bodies and of crates below the program
 are the tree's. The sums of docs/proof/BELIEVED.md stand in docs/proof/README.md. Each call that a root file names as
 carrying a claim is in the code of its crate or of those below it. docs/ALARMS.md has each law. Each wrong body and each
-wrong model applies: `rt ci` passes over a body that doesn't. A body changes code alone, but in alm_laws, which has
-none.
+wrong model applies: `rt ci` passes over a body that doesn't. A body changes code alone, but in
+the crates of laws, which have none.
 """
 import re
 import sys
@@ -19,6 +19,8 @@ import proved as root_files
 TOP = Path(__file__).resolve().parents[2]
 PROOF = TOP / "docs" / "proof"
 
+# Crates of laws: these have no code.
+LAWS = ("alm_laws", "alm_desk_laws")
 LAW = re.compile(r"^pub fn (\w+)", re.MULTILINE)
 PAGES = sorted(
     [
@@ -154,9 +156,7 @@ def edits(found):
         for kind, _, text in (line.partition(": ") for line in text_of(edit).split("\n")):
             if kind == "file":
                 name, source = text, text_of(crate / text) if (crate / text).is_file() else ""
-                found.check(
-                    name.startswith("src/") or crate.name == "alm_laws", where, "changes what isn't code:", name
-                )
+                found.check(name.startswith("src/") or crate.name in LAWS, where, "changes what isn't code:", name)
             elif kind == "old":
                 old = text
                 found.check(

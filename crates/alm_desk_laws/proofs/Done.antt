@@ -21,7 +21,7 @@ use Rattle.alm_desk.specs.Answers.{DeskState, AnsweredLine, request, after_line,
 use Rattle.alm_desk.specs.Backends.{if_accepted}
 use Rattle.alm_desk.specs.declared.hindrance.Hindrance.{Hindrance}
 use Rattle.alm_desk.specs.declared.hindrance.Hindrance.TheVariants as hindrance
-use Rattle.alm_desk_laws.specs.Done.{accepted_in, done_by, done_on, done, HasAnswered}
+use Rattle.alm_desk_laws.specs.Done.{accepted_action, done_at, done_on, done, HasAnswered}
 use Rattle.alm_desk_laws.proofs.Timely.{IsTimelyAsk, AreTimely, read-timely}
 
 -- a plant is another one after actions that it admits
@@ -37,14 +37,14 @@ taken : (q : Condensed) (r : Request) (a : Action) → accept q.panel r ≡ Ok a
 unfolding verdict_of
 taken q r a e = ap (verdict_from q.panel.count) e
 
-judged : (q : Condensed) (r : Request) (o : Result Action Refusal) → accept q.panel r ≡ o → IsTimely r.want → Goes q (accepted_in o) (if_accepted q o)
+judged : (q : Condensed) (r : Request) (o : Result Action Refusal) → accept q.panel r ≡ o → IsTimely r.want → Goes q (accepted_action o) (if_accepted q o)
 judged q r (Ok a) e timely =
     let is = accepted_is q r a (taken q r a e) in
     (refl, (subst IsTimely is.0 timely, is.1, tt))
 judged q r (Err why) e timely = (refl, tt)
 
 -- a line that is answered goes by what it does
-goes-by : (q : Condensed) (slot : ℕ) (ask : Ask) (c : Hindrance) (p : Condensed) → IsTimelyAsk ask → ask_after q slot ask c ≡ Some p → Goes q (done_by q slot ask c) p
+goes-by : (q : Condensed) (slot : ℕ) (ask : Ask) (c : Hindrance) (p : Condensed) → IsTimelyAsk ask → ask_after q slot ask c ≡ Some p → Goes q (done_at q slot ask c) p
 goes-by q slot (Act want) hindrance.Stopped p timely e = absurd (none-some p e)
 goes-by q slot (Act want) hindrance.Nothing p timely e = subst (Goes q _) (same_Some _ _ e) (judged q (request slot want) (accept q.panel (request slot want)) refl timely)
 goes-by q slot (Act want) hindrance.NoMemory p timely e = subst (Goes q _) (same_Some _ _ e) (judged q (request slot want) (accept q.panel (request slot want)) refl timely)
@@ -57,7 +57,7 @@ never s [] p none e = none-some p (sym none ∙ e)
 never s (m ∷ ms) p none e = never (after_line s m) ms p (ap (λ o. plant_after o m.asked m.hindrance) none) e
 
 module _ (s : DeskState) (m : AnsweredLine) (ms : List AnsweredLine) (q p : Condensed) (here : s.plant ≡ Some q) (timely : AreTimely (m ∷ ms)) where
-  first-done : done_on s.plant m.asked m.hindrance ≡ done_by q m.asked.slot m.asked.line.ask m.hindrance
+  first-done : done_on s.plant m.asked m.hindrance ≡ done_at q m.asked.slot m.asked.line.ask m.hindrance
   first-done = ap (λ o. done_on o m.asked m.hindrance) here
 
   plant-then : (after_line s m).plant ≡ ask_after q m.asked.slot m.asked.line.ask m.hindrance

@@ -16,19 +16,19 @@ use Rattle.alm_desk.specs.Feeding.{line_asked}
 use Rattle.alm_desk.specs.declared.hindrance.Hindrance.{Hindrance}
 use Rattle.alm_desk.specs.declared.hindrance.Hindrance.TheVariants as hindrance
 
-abbrev pub accepted_in : Result Action Refusal → List Action
-accepted_in (Good action) = action ∷ []
-accepted_in (Wrong refusal) = []
+abbrev pub accepted_action : Result Action Refusal → List Action
+accepted_action (Good action) = action ∷ []
+accepted_action (Wrong refusal) = []
 
 -- what a line does at a plant: its action, if it is accepted, and the storage didn't stop in it
-abbrev pub done_by : Condensed → ℕ → Ask → Hindrance → List Action
-done_by q slot (Act want) hindrance.Stopped = []
-done_by q slot (Act want) _ = accepted_in (accept q.panel (request slot want))
-done_by q slot _ c = []
+abbrev pub done_at : Condensed → ℕ → Ask → Hindrance → List Action
+done_at q slot (Act want) hindrance.Stopped = []
+done_at q slot (Act want) _ = accepted_action (accept q.panel (request slot want))
+done_at q slot _ c = []
 
 abbrev pub done_on : Option Condensed → SlotLine → Hindrance → List Action
 done_on None l c = []
-done_on (Some q) l c = done_by q l.slot l.line.ask c
+done_on (Some q) l c = done_at q l.slot l.line.ask c
 
 -- the actions that lines do, in their order
 abbrev pub done : DeskState → List AnsweredLine → List Action
