@@ -248,8 +248,8 @@ def forgets(plant: Plant, listed: List, page: Page) -> None:
     check(all(reply[0] == "OK" for reply in replies), "not all came")
     page.turn("journal")
     page.until("the last of it", lambda: len(page.rows()) > 5)
-    kept = page.of_module("state", "page.plants[0].events.map(event => event.word)")
-    check("OOS" not in kept and "SHELVE" not in kept, "the journal still has it")
+    kept = "page.plants[0].events.map(event => event.word)"
+    page.until("its end there", lambda: not {"OOS", "SHELVE"} & set(page.of_module("state", kept)))
     page.driver.get("about:blank")
     listed.end()
     listed.start()
