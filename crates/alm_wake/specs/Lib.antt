@@ -1,2 +1,4 @@
 pub mod Gatherings
+pub mod Paces
+pub mod Places
 pub mod Wakings

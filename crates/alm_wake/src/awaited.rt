@@ -1,5 +1,11 @@
 //! The slots that the sequencer's thread waits for, as the slots see them.
 
+ghost use Rattle.std.specs.Prelude.{◌≡◌, ◌↔◌, ℕ, ◌<◌, ◌^◌, ◌⊎◌, IsTrue};
+ghost use Rattle.std.specs.Int.{bit_at};
+ghost use Rattle.std.specs.Int.RustNames.{count_ones};
+ghost use Rattle.alm_types.specs.Sizes.{slot_count};
+ghost use Rattle.alm_wake.specs.Gatherings.{Awaits};
+
 use crate::bounds::{AWAKE, FEW};
 use crate::gathering::Gathering;
 use alm_types::{SLOTS, Slot};
@@ -13,7 +19,11 @@ pub struct Awaited {
 }
 
 // The bits of the slots that a gathering awaits.
-fn bits_of(gathering: &Gathering) -> u32 {
+fn bits_of(gathering: &Gathering) -> u32
+    ensures bits { (s : ℕ) → s < slot_count →
+        ((bit_at result s ≡ 1) ↔ Awaits gathering.now s) }
+    ensures others { result < 2 ^ slot_count }
+{
     let mut bits: u32 = 0;
     for slot in 0..SLOTS {
         if gathering.awaits(slot) {
@@ -21,6 +31,14 @@ fn bits_of(gathering: &Gathering) -> u32 {
         }
     }
     bits
+}
+
+// Whether the thread is woken by the slot that leaves these to come: as none is left, or as few are and it sleeps.
+fn wakes(left: u32) -> bool
+    ensures { IsTrue result ↔
+        ((left ≡ 0) ⊎ ((bit_at left 31 ≡ 0) × (count_ones left ≡ 2))) }
+{
+    left == 0 || left & AWAKE == 0 && left.count_ones() == FEW
 }
 
 impl Awaited {
@@ -69,6 +87,6 @@ impl Awaited {
             return false;
         }
         let left = self.slots.fetch_and(!bit, Ordering::SeqCst) & !bit;
-        left == 0 || left & AWAKE == 0 && left.count_ones() == FEW
+        wakes(left)
     }
 }

@@ -1,5 +1,9 @@
 //! The bells of the slots.
 
+ghost use Rattle.std.specs.Prelude.{◌≡◌, ◌<◌, ℕ, option_copied, slice_get, slice_index};
+ghost use Rattle.alm_types.specs.Sizes.{slot_count};
+ghost use Rattle.alm_wake.specs.Places.{IsPlaceOf};
+
 use crate::bell::Bell;
 use alm_types::{SLOTS, Slot};
 use std::sync::atomic::{AtomicU32, Ordering};
@@ -16,7 +20,11 @@ pub struct Bells<B: Bell + Drop> {
 
 impl<B: Bell + Drop> Bells<B> {
     /// The bells of these slots, in their order.
-    pub fn new(slots: &[Slot], bells: Vec<B>) -> Self {
+    pub fn new(slots: &[Slot], bells: Vec<B>) -> Self
+        ensures bells { result.bells ≡ bells }
+        ensures places { (s : ℕ) → s < slot_count →
+            IsPlaceOf s slots.now (slice_index result.places s) }
+    {
         let mut places = [usize::MAX; SLOTS];
         for place in 0..slots.len() {
             places[slots[place].number() as usize] = place;
@@ -29,7 +37,10 @@ impl<B: Bell + Drop> Bells<B> {
     }
 
     /// The bell of a slot.
-    pub fn of(&self, slot: Slot) -> Option<&B> {
+    pub fn of(&self, slot: Slot) -> Option<&B>
+        ensures { option_copied result ≡
+            slice_get self.now.bells.items (slice_index self.now.places slot) }
+    {
         self.bells.get(self.places[slot.number() as usize])
     }
 

@@ -1,5 +1,7 @@
 //! How long the last batch was out.
 
+ghost use Rattle.std.specs.Prelude.{◌≡◌, None};
+
 use std::time::{Clock, Instant};
 
 /// How long ago that was, in microseconds; `None` if the clock can't be read.
@@ -21,7 +23,9 @@ pub struct CommitTime {
 
 impl CommitTime {
     /// None yet.
-    pub fn new() -> Self {
+    pub fn new() -> Self
+        ensures { result ≡ record { since = None; micros = 0 } }
+    {
         CommitTime {
             since: None,
             micros: 0,
@@ -29,17 +33,25 @@ impl CommitTime {
     }
 
     /// A batch was sealed.
-    pub fn begin<C: Clock>(&mut self, clock: &C) {
+    pub fn begin<C: Clock>(&mut self, clock: &C)
+        ensures { self.new.micros ≡ self.old.micros }
+    {
         self.since = Instant::now(clock).ok();
     }
 
     /// How long the last one was that is known.
-    pub fn last(&self) -> u64 {
+    pub fn last(&self) -> u64
+        ensures { result ≡ self.now.micros }
+    {
         self.micros
     }
 
     /// None is out: how long the last one was.
-    pub fn end<C: Clock>(&mut self, clock: &C) -> u64 {
+    pub fn end<C: Clock>(&mut self, clock: &C) -> u64
+        ensures time { result ≡ self.new.micros }
+        ensures ended { self.new.since ≡ None }
+        ensures before { self.old.since ≡ None → self.new ≡ self.old }
+    {
         if let Some(since) = self.since.take() {
             self.micros = micros_since(clock, since).unwrap_or(0);
         }

@@ -1,5 +1,7 @@
 //! What the threads signal to each other besides the rings.
 
+ghost use Rattle.std.specs.Prelude.{◌≡◌};
+
 use crate::awaited::Awaited;
 use crate::bell::Bell;
 use crate::bells::Bells;
@@ -40,7 +42,9 @@ pub struct Flags<B: Bell + Drop> {
 
 impl<B: Bell + Drop> Flags<B> {
     /// No flag is set yet.
-    pub fn new(slots: Bells<B>) -> Self {
+    pub fn new(slots: Bells<B>) -> Self
+        ensures { result.slots ≡ slots }
+    {
         Flags {
             stop: AtomicBool::new(false),
             out: AtomicBool::new(false),

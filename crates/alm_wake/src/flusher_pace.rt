@@ -1,5 +1,10 @@
 //! When the flusher's thread sleeps, and whom it wakes.
 
+ghost use Rattle.std.specs.Prelude.{◌≡◌, ◌<◌, ◌≤◌, ◌+◌, ◌-◌, ◌^◌, ◌⊎◌, ℕ, IsTrue, MatchBool, min, slice_set};
+ghost use Rattle.alm_types.specs.Sizes.{slot_count};
+ghost use Rattle.alm_wake.specs.Paces.{after_reply};
+ghost use Rattle.alm_wake.specs.Wakings.{is_late, may_sleep, no_one, no_reply};
+
 use crate::bell::Bell;
 use crate::bounds::{EARLY_YIELDS, REST};
 use crate::flags::Flags;
@@ -22,7 +27,11 @@ pub struct FlusherPace<'f, B: Bell + Drop> {
 
 impl<'f, B: Bell + Drop> FlusherPace<'f, B> {
     /// No batch was fetched yet.
-    pub fn new(flags: &'f Flags<B>) -> Self {
+    pub fn new(flags: &'f Flags<B>) -> Self
+        ensures waking { result.waking ≡
+            record { fetched = 0; waiting = 0; replies = no_reply; late = no_one } }
+        ensures turns { (result.idle ≡ 0) × (result.yields ≡ 0) }
+    {
         FlusherPace {
             flags,
             waking: Waking::new(),
@@ -42,18 +51,33 @@ impl<'f, B: Bell + Drop> FlusherPace<'f, B> {
     }
 
     /// A batch was fetched.
-    pub fn fetch(&mut self) {
+    pub fn fetch(&mut self)
+        ensures { self.new ≡ record self.old {
+          waking = record self.old.waking {
+            fetched = min (self.old.waking.fetched + 1) (2 ^ 64 - 1);
+          };
+        } }
+    {
         self.flags.near.store(false, Ordering::SeqCst);
         self.waking.fetch();
     }
 
     /// Whether an open checkpoint continues, though no batch is there. Its pieces wait for a batch that is about to come.
-    pub fn has_rest(&self) -> bool {
+    pub fn has_rest(&self) -> bool
+        ensures { IsTrue result → 10 ≤ self.now.idle }
+    {
         self.idle >= REST && !self.flags.near.load(Ordering::SeqCst)
     }
 
     /// The held batch was published: its replies are due.
-    pub fn publish(&mut self) {
+    pub fn publish(&mut self)
+        ensures { self.new ≡ record self.old {
+          waking = record self.old.waking {
+            waiting = self.new.waking.waiting;
+            replies = no_reply;
+          };
+        } }
+    {
         self.waking.begin(self.flags.batches.load(Ordering::SeqCst));
         self.flags
             .busy
@@ -61,7 +85,9 @@ impl<'f, B: Bell + Drop> FlusherPace<'f, B> {
     }
 
     /// A receipt was released to a slot: it is woken now, or after the whole batch.
-    pub fn release(&mut self, slot: Slot) {
+    pub fn release(&mut self, slot: Slot)
+        ensures { self.new ≡ record self.old { waking = after_reply self.old.waking slot } }
+    {
         if self.waking.reply(slot) {
             self.flags.slots.ring(slot);
         }
@@ -74,19 +100,39 @@ impl<'f, B: Bell + Drop> FlusherPace<'f, B> {
 
     /// The batch is answered. The slots that are still to be woken are left to the sequencer's thread: that thread is a batch
     /// ahead then.
-    pub fn answer(&mut self) {
+    pub fn answer(&mut self)
+        ensures late { (s : ℕ) → s < slot_count →
+            is_late self.new.waking s ≡ may_sleep self.old.waking s }
+        ensures others { self.new ≡ record self.old {
+          waking =
+              record self.old.waking { late = self.new.waking.late };
+        } }
+    {
         for number in 0..SLOTS {
             if let Some(slot) = Slot::new(number as u8) {
-                if self.waking.end(slot) {
-                    self.flags.slots.leave(slot);
-                }
+                self.end(slot);
             }
         }
         self.flags.sequencer.ring();
     }
 
+    // The batch is answered: this slot is left to the sequencer's thread if it is to be woken.
+    fn end(&mut self, slot: Slot)
+        ensures { self.new ≡ record self.old {
+          waking = record self.old.waking {
+            late = slice_set self.old.waking.late slot (may_sleep self.old.waking slot);
+          };
+        } }
+    {
+        if self.waking.end(slot) {
+            self.flags.slots.leave(slot);
+        }
+    }
+
     /// A turn found work.
-    pub fn work(&mut self) {
+    pub fn work(&mut self)
+        ensures { self.new ≡ record self.old { idle = 0 } }
+    {
         self.idle = 0;
     }
 
@@ -98,7 +144,13 @@ impl<'f, B: Bell + Drop> FlusherPace<'f, B> {
     }
 
     /// Whether a batch is about to come, ahead of which the thread was woken: it stays awake for it a while, and yields to others.
-    pub fn stays_awake(&mut self) -> bool {
+    pub fn stays_awake(&mut self) -> bool
+        ensures { MatchBool result
+            ((self.old.yields < 32) ×
+            (self.new ≡ record self.old { yields = self.old.yields + 1 }))
+            ((self.new ≡ record self.old { yields = 0 }) ⊎
+            ((32 ≤ self.old.yields) × (self.new ≡ self.old))) }
+    {
         if !self.flags.near.load(Ordering::SeqCst) {
             self.yields = 0;
             return false;
@@ -119,7 +171,9 @@ impl<'f, B: Bell + Drop> FlusherPace<'f, B> {
     }
 
     /// Waits for work.
-    pub fn wait<R: Wait>(&mut self, rt: &R) {
+    pub fn wait<R: Wait>(&mut self, rt: &R)
+        ensures { self.new ≡ record self.old { idle = min (self.old.idle + 1) (2 ^ 32 - 1) } }
+    {
         self.flags.flusher.wait(rt, self.idle);
         self.idle = self.idle.saturating_add(1);
     }

@@ -16,13 +16,19 @@
 //! second at a slot: then each thread checks by itself. docs/develop/WAKING.md has the states of the two threads, and who reads and writes
 //! each atomic. All numbers stand in `bounds`.
 //!
-//! Not covered: how long anything takes, since no contract speaks of time that passes.
+//! Not covered: how long anything takes, since no contract speaks of time that passes. Nor what an atomic has, so that a bell is rung:
+//! the tests of alm_wake_tests ask who is woken.
 //!
 //! Proved:
 //! - the open batch waits only for slots that the last one answered, once, and for half of its time or 500 microseconds (by
 //!   `Gathering::pause`, `Pause::after`, `ThreadBell::sleep`)
 //! - which slots are woken after a batch is answered: all that have replies of it, but who may sleep through one batch (by
-//!   `Waking::reply`, `end`)
+//!   `Waking::reply`, `end`, `FlusherPace::release`, `answer`)
+//! - by what the open batch is sealed or waits, for which slots, and which of them wakes the thread (by
+//!   `SequencerPace::sealing`, `bits_of`, `wakes`)
+//! - an idle thread dozes for a quarter of the last commit at most, through 16 turns at most; it yields 32 times to a batch that is about
+//!   to come; a checkpoint continues after 10 turns without work (by `SequencerPace::doze`, `FlusherPace::stays_awake`, `has_rest`)
+//! - the bell of a slot is the one that was given for it (by `Bells::new`, `of`)
 #![tactic(auto)]
 
 mod awaited;

@@ -1,5 +1,7 @@
 //! When the sequencer's thread seals and sleeps.
-ghost use Rattle.std.specs.Prelude.{◌≤◌, IfSome};
+ghost use Rattle.std.specs.Prelude.{◌≡◌, ◌<◌, ◌≤◌, ◌+◌, ◌-◌, ◌/◌, ◌^◌, IfSome, min, false, slice_set, true};
+ghost use Rattle.alm_wake.specs.Gatherings.{nobody};
+ghost use Rattle.alm_wake.specs.Paces.{DecidesOn, WaitsOnce};
 
 use crate::awaited::Awaited;
 use crate::bell::Bell;
@@ -60,7 +62,12 @@ fn await_all<B: Bell + Drop, R: Wait + Clock>(rt: &R, flags: &Flags<B>, pause: P
 
 impl<'f, B: Bell + Drop> SequencerPace<'f, B> {
     /// Nothing was taken yet, and nothing sealed.
-    pub fn new(flags: &'f Flags<B>) -> Self {
+    pub fn new(flags: &'f Flags<B>) -> Self
+        ensures gathering { result.gathering ≡
+            record { joined = nobody; answered = nobody; fresh = false } }
+        ensures commit { result.commit ≡ record { since = None; micros = 0 } }
+        ensures turns { result.idle ≡ 0 }
+    {
         SequencerPace {
             flags,
             gathering: Gathering::new(),
@@ -84,13 +91,27 @@ impl<'f, B: Bell + Drop> SequencerPace<'f, B> {
     }
 
     /// A request of this slot came into the open batch.
-    pub fn join(&mut self, slot: Slot) {
+    pub fn join(&mut self, slot: Slot)
+        ensures { self.new ≡ record self.old {
+          gathering = record self.old.gathering {
+            joined = slice_set self.old.gathering.joined slot true;
+          };
+        } }
+    {
         self.gathering.join(slot);
     }
 
     /// Whether the open batch is sealed: if it is full; or if no batch is out, and it has waited for those that the last one
     /// answered.
-    pub fn sealing<C: Clock>(&mut self, clock: &C, is_full: bool) -> Sealing {
+    pub fn sealing<C: Clock>(&mut self, clock: &C, is_full: bool) -> Sealing
+        ensures why { DecidesOn is_full self.old.gathering self.new.commit.micros result }
+        ensures once { WaitsOnce result self.new.gathering.fresh }
+        ensures others { self.new ≡ record self.old {
+          commit = self.new.commit;
+          gathering =
+              record self.old.gathering { fresh = self.new.gathering.fresh };
+        } }
+    {
         if is_full {
             return Sealing::Now;
         }
@@ -104,7 +125,12 @@ impl<'f, B: Bell + Drop> SequencerPace<'f, B> {
     }
 
     /// The open batch was sealed: the flusher's thread is woken.
-    pub fn seal<C: Clock>(&mut self, clock: &C) {
+    pub fn seal<C: Clock>(&mut self, clock: &C)
+        ensures gathering { self.new.gathering ≡
+            record { joined = nobody; answered = self.old.gathering.joined; fresh = true } }
+        ensures time { self.new.commit.micros ≡ self.old.commit.micros }
+        ensures turns { self.new.idle ≡ self.old.idle }
+    {
         self.gathering.seal();
         self.commit.begin(clock);
         self.flags.batches.fetch_add(1, Ordering::SeqCst);
@@ -128,20 +154,36 @@ impl<'f, B: Bell + Drop> SequencerPace<'f, B> {
     }
 
     /// A turn found work.
-    pub fn work(&mut self) {
+    pub fn work(&mut self)
+        ensures { self.new ≡ record self.old { idle = 0 } }
+    {
         self.idle = 0;
     }
 
     /// A turn found none: waits until it is woken, or for a quarter of a commit if two more batches waited than the one that was
     /// answered. That delays no slot, and no thread has to wake this one, the flusher's least of all.
-    pub fn wait<R: Wait>(&mut self, rt: &R) {
-        let doze = self.commit.last() / DOZE_SHARE;
-        if doze > 0 && self.idle < DOZES && self.flags.busy.load(Ordering::SeqCst) {
-            self.flags.sequencer.doze(rt, Pause::of(doze));
-        } else {
-            self.flags.sequencer.wait(rt, self.idle);
+    pub fn wait<R: Wait>(&mut self, rt: &R)
+        ensures { self.new ≡ record self.old { idle = min (self.old.idle + 1) (2 ^ 32 - 1) } }
+    {
+        match self.doze() {
+            Some(pause) => self.flags.sequencer.doze(rt, pause),
+            None => self.flags.sequencer.wait(rt, self.idle),
         }
         self.idle = self.idle.saturating_add(1);
+    }
+
+    // How long a turn without work dozes if two more batches are queued: a quarter of the last commit, and not through too many
+    // turns in a row.
+    fn doze(&self) -> Option<Pause>
+        ensures long { IfSome result
+            (λ pause. pause.micros ≡ min (self.now.commit.micros / 4) 500) }
+        ensures often { IfSome result (λ _. self.now.idle < 16) }
+    {
+        let micros = self.commit.last() / DOZE_SHARE;
+        if micros > 0 && self.idle < DOZES && self.flags.busy.load(Ordering::SeqCst) {
+            return Some(Pause::of(micros));
+        }
+        None
     }
 
     /// No further batch is sealed.
