@@ -1,4 +1,4 @@
-use Rattle.std.proofs.Common.{◌≡◌, ◌<◌, ◌≤◌, ◌^◌, ◌+◌, arith, rules}
+use Rattle.std.proofs.Common.{◌<◌, ◌^◌, ◌+◌, arith, rules}
 use Rattle.std.proofs.Math.Pow.{pow-lt}
 use Rattle.alm_wake.specs.Gatherings.{Awaits}
 use Rattle.alm_wake.proofs.Bits.{with_bit-lt, with_bit-says, without_bit-says}
