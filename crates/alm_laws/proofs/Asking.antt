@@ -211,7 +211,7 @@ time-by q r e differs = elim (effect-now (with_one_more q) r.want) [
 set-attr : (q : Condensed) (k j : ℕ) (f : Attr → Attr) → (k ≡ j) ⊎ (slice_get (change q.panel.attrs k f) j ≡ slice_get q.panel.attrs j)
 set-attr q k j f = elim (cases_eq k j) [ inl same ↦ inl same | inr d ↦ inr (change-off q.panel.attrs k j f d) ]
 
-effect-attrs : (q : Condensed) (action : Action) (j : ℕ) → ((configures action ≡ true) × (alarm_of action ≡ j)) ⊎ (slice_get (with_effect in_brief q action).panel.attrs j ≡ slice_get q.panel.attrs j)
+pub effect-attrs : (q : Condensed) (action : Action) (j : ℕ) → ((configures action ≡ true) × (alarm_of action ≡ j)) ⊎ (slice_get (with_effect in_brief q action).panel.attrs j ≡ slice_get q.panel.attrs j)
 effect-attrs q (Clock t) j = inr (ap (λ l. slice_get l j) (fold-attrs (due t q.panel) (later in_brief t q)))
 effect-attrs q (Value i v) j = inr (ap (λ l. slice_get l j) (touch-keeps q i.0 (outcome q.panel.now q.panel.next_stamp (Value i v))).1)
 effect-attrs q (Ack i) j = inr (ap (λ l. slice_get l j) (touch-keeps q i.0 (outcome q.panel.now q.panel.next_stamp (Ack i))).1)

@@ -174,11 +174,11 @@ ended-in-order q r i j s t u v x y m d e is sd ue late first loud loud2 =
 
 -- ---- what a console sets
 
-part-set : {A : Type 0} (part : Attr → A) (test : Bool) (given : T test → Attr) (other : Attr) (x : A) → ((h : T test) → part (given h) ≡ x) → test ≡ true → part (where_passed test given other) ≡ x
+pub part-set : {A : Type 0} (part : Attr → A) (test : Bool) (given : T test → Attr) (other : Attr) (x : A) → ((h : T test) → part (given h) ≡ x) → test ≡ true → part (where_passed test given other) ≡ x
 part-set part true given other x f e = f tt
 part-set part false given other x f e = absurd (true≢false (sym e))
 
-part-kept : {A : Type 0} (part : Attr → A) (test : Bool) (given : T test → Attr) (other : Attr) → ((h : T test) → part (given h) ≡ part other) → part (where_passed test given other) ≡ part other
+pub part-kept : {A : Type 0} (part : Attr → A) (test : Bool) (given : T test → Attr) (other : Attr) → ((h : T test) → part (given h) ≡ part other) → part (where_passed test given other) ≡ part other
 part-kept part true given other f = f tt
 part-kept part false given other f = refl
 

@@ -47,7 +47,7 @@ belongs-so (Wheel n) a s by = wheel-so s.shelved_until n
 belongs-so Stale a s by = absurd (true≢false (sym by))
 belongs-so Chatter a s by = absurd (true≢false (sym by))
 
-passes-there : (test : Attr → State → Bool) (oa : Option Attr) (os : Option State) → passes test oa os ≡ true → (a : Attr) × (s : State) × (oa ≡ Some a) × (os ≡ Some s) × (test a s ≡ true)
+pub passes-there : (test : Attr → State → Bool) (oa : Option Attr) (os : Option State) → passes test oa os ≡ true → (a : Attr) × (s : State) × (oa ≡ Some a) × (os ≡ Some s) × (test a s ≡ true)
 passes-there test (Some a) (Some s) e = (a, s, refl, refl, e)
 passes-there test (Some a) None e = absurd (true≢false (sym e))
 passes-there test None os e = absurd (true≢false (sym e))

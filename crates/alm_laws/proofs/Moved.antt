@@ -20,8 +20,8 @@ use Rattle.alm_model.specs.Rules.{KeepsRules, AreAdmitted}
 use Rattle.alm_model.proofs.Kept.{run-keeps}
 use Rattle.alm_laws.specs.Alarm.{TakesAction, row_left, annunciates, is_unacknowledged, acknowledges, resets, shelves, suppresses}
 use Rattle.alm_laws.specs.Left.{IsLeft, shelving_left, is_suppressed_left, is_annunciated_then, is_unacknowledged_left, is_active_left}
-use Rattle.alm_laws.specs.Plant.{Becomes, IsAlarmOf, asker_of}
-use Rattle.alm_laws.specs.Moved.{Names, LeftByItsAction, LeftByTheClock, EndsOnlyByReset, ShelvedAsAsked, FlaggedAsAsked, seconds_of}
+use Rattle.alm_laws.specs.Plant.{Names, Becomes, IsAlarmOf, asker_of}
+use Rattle.alm_laws.specs.Moved.{LeftByItsAction, LeftByTheClock, EndsOnlyByReset, ShelvedAsAsked, FlaggedAsAsked, seconds_of}
 use Rattle.alm_laws.proofs.AlarmLaws.{calm, not-both, under-shelving}
 use Rattle.alm_laws.proofs.Asking.{shelved-by}
 use Rattle.alm_laws.proofs.Left.{one-row}
@@ -43,7 +43,7 @@ names-alarm (SetPriority j n) i h = (h, refl)
 names-alarm (SetSetpoint j v) i h = (h, refl)
 
 -- the row that it has then
-row-then : (q : Condensed) (action : Action) (a : Attr) (s t : State) → is_clock action ≡ false → slice_get q.panel.attrs (alarm_of action) ≡ Some a → slice_get q.panel.rows (alarm_of action) ≡ Some s
+pub row-then : (q : Condensed) (action : Action) (a : Attr) (s t : State) → is_clock action ≡ false → slice_get q.panel.attrs (alarm_of action) ≡ Some a → slice_get q.panel.rows (alarm_of action) ≡ Some s
     → slice_get (step q action).panel.rows (alarm_of action) ≡ Some t → t ≡ row_left (outcome q.panel.now q.panel.next_stamp action a s)
 row-then q (Clock m) a s t e has before after = absurd (true≢false e)
 row-then q (Value j v) a s t e has before after = same_Some _ _ (sym after ∙ touch-here (with_one_more q) j.0 (outcome q.panel.now q.panel.next_stamp (Value j v)) a s has before)
@@ -56,7 +56,7 @@ row-then q (Design j on) a s t e has before after = same_Some _ _ (sym after ∙
 row-then q (SetPriority j n) a s t e has before after = same_Some _ _ (sym after ∙ before)
 row-then q (SetSetpoint j v) a s t e has before after = same_Some _ _ (sym after ∙ before)
 
-admitted-by : (q : Condensed) (action : Action) (a : Attr) (s : State) → is_clock action ≡ false → own_refusal q.panel action ≡ None → slice_get q.panel.attrs (alarm_of action) ≡ Some a → slice_get q.panel.rows (alarm_of action) ≡ Some s
+pub admitted-by : (q : Condensed) (action : Action) (a : Attr) (s : State) → is_clock action ≡ false → own_refusal q.panel action ≡ None → slice_get q.panel.attrs (alarm_of action) ≡ Some a → slice_get q.panel.rows (alarm_of action) ≡ Some s
     → row_refusal action a s ≡ None
 admitted-by q (Clock m) a s e free has before = absurd (true≢false e)
 admitted-by q (Value j v) a s e free has before = sym (ap (λ o. alarm_refusal (Value j v) o (slice_get q.panel.rows j.0)) has ∙ ap (alarm_refusal (Value j v) (Some a)) before) ∙ free

@@ -11,6 +11,7 @@ use Rattle.alm_types.specs.declared.refusal.Refusal.TheVariants.{WrongRole}
 use Rattle.alm_types.specs.declared.request.Request.{Request}
 use Rattle.alm_types.specs.declared.role.Role.{Role}
 use Rattle.alm_types.specs.declared.role.Role.TheVariants as role
+use Rattle.alm_types.specs.Actions.{alarm_of}
 use Rattle.alm_types.specs.Slots.{role_of}
 use Rattle.alm_state.specs.Rows.{State, IsState, is_suppressed, is_annunciated}
 use Rattle.alm_state.specs.Suits.{suits}
@@ -23,8 +24,20 @@ use Rattle.alm_laws.specs.Alarm.{row_left, annunciates, is_unacknowledged, is_la
 use Rattle.alm_laws.proofs.AlarmLaws.{acknowledged-only, latched-until, shelving-ends, annunciated-then, annunciated-waits, unshelved-then, flags-waits, flags-shelving, calm, not-both, under-shelving, unless-none}
 use Rattle.alm_model.specs.Plant.{Panel, Condensed}
 use Rattle.alm_model.specs.Accept.{accept, answer, may_ask, refusal}
-use Rattle.alm_laws.specs.Plant.{Becomes, IsAcknowledgedByConsoleOrFlag, IsResetByConsoleOrFlag, ShelvingEndsOnlyByUnshelveOrClock, ClockEndsTheShelving, FreedIsAnnunciatedAnew, AnnunciatedOnlyThen, OthersStay, asker_of}
+use Rattle.alm_laws.specs.Plant.{Becomes, IsAcknowledgedByConsoleOrFlag, IsResetByConsoleOrFlag, ShelvingEndsOnlyByUnshelveOrClock, ClockEndsTheShelving, FreedIsAnnunciatedAnew, AnnunciatedOnlyThen, OthersStay, Names, asker_of}
 use Rattle.alm_laws.proofs.Moving.{Moves, IsNamed, IsEnded, is_clock, alarm-at, step-moves}
+
+names-it : (action : Action) (i : ℕ) → is_clock action ≡ false → alarm_of action ≡ i → Names action i
+names-it (Clock t) i e h = true≢false e
+names-it (Value k v) i e h = h
+names-it (Ack k) i e h = h
+names-it (Reset k) i e h = h
+names-it (Shelve k n) i e h = h
+names-it (Unshelve k) i e h = h
+names-it (Oos k on) i e h = h
+names-it (Design k on) i e h = h
+names-it (SetPriority k n) i e h = h
+names-it (SetSetpoint k v) i e h = h
 
 -- ---- what is accepted
 
@@ -206,7 +219,7 @@ module _ (q : Condensed) (r : Request) (i : ℕ) (s t : State) (b : Becomes q r 
 
   pub others-stay : OthersStay r i s t
   others-stay named due = elim moves [
-    | inl h ↦ absurd (named h.named)
+    | inl h ↦ absurd (named (names-it r.want i h.timeless h.named))
     | inr other ↦ elim other [
       | inl h ↦ absurd (due h.deadline h.shelved (h.moment, h.clock, clock-asked h.moment h.clock, h.reached))
       | inr h ↦ h.same

@@ -32,7 +32,7 @@ use Rattle.alm_laws.proofs.Plants.{accepted-parts, asked-by, both-none}
 
 -- ---- one alarm
 
-taken-by : (b : Bool) (r : Refusal) → is_none (unless b r) ≡ b
+pub taken-by : (b : Bool) (r : Refusal) → is_none (unless b r) ≡ b
 taken-by true r = refl
 taken-by false r = refl
 
@@ -47,7 +47,7 @@ went true false f = refl
 went false true f = refl
 went false false f = refl
 
-value-taken : (a : Attr) (before : Bool) (v : ℤ)
+pub value-taken : (a : Attr) (before : Bool) (v : ℤ)
     → is_some (detection_of a before v) ≡ not (agree (cond (is_beyond a.kind a.setpoint v) true (cond (is_back a.kind a.setpoint a.deadband v) false before)) before)
 value-taken a false v = ap (λ b. is_some (cond b (Some true) None)) (comes-is a.kind a.setpoint v) ∙ came (is_beyond a.kind a.setpoint v) (is_back a.kind a.setpoint a.deadband v) (back-isnt a.kind a.setpoint a.deadband v)
 value-taken a true v = ap (λ b. is_some (cond b (Some false) None)) (goes-is a.kind a.setpoint a.deadband v) ∙ went (is_beyond a.kind a.setpoint v) (is_back a.kind a.setpoint a.deadband v) (back-isnt a.kind a.setpoint a.deadband v)
@@ -62,7 +62,7 @@ both-taken : (b c : Bool) (r s : Refusal) → is_none (or_else (unless b r) (unl
 both-taken true c r s = taken-by c s
 both-taken false c r s = refl
 
-length-taken : (n most : ℕ) → not (n == 0 || nat_lt most n) ≡ (nat_le 1 n && nat_le n most)
+pub length-taken : (n most : ℕ) → not (n == 0 || nat_lt most n) ≡ (nat_le 1 n && nat_le n most)
 length-taken n most = grind (arith, nat_tests)
 
 none-is : (o : Option ℕ) → is_none o ≡ not (is_some o)
@@ -103,7 +103,7 @@ alarm-there action (Some a) (Some s) e = (a, s, refl, refl, e)
 alarm-there action (Some a) None e = absurd (none-some _ (sym e))
 alarm-there action None os e = absurd (none-some _ (sym e))
 
-fits-at : (q : Condensed) (i : ℕ) (a : Attr) (s : State) → KeepsRules q → slice_get q.panel.attrs i ≡ Some a → slice_get q.panel.rows i ≡ Some s → IsTrue (suits a.latching s.core)
+pub fits-at : (q : Condensed) (i : ℕ) (a : Attr) (s : State) → KeepsRules q → slice_get q.panel.attrs i ≡ Some a → slice_get q.panel.rows i ≡ Some s → IsTrue (suits a.latching s.core)
 fits-at q i a s h has row =
     let at = alarm-at q i s h row in
     subst (λ x. IsTrue (suits x.latching s.core)) (same_Some _ _ (sym at.has ∙ has)) at.keeps.suits

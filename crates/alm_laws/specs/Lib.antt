@@ -6,6 +6,8 @@ pub mod Left
 pub mod Listed
 pub mod Moved
 pub mod Plant
+pub mod Refused
 pub mod Shown
+pub mod Steps
 pub mod Table
 pub mod Taken

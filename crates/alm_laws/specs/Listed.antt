@@ -29,6 +29,17 @@ abbrev pub IsStale : Condensed → ℕ → State → Type 0
 IsStale q i s =
     (is_annunciated s.core ≡ true) × (last : ℕ) × (earlier : List ℕ) × (slice_get q.kept.moments i ≡ Some (last ∷ earlier)) × (last + 86400 ≤ q.panel.now)
 
+-- annunciations of the last minute
+abbrev pub in_last_minute : ℕ → List ℕ → ℕ
+in_last_minute now moments = length (filter (λ m. nat_lt now (m + 60)) moments)
+
+-- an alarm that is stale, and one that had three annunciations or more within the last minute
+abbrev pub IsStaleAlarm : Condensed → ℕ → Type 0
+IsStaleAlarm q i = (a : Attr) × (s : State) × (slice_get q.panel.attrs i ≡ Some a) × (slice_get q.panel.rows i ≡ Some s) × IsStale q i s
+
+abbrev pub IsChatteringAlarm : Condensed → ℕ → Type 0
+IsChatteringAlarm q i = (moments : List ℕ) × (slice_get q.kept.moments i ≡ Some moments) × (3 ≤ in_last_minute q.panel.now moments)
+
 -- an area is flooded: its window is above 10, or it was flooded and the window isn't below 5
 abbrev pub is_flooded_by : ℕ → Bool → Bool
 is_flooded_by window before = nat_lt 10 window || before && nat_le 5 window
@@ -36,10 +47,6 @@ is_flooded_by window before = nat_lt 10 window || before && nat_le 5 window
 -- an alarm that asks for the operator
 abbrev pub asks_for_operator : Attr → State → Bool
 asks_for_operator a s = is_annunciated s.core
-
--- annunciations of the last minute
-abbrev pub in_last_minute : ℕ → List ℕ → ℕ
-in_last_minute now moments = length (filter (λ m. nat_lt now (m + 60)) moments)
 
 -- of two alarms that ask for the operator, the one with the smaller stamp has the earlier last annunciation, or one of the same moment
 abbrev pub IsChronological : Condensed → Type 0

@@ -3,21 +3,15 @@ use Rattle.std.specs.Prelude.{◌≡◌, ◌⊎◌, ◌≤◌, ℕ, ◌+◌, tru
 use Rattle.alm_types.specs.declared.attr.Attr.{Attr}
 use Rattle.alm_types.specs.declared.alarm_id.AlarmId.{AlarmId}
 use Rattle.alm_types.specs.declared.action.Action.{Action}
-use Rattle.alm_types.specs.declared.action.Action.TheVariants.{Clock, Shelve, Unshelve}
+use Rattle.alm_types.specs.declared.action.Action.TheVariants.{Shelve, Unshelve}
 use Rattle.alm_types.specs.declared.request.Request.{Request}
-use Rattle.alm_types.specs.Actions.{alarm_of}
 use Rattle.alm_state.specs.Rows.{State, is_annunciated}
 use Rattle.alm_state.specs.declared.core_state.Core.TheVariants.{Normal}
 use Rattle.alm_state.specs.declared.outcome.Outcome.{Outcome}
 use Rattle.alm_model.specs.Plant.{Condensed}
 use Rattle.alm_laws.specs.Alarm.{row_left, resets, shelves}
 use Rattle.alm_laws.specs.Left.{IsLeft, design_left, service_left}
-use Rattle.alm_laws.specs.Plant.{ConsoleAsks, FlagIsSet, ClockReaches}
-
--- the action names the alarm; CLOCK names none
-abbrev pub Names : Action → ℕ → Type 0
-Names (Clock t) i = ⊥
-Names action i = alarm_of action ≡ i
+use Rattle.alm_laws.specs.Plant.{Names, ConsoleAsks, FlagIsSet, ClockReaches}
 
 -- the alarm that is named is left as the laws of one alarm say, with the next stamp at hand
 abbrev pub LeftByItsAction : Condensed → Request → ℕ → Attr → State → State → Type 0

@@ -84,9 +84,14 @@ abbrev pub AnnunciatedOnlyThen : State → State → Type 0
 AnnunciatedOnlyThen s t =
     is_annunciated t.core ≡ true → t.stamp ≢ s.stamp → (condition_comes s t || last_flag_falls s t && t.active) ≡ true
 
+-- the action names the alarm; CLOCK names none
+abbrev pub Names : Action → ℕ → Type 0
+Names (Clock t) i = ⊥
+Names action i = alarm_of action ≡ i
+
 -- an alarm that is neither named nor due stays as it is
 abbrev pub OthersStay : Request → ℕ → State → State → Type 0
-OthersStay r i s t = alarm_of r.want ≢ i → ((deadline : ℕ) → s.shelved_until ≡ Some deadline → ClockReaches r deadline → ⊥) → t ≡ s
+OthersStay r i s t = (Names r.want i → ⊥) → ((deadline : ℕ) → s.shelved_until ≡ Some deadline → ClockReaches r deadline → ⊥) → t ≡ s
 
 -- the feed asks for what passes a test, and names the alarm
 abbrev pub FeedAsks : (Action → Bool) → Request → ℕ → Type 0

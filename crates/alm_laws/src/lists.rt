@@ -1,6 +1,6 @@
 //! Laws of the lists.
 
-ghost use Rattle.std.specs.Prelude.{ℕ, List, Bool, sum, map, ◌+◌, ◌≡◌, ◌↔◌, ◌≤◌, ◌<◌, true, false, Some, Ok, slice_get, length, Contains};
+ghost use Rattle.std.specs.Prelude.{ℕ, List, Bool, sum, map, ◌+◌, ◌≡◌, ◌↔◌, ◌≤◌, ◌<◌, true, false, Some, Ok, slice_get, length, AllPairs, Contains};
 ghost use Rattle.alm_types.specs.declared.attr.Attr.{Attr};
 ghost use Rattle.alm_types.specs.declared.action.Action.{Action};
 ghost use Rattle.alm_types.specs.declared.query.Query.TheVariants as query;
@@ -21,7 +21,7 @@ ghost use Rattle.alm_model.specs.declared.list.List.TheVariants.{Priority, Area,
 ghost use Rattle.alm_laws.specs.Plant.{IsAlarmOf};
 ghost use Rattle.alm_laws.specs.Counts.{annunciated_within, last_three};
 ghost use Rattle.alm_laws.specs.Floods.{flag_of, windows_after, HoldsSinceAbove10};
-ghost use Rattle.alm_laws.specs.Listed.{HasJustThose, IsFound, IsStale, is_flooded_by, asks_for_operator, in_last_minute, IsChronological};
+ghost use Rattle.alm_laws.specs.Listed.{HasJustThose, IsFound, IsStale, IsStaleAlarm, IsChatteringAlarm, is_flooded_by, asks_for_operator, in_last_minute, IsChronological};
 
 /// No active alarm is hidden: without a flag it is in the list of its priority and in that of its area. A suppressed one is in none.
 pub fn an_active_alarm_is_listed()
@@ -47,6 +47,16 @@ pub fn the_laws_leave_one_list()
 pub fn a_stale_alarm_is_listed()
     ensures { (q : Condensed) (i : ℕ) (a : Attr) (s : State) → IsAlarmOf q i a s →
         Contains (list_of Stale q) i ↔ IsStale q i s }
+{}
+
+/// STALE and CHATTER are by number: each is the only list that rises and has just its alarms.
+pub fn the_laws_leave_one_list_by_number()
+    ensures stale { (q : Condensed) (out : List ℕ) → KeepsRules q →
+        (AllPairs (λ i j. i < j) out × ((i : ℕ) → Contains out i ↔ IsStaleAlarm q i)) ↔
+        (out ≡ list_of Stale q) }
+    ensures chatter { (q : Condensed) (out : List ℕ) → KeepsRules q →
+        (AllPairs (λ i j. i < j) out × ((i : ℕ) → Contains out i ↔ IsChatteringAlarm q i)) ↔
+        (out ≡ list_of Chatter q) }
 {}
 
 /// After each action an area is flooded if its window is above 10, or if it was flooded and the window isn't below 5.

@@ -1,13 +1,14 @@
 //! Laws of the alarms of a plant.
 
-ghost use Rattle.std.specs.Prelude.{ℕ, ◌+◌, ◌<◌, ◌≤◌, List, Bool, ◌≡◌, true, false, Some, slice_get, Contains};
+ghost use Rattle.std.specs.Prelude.{ℕ, ◌+◌, ◌<◌, ◌≤◌, List, Bool, ◌≡◌, ◌↔◌, true, false, Some, Ok, slice_get, Contains};
 ghost use Rattle.alm_types.specs.declared.attr.Attr.{Attr};
 ghost use Rattle.alm_types.specs.declared.action.Action.{Action};
 ghost use Rattle.alm_state.specs.Rows.{is_suppressed};
 ghost use Rattle.alm_state.specs.declared.core_state.Core.TheVariants.{Normal};
 ghost use Rattle.alm_model.specs.Lists.{list_of};
 ghost use Rattle.alm_model.specs.Rules.{KeepsRules, AreAdmitted};
-ghost use Rattle.alm_model.specs.Step.{run};
+ghost use Rattle.alm_model.specs.Accept.{accept};
+ghost use Rattle.alm_model.specs.Step.{step, run};
 ghost use Rattle.alm_laws.specs.Moved.{LeftByItsAction, LeftByTheClock, EndsOnlyByReset, ShelvedAsAsked, FlaggedAsAsked, IsOfNewPlant};
 ghost use Rattle.alm_types.specs.Tables.{Listing};
 ghost use Rattle.alm_model.specs.New.{new_plant};
@@ -15,6 +16,7 @@ ghost use Rattle.alm_model.specs.declared.list.List.TheVariants.{Priority};
 ghost use Rattle.alm_types.specs.declared.request.Request.{Request};
 ghost use Rattle.alm_state.specs.Rows.{State};
 ghost use Rattle.alm_model.specs.Plant.{Condensed};
+ghost use Rattle.alm_laws.specs.Steps.{IsLeftBehind};
 ghost use Rattle.alm_laws.specs.Plant.{Becomes, IsAlarmOf, IsAcknowledgedByConsoleOrFlag, IsResetByConsoleOrFlag, ShelvingEndsOnlyByUnshelveOrClock, ClockEndsTheShelving, FreedIsAnnunciatedAnew, AnnunciatedOnlyThen, OthersStay};
 
 /// In a new plant each alarm is normal and has no flag, no area is flooded, and the moment and the count are 0.
@@ -42,6 +44,12 @@ pub fn each_alarm_is_left_by_the_laws()
         Becomes q r i s t → slice_get q.panel.attrs i ≡ Some a → LeftByTheClock q r a s t }
     ensures others { (q : Condensed) (r : Request) (i : ℕ) (s t : State) → Becomes q r i s t →
         OthersStay r i s t }
+{}
+
+/// What an accepted action leaves is the only plant that meets the sentences on time, alarms, stamps, measures and floods.
+pub fn the_laws_leave_one_plant()
+    ensures { (q p : Condensed) (r : Request) → KeepsRules q → accept q.panel r ≡ Ok r.want →
+        IsLeftBehind q r p ↔ (p ≡ step q r.want) }
 {}
 
 /// What is latched stays until it is reset.

@@ -1,4 +1,4 @@
-//! Laws that leave one model: of the core states, of the row that an action leaves, of what is taken.
+//! Laws that leave one model: of the core states, of the row that an action leaves, of what is taken and why the rest is refused.
 
 ghost use Rattle.std.specs.Prelude.{ℕ, ◌≡◌, ◌↔◌, Bool, true, is_some, is_none, IsTrue, Ok};
 ghost use Rattle.alm_types.specs.declared.attr.Attr.{Attr};
@@ -15,6 +15,7 @@ ghost use Rattle.alm_model.specs.Plant.{Condensed};
 ghost use Rattle.alm_model.specs.Accept.{accept};
 ghost use Rattle.alm_model.specs.Rules.{KeepsRules};
 ghost use Rattle.alm_laws.specs.Alarm.{TakesAction};
+ghost use Rattle.alm_laws.specs.Refused.{judged_by, reasons};
 ghost use Rattle.alm_laws.specs.Left.{IsLeft};
 ghost use Rattle.alm_laws.specs.Table.{can_happen, is_that, meets_the_laws};
 ghost use Rattle.alm_laws.specs.Taken.{is_taken, IsAcceptable};
@@ -41,4 +42,10 @@ pub fn taken_just_then()
         is_none (row_refusal action a s) ≡ is_taken action a s }
     ensures request { (q : Condensed) (r : Request) → KeepsRules q →
         (accept q.panel r ≡ Ok r.want) ↔ IsAcceptable q.panel r }
+{}
+
+/// A request is refused for the first of the reasons against it, and accepted if there is none.
+pub fn a_refusal_names_the_first_reason()
+    ensures { (q : Condensed) (r : Request) → KeepsRules q →
+        accept q.panel r ≡ judged_by r.want (reasons q.panel r) }
 {}
