@@ -7,8 +7,8 @@ use Rattle.alm_wake.specs.declared.waking.Waking.{Waking}
 use Rattle.alm_wake.specs.Gatherings.{AwaitsNone, AwaitsSome}
 use Rattle.alm_wake.specs.Wakings.{with_reply}
 
--- the open batch is sealed now if it is full, has waited, or awaits no slot; it waits for slots that the last one answered, for
--- half of the time that the last one took; and a full one waits for nothing
+-- The open batch is sealed now if it is full, has waited, or awaits no slot. It waits for slots that the last one answered, for
+-- half of the time that the last one took. A full one waits for nothing.
 abbrev pub DecidesOn : Bool → Gathering → ℕ → Sealing → Type 0
 DecidesOn full g took Now = (full ≡ true) ⊎ (g.fresh ≡ true → AwaitsNone g)
 DecidesOn full g took (After pause) =

@@ -26,8 +26,9 @@
 //!   `Waking::reply`, `end`, `FlusherPace::release`, `answer`)
 //! - by what the open batch is sealed or waits, for which slots, and which of them wakes the thread (by
 //!   `SequencerPace::sealing`, `bits_of`, `wakes`)
-//! - an idle thread dozes for a quarter of the last commit at most, through 16 turns at most; it yields 32 times to a batch that is about
-//!   to come; a checkpoint continues after 10 turns without work (by `SequencerPace::doze`, `FlusherPace::stays_awake`, `has_rest`)
+//! - an idle thread dozes for a quarter of the last commit at most, and through no more than 16 turns (by `SequencerPace::doze`)
+//! - the flusher's thread yields 32 times to a batch that is about to come, and a checkpoint continues after 10 turns without work (by
+//!   `FlusherPace::stays_awake`, `has_rest`)
 //! - the bell of a slot is the one that was given for it (by `Bells::new`, `of`)
 #![tactic(auto)]
 
