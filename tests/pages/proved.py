@@ -49,7 +49,7 @@ GROUPS = {
 # How each claim begins that stands on the page in place of its crate's first one; none, if what a crate is for is said
 # by the claims of those above it, or by another page.
 CHOSEN = {
-    "alm_laws": ["core states, what an action", "no active alarm is hidden"],
+    "alm_laws": ["of core states, alarms and plants", "no active alarm is hidden"],
     "alm_desk_laws": ["OK answers exactly"],
     "alm_links": [],
     "alm_wheel": [],

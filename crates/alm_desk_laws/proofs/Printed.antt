@@ -1,11 +1,12 @@
 -- What a desk prints of its plant.
-use Rattle.std.proofs.Common.{◌≡◌, ℕ, ◌+◌, ◌<◌, ◌≤◌, List, Some, Ok, length, take, refl, sym, ap, ◌∙◌, subst}
-use Rattle.std.specs.Prelude.{slice_get}
+use Rattle.std.proofs.Common.{◌≡◌, ℕ, ◌+◌, ◌<◌, ◌≤◌, List, ◌∷◌, Some, Ok, length, take, refl, sym, ap, ◌∙◌, subst}
+use Rattle.std.specs.Prelude.{◌↔◌, AllPairs, Contains, slice_get}
 use Rattle.alm_types.specs.declared.action.Action.{Action}
 use Rattle.alm_types.specs.declared.alarm_id.AlarmId.{AlarmId}
 use Rattle.alm_types.specs.declared.attr.Attr.{Attr}
 use Rattle.alm_types.specs.declared.query.Query.{Query}
 use Rattle.alm_types.specs.declared.query.Query.TheVariants as query
+use Rattle.alm_types.specs.declared.refusal.Refusal.{Refusal}
 use Rattle.alm_types.specs.declared.shown.Shown.{Shown}
 use Rattle.alm_types.specs.Reports.{Report, alarm, alarms, row}
 use Rattle.alm_types.specs.Tables.{Listing}
@@ -15,18 +16,22 @@ use Rattle.alm_model.specs.Look.{look}
 use Rattle.alm_model.specs.New.{new_plant}
 use Rattle.alm_model.specs.Rising.{RisesByStamp}
 use Rattle.alm_model.specs.Rules.{KeepsRules}
-use Rattle.alm_model.specs.declared.list.List.TheVariants.{Priority, Area}
+use Rattle.alm_model.specs.declared.list.List.TheVariants.{Priority, Area, Wheel}
 use Rattle.alm_model.proofs.Kept.{new-keeps, run-keeps}
-use Rattle.alm_lines.specs.Reply.{ok_text, told_text}
+use Rattle.alm_lines.specs.Reply.{no_text, ok_text, told_text}
 use Rattle.alm_lines.specs.declared.ask.Ask.TheVariants.{Act, Look}
 use Rattle.alm_desk.specs.Answers.{DeskState, AnsweredLine, request, reply_on, report_reply, judged_reply}
 use Rattle.alm_desk.specs.Backends.{judged_by}
 use Rattle.alm_desk.specs.declared.hindrance.Hindrance.TheVariants.{Nothing}
-use Rattle.alm_laws.specs.Listed.{HasJustThose}
+use Rattle.alm_laws.specs.Listed.{HasJustThose, IsStaleAlarm, IsChatteringAlarm}
+use Rattle.alm_laws.specs.Refused.{reasons}
+use Rattle.alm_laws.specs.Refused.{judged_by as by_reasons}
 use Rattle.alm_laws.specs.Shown.{IsShownAsItIs, flags_shown}
 use Rattle.alm_laws.specs.Taken.{IsAcceptable}
 use Rattle.alm_laws.proofs.Shown.{one-shown, state-told}
-use Rattle.alm_laws.proofs.Listing.{one-list, priority-told, area-told}
+use Rattle.alm_laws.proofs.Listing.{one-list, priority-told, area-told, slot-told}
+use Rattle.alm_laws.proofs.Numbered.{one-stale, one-chattering}
+use Rattle.alm_laws.proofs.Refused.{first-reason}
 use Rattle.alm_laws.proofs.Queries.{row-reported}
 use Rattle.alm_laws.proofs.Taken.{acceptable-so}
 use Rattle.alm_desk_laws.specs.Done.{HasAnswered, done, reply_to_action, reply_to_query}
@@ -72,3 +77,21 @@ module _ (t : Listing) (s : DeskState) (lines : List AnsweredLine) (q : Condense
       → reply_to_query s lines slot id (query.Area n) ≡ told_text id (length (done s lines)) (query.Area n) (alarms out)
   area-printed slot id n out there rises those =
       told slot id (query.Area n) _ (subst (λ xs. look q (query.Area n) ≡ Ok (alarms xs)) (sym ((one-list q (Area n) out rules refl).0 (rises, those))) (area-told q n there))
+
+  pub slot-printed : (slot id n : ℕ) (out : List ℕ) → n < 256 → RisesByStamp q.panel out → HasJustThose q (Wheel n) out
+      → reply_to_query s lines slot id (query.Wheel n) ≡ told_text id (length (done s lines)) (query.Wheel n) (alarms out)
+  slot-printed slot id n out low rises those =
+      told slot id (query.Wheel n) _ (subst (λ xs. look q (query.Wheel n) ≡ Ok (alarms xs)) (sym ((one-list q (Wheel n) out rules refl).0 (rises, those))) (slot-told q n low))
+
+  pub stale-printed : (slot id : ℕ) (out : List ℕ) → AllPairs (λ i j. i < j) out → ((i : ℕ) → Contains out i ↔ IsStaleAlarm q i)
+      → reply_to_query s lines slot id query.Stale ≡ told_text id (length (done s lines)) query.Stale (alarms out)
+  stale-printed slot id out rises those = told slot id query.Stale _ (subst (λ xs. look q query.Stale ≡ Ok (alarms xs)) (sym ((one-stale q out rules).0 (rises, those))) refl)
+
+  pub chatter-printed : (slot id : ℕ) (out : List ℕ) → AllPairs (λ i j. i < j) out → ((i : ℕ) → Contains out i ↔ IsChatteringAlarm q i)
+      → reply_to_query s lines slot id query.Chatter ≡ told_text id (length (done s lines)) query.Chatter (alarms out)
+  chatter-printed slot id out rises those = told slot id query.Chatter _ (subst (λ xs. look q query.Chatter ≡ Ok (alarms xs)) (sym ((one-chattering q out rules).0 (rises, those))) refl)
+
+  pub no-printed : (slot id : ℕ) (want : Action) (first : Refusal) (others : List Refusal) → reasons q.panel (request slot want) ≡ first ∷ others → reply_to_action s lines slot id want ≡ no_text id first
+  no-printed slot id want first others e =
+      ap (λ o. reply_on o (record { slot = slot; line = record { id = id; ask = Act want } }) Nothing) h.stands
+      ∙ ap (λ o. judged_reply id (judged_by q.panel.count o)) (first-reason q (request slot want) rules ∙ ap (by_reasons want) e)

@@ -9,8 +9,10 @@
 //! Proved:
 //! - the plant is the new one after the actions that its lines have done, each admitted at its turn (by
 //!   `the_plant_is_what_its_lines_have_done`)
-//! - OK answers exactly what may be done; STATE and ROW print the alarm as it is, LIST just the alarms that belong to it, in order (by
-//!   `ok_is_printed_where_it_may_be_done`, `an_alarm_is_printed_as_it_is`, `a_list_is_printed_whole`)
+//! - OK answers exactly what may be done, and NO has the first reason against the rest (by `ok_is_printed_where_it_may_be_done`,
+//!   `no_is_printed_for_the_first_reason`)
+//! - STATE and ROW print the alarm as it is; LIST, STALE and CHATTER just the alarms that belong to them, in order (by
+//!   `an_alarm_is_printed_as_it_is`, `a_list_is_printed_whole`)
 #![tactic(auto)]
 
 pub mod printing;

@@ -1,10 +1,11 @@
 //! Laws of a desk that began with a new plant.
 
-ghost use Rattle.std.specs.Prelude.{◌≡◌, ◌+◌, ◌<◌, ◌≤◌, ℕ, List, Some, length, slice_get, take};
+ghost use Rattle.std.specs.Prelude.{◌≡◌, ◌↔◌, ◌+◌, ◌<◌, ◌≤◌, ℕ, List, ◌∷◌, Some, length, slice_get, take, AllPairs, Contains};
 ghost use Rattle.alm_types.specs.declared.action.Action.{Action};
 ghost use Rattle.alm_types.specs.declared.alarm_id.AlarmId.{AlarmId};
 ghost use Rattle.alm_types.specs.declared.attr.Attr.{Attr};
 ghost use Rattle.alm_types.specs.declared.query.Query.TheVariants as query;
+ghost use Rattle.alm_types.specs.declared.refusal.Refusal.{Refusal};
 ghost use Rattle.alm_types.specs.declared.shown.Shown.{Shown};
 ghost use Rattle.alm_types.specs.Reports.{alarm, alarms, row};
 ghost use Rattle.alm_types.specs.Tables.{Listing};
@@ -14,10 +15,11 @@ ghost use Rattle.alm_model.specs.New.{new_plant};
 ghost use Rattle.alm_model.specs.Rising.{RisesByStamp};
 ghost use Rattle.alm_model.specs.Rules.{AreAdmitted};
 ghost use Rattle.alm_model.specs.Step.{run};
-ghost use Rattle.alm_model.specs.declared.list.List.TheVariants.{Priority, Area};
-ghost use Rattle.alm_lines.specs.Reply.{ok_text, told_text};
+ghost use Rattle.alm_model.specs.declared.list.List.TheVariants.{Priority, Area, Wheel};
+ghost use Rattle.alm_lines.specs.Reply.{no_text, ok_text, told_text};
 ghost use Rattle.alm_desk.specs.Answers.{DeskState, AnsweredLine, request};
-ghost use Rattle.alm_laws.specs.Listed.{HasJustThose};
+ghost use Rattle.alm_laws.specs.Listed.{HasJustThose, IsStaleAlarm, IsChatteringAlarm};
+ghost use Rattle.alm_laws.specs.Refused.{reasons};
 ghost use Rattle.alm_laws.specs.Shown.{IsShownAsItIs, flags_shown};
 ghost use Rattle.alm_laws.specs.Taken.{IsAcceptable};
 ghost use Rattle.alm_desk_laws.specs.Done.{HasAnswered, done, reply_to_action, reply_to_query};
@@ -38,6 +40,14 @@ pub fn ok_is_printed_where_it_may_be_done()
         HasAnswered t s lines q → (slot id : ℕ) (want : Action) →
         IsAcceptable q.panel (request slot want) →
         reply_to_action s lines slot id want ≡ ok_text id (length (done s lines) + 1) }
+{}
+
+/// A request with a reason against it is answered with the number of the first, and does nothing.
+pub fn no_is_printed_for_the_first_reason()
+    ensures { (t : Listing) (s : DeskState) (lines : List AnsweredLine) (q : Condensed) →
+        HasAnswered t s lines q → (slot id : ℕ) (want : Action) (first : Refusal)
+        (others : List Refusal) → reasons q.panel (request slot want) ≡ first ∷ others →
+        reply_to_action s lines slot id want ≡ no_text id first }
 {}
 
 /// STATE prints the only thing that answers seven questions on the alarm as it is, ROW that with stamp, limits and moments.
@@ -65,7 +75,7 @@ pub fn an_alarm_is_printed_as_it_is()
         })) }
 {}
 
-/// LIST prints the only list that has just the alarms that belong to it, the earliest stamp first.
+/// LIST prints the only list that has just the alarms that belong to it, the earliest stamp first; STALE and CHATTER theirs by number.
 pub fn a_list_is_printed_whole()
     ensures by_priority { (t : Listing) (s : DeskState) (lines : List AnsweredLine) (q : Condensed) →
         HasAnswered t s lines q → (slot id n : ℕ) (out : List ℕ) → 1 ≤ n → n ≤ 4 →
@@ -77,4 +87,19 @@ pub fn a_list_is_printed_whole()
         RisesByStamp q.panel out → HasJustThose q (Area n) out →
         reply_to_query s lines slot id (query.Area n) ≡
         told_text id (length (done s lines)) (query.Area n) (alarms out) }
+    ensures by_deadline { (t : Listing) (s : DeskState) (lines : List AnsweredLine) (q : Condensed) →
+        HasAnswered t s lines q → (slot id n : ℕ) (out : List ℕ) → n < 256 →
+        RisesByStamp q.panel out → HasJustThose q (Wheel n) out →
+        reply_to_query s lines slot id (query.Wheel n) ≡
+        told_text id (length (done s lines)) (query.Wheel n) (alarms out) }
+    ensures stale { (t : Listing) (s : DeskState) (lines : List AnsweredLine) (q : Condensed) →
+        HasAnswered t s lines q → (slot id : ℕ) (out : List ℕ) → AllPairs (λ i j. i < j) out →
+        ((i : ℕ) → Contains out i ↔ IsStaleAlarm q i) →
+        reply_to_query s lines slot id query.Stale ≡
+        told_text id (length (done s lines)) query.Stale (alarms out) }
+    ensures chatter { (t : Listing) (s : DeskState) (lines : List AnsweredLine) (q : Condensed) →
+        HasAnswered t s lines q → (slot id : ℕ) (out : List ℕ) → AllPairs (λ i j. i < j) out →
+        ((i : ℕ) → Contains out i ↔ IsChatteringAlarm q i) →
+        reply_to_query s lines slot id query.Chatter ≡
+        told_text id (length (done s lines)) query.Chatter (alarms out) }
 {}

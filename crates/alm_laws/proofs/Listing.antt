@@ -105,3 +105,9 @@ priority-told q n low high = rw (le-leb 1 n low, le-leb n 4 high) refl
 
 pub area-told : (q : Condensed) (n : ℕ) → n < length q.floods → look q (query.Area n) ≡ Ok (listed (list_of (Area n) q))
 area-told q n low = rw (lt-ltb n (length q.floods) low) refl
+
+pub shelved-found : (q : Condensed) (i d : ℕ) (a : Attr) (s : State) → IsAlarmOf q i a s → s.shelved_until ≡ Some d → Contains (list_of (Wheel (d % 256)) q) i
+shelved-found q i d a s h e = (just-those q (Wheel (d % 256)) refl i).1 (a, s, h.attr, h.row, (d, e, refl))
+
+pub slot-told : (q : Condensed) (n : ℕ) → n < 256 → look q (query.Wheel n) ≡ Ok (listed (list_of (Wheel n) q))
+slot-told q n low = rw (lt-ltb n 256 low) refl

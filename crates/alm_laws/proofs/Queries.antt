@@ -1,10 +1,11 @@
 -- What the queries report.
-use Rattle.std.proofs.Common.{◌≡◌, ℕ, Bool, List, Option, Some, None, Ok, Err, sum, take, refl, ap, ◌∙◌}
-use Rattle.std.specs.Prelude.{slice_get}
+use Rattle.std.proofs.Common.{◌≡◌, ℕ, ◌<◌, ◌≤◌, Bool, false, ◌&&◌, List, length, Option, Some, None, Ok, Err, sum, take, refl, ap, ◌∙◌, arith, inl, inr, ◌⊎◌}
+use Rattle.std.specs.Prelude.{slice_get, nat_le, nat_lt}
+use Rattle.std.proofs.lemmas.Bool.Decides.{nat_tests}
 use Rattle.alm_types.specs.declared.alarm_id.AlarmId.{AlarmId}
 use Rattle.alm_types.specs.declared.attr.Attr.{Attr}
 use Rattle.alm_types.specs.declared.query.Query.TheVariants as query
-use Rattle.alm_types.specs.declared.refusal.Refusal.TheVariants.{NoSuchAlarm}
+use Rattle.alm_types.specs.declared.refusal.Refusal.TheVariants.{NoSuchAlarm, NoSuchList}
 use Rattle.alm_types.specs.Reports.{flood, attributes, row}
 use Rattle.alm_state.specs.Rows.{State}
 use Rattle.alm_state.specs.Showing.{shown_of}
@@ -33,3 +34,24 @@ row-refused q i e = ap (λ o. row_report o (slice_get q.panel.attrs i.0) (moment
 
 pub state-refused : (q : Condensed) (i : AlarmId) → slice_get q.panel.rows i.0 ≡ None → look q (query.State i) ≡ Err NoSuchAlarm
 state-refused q i e = ap state_report e
+
+pub attributes-refused : (q : Condensed) (i : AlarmId) → slice_get q.panel.attrs i.0 ≡ None → look q (query.Attributes i) ≡ Err NoSuchAlarm
+attributes-refused q i e = ap attributes_report e
+
+no-flag : (o : Option (List ℕ)) → flood_report o None ≡ Err NoSuchList
+no-flag None = refl
+no-flag (Some ages) = refl
+
+pub flood-refused : (q : Condensed) (n : ℕ) → slice_get q.floods n ≡ None → look q (query.Flood n) ≡ Err NoSuchList
+flood-refused q n e = ap (flood_report (slice_get q.kept.ages n)) e ∙ no-flag (slice_get q.kept.ages n)
+
+no-priority : (n : ℕ) → (n ≡ 0) ⊎ (4 < n) → (nat_le 1 n && nat_le n 4) ≡ false
+no-priority n (inl e) = grind (arith, nat_tests)
+no-priority n (inr l) = grind (arith, nat_tests)
+
+none-below : (n limit : ℕ) → limit ≤ n → nat_lt n limit ≡ false
+none-below n limit l = grind (arith, nat_tests)
+
+pub list-refused : (q : Condensed) (n : ℕ)
+    → ((n ≡ 0) ⊎ (4 < n) → look q (query.Priority n) ≡ Err NoSuchList) × (length q.floods ≤ n → look q (query.Area n) ≡ Err NoSuchList) × (256 ≤ n → look q (query.Wheel n) ≡ Err NoSuchList)
+list-refused q n = (λ h. rw (no-priority n h) refl, λ l. rw (none-below n (length q.floods) l) refl, λ l. rw (none-below n 256 l) refl)

@@ -1,13 +1,13 @@
 -- A refusal names the first reason.
 use Rattle.std.proofs.Common.{◌≡◌, ℕ, List, [], ◌∷◌, ◌++◌, Bool, true, false, not, ◌&&◌, ◌||◌, Option, Some, None, is_some, is_none, IsTrue, refl, sym, ap, ◌∙◌, arith}
-use Rattle.std.specs.Prelude.{slice_get, nat_lt, nat_le, ◌==◌}
+use Rattle.std.specs.Prelude.{Contains, slice_get, nat_lt, nat_le, ◌==◌}
 use Rattle.std.specs.Ordering.{int_eq}
 use Rattle.std.proofs.lemmas.Bool.Decides.{nat_tests}
 use Rattle.alm_types.specs.declared.attr.Attr.{Attr}
 use Rattle.alm_types.specs.declared.action.Action.{Action}
 use Rattle.alm_types.specs.declared.action.Action.TheVariants.{Clock, Value, Ack, Reset, Shelve, Unshelve, Oos, Design, SetPriority, SetSetpoint}
 use Rattle.alm_types.specs.declared.refusal.Refusal.{Refusal}
-use Rattle.alm_types.specs.declared.refusal.Refusal.TheVariants.{NotUnacknowledged, NotResettable, AlreadyShelved, NotShelved, ShelveLength, AlreadySet, NotSet, NoChange, ClockBack, WrongRole, Exhausted, PriorityRange, SameValue}
+use Rattle.alm_types.specs.declared.refusal.Refusal.TheVariants.{NoSuchAlarm, NotUnacknowledged, NotResettable, AlreadyShelved, NotShelved, ShelveLength, AlreadySet, NotSet, NoChange, ClockBack, WrongRole, Busy, BadLine, LineTooLong, Stopped, OutOfMemory, NoSuchList, Exhausted, PriorityRange, SameValue}
 use Rattle.alm_types.specs.declared.request.Request.{Request}
 use Rattle.alm_types.specs.declared.role.Role.{Role}
 use Rattle.alm_types.specs.declared.role.Role.TheVariants as role
@@ -26,7 +26,7 @@ use Rattle.alm_model.specs.Rules.{KeepsRules}
 use Rattle.alm_laws.specs.Alarm.{is_unacknowledged, is_latched}
 use Rattle.alm_laws.specs.Left.{condition_left}
 use Rattle.alm_laws.specs.Plant.{asker_of}
-use Rattle.alm_laws.specs.Refused.{where_so, alarm_reasons, reasons_at, own_reasons, same_role, reasons, judged_by}
+use Rattle.alm_laws.specs.Refused.{where_so, alarm_reasons, reasons_at, own_reasons, same_role, reasons, judged_by, all_refusals}
 use Rattle.alm_laws.specs.Table.{agree}
 use Rattle.alm_laws.proofs.AlarmLaws.{acknowledge-taken, resets-taken}
 use Rattle.alm_laws.proofs.Taken.{taken-by, value-taken, length-taken, fits-at}
@@ -154,3 +154,27 @@ first-reason q r h =
     sym (judged-so r.want (reasons q.panel r) ∙ ap (answer r.want)
     (joined ∙ ap (λ o. or_else o (or_else (first_of_all b) (first_of_all c))) role_so ∙ ap (λ o. or_else (unless (may_ask (role_of r.slot) r.want) WrongRole) (or_else o (first_of_all c))) (own-so q r.want h)
     ∙ ap (λ o. or_else (unless (may_ask (role_of r.slot) r.want) WrongRole) (or_else (own_refusal q.panel r.want) o)) number_so))
+
+-- ---- the numbers
+
+pub each-numbered : (refusal : Refusal) → Contains all_refusals refusal
+each-numbered NoSuchAlarm = (0, omega arith, refl)
+each-numbered NotUnacknowledged = (1, omega arith, refl)
+each-numbered NotResettable = (2, omega arith, refl)
+each-numbered AlreadyShelved = (3, omega arith, refl)
+each-numbered NotShelved = (4, omega arith, refl)
+each-numbered ShelveLength = (5, omega arith, refl)
+each-numbered AlreadySet = (6, omega arith, refl)
+each-numbered NotSet = (7, omega arith, refl)
+each-numbered NoChange = (8, omega arith, refl)
+each-numbered ClockBack = (9, omega arith, refl)
+each-numbered WrongRole = (10, omega arith, refl)
+each-numbered Busy = (11, omega arith, refl)
+each-numbered BadLine = (12, omega arith, refl)
+each-numbered LineTooLong = (13, omega arith, refl)
+each-numbered Stopped = (14, omega arith, refl)
+each-numbered OutOfMemory = (15, omega arith, refl)
+each-numbered NoSuchList = (16, omega arith, refl)
+each-numbered Exhausted = (17, omega arith, refl)
+each-numbered PriorityRange = (18, omega arith, refl)
+each-numbered SameValue = (19, omega arith, refl)

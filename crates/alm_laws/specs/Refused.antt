@@ -5,7 +5,7 @@ use Rattle.alm_types.specs.declared.attr.Attr.{Attr}
 use Rattle.alm_types.specs.declared.action.Action.{Action}
 use Rattle.alm_types.specs.declared.action.Action.TheVariants.{Clock, Value, Ack, Reset, Shelve, Unshelve, Oos, Design, SetPriority, SetSetpoint}
 use Rattle.alm_types.specs.declared.refusal.Refusal.{Refusal}
-use Rattle.alm_types.specs.declared.refusal.Refusal.TheVariants.{NoSuchAlarm, NotUnacknowledged, NotResettable, AlreadyShelved, NotShelved, ShelveLength, AlreadySet, NotSet, NoChange, ClockBack, WrongRole, Exhausted, PriorityRange, SameValue}
+use Rattle.alm_types.specs.declared.refusal.Refusal.TheVariants.{NoSuchAlarm, NotUnacknowledged, NotResettable, AlreadyShelved, NotShelved, ShelveLength, AlreadySet, NotSet, NoChange, ClockBack, WrongRole, Busy, BadLine, LineTooLong, Stopped, OutOfMemory, NoSuchList, Exhausted, PriorityRange, SameValue}
 use Rattle.alm_types.specs.declared.request.Request.{Request}
 use Rattle.alm_types.specs.declared.role.Role.{Role}
 use Rattle.alm_types.specs.declared.role.Role.TheVariants as role
@@ -61,3 +61,9 @@ reasons p r =
 abbrev pub judged_by : Action → List Refusal → Result Action Refusal
 judged_by action [] = Ok action
 judged_by action (first ∷ others) = Err first
+
+-- the refusals in the order of their numbers, from 1 on
+abbrev pub all_refusals : List Refusal
+all_refusals =
+    NoSuchAlarm ∷ NotUnacknowledged ∷ NotResettable ∷ AlreadyShelved ∷ NotShelved ∷ ShelveLength ∷ AlreadySet ∷ NotSet ∷ NoChange ∷ ClockBack
+    ∷ WrongRole ∷ Busy ∷ BadLine ∷ LineTooLong ∷ Stopped ∷ OutOfMemory ∷ NoSuchList ∷ Exhausted ∷ PriorityRange ∷ SameValue ∷ []

@@ -11,10 +11,10 @@
 //! | [`table::the_laws_leave_one_row`] | what an action makes of an alarm is the only outcome whose fields are as the laws say |
 //! | [`plant::the_laws_leave_one_plant`] | what an accepted action leaves is the only plant that meets the sentences on time, alarms, stamps, measures, floods and attributes |
 //! | [`table::taken_just_then`] | a request is accepted exactly if its slot may ask, the alarm takes it, and action numbers are left |
-//! | [`table::a_refusal_names_the_first_reason`] | a request is refused for the first of the reasons against it, and accepted if there is none |
+//! | [`table::a_refusal_names_the_first_reason`] | a request is refused for the first of the reasons against it, and accepted if there is none; each has its number |
 //! | [`plant::each_alarm_is_left_by_the_laws`] | the alarm that is named, those whose shelving ends, and all others, which stay |
 //! | [`showing::an_alarm_is_shown_as_it_is`] | what is shown of an alarm is the only thing that answers seven questions as it does |
-//! | [`lists::the_laws_leave_one_list`] and those next to it | a list has just its alarms, in order of time, or of number; no active alarm is hidden; the lists add up; stale and chattering alarms, floods |
+//! | [`lists::the_laws_leave_one_list`] and those next to it | a list has just its alarms, in order; no active or shelved alarm is hidden; the lists add up; stale and chattering alarms, floods |
 //! | [`plant::nobody_acknowledges_for_the_operator`] | an alarm leaves the unacknowledged states by a console's ACK, or by a flag that is set |
 //! | [`plant::latched_stays_until_reset`] | a latched alarm becomes normal by a console's RESET, or by a flag that is set |
 //! | [`plant::a_latching_alarm_ends_only_by_reset`] | a latching alarm that asks for the operator ends so too, also after ACK and return |
@@ -32,8 +32,8 @@
 //! Not covered: that a CLOCK comes, or that anything reaches an operator. A console is a slot, and no person.
 //!
 //! Proved:
-//! - core states, what an action makes of an alarm and of a plant, what is accepted, refused and shown, the lists: each definition is the
-//!   only one that meets its laws (by `the_laws_leave_one_plant`, `the_laws_leave_one_table`, `the_laws_leave_one_row`, `taken_just_then`,
+//! - of core states, alarms and plants after an action, what is accepted, refused, shown and listed each definition is the only one that
+//!   meets its laws (by `the_laws_leave_one_plant`, `the_laws_leave_one_table`, `the_laws_leave_one_row`, `taken_just_then`,
 //!   `a_refusal_names_the_first_reason`, `an_alarm_is_shown_as_it_is`, `the_laws_leave_one_list`, `the_laws_leave_one_list_by_number`)
 //! - no active alarm is hidden, no acknowledgement is lost or made for the operator, what latches stays until RESET, no shelving is
 //!   overdue (by `an_active_alarm_is_listed`, `consoles_are_heard`, `nobody_acknowledges_for_the_operator`,

@@ -1,6 +1,6 @@
 //! Laws of the lists.
 
-ghost use Rattle.std.specs.Prelude.{ℕ, List, Bool, sum, map, ◌+◌, ◌≡◌, ◌↔◌, ◌≤◌, ◌<◌, true, false, Some, Ok, slice_get, length, AllPairs, Contains};
+ghost use Rattle.std.specs.Prelude.{ℕ, List, Bool, sum, map, ◌+◌, ◌%◌, ◌≡◌, ◌↔◌, ◌≤◌, ◌<◌, true, false, Some, Ok, slice_get, length, AllPairs, Contains};
 ghost use Rattle.alm_types.specs.declared.attr.Attr.{Attr};
 ghost use Rattle.alm_types.specs.declared.action.Action.{Action};
 ghost use Rattle.alm_types.specs.declared.query.Query.TheVariants as query;
@@ -17,7 +17,7 @@ ghost use Rattle.alm_model.specs.New.{new_plant};
 ghost use Rattle.alm_model.specs.Rules.{KeepsRules, AreAdmitted};
 ghost use Rattle.alm_model.specs.Step.{step, run};
 ghost use Rattle.alm_model.specs.declared.list.List.{List as Choice};
-ghost use Rattle.alm_model.specs.declared.list.List.TheVariants.{Priority, Area, Stale, Chatter};
+ghost use Rattle.alm_model.specs.declared.list.List.TheVariants.{Priority, Area, Wheel, Stale, Chatter};
 ghost use Rattle.alm_laws.specs.Plant.{IsAlarmOf};
 ghost use Rattle.alm_laws.specs.Counts.{annunciated_within, last_three};
 ghost use Rattle.alm_laws.specs.Floods.{flag_of, windows_after, HoldsSinceAbove10};
@@ -30,6 +30,15 @@ pub fn an_active_alarm_is_listed()
     ensures suppressed { (q : Condensed) (i area : ℕ) (s : State) → KeepsRules q →
         slice_get q.panel.rows i ≡ Some s → is_suppressed s ≡ true →
         Contains (list_of (Area area) q) i → ⊥ }
+{}
+
+/// No shelved alarm is hidden: it is in the list of the slot that its deadline has modulo 256, and LIST S reports all of that.
+pub fn a_shelved_alarm_is_listed()
+    ensures listed { (q : Condensed) (i deadline : ℕ) (a : Attr) (s : State) → IsAlarmOf q i a s →
+        s.shelved_until ≡ Some deadline →
+        Contains (list_of (Wheel (deadline % 256)) q) i }
+    ensures told { (q : Condensed) (n : ℕ) → n < 256 →
+        look q (query.Wheel n) ≡ Ok (alarms (list_of (Wheel n) q)) }
 {}
 
 /// A list by stamp is the only one that rises by stamp and has just the alarms that belong to it; LIST and AREA report all of it.

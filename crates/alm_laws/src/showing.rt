@@ -1,10 +1,10 @@
 //! Laws of what is shown of an alarm.
 
-ghost use Rattle.std.specs.Prelude.{◌≡◌, ◌↔◌, ℕ, Bool, List, Some, None, Ok, Err, slice_get, sum, length, take};
+ghost use Rattle.std.specs.Prelude.{◌≡◌, ◌↔◌, ◌⊎◌, ◌<◌, ◌≤◌, ℕ, Bool, List, Some, None, Ok, Err, slice_get, sum, length, take};
 ghost use Rattle.alm_types.specs.declared.alarm_id.AlarmId.{AlarmId};
 ghost use Rattle.alm_types.specs.declared.attr.Attr.{Attr};
 ghost use Rattle.alm_types.specs.declared.query.Query.TheVariants as query;
-ghost use Rattle.alm_types.specs.declared.refusal.Refusal.TheVariants.{NoSuchAlarm};
+ghost use Rattle.alm_types.specs.declared.refusal.Refusal.TheVariants.{NoSuchAlarm, NoSuchList};
 ghost use Rattle.alm_types.specs.declared.shown.Shown.{Shown};
 ghost use Rattle.alm_types.specs.Reports.{alarm, alarms, flood, plant, attributes, row};
 ghost use Rattle.alm_state.specs.Rows.{State};
@@ -25,7 +25,7 @@ pub fn an_alarm_is_shown_as_it_is()
 
 /// FLOOD reports the window and the flag of an area, PLANT the moment and the sizes, ATTR the attributes in force, STALE and CHATTER all of
 /// their lists. ROW reports what STATE does, with the stamp, the priority and the setpoint in force, and the moments of the last three
-/// annunciations. STATE and ROW of an alarm that isn't there are refused.
+/// annunciations. Of an alarm, an area, a priority or a slot that isn't there each is refused.
 pub fn queries_report_the_plant()
     ensures flood { (q : Condensed) (area : ℕ) (ages : List ℕ) (on : Bool) →
         slice_get q.kept.ages area ≡ Some ages → slice_get q.floods area ≡ Some on →
@@ -52,4 +52,12 @@ pub fn queries_report_the_plant()
     ensures chatter { (q : Condensed) → look q query.Chatter ≡ Ok (alarms (list_of Chatter q)) }
     ensures refused { (q : Condensed) (i : AlarmId) → slice_get q.panel.rows i.0 ≡ None →
         (look q (query.State i) ≡ Err NoSuchAlarm) × (look q (query.Row i) ≡ Err NoSuchAlarm) }
+    ensures unlisted { (q : Condensed) (i : AlarmId) → slice_get q.panel.attrs i.0 ≡ None →
+        look q (query.Attributes i) ≡ Err NoSuchAlarm }
+    ensures no_area { (q : Condensed) (n : ℕ) → slice_get q.floods n ≡ None →
+        look q (query.Flood n) ≡ Err NoSuchList }
+    ensures no_list { (q : Condensed) (n : ℕ) → ((n ≡ 0) ⊎ (4 < n) →
+        look q (query.Priority n) ≡ Err NoSuchList) × (length q.floods ≤ n →
+        look q (query.Area n) ≡ Err NoSuchList) × (256 ≤ n →
+        look q (query.Wheel n) ≡ Err NoSuchList) }
 {}

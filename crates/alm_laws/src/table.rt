@@ -1,8 +1,11 @@
 //! Laws that leave one model: of the core states, of the row that an action leaves, of what is taken and why the rest is refused.
 
-ghost use Rattle.std.specs.Prelude.{ℕ, ◌≡◌, ◌↔◌, Bool, true, is_some, is_none, IsTrue, Ok};
+ghost use Rattle.std.specs.Prelude.{ℕ, ◌≡◌, ◌↔◌, Bool, true, is_some, is_none, IsTrue, Ok, Contains, map};
 ghost use Rattle.alm_types.specs.declared.attr.Attr.{Attr};
 ghost use Rattle.alm_types.specs.declared.action.Action.{Action};
+ghost use Rattle.std.specs.List.{range_with_len};
+ghost use Rattle.alm_types.specs.Refusals.{number_of};
+ghost use Rattle.alm_types.specs.declared.refusal.Refusal.{Refusal};
 ghost use Rattle.alm_types.specs.declared.request.Request.{Request};
 ghost use Rattle.alm_state.specs.Rows.{State};
 ghost use Rattle.alm_state.specs.Outcome.{outcome, row_refusal};
@@ -15,7 +18,7 @@ ghost use Rattle.alm_model.specs.Plant.{Condensed};
 ghost use Rattle.alm_model.specs.Accept.{accept};
 ghost use Rattle.alm_model.specs.Rules.{KeepsRules};
 ghost use Rattle.alm_laws.specs.Alarm.{TakesAction};
-ghost use Rattle.alm_laws.specs.Refused.{judged_by, reasons};
+ghost use Rattle.alm_laws.specs.Refused.{all_refusals, judged_by, reasons};
 ghost use Rattle.alm_laws.specs.Left.{IsLeft};
 ghost use Rattle.alm_laws.specs.Table.{can_happen, is_that, meets_the_laws};
 ghost use Rattle.alm_laws.specs.Taken.{is_taken, IsAcceptable};
@@ -48,4 +51,10 @@ pub fn taken_just_then()
 pub fn a_refusal_names_the_first_reason()
     ensures { (q : Condensed) (r : Request) → KeepsRules q →
         accept q.panel r ≡ judged_by r.want (reasons q.panel r) }
+{}
+
+/// Each refusal has a number of its own, from 1 to 20.
+pub fn refusals_are_numbered()
+    ensures numbers { map number_of all_refusals ≡ range_with_len 1 20 }
+    ensures all { (refusal : Refusal) → Contains all_refusals refusal }
 {}
