@@ -10,6 +10,8 @@ mod awaiting;
 mod bells;
 pub mod counter;
 #[cfg(test)]
+mod gathering;
+#[cfg(test)]
 mod resting;
 #[cfg(test)]
 mod sleeping;
