@@ -1,6 +1,6 @@
 -- Moments continue, and what is held at one stays stored.
 use Rattle.std.proofs.Common.{◌≡◌, ◌⊎◌, ⊎_elim, inl, inr, ◌↔◌, ℕ, zero, suc, ◌≤◌, ◌<◌, Bool, true, false, nat_lt, List, [], ◌∷◌, ◌++◌, length, refl, sym, ap, ◌∙◌, subst, arith, append_assoc}
-use Rattle.std.specs.Prelude.{◌+◌, ◌-◌, get_or, not, take, drop, MatchBool}
+use Rattle.std.specs.Prelude.{◌+◌, ◌-◌, get_or, not, take, drop}
 use Rattle.std.proofs.lemmas.Bool.{ltb-true, ltb-false}
 use Rattle.std.proofs.lemmas.List.{append-nil, take-append-drop}
 use Rattle.std.proofs.Math.Seq.{take-append-add}
@@ -156,18 +156,6 @@ by_none m d e accepted more floor higher is same front le =
       subst (λ (l : List Action). IsPrefix l more) (sym (ap (λ x. x.accepted) is)) front,
       omega (arith, ap (λ x. x.floor) is, le),
     )
-
--- the last moment, if the history took it
-pub last_taken : (base : Condensed) (first : DeviceState) (old new : List RecordedMoment) (m : RecordedMoment) (taken lost : Bool) → lost ≡ not taken → MatchBool taken (new ≡ old ++ m ∷ []) (new ≡ old) → lost ≡ false → now_of base first new ≡ m
-last_taken base first old new m true lost is grown stays = ap (λ (l : List RecordedMoment). now_of base first l) grown ∙ last_is (opening_moment base first) old m
-last_taken base first old new m false lost is grown stays = absurd (cc (is, stays))
-
--- a moment that the history didn't take follows all the same
-pub last_lost : (honest : Type 0) (recovers : List ℕ → Condensed → Type 0) (base : Condensed) (first : DeviceState) (old new : List RecordedMoment) (m : RecordedMoment) (taken lost : Bool)
-    → lost ≡ not taken → MatchBool taken (new ≡ old ++ m ∷ []) (new ≡ old) → AreMoments honest recovers base first (old ++ m ∷ []) → lost ≡ true
-    → AreMoments honest recovers base first (new ++ m ∷ [])
-last_lost honest recovers base first old new m true lost is grown safe set = absurd (cc (is, set))
-last_lost honest recovers base first old new m false lost is stays safe set = subst (λ (l : List RecordedMoment). AreMoments honest recovers base first (l ++ m ∷ [])) (sym stays) safe
 
 -- what a store says of its images, of a run that is named after it
 pub stands_safe : (recovers kept : List ℕ → Condensed → Type 0)

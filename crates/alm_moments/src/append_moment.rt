@@ -1,27 +1,18 @@
-//! The step by which a history of moments grows.
+//! What the present state adds to a history of moments.
 
 use crate::current_state::CurrentState;
 use crate::recorded_moment::RecordedMoment;
+use alm_history::Adds;
 use alm_store::Store;
-use logbook::{Plain, Play};
 
-/// The step by which a history grows by the moment that is now.
+/// The present state adds its moment.
 pub struct AppendMoment;
 
-impl Play<RecordedMoment, u64> for AppendMoment {
-    ghost use Rattle.alm_moments.specs.History.{AddsMoment};
-
-    ghost then = { AddsMoment };
-}
-
-impl<K: Store> Plain<CurrentState<'_, K>, RecordedMoment, u64> for AppendMoment {
-    ghost use Rattle.std.specs.Prelude.{None};
+impl<K: Store> Adds<CurrentState<'_, K>, RecordedMoment> for AppendMoment {
     ghost use Rattle.alm_model.specs.Judging.{accepted_of, entries_in};
     ghost use Rattle.alm_rings.specs.Batches.{fetched_of};
     ghost use Rattle.alm_moments.specs.Moments.{moment_of};
 
-    ghost ask = { λ now. moment_of (K.Device.state (K.disk now.store.now))
+    ghost entry = { λ now. moment_of (K.Device.state (K.disk now.store.now))
         (accepted_of (entries_in (fetched_of now.fetch.now))) now.floor };
-
-    ghost state = { λ now. None };
 }

@@ -1,28 +1,28 @@
 //! A history of a run's moments: its device at each of them, and up to which count actions could be reported.
 //!
 //! ```text
-//! let (length, mut moments) = NewMoments::new().named::<J>();
-//! moments.extend(&length, &CurrentState { store, fetch, floor });
-//! let held = moments.again();
+//! let mut recorder = Recorder::<J>::new(NewHistory::new(), &store)?;
+//! recorder.record(&CurrentState { store, fetch, floor });
+//! let held = recorder.moments();
 //! ```
 //!
 //! | name | is |
 //! |---|---|
 //! | [`RunId`] | which run it is: its two histories, and what it begins with |
-//! | [`Moments`] | a prefix of the history that was seen: eight bytes, however long |
-//! | [`MomentsLength`] | its holder may add to the history |
-//! | [`NewMoments`] | a history before it has a name |
+//! | [`Recorder`] | the one writer of the history of moments |
+//! | [`Moments`] | a prefix of the history that was seen: no bytes, however long |
 //!
 //! What is used above: between two moments lies one device call, or none. At each moment whatever a crash leaves of an honest
 //! device encodes a prefix of the actions that were accepted by then. The prefix contains as many as the moment's floor says.
 //! Floors never fall. So a value that carries moments says of a run, whatever it does afterwards, what stays on its device
 //! ([`laws`]).
 //!
-//! Not covered: that a moment is added at each device call. The owner of [`MomentsLength`] does so.
+//! Not covered: that a moment is added at each device call. The owner of [`Recorder`] does so.
 //!
 //! Proved:
 //! - a moment follows the last by one device call, or by none; at each any image of an honest device holds a prefix that
-//!   reaches its floor (by `Moments::extend`)
+//!   reaches its floor (by `Recorder::record`)
+//! - the history takes each moment that follows (by `Recorder::record`)
 //! - **what is held at moments that were seen is held at each later one, whenever power fails** (by
 //!   `laws::what_is_held_stays_stored`)
 //! - what a crash may leave at a moment is what it may leave of the device then (by
@@ -32,17 +32,14 @@
 mod append_moment;
 mod current_state;
 pub mod laws;
-mod moment_rule;
 mod moments;
-mod moments_length;
-mod new_moments;
+mod of_moments;
 mod recorded_moment;
+mod recorder;
 mod run_id;
-mod trades_nothing;
 
 pub use current_state::CurrentState;
 pub use moments::Moments;
-pub use moments_length::MomentsLength;
-pub use new_moments::NewMoments;
 pub use recorded_moment::RecordedMoment;
+pub use recorder::Recorder;
 pub use run_id::RunId;

@@ -1,4 +1,4 @@
-pub mod Adding
 pub mod Fronts
 pub mod Behinds
+pub mod Counted
 pub mod Extents

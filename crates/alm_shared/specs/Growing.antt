@@ -1,7 +1,10 @@
--- For the proofs.
 -- How a list of actions grows by steps.
-use Rattle.std.specs.Prelude.{◌≡◌, ◌+◌, ◌-◌, ◌==◌, cond, List, drop, length}
+use Rattle.std.specs.Prelude.{◌≡◌, ◌+◌, ◌-◌, ◌==◌, cond, List, drop, length, flat_map}
 use Rattle.alm_types.specs.declared.action.Action.{Action}
+
+-- the actions of a history, each entry of which holds those that were added together
+abbrev pub joined_actions : List (List Action) → List Action
+joined_actions entries = flat_map (λ actions. actions) entries
 
 -- the last of the list are these actions
 abbrev pub HasLast : List Action → List Action → Type 0

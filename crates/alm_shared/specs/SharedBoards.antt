@@ -4,18 +4,16 @@ use Rattle.left_right.specs.declared.Absorb as A
 use Rattle.alm_types.specs.declared.action.Action.{Action}
 use Rattle.alm_model.specs.declared.alarms.Alarms as M
 use Rattle.alm_moments.specs.declared.run_id.RunId.{Ghosts}
-use Rattle.alm_shared.specs.declared.history_length.HistoryLength.{HistoryLength}
 use Rattle.alm_shared.specs.declared.shown_plant.ShownPlant.{ShownPlant}
 use Rattle.alm_shared.specs.declared.append_step.AppendStep.{AppendStep}
-use Rattle.alm_shared.specs.declared.handed_over.HandedOver.{HandedOver}
 use Rattle.alm_shared.specs.declared.next_shown.NextShown as G
 use Rattle.alm_shared.specs.declared.publisher.Publisher.{Publisher}
 use Rattle.alm_shared.specs.Publishers.{published}
 
-module _ {J P : Type 0} {g : Ghosts J} {m : M.Ghosts P} {a : A.Ghosts (ShownPlant J P g m) (AppendStep J g) (List Action)} {x : G.Ghosts (HandedOver J)} where
-  abbrev pub board_shown : Publisher (ShownPlant J P g m) (AppendStep J g) (HandedOver J) (HistoryLength J g) a x → List Action
+module _ {J P : Type 0} {g : Ghosts J} {m : M.Ghosts P} {a : A.Ghosts (ShownPlant J P g m) (AppendStep J g) (List Action)} {x : G.Ghosts (List Action)} where
+  abbrev pub board_shown : Publisher (ShownPlant J P g m) (AppendStep J g) (List Action) (List Action) a x → List Action
   board_shown b = (published b).told.front
 
   -- all later actions that the history holds, handed over or not
-  abbrev pub board_pending : Publisher (ShownPlant J P g m) (AppendStep J g) (HandedOver J) (HistoryLength J g) a x → List Action
-  board_pending b = drop (length (board_shown b)) b.owner.reached
+  abbrev pub board_pending : Publisher (ShownPlant J P g m) (AppendStep J g) (List Action) (List Action) a x → List Action
+  board_pending b = drop (length (board_shown b)) b.extra

@@ -1,7 +1,7 @@
-//! The step by which a history grows.
+//! What a batch adds to a history of actions.
 
+use alm_history::Adds;
 use alm_types::{Action, Batch};
-use logbook::{Plain, Play};
 
 /// Actions that are added to a history together: contracts see their list, which takes no bytes.
 pub type Growth = [Action; 0];
@@ -13,20 +13,12 @@ pub struct Rest<'a> {
     pub from: u64,
 }
 
-/// The step by which a history grows by the rest of a batch.
+/// The rest of a batch adds its actions.
 pub struct AppendActions;
 
-impl Play<Growth, u64> for AppendActions {
-    ghost use Rattle.alm_shared.specs.History.{Adds};
-
-    ghost then = { Adds };
-}
-
-impl Plain<Rest<'_>, Growth, u64> for AppendActions {
-    ghost use Rattle.std.specs.Prelude.{None, drop};
+impl Adds<Rest<'_>, Growth> for AppendActions {
+    ghost use Rattle.std.specs.Prelude.{drop};
     ghost use Rattle.alm_model.specs.Judging.{accepted_of};
 
-    ghost ask = { λ rest. drop rest.from (accepted_of rest.batch.now.entries) };
-
-    ghost state = { λ rest. None };
+    ghost entry = { λ rest. drop rest.from (accepted_of rest.batch.now.entries) };
 }

@@ -1,9 +1,9 @@
 //! A shared board is a board.
 
+use crate::action_history::ActionHistory;
 use crate::append_step::AppendStep;
 use crate::durable::Durable;
-use crate::handed_over::HandedOver;
-use crate::history_length::HistoryLength;
+use crate::front::Front;
 use crate::publisher::Publisher;
 use crate::shown_plant::ShownPlant;
 use alm_board::{Board, Publish};
@@ -14,7 +14,7 @@ use std::alloc::AllocError;
 use std::sync::Wait;
 
 impl<J: RunId, P: Alarms + Drop> Board
-    for Publisher<ShownPlant<J, P>, AppendStep<J>, HandedOver<J>, HistoryLength<J>> {
+    for Publisher<ShownPlant<J, P>, AppendStep<J>, Front<J>, ActionHistory<J>> {
     ghost use Rattle.alm_shared.specs.SharedBoards.{board_shown, board_pending};
 
     type Told = Durable<J>;
@@ -31,7 +31,7 @@ impl<J: RunId, P: Alarms + Drop> Board
 }
 
 impl<J: RunId, P: Alarms + Drop, R: Wait> Publish<R, Moments<J>>
-    for Publisher<ShownPlant<J, P>, AppendStep<J>, HandedOver<J>, HistoryLength<J>> {
+    for Publisher<ShownPlant<J, P>, AppendStep<J>, Front<J>, ActionHistory<J>> {
     ghost sure = { ⊥ };
 
     fn publish(&mut self, by: &R, moments: &Moments<J>, batch: &Batch) -> Result<(), AllocError> {

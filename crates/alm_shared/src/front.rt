@@ -1,61 +1,55 @@
 //! A prefix of a run's history.
-ghost use Rattle.std.specs.Prelude.{◌≡◌, ◌+◌, ◌≤◌, ◌++◌, ◌⊎◌, ◌↔◌, [], length, take, drop, MatchBool, IsTrue};
+ghost use Rattle.std.specs.Prelude.{◌≡◌, ◌+◌, ◌≤◌, ◌++◌, ◌⊎◌, ◌↔◌, length, IsTrue};
 ghost use mathlib.Core.List.{IsPrefix};
-ghost use Rattle.alm_model.specs.Judging.{accepted_of};
+ghost use Rattle.alm_model.specs.Rules.{AllAdmitted};
 ghost use Rattle.alm_model.specs.Step.{run};
 ghost use Rattle.alm_types.specs.Sizes.{most_actions};
 ghost use Rattle.alm_board.specs.Fronts.{IsFront};
-ghost use Rattle.alm_shared.specs.Growing.{HasLast};
+ghost use Rattle.alm_shared.specs.Growing.{HasLast, joined_actions};
 
-use crate::append_actions::{AppendActions, Growth, Rest};
-use crate::history_length::HistoryLength;
-use crate::history_rule::HistoryRule;
-use crate::no_trade::NoTrade;
-use alm_model::accepted_in;
+use crate::append_actions::Growth;
+use crate::next_shown::NextShown;
+use crate::of_actions::OfActions;
+use alm_history::HistoryPrefix;
 use alm_moments::RunId;
-use alm_types::{Action, Batch, MOST_ACTIONS};
-use logbook::{Offer, Seen};
-use std::marker::{Model, PhantomData};
+use alm_types::Action;
+use std::marker::Model;
 
-/// A prefix of a run's history, as its length among the actions that were seen: eight bytes, however long. Each action is
-/// admitted at its turn. Contracts see it as its actions.
+/// A prefix of a run's history that was seen: eight bytes, however long. Each action is admitted at its turn. Contracts see it as
+/// its actions.
 #[derive(Drop)]
 pub struct Front<J: RunId> {
     len: u64,
-    seen: Seen<Growth, u64, HistoryRule>,
-    of: PhantomData<J>,
+    seen: HistoryPrefix<Growth, OfActions<J>>,
 }
 
 impl<J: RunId> Model for Front<J> {
-    ghost use Rattle.std.specs.Prelude.{◌≡◌, ◌≤◌, List, length, take};
+    ghost use Rattle.std.specs.Prelude.{◌≡◌, List, length};
     ghost use Rattle.alm_types.specs.declared.action.Action.{Action};
     ghost use Rattle.alm_model.specs.Rules.{AllAdmitted};
-    ghost use Rattle.alm_types.specs.Sizes.{most_actions};
-    ghost use Rattle.alm_shared.specs.History.{joined_actions};
+    ghost use Rattle.alm_shared.specs.Growing.{joined_actions};
 
     ghost Value = { List Action };
 
-    ghost view = { λ f. take f.len (joined_actions f.seen.log) };
+    ghost view = { λ f. joined_actions f.seen };
 
-    ghost invariant = { λ f.
-        (f.len ≤ length (joined_actions f.seen.log)) × (f.len ≤ most_actions) × (f.seen.book ≡ J.book) ×
-        AllAdmitted J.base (take f.len (joined_actions f.seen.log)) };
+    ghost invariant = { λ f. (f.len ≡ length (joined_actions f.seen)) ×
+        AllAdmitted J.base (joined_actions f.seen) };
+}
+
+/// What the next turn of a board shows, if these actions were handed over.
+impl<J: RunId> NextShown for Front<J> {
+    ghost next_shown = { λ front. front };
 }
 
 impl<J: RunId> Front<J> {
-    ghost use Rattle.alm_model.specs.Rules.{AllAdmitted};
-
-    // A prefix that has seen no actions.
-    pub(crate) fn new(seen: Seen<Growth, u64, HistoryRule>) -> Front<J>
-        requires empty { seen.log ≡ [] }
-        requires book { seen.book ≡ J.book }
-        ensures { result ≡ [] }
+    // What was seen, with its length.
+    pub(crate) fn new(len: u64, seen: HistoryPrefix<Growth, OfActions<J>>) -> Front<J>
+        requires length { len ≡ length (joined_actions seen) }
+        requires admitted { AllAdmitted J.base (joined_actions seen) }
+        ensures { result ≡ joined_actions seen }
     {
-        Front {
-            len: 0,
-            seen,
-            of: PhantomData,
-        }
+        Front { len, seen }
     }
 
     /// How many actions it holds.
@@ -74,7 +68,6 @@ impl<J: RunId> Front<J> {
         Front {
             len: self.len,
             seen: self.seen.again(),
-            of: PhantomData,
         }
     }
 
@@ -84,8 +77,8 @@ impl<J: RunId> Front<J> {
         ensures this { IsPrefix self.now result }
         ensures that { IsPrefix other.now result }
     {
-        let mut both = self.seen.again();
-        both.learn(&other.seen);
+        // for the proof: both are prefixes of one history
+        drop(self.seen.joined(&other.seen));
         if self.len < other.len {
             other.again()
         } else {
@@ -112,47 +105,5 @@ impl<J: RunId> Front<J> {
         // for the proof: one of two prefixes of a history begins with the other
         drop(self.longer(next));
         next.len() == self.len() + actions.len() as u64
-    }
-
-    // Adds the accepted actions of a batch to the history, without the first `from`, and holds them too. Nothing changes if the
-    // history is longer than this prefix, or has no room.
-    pub(crate) fn extend(&mut self, head: &HistoryLength<J>, batch: &Batch, from: u64) -> bool
-        requires within { from ≤ length (accepted_of batch.now.entries) }
-        requires admitted { AllAdmitted (run J.base self.old)
-            (drop from (accepted_of batch.now.entries)) }
-        ensures { MatchBool result
-            (self.new ≡ self.old ++ drop from (accepted_of batch.now.entries))
-            (self.new ≡ self.old) }
-    {
-        let len = self.len;
-        let more = accepted_in(batch) as u64 - from;
-        if more == 0 {
-            return true;
-        }
-        if more > MOST_ACTIONS - len {
-            return false;
-        }
-        let mut seen = self.seen.again();
-        let mut offer: Offer<Growth, u64, HistoryRule, NoTrade> = seen.plain::<
-            NoTrade,
-            Rest<'_>,
-            AppendActions,
-        >(&Rest { batch, from });
-        let mut pen = seen.no_pen();
-        let found = head
-            .head
-            .compare_exchange::<AppendActions, NoTrade>(
-                len,
-                len + more,
-                &mut seen,
-                &mut offer,
-                &mut pen,
-            );
-        if found != len {
-            return false;
-        }
-        self.seen = seen;
-        self.len = len + more;
-        true
     }
 }

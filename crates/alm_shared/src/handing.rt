@@ -2,10 +2,10 @@
 ghost use Rattle.std.specs.Prelude.{◌≡◌, ◌+◌, IfOk, drop, length};
 ghost use Rattle.alm_model.specs.Judging.{accepted_of};
 
+use crate::action_history::ActionHistory;
 use crate::append_step::AppendStep;
 use crate::durable::Durable;
-use crate::handed_over::HandedOver;
-use crate::history_length::HistoryLength;
+use crate::front::Front;
 use crate::publisher::Publisher;
 use crate::shown_plant::ShownPlant;
 use alm_model::Alarms;
@@ -16,10 +16,10 @@ use std::alloc::{AllocError, Global};
 impl<J: RunId, P: Alarms + Drop> Publisher<
     ShownPlant<J, P>,
     AppendStep<J>,
-    HandedOver<J>,
-    HistoryLength<J>,
+    Front<J>,
+    ActionHistory<J>,
 > {
-    ghost use Rattle.std.specs.Prelude.{◌≡◌, ◌++◌, ◌↔◌, OnOk, OnErr, IsTrue, MatchBool, MatchResult};
+    ghost use Rattle.std.specs.Prelude.{◌≡◌, ◌++◌, ◌↔◌, OnOk, OnErr, IsTrue, MatchResult};
     ghost use Rattle.alm_model.specs.Judging.{accepted_of};
     ghost use Rattle.alm_model.specs.Rules.{AllAdmitted};
     ghost use Rattle.alm_model.specs.Step.{run};
@@ -30,49 +30,42 @@ impl<J: RunId, P: Alarms + Drop> Publisher<
 
     // Whether what is shown is a prefix of what was handed over, and that a prefix of the history, as they always are.
     fn is_ahead(&self) -> bool
-        ensures { IsTrue result ↔ (IsFront (board_shown self.now) self.now.owner.handed ×
-            IsFront self.now.owner.handed self.now.owner.reached) }
+        ensures { IsTrue result ↔ (IsFront (board_shown self.now) self.now.owner ×
+            IsFront self.now.owner self.now.extra) }
     {
-        let HandedOver { handed, reached } = &self.owner;
-        self.shown().told.front.begins(handed) && handed.begins(reached)
+        let handed = &self.owner;
+        self.shown().told.front.begins(handed) && handed.begins(&self.extra.front())
     }
 
-    // Adds to the history what is left of a batch, unless it can't grow.
-    fn reach(&mut self, batch: &Batch) -> bool
-        requires ahead { IsFront (board_shown self.old) self.old.owner.reached }
+    // Adds to the history what is left of a batch.
+    fn reach(&mut self, batch: &Batch)
+        requires ahead { IsFront (board_shown self.old) self.old.extra }
         requires admitted { AllAdmitted (run J.base (board_shown self.old))
             (accepted_of batch.now.entries) }
         requires same { IsFront (board_pending self.old) (accepted_of batch.now.entries) }
         ensures published { published self.new ≡ published self.old }
-        ensures handed { self.new.owner.handed ≡ self.old.owner.handed }
-        ensures reached { MatchBool result
-            (self.new.owner.reached ≡ board_shown self.old ++ accepted_of batch.now.entries)
-            (self.new.owner.reached ≡ self.old.owner.reached) }
+        ensures handed { self.new.owner ≡ self.old.owner }
+        ensures reached { self.new.extra ≡ board_shown self.old ++ accepted_of batch.now.entries }
     {
-        let from = self.owner.reached.len() - self.shown().told.front.len();
-        self.owner.reached.extend(&self.extra, batch, from)
+        let from = self.extra.len() - self.shown().told.front.len();
+        self.extra.extend(batch, from);
     }
 
     // Hands over the actions by which the history is ahead of what was handed over, in one step.
     fn hand(&mut self, actions: Vec<Action>, moments: &Moments<J>) -> Result<(), AllocError>
-        requires next { self.old.owner.reached ≡ self.old.owner.handed ++ actions.items }
-        requires held { AreHeld J.base J.first moments.now self.old.owner.reached }
+        requires next { self.old.extra ≡ self.old.owner ++ actions.items }
+        requires held { AreHeld J.base J.first moments.now self.old.extra }
         ensures published { published self.new ≡ published self.old }
-        ensures reached { self.new.owner.reached ≡ self.old.owner.reached }
-        ensures handed { MatchResult result
-            (λ _. self.new.owner.handed ≡ self.old.owner.reached)
-            (λ _. self.new.owner.handed ≡ self.old.owner.handed) }
+        ensures reached { self.new.extra ≡ self.old.extra }
+        ensures handed { MatchResult result (λ _. self.new.owner ≡ self.old.extra)
+            (λ _. self.new.owner ≡ self.old.owner) }
     {
-        let front = self.owner.reached.again();
-        let desk = HandedOver {
-            handed: front.again(),
-            reached: front.again(),
-        };
+        let handed = self.extra.front();
         let told = Durable {
-            front,
+            front: handed.again(),
             moments: moments.again(),
         };
-        match self.append(AppendStep { actions, told }, desk) {
+        match self.append(AppendStep { actions, told }, handed) {
             Ok(()) => Ok(()),
             Err(_) => Err(AllocError),
         }
@@ -91,23 +84,21 @@ impl<J: RunId, P: Alarms + Drop> Publisher<
             (board_shown self.old ++ accepted_of batch.now.entries) }
         ensures published { published self.new ≡ published self.old }
         ensures ok { OnOk result
-            (self.new.owner.handed ≡ board_shown self.old ++ accepted_of batch.now.entries) }
-        ensures clear { OnOk result (self.new.owner.reached ≡ self.new.owner.handed) }
+            (self.new.owner ≡ board_shown self.old ++ accepted_of batch.now.entries) }
+        ensures clear { OnOk result (self.new.extra ≡ self.new.owner) }
         ensures err { OnErr result (IsFront (board_pending self.new) (accepted_of batch.now.entries)) }
     {
         if !self.is_ahead() {
             return Err(AllocError);
         }
-        if !self.reach(batch) {
-            return Err(AllocError);
-        }
-        let handed = self.owner.handed.len();
-        let more = self.owner.reached.len() - handed;
+        self.reach(batch);
+        let handed = self.owner.len();
+        let more = self.extra.len() - handed;
         if more == 0 {
             return Ok(());
         }
         let from = handed - self.shown().told.front.len();
-        let actions = last_of(self.extra.alloc, batch, from, more)?;
+        let actions = last_of(self.extra.alloc(), batch, from, more)?;
         self.hand(actions, moments)
     }
 }

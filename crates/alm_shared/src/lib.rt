@@ -15,8 +15,10 @@
 //! | [`SharedLook`] | one slot's view of it |
 //! | [`Front`] | a prefix of the run's history of actions, eight bytes however long it is |
 //! | [`Durable`] | what receipts report and looks know: a prefix that stays on the device ([`laws`]) |
-//! | [`NewRun`], [`NewHistory`] | the histories of a run, before it has a name |
-//! | [`Publisher`], [`BoardReader`], [`ReadGuard`] | any value that is shown to threads, and its readers |
+//! | [`ActionHistory`] | the one writer of that history |
+//! | [`NewRun`] | the histories of a run, before it has a name |
+//! | [`Publisher`] | any value that is shown to threads |
+//! | [`Sight`] | what a reader knows of its looks |
 //!
 //! What is used above: a look shows the plant of a list of published actions, with its count. Earlier looks by the same reader
 //! saw prefixes of that list, and each receipt that it learnt reported a prefix, whatever thread published it. A refused publish
@@ -27,51 +29,55 @@
 //! reporting or learning a list, never wait: their contracts have no handle to wait by. They take no memory, except for the list
 //! that a query asks for.
 //!
-//! Not covered: that a look sees the newest of what is published, that a publish ever gets its memory, and time.
+//! Not covered: which of a look and a publish of another thread comes first, that a publish ever gets its memory, and time.
 //!
 //! Proved:
 //! - a look of the threads shows such a prefix too, and waits for nobody. It says Stopped only of an alarm or a list that
 //!   exists (by `open_board`, `Look::look`, `learn` at `SharedLook`)
+//! - **what a look answers is of the list that was published at a step of that very look** (by `Look::look` at `SharedLook`, whose
+//!   `looked` says so)
+//! - the history takes the accepted actions of each batch: no publish is refused for want of a place in it (by the type
+//!   `ActionHistory`)
 //! - a refused publish shows nothing new and leaves a prefix of its batch; a granted one shows all of it (by
 //!   `Publish::publish` at `SharedBoard`, `Publisher::take`)
 //! - **what a receipt reports or a look has shown stays stored, whether the run ever returns or not** (by
 //!   `laws::what_is_told_stays_stored`)
 #![tactic(auto)]
 
+mod action_history;
 mod append_actions;
 mod append_step;
 mod board;
-mod board_reader;
 mod durable;
 mod extent;
 mod front;
-mod handed_over;
 mod handing;
-mod history_length;
-mod history_rule;
 pub mod laws;
-mod new_history;
+mod looks_once;
 mod new_run;
 mod next_shown;
-mod no_trade;
+mod of_actions;
 mod open;
 mod publisher;
-mod read_guard;
+mod readers_rule;
+mod shared_board;
 mod shared_look;
 mod shown_plant;
+mod shows_next;
+mod sight;
 
+pub use action_history::ActionHistory;
+pub use append_actions::Growth;
 pub use append_step::AppendStep;
-pub use board_reader::BoardReader;
 pub use durable::Durable;
 pub use extent::Extent;
 pub use front::Front;
-pub use handed_over::{HandedOver, SharedBoard};
-pub use history_length::HistoryLength;
-pub use new_history::NewHistory;
 pub use new_run::NewRun;
 pub use next_shown::NextShown;
 pub use open::open_board;
 pub use publisher::Publisher;
-pub use read_guard::ReadGuard;
+pub use readers_rule::ReadersRule;
+pub use shared_board::SharedBoard;
 pub use shared_look::SharedLook;
 pub use shown_plant::ShownPlant;
+pub use sight::Sight;

@@ -1,13 +1,14 @@
 //! The histories of a run, before it has a name.
 
-use crate::new_history::NewHistory;
-use alm_moments::NewMoments;
+use crate::append_actions::Growth;
+use alm_history::NewHistory;
+use alm_moments::RecordedMoment;
 
 /// Both histories of a run, empty, before it has a name: that of its actions and that of its moments.
 #[derive(Drop)]
 pub struct NewRun {
-    pub history: NewHistory,
-    pub moments: NewMoments,
+    pub history: NewHistory<Growth>,
+    pub moments: NewHistory<RecordedMoment>,
 }
 
 impl NewRun {
@@ -15,7 +16,7 @@ impl NewRun {
     pub fn new() -> NewRun {
         NewRun {
             history: NewHistory::new(),
-            moments: NewMoments::new(),
+            moments: NewHistory::new(),
         }
     }
 }

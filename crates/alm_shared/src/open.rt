@@ -2,13 +2,15 @@
 ghost use Rattle.std.specs.Prelude.{◌≡◌, ◌<◌, ◌^◌, [], IfOk, vec_len};
 ghost use Rattle.alm_shared.specs.SharedBoards.{board_shown, board_pending};
 
+use crate::action_history::ActionHistory;
+use crate::append_actions::Growth;
 use crate::durable::Durable;
 use crate::extent::Extent;
-use crate::handed_over::{HandedOver, SharedBoard};
-use crate::new_history::NewHistory;
 use crate::publisher::Publisher;
+use crate::shared_board::SharedBoard;
 use crate::shared_look::SharedLook;
 use crate::shown_plant::ShownPlant;
+use alm_history::NewHistory;
 use alm_model::Alarms;
 use alm_moments::{Moments, RunId};
 use std::alloc::{AllocError, Global};
@@ -19,7 +21,7 @@ use std::sync::Wait;
 pub fn open_board<J: RunId, P: Alarms + Drop, R: Wait>(
     rt: &R,
     alloc: Global,
-    history: NewHistory,
+    history: NewHistory<Growth>,
     moments: &Moments<J>,
     plant: P,
     lookers: usize,
@@ -34,7 +36,8 @@ pub fn open_board<J: RunId, P: Alarms + Drop, R: Wait>(
 {
     let extent = Extent::new(&plant);
     let second = plant.copy(alloc)?;
-    let (head, front) = history.named::<J>(alloc);
+    let history = ActionHistory::<J>::new(alloc, history).ok_or(AllocError)?;
+    let front = history.front();
     let told = Durable {
         front: front.again(),
         moments: moments.again(),
@@ -47,11 +50,7 @@ pub fn open_board<J: RunId, P: Alarms + Drop, R: Wait>(
         plant: second,
         told: told.again(),
     };
-    let desk = HandedOver {
-        handed: front.again(),
-        reached: front,
-    };
-    let board = Publisher::new(alloc, first, second, lookers, desk, head)?;
+    let board = Publisher::new(alloc, first, second, lookers, front, history)?;
     match looks(alloc, &board, &told, &extent, lookers) {
         Ok(looks) => Ok((board, looks)),
         Err(fault) => {
@@ -74,7 +73,7 @@ fn looks<J: RunId, P: Alarms + Drop>(
     let mut looks = Vec::with_capacity(alloc, lookers)?;
     for _ in 0..lookers {
         let look = SharedLook {
-            reader: board.reader()?,
+            reader: Some(board.reader()?),
             known: told.again(),
             extent: extent.again(),
         };

@@ -1,12 +1,14 @@
 //! The publisher of a value to readers in other threads.
-ghost use Rattle.std.specs.Prelude.{◌≡◌, ◌^◌, ◌<◌, drop, fold, IfOk};
+ghost use Rattle.std.specs.Prelude.{◌≡◌, ◌^◌, ◌<◌, [], drop, fold, IfOk, IsOk, MatchResult};
 
-use crate::board_reader::BoardReader;
 use crate::next_shown::NextShown;
+use crate::readers_rule::ReadersRule;
+use crate::shows_next::ShowsNext;
+use crate::sight::Sight;
 use alm_types::Action;
 use core::mem::replace_with;
-use crossbeam_utils::rule::Unruled;
 use left_right::Absorb;
+use left_right::reader::Reader;
 use left_right::writer::Writer;
 use std::alloc::{AllocError, Global};
 use std::sync::Wait;
@@ -14,13 +16,29 @@ use std::sync::Wait;
 /// Shows a value to readers in other threads, by `left_right`. Operations are handed over one by one, and shown together by a
 /// turn, which borrows the handle that it waits by. It isn't `Drop`: end it by [`Publisher::take`].
 pub struct Publisher<T: Absorb<O, State = [Action; 0]> + Drop, O: Drop, X: NextShown, Y> {
-    writer: Writer<T, O, (), Unruled>,
+    writer: Writer<T, O, Sight, ReadersRule>,
     /// What the owner keeps next to it: it knows what the next turn shows.
     pub owner: X,
     /// What else the owner keeps: no call changes it.
     pub extra: Y,
     pub ghost leads: { fold T.applied (T.state writer.desk.shown.value)
         (drop writer.behind writer.log.items) ≡ X.next_shown owner },
+}
+
+// Shows all that was handed over, or the same as before if out of memory.
+fn show_next<T: Absorb<O, State = [Action; 0]> + Drop, O: Drop, R: Wait>(
+    rt: &R,
+    writer: Writer<T, O, Sight, ReadersRule>,
+) -> (Writer<T, O, Sight, ReadersRule>, Result<(), AllocError>)
+    ensures succeeds { T.never_fails → IsOk result.1 }
+    ensures values { MatchResult result.1
+        (λ _. (T.state result.0.desk.shown.value ≡
+        fold T.applied (T.state writer.desk.shown.value) (drop writer.behind writer.log.items)) ×
+        (drop result.0.behind result.0.log.items ≡ []))
+        (λ _. (result.0.desk.shown.value ≡ writer.desk.shown.value) ×
+        (drop result.0.behind result.0.log.items ≡ drop writer.behind writer.log.items)) }
+{
+    writer.publish_as::<ShowsNext, R>(rt)
 }
 
 impl<T: Absorb<O, State = [Action; 0]> + Drop, O: Drop, X: NextShown, Y> Publisher<T, O, X, Y> {
@@ -52,11 +70,9 @@ impl<T: Absorb<O, State = [Action; 0]> + Drop, O: Drop, X: NextShown, Y> Publish
         })
     }
 
-    /// One reader's sight. An error if out of memory, or if all `readers` are taken.
-    pub fn reader(&self) -> Result<BoardReader<T>, AllocError> {
-        Ok(BoardReader {
-            reader: Some(self.writer.factory().reader()?),
-        })
+    /// A reader that hasn't looked yet. An error if out of memory, or if all `readers` are taken.
+    pub fn reader(&self) -> Result<Reader<T, Sight, ReadersRule>, AllocError> {
+        self.writer.factory().reader()
     }
 
     /// What readers take now.
@@ -92,9 +108,7 @@ impl<T: Absorb<O, State = [Action; 0]> + Drop, O: Drop, X: NextShown, Y> Publish
         ensures ok { OnOk result (T.state (published self.new) ≡ X.next_shown self.old.owner) }
         ensures err { OnErr result (published self.new ≡ published self.old) }
     {
-        replace_with(&mut self.writer, rt, |writer, rt| {
-            writer.publish_as::<Unruled, R>(rt)
-        })
+        replace_with(&mut self.writer, rt, |writer, rt| { show_next(rt, writer) })
     }
 
     /// Ends it, and returns what was shown last. It waits for readers of that value.

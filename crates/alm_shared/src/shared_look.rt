@@ -5,39 +5,62 @@ ghost use Rattle.alm_model.specs.Step.{run};
 ghost use Rattle.alm_board.specs.Fronts.{IsFront};
 ghost use Rattle.alm_board.specs.Looks.{LookAnswers};
 
-use crate::board_reader::BoardReader;
 use crate::durable::Durable;
 use crate::extent::Extent;
+use crate::looks_once::LooksOnce;
+use crate::readers_rule::ReadersRule;
 use crate::shown_plant::ShownPlant;
+use crate::sight::Sight;
 use alm_board::{FreeLook, Look};
 use alm_model::{Alarms, look};
 use alm_moments::RunId;
 use alm_types::{Answer, Query, Refusal};
+use left_right::reader::Reader;
 
 /// A slot's view of the published plant, with all that it knows of it: what it saw and what receipts reported.
 #[derive(Drop)]
 pub struct SharedLook<J: RunId, P: Alarms + Drop> {
-    pub(crate) reader: BoardReader<ShownPlant<J, P>>,
+    // It is there between two looks.
+    pub reader: Option<Reader<ShownPlant<J, P>, Sight, ReadersRule>>,
     /// What it saw last, or what a receipt reported since.
     pub known: Durable<J>,
     pub(crate) extent: Extent<J>,
 }
 
 impl<J: RunId, P: Alarms + Drop> Look for SharedLook<J, P> {
+    ghost use Rattle.std.specs.Prelude.{OnOk, option_map};
+    ghost use Rattle.alm_shared.specs.Sights.{HasLooked};
+    ghost use Rattle.left_right.specs.Sides.{view};
+
     type Told = Durable<J>;
 
     ghost base = { λ _. J.base };
 
     ghost knows = { λ look. look.known.front };
 
+    /// An answer is of the list that was published as this very look was made.
+    ghost looked = { λ look query result later. OnOk result
+        (HasLooked (option_map (λ reader. view reader.place) look.reader)
+        (option_map (λ reader. view reader.place) later.reader) later.known.front) };
+
     fn look(&mut self, query: Query, answer: &mut Answer) -> Result<u64, Refusal> {
         if let Err(refusal) = self.extent.find(query) {
             return Err(refusal);
         }
-        let Some(shown) = self.reader.enter() else {
+        let Some(reader) = self.reader.take() else {
             return Err(Refusal::Stopped);
         };
-        look_at(&*shown, &mut self.known, query, answer)
+        match reader.enter_as::<LooksOnce>() {
+            Ok(reading) => {
+                let answered = look_at(reading.get(), &mut self.known, query, answer);
+                self.reader = Some(reading.leave());
+                answered
+            }
+            Err(reader) => {
+                self.reader = Some(reader);
+                Err(Refusal::Stopped)
+            }
+        }
     }
 
     fn take_in(&mut self, told: Durable<J>) {

@@ -17,7 +17,6 @@ use Rattle.alm_model.proofs.Legal.{accepted_append, entries_append}
 use Rattle.alm_model.proofs.Runs.{run_append}
 use Rattle.alm_moments.specs.declared.recorded_moment.RecordedMoment.{RecordedMoment}
 use Rattle.alm_moments.specs.Moments.{AreMoments, FollowOn, IsSafeMoment, RecordedCourse, moment_of, now_of, opening_moment}
-use Rattle.alm_moments.proofs.Courses.{last_is}
 use Rattle.alm_rings.specs.Batches.{fetched_of}
 use Rattle.alm_rings.specs.declared.fetch_ends.FetchEnds.{FetchEnds}
 use Rattle.alm_flush.specs.HeldBatch.{batches_of, published_entries, stored_of, released_entries, waiting_of}
@@ -141,24 +140,12 @@ course_as recovers kept same base from to moments accepted floor reported le las
   reaches = omega (arith, le, ap (λ (m : RecordedMoment). m.floor) last);
 }
 
--- the moments that a history took lead to the device, or with the one that it didn't take
-pub endures_of : (premise honest : Type 0) (recovers kept : List ℕ → Condensed → Type 0) (base : Condensed) (from to : DeviceState) (history : List RecordedMoment) (accepted : List Action) (floor reported : ℕ) (lost : Bool)
-    → ∥ (premise ↔ honest) ∥₁ → ∥ Same recovers kept ∥₁ → reported ≤ floor → AreMoments premise recovers base from history
-    → (lost ≡ false → now_of base from history ≡ moment_of to accepted floor) → (lost ≡ true → AreMoments premise recovers base from (history ++ moment_of to accepted floor ∷ []))
+-- the moments of a history lead to the device
+pub endures_of : (premise honest : Type 0) (recovers kept : List ℕ → Condensed → Type 0) (base : Condensed) (from to : DeviceState) (history : List RecordedMoment) (accepted : List Action) (floor reported : ℕ)
+    → ∥ (premise ↔ honest) ∥₁ → ∥ Same recovers kept ∥₁ → reported ≤ floor → AreMoments premise recovers base from history → now_of base from history ≡ moment_of to accepted floor
     → Endures honest kept base from to history accepted reported
-endures_of premise honest recovers kept base from to history accepted floor reported false named same le are last untaken = λ h.
-    ∥∥₁_elim named (hlevel props) (λ p. ∥∥₁_elim same (hlevel props) (λ s. ∥∥₁_map (are (p.1 h)) (λ c. (
-      [],
-      omega arith,
-      subst (λ (l : List RecordedMoment). IsCourse kept base from to l accepted reported) (sym (append-nil history)) (course_as recovers kept s base from to history accepted floor reported le (last refl) c),
-    ))))
-endures_of premise honest recovers kept base from to history accepted floor reported true named same le are last untaken = λ h.
-    let now = moment_of to accepted floor in
-    ∥∥₁_elim named (hlevel props) (λ p. ∥∥₁_elim same (hlevel props) (λ s. ∥∥₁_map (untaken refl (p.1 h)) (λ c. (
-      now ∷ [],
-      omega arith,
-      course_as recovers kept s base from to (history ++ now ∷ []) accepted floor reported le (last_is (opening_moment base from) history now) c,
-    ))))
+endures_of premise honest recovers kept base from to history accepted floor reported named same le are last = λ h.
+    ∥∥₁_elim named (hlevel props) (λ p. ∥∥₁_elim same (hlevel props) (λ s. ∥∥₁_map (are (p.1 h)) (λ c. course_as recovers kept s base from to history accepted floor reported le last c)))
 
 widen : (recovers : List ℕ → Condensed → Type 0) (base : Condensed) (from to : DeviceState) (moments : List RecordedMoment) (accepted all : List Action) (reported : ℕ) → IsPrefix accepted all
     → IsCourse recovers base from to moments accepted reported → IsCourse recovers base from to moments all reported
@@ -173,9 +160,5 @@ widen recovers base from to moments accepted all reported front c = record {
 pub endures_on : (recovers : List ℕ → Condensed → Type 0) (base : Condensed) (honest : Type 0) (from to to' : DeviceState) (history history' : List RecordedMoment) (accepted all : List Action) (reported : ℕ)
     → to ≡ to' → history ≡ history' → IsPrefix accepted all → Endures honest recovers base from to history accepted reported → Endures honest recovers base from to' history' all reported
 endures_on recovers base honest from to to' history history' accepted all reported same taken front endures = λ h.
-    ∥∥₁_map (endures h) (λ c. (
-      c.0,
-      c.1,
-      subst (λ (d : DeviceState). IsCourse recovers base from d (history' ++ c.0) all reported) same
-          (subst (λ (l : List RecordedMoment). IsCourse recovers base from to (l ++ c.0) all reported) taken (widen recovers base from to (history ++ c.0) accepted all reported front c.2)),
-    ))
+    ∥∥₁_map (endures h) (λ c. subst (λ (d : DeviceState). IsCourse recovers base from d history' all reported) same
+    (subst (λ (l : List RecordedMoment). IsCourse recovers base from to l all reported) taken (widen recovers base from to history accepted all reported front c)))

@@ -1,5 +1,5 @@
 -- The moments of a run that has ended.
-use Rattle.std.specs.Prelude.{◌≤◌, ◌++◌, ℕ, List, length}
+use Rattle.std.specs.Prelude.{◌≤◌, ℕ, List}
 use mathlib.Core.List.{IsPrefix}
 use Rattle.alm_types.specs.declared.action.Action.{Action}
 use Rattle.alm_disk.specs.Device.{DeviceState}
@@ -15,7 +15,6 @@ pub record IsCourse (recovers : List ℕ → Condensed → Type 0) (base : Conde
   pub within : IsPrefix (now_of base from moments).accepted accepted
   pub reaches : reported ≤ (now_of base from moments).floor
 
--- a device that does what its trait says went so by the moments of a history. At most one more came, which the history didn't take
+-- a device that does what its trait says went so by the moments of a history
 abbrev pub Endures : Type 0 → (List ℕ → Condensed → Type 0) → Condensed → (from to : DeviceState) → (history : List RecordedMoment) → (accepted : List Action) → (reported : ℕ) → Type 0
-Endures honest recovers base from to history accepted reported = honest
-    → ∥ ((more : List RecordedMoment) × (length more ≤ 1) × IsCourse recovers base from to (history ++ more) accepted reported) ∥₁
+Endures honest recovers base from to history accepted reported = honest → ∥ IsCourse recovers base from to history accepted reported ∥₁

@@ -15,6 +15,7 @@ use Rattle.alm_threads.specs.declared.flusher_parts.FlusherParts.{FlusherParts}
 use Rattle.alm_threads.specs.declared.rings.Rings.{Rings}
 use Rattle.alm_threads.specs.declared.stop_cause.StopCause.{StopCause}
 use Rattle.alm_threads.specs.declared.stop_cause.StopCause.TheVariants as cause
+use Rattle.alm_threads.specs.Causes.{most_refusals}
 use Rattle.alm_threads.specs.Finished.{IsAllAnswered}
 use Rattle.alm_threads.specs.Histories.{JudgesAll, Flushed, LeavesOneOf}
 use Rattle.alm_moments.specs.declared.recorded_moment.RecordedMoment.{RecordedMoment}
@@ -58,9 +59,10 @@ module _ {K D T : Type 0} (k : Ghosts K D) (d : Disk.Ghosts D) {t : Told.Ghosts 
     pub flushed : HaveFlushed before.store history after
 
 module _ {K D T J : Type 0} (k : Ghosts K D) (d : Disk.Ghosts D) {t : Told.Ghosts T} where
-  -- a run ended for its cause, or all was answered. A store that has stopped is the cause
+  -- a run ended for its cause, or all was answered. A store that has stopped is the cause; refused publishes are at least 1,000
   pub record EndForCause (ends : Ends K T J D t) : Type 0 where
     pub stopped : (k.state ends.flusher.store).phase ≡ Stopped → ends.cause ≡ Some cause.Store
+    pub refused : (n : ℕ) → ends.cause ≡ Some (cause.Publishing n) → most_refusals ≤ n
     pub answered : ends.cause ≡ None → IsAllAnswered ends.consoles.items ends.rings.inboxes.items ends.flusher.outboxes.items
 
   -- all ends of a run, as its threads returned them

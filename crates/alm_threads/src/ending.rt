@@ -49,7 +49,7 @@ pub fn close_flusher<
         K.Device.honest (K.disk flusher.flusher.store) }
     ensures parts { (result.0.store ≡ flusher.flusher.store) ×
         (result.0.outboxes ≡ flusher.flusher.outboxes) × (result.0.fetch ≡ flusher.flusher.fetch) }
-    ensures moments { result.1 ≡ flusher.moments }
+    ensures moments { result.1 ≡ flusher.recorder }
     ensures flushed { HaveFlushed K.Store K.Device.Disk flusher.first.value result.1 result.0 }
 {
     // for the proof: the contracts of `keeper` and `images` say what is stored, and what a crash leaves

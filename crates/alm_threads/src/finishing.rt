@@ -170,8 +170,7 @@ pub fn finish<
     ensures honest { K.Device.honest (K.disk flusher.old.flusher.store) ↔
         K.Device.honest (K.disk flusher.new.flusher.store) }
     ensures first { flusher.new.first ≡ flusher.old.first }
-    ensures stopped { IfSome result
-        (λ why. StopsFor why flusher.new.failed flusher.new.lost flusher.new.refused) }
+    ensures stopped { IfSome result (λ why. StopsFor why flusher.new.failed flusher.new.refused) }
     ensures failed { flusher.new.failed ≡ true → result ≡ Some StopCause.Store }
     ensures done { result ≡ None → (flusher.new.failed ≡ false) ×
         IsAllAnswered consoles.new sequencer.new.inboxes.items flusher.new.flusher.outboxes.items }

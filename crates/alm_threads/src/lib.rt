@@ -66,8 +66,8 @@
 //! - no receipt or look has more than the floor of its moments says (by the types `Durable`, `RecordedFlusher`)
 //! - reports stand in the order of slots; whole is said exactly if the store goes on and all that was sent was taken and
 //!   answered (by `run_with_bells`, the type `RunReport`)
-//! - **a run that isn't whole has its cause: a failed step of the store, 1,000 refused publishes in a row, or no further
-//!   moment** (by `finish`, `RecordedFlusher::cause`, the type `RunReport`)
+//! - **a run that isn't whole has its cause: a failed step of the store, or 1,000 refused publishes in a row** (by `finish`,
+//!   `RecordedFlusher::cause`, the type `RunReport`)
 //! - a step of the store fails only if the device failed, or in the last epoch (by `run_with_bells`)
 //! - a run that can't be started returns its store as it was (by `run_with_bells`)
 //! - any number of runs, each opened on what a crash at any moment left of the one before, keep all actions that were

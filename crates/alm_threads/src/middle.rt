@@ -8,7 +8,7 @@ ghost use Rattle.alm_types.specs.Sizes.{most_actions};
 
 use crate::flusher_parts::FlusherParts;
 use crate::rings::Rings;
-use alm_moments::{Moments, MomentsLength, RunId};
+use alm_moments::{Recorder, RunId};
 use alm_plant::Plant;
 use alm_rings::Told;
 use alm_store::Store;
@@ -20,15 +20,14 @@ pub struct Middle<K: Store, T: Told + Drop, J: RunId> {
     pub plant: Plant,
     pub rings: Rings,
     pub flusher: FlusherParts<K, T>,
-    /// The end of the history of moments, and what was seen of it: none.
-    pub recorder: MomentsLength<J>,
-    pub moments: Moments<J>,
+    /// The history of moments: none so far.
+    pub recorder: Recorder<J>,
     /// The run is named after the store.
     pub ghost base: { J.base ≡ (K.state flusher.store).stored },
     pub ghost device: { J.first ≡ K.Device.state (K.disk flusher.store) },
     pub ghost honest: { ∥ (J.honest ↔ K.Device.honest (K.disk flusher.store)) ∥₁ },
     pub ghost recovers: { ∥ ((b : List ℕ) (p : Condensed) → (J.recovers b p ↔ K.recovers b p)) ∥₁ },
-    pub ghost none: { moments ≡ [] },
+    pub ghost none: { recorder ≡ [] },
     pub ghost idle: { (K.state flusher.store).phase ≡ Idle },
     pub ghost limit: { plant.panel.count ≤ most_actions },
     pub ghost live: { plant ≡ (K.state flusher.store).stored },

@@ -14,10 +14,11 @@ use crate::slots::open_some;
 use crate::watched_look::{WatchedLook, watched};
 use alm_disk::Hold;
 use alm_model::Alarms;
-use alm_moments::{Moments, RunId};
+use alm_history::NewHistory;
+use alm_moments::{Moments, Recorder, RunId};
 use alm_plant::Plant;
 use alm_rings::{SlotEnds, batches_beside, open_batches};
-use alm_shared::{Durable, NewHistory, NewRun, SharedBoard, SharedLook, open_board};
+use alm_shared::{Durable, Growth, NewRun, SharedBoard, SharedLook, open_board};
 use alm_store::{Phase, Store};
 use alm_types::Slot;
 use std::alloc::{AllocError, Global};
@@ -27,7 +28,7 @@ use std::sync::Wait;
 fn board_of<'h, J: RunId, P: Alarms + Drop, H: Hold, R: Wait>(
     rt: &R,
     alloc: Global,
-    history: NewHistory,
+    history: NewHistory<Growth>,
     moments: &Moments<J>,
     plant: P,
     slots: &[Slot],
@@ -51,7 +52,8 @@ fn board_of<'h, J: RunId, P: Alarms + Drop, H: Hold, R: Wait>(
     }
 }
 
-/// The parts of a run for these slots, over an idle store; each look reports to the hold. The store is returned if out of memory.
+/// The parts of a run for these slots, over an idle store; each look reports to the hold. The store is returned if out of memory, or
+/// if somebody else has begun one of the run's histories, which never comes.
 pub fn parts_of<'h, J: RunId, K: Store, H: Hold, R: Wait>(
     rt: &R,
     alloc: Global,
@@ -75,7 +77,9 @@ pub fn parts_of<'h, J: RunId, K: Store, H: Hold, R: Wait>(
     ensures refused { IfErr result (λ back. back ≡ store) }
 {
     let NewRun { history, moments } = new;
-    let (recorder, moments) = moments.named::<J, K>(&store);
+    let Some(recorder) = Recorder::<J>::new(moments, &store) else {
+        return Err(store);
+    };
     let named = slots.as_slice();
     let Ok(slot_ends) = open_some(alloc, named) else {
         return Err(store);
@@ -91,7 +95,7 @@ pub fn parts_of<'h, J: RunId, K: Store, H: Hold, R: Wait>(
         return Err(store);
     };
     let Ok((board, looks)) = board_of::<J, Plant, H, R>(
-        rt, alloc, history, &moments, shown, named, hold,
+        rt, alloc, history, &recorder.moments(), shown, named, hold,
     ) else {
         return Err(store);
     };
@@ -115,7 +119,6 @@ pub fn parts_of<'h, J: RunId, K: Store, H: Hold, R: Wait>(
             rings: Rings { inboxes, ends },
             flusher,
             recorder,
-            moments,
         },
     })
 }

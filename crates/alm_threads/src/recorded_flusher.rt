@@ -8,14 +8,14 @@ ghost use Rattle.alm_store.specs.declared.phase.Phase.TheVariants.{Stopped};
 ghost use Rattle.alm_flush.specs.Flushes.{IsGivenUp};
 ghost use Rattle.alm_flush.specs.HeldBatch.{stored_of};
 ghost use Rattle.alm_threads.specs.Histories.{AreInOrder};
-ghost use Rattle.alm_moments.specs.Moments.{AreMoments, moment_of, now_of};
+ghost use Rattle.alm_moments.specs.Moments.{moment_of, now_of};
 ghost use Rattle.alm_moments.specs.Naming.{IsNamedAfter};
 
 use crate::flusher_parts::FlusherParts;
 use crate::stop_cause::StopCause;
 use alm_board::{Board, Publish};
 use alm_flush::{Advance, Fetch, Flusher, Publishes, Release};
-use alm_moments::{CurrentState, Moments, MomentsLength, RunId};
+use alm_moments::{CurrentState, Moments, Recorder, RunId};
 use alm_rings::{FetchEnds, Outbox, SealEnds, Told};
 use alm_store::{Phase, Store};
 use alm_types::Entry;
@@ -55,13 +55,10 @@ pub struct RecordedFlusher<K: Store, T: Told + Drop, B: Board<Told = T>, J: RunI
     flusher: Flusher<K, T, B>,
     // The store with which the run began.
     first: Snapshot<K>,
-    // Nobody else adds to the history.
-    recorder: MomentsLength<J>,
-    moments: Moments<J>,
+    // The history so far.
+    recorder: Recorder<J>,
     // Up to which count actions may be reported.
     floor: u64,
-    // The history took no further moment: nothing continues then. No run meets it.
-    lost: bool,
     // A step of the store has failed: nothing continues then.
     failed: bool,
     // How many publishes in a row were refused.
@@ -73,13 +70,9 @@ pub struct RecordedFlusher<K: Store, T: Told + Drop, B: Board<Told = T>, J: RunI
     pub ghost honest: { ∥ (J.honest → K.Device.honest (K.disk flusher.store)) ∥₁ },
     pub ghost recovers: { ∥ ((b : List ℕ) (p : Condensed) → (J.recovers b p ↔ K.recovers b p)) ∥₁ },
     /// The last moment is the one that is now.
-    pub ghost last: { lost ≡ false → now_of J.base J.first moments ≡
+    pub ghost last: { now_of J.base J.first recorder ≡
         moment_of (K.Device.state (K.disk flusher.store))
         (accepted_of (entries_in (fetched_of flusher.fetch))) floor },
-    /// If the history didn't take it, it follows all the same.
-    pub ghost untaken: { lost ≡ true → AreMoments J.honest J.recovers J.base J.first
-        (moments ++ moment_of (K.Device.state (K.disk flusher.store))
-        (accepted_of (entries_in (fetched_of flusher.fetch))) floor ∷ []) },
     /// What is published may be reported, and what may be reported is stored.
     pub ghost shown: { J.base.panel.count + length (B.published flusher.board) ≤ floor },
     pub ghost stored: { floor ≤ J.base.panel.count +
@@ -111,8 +104,7 @@ impl<K: Store, T: Told + Drop, B: Board<Told = T>, J: RunId> RecordedFlusher<K, 
         board: B,
         outboxes: Vec<Outbox<T>>,
         fetch: FetchEnds,
-        recorder: MomentsLength<J>,
-        moments: Moments<J>,
+        recorder: Recorder<J>,
     ) -> Self
         requires apart { AreApart (λ o. o.slot) outboxes.items }
         requires released { (s : ℕ) → released_by s outboxes.items ≡ [] }
@@ -122,11 +114,11 @@ impl<K: Store, T: Told + Drop, B: Board<Told = T>, J: RunId> RecordedFlusher<K, 
         requires published { B.published board ≡ [] }
         requires pending { B.pending board ≡ [] }
         requires named { IsNamedAfter J.RunId K.Store K.Device.Disk store }
-        requires moments { moments ≡ [] }
+        requires recorder { recorder ≡ [] }
         ensures parts { (result.flusher.store ≡ store) × (result.flusher.board ≡ board) ×
             (result.flusher.outboxes ≡ outboxes) × (result.flusher.fetch ≡ fetch) }
         ensures first { result.first.value ≡ store }
-        ensures counts { (result.failed ≡ false) × (result.lost ≡ false) × (result.refused ≡ 0) }
+        ensures counts { (result.failed ≡ false) × (result.refused ≡ 0) }
     {
         let first = Snapshot::of(&store);
         let floor = store.count();
@@ -135,9 +127,7 @@ impl<K: Store, T: Told + Drop, B: Board<Told = T>, J: RunId> RecordedFlusher<K, 
             flusher,
             first,
             recorder,
-            moments,
             floor,
-            lost: false,
             failed: false,
             refused: 0,
         }
@@ -145,17 +135,14 @@ impl<K: Store, T: Told + Drop, B: Board<Told = T>, J: RunId> RecordedFlusher<K, 
 
     /// Why no further work is done, if there is a cause.
     pub fn cause(&self) -> Option<StopCause>
-        ensures some { IfSome result
-            (λ why. StopsFor why self.now.failed self.now.lost self.now.refused) }
+        ensures some { IfSome result (λ why. StopsFor why self.now.failed self.now.refused) }
         ensures none { result ≡ None → self.now.failed ≡ false }
         ensures failed { self.now.failed ≡ true → result ≡ Some StopCause.Store }
     {
         if self.failed {
             Some(StopCause::Store)
-        } else if self.lost {
-            Some(StopCause::History)
         } else if self.refused >= REFUSALS {
-            Some(StopCause::Publishing)
+            Some(StopCause::Publishing(self.refused))
         } else {
             None
         }
@@ -168,7 +155,7 @@ impl<K: Store, T: Told + Drop, B: Board<Told = T>, J: RunId> RecordedFlusher<K, 
             (self.new.flusher.board ≡ self.old.flusher.board) ×
             (self.new.flusher.outboxes ≡ self.old.flusher.outboxes) ×
             (self.new.first ≡ self.old.first) × (self.new.failed ≡ self.old.failed) ×
-            (self.new.lost ≡ self.old.lost) × (self.new.refused ≡ self.old.refused) }
+            (self.new.refused ≡ self.old.refused) }
         ensures ends { AreBatchEnds seal.new self.new.flusher.fetch × SameSealEnds seal.old seal.new ×
             SameFetchEnds self.old.flusher.fetch self.new.flusher.fetch }
         ensures sealed { sealed_of seal.new ≡ sealed_of seal.old }
@@ -190,13 +177,10 @@ impl<K: Store, T: Told + Drop, B: Board<Told = T>, J: RunId> RecordedFlusher<K, 
         ensures empty { result ≡ Fetch.Empty → (self.new.flusher.held ≡ Nothing) ×
             (fetched_of self.new.flusher.fetch ≡ fetched_of self.old.flusher.fetch) ×
             (coming_in self.old.flusher.fetch ≡ []) }
-        ensures answer { self.old.lost ≡ false → self.old.failed ≡ false →
+        ensures answer { self.old.failed ≡ false →
             FetchAnswers result self.old.flusher.held self.new.flusher.held self.old.flusher.fetch
             self.new.flusher.fetch }
     {
-        if self.lost {
-            return Fetch::Held;
-        }
         if self.failed {
             return Fetch::Held;
         }
@@ -210,7 +194,7 @@ impl<K: Store, T: Told + Drop, B: Board<Told = T>, J: RunId> RecordedFlusher<K, 
             fetch: self.flusher.fetch_ends(),
             floor: self.floor,
         };
-        self.lost = !self.moments.extend(&self.recorder, &now);
+        self.recorder.record(&now);
         fetched
     }
 
@@ -222,16 +206,13 @@ impl<K: Store, T: Told + Drop, B: Board<Told = T>, J: RunId> RecordedFlusher<K, 
             (self.new.refused ≡ self.old.refused) }
         ensures honest { K.Device.honest (K.disk self.old.flusher.store) ↔
             K.Device.honest (K.disk self.new.flusher.store) }
-        ensures answer { self.old.lost ≡ false → self.old.failed ≡ false →
+        ensures answer { self.old.failed ≡ false →
             AdvanceAnswers result (K.state self.old.flusher.store).phase self.old.flusher.held
             self.new.flusher.held }
-        ensures device { self.old.lost ≡ false → self.old.failed ≡ false →
+        ensures device { self.old.failed ≡ false →
             CallsDevice K.Store K.Device.Disk result (to_commit self.old.flusher.held)
             self.old.flusher.store self.new.flusher.store }
     {
-        if self.lost {
-            return Advance::Failed;
-        }
         if self.failed {
             return Advance::Failed;
         }
@@ -243,25 +224,22 @@ impl<K: Store, T: Told + Drop, B: Board<Told = T>, J: RunId> RecordedFlusher<K, 
             fetch: self.flusher.fetch_ends(),
             floor: self.floor,
         };
-        self.lost = !self.moments.extend(&self.recorder, &now);
+        self.recorder.record(&now);
         self.failed = has_failed(advanced);
         advanced
     }
 
-    // Lets all that is stored be reported: if that is more than before, by a moment. Whether the history has it.
-    fn raise_floor(&mut self) -> bool
-        requires { self.old.lost ≡ false }
+    // Lets all that is stored be reported: if that is more than before, by a moment.
+    fn raise_floor(&mut self)
         ensures same { (self.new.flusher ≡ self.old.flusher) × (self.new.first ≡ self.old.first) ×
             (self.new.failed ≡ self.old.failed) × (self.new.refused ≡ self.old.refused) }
-        ensures raised { result ≡ true → (self.new.lost ≡ false) ×
-            (self.new.floor ≡ (K.state self.old.flusher.store).stored.panel.count) }
-        ensures lost { result ≡ false → self.new.lost ≡ true }
+        ensures raised { self.new.floor ≡ (K.state self.old.flusher.store).stored.panel.count }
     {
         let store = self.flusher.keeper();
         store.images();
         let stored = store.count();
         if stored == self.floor {
-            return true;
+            return;
         }
         let now = CurrentState {
             store,
@@ -269,8 +247,7 @@ impl<K: Store, T: Told + Drop, B: Board<Told = T>, J: RunId> RecordedFlusher<K, 
             floor: stored,
         };
         self.floor = stored;
-        self.lost = !self.moments.extend(&self.recorder, &now);
-        !self.lost
+        self.recorder.record(&now);
     }
 
     /// Shows the committed batch. All that is stored may be reported before it.
@@ -286,16 +263,11 @@ impl<K: Store, T: Told + Drop, B: Board<Told = T>, J: RunId> RecordedFlusher<K, 
             (result ≡ Publishes.Published → self.new.refused ≡ 0) }
         ensures counted { result ≡ Publishes.OutOfMemory → self.old.refused < 2 ^ 64 - 1 →
             self.new.refused ≡ self.old.refused + 1 }
-        ensures answer { self.new.lost ≡ false →
-            PublishAnswers result self.old.flusher.held self.new.flusher.held }
+        ensures answer { PublishAnswers result self.old.flusher.held self.new.flusher.held }
     {
-        if self.lost {
-            return Publishes::NotYet;
-        }
-        if !self.raise_floor() {
-            return Publishes::NotYet;
-        }
-        let published = self.flusher.publish::<R, Moments<J>>(rt, &self.moments);
+        self.raise_floor();
+        let moments = self.recorder.moments();
+        let published = self.flusher.publish::<R, Moments<J>>(rt, &moments);
         self.refused = refused_after(published, self.refused);
         published
     }
@@ -356,11 +328,11 @@ impl<K: Store, T: Told + Drop, B: Board<Told = T>, J: RunId> RecordedFlusher<K, 
         ensures board { result.0 ≡ self.flusher.board }
         ensures parts { (result.1.store ≡ self.flusher.store) ×
             (result.1.outboxes ≡ self.flusher.outboxes) × (result.1.fetch ≡ self.flusher.fetch) }
-        ensures moments { result.2 ≡ self.moments }
+        ensures moments { result.2 ≡ self.recorder }
     {
         let RecordedFlusher {
             flusher,
-            moments,
+            recorder,
             ..
         } = self;
         let (store, board, outboxes, fetch) = flusher.into_ends();
@@ -369,6 +341,6 @@ impl<K: Store, T: Told + Drop, B: Board<Told = T>, J: RunId> RecordedFlusher<K, 
             outboxes,
             fetch,
         };
-        (board, parts, moments)
+        (board, parts, recorder.moments())
     }
 }

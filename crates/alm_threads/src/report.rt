@@ -1,9 +1,10 @@
 //! What a run leaves.
-ghost use Rattle.std.specs.Prelude.{◌≡◌, ◌≢◌, IsSome, None, Some};
+ghost use Rattle.std.specs.Prelude.{◌≡◌, ◌≢◌, ◌≤◌, ℕ, IsSome, None, Some};
 ghost use Rattle.alm_store.specs.declared.phase.Phase.TheVariants.{Stopped};
 ghost use Rattle.alm_threads.specs.declared.stop_cause.StopCause.TheVariants as stop_cause;
 ghost use Rattle.alm_threads.specs.declared.storage.Storage.TheVariants as variant;
 ghost use Rattle.alm_threads.specs.Answered.{AllAnswered};
+ghost use Rattle.alm_threads.specs.Causes.{most_refusals};
 
 use crate::stop_cause::StopCause;
 use crate::storage::Storage;
@@ -31,6 +32,7 @@ pub struct RunReport<K: Store, T: Told + Drop, J: RunId> {
     pub ghost whole: { (K.state keeper).phase ≢ Stopped → AllAnswered slots.items →
         storage ≡ variant.Whole },
     pub ghost caused: { storage ≡ variant.Stopped → IsSome cause },
+    pub ghost refused: { (n : ℕ) → cause ≡ Some (stop_cause.Publishing n) → most_refusals ≤ n },
     pub ghost uncaused: { storage ≡ variant.Whole → cause ≡ None },
     pub ghost stopped: { (K.state keeper).phase ≡ Stopped → cause ≡ Some stop_cause.Store },
 }

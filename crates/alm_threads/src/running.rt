@@ -90,7 +90,6 @@ where
         rings,
         flusher,
         recorder,
-        moments,
     } = middle;
     let FlusherParts {
         store,
@@ -111,7 +110,7 @@ where
             return Err(NotStarted { fault, store });
         }
     };
-    let mut flusher = RecordedFlusher::new(store, board, outboxes, fetch, recorder, moments);
+    let mut flusher = RecordedFlusher::new(store, board, outboxes, fetch, recorder);
     flush(rt, flags, &mut flusher);
     let Joined { consoles, sources } = join_all(rt, sources, room);
     Ok(JoinedEnds {

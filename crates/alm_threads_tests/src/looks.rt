@@ -8,7 +8,7 @@ use alm_desk::worked_table;
 use alm_disk::MemDisk;
 use alm_keeper::{Keeper, Phase};
 use alm_model::Alarms;
-use alm_moments::RunId;
+use alm_moments::{Recorder, RunId};
 use alm_plant::Plant;
 use alm_shared::{NewRun, open_board};
 use alm_store::Store;
@@ -62,12 +62,12 @@ fn answered_in_turn<J: RunId, K: Store, R: Wait>(
     requires idle { (K.state store).phase ≡ Phase.Idle }
 {
     let NewRun { history, moments } = new;
-    let (_recorder, moments) = moments.named::<J, K>(&store);
+    let recorder = Recorder::<J>::new(moments, &store)?;
     let Ok(plant) = store.stored().copy(alloc) else {
         return None;
     };
     let mut answer = Answer::new(alloc);
-    match open_board::<J, Plant, R>(rt, alloc, history, &moments, plant, 1) {
+    match open_board::<J, Plant, R>(rt, alloc, history, &recorder.moments(), plant, 1) {
         Ok((board, mut looks)) => {
             let before = looks.get_mut(0).map(|look| answered(look, &mut answer));
             drop(board.take(rt));

@@ -9,7 +9,8 @@ use alm_desk::worked_table;
 use alm_disk::MemDisk;
 use alm_keeper::Keeper;
 use alm_model::Alarms;
-use alm_moments::{NewMoments, RunId};
+use alm_history::NewHistory;
+use alm_moments::{RecordedMoment, Recorder, RunId};
 use alm_plant::Plant;
 use alm_rings::{SealEnds, SlotEnds, batches_beside, open_batches, open_slots};
 use alm_store::{Phase, Store};
@@ -77,7 +78,7 @@ pub fn seals_one(ends: &mut SealEnds, clock: Slot) -> bool {
 fn told_behind<J: RunId, K: Store, R: Wait>(
     rt: &R,
     alloc: Global,
-    new: NewMoments,
+    new: NewHistory<RecordedMoment>,
     store: K,
     refusals: u64,
 ) -> Option<(Option<u64>, bool)>
@@ -85,7 +86,7 @@ fn told_behind<J: RunId, K: Store, R: Wait>(
     requires named { IsNamedAfter J.RunId K.Store K.Device.Disk store }
     requires idle { (K.state store).phase ≡ Phase.Idle }
 {
-    let (recorder, moments) = new.named::<J, K>(&store);
+    let recorder = Recorder::<J>::new(new, &store)?;
     let clock = Slot::new(17)?;
     let Ok(shown) = store.stored().copy(alloc) else {
         return None;
@@ -111,7 +112,7 @@ fn told_behind<J: RunId, K: Store, R: Wait>(
         inboxes: _,
         outboxes,
     } = slot_ends;
-    let mut flusher = RecordedFlusher::new(store, board, outboxes, fetch, recorder, moments);
+    let mut flusher = RecordedFlusher::new(store, board, outboxes, fetch, recorder);
     flush(rt, &flags, &mut flusher);
     drop(close_flusher(rt, flusher));
     let told = match consoles.get_mut(17) {
@@ -137,7 +138,7 @@ fn told_on<K: Store, R: Wait>(
 ) -> Option<(Option<u64>, bool)> {
     match K::open(alloc, disk) {
         Ok(store) => {
-            let new = NewMoments::new();
+            let new = NewHistory::new();
             told_behind::<Brand, K, R>(rt, alloc, new, store, refusals)
         }
         Err(_) => None,

@@ -101,7 +101,6 @@ fn course_of<
         rings,
         flusher,
         recorder,
-        moments,
     } = middle;
     let Rings {
         inboxes: _,
@@ -113,7 +112,7 @@ fn course_of<
         fetch,
     } = flusher;
     let sealed = seals_one(&mut ends, clock);
-    let mut flusher = RecordedFlusher::new(store, board, outboxes, fetch, recorder, moments);
+    let mut flusher = RecordedFlusher::new(store, board, outboxes, fetch, recorder);
     let committed = sealed && commits(&mut flusher);
     let first = shows(rt, &mut flusher, &mut looks, answer);
     let second = shows(rt, &mut flusher, &mut looks, answer);

@@ -166,7 +166,7 @@ fn storage_is_stopped_behind_a_thousand_refused_publishes(rt: HostRuntime) -> Re
     for (refusals, storage, cause) in [
         (0, Storage::Whole, None),
         (999, Storage::Whole, None),
-        (1_000, Storage::Stopped, Some(StopCause::Publishing)),
+        (1_000, Storage::Stopped, Some(StopCause::Publishing(1_000))),
     ] {
         let disk = formatted(rt.alloc(), &table).ok_or("formatted")?;
         let left = left_over::<Keeper<MemDisk>, _>(&rt, rt.alloc(), disk, refusals);

@@ -27,9 +27,9 @@ returns-clause-flushed g c =
     let list = accepted_of (entries_in (fetched_of f.fetch)) in
     let number = stored.panel.count + length (accepted_of told) in
     let reaches : number ≤ r.floor = omega (arith, r.shown, released_shown before f.held (g.B.Board.published f.board) f.published, ap (λ q. q.panel.count) named) in
-    let course : Endures (d.honest (s.disk r.first.value)) s.recovers j.base j.first (d.state (s.disk f.store)) r.moments list number =
-    endures_of j.honest (d.honest (s.disk r.first.value)) j.recovers s.recovers j.base j.first (d.state (s.disk f.store)) r.moments list r.floor number r.lost
-    r.premise r.recovers reaches (subst (λ l. AreMoments j.honest j.recovers j.base j.first l) c.into_ends-board.ensures.moments c.stands.ensures) r.last r.untaken in
+    let course : Endures (d.honest (s.disk r.first.value)) s.recovers j.base j.first (d.state (s.disk f.store)) r.recorder list number =
+    endures_of j.honest (d.honest (s.disk r.first.value)) j.recovers s.recovers j.base j.first (d.state (s.disk f.store)) r.recorder list r.floor number
+    r.premise r.recovers reaches (subst (λ l. AreMoments j.honest j.recovers j.base j.first l) c.into_ends-board.ensures.moments c.stands.ensures) r.last in
     rw (c.into_ends-board.ensures.parts.0, c.into_ends-board.ensures.parts.1, c.into_ends-board.ensures.parts.2, c.into_ends-board.ensures.moments) (record {
       kept = entries_in before ++ stored_of f.held;
       fetched = kept_front before f.held (fetched_of f.fetch) f.held_is;
@@ -39,8 +39,8 @@ returns-clause-flushed g c =
       device = (c.requires.honest, λ h b is. one_of (s.recovers b) (s.state f.store).stored (s.state f.store).next _ (images h b is) f.either);
       told = told;
       within = told_kept before f.held;
-      course = subst (λ x. Endures (d.honest (s.disk r.first.value)) s.recovers stored x (d.state (s.disk f.store)) r.moments list number) r.device
-          (subst (λ (q : Condensed). Endures (d.honest (s.disk r.first.value)) s.recovers q j.first (d.state (s.disk f.store)) r.moments list number) named course);
+      course = subst (λ x. Endures (d.honest (s.disk r.first.value)) s.recovers stored x (d.state (s.disk f.store)) r.recorder list number) r.device
+          (subst (λ (q : Condensed). Endures (d.honest (s.disk r.first.value)) s.recovers q j.first (d.state (s.disk f.store)) r.recorder list number) named course);
       released = f.released;
       numbers = c.keeper-stored.ensures.numbers;
     })

@@ -13,7 +13,7 @@ pub invariant_of-result-clause-recovers : goal.invariant_of-result-clause-recove
 invariant_of-result-clause-recovers g c = c.requires.named.recovers
 
 pub invariant_of-result-clause-none : goal.invariant_of-result-clause-none
-invariant_of-result-clause-none g c = c.named-recorder.ensures
+invariant_of-result-clause-none g c = c.in-Some.ensures
 
 pub invariant_of-result-clause-inboxes : goal.invariant_of-result-clause-inboxes
 invariant_of-result-clause-inboxes g c = c.in-Ok.ensures.new.inboxes_apart

@@ -21,8 +21,7 @@ invariant_of-self g c =
       base = r.base ∙ sym (ap b.base e.same.1);
       honest = ∥∥₁_map r.honest (λ p h. subst (λ x. g.K.Device.Disk.honest (s.disk x)) (sym e.same.0) (p h));
       recovers = r.recovers;
-      last = λ lost. r.last lost ∙ ap (λ x. moment_of (g.K.Device.Disk.state (s.disk x)) (accepted_of (entries_in (fetched_of o.fetch))) r.floor) (sym e.same.0) ∙ ap (λ l. moment_of (g.K.Device.Disk.state (s.disk n.store)) (accepted_of (entries_in l)) r.floor) (sym e.sealed.1);
-      untaken = rw (e.same.0, e.sealed.1) r.untaken;
+      last = r.last ∙ ap (λ x. moment_of (g.K.Device.Disk.state (s.disk x)) (accepted_of (entries_in (fetched_of o.fetch))) r.floor) (sym e.same.0) ∙ ap (λ l. moment_of (g.K.Device.Disk.state (s.disk n.store)) (accepted_of (entries_in l)) r.floor) (sym e.sealed.1);
       shown = omega (arith, r.shown, ap (λ x. length (b.published x)) e.same.1);
       stored = omega (
         arith,

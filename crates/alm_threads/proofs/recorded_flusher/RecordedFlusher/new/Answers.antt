@@ -17,14 +17,14 @@ pub invariant_of-result-clause-recovers : goal.invariant_of-result-clause-recove
 invariant_of-result-clause-recovers g c = c.requires.named.recovers
 
 pub invariant_of-result-clause-last : goal.invariant_of-result-clause-last
-invariant_of-result-clause-last g c = λ lost.
+invariant_of-result-clause-last g c =
     let j = g.J.RunId in
     let s = g.K.Store in
     let f = c.new-flusher.result in
     let parts = c.new-flusher.ensures.parts in
     let device = g.K.Device.Disk.state (s.disk f.store) in
     let floor : j.base.panel.count ≡ c.count-floor.result = omega (arith, c.count-floor.ensures, ap (λ q. q.panel.count) c.requires.named.base) in
-    ap (λ l. now_of j.base j.first l) c.requires.moments
+    ap (λ l. now_of j.base j.first l) c.requires.recorder
     ∙ (ap (λ d. moment_of d [] j.base.panel.count) (c.requires.named.device ∙ ap (λ k. g.K.Device.Disk.state (s.disk k)) (sym parts.0))
     ∙ (ap (λ l. moment_of device (accepted_of (entries_in l)) j.base.panel.count) (sym c.requires.fetched ∙ ap fetched_of (sym parts.3))
     ∙ ap (λ n. moment_of device (accepted_of (entries_in (fetched_of f.fetch))) n) floor))
@@ -47,9 +47,6 @@ invariant_of-result-clause-device g c = c.requires.named.device ∙ ap (λ k. g.
 
 pub invariant_of-result-clause-premise : goal.invariant_of-result-clause-premise
 invariant_of-result-clause-premise g c = subst (λ (k : _). ∥ (g.J.RunId.honest ↔ g.K.Device.Disk.honest (g.K.Store.disk k)) ∥₁) (sym c.of-first.ensures) c.requires.named.honest
-
-pub invariant_of-result-clause-untaken : goal.invariant_of-result-clause-untaken
-invariant_of-result-clause-untaken g c = λ lost. absurd (cc lost)
 
 pub invariant_of-result-clause-shown : goal.invariant_of-result-clause-shown
 invariant_of-result-clause-shown g c =

@@ -20,25 +20,25 @@ publish-published-requires g c =
     let s = g.K.Store in
     let b = g.B.Board in
     let r = c.raise_floor.new.self in
-    let raised = c.if-not-raise_floor.ensures.raised refl in
+    let raised = c.raise_floor.ensures.raised in
     let o = r.flusher in
     let before = fetched_of o.before.value in
     let list = accepted_of (entries_in before ++ stored_of o.held) in
     let floor : r.floor ≡ j.base.panel.count + length list =
     omega (
       arith,
-      raised.1,
-      ap (λ f. (s.state f.store).stored.panel.count) c.if-not-raise_floor.ensures.same.0,
+      raised,
+      ap (λ f. (s.state f.store).stored.panel.count) c.raise_floor.ensures.same.0,
       ap (λ q. q.panel.count) o.stored,
       run_count (b.base o.board) list,
       ap (λ q. q.panel.count) r.base,
     ) in
-    let last = r.last raised.0 in
+    let last = ap (λ (l : List RecordedMoment). now_of j.base j.first l) c.moments-moments.ensures ∙ r.last in
     let shown : b.published o.board ++ accepted_of (ready_of o.held) ≡ list = shown_next (entries_in before) o.held (b.published o.board) o.published in
     record {
       vouched = (
         omega (arith, floor, ap length shown, ap (λ (m : RecordedMoment). m.floor) last),
-        ∣ subst (λ (l : List Action). IsPrefix l (now_of j.base j.first r.moments).accepted) (sym shown)
+        ∣ subst (λ (l : List Action). IsPrefix l (now_of j.base j.first c.moments-moments.result).accepted) (sym shown)
             (subst (λ (l : List Action). IsPrefix list l) (sym (ap (λ (m : RecordedMoment). m.accepted) last))
             (accepted_prefix (entries_in before ++ stored_of o.held) (entries_in (fetched_of o.fetch)) (kept_front before o.held (fetched_of o.fetch) o.held_is))) ∣₁,
       );
@@ -50,7 +50,7 @@ invariant_of-self g c =
     let b = g.B.Board in
     let j = g.J.RunId in
     let r = c.raise_floor.new.self in
-    let raised = c.if-not-raise_floor.ensures.raised refl in
+    let raised = c.raise_floor.ensures.raised in
     let o = r.flusher in
     let n = c.publish-published.new.self in
     let e = c.publish-published.ensures in
@@ -60,8 +60,8 @@ invariant_of-self g c =
     let floor : r.floor ≡ j.base.panel.count + length list =
     omega (
       arith,
-      raised.1,
-      ap (λ f. (s.state f.store).stored.panel.count) c.if-not-raise_floor.ensures.same.0,
+      raised,
+      ap (λ f. (s.state f.store).stored.panel.count) c.raise_floor.ensures.same.0,
       ap (λ q. q.panel.count) o.stored,
       run_count (b.base o.board) list,
       ap (λ q. q.panel.count) r.base,
@@ -78,10 +78,9 @@ invariant_of-self g c =
       base = r.base ∙ sym e.base;
       honest = ∥∥₁_map r.honest (λ p h. subst (λ x. g.K.Device.Disk.honest (s.disk x)) (sym e.same.0) (p h));
       recovers = r.recovers;
-      last = λ lost. r.last lost
+      last = r.last
           ∙ ap (λ x. moment_of (g.K.Device.Disk.state (s.disk x)) all r.floor) (sym e.same.0)
           ∙ ap (λ f. moment_of (g.K.Device.Disk.state (s.disk n.store)) (accepted_of (entries_in (fetched_of f))) r.floor) (sym e.same.3);
-      untaken = λ lost. absurd (cc (lost, raised.0));
       shown = omega (arith, floor, kept, shown_stored (entries_in (fetched_of n.before.value)) n.held (b.published n.board) n.published);
       stored = omega (arith, floor, kept);
       stopped = λ phase. r.stopped (ap (λ x. (s.state x).phase) (sym e.same.0) ∙ phase);
