@@ -44,7 +44,7 @@ GROUPS = {
     ],
     "From request to receipt": ["alm_rings", "alm_board", "alm_shared", "alm_seq", "alm_flush"],
     "One thread": ["alm_pipeline", "alm_bench", "alm_progress", "alm_stack"],
-    "Threads and the server": ["alm_wake", "alm_moments", "alm_threads", "alm_session", "alm_serve"],
+    "Threads and the server": ["alm_wake", "alm_history", "alm_moments", "alm_threads", "alm_session", "alm_serve"],
 }
 # How each claim begins that stands on the page in place of its crate's first one; none, if what a crate is for is said
 # by the claims of those above it, or by another page.
@@ -57,9 +57,10 @@ CHOSEN = {
     "alm_export": [],
     "alm_progress": [],
     "alm_wake": [],
+    "alm_history": [],
     "alm_moments": [],
     "alm_keeper": ["a crash at any moment of a commit", "opening returns the plant"],
-    "alm_shared": ["a look of the threads", "**what a receipt reports"],
+    "alm_shared": ["a look of the threads", "**what a look answers", "**what a receipt reports"],
     "alm_flush": ["a verdict is released only if"],
     "alm_threads": [
         "of a run that ended",
