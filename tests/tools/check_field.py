@@ -346,7 +346,7 @@ def guarded_broker(yard: Yard, pub: str) -> Broker:
         os.chmod(yard.path(name), 0o644)
     return Broker(
         yard,
-        f"password_file {yard.path('passwords')}\nallow_anonymous false\nuser root\n"
+        f"password_file {yard.path('passwords')}\nallow_anonymous false\n"
         f"certfile {pub}\nkeyfile {yard.path('key.pem')}\n",
     )
 

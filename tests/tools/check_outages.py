@@ -1,5 +1,5 @@
-"""What comes while the server hangs or is away, and what a broker keeps that is no value. tests/tools/field.py runs these
-checks.
+"""What comes while the server hangs or is away, and what a broker keeps that is no value. tests/tools/field.py runs
+these checks.
 """
 import signal
 import time
@@ -42,7 +42,9 @@ def poisons(yard: Yard, _: int) -> str:
             feed = plant.feed(*words)
             plant.becomes(f"the other topic beside {payload[:30]}", False, bool(number % 2))
             await_true(why, lambda: plant.said()[before:].endswith(f": {why}\n"))
-            check(feed.poll() is None and "Traceback" not in plant.said(), payload[:30], "ends it:", plant.said()[-500:])
+            check(
+                feed.poll() is None and "Traceback" not in plant.said(), payload[:30], "ends it:", plant.said()[-500:]
+            )
             ended(feed)
     feed = plant.feed(*words)
     published(broker, "a", "390", "-r")
