@@ -29,6 +29,7 @@ from pathlib import Path
 
 from lib.tools import Yard, end_all, slowness
 
+import check_access
 import check_field
 import check_outages
 import check_pace
@@ -123,7 +124,8 @@ def all_mends(program: str, folder: str, sizes: tuple, seed: int) -> str:
 
 def all_checks(yard: Yard, sizes: tuple, seed: int, pace: tuple) -> str:
     """The storm and the single checks beside each other, and behind them how soon alarms come."""
-    single = {**check_field.CHECKS, **check_registers.CHECKS, **check_outages.CHECKS}
+    parts = (check_field, check_registers, check_outages, check_access)
+    single = {name: one for part in parts for name, one in part.CHECKS.items()}
     checks = {"storm": lambda yard, _: storm(yard, sizes, seed), **single}
     said = run_checks(yard.program, yard.folder, checks, list(checks), 0)
     os.makedirs(yard.path("pace"))
