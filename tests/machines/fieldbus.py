@@ -5,10 +5,10 @@
 
 The package is built of PROGRAM, and FOLDER is started in a container: container.py says how it is made. It needs
 python3-pymodbus and python3-serial-asyncio too. The plant is formatted and started by START's blocks; then the
-blocks of "A register, step by step" are pasted in their order, word for word, as by one who knows no field bus. The
-device is one of Debian's own pymodbus, at the page's address. It is judged that the page's own line comes from --show,
-that the alarm comes with the level and goes with it, and that the watching alarm comes as the device's cable is pulled
-and as the feed is stopped.
+blocks of "A register, step by step" are pasted in their order, word for word, as by one who knows no field bus and
+reads the file in a pager. The device is the page's own, at the page's address. It is judged that the page's own line
+comes from --show, that the alarm comes with the level and goes with it, and by another setpoint, and that the watching
+alarm comes as the device's cable is pulled, and as the feed is stopped, or hangs.
 
 It needs root, systemd-nspawn and dpkg-deb. It ends with status 77 where one isn't there, no FOLDER is given or FOLDER
 lacks a package.
@@ -19,34 +19,24 @@ import shutil
 import subprocess
 import sys
 import time
-from typing import Iterator
+from typing import Callable, Iterator
 
 import container
 import systemd
 from alarms.client import Client, Lost
+from alarms.replies import State
 from alarms.table_file import Alarm
 from lib.places import TOP
 from lib.program import Wrong, begin, check, finish
-from lib.tools import await_true, end_all, started
+from lib.tools import PATIENCE, await_true, end_all, started
 from quarter import PAGES, SOCKETS, Terminal
 
 SECTION, ADDRESS = "A register, step by step", "192.0.2.7"
 INSTALLED = {"python3-pymodbus": "pymodbus", "python3-serial-asyncio": "serial_asyncio"}
 
 
-# A device of pymodbus: each line of standard input is the level, in registers 40101 and 40102; at its end it is gone.
-DEVICE = """
-import os, struct, sys, threading
-from pymodbus.datastore import ModbusSequentialDataBlock, ModbusServerContext, ModbusSlaveContext
-from pymodbus.server import StartTcpServer
-unit = ModbusSlaveContext(hr=ModbusSequentialDataBlock(0, [0] * 200), zero_mode=True)
-def levels():
-    for line in sys.stdin:
-        unit.setValues(3, 100, list(struct.unpack(">HH", struct.pack(">f", float(line)))))
-    os._exit(0)
-threading.Thread(target=levels, daemon=True).start()
-StartTcpServer(context=ModbusServerContext(slaves=unit, single=True), address=(sys.argv[1], 502))
-"""
+# The page's device: each line of standard input is the level; at its end it is gone.
+DEVICE = "/usr/lib/alarms/examples/level_device.py"
 
 
 class Newcomer:
@@ -71,12 +61,19 @@ class Newcomer:
         return run.stdout
 
     def blocks(self, page: str, heading: str) -> Iterator[str]:
-        """The blocks of a section of the installed pages, in order; also those of a list."""
+        """The blocks of a section of the installed pages, in order; also those of a list, as they stand in the file."""
         with open(os.path.join(self.there.root, PAGES, page), encoding="utf-8") as file:
             section = re.search(rf"(?ms)^## {re.escape(heading)}\n(.*?)(?=^## |\Z)", file.read())
         check(section, page, "has no section", heading)
-        for indent, block in re.findall(r"(?ms)^( *)```sh\n(.*?)^\1```", section[1]):
-            yield re.sub(rf"(?m)^{indent}", "", block)
+        for _, block in re.findall(r"(?ms)^( *)```sh\n(.*?)^\1```", section[1]):
+            yield block
+
+    def finds(self, page: str, pattern: str) -> str:
+        """What a pattern finds on an installed page."""
+        with open(os.path.join(self.there.root, PAGES, page), encoding="utf-8") as file:
+            found = re.search(pattern, file.read())
+        check(found, page, "has no", pattern)
+        return found[1]
 
     def paste(self, block: str) -> str:
         """Runs a block at a terminal; what it printed."""
@@ -84,7 +81,7 @@ class Newcomer:
 
     def start_device(self) -> None:
         """The device's cable is put in."""
-        words = [*self.there.words, "python3", "-c", DEVICE, ADDRESS]
+        words = [*self.there.words, "python3", DEVICE, ADDRESS]
         self.device = started(
             subprocess.Popen(words, stdin=subprocess.PIPE, stderr=subprocess.DEVNULL, text=True, bufsize=1)
         )
@@ -102,22 +99,30 @@ class Newcomer:
         self.device.stdin.write(f"{level}\n")
         self.device.stdin.flush()
 
-    def alarms(self) -> dict[str, tuple[Alarm, bool]]:
-        """Each alarm by its tag, and whether its condition holds."""
+    def alarms(self) -> dict[str, tuple[Alarm, State]]:
+        """Each alarm by its tag, and its state."""
         try:
             with Client.connect(os.path.join(self.there.root, SOCKETS), 3) as console:
                 alarms = console.table().alarms
                 states = console.states(range(len(alarms)))
-                return {alarm.tag: (alarm, state.condition) for alarm, state in zip(alarms, states)}
+                return {alarm.tag: (alarm, state) for alarm, state in zip(alarms, states)}
         except (Lost, OSError):
             return {}
+
+    def at_console(self, tag: str, asks: Callable[[Client, int], object]) -> None:
+        """Asks something of an alarm at a console."""
+        with Client.connect(os.path.join(self.there.root, SOCKETS), 3) as console:
+            numbers = {alarm.tag: number for number, alarm in enumerate(console.table().alarms)}
+            asks(console, numbers[tag])
 
     def are(self, what: str, **wanted: bool) -> None:
         """These alarms' conditions become so; `_` stands for the hyphen of a tag."""
 
         def is_so() -> bool:
             found = self.alarms()
-            return bool(found) and all(found[tag.replace("_", "-")][1] == holds for tag, holds in wanted.items())
+            return bool(found) and all(
+                found[tag.replace("_", "-")][1].condition == holds for tag, holds in wanted.items()
+            )
 
         await_true(what, is_so)
 
@@ -133,18 +138,18 @@ def serve_plant(one: Newcomer) -> None:
 def follow_page(one: Newcomer) -> None:
     """Each block of the section, in its order."""
     blocks = list(one.blocks("FIELD.md", SECTION))
-    check(len(blocks) == 6, "the section has", len(blocks), "blocks")
-    there, alarm, mapped, show, unit, seen = blocks
+    check(len(blocks) == 7, "the section has", len(blocks), "blocks")
+    libraries, there, alarm, mapped, show, unit, seen = blocks
+    one.paste(libraries)
+    check("no answer" in one.paste(there).splitlines(), "the page's second block finds a device where none is")
     one.level = "62.5"
     one.start_device()
-    check("there" in one.paste(there).splitlines(), "the page's first block doesn't find the device")
+    check("there" in one.paste(there).splitlines(), "the page's second block doesn't find the device")
     said = one.paste(alarm)
     check("setpoint = 850" in said and "0.1 %" in said, "alm_export says", said)
     one.paste(mapped)
     looks = Terminal([*one.there.words, "bash", "-c", show])
-    with open(os.path.join(one.there.root, PAGES, "FIELD.md"), encoding="utf-8") as file:
-        line = re.search(r"`(column/level says [^`]*)`", file.read())[1]
-    looks.says(re.escape(line))
+    looks.says(re.escape(one.finds("FIELD.md", r"`(column/level says [^`]*)`")))
     looks.end()
     one.paste(unit)
     time.sleep(2)
@@ -164,8 +169,15 @@ def after_that(one: Newcomer) -> None:
     one.are("the device again", LI_107=True, YS_124=False)
     one.rise("62.5")
     one.are("the end of the alarm", LI_107=False, YS_124=False)
-    one.run("systemctl", "kill", "--kill-whom=main", "--signal=KILL", "alm_feed@plant")
-    one.are("a feed that was killed, and is back", LI_107=False, YS_124=False)
+    for setpoint, holds in ((int(one.finds("FIELD.md", r"the setpoint, which is (\d+) for 60 %")), True), (850, False)):
+        one.at_console("LI-107", lambda console, alarm: console.setpoint(alarm, setpoint))
+        one.are(f"the alarm by a setpoint of {setpoint}", LI_107=holds, YS_124=False)
+    hanging = int(one.finds("FIELD.md", r"feed that hangs is ended by systemd after (\d+) seconds"))
+    for signal, patience in (("KILL", PATIENCE), ("STOP", PATIENCE + hanging)):
+        one.at_console("YS-124", lambda console, alarm: console.acknowledge(alarm))
+        one.run("systemctl", "kill", "--kill-whom=main", f"--signal={signal}", "alm_feed@plant")
+        what = f"the watching alarm of a feed after {signal}, and its return"
+        await_true(what, lambda: "YS-124" in (found := one.alarms()) and found["YS-124"][1].shown == "RTNUN", patience)
     one.run("systemctl", "stop", "alm_feed@plant")
     one.are("the watching alarm of a feed that is stopped", YS_124=True)
 

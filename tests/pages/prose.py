@@ -47,7 +47,7 @@ WENT_FROM_COMMENTS = WENT | {
     r"once it was done": "after",
 }
 COMMENT = re.compile(r"\s*(?://[/!]?|--)(?: |$)(.*)")
-FENCE = re.compile(r"^```.*?^```", re.DOTALL | re.MULTILINE)
+FENCE = re.compile(r"^ *```.*?^ *```", re.DOTALL | re.MULTILINE)
 CODE = re.compile(r"``.+?``|`[^`]+`", re.DOTALL)
 LINK = re.compile(r"\[([^\]]*)\]\([^)]*\)")
 URL = re.compile(r"https?://\S+")

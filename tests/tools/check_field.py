@@ -331,52 +331,6 @@ def named_pipe(yard: Yard, _: int) -> str:
     return "a named pipe"
 
 
-def guarded_broker(yard: Yard, pub: str) -> Broker:
-    """A broker with a certificate of its own, whose user `feed` has a password."""
-    subprocess.run(
-        "openssl req -x509 -newkey rsa:2048 -nodes -days 2 -subj /CN=127.0.0.1 -addext".split()
-        + ["subjectAltName=IP:127.0.0.1", "-keyout", yard.path("key.pem"), "-out", pub],
-        check=True,
-        capture_output=True,
-    )
-    subprocess.run(
-        ["mosquitto_passwd", "-b", "-c", yard.path("passwords"), "feed", "a word"], check=True, capture_output=True
-    )
-    for name in ("passwords", "key.pem"):
-        os.chmod(yard.path(name), 0o644)
-    return Broker(
-        yard,
-        f"password_file {yard.path('passwords')}\nallow_anonymous false\nuser root\n"
-        f"certfile {pub}\nkeyfile {yard.path('key.pem')}\n",
-    )
-
-
-def with_password(yard: Yard, _: int) -> str:
-    """A broker with TLS and a password: the right ones bring values, wrong ones a line."""
-    plant, pub = Plant(yard, "a,TI-1,10\n"), yard.path("ca.pem")
-    broker = guarded_broker(yard, pub)
-    url, word, wrong = (
-        f"mqtts://feed@127.0.0.1:{broker.port}",
-        yard.write("word", "a word\n"),
-        yard.write("wrong", "another\n"),
-    )
-    published(broker, "a", "390", "-r", "-u", "feed", "-P", "a word", "--cafile", pub)
-    for words, why in (
-        (("--mqtt-password", wrong, "--mqtt-ca", pub), "Not authorized"),
-        (("--mqtt-password", word), "certificate verify failed"),
-    ):
-        feed = plant.feed("--mqtt", url, *words)
-        await_true(why, lambda: why.lower() in plant.said().lower())
-        ended(feed)
-    check(not plant.holding()[0], "a value came without the password")
-    feed = plant.feed("--mqtt", url, "--mqtt-password", word, "--mqtt-ca", pub)
-    plant.becomes("the value by TLS", True)
-    ended(feed)
-    broker.kill()
-    plant.server.end()
-    return "TLS and a password"
-
-
 CHECKS = {
     one.__name__: one
     for one in (
@@ -391,6 +345,5 @@ CHECKS = {
         counted,
         without_library,
         named_pipe,
-        with_password,
     )
 }

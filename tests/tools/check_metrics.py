@@ -147,59 +147,85 @@ def lint(address: str) -> str:
 
 
 # A plant with an unacknowledged alarm and a flood, whose server dies after ten minutes and is back, in order, half an
-# hour later; and a taken slot.
+# hour later. Behind that each trouble comes for some minutes: of the feed, of the device, of the clock, of the pages.
 RULES = """
 rule_files: [RULES]
 evaluation_interval: 15s
 tests:
   - interval: 15s
     input_series:
-      - {series: 'up{job="alarms"}', values: '1x400'}
+      - {series: 'up{job="alarms"}', values: '1x385 0x15'}
       - {series: 'alarms_up', values: '1x39 0x119 1x240'}
       - {series: 'alarms_slot_taken', values: '0x250 1x150'}
-      - {series: 'alarms_clock_still_seconds', values: '1x39 stale _x118 1x240'}
+      - {series: 'alarms_clock_still_seconds', values: '1x39 stale _x118 1x219 20x20'}
       - {series: 'alarms_annunciated{priority="1",state="UNACK"}', values: '1x39 stale _x118 0x90 stale _x150'}
       - {series: 'alarms_annunciated{priority="2",state="UNACK"}', values: '1x39 stale _x118 0x90 stale _x150'}
       - {series: 'alarms_area_flooded{area="0"}', values: '1x39 stale _x118 0x90 stale _x150'}
+      - {series: 'alarms_device_damaged{half="1",at="4100"}', values: '0x339 1x19 0x40'}
+      - {series: 'alarms_rows_denied', values: '0x359 3x19 0x20'}
+      - {series: 'up{job="alarms-feed"}', values: '1x199 0x19 1x180'}
+      - {series: 'alarms_feed_connected', values: '1x219 0x19 1x160'}
+      - {series: 'alarms_feed_last_value_timestamp_seconds', values: '0+15x239 3585x19 3900+15x139'}
+      - {series: 'alarms_feed_sources_silent', values: '0x259 2x39 0x100'}
+      - {series: 'alarms_feed_bad_total', values: '0x279 1+1x59 60x60'}
+      - {series: 'alarms_feed_late_total', values: '0x399'}
     alert_rule_test:
 CASES
 """
+# The labels of each rule's alert, and which fire at which moments.
+ALERTS = {
+    "AlarmUnacknowledged": 'priority: "1", state: UNACK',
+    "AlarmFlood": 'area: "0"',
+    "AlarmServerDown": "",
+    "AlarmSlotTaken": "",
+    "AlarmClockStill": "",
+    "AlarmMetricsGone": "job: alarms",
+    "AlarmDeviceDamaged": 'half: "1", at: "4100"',
+    "AlarmRowsDenied": "",
+    "AlarmFeedGone": "job: alarms-feed",
+    "AlarmFeedStill": "",
+    "AlarmFeedWithoutServer": "",
+    "AlarmFeedSourcesSilent": "",
+    "AlarmFeedBadValues": "",
+}
+FIRING = {
+    "9m": "AlarmUnacknowledged AlarmFlood",
+    "15m": "AlarmUnacknowledged AlarmFlood AlarmServerDown",
+    "38m": "AlarmUnacknowledged AlarmFlood AlarmServerDown",
+    "45m": "",
+    "52m": "AlarmFeedGone",
+    "57m": "AlarmFeedWithoutServer",
+    "63m": "AlarmFeedStill",
+    "68m": "AlarmSlotTaken",
+    "71m": "AlarmSlotTaken AlarmFeedSourcesSilent",
+    "79m": "AlarmSlotTaken",
+    "82m": "AlarmSlotTaken AlarmFeedBadValues",
+    "87m": "AlarmSlotTaken AlarmFeedBadValues AlarmDeviceDamaged",
+    "92m": "AlarmSlotTaken AlarmFeedBadValues AlarmRowsDenied",
+    "96m": "AlarmSlotTaken AlarmClockStill",
+    "99m": "AlarmSlotTaken AlarmClockStill AlarmMetricsGone",
+}
 
 
 def rules(yard: Yard) -> str:
-    """Prometheus' own tool finds the rules right: what stood as the server died stands, and ends once the server is
-    back and says so.
+    """Prometheus' own tool finds the rules right: each fires by its trouble, and by no other one. What stood as the
+    server died stands, and ends once the server is back and says so.
     """
     if not shutil.which("promtool"):
         return "no promtool: rules left out"
+    text = (DEPLOY / "prometheus" / "alarms.rules.yml").read_text(encoding="utf-8")
+    check(set(re.findall(r"alert: (\w+)", text)) == set(ALERTS), "the rules are others than those that are tried")
     cases = []
-    for moment, firing in (
-        ("9m", {"AlarmUnacknowledged", "AlarmFlood"}),
-        ("15m", {"AlarmUnacknowledged", "AlarmFlood", "AlarmServerDown"}),
-        ("38m", {"AlarmUnacknowledged", "AlarmFlood", "AlarmServerDown"}),
-        ("45m", set()),
-        ("60m", set()),
-        ("70m", {"AlarmSlotTaken"}),
-    ):
-        for name, labels in (
-            ("AlarmUnacknowledged", 'priority: "1", state: UNACK'),
-            ("AlarmFlood", 'area: "0"'),
-            ("AlarmServerDown", ""),
-            ("AlarmSlotTaken", ""),
-            ("AlarmClockStill", ""),
-            ("AlarmMetricsGone", ""),
-        ):
-            expected = f"[{{exp_labels: {{{labels}}}}}]" if name in firing else "[]"
+    for moment, firing in FIRING.items():
+        for name, labels in ALERTS.items():
+            expected = f"[{{exp_labels: {{{labels}}}}}]" if name in firing.split() else "[]"
             cases.append(f"      - {{eval_time: {moment}, alertname: {name}, exp_alerts: {expected}}}")
-    text = re.sub(
-        r"\n +annotations:\n +summary: .*", "", (DEPLOY / "prometheus" / "alarms.rules.yml").read_text(encoding="utf-8")
-    )
-    bare = yard.write("bare.yml", text)
+    bare = yard.write("bare.yml", re.sub(r"\n +annotations:\n +summary: .*", "", text))
     tested = yard.write("rules.yml", RULES.replace("RULES", bare).replace("CASES", "\n".join(cases)))
     for words in (("check", "rules", str(DEPLOY / "prometheus" / "alarms.rules.yml")), ("test", "rules", tested)):
         run = subprocess.run(["promtool", *words], capture_output=True, text=True, timeout=60)
         check(run.returncode == 0, run.stdout, run.stderr)
-    return "rules"
+    return f"{len(ALERTS)} rules"
 
 
 def silent(address: str) -> None:

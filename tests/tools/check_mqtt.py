@@ -1,6 +1,7 @@
 """alm_feed behind a real mosquitto, by the recipes of docs/FIELD.md. tests/tools/values.py runs these checks.
 
-The broker is configured as Debian configures it, but for its port.
+The broker is configured as Debian configures it, but for its port and the places of its files: it saves what it keeps
+as it is stopped.
 """
 import contextlib
 import os
@@ -13,6 +14,7 @@ import signal
 import socket
 import subprocess
 import sys
+import tempfile
 import threading
 import time
 from typing import Iterable
@@ -27,10 +29,14 @@ from alarms.table_file import Alarm, Table, device_size
 PAGE = DOCS / "FIELD.md"
 RECIPE = re.compile(r"```sh\n(.*?)```", re.DOTALL)
 TAGS = 200
+# Topics that say much while there is no server.
+AWAY = 500
 # Retained topics that a subscription begins with: more than mosquitto queues for a client.
 RETAINED = 2_000
 # Hundredths of a second of a processor in a second: a feed that reads takes more.
 RESTS = 15
+# What Debian's own file says, and whose port. A broker that root starts would else be a user who can't reach the folder.
+DEBIAN = "persistence true\npersistence_location {folder}/\nlog_type none\nuser root\nlistener {port} 127.0.0.1\n"
 
 
 def conditions(port: int, alarms: int) -> list[bool]:
@@ -45,7 +51,8 @@ class Broker:
     def __init__(self, yard: Yard, more: str = "allow_anonymous true\n"):
         with socket.create_server(("127.0.0.1", 0)) as one:
             self.port = one.getsockname()[1]
-        self.config = yard.write("mosquitto.conf", f"listener {self.port} 127.0.0.1\n{more}log_type none\n")
+        folder = tempfile.mkdtemp(prefix="broker", dir=yard.folder)
+        self.config = yard.write("mosquitto.conf", DEBIAN.format(folder=folder, port=self.port) + more)
         self.begin()
 
     def begin(self) -> None:
@@ -59,8 +66,20 @@ class Broker:
             return one.connect_ex(("127.0.0.1", self.port)) == 0
 
     def kill(self) -> None:
+        """Ends it as a power failure does: what it keeps is what it saved last."""
         self.process.kill()
         self.process.wait()
+
+    def stop(self) -> None:
+        """Ends it as its unit does: it saves what it keeps."""
+        self.process.terminate()
+        self.process.wait()
+
+    def hang(self, seconds: float) -> None:
+        """It takes connections, and does nothing, for so long."""
+        self.process.send_signal(signal.SIGSTOP)
+        time.sleep(seconds)
+        self.process.send_signal(signal.SIGCONT)
 
 
 def field(text: bytes) -> bytes:
@@ -318,23 +337,23 @@ def retained(yard: Yard, way: str, count: int = RETAINED) -> str:
 
 def while_away(yard: Yard, way: str, messages: int) -> str:
     """Of what comes while there is no server each topic's last value counts, however much that is."""
-    site, dice = Site(yard, "away", way), random.Random(80)
-    publish_all(site.broker, ((f"plant/{tag}", "1.4") for tag in range(TAGS)))
+    site, dice = Site(yard, "away", way, AWAY), random.Random(80)
+    publish_all(site.broker, ((f"plant/{tag}", "1.4") for tag in range(AWAY)))
     site.feed()
     publish_all(site.broker, [("plant/0", "2.5")])
     await_true("the first value", lambda: site.holding()[0])
     site.server.end()
-    drawn = [(f"plant/{dice.randrange(TAGS)}", dice.choice(("1.4", "2.5"))) for _ in range(messages)]
+    drawn = [(f"plant/{dice.randrange(AWAY)}", dice.choice(("1.4", "2.5"))) for _ in range(messages)]
     publish_all(site.broker, drawn)
     site.fed.await_rest()
-    last = {f"plant/{tag}": "1.4" for tag in range(TAGS)} | {"plant/0": "2.5"} | dict(drawn)
+    last = {f"plant/{tag}": "1.4" for tag in range(AWAY)} | {"plant/0": "2.5"} | dict(drawn)
     site.server = yard.serve(site.device, site.server.port)
     await_true("the last values", lambda: site.holding() == wanted(last))
     with Client.connect(site.server.port, 3) as console:
         changed = console.action_count()
-    check(changed <= 1 + TAGS, "what came and went while there was no server made", changed, "actions")
+    check(changed <= 1 + AWAY, "what came and went while there was no server made", changed, "actions")
     site.end()
-    return f"{messages} values without a server by {way}"
+    return f"{messages} values of {AWAY} topics without a server by {way}"
 
 
 def through_a_broker(yard: Yard, way: str, pace: int, seconds: float) -> str:

@@ -6,8 +6,8 @@
 The storm (storm.py) has 200 rounds over 2,000 topics, 200 lines and 100 registers; with --short a few over fewer, in
 about two minutes. After each, within ten seconds of a machine that has nothing else to do, each alarm is as its
 source's last value says, and each watching alarm as its sources are. Then words that say nothing move nothing, are
-counted and told. Beside that single checks: old and retained values, a dead feed, a feed that hangs, registers of all
-types, delays, metrics. --storm runs the storm alone.
+counted and told. Beside that single checks: old and retained values, retained payloads that are none, a dead feed, one
+that hangs, a server that does, registers of all types, delays, metrics. --storm runs the storm alone.
 
 --without runs it over a copy of the feed from which a mend (mends.py) is taken out, and ends with status 0 once the
 storm has seen that. --mends does so for each mend, and prints a table.
@@ -29,7 +29,9 @@ from pathlib import Path
 
 from lib.tools import Yard, end_all, slowness
 
+import check_access
 import check_field
+import check_outages
 import check_pace
 import check_registers
 from alarms.client import Lost, Refused
@@ -122,7 +124,9 @@ def all_mends(program: str, folder: str, sizes: tuple, seed: int) -> str:
 
 def all_checks(yard: Yard, sizes: tuple, seed: int, pace: tuple) -> str:
     """The storm and the single checks beside each other, and behind them how soon alarms come."""
-    checks = {"storm": lambda yard, _: storm(yard, sizes, seed), **check_field.CHECKS, **check_registers.CHECKS}
+    parts = (check_field, check_registers, check_outages, check_access)
+    single = {name: one for part in parts for name, one in part.CHECKS.items()}
+    checks = {"storm": lambda yard, _: storm(yard, sizes, seed), **single}
     said = run_checks(yard.program, yard.folder, checks, list(checks), 0)
     os.makedirs(yard.path("pace"))
     said.append(check_pace.paces(Yard(yard.program, yard.path("pace")), *pace))

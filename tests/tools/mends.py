@@ -117,6 +117,13 @@ MENDS: dict[str, list[Edit]] = {
         ("feed.py", "            if line not in self.left_out:\n                say(line)\n", "            pass\n")
     ],
     "counts what is late": [("feed_lines.py", '                self.counts["late"] += 1\n', "                pass\n")],
+    "told where rounded": [
+        (
+            "feed_lines.py",
+            "            if not reading.text.isdecimal() and row.loses_fraction(reading.text):\n",
+            "            if False:\n",
+        )
+    ],
     "told once": [("feed_lines.py", "        self.reported.add(key)\n", "        pass\n")],
 }
 

@@ -2,6 +2,7 @@
 import contextlib
 import os
 import random
+import signal
 import time
 from pathlib import Path
 from typing import Callable
@@ -181,10 +182,25 @@ class Site:
     # what happens
 
     def lose_broker(self) -> None:
-        """The broker is killed, and has forgotten all when it is back."""
+        """The broker is killed, and when it is back it has what it had saved as it was last stopped, or nothing."""
         self.broker.kill()
         time.sleep(self.dice.random())
         self.broker.begin()
+
+    def stop_broker(self) -> None:
+        """The broker is stopped and started: it has its sessions and all that it kept."""
+        self.broker.stop()
+        time.sleep(self.dice.random())
+        self.broker.begin()
+
+    def hang_broker(self) -> None:
+        self.broker.hang(0.5 + self.dice.random())
+
+    def hang_server(self) -> None:
+        """The server answers nobody for a while, and its connections stay."""
+        self.server.process.send_signal(signal.SIGSTOP)
+        time.sleep(0.5 + 2 * self.dice.random())
+        self.server.process.send_signal(signal.SIGCONT)
 
     def lose_feed(self) -> None:
         self.keeper.kill()
@@ -262,11 +278,14 @@ class Site:
         """What may happen, by its name."""
         return {
             "broker": self.lose_broker,
+            "stopped broker": self.stop_broker,
+            "hanging broker": self.hang_broker,
             "feed": self.lose_feed,
             "no feed": self.miss_feed,
             "hanging feed": self.hang_feed,
             "pause": self.pause_feed,
             "server": self.lose_server,
+            "hanging server": self.hang_server,
             "no server": self.miss_server,
             "table": self.change_table,
             "setpoints": self.move_setpoints,

@@ -8,6 +8,7 @@ import sys
 import threading
 import time
 from collections import defaultdict
+from inspect import signature
 from typing import Iterator
 
 from .ending import Fault
@@ -26,6 +27,8 @@ from .modbus_point import OF_BITS, Device, Point
 
 # Seconds to wait for a device, and registers and bits that one request reads.
 PATIENCE, MOST_REGISTERS, MOST_BITS = 2, 125, 2_000
+# What the library calls the number of a unit: releases before 3.10 have another word.
+UNIT = "device_id" if "device_id" in signature(ModbusTcpClient.read_coils).parameters else "slave"
 # What a device's refusal means, by its number.
 EXCEPTIONS = {
     1: "illegal function",
@@ -118,7 +121,7 @@ class ModbusSource(threading.Thread):
             "holding": self.client.read_holding_registers,
         }[table]
         try:
-            answer = asking(address, count=count, slave=self.device.unit)
+            answer = asking(address, count=count, **{UNIT: self.device.unit})
         except (ModbusException, OSError):
             self.client.close()
             raise NoAnswer(f"{self.device} doesn't answer") from None
