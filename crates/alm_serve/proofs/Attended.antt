@@ -7,13 +7,15 @@ use Rattle.alm_rings.specs.declared.receipt.Receipt.{Receipt}
 use Rattle.alm_rings.specs.declared.told.Told.{Ghosts}
 use Rattle.alm_rings.specs.Ends.{sent_of, received_of}
 use Rattle.alm_session.specs.Sides.{heard_by, heard_of}
-use Rattle.alm_session.specs.Turns.{Heard, Looks}
+use Rattle.alm_session.specs.Turns.{Heard, Learns, LearnsAll, LineAnswer, Looks, SlotState, bad_line, by_look, by_receipt, look_refused, no_room, stopped, unasked}
+use Rattle.alm_session.proofs.Steps.{with_looks}
 use Rattle.alm_threads.specs.Slots.{AreNewConsoles}
 use Rattle.alm_threads.specs.Sources.{Accounts, AllAccount, SourceState, TookTurns, reported_of, state_of, states_of}
 use Rattle.alm_serve.proofs.Talks.{talks_by}
 use Rattle.alm_serve.specs.Ports.{AllAttended, AllTalked, AreUnused, Attended, AttendsAll, IsUnused, PortState, PortTraffic, Talked, any_looks, port_state, side_of}
 use Rattle.alm_serve.specs.Service.{Attends, as_heard, stage}
 use Rattle.alm_serve.specs.declared.connection.Connection.{Connection}
+use Rattle.alm_serve.specs.declared.connection.Connection.TheVariants.{Awaited, Ended, Open}
 use Rattle.alm_serve.specs.declared.slot_port.SlotPort.{SlotPort}
 
 module _ {T : Type 0} {g : Ghosts T} where
@@ -30,6 +32,26 @@ module _ {R T : Type 0} {g : Ghosts T} where
   attends_as looks base was now p p' knew knows sent sent' rs rs' turn =
       subst (λ (h : List Heard). Attends looks base was now (side_of p knew sent h) (side_of p' knows sent' (map as_heard (map reported_of rs')))) (sym (heard_same rs))
       (subst (λ (h : List Heard). Attends looks base was now (side_of p knew sent (map heard_of rs)) (side_of p' knows sent' h)) (sym (heard_same rs')) turn)
+
+-- what is known by some looks is known by any
+learns_any : (looks : Looks) (base : Condensed) (known : List Action) (m : LineAnswer) (next : List Action) → Learns looks base known m next → Learns any_looks base known m next
+learns_any looks base known (by_receipt id heard) next h = h
+learns_any looks base known (by_look id asked list) next h = (tt, h.1, h.2)
+learns_any looks base known (look_refused id asked list hindrance) next h = ((h.0.0, tt, h.0.2), h.1, h.2)
+learns_any looks base known (no_room id asked list) next h = (tt, h.1, h.2, h.3)
+learns_any looks base known (stopped id asked) next h = (tt, h.1, h.2)
+learns_any looks base known (bad_line id refusal) next h = h
+learns_any looks base known (unasked heard) next h = h
+
+all_any : (looks : Looks) (base : Condensed) (known : List Action) (met : List LineAnswer) (later : List Action) → LearnsAll looks base known met later → LearnsAll any_looks base known met later
+all_any looks base known [] later h = h
+all_any looks base known (m ∷ met) later (next, (k, ks)) = (next, (learns_any looks base known m next k, all_any looks base next met later ks))
+
+-- a port that attended with some looks did so with any
+pub attends_any : (looks : Looks) (base : Condensed) (was now : Connection (Unit {0})) (a b : SlotState) → Attends looks base was now a b → Attends any_looks base was now a b
+attends_any looks base Awaited now a b h = h
+attends_any looks base (Open wire) now a b h = (with_looks any_looks h.0 (all_any looks base a.known h.0.met b.known h.0.learnt), h.1)
+attends_any looks base Ended now a b h = h
 
 module _ {R T L : Type 0} (base : Condensed) (knows : L → List Action) where
   -- the state of a port, by that of a source

@@ -3,7 +3,7 @@ use Rattle.alm_rings.specs.declared.console.Console.{Console}
 use Rattle.alm_serve.specs.declared.slot_port.SlotPort.{SlotPort}
 use Rattle.alm_threads.proofs.Tied.{map_count, numbered}
 use Rattle.alm_serve.specs.Ports.{AllAttended}
-use Rattle.alm_serve.proofs.Attended.{all_attended, all_talked}
+use Rattle.alm_serve.proofs.Attended.{all_attended, all_talked, attends_any}
 use Rattle.alm_serve.proofs.Stores.{over_on}
 use Rattle.alm_serve.proofs.serving.run_parts.Goals as goal
 
@@ -20,7 +20,7 @@ returns-in-Ok-clause-run g c =
     let consoles = run.report.consoles.value.items in
     let count : length ports ≡ length parts.slots.items = sym (map_count (λ (p : SlotPort _ _). p.slot) ports) ∙ ap length c.requires.ports in
     let attended : AllAttended (g.K.Store.state store).stored ports run.sources.items consoles = subst (λ base. AllAttended base ports run.sources.items consoles) parts.middle.base
-    (all_attended g.J.RunId.base _ _ (λ a b did. did.1) ports parts.looks.items parts.consoles.items run.sources.items consoles
+    (all_attended g.J.RunId.base _ _ (λ a b did. attends_any _ _ _ _ _ _ did.1) ports parts.looks.items parts.consoles.items run.sources.items consoles
     (parts.each_looks ∙ sym count)
     (sym (map_count (λ (x : Console _ _). x.slot) parts.consoles.items) ∙ ap length parts.order ∙ sym count)
     c.requires.new e.accounts) in
