@@ -13,8 +13,8 @@ use crate::rings::Rings;
 use crate::slots::open_some;
 use crate::watched_look::{WatchedLook, watched};
 use alm_disk::Hold;
-use alm_model::Alarms;
 use alm_history::NewHistory;
+use alm_model::Alarms;
 use alm_moments::{Moments, Recorder, RunId};
 use alm_plant::Plant;
 use alm_rings::{SlotEnds, batches_beside, open_batches};
@@ -94,8 +94,9 @@ pub fn parts_of<'h, J: RunId, K: Store, H: Hold, R: Wait>(
     let Ok(shown) = store.stored().copy(alloc) else {
         return Err(store);
     };
+    let moments = recorder.moments();
     let Ok((board, looks)) = board_of::<J, Plant, H, R>(
-        rt, alloc, history, &recorder.moments(), shown, named, hold,
+        rt, alloc, history, &moments, shown, named, hold,
     ) else {
         return Err(store);
     };
