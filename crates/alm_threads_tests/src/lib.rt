@@ -42,6 +42,8 @@ mod rows;
 mod runs;
 pub mod script;
 #[cfg(test)]
+mod sizes;
+#[cfg(test)]
 mod stopped;
 #[cfg(test)]
 mod stops;

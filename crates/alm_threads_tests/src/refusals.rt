@@ -59,17 +59,26 @@ impl<C> Closes<C> for RefusingBoard {
     fn close(self, _by: &C) {}
 }
 
-/// Whether the clock's action is sent to the flusher in a batch, as if its slot had asked for it.
-pub fn seals_one(ends: &mut SealEnds, clock: Slot) -> bool {
-    let (Some(moment), Some(mut batch)) = (Moment::new(1000), ends.empty()) else {
+/// Whether this many actions of the clock are sent to the flusher in one batch, as if its slot had asked for them.
+pub fn seals(ends: &mut SealEnds, clock: Slot, size: u16) -> bool {
+    let Some(mut batch) = ends.empty() else {
         return false;
     };
-    batch.push(Entry {
-        slot: clock,
-        serial: 1,
-        want: Action::Clock(moment),
-        verdict: Verdict::Accepted(Action::Clock(moment)),
-    });
+    for serial in 1..=size {
+        let serial = serial as u64;
+        let Some(moment) = Moment::new(1000 * serial) else {
+            return false;
+        };
+        if batch.is_full() {
+            return false;
+        }
+        batch.push(Entry {
+            slot: clock,
+            serial,
+            want: Action::Clock(moment),
+            verdict: Verdict::Accepted(Action::Clock(moment)),
+        });
+    }
     ends.seal(batch).is_ok()
 }
 
@@ -98,7 +107,7 @@ fn told_behind<J: RunId, K: Store, R: Wait>(
         return None;
     };
     batches_beside(&mut ends, &mut fetch);
-    if !seals_one(&mut ends, clock) {
+    if !seals(&mut ends, clock, 1) {
         return None;
     }
     let flags = Flags::<ThreadBell>::new(Bells::new(&[], Vec::new(alloc)));

@@ -6,8 +6,8 @@ ghost use Rattle.alm_types.specs.Sizes.{most_actions};
 ghost use Rattle.alm_moments.specs.Naming.{IsNamedAfter};
 
 use crate::all_slots::all_slots;
-use crate::devices::formatted;
-use crate::refusals::seals_one;
+use crate::devices::{SMALL, formatted_with};
+use crate::refusals::seals;
 use alm_board::{Board, Look, Publish};
 use alm_desk::worked_table;
 use alm_disk::{Free, MemDisk};
@@ -29,7 +29,7 @@ use std::sync::Wait;
 use std::test::Fail;
 
 /// What a publish of one action answers, and then a look; and the same of another publish.
-type Course = [(Publishes, Option<Result<u64, Refusal>>); 2];
+pub type Course = [(Publishes, Option<Result<u64, Refusal>>); 2];
 
 /// It is published immediately.
 const AT_ONCE: Course = [
@@ -80,7 +80,7 @@ fn shows<
     (told, shown)
 }
 
-/// The course of one action that is sealed, over a board and a look at it.
+/// The course of this many actions that are sealed together, over a board and a look at it.
 fn course_of<
     T: Told + Drop,
     L: Look<Told = T> + Drop,
@@ -88,7 +88,13 @@ fn course_of<
     K: Store,
     J: RunId,
     R: Wait,
->(rt: &R, parts: Parts<T, L, B, K, J>, clock: Slot, answer: &mut Answer) -> Option<Course> {
+>(
+    rt: &R,
+    parts: Parts<T, L, B, K, J>,
+    clock: Slot,
+    size: u16,
+    answer: &mut Answer,
+) -> Option<Course> {
     let Parts {
         slots: _,
         consoles: _,
@@ -111,7 +117,7 @@ fn course_of<
         outboxes,
         fetch,
     } = flusher;
-    let sealed = seals_one(&mut ends, clock);
+    let sealed = seals(&mut ends, clock, size);
     let mut flusher = RecordedFlusher::new(store, board, outboxes, fetch, recorder);
     let committed = sealed && commits(&mut flusher);
     let first = shows(rt, &mut flusher, &mut looks, answer);
@@ -130,9 +136,10 @@ fn course_by<'h, J: RunId, P: Alarms + Drop, K: Store, R: Wait>(
     rt: &R,
     parts: Parts<Durable<J>, WatchedLook<'h, SharedLook<J, P>, Free>, SharedBoard<J, P>, K, J>,
     clock: Slot,
+    size: u16,
     answer: &mut Answer,
 ) -> Option<Course> {
-    course_of(rt, parts, clock, answer)
+    course_of(rt, parts, clock, size, answer)
 }
 
 /// The same over a new shared board, if there was memory for it and for the ends.
@@ -141,6 +148,7 @@ fn course_over<J: RunId, K: Store, R: Wait>(
     alloc: Global,
     new: NewRun,
     store: K,
+    size: u16,
 ) -> Option<Course>
     requires books { (new.history.seen.book ≡ J.book) × (new.moments.seen.book ≡ J.moments) }
     requires named { IsNamedAfter J.RunId K.Store K.Device.Disk store }
@@ -151,34 +159,39 @@ fn course_over<J: RunId, K: Store, R: Wait>(
     let clock = Slot::new(17)?;
     let slots = all_slots(alloc).ok()?;
     match parts_of::<J, K, Free, R>(rt, alloc, new, store, slots, &Free) {
-        Ok(parts) => course_by::<J, Plant, K, R>(rt, parts, clock, &mut answer),
+        Ok(parts) => course_by::<J, Plant, K, R>(rt, parts, clock, size, &mut answer),
         Err(_) => None,
     }
 }
 
 /// The same over a device.
-fn course_on<K: Store, R: Wait>(rt: &R, alloc: Global, disk: K::Device) -> Option<Course> {
+fn course_on<K: Store, R: Wait>(
+    rt: &R,
+    alloc: Global,
+    disk: K::Device,
+    size: u16,
+) -> Option<Course> {
     match K::open(alloc, disk) {
         Ok(store) => {
             let new = NewRun::new();
-            course_over::<Brand, K, R>(rt, alloc, new, store)
+            course_over::<Brand, K, R>(rt, alloc, new, store, size)
         }
         Err(_) => None,
     }
 }
 
-/// The same over a new device.
-fn course<R: Wait>(rt: &R, alloc: Global) -> Option<Course> {
+/// The same over a new device that has this many bytes.
+pub fn course<R: Wait>(rt: &R, alloc: Global, bytes: usize, size: u16) -> Option<Course> {
     let table = worked_table(alloc).ok()?;
-    let disk = formatted(alloc, &table)?;
-    course_on::<Keeper<MemDisk>, R>(rt, alloc, disk)
+    let disk = formatted_with(alloc, &table, bytes)?;
+    course_on::<Keeper<MemDisk>, R>(rt, alloc, disk, size)
 }
 
 #[test]
 fn a_publish_without_memory_shows_nothing_until_it_goes_on(rt: HostRuntime) -> Result<(), Fail> {
-    let seen = match course(&rt, rt.alloc()) {
+    let seen = match course(&rt, rt.alloc(), SMALL, 1) {
         Some(seen) => seen,
-        None => course(&rt, rt.alloc()).ok_or("refused twice")?,
+        None => course(&rt, rt.alloc(), SMALL, 1).ok_or("refused twice")?,
     };
     assert!(rt; seen == AT_ONCE || seen == LATER);
     Ok(())
