@@ -7,6 +7,7 @@ It answers at port 502 of an address of this machine, 127.0.0.1 where none is gi
 Each line of standard input is the level from then on, in %. It stands in the holding registers 40101 and 40102 as
 float32, big-endian; the others up to 40200 are 0. Its end, by Ctrl-C, is to its clients as a cable that is pulled.
 """
+import argparse
 import os
 import socketserver
 import struct
@@ -62,9 +63,9 @@ def take_levels() -> None:
 
 
 def main() -> None:
-    if len(sys.argv) > 2 or sys.argv[1:2] in (["-h"], ["--help"]):
-        sys.exit(__doc__)
-    host = sys.argv[1] if len(sys.argv) == 2 else HOST
+    words = argparse.ArgumentParser(description=__doc__, formatter_class=argparse.RawDescriptionHelpFormatter)
+    words.add_argument("host", metavar="ADDRESS", nargs="?", default=HOST, help="an address of this machine")
+    host = words.parse_args().host
     try:
         with Device((host, PORT), Asked) as device:
             threading.Thread(target=take_levels, daemon=True).start()

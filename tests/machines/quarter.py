@@ -24,6 +24,7 @@ import random
 import re
 import select
 import shutil
+import signal
 import subprocess
 import sys
 import tempfile
@@ -72,6 +73,7 @@ class Terminal:
     def __init__(self, words: list[str]):
         self.child, self.terminal = pty.fork()
         if self.child == 0:
+            signal.signal(signal.SIGINT, signal.SIG_DFL)  # which a shell's background has it ignore
             os.execvp(words[0], words)
         self.said = ""
 

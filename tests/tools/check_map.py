@@ -192,19 +192,18 @@ def judged_again(yard: Yard) -> str:
 
 def rows_left_out(yard: Yard) -> str:
     """A row whose alarm the plant hasn't is left out, as is a watch, once said; the others go on. A table that has it
-    again brings it back.
+    again brings it back, with the last value that its source has said meanwhile.
     """
     table = Table(device_size(3, 1), 1, [ALARMS[0], ALARMS[2], ALARMS[3]])
     both, device = small(yard, "whole"), yard.format("left.device", yard.write("left.toml", toml(table)))
     server = yard.serve(device)
     mapped = "name,tag,scale,silent,watch\na,TI-1,100,60,XS-9\nb,TI-1L,,60,XS-1\nc,PI-2,,60,TI-1\nd,XS-1,,,\n"
     feed = start("alm_feed", "--port", server.port, "--map", yard.write("left.csv", mapped))
-    write(feed, "a,39\nb,1\nc,250\n")
+    write(feed, "a,39\nb,100\nb,1\nc,250\n")
     await_true("the rows that are there", lambda: conditions(server.port, 3) == [True, True, False])
     server.end()
     os.replace(both, device)
     server = yard.serve(device, server.port)
-    write(feed, "b,1\n")
     await_true("the row that is there again", lambda: conditions(server.port, 4)[:3] == [True, True, True])
     said = [line for line in stop(feed)[1].splitlines() if "row" in line or "watch" in line]
     wanted = [

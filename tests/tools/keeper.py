@@ -56,6 +56,7 @@ class Keeper(threading.Thread):
     def run(self) -> None:
         while not self.ended:
             self.listen()
+            self.end_group()
             if self.ended:
                 return
             if not self.may_end and not self.fault:
@@ -86,6 +87,11 @@ class Keeper(threading.Thread):
                 self.process.wait()
         self.heard_at.close()
 
+    def end_group(self) -> None:
+        """Ends the feed's sources too, as systemd does, also one that stands still."""
+        with contextlib.suppress(ProcessLookupError):
+            os.killpg(self.process.pid, signal.SIGKILL)
+
     def kill(self) -> None:
         """Kills the feed, where one runs."""
         self.may_end = True
@@ -96,8 +102,7 @@ class Keeper(threading.Thread):
         """Ends the feed, with its sources, for good: also those that get no time just then."""
         self.ended = self.may_end = True
         self.let_run.set()
-        with contextlib.suppress(ProcessLookupError):
-            os.killpg(self.process.pid, signal.SIGKILL)
+        self.end_group()
 
     def hang(self) -> None:
         """The feed does nothing any more, until the watchdog has ended it."""

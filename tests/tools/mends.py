@@ -113,6 +113,9 @@ MENDS: dict[str, list[Edit]] = {
             "        if said:\n            raise NoMap(said[0])\n        self.active = found\n        return said\n",
         )
     ],
+    "rows that come back": [
+        ("feed.py", "        missing = list(self.lines.missing(self.latest))\n", "        missing = []\n")
+    ],
     "told rows": [
         ("feed.py", "            if line not in self.left_out:\n                say(line)\n", "            pass\n")
     ],

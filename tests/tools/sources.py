@@ -103,7 +103,7 @@ def draw_sources(topics: int, few: int) -> list[Source]:
         found.append(Source(f"gate/{number}", f"G-{number}", "gateway"))
         found.append(Source(f"line/{number}", f"L-{number}", "line", f"XS-L{number % 2}"))
         found.append(Source(f"modbus/{number}", f"M-{number}", "register", f"XS-M{number % 2}"))
-    for role in ("dip", "spike", "blink", "guard"):
+    for role in ("dip", "spike", "blink", "guard", "rare"):
         for number in range(EACH):
             tag = f"{role[0].upper()}-{role}{number}"
             found.append(Source(f"{role}/{number}", tag, "gateway", role=role))

@@ -39,6 +39,8 @@ OWN = "XS-FEED"
 HEAD = "name,tag,as,scale,bad,silent,watch,on_delay,off_delay,modbus,register\n"
 # How often each topic says something while there is no feed.
 BURST = 4
+# Of these roles one alarm in as many is left out of a new table.
+SPARED = {"plain": 100, "rare": 2}
 # Seconds of a delay: far more than a value comes or goes for.
 DELAY = {"spike": "5,", "dip": ",5"}
 
@@ -113,7 +115,8 @@ class Site:
         alarms = [
             self.alarm_of(source)
             for source in self.sources
-            if not source.is_design and (not self.tables or source.role != "plain" or self.dice.randrange(100))
+            if not source.is_design
+            and (not self.tables or source.role not in SPARED or self.dice.randrange(SPARED[source.role]))
         ]
         alarms += [Alarm("discrete", 1, 1, 0, watch) for watch in [*self.watches, OWN]]
         self.dice.shuffle(alarms)
@@ -244,7 +247,11 @@ class Site:
         time.sleep(slowness())
 
     def change_table(self) -> None:
+        """There is another table. What speaks rarely does so while its alarm is left out, and not as it is back."""
         self.without_server(self.new_table)
+        for source in self.gateway.of("rare"):
+            if source.tag not in self.tags:
+                self.say(source, self.value_of(source))
 
     def without_server(self, meanwhile: Callable[[], None]) -> None:
         self.server.end()

@@ -140,7 +140,9 @@ class Feed:
         return []
 
     def take_latest(self) -> None:
-        """Takes the last of each name that came while there was no server."""
+        """Takes the last of each name that came while there was no server, or while the plant hadn't its row."""
+        missing = list(self.lines.missing(self.latest))
+        self.latest.update({one.key: one for one, moment in missing if self.delays.counts(one, moment)})
         self.latest.update({one.key: one for one in self.taken(self.inbox.take_latest())})
 
     def taken(self, readings: list[Reading]) -> list[Input]:

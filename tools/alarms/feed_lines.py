@@ -7,7 +7,7 @@ import re
 import sys
 import time
 from dataclasses import dataclass
-from typing import Hashable, Iterable, Iterator, Optional
+from typing import Container, Hashable, Iterable, Iterator, Optional
 
 from .client import switch
 from .feed_reading import AHEAD, HOLDER, BadValue, NoMessage, Reading, of_line
@@ -96,6 +96,8 @@ class Lines:
         self.numbers: dict[str, int] = {}
         self.counts: collections.Counter[str] = collections.Counter()
         self.latest_time: dict[str, float] = {}
+        # the last reading of each name that is a value of all its rows, also of those that the plant hasn't now
+        self.kept: dict[str, Reading] = {}
         self.last_moment: Optional[float] = None
         self.reported: set[tuple[str, str]] = set()
         self.unknown = 0
@@ -159,6 +161,13 @@ class Lines:
             for one in found:
                 yield one, reading.moment
 
+    def missing(self, known: Container[tuple[str, bool]]) -> Iterator[tuple[Input, float]]:
+        """The last values of the rows that the plant has, but for what is known; with the moments from which they hold."""
+        for name, rows in self.values.active.items() if self.values else ():
+            for row in rows:
+                if name in self.kept and (row.tag, row.is_design) not in known:
+                    yield Input(row.tag, row.read(self.kept[name].text or "")), self.kept[name].moment
+
     def of_tags(self, reading: Reading) -> list[Input]:
         """What a line brings by the tags of the plant."""
         if reading.text is None:
@@ -181,6 +190,9 @@ class Lines:
             self.watches.note(reading.name, False, moment)
             raise
         self.watches.note(reading.name, True, moment, reading.is_live)
+        whole = values.rows[reading.name]
+        if len(rows) == len(whole) or self.is_value(whole, reading.text):
+            self.kept[reading.name] = reading
         for row in rows:
             if not reading.text.isdecimal() and row.loses_fraction(reading.text):
                 self.counts["rounded"] += 1
