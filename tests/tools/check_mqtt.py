@@ -35,7 +35,7 @@ AWAY = 500
 RETAINED = 2_000
 # Hundredths of a second of a processor in a second: a feed that reads takes more.
 RESTS = 15
-# What Debian's own file says, and whose port. A broker that root starts would else be a user who can't reach the folder.
+# Debian's own file, and whose port. A broker that root starts would else be a user who can't reach the folder.
 DEBIAN = "persistence true\npersistence_location {folder}/\nlog_type none\nuser root\nlistener {port} 127.0.0.1\n"
 
 

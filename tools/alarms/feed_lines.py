@@ -162,7 +162,7 @@ class Lines:
                 yield one, reading.moment
 
     def missing(self, known: Container[tuple[str, bool]]) -> Iterator[tuple[Input, float]]:
-        """The last values of the rows that the plant has, but for what is known; with the moments from which they hold."""
+        """The last values of the rows that the plant has, but for what is known; with the moments of them."""
         for name, rows in self.values.active.items() if self.values else ():
             for row in rows:
                 if name in self.kept and (row.tag, row.is_design) not in known:
