@@ -14,8 +14,8 @@ use Rattle.alm_bench.specs.declared.setup.Setup as T
 use Rattle.alm_bench.specs.declared.setup.Setup.TheVariants.{Open, Shut, Gone}
 use Rattle.alm_pipeline.specs.declared.step.Step.{Step}
 use Rattle.alm_pipeline.specs.declared.step.Step.TheVariants.{Send, Take, Seal, Fetch, Call, Publish, Release, GiveBack, Receive, Look, Crash, Reopen}
-use Rattle.alm_pipeline.specs.declared.event.Event.{Event}
-use Rattle.alm_pipeline.specs.declared.event.Event.TheVariants.{Failed, Crashed, Opened, Skipped}
+use Rattle.alm_pipeline.specs.declared.step_event.StepEvent.{StepEvent}
+use Rattle.alm_pipeline.specs.declared.step_event.StepEvent.TheVariants.{Failed, Crashed, Opened, Skipped}
 use Rattle.alm_pipeline.specs.World.{World, Answers, after_step}
 use Rattle.alm_pipeline.specs.Headline.{Sight, Moves}
 use Rattle.alm_pipeline.specs.Matches.{IsInner}
@@ -39,7 +39,7 @@ after_skipped w (Crash bytes) = refl
 after_skipped w Reopen = refl
 
 module _ {D : Type 0} {g : Ghosts (Keeper D) D} {d : Disk.Ghosts D} where
-  pub carried : (w : World) (step : Step) (event : Event) (n n' k k' : ℕ) (s s' t t' : T.Setup D D g d) → n ≡ n' → k ≡ k' → s ≡ s' → t ≡ t'
+  pub carried : (w : World) (step : Step) (event : StepEvent) (n n' k k' : ℕ) (s s' t t' : T.Setup D D g d) → n ≡ n' → k ≡ k' → s ≡ s' → t ≡ t'
       → Moves StandsFor IsLastEpoch w step event (sight n s) (sight k t) → Moves StandsFor IsLastEpoch w step event (sight n' s') (sight k' t')
   carried w step event n n' k k' s s' t t' before then' from to moves =
       subst (λ (x : T.Setup D D g d). Moves StandsFor IsLastEpoch w step event (sight n' x) (sight k' t')) from
@@ -53,7 +53,7 @@ module _ {D : Type 0} {g : Ghosts (Keeper D) D} {d : Disk.Ghosts D} where
   pub paced_as : (more : ℕ) (w : World) (s t : T.Setup D D g d) → s ≡ t → ends_after more w s → ends_after more w t
   paced_as more w s t same paced = subst (λ (x : T.Setup D D g d). ends_after more w x) same paced
 
-  pub steps_as : (w : World) (step : Step) (event : Event) (more : ℕ) (s t : T.Setup D D g d) → s ≡ t → steps_paced w step event more s → steps_paced w step event more t
+  pub steps_as : (w : World) (step : Step) (event : StepEvent) (more : ℕ) (s t : T.Setup D D g d) → s ≡ t → steps_paced w step event more s → steps_paced w step event more t
   steps_as w step event more s t same paced = subst (λ (x : T.Setup D D g d). steps_paced w step event more x) same paced
 
   -- a step that is skipped leaves it in the same pace
@@ -76,7 +76,7 @@ module _ {D : Type 0} {g : Ghosts (Keeper D) D} {d : Disk.Ghosts D} where
   pub there : (s t : T.Setup D D g d) → s ≡ t → IsThere s → IsThere t
   there s t same is = subst (λ (x : T.Setup D D g d). IsThere x) same is
 
-  pub reopened_between : (event : Event) (s s' t t' : T.Setup D D g d) → s ≡ s' → t ≡ t' → Reopens s event t → Reopens s' event t'
+  pub reopened_between : (event : StepEvent) (s s' t t' : T.Setup D D g d) → s ≡ s' → t ≡ t' → Reopens s event t → Reopens s' event t'
   reopened_between event s s' t t' from to reopens =
       subst (λ (x : T.Setup D D g d). Reopens x event t') from (subst (λ (y : T.Setup D D g d). Reopens s event y) to reopens)
 

@@ -9,8 +9,8 @@ use Rattle.alm_model.specs.Judging.{accepted_of}
 use Rattle.alm_model.proofs.Legal.{accepted_append}
 use Rattle.alm_pipeline.specs.declared.step.Step.{Step}
 use Rattle.alm_pipeline.specs.declared.step.Step.TheVariants.{Send, Take, Seal, Fetch, Call, Publish, Release, GiveBack, Receive, Look, Crash, Reopen}
-use Rattle.alm_pipeline.specs.declared.event.Event.{Event}
-use Rattle.alm_pipeline.specs.declared.event.Event.TheVariants.{Sent, Took, Sealed, Fetched, Committed, Failed, Published, Released, GaveBack, Received, Looked, Crashed, Opened}
+use Rattle.alm_pipeline.specs.declared.step_event.StepEvent.{StepEvent}
+use Rattle.alm_pipeline.specs.declared.step_event.StepEvent.TheVariants.{Sent, Took, Sealed, Fetched, Committed, Failed, Published, Released, GaveBack, Received, Looked, Crashed, Opened}
 use Rattle.alm_pipeline.specs.World.{World, BatchStage, Nothing, Held, Stored, Shown, Answers, IsReleased, after_step, entry_for, fetches, new_world, next_notes, after_publish, closed_world, stores, tells, told_more, with_entry}
 
 abbrev pub waiting_at : BatchStage → List Entry
@@ -146,7 +146,7 @@ given_order w spent i = record {
   shown = sym (append-nil w.published);
 }
 
-pub in_order : (w : World) (step : Step) (event : Event) → Answers w step event → InOrder w → InOrder (after_step w step event)
+pub in_order : (w : World) (step : Step) (event : StepEvent) → Answers w step event → InOrder w → InOrder (after_step w step event)
 in_order w (Send slot a) (Sent serial) answers i = record { all = i.all; ready = i.ready; before = i.before; shown = i.shown }
 in_order w (Take slot) (Took v) answers i = taken_order w slot (entry_for w slot (slice_get (w.sent slot) (w.taken slot)) v) i
 in_order w Seal Sealed answers i = sealed_order w i

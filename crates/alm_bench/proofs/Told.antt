@@ -15,8 +15,8 @@ use Rattle.alm_flush.specs.declared.held.Held.TheVariants as V
 use Rattle.alm_flush.proofs.HeldLaws.{published_split}
 use Rattle.alm_pipeline.specs.declared.step.Step.{Step}
 use Rattle.alm_pipeline.specs.declared.step.Step.TheVariants.{Send, Take, Seal, Fetch, Call, Publish, Release, GiveBack, Receive, Look, Crash, Reopen}
-use Rattle.alm_pipeline.specs.declared.event.Event.{Event}
-use Rattle.alm_pipeline.specs.declared.event.Event.TheVariants.{Sent, Took, Sealed, Fetched, Committed, Failed, Published, Released, GaveBack, Received, Looked, Crashed, Opened}
+use Rattle.alm_pipeline.specs.declared.step_event.StepEvent.{StepEvent}
+use Rattle.alm_pipeline.specs.declared.step_event.StepEvent.TheVariants.{Sent, Took, Sealed, Fetched, Committed, Failed, Published, Released, GaveBack, Received, Looked, Crashed, Opened}
 use Rattle.alm_pipeline.specs.World.{World, Note, BatchStage, Nothing, Held, Stored, Shown, Answers, after_step, entry_for, fetches, goes_to, next_entry, next_notes, note_of, raise, after_publish, stores}
 use Rattle.alm_pipeline.specs.Headline.{Sight, Headline, IsRun, after_steps}
 use Rattle.alm_bench.specs.Told.{EndsWith, Tells, TellsUpTo}
@@ -46,7 +46,7 @@ shown_base w (Held entries) = refl
 shown_base w (Stored entries) = refl
 shown_base w (Shown entries n) = refl
 
-pub after_base : (w : World) (step : Step) (event : Event) → (after_step w step event).base ≡ w.base
+pub after_base : (w : World) (step : Step) (event : StepEvent) → (after_step w step event).base ≡ w.base
 after_base w (Send slot a) (Sent serial) = refl
 after_base w (Take slot) (Took v) = refl
 after_base w Seal Sealed = refl
@@ -62,7 +62,7 @@ after_base w (Crash bytes) Crashed = refl
 after_base w Reopen (Opened n) = refl
 after_base w step event = refl
 
-pub run_base : (w : World) (steps : List Step) (trace : List Event) → (after_steps w steps trace).base ≡ w.base
+pub run_base : (w : World) (steps : List Step) (trace : List StepEvent) → (after_steps w steps trace).base ≡ w.base
 run_base w [] trace = refl
 run_base w (x ∷ steps) [] = refl
 run_base w (x ∷ steps) (y ∷ trace) = run_base (after_step w x y) steps trace ∙ after_base w x y
@@ -94,7 +94,7 @@ shown_holds w (Stored entries) list h = record { reaches = h.reaches; front = h.
 shown_holds w (Shown entries n) list h = h
 
 -- whatever a step answers
-pub holds_on : (w : World) (step : Step) (event : Event) (list : List Action) → Answers w step event → Holds w list → Holds (after_step w step event) list
+pub holds_on : (w : World) (step : Step) (event : StepEvent) (list : List Action) → Answers w step event → Holds w list → Holds (after_step w step event) list
 holds_on w (Send slot a) (Sent serial) list answers h = record { reaches = h.reaches; front = h.front }
 holds_on w (Take slot) (Took v) list answers h =
     record { reaches = h.reaches; front = front_more list w.accepted (accepted_of (entry_for w slot (slice_get (w.sent slot) (w.taken slot)) v)) h.front }
@@ -159,7 +159,7 @@ front_up_to : (w : World) (notes : List Note) (list : List Action) → TellsUpTo
 front_up_to w [] list tells = absurd tells
 front_up_to w (note ∷ notes) list tells = tells.1
 
-pub tells_holds : (w : World) (step : Step) (event : Event) (list : List Action) → Answers w step event → InOrder w → Tells w step event list → Holds (after_step w step event) list
+pub tells_holds : (w : World) (step : Step) (event : StepEvent) (list : List Action) → Answers w step event → InOrder w → Tells w step event list → Holds (after_step w step event) list
 tells_holds w Release (Released slot) list answers i tells = record { reaches = reaches_up_to w (next_notes w w.stage) list tells; front = front_up_to w (next_notes w w.stage) list tells }
 tells_holds w (Look slot query) (Looked count) list answers i tells = record {
   reaches = omega (arith, answers.1, ap length tells);
@@ -170,20 +170,20 @@ tells_holds w step event list answers i tells = absurd tells
 -- ---- runs
 
 module _ (recovers : List ℕ → Condensed → Type 0) (spent : DeviceState → Type 0) where
-  run_holds : (w : World) (d last : Sight) (steps : List Step) (trace : List Event) (list : List Action) → IsRun recovers spent w d steps trace last → Holds w list → Holds (after_steps w steps trace) list
+  run_holds : (w : World) (d last : Sight) (steps : List Step) (trace : List StepEvent) (list : List Action) → IsRun recovers spent w d steps trace last → Holds w list → Holds (after_steps w steps trace) list
   run_holds w d last [] [] list run h = h
   run_holds w d last (x ∷ steps) (y ∷ trace) list run h = run_holds (after_step w x y) run.1.0 last steps trace list run.1.3 (holds_on w x y list run.1.1 h)
   run_holds w d last [] (y ∷ trace) list run h = absurd run
   run_holds w d last (x ∷ steps) [] list run h = absurd run
 
-  pub run_order : (w : World) (d last : Sight) (steps : List Step) (trace : List Event) → IsRun recovers spent w d steps trace last → InOrder w → InOrder (after_steps w steps trace)
+  pub run_order : (w : World) (d last : Sight) (steps : List Step) (trace : List StepEvent) → IsRun recovers spent w d steps trace last → InOrder w → InOrder (after_steps w steps trace)
   run_order w d last [] [] run i = i
   run_order w d last (x ∷ steps) (y ∷ trace) run i = run_order (after_step w x y) run.1.0 last steps trace run.1.3 (in_order w x y run.1.1 i)
   run_order w d last [] (y ∷ trace) run i = absurd run
   run_order w d last (x ∷ steps) [] run i = absurd run
 
   -- a run up to a step, and from it on
-  pub split_run : (w : World) (d last : Sight) (steps behind : List Step) (trace rest : List Event) (step : Step) (event : Event) → length steps ≡ length trace → IsRun recovers spent w d (steps ++ step ∷ behind) (trace ++ event ∷ rest) last
+  pub split_run : (w : World) (d last : Sight) (steps behind : List Step) (trace rest : List StepEvent) (step : Step) (event : StepEvent) → length steps ≡ length trace → IsRun recovers spent w d (steps ++ step ∷ behind) (trace ++ event ∷ rest) last
       → (m : Sight) × IsRun recovers spent w d steps trace m × IsRun recovers spent (after_steps w steps trace) m (step ∷ behind) (event ∷ rest) last
   split_run w d last [] behind [] rest step event same run = (d, (run.0, refl), run)
   split_run w d last (x ∷ steps) behind (y ∷ trace) rest step event same run =
@@ -199,7 +199,7 @@ module _ (recovers : List ℕ → Condensed → Type 0) (spent : DeviceState →
       let m = q.panel.count - w.base.panel.count in
       (take m w.accepted, f.plant, front_taken list w.accepted m (omega (arith, h.reaches, f.enough)) (omega (arith, f.no_more)) h.front)
 
-  pub told_is_recovered : (w : World) (d last : Sight) (steps behind : List Step) (trace rest : List Event) (step : Step) (event : Event) (list : List Action) → InOrder w → length steps ≡ length trace
+  pub told_is_recovered : (w : World) (d last : Sight) (steps behind : List Step) (trace rest : List StepEvent) (step : Step) (event : StepEvent) (list : List Action) → InOrder w → length steps ≡ length trace
       → IsRun recovers spent w d (steps ++ step ∷ behind) (trace ++ event ∷ rest) last → Tells (after_steps w steps trace) step event list
       → (image : List ℕ) (q : Condensed) → IsImage last.state image → recovers image q → (front : List Action) × (q ≡ run w.base front) × IsFront list front
   told_is_recovered w d last steps behind trace rest step event list i same ran tells image q is r =
@@ -212,7 +212,7 @@ module _ (recovers : List ℕ → Condensed → Type 0) (spent : DeviceState →
       let base = run_base next behind rest ∙ (after_base at step event ∙ run_base w steps trace) in
       (end.0, end.1 ∙ ap (λ (b : Condensed). run b end.0) base, end.2)
 
-  pub each_release_tells : (w : World) (d last : Sight) (steps behind : List Step) (trace rest : List Event) (slot : ℕ) → InOrder w → length steps ≡ length trace
+  pub each_release_tells : (w : World) (d last : Sight) (steps behind : List Step) (trace rest : List StepEvent) (slot : ℕ) → InOrder w → length steps ≡ length trace
       → IsRun recovers spent w d (steps ++ Release ∷ behind) (trace ++ Released slot ∷ rest) last → (list : List Action) × Tells (after_steps w steps trace) Release (Released slot) list
   each_release_tells w d last steps behind trace rest slot i same run =
       let s = split_run w d last steps behind trace rest Release (Released slot) same run in

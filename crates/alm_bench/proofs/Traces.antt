@@ -3,6 +3,7 @@ use Rattle.std.proofs.Common.{◌+◌, ◌≡◌, ◌≤◌, ◌==◌, if◌then
 use Rattle.std.proofs.lemmas.Bool.{true≢false}
 use Rattle.std.proofs.lemmas.List.{append-nil, length-take-le}
 use Rattle.alm_types.specs.declared.action.Action.{Action}
+use Rattle.alm_types.specs.declared.want.Want.{Want}
 use Rattle.alm_types.specs.declared.entry.Entry.{Entry}
 use Rattle.alm_types.specs.declared.verdict.Verdict.{Verdict}
 use Rattle.alm_types.specs.declared.query.Query.{Query}
@@ -12,8 +13,8 @@ use Rattle.alm_model.specs.Judging.{accepted_of, when_accepted}
 use Rattle.alm_model.specs.Step.{run}
 use Rattle.alm_pipeline.specs.declared.step.Step.{Step}
 use Rattle.alm_pipeline.specs.declared.step.Step.TheVariants.{Send, Take, Seal, Fetch, Call, Publish, Release, GiveBack, Receive, Look, Crash, Reopen}
-use Rattle.alm_pipeline.specs.declared.event.Event.{Event}
-use Rattle.alm_pipeline.specs.declared.event.Event.TheVariants.{Sent, Busy, Took, Sealed, Fetched, More, Committed, Failed, Published, Released, GaveBack, Received, Looked, Crashed, Opened, Unopened, Skipped}
+use Rattle.alm_pipeline.specs.declared.step_event.StepEvent.{StepEvent}
+use Rattle.alm_pipeline.specs.declared.step_event.StepEvent.TheVariants.{Sent, Busy, Took, Sealed, Fetched, More, Committed, Failed, Published, Released, GaveBack, Received, Looked, Crashed, Opened, Unopened, Skipped}
 use Rattle.alm_pipeline.specs.World.{World, Note, BatchStage, Nothing, Held, Stored, Shown, Answers, after_step, entry_for, fetches, judges, next_notes, note_of, raise, says, after_publish, stores, tells}
 use Rattle.alm_store.specs.Recovery.{IsFrontPlant, IsSafe}
 use Rattle.alm_pipeline.specs.Headline.{Sight, IsRun, after_steps}
@@ -39,11 +40,11 @@ shown_all w (Held entries) = refl
 shown_all w (Stored entries) = refl
 shown_all w (Shown entries n) = refl
 
-entry_accepts : (w : World) (slot : ℕ) (asked : Option Action) (v : Verdict) → judges w slot asked v → accepted_of (entry_for w slot asked v) ≡ when_accepted v
+entry_accepts : (w : World) (slot : ℕ) (asked : Option Want) (v : Verdict) → judges w slot asked v → accepted_of (entry_for w slot asked v) ≡ when_accepted v
 entry_accepts w slot None v judged = absurd judged
 entry_accepts w slot (Some a) v judged = append-nil (when_accepted v)
 
-accepted_after : (w : World) (step : Step) (event : Event) → Answers w step event → (after_step w step event).accepted ≡ with_event w.base.panel.count w.accepted event
+accepted_after : (w : World) (step : Step) (event : StepEvent) → Answers w step event → (after_step w step event).accepted ≡ with_event w.base.panel.count w.accepted event
 accepted_after w (Send slot a) (Sent serial) answers = refl
 accepted_after w (Send slot a) Busy answers = refl
 accepted_after w (Take slot) (Took v) answers = ap (λ l. w.accepted ++ l) (entry_accepts w slot (slice_get (w.sent slot) (w.taken slot)) v answers.1)
@@ -81,7 +82,7 @@ shown_floor w (Held entries) = omega arith
 shown_floor w (Stored entries) = omega arith
 shown_floor w (Shown entries n) = omega arith
 
-floor_after : (w : World) (step : Step) (event : Event) → w.floor ≤ (after_step w step event).floor
+floor_after : (w : World) (step : Step) (event : StepEvent) → w.floor ≤ (after_step w step event).floor
 floor_after w (Send slot a) (Sent serial) = omega arith
 floor_after w (Take slot) (Took v) = omega arith
 floor_after w Seal Sealed = omega arith
@@ -161,7 +162,7 @@ released_tells w slot notes one t s =
     let before = λ (k : ℕ). within_more w.floor floor (w.released k) (raised_more w.floor notes) (t k) in
     within_choice floor (s == slot) (w.released slot ++ notes) (w.released s) (within_append floor (w.released slot) notes (before slot) (next_within w.floor notes one)) (before s)
 
-tells_after : (w : World) (step : Step) (event : Event) → TellsWithin w → TellsWithin (after_step w step event)
+tells_after : (w : World) (step : Step) (event : StepEvent) → TellsWithin w → TellsWithin (after_step w step event)
 tells_after w (Send slot a) (Sent serial) t = t
 tells_after w (Take slot) (Took v) t = t
 tells_after w Seal Sealed t = t
@@ -178,7 +179,7 @@ tells_after w Reopen (Opened n) t = λ s. tt
 tells_after w step event t = t
 
 -- what an event reports is within the floor after it
-told_after : (w : World) (step : Step) (event : Event) → Answers w step event → TellsWithin w → told_by event ≤ (after_step w step event).floor
+told_after : (w : World) (step : Step) (event : StepEvent) → Answers w step event → TellsWithin w → told_by event ≤ (after_step w step event).floor
 told_after w (Receive slot) (Received serial verdict number) answers t = within_said w.floor (w.received slot) serial number verdict (w.released slot) (t slot) answers.1
 told_after w (Look slot query) (Looked count) answers t = omega arith
 told_after w (Send slot a) (Sent serial) answers t = omega arith
@@ -201,13 +202,13 @@ told_after w step event answers t = absurd answers
 -- ---- runs
 
 -- a trace and the world at its end
-record Follows (w end : World) (trace : List Event) : Type 0 where
+record Follows (w end : World) (trace : List StepEvent) : Type 0 where
   accepted : end.accepted ≡ accepted_from w.base.panel.count w.accepted trace
   told : told_in trace ≤ end.floor
   floor : w.floor ≤ end.floor
 
 module _ (recovers : List ℕ → Condensed → Type 0) (spent : DeviceState → Type 0) where
-  follows : (w : World) (d last : Sight) (steps : List Step) (trace : List Event) → IsRun recovers spent w d steps trace last → TellsWithin w → Follows w (after_steps w steps trace) trace
+  follows : (w : World) (d last : Sight) (steps : List Step) (trace : List StepEvent) → IsRun recovers spent w d steps trace last → TellsWithin w → Follows w (after_steps w steps trace) trace
   follows w d last [] [] run t = record { accepted = refl; told = omega arith; floor = omega arith }
   follows w d last (x ∷ steps) (y ∷ trace) run t =
       let answers = run.1.1 in
@@ -228,7 +229,7 @@ module _ (recovers : List ℕ → Condensed → Type 0) (spent : DeviceState →
   safe_at base accepted floor told image less safe = record { some = safe.some; each = λ q r. lower base accepted floor told q less (safe.each q r); lists = safe.lists }
 
   -- the headline at the end of a run, by its trace alone
-  pub safe_by_trace : (w : World) (d last : Sight) (steps : List Step) (trace : List Event) → IsRun recovers spent w d steps trace last → ((slot : ℕ) → w.released slot ≡ [])
+  pub safe_by_trace : (w : World) (d last : Sight) (steps : List Step) (trace : List StepEvent) → IsRun recovers spent w d steps trace last → ((slot : ℕ) → w.released slot ≡ [])
       → (image : List ℕ) → IsImage last.state image → IsSafe recovers w.base (accepted_from w.base.panel.count w.accepted trace) (told_in trace) image
   safe_by_trace w d last steps trace run none image is =
       let end = after_steps w steps trace in
@@ -273,7 +274,7 @@ notes_within w (Held entries) = tt
 notes_within w (Stored entries) = tt
 notes_within w (Shown entries n) = note_within w entries n (slice_get entries n)
 
-shows_after : (w : World) (step : Step) (event : Event) → Answers w step event → ShowsFloor w → ShowsFloor (after_step w step event)
+shows_after : (w : World) (step : Step) (event : StepEvent) → Answers w step event → ShowsFloor w → ShowsFloor (after_step w step event)
 shows_after w (Send slot a) (Sent serial) answers h = h
 shows_after w (Take slot) (Took v) answers h = h
 shows_after w Seal Sealed answers h = h
@@ -290,13 +291,13 @@ shows_after w Reopen (Opened n) answers h = λ _. let size = length-take-le (n -
 shows_after w step event answers h = h
 
 module _ (recovers : List ℕ → Condensed → Type 0) (spent : DeviceState → Type 0) where
-  run_shows : (w : World) (d last : Sight) (steps : List Step) (trace : List Event) → IsRun recovers spent w d steps trace last → ShowsFloor w → ShowsFloor (after_steps w steps trace)
+  run_shows : (w : World) (d last : Sight) (steps : List Step) (trace : List StepEvent) → IsRun recovers spent w d steps trace last → ShowsFloor w → ShowsFloor (after_steps w steps trace)
   run_shows w d last [] [] run h = h
   run_shows w d last (x ∷ steps) (y ∷ trace) run h = run_shows (after_step w x y) run.1.0 last steps trace run.1.3 (shows_after w x y run.1.1 h)
   run_shows w d last [] (y ∷ trace) run h = absurd run
   run_shows w d last (x ∷ steps) [] run h = absurd run
 
-  pub look_reaches : (w : World) (d last : Sight) (steps behind : List Step) (trace rest : List Event) (slot : ℕ) (query : Query) (count : ℕ) → length steps ≡ length trace
+  pub look_reaches : (w : World) (d last : Sight) (steps behind : List Step) (trace rest : List StepEvent) (slot : ℕ) (query : Query) (count : ℕ) → length steps ≡ length trace
       → IsRun recovers spent w d (steps ++ Look slot query ∷ behind) (trace ++ Looked count ∷ rest) last → w.closed ≡ true → ((slot : ℕ) → w.released slot ≡ []) → told_in trace ≤ count
   look_reaches w d last steps behind trace rest slot query count same run shut none =
       let s = split_run recovers spent w d last steps behind trace rest (Look slot query) (Looked count) same run in

@@ -8,8 +8,8 @@ use Rattle.alm_bench.specs.declared.setup.Setup as T
 use Rattle.alm_bench.specs.declared.setup.Setup.TheVariants.{Open, Shut, Gone}
 use Rattle.alm_bench.specs.declared.bench.Bench.{Bench}
 use Rattle.alm_store.specs.Calls.{OpensBy, IsRefusedBy}
-use Rattle.alm_pipeline.specs.declared.event.Event.{Event}
-use Rattle.alm_pipeline.specs.declared.event.Event.TheVariants.{Opened, Unopened}
+use Rattle.alm_pipeline.specs.declared.step_event.StepEvent.{StepEvent}
+use Rattle.alm_pipeline.specs.declared.step_event.StepEvent.TheVariants.{Opened, Unopened}
 use Rattle.alm_pipeline.specs.declared.step.Step.{Step}
 use Rattle.alm_pipeline.specs.World.{World, after_step}
 use Rattle.alm_pipeline.specs.Pace.{FitsBatches, Paces, most_more}
@@ -73,10 +73,10 @@ module _ {D : Type 0} {g : Ghosts (Keeper D) D} {d : Disk.Ghosts D} where
   IsPaced more w bench = ends_after more w bench.setup
 
   -- this step with this answer meets the pace, and leaves a bench that is paced
-  abbrev pub steps_paced : World → Step → Event → (more : ℕ) → T.Setup D D g d → Type 0
+  abbrev pub steps_paced : World → Step → StepEvent → (more : ℕ) → T.Setup D D g d → Type 0
   steps_paced w step event more setup = (next : ℕ) × Paces most_more w step event more next × ends_after next (after_step w step event) setup
 
-  abbrev pub StepsPaced : World → Step → Event → (more : ℕ) → Bench D D g d → Type 0
+  abbrev pub StepsPaced : World → Step → StepEvent → (more : ℕ) → Bench D D g d → Type 0
   StepsPaced w step event more bench = steps_paced w step event more bench.setup
 
   -- it was opened over this device by a sync and reads, and no other calls were made on it
@@ -90,12 +90,12 @@ module _ {D : Type 0} {g : Ghosts (Keeper D) D} {d : Disk.Ghosts D} where
 
   -- a reopening: so too, or its sync and reads end in the fault that is returned; a bench that isn't closed stays as it
   -- is
-  abbrev pub Reopens : T.Setup D D g d → Event → T.Setup D D g d → Type 0
+  abbrev pub Reopens : T.Setup D D g d → StepEvent → T.Setup D D g d → Type 0
   Reopens (Shut disk) (Opened count) new = OpensFrom disk new
   Reopens (Shut disk) (Unopened fault) (Shut back) = IsRefusedBy fault d.serves disk back
   Reopens (Shut disk) event new = ⊥
   Reopens (Open pipeline) event new = new ≡ Open pipeline
   Reopens Gone event new = Unit {0}
 
-  abbrev pub IsReopened : Bench D D g d → Event → Bench D D g d → Type 0
+  abbrev pub IsReopened : Bench D D g d → StepEvent → Bench D D g d → Type 0
   IsReopened old event new = Reopens old.setup event new.setup

@@ -6,8 +6,8 @@ use Rattle.alm_types.specs.declared.verdict.Verdict.TheVariants.{Accepted, Refus
 use Rattle.alm_board.specs.Fronts.{IsFront}
 use Rattle.alm_pipeline.specs.declared.step.Step.{Step}
 use Rattle.alm_pipeline.specs.declared.step.Step.TheVariants.{Release, Look}
-use Rattle.alm_pipeline.specs.declared.event.Event.{Event}
-use Rattle.alm_pipeline.specs.declared.event.Event.TheVariants.{Released, Looked}
+use Rattle.alm_pipeline.specs.declared.step_event.StepEvent.{StepEvent}
+use Rattle.alm_pipeline.specs.declared.step_event.StepEvent.TheVariants.{Released, Looked}
 use Rattle.alm_pipeline.specs.World.{World, Note, next_notes}
 
 -- the last action of the list is the one that was accepted
@@ -23,7 +23,7 @@ TellsUpTo w (note ∷ notes) list = (w.base.panel.count + length list ≡ note.n
 
 -- this step, with this answer, reports these actions: a reply that is released, those up to its request; a look, those that it
 -- shows
-abbrev pub Tells : World → Step → Event → List Action → Type 0
+abbrev pub Tells : World → Step → StepEvent → List Action → Type 0
 Tells w Release (Released slot) list = TellsUpTo w (next_notes w w.stage) list
 Tells w (Look slot query) (Looked count) list = list ≡ w.published
 Tells w step event list = ⊥

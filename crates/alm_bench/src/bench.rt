@@ -14,7 +14,7 @@ use crate::setup::Setup;
 use alm_disk::Crashable;
 use alm_flush::Advance;
 use alm_keeper::{Keeper, OpenFault};
-use alm_pipeline::{Event, Pipeline, Step};
+use alm_pipeline::{Pipeline, Step, StepEvent};
 use alm_store::Store;
 use alm_types::Answer;
 use std::alloc::{AllocError, Global};
@@ -41,7 +41,7 @@ impl<D: Crashable + Drop> Bench<D> {
     ghost use Rattle.alm_progress.specs.Progress.{AreReceived, AreRounds, LosesNothing, NoneFails, left_to_do, steps_of};
     ghost use Rattle.alm_bench.specs.StandOnly.{StandOnly};
     ghost use Rattle.alm_pipeline.specs.declared.step.Step.TheVariants as S;
-    ghost use Rattle.alm_pipeline.specs.declared.event.Event.TheVariants as E;
+    ghost use Rattle.alm_pipeline.specs.declared.step_event.StepEvent.TheVariants as E;
 
     /// A closed bench.
     pub fn closed(alloc: Global, disk: D) -> Bench<D>
@@ -138,7 +138,7 @@ impl<D: Crashable + Drop> Bench<D> {
     }
 
     // The power fails.
-    fn crash(&mut self, bytes: &Vec<(u64, u8)>) -> Event
+    fn crash(&mut self, bytes: &Vec<(u64, u8)>) -> StepEvent
         ensures honest { IsHonest self.new → IsHonest self.old }
         ensures answer { (w : World) → MatchesBench w self.old → Answers w (S.Crash bytes.now) result }
         ensures stands { (w : World) → MatchesBench w self.old →
@@ -154,19 +154,19 @@ impl<D: Crashable + Drop> Bench<D> {
             Setup::Open(pipeline) => {
                 let disk = crashed(pipeline.into_device(), bytes);
                 self.put(Setup::Shut(disk));
-                Event::Crashed
+                StepEvent::Crashed
             }
             Setup::Shut(disk) => {
                 let disk = crashed(disk, bytes);
                 self.put(Setup::Shut(disk));
-                Event::Crashed
+                StepEvent::Crashed
             }
-            Setup::Gone => Event::Skipped,
+            Setup::Gone => StepEvent::Skipped,
         }
     }
 
     // The device is opened again, and all else starts again.
-    fn reopen(&mut self, alloc: Global) -> Event
+    fn reopen(&mut self, alloc: Global) -> StepEvent
         ensures honest { IsHonest self.new → IsHonest self.old }
         ensures answer { IsHonest self.new → (w : World) → MatchesBench w self.old →
             Answers w S.Reopen result }
@@ -184,23 +184,23 @@ impl<D: Crashable + Drop> Bench<D> {
                 Ok(pipeline) => {
                     let count = pipeline.count();
                     self.put(Setup::Open(pipeline));
-                    Event::Opened(count)
+                    StepEvent::Opened(count)
                 }
                 Err((fault, disk)) => {
                     self.put(Setup::Shut(disk));
-                    Event::Unopened(fault)
+                    StepEvent::Unopened(fault)
                 }
             },
             Setup::Open(pipeline) => {
                 self.put(Setup::Open(pipeline));
-                Event::Skipped
+                StepEvent::Skipped
             }
-            Setup::Gone => Event::Skipped,
+            Setup::Gone => StepEvent::Skipped,
         }
     }
 
     // The one device call that is next. A failure closes the bench.
-    fn call(&mut self) -> Event
+    fn call(&mut self) -> StepEvent
         ensures honest { IsHonest self.new → IsHonest self.old }
         ensures answer { (w : World) → MatchesBench w self.old → Answers w S.Call result }
         ensures stands { (w : World) → MatchesBench w self.old →
@@ -217,32 +217,32 @@ impl<D: Crashable + Drop> Bench<D> {
             Setup::Open(mut pipeline) => match pipeline.call() {
                 Advance::More => {
                     self.put(Setup::Open(pipeline));
-                    Event::More
+                    StepEvent::More
                 }
                 Advance::Committed => {
                     self.put(Setup::Open(pipeline));
-                    Event::Committed
+                    StepEvent::Committed
                 }
                 Advance::Nothing => {
                     self.put(Setup::Open(pipeline));
-                    Event::Skipped
+                    StepEvent::Skipped
                 }
                 Advance::Failed => {
                     let disk = pipeline.into_device();
                     self.put(Setup::Shut(disk));
-                    Event::Failed
+                    StepEvent::Failed
                 }
             },
             Setup::Shut(disk) => {
                 self.put(Setup::Shut(disk));
-                Event::Skipped
+                StepEvent::Skipped
             }
-            Setup::Gone => Event::Skipped,
+            Setup::Gone => StepEvent::Skipped,
         }
     }
 
     // A step that leaves the device alone.
-    fn go(&mut self, step: &Step) -> Event
+    fn go(&mut self, step: &Step) -> StepEvent
         requires { IsInner step.now }
         ensures honest { IsHonest self.new → IsHonest self.old }
         ensures answer { (w : World) → MatchesBench w self.old → Answers w step.now result }
@@ -262,14 +262,14 @@ impl<D: Crashable + Drop> Bench<D> {
             }
             Setup::Shut(disk) => {
                 self.put(Setup::Shut(disk));
-                Event::Skipped
+                StepEvent::Skipped
             }
-            Setup::Gone => Event::Skipped,
+            Setup::Gone => StepEvent::Skipped,
         }
     }
 
     // One step.
-    fn act(&mut self, alloc: Global, step: &Step) -> Event
+    fn act(&mut self, alloc: Global, step: &Step) -> StepEvent
         ensures honest { IsHonest self.new → IsHonest self.old }
         ensures answer { IsHonest self.new → (w : World) → MatchesBench w self.old →
             Answers w step.now result }
@@ -302,7 +302,7 @@ impl<D: Crashable + Drop> Bench<D> {
     }
 
     /// One step, before and after which the headline holds.
-    pub fn step(&mut self, alloc: Global, step: &Step) -> Event
+    pub fn step(&mut self, alloc: Global, step: &Step) -> StepEvent
         /// A device that keeps to the model after the step did so before.
         ensures honest { IsHonest self.new → IsHonest self.old }
         ensures answer { IsHonest self.new → (w : World) → MatchesBench w self.old →
@@ -338,7 +338,7 @@ impl<D: Crashable + Drop> Bench<D> {
 
     /// The world's run of exactly these steps; the headline holds before the first of them and after each. Room for the trace was
     /// taken by then.
-    pub fn run(&mut self, alloc: Global, steps: &[Step]) -> Result<Vec<Event>, AllocError>
+    pub fn run(&mut self, alloc: Global, steps: &[Step]) -> Result<Vec<StepEvent>, AllocError>
         /// A device that keeps to the model at the end did so at each point of the run, and what follows is said of such a run.
         ensures honest { IsHonest self.new → IsHonest self.old }
         ensures run { IfOk result

@@ -16,13 +16,13 @@ ghost use Rattle.alm_bench.specs.Told.{Tells};
 ghost use Rattle.alm_bench.specs.Traced.{KeepsTold, told_in};
 ghost use Rattle.alm_pipeline.specs.declared.step.Step.{Step};
 ghost use Rattle.alm_pipeline.specs.declared.step.Step.TheVariants.{Look, Release};
-ghost use Rattle.alm_pipeline.specs.declared.event.Event.{Event};
-ghost use Rattle.alm_pipeline.specs.declared.event.Event.TheVariants.{Looked, Released};
+ghost use Rattle.alm_pipeline.specs.declared.step_event.StepEvent.{StepEvent};
+ghost use Rattle.alm_pipeline.specs.declared.step_event.StepEvent.TheVariants.{Looked, Released};
 
 /// The headline by a run's trace alone: whatever a crash leaves at its end encodes the plant of a prefix of the actions that the
 /// trace accepted. The prefix reaches each number of a receipt and each count of a look in it.
 pub fn the_trace_tells_enough()
-    ensures { (plant : Condensed) (d last : Sight) (steps : List Step) (trace : List Event) →
+    ensures { (plant : Condensed) (d last : Sight) (steps : List Step) (trace : List StepEvent) →
         IsRun StandsFor IsLastEpoch (closed_world (first plant)) d steps trace last →
         (image : List ℕ) → IsImage last.state image → KeepsTold plant trace image }
 {}
@@ -32,7 +32,7 @@ pub fn the_trace_tells_enough()
 /// own, a look those that it shows.
 pub fn what_was_told_is_recovered()
     ensures { (plant : Condensed) (d last : Sight) (steps behind : List Step)
-        (trace rest : List Event) (step : Step) (event : Event) (told : List Action) →
+        (trace rest : List StepEvent) (step : Step) (event : StepEvent) (told : List Action) →
         length steps ≡ length trace →
         IsRun StandsFor IsLastEpoch (closed_world (first plant)) d (steps ++ step ∷ behind)
         (trace ++ event ∷ rest) last →
@@ -46,7 +46,7 @@ pub fn what_was_told_is_recovered()
 /// action was accepted, that action is the last of them.
 pub fn each_reply_tells_its_action()
     ensures { (plant : Condensed) (d last : Sight) (steps behind : List Step)
-        (trace rest : List Event) (slot : ℕ) → length steps ≡ length trace →
+        (trace rest : List StepEvent) (slot : ℕ) → length steps ≡ length trace →
         IsRun StandsFor IsLastEpoch (closed_world (first plant)) d (steps ++ Release ∷ behind)
         (trace ++ Released slot ∷ rest) last →
         (told : List Action) ×
@@ -57,7 +57,7 @@ pub fn each_reply_tells_its_action()
 /// look, over all slots and reopenings.
 pub fn looks_never_go_back()
     ensures { (plant : Condensed) (d last : Sight) (steps behind : List Step)
-        (trace rest : List Event) (slot : ℕ) (query : Query) (count : ℕ) →
+        (trace rest : List StepEvent) (slot : ℕ) (query : Query) (count : ℕ) →
         length steps ≡ length trace →
         IsRun StandsFor IsLastEpoch (closed_world (first plant)) d
         (steps ++ Look slot query ∷ behind) (trace ++ Looked count ∷ rest) last →
@@ -69,7 +69,7 @@ pub fn looks_never_go_back()
 /// sent before them is received.
 pub fn fair_rounds_answer_all()
     ensures { (slots pace : ℕ) (plant : Condensed) (d last : Sight) (steps : List Step)
-        (rounds : List (List Step)) (trace rest : List Event) → length steps ≡ length trace →
+        (rounds : List (List Step)) (trace rest : List StepEvent) → length steps ≡ length trace →
         IsRun StandsFor IsLastEpoch (closed_world (first plant)) d (steps ++ steps_of rounds)
         (trace ++ rest) last →
         PacesAll most_more (closed_world (first plant)) 0 (steps ++ steps_of rounds)

@@ -11,7 +11,7 @@
 //! |---|---|
 //! | [`Bench`] | all parts over a device, or a closed device alone |
 //! | [`Step`] | what happens next: a slot sends or receives, a part makes a step, the power fails, the device is opened again |
-//! | [`Event`] | what came of it; the events of a run are its trace |
+//! | [`StepEvent`] | what came of it; the events of a run are its trace |
 //! | [`life`] | a run from a formatted device, which is returned |
 //! | [`whole_life`] | a run from a device that is formatted first, and returned |
 //! | [`laws`] | what was reported or shown in a run is recovered ever after; fair rounds answer all |
@@ -44,6 +44,6 @@ mod named;
 mod setup;
 mod whole;
 
-pub use alm_pipeline::{Event, Step};
+pub use alm_pipeline::{Step, StepEvent};
 pub use bench::Bench;
 pub use whole::{life, whole_life};

@@ -17,7 +17,7 @@ ghost use Rattle.alm_bench.specs.Traced.{KeepsTold};
 use crate::bench::Bench;
 use alm_disk::Crashable;
 use alm_keeper::{FormatFault, format};
-use alm_pipeline::{Event, Step};
+use alm_pipeline::{Step, StepEvent};
 use alm_types::Table;
 use std::alloc::{AllocError, Global};
 
@@ -30,7 +30,7 @@ pub fn life<D: Crashable + Drop>(
     alloc: Global,
     disk: D,
     steps: &[Step],
-) -> Result<(Vec<Event>, D), (AllocError, D)>
+) -> Result<(Vec<StepEvent>, D), (AllocError, D)>
     ensures honest { IfOk result (λ lived. D.honest lived.1 → D.honest disk) }
     ensures run { (plant : Condensed) → StandOnly (D.state disk) plant →
         IfOk result
@@ -70,7 +70,7 @@ pub fn whole_life<D: Crashable + Drop>(
     disk: D,
     table: &Table,
     steps: &[Step],
-) -> Result<(Vec<Event>, D), (FormatFault, D)>
+) -> Result<(Vec<StepEvent>, D), (FormatFault, D)>
     ensures honest { IfOk result (λ lived. D.honest lived.1 → D.honest disk) }
     // The run begins at what `format` makes of the device.
     ensures run { IfOk result

@@ -4,10 +4,10 @@ ghost use Rattle.std.specs.Prelude.{◌<◌};
 
 use crate::traces::trace;
 use crate::world::World;
-use alm_bench::{Event, Step};
+use alm_bench::{Step, StepEvent};
 use alm_desk::worked_table;
 use alm_model::{Alarms, PlainPlant};
-use alm_types::{Action, AlarmId, Moment, Query, Reading, Slot};
+use alm_types::{Action, AlarmId, Moment, Query, Reading, Slot, Want};
 use std::alloc::Global;
 use std::test::Fail;
 
@@ -112,7 +112,7 @@ fn bytes(alloc: Global, drawn: u64) -> Result<Vec<(u64, u8)>, Fail> {
 fn send(drawn: u64, now: u64) -> Result<Step, Fail> {
     let action = action(drawn, now)?;
     let slot = sender(drawn, &action)?;
-    Ok(Step::Send(slot, action))
+    Ok(Step::Send(slot, Want::Do(action)))
 }
 
 /// A drawn step.
@@ -151,7 +151,7 @@ fn steps(alloc: Global, seed: u64, count: u32) -> Result<Vec<Step>, Fail> {
 pub fn differs_at<P: Alarms + Drop>(
     world: &mut World<P>,
     steps: &[Step],
-    trace: &[Event],
+    trace: &[StepEvent],
 ) -> Result<Option<usize>, Fail> {
     if trace.len() != steps.len() {
         return Ok(Some(trace.len()));
@@ -188,7 +188,7 @@ fn steps_differ_at(alloc: Global, steps: &[Step]) -> Result<Option<usize>, Fail>
 fn trace_differs_at<P: Alarms + Drop>(
     alloc: Global,
     steps: &[Step],
-    trace: &[Event],
+    trace: &[StepEvent],
 ) -> Result<Option<usize>, Fail> {
     let mut world = World::<P>::new(alloc, worked_table(alloc)?)?;
     let found = differs_at(&mut world, steps, trace);

@@ -1,8 +1,8 @@
 //! Crashes while a checkpoint of 1,000 alarms goes out in three pieces.
 
 use crate::traces::{alike, trace_on};
-use alm_bench::{Event, Step};
-use alm_types::{Action, Moment, Slot, Table};
+use alm_bench::{Step, StepEvent};
+use alm_types::{Action, Moment, Slot, Table, Want};
 use std::alloc::Global;
 use std::test::Fail;
 
@@ -14,7 +14,7 @@ const DEVICE: (usize, usize) = (391_541, 1000);
 /// One action of the clock from its request to its receipt, with `calls` device calls.
 fn tick(steps: &mut Vec<Step>, clock: Slot, turn: u64, calls: u32) -> Result<(), Fail> {
     let now = Action::Clock(Moment::new(turn).ok_or("moment")?);
-    steps.push(Step::Send(clock, now))?;
+    steps.push(Step::Send(clock, Want::Do(now)))?;
     steps.push(Step::Take(clock))?;
     steps.push(Step::Seal)?;
     steps.push(Step::Fetch)?;
@@ -48,7 +48,7 @@ fn steps(alloc: Global, clock: Slot, calls: u32) -> Result<Vec<Step>, Fail> {
 }
 
 /// What is opened after it, if the pending bytes stay as they read.
-fn opened_after(alloc: Global, table: &Table, calls: u32) -> Result<Option<Event>, Fail> {
+fn opened_after(alloc: Global, table: &Table, calls: u32) -> Result<Option<StepEvent>, Fail> {
     let steps = steps(alloc, Slot::new(17).ok_or("slot")?, calls)?;
     Ok(trace_on(alloc, table, DEVICE, &steps)?.last().copied())
 }
@@ -65,7 +65,7 @@ fn a_crash_after_each_call_of_commits_between_pieces(rt: HostRuntime) -> Result<
     for (calls, count) in counts.into_iter().enumerate() {
         assert_eq!(rt;
             opened_after(alloc, &table, calls as u32)?,
-            Some(Event::Opened(count)),
+            Some(StepEvent::Opened(count)),
             "after {calls}"
         );
     }

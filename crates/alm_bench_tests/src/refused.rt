@@ -1,11 +1,11 @@
 //! Out of memory: run with each allocation refused in turn (`rt try --test --fail-alloc N`), the test of this module passes. One is
 //! refused at most, so what was refused succeeds the second time.
 
-use alm_bench::{Bench, Event, Step};
+use alm_bench::{Bench, Step, StepEvent};
 use alm_desk::worked_table;
 use alm_disk::MemDisk;
 use alm_keeper::{OpenFault, format};
-use alm_types::{Action, Moment, Slot};
+use alm_types::{Action, Moment, Slot, Want};
 use std::alloc::{AllocError, Global};
 use std::test::Fail;
 
@@ -23,7 +23,7 @@ fn made(alloc: Global) -> Option<MemDisk> {
 }
 
 /// The first event of a run of these steps, which is tried once more if it is refused.
-fn first_event(alloc: Global, bench: &mut Bench<MemDisk>, steps: &[Step]) -> Option<Event> {
+fn first_event(alloc: Global, bench: &mut Bench<MemDisk>, steps: &[Step]) -> Option<StepEvent> {
     let trace = match bench.run(alloc, steps) {
         Ok(trace) => trace,
         Err(AllocError) => bench.run(alloc, steps).ok()?,
@@ -32,7 +32,7 @@ fn first_event(alloc: Global, bench: &mut Bench<MemDisk>, steps: &[Step]) -> Opt
 }
 
 /// The same on a new device; or why it wasn't opened.
-fn first_on_new(alloc: Global, steps: &[Step]) -> Result<Option<Event>, OpenFault> {
+fn first_on_new(alloc: Global, steps: &[Step]) -> Result<Option<StepEvent>, OpenFault> {
     let disk = made(alloc).ok_or(OpenFault::OutOfMemory)?;
     match Bench::new(alloc, disk) {
         Ok(mut bench) => Ok(first_event(alloc, &mut bench, steps)),
@@ -43,11 +43,14 @@ fn first_on_new(alloc: Global, steps: &[Step]) -> Result<Option<Event>, OpenFaul
 #[test]
 fn a_run_without_memory_makes_no_step(rt: HostRuntime) -> Result<(), Fail> {
     let clock = Slot::new(17).ok_or("slot")?;
-    let steps = [Step::Send(clock, Action::Clock(Moment::new(1000).ok_or("moment")?))];
+    let steps = [Step::Send(
+        clock,
+        Want::Do(Action::Clock(Moment::new(1000).ok_or("moment")?)),
+    )];
     let event = match first_on_new(rt.alloc(), &steps) {
         Err(OpenFault::OutOfMemory) => first_on_new(rt.alloc(), &steps),
         event => event,
     };
-    assert_eq!(rt; event, Ok(Some(Event::Sent(1))));
+    assert_eq!(rt; event, Ok(Some(StepEvent::Sent(1))));
     Ok(())
 }

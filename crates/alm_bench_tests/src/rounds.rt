@@ -4,9 +4,9 @@
 use crate::drawn::{below, differs_at, random};
 use crate::traces::{alike, trace_on};
 use crate::world::World;
-use alm_bench::{Event, Step};
+use alm_bench::{Step, StepEvent};
 use alm_model::{Alarms, PlainPlant};
-use alm_types::{Action, AlarmId, Reading, Slot, Table};
+use alm_types::{Action, AlarmId, Reading, Slot, Table, Want};
 use std::alloc::Global;
 use std::test::Fail;
 
@@ -62,7 +62,7 @@ fn round(steps: &mut Vec<Step>, course: Course, calls: u32) -> Result<Course, Fa
     for number in 0..actions {
         let console = console(number)?;
         let action = setpoint(course.sent.wrapping_add(number))?;
-        steps.push(Step::Send(console, action))?;
+        steps.push(Step::Send(console, Want::Do(action)))?;
         steps.push(Step::Take(console))?;
     }
     steps.push(Step::Seal)?;
@@ -145,7 +145,7 @@ fn steps_differ_at(alloc: Global, steps: &[Step]) -> Result<Option<usize>, Fail>
 fn trace_differs_at<P: Alarms + Drop>(
     alloc: Global,
     steps: &[Step],
-    trace: &[Event],
+    trace: &[StepEvent],
 ) -> Result<Option<usize>, Fail> {
     let table = alike(alloc, ALARMS as usize)?;
     let mut world = World::<P>::with_checkpoints(alloc, table, BEFORE)?;
@@ -155,15 +155,15 @@ fn trace_differs_at<P: Alarms + Drop>(
 }
 
 /// How many commits a trace has, and how many of them took more than their own four calls.
-fn commits(trace: &[Event]) -> (u32, u32) {
+fn commits(trace: &[StepEvent]) -> (u32, u32) {
     let mut commits = 0u32;
     let mut behind_pieces = 0u32;
     let mut calls = 0u32;
     for event in trace {
         match event {
-            Event::Fetched => calls = 0,
-            Event::More => calls = calls.wrapping_add(1),
-            Event::Committed => {
+            StepEvent::Fetched => calls = 0,
+            StepEvent::More => calls = calls.wrapping_add(1),
+            StepEvent::Committed => {
                 commits = commits.wrapping_add(1);
                 behind_pieces = behind_pieces.wrapping_add(u32::from(calls > 3));
             }
@@ -175,20 +175,20 @@ fn commits(trace: &[Event]) -> (u32, u32) {
 
 /// How many calls continued a checkpoint while no batch was held. `None` if a call did after one before it found none open: only
 /// another commit opens one.
-fn calls_alone(steps: &[Step], trace: &[Event]) -> Option<u32> {
+fn calls_alone(steps: &[Step], trace: &[StepEvent]) -> Option<u32> {
     let mut is_held = false;
     let mut is_open = true;
     let mut alone = 0u32;
     for (step, event) in steps.iter().zip(trace) {
         match (step, event) {
-            (Step::Fetch, Event::Fetched) => is_held = true,
-            (Step::Call, Event::Committed) => {
+            (Step::Fetch, StepEvent::Fetched) => is_held = true,
+            (Step::Call, StepEvent::Committed) => {
                 is_held = false;
                 is_open = true;
             }
-            (Step::Call, Event::More) if !is_held && !is_open => return None,
-            (Step::Call, Event::More) if !is_held => alone = alone.wrapping_add(1),
-            (Step::Call, Event::Skipped) => is_open = false,
+            (Step::Call, StepEvent::More) if !is_held && !is_open => return None,
+            (Step::Call, StepEvent::More) if !is_held => alone = alone.wrapping_add(1),
+            (Step::Call, StepEvent::Skipped) => is_open = false,
             _ => {}
         }
     }

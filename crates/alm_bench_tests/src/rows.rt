@@ -1,10 +1,10 @@
 //! The worked rows.
 
 use crate::traces::{differs_at, formatted, trace};
-use alm_bench::{Bench, Event, Step, life};
+use alm_bench::{Bench, Step, StepEvent, life};
 use alm_disk::MemDisk;
 use alm_keeper::OpenFault;
-use alm_types::{Action, AlarmId, Moment, Query, Reading, Refusal, Slot, Verdict};
+use alm_types::{Action, AlarmId, Moment, Query, Reading, Refusal, Slot, Verdict, Want};
 use std::alloc::Global;
 use std::test::Fail;
 
@@ -18,7 +18,7 @@ fn goes_so(
     alloc: Global,
     calls: usize,
     steps: &[Step],
-    wanted: &[Event],
+    wanted: &[StepEvent],
 ) -> Result<Option<usize>, Fail> {
     let trace = trace(alloc, calls, steps)?;
     let found = differs_at(&trace, wanted);
@@ -30,7 +30,7 @@ fn goes_so(
 fn steps_of_one_action(alloc: Global, clock: Slot, console: Slot, now: Action) -> [Step; 18] {
     [
         Step::Reopen,
-        Step::Send(clock, now),
+        Step::Send(clock, Want::Do(now)),
         Step::Take(clock),
         Step::Look(console, LOOK),
         Step::Seal,
@@ -45,32 +45,32 @@ fn steps_of_one_action(alloc: Global, clock: Slot, console: Slot, now: Action) -
         Step::Release,
         Step::Receive(clock),
         Step::Crash(Vec::new(alloc)),
-        Step::Send(console, Action::Ack(AlarmId(0))),
+        Step::Send(console, Want::Do(Action::Ack(AlarmId(0)))),
         Step::Reopen,
     ]
 }
 
 /// What they are answered.
-fn events_of_one_action(clock: Slot, now: &Action) -> [Event; 18] {
+fn events_of_one_action(clock: Slot, now: &Action) -> [StepEvent; 18] {
     [
-        Event::Opened(0),
-        Event::Sent(1),
-        Event::Took(Verdict::Accepted(*now)),
-        Event::Looked(0),
-        Event::Sealed,
-        Event::Fetched,
-        Event::More,
-        Event::More,
-        Event::More,
-        Event::Committed,
-        Event::Skipped,
-        Event::Published,
-        Event::Looked(1),
-        Event::Released(clock),
-        Event::Received(1, Verdict::Accepted(*now), 1),
-        Event::Crashed,
-        Event::Skipped,
-        Event::Opened(1),
+        StepEvent::Opened(0),
+        StepEvent::Sent(1),
+        StepEvent::Took(Verdict::Accepted(*now)),
+        StepEvent::Looked(0),
+        StepEvent::Sealed,
+        StepEvent::Fetched,
+        StepEvent::More,
+        StepEvent::More,
+        StepEvent::More,
+        StepEvent::Committed,
+        StepEvent::Skipped,
+        StepEvent::Published,
+        StepEvent::Looked(1),
+        StepEvent::Released(clock),
+        StepEvent::Received(1, Verdict::Accepted(*now), 1),
+        StepEvent::Crashed,
+        StepEvent::Skipped,
+        StepEvent::Opened(1),
     ]
 }
 
@@ -89,12 +89,12 @@ fn one_action_goes_its_way(rt: HostRuntime) -> Result<(), Fail> {
 }
 
 /// What is opened after a crash after `calls` calls of a commit of one action, if the pending bytes stay as they read.
-fn opened_after(alloc: Global, calls: usize) -> Result<Option<Event>, Fail> {
+fn opened_after(alloc: Global, calls: usize) -> Result<Option<StepEvent>, Fail> {
     let clock = Slot::new(17).ok_or("slot")?;
     let now = Action::Clock(Moment::new(1000).ok_or("moment")?);
     let mut steps = Vec::new(alloc);
     steps.push(Step::Reopen)?;
-    steps.push(Step::Send(clock, now))?;
+    steps.push(Step::Send(clock, Want::Do(now)))?;
     steps.push(Step::Take(clock))?;
     steps.push(Step::Seal)?;
     steps.push(Step::Fetch)?;
@@ -111,7 +111,7 @@ fn a_crash_after_each_call(rt: HostRuntime) -> Result<(), Fail> {
     for (calls, count) in [(0, 0), (1, 0), (2, 0), (3, 1), (4, 1)] {
         assert_eq!(rt;
             opened_after(rt.alloc(), calls)?,
-            Some(Event::Opened(count)),
+            Some(StepEvent::Opened(count)),
             "after {calls}"
         );
     }
@@ -125,7 +125,7 @@ fn a_failure_closes_the_bench(rt: HostRuntime) -> Result<(), Fail> {
     let now = Action::Clock(Moment::new(1000).ok_or("moment")?);
     let steps = [
         Step::Reopen,
-        Step::Send(clock, now),
+        Step::Send(clock, Want::Do(now)),
         Step::Take(clock),
         Step::Seal,
         Step::Fetch,
@@ -139,19 +139,19 @@ fn a_failure_closes_the_bench(rt: HostRuntime) -> Result<(), Fail> {
         Step::Reopen,
     ];
     let wanted = [
-        Event::Opened(0),
-        Event::Sent(1),
-        Event::Took(Verdict::Accepted(now)),
-        Event::Sealed,
-        Event::Fetched,
-        Event::More,
-        Event::More,
-        Event::Failed,
-        Event::Skipped,
-        Event::Skipped,
-        Event::Unopened(OpenFault::Disk),
-        Event::Crashed,
-        Event::Unopened(OpenFault::Disk),
+        StepEvent::Opened(0),
+        StepEvent::Sent(1),
+        StepEvent::Took(Verdict::Accepted(now)),
+        StepEvent::Sealed,
+        StepEvent::Fetched,
+        StepEvent::More,
+        StepEvent::More,
+        StepEvent::Failed,
+        StepEvent::Skipped,
+        StepEvent::Skipped,
+        StepEvent::Unopened(OpenFault::Disk),
+        StepEvent::Crashed,
+        StepEvent::Unopened(OpenFault::Disk),
     ];
     // Ten calls to format, six to open, and two of the commit.
     let found = goes_so(alloc, 18, &steps, &wanted);
@@ -164,8 +164,8 @@ fn a_failure_closes_the_bench(rt: HostRuntime) -> Result<(), Fail> {
 fn steps_of_a_refusal(feed: Slot, console: Slot, value: &Action) -> [Step; 22] {
     [
         Step::Reopen,
-        Step::Send(feed, *value),
-        Step::Send(console, *value),
+        Step::Send(feed, Want::Do(*value)),
+        Step::Send(console, Want::Do(*value)),
         Step::Take(feed),
         Step::Take(console),
         Step::Receive(console),
@@ -189,30 +189,35 @@ fn steps_of_a_refusal(feed: Slot, console: Slot, value: &Action) -> [Step; 22] {
 }
 
 /// Their answers, if the console's request is refused so.
-fn events_of_a_refusal(feed: Slot, console: Slot, value: Action, refused: &Verdict) -> [Event; 22] {
+fn events_of_a_refusal(
+    feed: Slot,
+    console: Slot,
+    value: Action,
+    refused: &Verdict,
+) -> [StepEvent; 22] {
     [
-        Event::Opened(0),
-        Event::Sent(1),
-        Event::Sent(1),
-        Event::Took(Verdict::Accepted(value)),
-        Event::Took(*refused),
-        Event::Skipped,
-        Event::Sealed,
-        Event::Fetched,
-        Event::More,
-        Event::More,
-        Event::More,
-        Event::Committed,
-        Event::Published,
-        Event::Skipped,
-        Event::Released(feed),
-        Event::Skipped,
-        Event::Released(console),
-        Event::GaveBack,
-        Event::Received(1, *refused, 1),
-        Event::Skipped,
-        Event::Skipped,
-        Event::Looked(1),
+        StepEvent::Opened(0),
+        StepEvent::Sent(1),
+        StepEvent::Sent(1),
+        StepEvent::Took(Verdict::Accepted(value)),
+        StepEvent::Took(*refused),
+        StepEvent::Skipped,
+        StepEvent::Sealed,
+        StepEvent::Fetched,
+        StepEvent::More,
+        StepEvent::More,
+        StepEvent::More,
+        StepEvent::Committed,
+        StepEvent::Published,
+        StepEvent::Skipped,
+        StepEvent::Released(feed),
+        StepEvent::Skipped,
+        StepEvent::Released(console),
+        StepEvent::GaveBack,
+        StepEvent::Received(1, *refused, 1),
+        StepEvent::Skipped,
+        StepEvent::Skipped,
+        StepEvent::Looked(1),
     ]
 }
 
@@ -250,7 +255,7 @@ fn an_unformatted_device_is_refused(rt: HostRuntime) -> Result<(), Fail> {
 }
 
 /// Whether a bench answers these steps so.
-fn goes(bench: &mut Bench<MemDisk>, alloc: Global, steps: &[Step], wanted: &[Event]) -> bool {
+fn goes(bench: &mut Bench<MemDisk>, alloc: Global, steps: &[Step], wanted: &[StepEvent]) -> bool {
     match bench.run(alloc, steps) {
         Ok(trace) => differs_at(&trace, wanted).is_none(),
         Err(_) => false,
@@ -266,18 +271,18 @@ fn goes_on(alloc: Global, disk: MemDisk, slot: Slot) -> bool {
             let first = goes(
                 &mut bench,
                 alloc,
-                &[Step::Reopen, Step::Send(slot, ack)],
-                &[Event::Skipped, Event::Sent(1)],
+                &[Step::Reopen, Step::Send(slot, Want::Do(ack))],
+                &[StepEvent::Skipped, StepEvent::Sent(1)],
             );
             let second = goes(
                 &mut bench,
                 alloc,
                 &[Step::Take(slot), Step::Seal, Step::Fetch, Step::Call],
                 &[
-                    Event::Took(refused),
-                    Event::Sealed,
-                    Event::Fetched,
-                    Event::Committed,
+                    StepEvent::Took(refused),
+                    StepEvent::Sealed,
+                    StepEvent::Fetched,
+                    StepEvent::Committed,
                 ],
             );
             first && second
@@ -297,37 +302,37 @@ fn a_bench_goes_on_where_it_was(rt: HostRuntime) -> Result<(), Fail> {
 /// One action of the clock from its request to its receipt, with a number of device calls.
 fn tick(
     steps: &mut Vec<Step>,
-    wanted: &mut Vec<Event>,
+    wanted: &mut Vec<StepEvent>,
     clock: Slot,
     turn: u64,
     calls: u32,
 ) -> Result<(), Fail> {
     let now = Action::Clock(Moment::new(turn).ok_or("moment")?);
     let verdict = Verdict::Accepted(now);
-    steps.push(Step::Send(clock, now))?;
-    wanted.push(Event::Sent(turn))?;
+    steps.push(Step::Send(clock, Want::Do(now)))?;
+    wanted.push(StepEvent::Sent(turn))?;
     steps.push(Step::Take(clock))?;
-    wanted.push(Event::Took(verdict))?;
+    wanted.push(StepEvent::Took(verdict))?;
     steps.push(Step::Seal)?;
-    wanted.push(Event::Sealed)?;
+    wanted.push(StepEvent::Sealed)?;
     steps.push(Step::Fetch)?;
-    wanted.push(Event::Fetched)?;
+    wanted.push(StepEvent::Fetched)?;
     for call in 1..=calls {
         steps.push(Step::Call)?;
         wanted.push(if call == calls {
-            Event::Committed
+            StepEvent::Committed
         } else {
-            Event::More
+            StepEvent::More
         })?;
     }
     steps.push(Step::Publish)?;
-    wanted.push(Event::Published)?;
+    wanted.push(StepEvent::Published)?;
     steps.push(Step::Release)?;
-    wanted.push(Event::Released(clock))?;
+    wanted.push(StepEvent::Released(clock))?;
     steps.push(Step::GiveBack)?;
-    wanted.push(Event::GaveBack)?;
+    wanted.push(StepEvent::GaveBack)?;
     steps.push(Step::Receive(clock))?;
-    wanted.push(Event::Received(turn, verdict, turn))?;
+    wanted.push(StepEvent::Received(turn, verdict, turn))?;
     Ok(())
 }
 
@@ -350,14 +355,14 @@ fn a_segment_half_full_makes_a_checkpoint(rt: HostRuntime) -> Result<(), Fail> {
     let mut steps = Vec::new(alloc);
     let mut wanted = Vec::new(alloc);
     steps.push(Step::Reopen)?;
-    wanted.push(Event::Opened(0))?;
+    wanted.push(StepEvent::Opened(0))?;
     for turn in 1..=120 {
         tick(&mut steps, &mut wanted, clock, turn, calls_of(turn))?;
     }
     steps.push(Step::Crash(Vec::new(alloc)))?;
-    wanted.push(Event::Crashed)?;
+    wanted.push(StepEvent::Crashed)?;
     steps.push(Step::Reopen)?;
-    wanted.push(Event::Opened(120))?;
+    wanted.push(StepEvent::Opened(120))?;
     assert_eq!(rt; goes_so(alloc, CALLS, &steps, &wanted)?, None);
     Ok(())
 }
@@ -371,23 +376,23 @@ fn a_batch_has_256_entries(rt: HostRuntime) -> Result<(), Fail> {
     let mut steps = Vec::new(alloc);
     let mut wanted = Vec::new(alloc);
     steps.push(Step::Reopen)?;
-    wanted.push(Event::Opened(0))?;
+    wanted.push(StepEvent::Opened(0))?;
     for slot in 0..4 {
         let slot = Slot::new(slot).ok_or("slot")?;
         for serial in 1..=64 {
-            steps.push(Step::Send(slot, ack))?;
-            wanted.push(Event::Sent(serial))?;
+            steps.push(Step::Send(slot, Want::Do(ack)))?;
+            wanted.push(StepEvent::Sent(serial))?;
             steps.push(Step::Take(slot))?;
-            wanted.push(Event::Took(refused))?;
+            wanted.push(StepEvent::Took(refused))?;
         }
     }
     let last = Slot::new(4).ok_or("slot")?;
-    steps.push(Step::Send(last, ack))?;
-    wanted.push(Event::Sent(1))?;
+    steps.push(Step::Send(last, Want::Do(ack)))?;
+    wanted.push(StepEvent::Sent(1))?;
     for (step, event) in [
-        (Step::Take(last), Event::Skipped),
-        (Step::Seal, Event::Sealed),
-        (Step::Take(last), Event::Took(refused)),
+        (Step::Take(last), StepEvent::Skipped),
+        (Step::Seal, StepEvent::Sealed),
+        (Step::Take(last), StepEvent::Took(refused)),
     ] {
         steps.push(step)?;
         wanted.push(event)?;
@@ -413,7 +418,7 @@ fn lives_so(
     alloc: Global,
     disk: MemDisk,
     steps: &[Step],
-    wanted: &[Event],
+    wanted: &[StepEvent],
 ) -> Result<Option<usize>, Fail> {
     let (trace, _left) = life(alloc, disk, steps).ok().ok_or("a run")?;
     Ok(differs_at(&trace, wanted))
@@ -429,17 +434,17 @@ fn the_last_epoch_has_room_for_one_segment(rt: HostRuntime) -> Result<(), Fail> 
     let mut steps = Vec::new(alloc);
     let mut wanted = Vec::new(alloc);
     steps.push(Step::Reopen)?;
-    wanted.push(Event::Opened(0))?;
+    wanted.push(StepEvent::Opened(0))?;
     for turn in 1..=117 {
         tick(&mut steps, &mut wanted, clock, turn, 4)?;
     }
     for (step, event) in [
-        (Step::Send(clock, last), Event::Sent(118)),
-        (Step::Take(clock), Event::Took(Verdict::Accepted(last))),
-        (Step::Seal, Event::Sealed),
-        (Step::Fetch, Event::Fetched),
-        (Step::Call, Event::Failed),
-        (Step::Reopen, Event::Opened(117)),
+        (Step::Send(clock, Want::Do(last)), StepEvent::Sent(118)),
+        (Step::Take(clock), StepEvent::Took(Verdict::Accepted(last))),
+        (Step::Seal, StepEvent::Sealed),
+        (Step::Fetch, StepEvent::Fetched),
+        (Step::Call, StepEvent::Failed),
+        (Step::Reopen, StepEvent::Opened(117)),
     ] {
         steps.push(step)?;
         wanted.push(event)?;

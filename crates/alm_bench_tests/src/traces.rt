@@ -1,6 +1,6 @@
 //! Traces of runs on newly formatted devices.
 
-use alm_bench::{Event, Step, whole_life};
+use alm_bench::{Step, StepEvent, whole_life};
 use alm_desk::worked_table;
 use alm_disk::MemDisk;
 use alm_keeper::format;
@@ -31,7 +31,7 @@ pub fn alike(alloc: Global, alarms: usize) -> Result<Table, Fail> {
 }
 
 /// The trace of these steps on a device that is formatted for the worked table, and of which `calls` calls succeed.
-pub fn trace(alloc: Global, calls: usize, steps: &[Step]) -> Result<Vec<Event>, Fail> {
+pub fn trace(alloc: Global, calls: usize, steps: &[Step]) -> Result<Vec<StepEvent>, Fail> {
     trace_on(alloc, &worked_table(alloc)?, (SIZE, calls), steps)
 }
 
@@ -41,14 +41,14 @@ pub fn trace_on(
     table: &Table,
     (size, calls): (usize, usize),
     steps: &[Step],
-) -> Result<Vec<Event>, Fail> {
+) -> Result<Vec<StepEvent>, Fail> {
     let disk = MemDisk::new(alloc, vec![in alloc; 0u8; size]?, calls)?;
     let (trace, _left) = whole_life(alloc, disk, table, steps).ok().ok_or("a run")?;
     Ok(trace)
 }
 
 /// The first place at which a trace isn't the expected one.
-pub fn differs_at(trace: &[Event], wanted: &[Event]) -> Option<usize> {
+pub fn differs_at(trace: &[StepEvent], wanted: &[StepEvent]) -> Option<usize> {
     if trace.len() != wanted.len() {
         return Some(trace.len());
     }

@@ -1,14 +1,14 @@
 //! The world that a bench is compared with: plain vectors, and the plant of all accepted actions.
 
-use alm_bench::{Event, Step};
+use alm_bench::{Step, StepEvent};
 use alm_model::{Alarms, judge};
-use alm_types::{Action, AlarmId, Query, Request, Slot, Table, Verdict};
+use alm_types::{Action, AlarmId, Query, Request, Slot, Table, Verdict, Want};
 use std::alloc::{AllocError, Global};
 
 /// What one slot sent, and the places of the entries whose verdicts were released to it.
 #[derive(Drop)]
 struct Line {
-    sent: Vec<Action>,
+    sent: Vec<Want>,
     taken: usize,
     released: Vec<usize>,
     received: usize,
@@ -121,13 +121,13 @@ impl<P: Alarms + Drop> World<P> {
 
     /// What a step answers, if this was seen: it decides which image a crash left, if there are two, and how many calls of a
     /// checkpoint there were.
-    pub fn answers(&mut self, step: &Step, seen: Event) -> Result<Event, AllocError> {
+    pub fn answers(&mut self, step: &Step, seen: StepEvent) -> Result<StepEvent, AllocError> {
         match step {
             Step::Crash(bytes) => Ok(self.crash(bytes.is_empty())),
             Step::Reopen => self.reopen(seen),
             open => {
                 if self.closed {
-                    Ok(Event::Skipped)
+                    Ok(StepEvent::Skipped)
                 } else {
                     self.goes(open, seen)
                 }
@@ -135,9 +135,9 @@ impl<P: Alarms + Drop> World<P> {
         }
     }
 
-    fn goes(&mut self, step: &Step, seen: Event) -> Result<Event, AllocError> {
+    fn goes(&mut self, step: &Step, seen: StepEvent) -> Result<StepEvent, AllocError> {
         match step {
-            Step::Send(slot, action) => self.send(*slot, *action),
+            Step::Send(slot, want) => self.send(*slot, *want),
             Step::Take(slot) => self.take(*slot),
             Step::Seal => self.seal(),
             Step::Fetch => Ok(self.fetch()),
@@ -147,20 +147,20 @@ impl<P: Alarms + Drop> World<P> {
             Step::GiveBack => Ok(self.give_back()),
             Step::Receive(slot) => Ok(self.receive(*slot)),
             Step::Look(_, query) => Ok(self.look(query)),
-            Step::Crash(_) => Ok(Event::Skipped),
-            Step::Reopen => Ok(Event::Skipped),
+            Step::Crash(_) => Ok(StepEvent::Skipped),
+            Step::Reopen => Ok(StepEvent::Skipped),
         }
     }
 
-    fn send(&mut self, slot: Slot, action: Action) -> Result<Event, AllocError> {
+    fn send(&mut self, slot: Slot, want: Want) -> Result<StepEvent, AllocError> {
         let Some(line) = self.lines.get_mut(slot.number() as usize) else {
-            return Ok(Event::Skipped);
+            return Ok(StepEvent::Skipped);
         };
         if line.sent.len() >= line.received.wrapping_add(64) {
-            return Ok(Event::Busy);
+            return Ok(StepEvent::Busy);
         }
-        line.sent.push(action)?;
-        Ok(Event::Sent(line.sent.len() as u64))
+        line.sent.push(want)?;
+        Ok(StepEvent::Sent(line.sent.len() as u64))
     }
 
     /// The start of the open batch.
@@ -168,15 +168,15 @@ impl<P: Alarms + Drop> World<P> {
         self.ends.last().copied().unwrap_or(0)
     }
 
-    fn take(&mut self, slot: Slot) -> Result<Event, AllocError> {
+    fn take(&mut self, slot: Slot) -> Result<StepEvent, AllocError> {
         if self.entries.len() >= self.open().wrapping_add(256) {
-            return Ok(Event::Skipped);
+            return Ok(StepEvent::Skipped);
         }
         let Some(line) = self.lines.get_mut(slot.number() as usize) else {
-            return Ok(Event::Skipped);
+            return Ok(StepEvent::Skipped);
         };
         let Some(want) = line.sent.get(line.taken) else {
-            return Ok(Event::Skipped);
+            return Ok(StepEvent::Skipped);
         };
         let request = Request { slot, want: *want };
         line.taken = line.taken.wrapping_add(1);
@@ -191,25 +191,25 @@ impl<P: Alarms + Drop> World<P> {
             verdict,
             number: self.plant.count(),
         })?;
-        Ok(Event::Took(verdict))
+        Ok(StepEvent::Took(verdict))
     }
 
-    fn seal(&mut self) -> Result<Event, AllocError> {
+    fn seal(&mut self) -> Result<StepEvent, AllocError> {
         let out = self.ends.len().wrapping_sub(self.given);
         if self.entries.len() == self.open() || out >= 7 {
-            return Ok(Event::Skipped);
+            return Ok(StepEvent::Skipped);
         }
         self.ends.push(self.entries.len())?;
-        Ok(Event::Sealed)
+        Ok(StepEvent::Sealed)
     }
 
-    fn fetch(&mut self) -> Event {
+    fn fetch(&mut self) -> StepEvent {
         if self.stage != Stage::Nothing || self.fetched == self.ends.len() {
-            return Event::Skipped;
+            return StepEvent::Skipped;
         }
         self.fetched = self.fetched.wrapping_add(1);
         self.stage = Stage::Held(0);
-        Event::Fetched
+        StepEvent::Fetched
     }
 
     /// The entries of the fetched batch, from one place to another.
@@ -228,51 +228,51 @@ impl<P: Alarms + Drop> World<P> {
         }
     }
 
-    fn call(&mut self, seen: Event) -> Event {
+    fn call(&mut self, seen: StepEvent) -> StepEvent {
         let Stage::Held(made) = self.stage else {
             return self.call_without_a_batch(seen);
         };
         let made = made.wrapping_add(1);
         let last = self.last_number();
-        let may_end = made >= COMMIT && seen == Event::Committed;
+        let may_end = made >= COMMIT && seen == StepEvent::Committed;
         if last == self.stored || may_end || made == self.before.wrapping_add(COMMIT) {
             self.stored = last;
             self.stage = Stage::Stored;
-            return Event::Committed;
+            return StepEvent::Committed;
         }
         self.stage = Stage::Held(made);
-        Event::More
+        StepEvent::More
     }
 
     /// A checkpoint may continue.
-    fn call_without_a_batch(&self, seen: Event) -> Event {
-        if self.before > 0 && seen == Event::More {
-            Event::More
+    fn call_without_a_batch(&self, seen: StepEvent) -> StepEvent {
+        if self.before > 0 && seen == StepEvent::More {
+            StepEvent::More
         } else {
-            Event::Skipped
+            StepEvent::Skipped
         }
     }
 
-    fn publish(&mut self) -> Event {
+    fn publish(&mut self) -> StepEvent {
         if self.stage != Stage::Stored {
-            return Event::Skipped;
+            return StepEvent::Skipped;
         }
         self.published = self.last_number();
         self.stage = Stage::Shown(0);
-        Event::Published
+        StepEvent::Published
     }
 
-    fn release(&mut self) -> Result<Event, AllocError> {
+    fn release(&mut self) -> Result<StepEvent, AllocError> {
         let Stage::Shown(released) = self.stage else {
-            return Ok(Event::Skipped);
+            return Ok(StepEvent::Skipped);
         };
         let (from, to) = self.held();
         let place = from.wrapping_add(released);
         if place >= to {
-            return Ok(Event::Skipped);
+            return Ok(StepEvent::Skipped);
         }
         let Some(entry) = self.entries.get(place) else {
-            return Ok(Event::Skipped);
+            return Ok(StepEvent::Skipped);
         };
         let (slot, number) = (entry.slot, entry.number);
         if let Some(line) = self.lines.get_mut(slot.number() as usize) {
@@ -280,42 +280,42 @@ impl<P: Alarms + Drop> World<P> {
         }
         self.floor = self.floor.max(number);
         self.stage = Stage::Shown(released.wrapping_add(1));
-        Ok(Event::Released(slot))
+        Ok(StepEvent::Released(slot))
     }
 
-    fn give_back(&mut self) -> Event {
+    fn give_back(&mut self) -> StepEvent {
         let Stage::Shown(released) = self.stage else {
-            return Event::Skipped;
+            return StepEvent::Skipped;
         };
         let (from, to) = self.held();
         if from.wrapping_add(released) < to {
-            return Event::Skipped;
+            return StepEvent::Skipped;
         }
         self.given = self.given.wrapping_add(1);
         self.stage = Stage::Nothing;
-        Event::GaveBack
+        StepEvent::GaveBack
     }
 
-    fn receive(&mut self, slot: Slot) -> Event {
+    fn receive(&mut self, slot: Slot) -> StepEvent {
         let Some(line) = self.lines.get_mut(slot.number() as usize) else {
-            return Event::Skipped;
+            return StepEvent::Skipped;
         };
         let Some(place) = line.released.get(line.received) else {
-            return Event::Skipped;
+            return StepEvent::Skipped;
         };
         line.received = line.received.wrapping_add(1);
         match self.entries.get(*place) {
-            Some(entry) => Event::Received(entry.serial, entry.verdict, entry.number),
-            None => Event::Skipped,
+            Some(entry) => StepEvent::Received(entry.serial, entry.verdict, entry.number),
+            None => StepEvent::Skipped,
         }
     }
 
-    fn look(&mut self, query: &Query) -> Event {
+    fn look(&mut self, query: &Query) -> StepEvent {
         if !exists(query) {
-            return Event::Skipped;
+            return StepEvent::Skipped;
         }
         self.floor = self.floor.max(self.published);
-        Event::Looked(self.published)
+        StepEvent::Looked(self.published)
     }
 
     fn is_before_the_last_call(&self) -> bool {
@@ -326,7 +326,7 @@ impl<P: Alarms + Drop> World<P> {
     }
 
     /// The power fails; the pending bytes stay as they read, or some of them become other bytes.
-    fn crash(&mut self, as_read: bool) -> Event {
+    fn crash(&mut self, as_read: bool) -> StepEvent {
         if !self.closed {
             self.sure = self.stored;
             self.may = self.stored;
@@ -339,21 +339,21 @@ impl<P: Alarms + Drop> World<P> {
             }
         }
         self.closed = true;
-        Event::Crashed
+        StepEvent::Crashed
     }
 
     /// All except the accepted actions that were recovered is lost.
-    fn reopen(&mut self, seen: Event) -> Result<Event, AllocError> {
+    fn reopen(&mut self, seen: StepEvent) -> Result<StepEvent, AllocError> {
         if !self.closed {
-            return Ok(Event::Skipped);
+            return Ok(StepEvent::Skipped);
         }
-        let count = if seen == Event::Opened(self.may) {
+        let count = if seen == StepEvent::Opened(self.may) {
             self.may
         } else {
             self.sure
         };
         if count < self.floor {
-            return Ok(Event::Skipped);
+            return Ok(StepEvent::Skipped);
         }
         self.refold(count)?;
         self.lines = lines(self.alloc)?;
@@ -365,7 +365,7 @@ impl<P: Alarms + Drop> World<P> {
         self.stored = count;
         self.published = count;
         self.closed = false;
-        Ok(Event::Opened(count))
+        Ok(StepEvent::Opened(count))
     }
 
     /// The plant of the first accepted actions.

@@ -12,6 +12,7 @@
 //! | [`Publish`], [`Voucher`] | shows one more batch, or the same as before; what vouches for the list that is shown |
 //! | [`Look`] | one slot's view of it: it asks queries, and learns the lists of receipts |
 //! | [`FreeLook`] | one that may learn any receipt of its type |
+//! | [`Recall`] | one that reports what happened |
 //! | [`PlainBoard`], [`PlainLook`], [`PlainTold`] | the board within one thread |
 //!
 //! What is used above: a look shows the plant of a list of published actions, with its count. Earlier looks by the same reader
@@ -31,6 +32,7 @@ mod look;
 mod plain_board;
 mod plain_look;
 mod plain_told;
+mod recall;
 mod seen;
 mod voucher;
 
@@ -41,5 +43,6 @@ pub use look::Look;
 pub use plain_board::PlainBoard;
 pub use plain_look::PlainLook;
 pub use plain_told::PlainTold;
+pub use recall::Recall;
 pub use seen::Seen;
 pub use voucher::Voucher;

@@ -10,7 +10,7 @@ use crate::plain_look::PlainLook;
 use crate::plain_told::PlainTold;
 use crate::seen::Seen;
 use alm_model::Alarms;
-use alm_types::{Action, Batch, Verdict};
+use alm_types::{Batch, LoggedAction, Verdict};
 use std::alloc::AllocError;
 use std::snapshot::Snapshot;
 
@@ -28,13 +28,14 @@ pub struct PlainBoard<P: Alarms + Drop> {
 impl<P: Alarms + Drop> PlainBoard<P> {
     ghost use Rattle.std.specs.Prelude.{◌≡◌, ◌++◌, [], ◌∷◌, None};
     ghost use Rattle.alm_model.specs.Accept.{refusal};
-    ghost use Rattle.alm_board.specs.Boards.{board_base, published_of, saw_of};
+    ghost use Rattle.alm_board.specs.Boards.{board_base, logged_by, published_of, saw_of};
     ghost use Rattle.alm_board.specs.Fronts.{IsFront};
 
     /// A board with no published actions yet.
     pub fn new(plant: P) -> Self
         ensures base { board_base result ≡ P.plant plant }
         ensures published { published_of result ≡ [] }
+        ensures logged { logged_by result ≡ [] }
     {
         PlainBoard {
             base_count: plant.count(),
@@ -54,25 +55,28 @@ impl<P: Alarms + Drop> PlainBoard<P> {
     }
 
     // The next action.
-    fn add(&mut self, action: &Action)
-        requires { refusal (P.plant self.old.plant).panel action.now ≡ None }
+    fn add(&mut self, next: LoggedAction)
+        requires { refusal (P.plant self.old.plant).panel next.action ≡ None }
         ensures base { board_base self.new ≡ board_base self.old }
-        ensures published { published_of self.new ≡ published_of self.old ++ action.now ∷ [] }
+        ensures published { published_of self.new ≡ published_of self.old ++ next.action ∷ [] }
+        ensures logged { logged_by self.new ≡ logged_by self.old ++ next ∷ [] }
     {
-        self.plant.apply(action);
-        self.log.push(*action);
+        self.plant.apply(&next.action);
+        self.log.push(next);
     }
 }
 
 impl<P: Alarms + Drop> Board for PlainBoard<P> {
     ghost use Rattle.std.specs.Prelude.{[]};
-    ghost use Rattle.alm_board.specs.Logs.{actions_of};
+    ghost use Rattle.alm_board.specs.Logs.{actions_of, logged_in};
 
     type Told = PlainTold;
 
     ghost base = { λ board. P.plant board.base.value };
 
     ghost published = { λ board. actions_of board.log };
+
+    ghost logged = { λ board. logged_in board.log };
 
     ghost pending = { λ _. [] };
 
@@ -91,7 +95,11 @@ impl<P: Alarms + Drop> Publish<(), ()> for PlainBoard<P> {
     fn publish(&mut self, _by: &(), _voucher: &(), batch: &Batch) -> Result<(), AllocError> {
         for entry in batch.entries() {
             match &entry.verdict {
-                Verdict::Accepted(action) => self.add(action),
+                Verdict::Accepted(action) => self.add(LoggedAction {
+                    slot: entry.slot,
+                    serial: entry.serial,
+                    action: *action,
+                }),
                 Verdict::Refused(_, _) => {}
             }
         }

@@ -4,3 +4,4 @@ pub mod Cuts
 pub mod Wholes
 pub mod Printed
 pub mod CutLines
+pub mod Remembering

@@ -47,6 +47,11 @@ CountsStop (Some q) (Wrong e) old new = new ≡ one_more old
 CountsStop (Some q) (Good j) old new = new ≡ old
 CountsStop None result old new = new ≡ old
 
+-- the moment of a plant, if it has not stopped
+abbrev pub IsMomentOf : Option Condensed → ℕ → Type 0
+IsMomentOf None moment = Unit {0}
+IsMomentOf (Some q) moment = moment ≡ q.panel.now
+
 -- a plant answers a query; one that has stopped answers none
 abbrev pub IsAsked : Option Condensed → Query → Answer → Answer → Result ℕ Refusal → Type 0
 IsAsked None query before after result = (result ≡ Wrong refusal.Stopped) × (after ≡ before)

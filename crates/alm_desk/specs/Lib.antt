@@ -3,6 +3,7 @@ pub mod Backends
 pub mod Desks
 pub mod Failing
 pub mod Feeding
+pub mod Notebooks
 pub mod Pieces
 pub mod Whole
 pub mod DeskLines

@@ -8,7 +8,7 @@
 //! ```
 //!
 //! A [`LocalDesk`] answers the lines of all 18 slots, each before the next, over a [`Backend`]: a plant that judges
-//! actions and answers queries. After the backend's storage has stopped, the line that met the stop and every later
+//! actions and answers queries. It reports what happened since it began, of the last 65,536 actions. After the backend's storage has stopped, the line that met the stop and every later
 //! request are answered `NO 15`, which doesn't say what became of an action.
 //!
 //! [`desk_run`] reads lines of the desk: a slot (0 to 17), one space and a request line. Each reply follows its slot
@@ -47,6 +47,7 @@ pub mod laws;
 mod local_desk;
 mod memory_backend;
 mod memory_desk;
+mod notebook;
 mod piece;
 mod piece_feeding;
 mod read_outcome;

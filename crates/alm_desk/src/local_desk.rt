@@ -2,15 +2,17 @@
 
 ghost use Rattle.std.specs.Prelude.{◌≡◌, IfOk, IfErr, OnOk, [], replicate, false};
 ghost use Rattle.alm_types.specs.Sizes.{slot_count};
+ghost use Rattle.alm_desk.specs.Backends.{IsMomentOf};
 
 use crate::answering::answer_line;
 use crate::backend::Backend;
 use crate::counted_writer::CountedWriter;
 use crate::desk_fault::DeskFault;
 use crate::hindrance::Hindrance;
+use crate::notebook::Notebook;
 use crate::slot_feeding::feed_slot;
 use alm_lines::{Decoder, line_of};
-use alm_types::{Answer, SLOTS, Slot};
+use alm_types::{Answer, Moment, Query, SLOTS, Slot};
 use std::alloc::{AllocError, Global};
 use std::io::Write;
 use std::marker::Model;
@@ -20,25 +22,28 @@ use std::marker::Model;
 pub struct LocalDesk<B: Backend + Drop> {
     backend: B,
     decoders: Vec<Decoder>,
-    answer: Answer,
+    notebook: Notebook,
     closed: bool,
 }
 
 impl<B: Backend + Drop> Model for LocalDesk<B> {
     ghost use Rattle.std.specs.Prelude.{◌≡◌, length};
     ghost use Rattle.alm_desk.specs.Answers.{standing_of};
+    ghost use Rattle.alm_desk.specs.Backends.{IsMomentOf};
     ghost use Rattle.alm_desk.specs.Desks.{Desk};
     ghost use Rattle.alm_types.specs.Sizes.{slot_count};
 
     ghost Value = { Desk };
 
     ghost view = { λ d. record {
-      standing = standing_of (B.stands d.backend) (B.kept d.backend) (B.failures d.backend) d.answer.refused;
+      standing = standing_of (B.stands d.backend) (B.kept d.backend) (B.failures d.backend) d.notebook.answer.refused d.notebook.recent;
       helds = d.decoders.items;
       closed = d.closed;
     } };
 
-    ghost invariant = { λ d. length d.decoders.items ≡ slot_count };
+    ghost invariant = { λ d.
+        (length d.decoders.items ≡ slot_count) ×
+        IsMomentOf (B.stands d.backend) d.notebook.moment };
 }
 
 /// Decoders that hold nothing.
@@ -52,6 +57,20 @@ fn no_lines(alloc: Global) -> Result<Vec<Decoder>, AllocError>
     Ok(decoders)
 }
 
+/// The moment of a backend's plant, or any once its storage has stopped. A plant's moment is below 2^40; for another the desk
+/// isn't made.
+fn moment_of<B: Backend>(backend: &mut B, answer: &mut Answer) -> Result<Moment, AllocError>
+    ensures moment { IfOk result (λ moment. IsMomentOf (B.stands backend.new) moment) }
+    ensures same { (B.stands backend.new ≡ B.stands backend.old) ×
+        (B.kept backend.new ≡ B.kept backend.old) × (B.failures backend.new ≡ B.failures backend.old) }
+    ensures refused { answer.new.refused ≡ answer.old.refused }
+{
+    match backend.ask(Query::Plant, answer) {
+        Ok(_) => Moment::new(answer.moment).ok_or(AllocError),
+        Err(_) => Ok(Moment::start()),
+    }
+}
+
 impl<B: Backend + Drop> LocalDesk<B> {
     ghost use Rattle.std.specs.Prelude.{◌≡◌, OnOk, IfErr, IfOk, Err, is_none, false, true, [], replicate};
     ghost use Rattle.std.specs.Io.KnownBytes.{Appends};
@@ -60,19 +79,23 @@ impl<B: Backend + Drop> LocalDesk<B> {
     ghost use Rattle.alm_desk.specs.Desks.{IsFed, ClosesAfter, bytes_of_slot, lines_among};
     ghost use Rattle.alm_desk.specs.Failing.{BreaksOff, IsCutLine};
 
+    /// A desk at which nothing has happened. It takes the room for what it will remember; an error means that memory ran out.
     pub fn new(alloc: Global, backend: B) -> Result<Self, AllocError>
         ensures { IfOk result
             (λ desk. desk ≡
             record {
-              standing = standing_of (B.stands backend) (B.kept backend) (B.failures backend) 0;
+              standing = standing_of (B.stands backend) (B.kept backend) (B.failures backend) 0 [];
               helds = replicate slot_count [];
               closed = false;
             }) }
     {
+        let mut backend = backend;
+        let mut answer = Answer::new(alloc);
+        let moment = moment_of(&mut backend, &mut answer)?;
         Ok(LocalDesk {
             backend,
             decoders: no_lines(alloc)?,
-            answer: Answer::new(alloc),
+            notebook: Notebook::new(alloc, moment, answer)?,
             closed: false,
         })
     }
@@ -116,7 +139,7 @@ impl<B: Backend + Drop> LocalDesk<B> {
         let LocalDesk {
             backend,
             decoders: _,
-            answer: _,
+            notebook: _,
             closed: _,
         } = self;
         backend
@@ -155,7 +178,7 @@ impl<B: Backend + Drop> LocalDesk<B> {
         let decoder = &mut self.decoders[slot.number() as usize];
         match feed_slot(
             &mut self.backend,
-            &mut self.answer,
+            &mut self.notebook,
             decoder,
             slot,
             piece,
@@ -201,7 +224,7 @@ impl<B: Backend + Drop> LocalDesk<B> {
         let line = line_of(line);
         let (hindrance, told) = answer_line(
             &mut self.backend,
-            &mut self.answer,
+            &mut self.notebook,
             slot,
             line,
             writer,

@@ -15,7 +15,7 @@ pub fn desk_of<P: Alarms + Drop>(alloc: Global, table: &Table) -> Result<LocalDe
     ensures { IfOk result
         (λ desk. desk ≡
         record {
-          standing = standing_of (Some (new_plant table.now)) (new_plant table.now ∷ []) 0 0;
+          standing = standing_of (Some (new_plant table.now)) (new_plant table.now ∷ []) 0 0 [];
           helds =
               replicate slot_count [];
           closed = false;

@@ -3,39 +3,43 @@
 ghost use Rattle.std.specs.Prelude.{◌≡◌, OnOk, OnErr};
 ghost use Rattle.alm_types.specs.Counts.{one_more};
 ghost use Rattle.alm_desk.specs.Answers.{standing_of};
+ghost use Rattle.alm_desk.specs.Backends.{IsMomentOf};
 ghost use Rattle.alm_desk.specs.Failing.{BreaksOff};
 ghost use Rattle.alm_desk.specs.Feeding.{IsFedAt, lines_at};
 
 use crate::answering::answer_line;
 use crate::backend::Backend;
 use crate::counted_writer::CountedWriter;
+use crate::notebook::Notebook;
 use crate::write_failed::WriteFailed;
 use alm_lines::Decoder;
-use alm_types::{Answer, Slot};
+use alm_types::Slot;
 use std::io::Write;
 
 /// Takes bytes at a slot, and answers each line that they end.
 pub fn feed_slot<B: Backend, W: Write + Drop>(
     backend: &mut B,
-    answer: &mut Answer,
+    notebook: &mut Notebook,
     decoder: &mut Decoder,
     slot: Slot,
     piece: &[u8],
     writer: &mut CountedWriter<W>,
 ) -> Result<(), WriteFailed>
+    requires { IsMomentOf (B.stands backend.old) notebook.old.moment }
     ensures fed { OnOk result
         (IsFedAt slot
         (standing_of (B.stands backend.old) (B.kept backend.old) (B.failures backend.old)
-        answer.old.refused) decoder.old piece.now (W.contents writer.old.inner)
+        notebook.old.answer.refused notebook.old.recent) decoder.old piece.now (W.contents writer.old.inner)
         (standing_of (B.stands backend.new) (B.kept backend.new) (B.failures backend.new)
-        answer.new.refused) decoder.new (W.contents writer.new.inner)) }
+        notebook.new.answer.refused notebook.new.recent) decoder.new (W.contents writer.new.inner)) }
+    ensures moment { IsMomentOf (B.stands backend.new) notebook.new.moment }
     ensures whole { OnOk result (writer.new.failed ≡ writer.old.failed) }
     ensures broken { OnErr result
         (BreaksOff
         (standing_of (B.stands backend.old) (B.kept backend.old) (B.failures backend.old)
-        answer.old.refused) (lines_at slot decoder.old piece.now) (W.contents writer.old.inner)
+        notebook.old.answer.refused notebook.old.recent) (lines_at slot decoder.old piece.now) (W.contents writer.old.inner)
         (standing_of (B.stands backend.new) (B.kept backend.new) (B.failures backend.new)
-        answer.new.refused) (W.contents writer.new.inner)) }
+        notebook.new.answer.refused notebook.new.recent) (W.contents writer.new.inner)) }
     ensures failed { OnErr result (writer.new.failed ≡ one_more writer.old.failed) }
 {
     let mut rest = piece;
@@ -43,7 +47,7 @@ pub fn feed_slot<B: Backend, W: Write + Drop>(
         let (used, line) = decoder.feed(rest);
         rest = &rest[used..];
         if let Some(line) = line {
-            let (_, told) = answer_line(backend, answer, slot, line, writer);
+            let (_, told) = answer_line(backend, notebook, slot, line, writer);
             told?;
         }
     }

@@ -6,6 +6,7 @@ use Rattle.alm_types.specs.declared.action.Action.{Action}
 use Rattle.alm_types.specs.declared.request.Request.{Request}
 use Rattle.alm_types.specs.declared.refusal.Refusal.{Refusal}
 use Rattle.alm_types.specs.declared.verdict.Verdict.TheVariants.{Accepted}
+use Rattle.alm_types.specs.Wants.{wanted_action}
 use Rattle.alm_types.specs.Tables.{Listing}
 use Rattle.alm_model.specs.Plant.{Condensed}
 use Rattle.alm_model.specs.Accept.{accept}
@@ -16,7 +17,7 @@ use Rattle.alm_model.specs.Step.{run}
 use Rattle.alm_model.proofs.Runs.{run_append, run_count, admitted_join}
 use Rattle.alm_model.proofs.Legal.{accepted_is}
 use Rattle.alm_lines.specs.declared.ask.Ask.{Ask}
-use Rattle.alm_lines.specs.declared.ask.Ask.TheVariants.{Act, Look, Bad}
+use Rattle.alm_lines.specs.declared.ask.Ask.TheVariants.{Act, Look, Recall, Bad}
 use Rattle.alm_desk.specs.Answers.{DeskState, AnsweredLine, request, after_line, after_lines, plant_after, ask_after}
 use Rattle.alm_desk.specs.Backends.{if_accepted}
 use Rattle.alm_desk.specs.declared.hindrance.Hindrance.{Hindrance}
@@ -37,7 +38,7 @@ taken : (q : Condensed) (r : Request) (a : Action) → accept q.panel r ≡ Ok a
 unfolding verdict_of
 taken q r a e = ap (verdict_from q.panel.count) e
 
-judged : (q : Condensed) (r : Request) (o : Result Action Refusal) → accept q.panel r ≡ o → IsTimely r.want → Goes q (accepted_action o) (if_accepted q o)
+judged : (q : Condensed) (r : Request) (o : Result Action Refusal) → accept q.panel r ≡ o → IsTimely (wanted_action r) → Goes q (accepted_action o) (if_accepted q o)
 judged q r (Ok a) e timely =
     let is = accepted_is q r a (taken q r a e) in
     (refl, (subst IsTimely is.0 timely, is.1, tt))
@@ -49,6 +50,7 @@ goes-by q slot (Act want) hindrance.Stopped p timely e = absurd (none-some p e)
 goes-by q slot (Act want) hindrance.Nothing p timely e = subst (Goes q _) (same_Some _ _ e) (judged q (request slot want) (accept q.panel (request slot want)) refl timely)
 goes-by q slot (Act want) hindrance.NoMemory p timely e = subst (Goes q _) (same_Some _ _ e) (judged q (request slot want) (accept q.panel (request slot want)) refl timely)
 goes-by q slot (Look query) c p timely e = subst (Goes q []) (same_Some _ _ e) (refl, tt)
+goes-by q slot (Recall after) c p timely e = subst (Goes q []) (same_Some _ _ e) (refl, tt)
 goes-by q slot (Bad why) c p timely e = subst (Goes q []) (same_Some _ _ e) (refl, tt)
 
 -- a desk whose storage has stopped has no plant any more

@@ -1,3 +1,4 @@
 pub mod Timely
 pub mod Done
 pub mod Printed
+pub mod Happened

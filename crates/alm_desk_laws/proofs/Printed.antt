@@ -1,7 +1,8 @@
 -- What a desk prints of its plant.
 use Rattle.std.proofs.Common.{◌≡◌, ℕ, ◌+◌, ◌<◌, ◌≤◌, List, ◌∷◌, Some, Ok, length, take, refl, sym, ap, ◌∙◌, subst}
 use Rattle.std.specs.Prelude.{◌↔◌, AllPairs, Contains, slice_get}
-use Rattle.alm_types.specs.declared.action.Action.{Action}
+use Rattle.alm_types.specs.declared.want.Want.{Want}
+use Rattle.alm_types.specs.Wants.{action_of}
 use Rattle.alm_types.specs.declared.alarm_id.AlarmId.{AlarmId}
 use Rattle.alm_types.specs.declared.attr.Attr.{Attr}
 use Rattle.alm_types.specs.declared.query.Query.{Query}
@@ -20,7 +21,7 @@ use Rattle.alm_model.specs.declared.list.List.TheVariants.{Priority, Area, Wheel
 use Rattle.alm_model.proofs.Kept.{new-keeps, run-keeps}
 use Rattle.alm_lines.specs.Reply.{no_text, ok_text, told_text}
 use Rattle.alm_lines.specs.declared.ask.Ask.TheVariants.{Act, Look}
-use Rattle.alm_desk.specs.Answers.{DeskState, AnsweredLine, request, reply_on, report_reply, judged_reply}
+use Rattle.alm_desk.specs.Answers.{DeskState, AnsweredLine, after_lines, request, reply_on, report_reply, judged_reply}
 use Rattle.alm_desk.specs.Backends.{judged_by}
 use Rattle.alm_desk.specs.declared.hindrance.Hindrance.TheVariants.{Nothing}
 use Rattle.alm_laws.specs.Listed.{HasJustThose, IsStaleAlarm, IsChatteringAlarm}
@@ -44,13 +45,13 @@ module _ (t : Listing) (s : DeskState) (lines : List AnsweredLine) (q : Condense
   -- a query is answered by what the plant reports
   told : (slot id : ℕ) (asked : Query) (r : Report) → look q asked ≡ Ok r → reply_to_query s lines slot id asked ≡ told_text id (length (done s lines)) asked r
   told slot id asked r e =
-      ap (λ o. reply_on o (record { slot = slot; line = record { id = id; ask = Look asked } }) Nothing) h.stands
+      ap (λ o. reply_on o (after_lines s lines).recent (record { slot = slot; line = record { id = id; ask = Look asked } }) Nothing) h.stands
       ∙ ap (report_reply id q.panel.count asked) e
       ∙ ap (λ n. told_text id n asked r) (count-done t s lines q h)
 
-  pub ok-printed : (slot id : ℕ) (want : Action) → IsAcceptable q.panel (request slot want) → reply_to_action s lines slot id want ≡ ok_text id (length (done s lines) + 1)
+  pub ok-printed : (slot id : ℕ) (want : Want) → IsAcceptable q.panel (request slot want) → reply_to_action s lines slot id want ≡ ok_text id (length (done s lines) + 1)
   ok-printed slot id want may =
-      ap (λ o. reply_on o (record { slot = slot; line = record { id = id; ask = Act want } }) Nothing) h.stands
+      ap (λ o. reply_on o (after_lines s lines).recent (record { slot = slot; line = record { id = id; ask = Act want } }) Nothing) h.stands
       ∙ ap (λ o. judged_reply id (judged_by q.panel.count o)) (acceptable-so q (request slot want) rules may)
       ∙ ap (λ n. ok_text id (n + 1)) (count-done t s lines q h)
 
@@ -91,7 +92,7 @@ module _ (t : Listing) (s : DeskState) (lines : List AnsweredLine) (q : Condense
       → reply_to_query s lines slot id query.Chatter ≡ told_text id (length (done s lines)) query.Chatter (alarms out)
   chatter-printed slot id out rises those = told slot id query.Chatter _ (subst (λ xs. look q query.Chatter ≡ Ok (alarms xs)) (sym ((one-chattering q out rules).0 (rises, those))) refl)
 
-  pub no-printed : (slot id : ℕ) (want : Action) (first : Refusal) (others : List Refusal) → reasons q.panel (request slot want) ≡ first ∷ others → reply_to_action s lines slot id want ≡ no_text id first
+  pub no-printed : (slot id : ℕ) (want : Want) (first : Refusal) (others : List Refusal) → reasons q.panel (request slot want) ≡ first ∷ others → reply_to_action s lines slot id want ≡ no_text id first
   no-printed slot id want first others e =
-      ap (λ o. reply_on o (record { slot = slot; line = record { id = id; ask = Act want } }) Nothing) h.stands
-      ∙ ap (λ o. judged_reply id (judged_by q.panel.count o)) (first-reason q (request slot want) rules ∙ ap (by_reasons want) e)
+      ap (λ o. reply_on o (after_lines s lines).recent (record { slot = slot; line = record { id = id; ask = Act want } }) Nothing) h.stands
+      ∙ ap (λ o. judged_reply id (judged_by q.panel.count o)) (first-reason q (request slot want) rules ∙ ap (by_reasons (action_of want)) e)

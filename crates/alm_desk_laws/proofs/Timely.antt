@@ -5,11 +5,13 @@ use Rattle.std.specs.List.{AllByRecursion}
 use Rattle.std.proofs.lemmas.Bool.{cases_Bool, ltb-true}
 use Rattle.std.proofs.lemmas.Option.{none-some, same_Some}
 use Rattle.alm_types.specs.declared.action.Action.TheVariants.{Clock}
+use Rattle.alm_types.specs.declared.want.Want.TheVariants.{Do}
+use Rattle.alm_types.specs.Wants.{action_of}
 use Rattle.alm_types.specs.declared.refusal.Refusal.TheVariants.{BadLine}
 use Rattle.alm_model.specs.Rules.{IsTimely}
 use Rattle.alm_lines.specs.declared.ask.Ask.{Ask}
-use Rattle.alm_lines.specs.declared.ask.Ask.TheVariants.{Act, Look, Bad}
-use Rattle.alm_lines.specs.Line.{value, up_to, number, word, alarm, moment_in, reading_from, switch, same, cut_at_space, of_none, of_one, of_letter, of_two, of_fields, of_rest, ask_in, line_under, line_of}
+use Rattle.alm_lines.specs.declared.ask.Ask.TheVariants.{Act, Look, Recall, Bad}
+use Rattle.alm_lines.specs.Line.{value, up_to, number, word, alarm, count_in, stamp_number, moment_in, reading_from, switch, same, cut_at_space, of_none, of_one, of_letter, of_two, of_fields, of_rest, ask_in, line_under, line_of}
 use Rattle.alm_lines.specs.Stream.{is_end}
 use Rattle.alm_desk.specs.Answers.{SlotLine, AnsweredLine}
 use Rattle.alm_desk.specs.Desks.{Tagged, lines_among, after_byte, line_held_at}
@@ -17,8 +19,9 @@ use Rattle.alm_desk.specs.Feeding.{line_asked}
 
 -- what is asked is no action, or one of a moment that the clock may have
 abbrev pub IsTimelyAsk : Ask → Type 0
-IsTimelyAsk (Act action) = IsTimely action
+IsTimelyAsk (Act want) = IsTimely (action_of want)
 IsTimelyAsk (Look query) = Unit {0}
+IsTimelyAsk (Recall after) = Unit {0}
 IsTimelyAsk (Bad refusal) = Unit {0}
 
 abbrev IsTimelyOption : Option Ask → Type 0
@@ -55,12 +58,12 @@ number-below limit [] n e = absurd (none-some n e)
 number-below limit (d ∷ []) n e = up_to-below limit (value 0 (d ∷ [])) n e
 number-below limit (d ∷ c ∷ digits) n e = leading-below (d == 48) limit (value 0 (d ∷ c ∷ digits)) n e
 
-clock-timely : (o : Option ℕ) → ((n : ℕ) → o ≡ Some n → n < 2 ^ 40) → IsTimelyOption (option_map (λ t. Act (Clock t)) o)
+clock-timely : (o : Option ℕ) → ((n : ℕ) → o ≡ Some n → n < 2 ^ 40) → IsTimelyOption (option_map (λ t. Act (Do (Clock t))) o)
 clock-timely None h = tt
 clock-timely (Some t) h = h t refl
 
 none-timely : (name : List ℕ) → IsTimelyOption (of_none name)
-none-timely name = either (same name (codes "STALE")) _ _ tt (either (same name (codes "CHATTER")) _ _ tt (either (same name (codes "PLANT")) _ _ tt tt))
+none-timely name = either (same name (codes "STALE")) _ _ tt (either (same name (codes "CHATTER")) _ _ tt (either (same name (codes "PLANT")) _ _ tt (either (same name (codes "SINCE")) _ _ tt tt)))
 
 one-timely : (name first : List ℕ) → IsTimelyOption (of_one name first)
 one-timely name first =
@@ -71,7 +74,8 @@ one-timely name first =
     (either (same name (codes "STATE")) _ _ (mapped _ (alarm first) (λ x. tt))
     (either (same name (codes "FLOOD")) _ _ (mapped _ (word first) (λ x. tt))
     (either (same name (codes "ATTR")) _ _ (mapped _ (alarm first) (λ x. tt))
-    (either (same name (codes "ROW")) _ _ (mapped _ (alarm first) (λ x. tt)) tt)))))))
+    (either (same name (codes "ROW")) _ _ (mapped _ (alarm first) (λ x. tt))
+    (either (same name (codes "SINCE")) _ _ (mapped _ (count_in first) (λ x. tt)) tt))))))))
 
 letter-timely : (letter : List ℕ) (n : ℕ) → IsTimelyOption (of_letter letter n)
 letter-timely letter n = either (same letter (codes "P")) _ _ tt (either (same letter (codes "A")) _ _ tt (either (same letter (codes "S")) _ _ tt tt))
@@ -88,7 +92,8 @@ two-timely name first second =
     (either (same name (codes "DESIGN")) _ _ (chained _ (alarm first) (switch second) (λ x y. tt))
     (either (same name (codes "PRIO")) _ _ (chained _ (alarm first) (word second) (λ x y. tt))
     (either (same name (codes "SETP")) _ _ (chained _ (alarm first) (reading_from second) (λ x y. tt))
-    (either (same name (codes "LIST")) _ _ (listed-timely first (word second)) tt))))))
+    (either (same name (codes "ACK")) _ _ (chained _ (alarm first) (stamp_number second) (λ x y. tt))
+    (either (same name (codes "LIST")) _ _ (listed-timely first (word second)) tt)))))))
 
 fields-timely : (name first : List ℕ) (second : Option (List ℕ)) → IsTimelyOption (of_fields name (first, second))
 fields-timely name first None = one-timely name first

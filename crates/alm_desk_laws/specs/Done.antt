@@ -2,6 +2,8 @@
 use Rattle.std.specs.Prelude.{◌≡◌, ℕ, List, [], ◌∷◌, ◌++◌, Option, Some, None, Result, map}
 use Rattle.std.specs.Prelude.{Ok as Good, Err as Wrong}
 use Rattle.alm_types.specs.declared.action.Action.{Action}
+use Rattle.alm_types.specs.declared.event.Event.{Event}
+use Rattle.alm_types.specs.declared.want.Want.{Want}
 use Rattle.alm_types.specs.declared.query.Query.{Query}
 use Rattle.alm_types.specs.declared.refusal.Refusal.{Refusal}
 use Rattle.alm_types.specs.Tables.{Listing, IsTable}
@@ -9,8 +11,8 @@ use Rattle.alm_model.specs.Plant.{Condensed}
 use Rattle.alm_model.specs.Accept.{accept}
 use Rattle.alm_model.specs.New.{new_plant}
 use Rattle.alm_lines.specs.declared.ask.Ask.{Ask}
-use Rattle.alm_lines.specs.declared.ask.Ask.TheVariants.{Act, Look}
-use Rattle.alm_desk.specs.Answers.{DeskState, SlotLine, AnsweredLine, answered_at, request, reply, after_line, after_lines}
+use Rattle.alm_lines.specs.declared.ask.Ask.TheVariants.{Act, Look, Recall}
+use Rattle.alm_desk.specs.Answers.{DeskState, SlotLine, AnsweredLine, answered_at, request, reply, event_after, after_line, after_lines}
 use Rattle.alm_desk.specs.Desks.{Tagged, lines_among}
 use Rattle.alm_desk.specs.Feeding.{line_asked}
 use Rattle.alm_desk.specs.declared.hindrance.Hindrance.{Hindrance}
@@ -35,6 +37,24 @@ abbrev pub done : DeskState → List AnsweredLine → List Action
 done s [] = []
 done s (m ∷ ms) = done_on s.plant m.asked m.hindrance ++ done (after_line s m) ms
 
+-- what happened as it did them: the same actions, each with its slot and the plant's moment after it
+abbrev pub accepted_event : Condensed → ℕ → Result Action Refusal → List Event
+accepted_event q slot (Good action) = event_after q slot action ∷ []
+accepted_event q slot (Wrong refusal) = []
+
+abbrev pub happened_at : Condensed → ℕ → Ask → Hindrance → List Event
+happened_at q slot (Act want) hindrance.Stopped = []
+happened_at q slot (Act want) _ = accepted_event q slot (accept q.panel (request slot want))
+happened_at q slot _ c = []
+
+abbrev pub happened_on : Option Condensed → SlotLine → Hindrance → List Event
+happened_on None l c = []
+happened_on (Some q) l c = happened_at q l.slot l.line.ask c
+
+abbrev pub happened : DeskState → List AnsweredLine → List Event
+happened s [] = []
+happened s (m ∷ ms) = happened_on s.plant m.asked m.hindrance ++ happened (after_line s m) ms
+
 -- a desk began with the new plant of a table, bytes ended these lines, and its plant is then this one
 pub record HasAnswered (t : Listing) (s : DeskState) (lines : List AnsweredLine) (q : Condensed) : Type 0 where
   pub table : IsTable t
@@ -44,9 +64,12 @@ pub record HasAnswered (t : Listing) (s : DeskState) (lines : List AnsweredLine)
   pub read : map line_asked lines ≡ lines_among helds bytes
   pub stands : (after_lines s lines).plant ≡ Some q
 
--- what it replies next, to an action and to a query at a slot
-abbrev pub reply_to_action : DeskState → List AnsweredLine → ℕ → ℕ → Action → List ℕ
+-- what it replies next, to an action, to a query and to SINCE at a slot
+abbrev pub reply_to_action : DeskState → List AnsweredLine → ℕ → ℕ → Want → List ℕ
 reply_to_action s lines slot id want = reply (after_lines s lines) (answered_at slot (record { id = id; ask = Act want }) hindrance.Nothing)
 
 abbrev pub reply_to_query : DeskState → List AnsweredLine → ℕ → ℕ → Query → List ℕ
 reply_to_query s lines slot id asked = reply (after_lines s lines) (answered_at slot (record { id = id; ask = Look asked }) hindrance.Nothing)
+
+abbrev pub reply_to_since : DeskState → List AnsweredLine → ℕ → ℕ → Option ℕ → List ℕ
+reply_to_since s lines slot id after = reply (after_lines s lines) (answered_at slot (record { id = id; ask = Recall after }) hindrance.Nothing)

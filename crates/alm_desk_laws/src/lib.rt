@@ -13,6 +13,8 @@
 //!   `no_is_printed_for_the_first_reason`)
 //! - STATE and ROW print the alarm as it is; LIST, STALE and CHATTER just the alarms that belong to them, in order (by
 //!   `an_alarm_is_printed_as_it_is`, `a_list_is_printed_whole`)
+//! - SINCE prints what the lines have done after a number, in order, or that it is forgotten (by
+//!   `what_happened_is_printed_in_order`)
 #![tactic(auto)]
 
 pub mod printing;

@@ -1,7 +1,12 @@
 //! Laws of a desk that began with a new plant.
 
-ghost use Rattle.std.specs.Prelude.{◌≡◌, ◌↔◌, ◌+◌, ◌<◌, ◌≤◌, ℕ, List, ◌∷◌, Some, length, slice_get, take, AllPairs, Contains};
-ghost use Rattle.alm_types.specs.declared.action.Action.{Action};
+ghost use Rattle.std.specs.Prelude.{◌≡◌, ◌↔◌, ◌+◌, ◌-◌, ◌<◌, ◌≤◌, ℕ, List, [], ◌∷◌, Some, None, length, map, slice_get, take, drop, AllPairs, Contains};
+ghost use Rattle.alm_types.specs.declared.event.Event.{Event};
+ghost use Rattle.alm_types.specs.declared.refusal.Refusal.TheVariants.{Forgotten};
+ghost use Rattle.alm_types.specs.Counts.{one_more};
+ghost use Rattle.alm_events.specs.Events.{most_kept, most_told};
+ghost use Rattle.alm_lines.specs.Since.{recalled_text};
+ghost use Rattle.alm_types.specs.declared.want.Want.{Want};
 ghost use Rattle.alm_types.specs.declared.alarm_id.AlarmId.{AlarmId};
 ghost use Rattle.alm_types.specs.declared.attr.Attr.{Attr};
 ghost use Rattle.alm_types.specs.declared.query.Query.TheVariants as query;
@@ -22,7 +27,7 @@ ghost use Rattle.alm_laws.specs.Listed.{HasJustThose, IsStaleAlarm, IsChattering
 ghost use Rattle.alm_laws.specs.Refused.{reasons};
 ghost use Rattle.alm_laws.specs.Shown.{IsShownAsItIs, flags_shown};
 ghost use Rattle.alm_laws.specs.Taken.{IsAcceptable};
-ghost use Rattle.alm_desk_laws.specs.Done.{HasAnswered, done, reply_to_action, reply_to_query};
+ghost use Rattle.alm_desk_laws.specs.Done.{HasAnswered, done, happened, reply_to_action, reply_to_query, reply_to_since};
 
 /// The plant is the new one after the actions that the lines have done. Each was admitted at its turn.
 pub fn the_plant_is_what_its_lines_have_done()
@@ -37,7 +42,7 @@ pub fn the_plant_is_what_its_lines_have_done()
 /// A request that its slot may ask for, and that is possible, is answered with the next number.
 pub fn ok_is_printed_where_it_may_be_done()
     ensures { (t : Listing) (s : DeskState) (lines : List AnsweredLine) (q : Condensed) →
-        HasAnswered t s lines q → (slot id : ℕ) (want : Action) →
+        HasAnswered t s lines q → (slot id : ℕ) (want : Want) →
         IsAcceptable q.panel (request slot want) →
         reply_to_action s lines slot id want ≡ ok_text id (length (done s lines) + 1) }
 {}
@@ -45,7 +50,7 @@ pub fn ok_is_printed_where_it_may_be_done()
 /// A request with a reason against it is answered with the number of the first, and does nothing.
 pub fn no_is_printed_for_the_first_reason()
     ensures { (t : Listing) (s : DeskState) (lines : List AnsweredLine) (q : Condensed) →
-        HasAnswered t s lines q → (slot id : ℕ) (want : Action) (first : Refusal)
+        HasAnswered t s lines q → (slot id : ℕ) (want : Want) (first : Refusal)
         (others : List Refusal) → reasons q.panel (request slot want) ≡ first ∷ others →
         reply_to_action s lines slot id want ≡ no_text id first }
 {}
@@ -102,4 +107,24 @@ pub fn a_list_is_printed_whole()
         ((i : ℕ) → Contains out i ↔ IsChatteringAlarm q i) →
         reply_to_query s lines slot id query.Chatter ≡
         told_text id (length (done s lines)) query.Chatter (alarms out) }
+{}
+
+/// SINCE prints what the lines have done after a number, in order and at most 256: each action with its slot and the plant's moment
+/// after it. Only if one of them isn't among the last 65,536 it prints that it is forgotten. A desk that begins remembers nothing.
+pub fn what_happened_is_printed_in_order()
+    ensures actions { (s : DeskState) (lines : List AnsweredLine) →
+        map (λ (e : Event). e.action) (happened s lines) ≡ done s lines }
+    ensures told { (t : Listing) (s : DeskState) (lines : List AnsweredLine) (q : Condensed) →
+        HasAnswered t s lines q → s.recent ≡ [] → (slot id n : ℕ) →
+        length (done s lines) ≤ n + most_kept → reply_to_since s lines slot id (Some n) ≡
+        recalled_text id (length (done s lines)) (one_more n)
+        (take most_told (drop n (happened s lines))) }
+    ensures forgotten { (t : Listing) (s : DeskState) (lines : List AnsweredLine) (q : Condensed) →
+        HasAnswered t s lines q → s.recent ≡ [] → (slot id n : ℕ) →
+        n + most_kept < length (done s lines) →
+        reply_to_since s lines slot id (Some n) ≡ no_text id Forgotten }
+    ensures oldest { (t : Listing) (s : DeskState) (lines : List AnsweredLine) (q : Condensed) →
+        HasAnswered t s lines q → s.recent ≡ [] → (slot id : ℕ) →
+        reply_to_since s lines slot id None ≡
+        reply_to_since s lines slot id (Some (length (done s lines) - most_kept)) }
 {}

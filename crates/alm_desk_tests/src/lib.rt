@@ -13,6 +13,8 @@ pub mod desk;
 #[cfg(test)]
 mod device_desk;
 #[cfg(test)]
+mod happened;
+#[cfg(test)]
 mod refused;
 #[cfg(test)]
 mod rows;

@@ -5,11 +5,12 @@ use Rattle.std.proofs.lemmas.Option.{same_Some}
 use Rattle.std.proofs.Common.{◌⊎◌, inl, inr}
 use Rattle.alm_types.specs.declared.action.Action.{Action}
 use Rattle.alm_types.specs.declared.entry.Entry.{Entry}
+use Rattle.alm_types.specs.declared.logged_action.LoggedAction.{LoggedAction}
 use Rattle.alm_model.specs.Plant.{Condensed}
 use Rattle.alm_model.specs.Step.{run}
-use Rattle.alm_model.specs.Judging.{accepted_of, when_accepted, of_slot}
+use Rattle.alm_model.specs.Judging.{accepted_of, when_accepted, logged_of, logged_if, of_slot}
 use Rattle.alm_model.proofs.Runs.{run_append, run_count}
-use Rattle.alm_model.proofs.Legal.{accepted_append, of_slot_here, of_slot_there}
+use Rattle.alm_model.proofs.Legal.{accepted_append, logged_append, of_slot_here, of_slot_there}
 use Rattle.alm_rings.specs.declared.receipt.Receipt.{Receipt}
 use Rattle.alm_rings.specs.declared.told.Told.{Ghosts}
 use Rattle.alm_rings.specs.declared.outbox.Outbox.{Outbox}
@@ -19,7 +20,7 @@ use Rattle.alm_rings.proofs.Slots.{set_cases}
 use Rattle.std.specs.Prelude.{slice_set}
 use Rattle.alm_board.specs.Fronts.{IsFront}
 use Rattle.alm_board.proofs.FrontLaws.{front_self, front_of}
-use Rattle.alm_flush.specs.Replies.{SerialVerdict, replies_to, replies_in}
+use Rattle.alm_flush.specs.Replies.{RequestVerdict, replies_to, replies_in}
 use Rattle.alm_flush.specs.HeldBatch.{batches_of, waiting_of, ready_of, stored_of, published_entries, released_entries, next_entry_of, after_release, left_of}
 use Rattle.alm_flush.specs.declared.held.Held.{Held}
 use Rattle.alm_flush.specs.declared.held.Held.TheVariants.{Nothing, Fetched, Failed, Committed, Published}
@@ -30,6 +31,10 @@ accepted_more before items = ap (λ l. accepted_of l ++ accepted_of items) (appe
 
 pub run_more : (base : Condensed) (before items : List Entry) → run (run base (accepted_of (before ++ []))) (accepted_of items) ≡ run base (accepted_of (before ++ items))
 run_more base before items = sym (run_append base (accepted_of (before ++ [])) (accepted_of items)) ∙ ap (run base) (accepted_more before items)
+
+-- and with their requests
+pub logged_more : (before items : List Entry) → logged_of (before ++ []) ++ logged_of items ≡ logged_of (before ++ items)
+logged_more before items = ap (λ l. logged_of l ++ logged_of items) (append-nil before) ∙ sym (logged_append before items)
 
 -- no item is after the last
 pub none_past : (xs : List Entry) (n : ℕ) → slice_get xs n ≡ None → length xs ≤ n
@@ -112,13 +117,38 @@ published_split before h e is =
     ∙ (sym (append_assoc (accepted_of before) (accepted_of (released_entries h)) (when_accepted e.verdict ++ left_of h))
     ∙ ap (λ l. l ++ (when_accepted e.verdict ++ left_of h)) (sym (accepted_append before (released_entries h)))))
 
+-- the same with the requests
+abbrev pub logged_left : Held → List LoggedAction
+logged_left (Published b n) = logged_of (drop (suc n) b.entries)
+logged_left held = []
+
+logged_at_place : (xs : List Entry) (n : ℕ) (e : Entry) → slice_get xs n ≡ Some e → logged_of xs ≡ logged_of (take n xs) ++ (logged_if e.slot e.serial e.verdict ++ logged_of (drop (suc n) xs))
+logged_at_place [] n e is = absurd cc
+logged_at_place (x ∷ xs) zero e is = let same : x ≡ e = cc is in ap (λ (y : Entry). logged_if y.slot y.serial y.verdict ++ logged_of xs) same
+logged_at_place (x ∷ xs) (suc n) e is =
+    ap (λ l. logged_if x.slot x.serial x.verdict ++ l) (logged_at_place xs n e is)
+    ∙ sym (append_assoc (logged_if x.slot x.serial x.verdict) (logged_of (take n xs)) (logged_if e.slot e.serial e.verdict ++ logged_of (drop (suc n) xs)))
+
+logged_split : (h : Held) (e : Entry) → next_entry_of h ≡ Some e → logged_of (published_entries h) ≡ logged_of (released_entries h) ++ (logged_if e.slot e.serial e.verdict ++ logged_left h)
+logged_split Nothing e is = absurd cc
+logged_split (Fetched b) e is = absurd cc
+logged_split (Failed b) e is = absurd cc
+logged_split (Committed b) e is = absurd cc
+logged_split (Published b n) e is = logged_at_place b.entries n e is
+
+pub published_logged : (before : List Entry) (h : Held) (e : Entry) → next_entry_of h ≡ Some e → logged_of (before ++ published_entries h) ≡ logged_of (before ++ released_entries h) ++ (logged_if e.slot e.serial e.verdict ++ logged_left h)
+published_logged before h e is =
+    logged_append before (published_entries h) ∙ (ap (λ l. logged_of before ++ l) (logged_split h e is)
+    ∙ (sym (append_assoc (logged_of before) (logged_of (released_entries h)) (logged_if e.slot e.serial e.verdict ++ logged_left h))
+    ∙ ap (λ l. l ++ (logged_if e.slot e.serial e.verdict ++ logged_left h)) (sym (logged_append before (released_entries h)))))
+
 pub told_snoc : (before : List Entry) (h : Held) (e : Entry) → next_entry_of h ≡ Some e → before ++ released_entries (after_release h) ≡ (before ++ released_entries h) ++ e ∷ []
 told_snoc before h e is = ap (λ l. before ++ l) (told_pass h e is) ∙ sym (append_assoc before (released_entries h) (e ∷ []))
 
 pub accepted_snoc : (entries : List Entry) (e : Entry) → accepted_of (entries ++ e ∷ []) ≡ accepted_of entries ++ when_accepted e.verdict
 accepted_snoc entries e = accepted_append entries (e ∷ []) ∙ ap (λ l. accepted_of entries ++ l) (append-nil (when_accepted e.verdict))
 
-pub get_middle : (xs ys : List Action) (a : Action) (n : ℕ) → n ≡ length xs → slice_get (xs ++ (a ∷ ys)) n ≡ Some a
+pub get_middle : {A : Type 0} (xs ys : List A) (a : A) (n : ℕ) → n ≡ length xs → slice_get (xs ++ (a ∷ ys)) n ≡ Some a
 get_middle [] ys a zero is = refl
 get_middle [] ys a (suc n) is = absurd (omega arith)
 get_middle (x ∷ xs) ys a zero is = absurd (omega arith)
@@ -168,33 +198,34 @@ told_stored base stored before h number last within is stands =
 pub nothing_free : (n : ℕ) → ¬ (0 < n) → n ≡ 0
 nothing_free n none = omega (arith, none)
 
-pub replies_snoc : (xs : List Entry) (e : Entry) → replies_to (xs ++ e ∷ []) ≡ replies_to xs ++ record { serial = e.serial; verdict = e.verdict } ∷ []
+pub replies_snoc : (xs : List Entry) (e : Entry) → replies_to (xs ++ e ∷ []) ≡ replies_to xs ++ record { slot = e.slot; serial = e.serial; verdict = e.verdict } ∷ []
 replies_snoc [] e = refl
-replies_snoc (x ∷ xs) e = ap (λ (l : List SerialVerdict). record { serial = x.serial; verdict = x.verdict } ∷ l) (replies_snoc xs e)
+replies_snoc (x ∷ xs) e = ap (λ (l : List RequestVerdict). record { slot = x.slot; serial = x.serial; verdict = x.verdict } ∷ l) (replies_snoc xs e)
 
 -- what is nothing begins with nothing, which begins everything
-pub front_nothing : (xs ys : List Action) → IsFront xs [] → IsFront xs ys
+pub front_nothing : {A : Type 0} (xs ys : List A) → IsFront xs [] → IsFront xs ys
 front_nothing [] ys front = refl
 front_nothing (x ∷ xs) ys front = absurd cc
 
 module _ {T : Type 0} {g : Ghosts T} where
-  pub replied_snoc : (rs : List (Receipt T g)) (r : Receipt T g) → replies_in (rs ++ r ∷ []) ≡ replies_in rs ++ record { serial = r.serial; verdict = r.verdict } ∷ []
+  pub replied_snoc : (rs : List (Receipt T g)) (r : Receipt T g) → replies_in (rs ++ r ∷ []) ≡ replies_in rs ++ record { slot = r.slot; serial = r.serial; verdict = r.verdict } ∷ []
   replied_snoc [] r = refl
-  replied_snoc (x ∷ rs) r = ap (λ (l : List SerialVerdict). record { serial = x.serial; verdict = x.verdict } ∷ l) (replied_snoc rs r)
+  replied_snoc (x ∷ rs) r = ap (λ (l : List RequestVerdict). record { slot = x.slot; serial = x.serial; verdict = x.verdict } ∷ l) (replied_snoc rs r)
 
   pub gave_at : (from to : Option (Outbox T g)) (o new : Outbox T g) (r : Receipt T g) → from ≡ Some o → to ≡ Some new → released_of new ≡ released_of o ++ r ∷ [] → released_in to ≡ released_in from ++ r ∷ []
   gave_at from to o new r here now gave = ap released_in now ∙ (gave ∙ ap (λ x. released_in x ++ r ∷ []) (sym here))
 
   -- the outbox of the entry's slot released one receipt more
   pub released_more : (outboxes : List (Outbox T g)) (k : ℕ) (o new : Outbox T g) (es : List Entry) (e : Entry) (r : Receipt T g) → AreApart (λ (o : Outbox T g). o.slot) outboxes → slice_get outboxes k ≡ Some o → new.slot ≡ o.slot → o.slot ≡ e.slot
-      → released_of new ≡ released_of o ++ r ∷ [] → r.serial ≡ e.serial → r.verdict ≡ e.verdict
+      → released_of new ≡ released_of o ++ r ∷ [] → r.slot ≡ e.slot → r.serial ≡ e.serial → r.verdict ≡ e.verdict
       → ((s : ℕ) → replies_in (released_by s outboxes) ≡ replies_to (of_slot s es)) → (s : ℕ) → replies_in (released_by s (slice_set outboxes k new)) ≡ replies_to (of_slot s (es ++ e ∷ []))
-  released_more outboxes k o new es e r apart at same slot gave serial verdict were s = elim (set_cases (λ (o : Outbox T g). o.slot) outboxes k o new apart at same s) [
+  released_more outboxes k o new es e r apart at same slot gave asker serial verdict were s = elim (set_cases (λ (o : Outbox T g). o.slot) outboxes k o new apart at same s) [
     | inl h ↦ ap (λ x. replies_in (released_in x)) h.2 ∙ (ap replies_in gave ∙ (replied_snoc (released_of o) r
-        ∙ (ap (λ (l : List SerialVerdict). l ++ record { serial = r.serial; verdict = r.verdict } ∷ []) (sym (ap (λ x. replies_in (released_in x)) h.1) ∙ were s)
-        ∙ (ap (λ (n : ℕ). replies_to (of_slot s es) ++ record { serial = n; verdict = r.verdict } ∷ []) serial
-        ∙ (ap (λ v. replies_to (of_slot s es) ++ record { serial = e.serial; verdict = v } ∷ []) verdict
-        ∙ (sym (replies_snoc (of_slot s es) e) ∙ ap replies_to (sym (of_slot_here s es e (sym slot ∙ sym h.0)))))))))
+        ∙ (ap (λ (l : List RequestVerdict). l ++ record { slot = r.slot; serial = r.serial; verdict = r.verdict } ∷ []) (sym (ap (λ x. replies_in (released_in x)) h.1) ∙ were s)
+        ∙ (ap (λ (n : ℕ). replies_to (of_slot s es) ++ record { slot = n; serial = r.serial; verdict = r.verdict } ∷ []) asker
+        ∙ (ap (λ (n : ℕ). replies_to (of_slot s es) ++ record { slot = e.slot; serial = n; verdict = r.verdict } ∷ []) serial
+        ∙ (ap (λ v. replies_to (of_slot s es) ++ record { slot = e.slot; serial = e.serial; verdict = v } ∷ []) verdict
+        ∙ (sym (replies_snoc (of_slot s es) e) ∙ ap replies_to (sym (of_slot_here s es e (sym slot ∙ sym h.0))))))))))
     | inr h ↦ ap (λ x. replies_in (released_in x)) h.1 ∙ (were s ∙ ap replies_to (sym (of_slot_there s es e (λ p. h.0 (p ∙ sym slot)))))
   ]
 

@@ -98,6 +98,7 @@ module _ {T : Type 0} {g : Ghosts T} where
     pub released : released_by slot to ≡ released_by slot from ++ receipt ∷ []
     pub others : (s : ℕ) → s ≢ slot → outbox_at s to ≡ outbox_at s from
     pub verdict : receipt.verdict ≡ entry.verdict
+    pub asker : receipt.slot ≡ slot
     pub serial : receipt.serial ≡ entry.serial
     pub list : g.list receipt.told ≡ published
     pub count : g.base_count receipt.told ≡ base.panel.count

@@ -1,7 +1,7 @@
 //! Commits the fetched batches, one after the other, publishes them, and releases their verdicts.
 
 ghost use Rattle.std.specs.Prelude.{◌≡◌, ◌≢◌, ℕ, ◌⊎◌, ◌+◌, ◌<◌, ◌≤◌, ◌++◌, [], length, slice_get, Some, true};
-ghost use Rattle.alm_model.specs.Judging.{accepted_of, when_accepted, entries_in, of_slot};
+ghost use Rattle.alm_model.specs.Judging.{accepted_of, when_accepted, logged_of, entries_in, of_slot};
 ghost use Rattle.alm_model.specs.Rules.{admits_all};
 ghost use Rattle.alm_model.specs.Step.{run};
 ghost use Rattle.alm_rings.specs.declared.outbox.Outbox.{Outbox};
@@ -54,7 +54,10 @@ pub struct Flusher<K: Store, T: Told + Drop, B: Board<Told = T>> {
     /// what is published: a prefix of it,
     pub ghost published: { B.published board ≡
         accepted_of (entries_in (fetched_of before.value) ++ published_entries held) },
-    pub ghost pending: { IsFront (B.pending board) (accepted_of (ready_of held)) },
+    /// with the requests of those entries,
+    pub ghost logged: { B.logged board ≡
+        logged_of (entries_in (fetched_of before.value) ++ published_entries held) },
+    pub ghost pending: { IsFront (B.pending board) (logged_of (ready_of held)) },
     /// and what is released to each slot.
     pub ghost released: { (s : ℕ) →
         replies_in (released_by s outboxes.items) ≡
@@ -96,7 +99,7 @@ fn number_of(verdict: Verdict, before: u64, count: u64) -> u64
 impl<K: Store, T: Told + Drop, B: Board<Told = T>> Flusher<K, T, B> {
     ghost use Rattle.std.specs.Prelude.{◌≡◌, ◌≢◌, ◌↔◌, ◌⊎◌, ◌+◌, ◌<◌, ◌≤◌, ◌++◌, [], ℕ, List, length, MatchBool, false, slice_get, Some, None, IsSome, IsTrue};
     ghost use Rattle.alm_disk.specs.Failures.{HasFailed};
-    ghost use Rattle.alm_model.specs.Judging.{accepted_of};
+    ghost use Rattle.alm_model.specs.Judging.{accepted_of, logged_of};
     ghost use Rattle.alm_types.specs.declared.action.Action.{Action};
     ghost use Rattle.alm_store.specs.Pace.{least_segment};
     ghost use Rattle.alm_store.specs.Pacing.{KeepsPace};
@@ -118,6 +121,7 @@ impl<K: Store, T: Told + Drop, B: Board<Told = T>> Flusher<K, T, B> {
         requires idle { (K.state store).phase ≡ Phase.Idle }
         requires stored { (K.state store).stored ≡ B.base board }
         requires published { B.published board ≡ [] }
+        requires logged { B.logged board ≡ [] }
         requires pending { B.pending board ≡ [] }
         ensures parts { (result.store ≡ store) × (result.board ≡ board) ×
             (result.outboxes ≡ outboxes) × (result.fetch ≡ fetch) }
@@ -346,6 +350,7 @@ impl<K: Store, T: Told + Drop, B: Board<Told = T>> Flusher<K, T, B> {
         }
         let told = self.board.tell();
         let receipt = Receipt {
+            slot: entry.slot,
             serial: entry.serial,
             verdict: entry.verdict,
             number,
@@ -454,6 +459,10 @@ impl<K: Store, T: Told + Drop, B: Board<Told = T>> Flusher<K, T, B> {
     /// fetched, as far as the flusher has got.
     pub fn board(&self) -> &B
         ensures board { result.now ≡ self.now.board }
+        // What is published was asked for by the requests of the entries, as far as they are published.
+        ensures logged { B.logged self.now.board ≡
+            logged_of (entries_in (fetched_of self.now.before.value) ++
+            published_entries self.now.held) }
         ensures stands { fetched_of self.now.fetch ≡
             fetched_of self.now.before.value ++ batches_of self.now.held }
         ensures released { (s : ℕ) →

@@ -12,7 +12,7 @@ use alm_plant::Plant;
 use alm_rings::{Console, Receipt, SlotEnds, batches_beside, open_batches};
 use alm_seq::{Seal, Sequencer, Take};
 use alm_store::Store;
-use alm_types::{Action, Slot};
+use alm_types::{Action, Slot, Want};
 use std::alloc::{AllocError, Global};
 
 /// The consoles, the sequencer and the flusher of all slots, over a store.
@@ -57,7 +57,7 @@ impl<K: Store> Parts<K> {
     /// Sends an action, and returns its serial; `None` if it is busy.
     pub fn send(&mut self, slot: Slot, action: Action) -> Option<u64> {
         let console = self.consoles.get_mut(slot.number() as usize)?;
-        console.send(action).ok()
+        console.send(Want::Do(action)).ok()
     }
 
     /// The next receipt of a slot.

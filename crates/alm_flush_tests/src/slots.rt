@@ -206,7 +206,11 @@ fn going(slot: Slot) -> [(Call, Outcome); 2] {
 
 /// Answers the slot's own console once, so that one of its requests is answered.
 fn answer<K: Store>(parts: &Parts<K>, outboxes: &mut Vec<Outbox<PlainTold>>) -> bool {
+    let Some(slot) = Slot::new(9) else {
+        return false;
+    };
     let receipt = Receipt {
+        slot,
         serial: 1,
         verdict: REFUSED,
         number: 0,

@@ -4,18 +4,18 @@ use Rattle.logbook.specs.Pages.{Cell, cell, Step, View, Book, Named, may_make}
 use Rattle.alm_history.specs.declared.marked.Marked.{Marked}
 
 -- the history's word
-abbrev pub head_of : Book → Named
-head_of b = record { tracked = true; key = 0; book = b }
+abbrev pub first_word : Book → Named
+first_word b = record { tracked = true; key = 0; book = b }
 
 module _ {E : Type 0} where
-  abbrev pub with_entry : Option E → List E → List E
-  with_entry None more = more
-  with_entry (Some e) more = e ∷ more
+  abbrev pub with_added : Option E → List E → List E
+  with_added None more = more
+  with_added (Some e) more = e ∷ more
 
   -- what was added
-  abbrev pub entries_of : List (Marked E) → List E
-  entries_of [] = []
-  entries_of (m ∷ log) = with_entry m.entry (entries_of log)
+  abbrev pub added_in : List (Marked E) → List E
+  added_in [] = []
+  added_in (m ∷ log) = with_added m.entry (added_in log)
 
   -- the key whose pen adds the next, where this one's added the first of these
   abbrev pub key_after : ℕ → List (Marked E) → ℕ

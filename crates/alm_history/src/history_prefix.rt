@@ -1,7 +1,7 @@
 //! A prefix of a history that was seen.
 ghost use Rattle.std.specs.Prelude.{◌≡◌};
 ghost use mathlib.Core.List.{IsPrefix};
-ghost use Rattle.alm_history.specs.Kept.{entries_of};
+ghost use Rattle.alm_history.specs.Kept.{added_in};
 
 use crate::history_name::HistoryName;
 use crate::marked::Marked;
@@ -18,11 +18,11 @@ pub struct HistoryPrefix<E, N: HistoryName> {
 
 impl<E, N: HistoryName> Model for HistoryPrefix<E, N> {
     ghost use Rattle.std.specs.Prelude.{◌≡◌, List};
-    ghost use Rattle.alm_history.specs.Kept.{entries_of};
+    ghost use Rattle.alm_history.specs.Kept.{added_in};
 
     ghost Value = { List E };
 
-    ghost view = { λ p. entries_of p.seen.log };
+    ghost view = { λ p. added_in p.seen.log };
 
     ghost invariant = { λ p. p.seen.book ≡ N.book };
 }
@@ -31,7 +31,7 @@ impl<E, N: HistoryName> HistoryPrefix<E, N> {
     // What was seen.
     pub(crate) fn new(seen: Seen<Marked<E>, u64, OneWriter>) -> HistoryPrefix<E, N>
         requires { seen.book ≡ N.book }
-        ensures { result ≡ entries_of seen.log }
+        ensures { result ≡ added_in seen.log }
     {
         HistoryPrefix {
             seen,

@@ -1,10 +1,11 @@
 //! The one writer of a history.
 ghost use Rattle.std.specs.Prelude.{◌≡◌, ◌<◌, ◌++◌, ◌∷◌, [], length};
 ghost use Rattle.logbook.specs.Pages.{nib, may_write};
-ghost use Rattle.alm_history.specs.Kept.{entries_of, head_of, next_key};
+ghost use Rattle.alm_history.specs.Kept.{added_in, first_word, next_key};
 
+use crate::addition::Addition;
 use crate::adds::Adds;
-use crate::begins::Begins;
+use crate::begins_history::BeginsHistory;
 use crate::history_name::HistoryName;
 use crate::history_prefix::HistoryPrefix;
 use crate::marked::Marked;
@@ -12,7 +13,6 @@ use crate::one_writer::OneWriter;
 use crate::takes_pen::TakesPen;
 use crate::takes_turn::TakesTurn;
 use crate::trades_nothing::TradesNothing;
-use crate::turn::Turn;
 use logbook::{Offer, Pen, Seen, Word};
 use std::marker::{Model, PhantomData};
 
@@ -29,14 +29,14 @@ pub struct HistoryWriter<E, N: HistoryName> {
 impl<E, N: HistoryName> Model for HistoryWriter<E, N> {
     ghost use Rattle.std.specs.Prelude.{◌≡◌, ◌<◌, List, length};
     ghost use Rattle.logbook.specs.Pages.{nib, may_write};
-    ghost use Rattle.alm_history.specs.Kept.{entries_of, head_of, next_key};
+    ghost use Rattle.alm_history.specs.Kept.{added_in, first_word, next_key};
 
     ghost Value = { List E };
 
-    ghost view = { λ w. entries_of w.seen.log };
+    ghost view = { λ w. added_in w.seen.log };
 
     ghost invariant = { λ w. (w.seen.book ≡ N.book) × (w.pen.book ≡ N.book) ×
-        (w.head ≡ head_of N.book) × (0 < length w.seen.log) ×
+        (w.head ≡ first_word N.book) × (0 < length w.seen.log) ×
         (w.pen.nib ≡ nib may_write (next_key w.seen.log) 0) };
 }
 
@@ -45,7 +45,7 @@ pub(crate) fn take_pen<E>(
     head: &Word<Marked<E>, u64, OneWriter>,
     seen: &Seen<Marked<E>, u64, OneWriter>,
 ) -> Pen
-    requires { head.now ≡ head_of seen.now.book }
+    requires { head.now ≡ first_word seen.now.book }
     ensures book { result.book ≡ seen.now.book }
     ensures pen { (result.nib.right ≡ may_write) × (result.nib.value ≡ 0) }
 {
@@ -54,7 +54,7 @@ pub(crate) fn take_pen<E>(
     let mut offer: Offer<Marked<E>, u64, OneWriter, TradesNothing> = seen.plain::<
         TradesNothing,
         Pen,
-        Begins,
+        BeginsHistory,
     >(&pen);
     head.compare_exchange::<TakesPen, TradesNothing>(0, 0, &mut seen, &mut offer, &mut pen);
     drop(Word::<Marked<E>, u64, OneWriter>::tracked(0, &mut pen));
@@ -70,8 +70,8 @@ impl<E, N: HistoryName> HistoryWriter<E, N> {
     ) -> HistoryWriter<E, N>
         requires seen { (seen.book ≡ N.book) × (0 < length seen.log) }
         requires pen { (pen.book ≡ N.book) × (pen.nib ≡ nib may_write (next_key seen.log) 0) }
-        requires head { head ≡ head_of N.book }
-        ensures { result ≡ entries_of seen.log }
+        requires head { head ≡ first_word N.book }
+        ensures { result ≡ added_in seen.log }
     {
         HistoryWriter {
             head,
@@ -95,7 +95,10 @@ impl<E, N: HistoryName> HistoryWriter<E, N> {
         let next = take_pen(&self.head, &self.seen);
         let mut offer: Offer<Marked<E>, u64, OneWriter, TradesNothing> = self
             .seen
-            .plain::<TradesNothing, Turn<'_, X>, TakesTurn<M>>(&Turn { about, next: &next });
+            .plain::<TradesNothing, Addition<'_, X>, TakesTurn<M>>(&Addition {
+                about,
+                next: &next,
+            });
         self.head
             .compare_exchange::<TakesTurn<M>, TradesNothing>(
                 1,

@@ -26,8 +26,9 @@
 //! - two prefixes that were seen are prefixes of one list (by `HistoryPrefix::joined`)
 #![tactic(auto)]
 
+mod addition;
 mod adds;
-mod begins;
+mod begins_history;
 mod history_name;
 mod history_prefix;
 mod history_writer;
@@ -37,7 +38,6 @@ mod one_writer;
 mod takes_pen;
 mod takes_turn;
 mod trades_nothing;
-mod turn;
 
 pub use adds::Adds;
 pub use history_name::HistoryName;

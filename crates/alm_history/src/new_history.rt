@@ -1,8 +1,8 @@
 //! A history before it has a name.
 ghost use Rattle.std.specs.Prelude.{◌≡◌, [], IfSome};
-ghost use Rattle.alm_history.specs.Kept.{head_of};
+ghost use Rattle.alm_history.specs.Kept.{first_word};
 
-use crate::begins::Begins;
+use crate::begins_history::BeginsHistory;
 use crate::history_name::HistoryName;
 use crate::history_writer::{HistoryWriter, take_pen};
 use crate::marked::Marked;
@@ -16,7 +16,7 @@ pub struct NewHistory<E> {
     head: Word<Marked<E>, u64, OneWriter>,
     pub seen: Seen<Marked<E>, u64, OneWriter>,
     pub ghost empty: { seen.log ≡ [] },
-    pub ghost head_is: { head ≡ head_of seen.book },
+    pub ghost head_is: { head ≡ first_word seen.book },
 }
 
 impl<E> NewHistory<E> {
@@ -39,10 +39,10 @@ impl<E> NewHistory<E> {
         let mut offer: Offer<Marked<E>, u64, OneWriter, TradesNothing> = seen.plain::<
             TradesNothing,
             Pen,
-            Begins,
+            BeginsHistory,
         >(&next);
         let mut pen = seen.no_pen();
-        let found = head.compare_exchange::<Begins, TradesNothing>(
+        let found = head.compare_exchange::<BeginsHistory, TradesNothing>(
             0, 1, &mut seen, &mut offer, &mut pen,
         );
         if found != 0 {

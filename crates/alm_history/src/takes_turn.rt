@@ -1,8 +1,8 @@
 //! The step that adds an entry.
 
+use crate::addition::Addition;
 use crate::adds::Adds;
 use crate::marked::Marked;
-use crate::turn::Turn;
 use logbook::{Plain, Play};
 use std::marker::PhantomData;
 
@@ -15,7 +15,7 @@ impl<E, M> Play<Marked<E>, u64> for TakesTurn<M> {
     ghost then = { Appends };
 }
 
-impl<X, E, M: Adds<X, E>> Plain<Turn<'_, X>, Marked<E>, u64> for TakesTurn<M> {
+impl<X, E, M: Adds<X, E>> Plain<Addition<'_, X>, Marked<E>, u64> for TakesTurn<M> {
     ghost use Rattle.std.specs.Prelude.{None, Some};
 
     ghost ask = { λ turn. record { entry = Some (M.entry turn.about.now); next = turn.next.now.nib.key } };

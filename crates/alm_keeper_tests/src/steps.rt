@@ -4,7 +4,7 @@ use crate::worked::{device, table};
 use alm_disk::{Disk, MemDisk};
 use alm_keeper::{Keeper, Progress, Refused, format, open_store};
 use alm_model::accepted_in;
-use alm_types::{Action, Batch, Entry, Refusal, Slot, Verdict};
+use alm_types::{Action, Batch, Entry, Refusal, Slot, Verdict, Want};
 use std::alloc::Global;
 use std::test::Fail;
 
@@ -20,7 +20,7 @@ pub fn batch_of(alloc: Global, first: u64, verdicts: &[Verdict]) -> Result<Batch
             batch.push(Entry {
                 slot,
                 serial: serial as u64,
-                want: crate::worked::ack(0),
+                want: Want::Do(crate::worked::ack(0)),
                 verdict: *verdict,
             });
         }

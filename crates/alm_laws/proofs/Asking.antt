@@ -7,6 +7,7 @@ use Rattle.alm_types.specs.declared.attr.Attr.{Attr}
 use Rattle.alm_types.specs.declared.action.Action.{Action}
 use Rattle.alm_types.specs.declared.action.Action.TheVariants.{Clock, Value, Ack, Reset, Shelve, Unshelve, Oos, Design, SetPriority, SetSetpoint}
 use Rattle.alm_types.specs.declared.request.Request.{Request}
+use Rattle.alm_types.specs.Wants.{wanted_action}
 use Rattle.alm_types.specs.declared.role.Role.TheVariants as role
 use Rattle.alm_types.specs.Actions.{alarm_of}
 use Rattle.alm_types.specs.Changes.{with_priority, with_setpoint}
@@ -133,17 +134,17 @@ some-there None d = absurd (d refl)
 some-there (Some x) d = refl
 
 module _ (q : Condensed) (r : Request) (i : ℕ) (s t : State) (b : Becomes q r i s t) where
-  moves : Moves q r.want i s t
-  moves = step-moves q r.want i s t b.rules (accepted-parts q.panel r b.accepted).1 b.before b.after
+  moves : Moves q (wanted_action r) i s t
+  moves = step-moves q (wanted_action r) i s t b.rules (accepted-parts q.panel r b.accepted).1 b.before b.after
 
-  asked : role_of r.slot ≡ asker_of r.want
+  asked : role_of r.slot ≡ asker_of (wanted_action r)
   asked = asked-by q.panel r b.accepted
 
   -- a part that moves with some actions alone, and with no shelving's end
   by-named : (part : State → Bool) (test : Action → Bool) → ((now stamp : ℕ) (action : Action) (a : Attr) (x : State) → (test action ≡ true) ⊎ (part (row_left (outcome now stamp action a x)) ≡ part x))
-      → ((stamp : ℕ) (x : State) → part (row_left (without_shelving stamp x)) ≡ part x) → part t ≢ part s → (test r.want ≡ true) × (alarm_of r.want ≡ i)
+      → ((stamp : ℕ) (x : State) → part (row_left (without_shelving stamp x)) ≡ part x) → part t ≢ part s → (test (wanted_action r) ≡ true) × (alarm_of (wanted_action r) ≡ i)
   by-named part test either ended differs = elim moves [
-    | inl h ↦ elim (either q.panel.now q.panel.next_stamp r.want h.attr s) [
+    | inl h ↦ elim (either q.panel.now q.panel.next_stamp (wanted_action r) h.attr s) [
       | inl is ↦ (is, h.named)
       | inr same ↦ absurd (differs (ap part h.left ∙ same))
     ]
@@ -154,17 +155,17 @@ module _ (q : Condensed) (r : Request) (i : ℕ) (s t : State) (b : Becomes q r 
   ]
 
   pub service-by : ServiceOnlyByAConsole r i s t
-  service-by differs = let n = by-named service_of moves_service either-service (λ stamp x. part-flags Bool service_of (λ c n x. refl) stamp (record x { shelved_until = None })) differs in (asked ∙ service-console r.want n.0, n.0, n.1)
+  service-by differs = let n = by-named service_of moves_service either-service (λ stamp x. part-flags Bool service_of (λ c n x. refl) stamp (record x { shelved_until = None })) differs in (asked ∙ service-console (wanted_action r) n.0, n.0, n.1)
 
   pub design-by : DesignOnlyByTheFeed r i s t
-  design-by differs = let n = by-named design_of moves_design either-design (λ stamp x. part-flags Bool design_of (λ c n x. refl) stamp (record x { shelved_until = None })) differs in (asked ∙ design-feed r.want n.0, n.0, n.1)
+  design-by differs = let n = by-named design_of moves_design either-design (λ stamp x. part-flags Bool design_of (λ c n x. refl) stamp (record x { shelved_until = None })) differs in (asked ∙ design-feed (wanted_action r) n.0, n.0, n.1)
 
   pub condition-by : ConditionOnlyByTheFeed r i s t
-  condition-by differs = let n = by-named active_of sends_value either-active (λ stamp x. part-flags Bool active_of (λ c n x. refl) stamp (record x { shelved_until = None })) differs in (asked ∙ value-feed r.want n.0, n.0, n.1)
+  condition-by differs = let n = by-named active_of sends_value either-active (λ stamp x. part-flags Bool active_of (λ c n x. refl) stamp (record x { shelved_until = None })) differs in (asked ∙ value-feed (wanted_action r) n.0, n.0, n.1)
 
   pub shelved-by : ShelvedOnlyByAConsole r i s t
   shelved-by none differs = elim moves [
-    | inl h ↦ (let is = shelving-begins q.panel.now q.panel.next_stamp r.want h.attr s (ap is_some none) (sym (ap (λ x. is_some x.shelved_until) h.left) ∙ some-there t.shelved_until differs) in (asked ∙ shelves-console r.want is, is, h.named))
+    | inl h ↦ (let is = shelving-begins q.panel.now q.panel.next_stamp (wanted_action r) h.attr s (ap is_some none) (sym (ap (λ x. is_some x.shelved_until) h.left) ∙ some-there t.shelved_until differs) in (asked ∙ shelves-console (wanted_action r) is, is, h.named))
     | inr other ↦ elim other [
       | inl h ↦ absurd (none-some h.deadline (sym none ∙ h.shelved))
       | inr h ↦ absurd (differs (ap (λ x. x.shelved_until) h.same ∙ none))
@@ -202,8 +203,8 @@ effect-now q (Design i on) = inr (touch-keeps q i.0 (outcome q.panel.now q.panel
 effect-now q (SetPriority i n) = inr refl
 effect-now q (SetSetpoint i v) = inr refl
 
-pub time-by : (q : Condensed) (r : Request) → accept q.panel r ≡ Ok r.want → TimeOnlyByTheClock q r
-time-by q r e differs = elim (effect-now (with_one_more q) r.want) [
+pub time-by : (q : Condensed) (r : Request) → accept q.panel r ≡ Ok (wanted_action r) → TimeOnlyByTheClock q r
+time-by q r e differs = elim (effect-now (with_one_more q) (wanted_action r)) [
   | inl clock ↦ asked-by q.panel r e ∙ clock
   | inr same ↦ absurd (differs same)
 ]
@@ -223,8 +224,8 @@ effect-attrs q (Design i on) j = inr (ap (λ l. slice_get l j) (touch-keeps q i.
 effect-attrs q (SetPriority i n) j = elim (set-attr q i.0 j (with_priority n)) [ inl same ↦ inl (refl, same) | inr e ↦ inr e ]
 effect-attrs q (SetSetpoint i v) j = elim (set-attr q i.0 j (with_setpoint v)) [ inl same ↦ inl (refl, same) | inr e ↦ inr e ]
 
-pub attributes-by : (q : Condensed) (r : Request) → accept q.panel r ≡ Ok r.want → (i : ℕ) → AttributesOnlyByAConsole q r i
-attributes-by q r e i differs = elim (effect-attrs (with_one_more q) r.want i) [
-  | inl is ↦ (asked-by q.panel r e ∙ configures-console r.want is.0, is.0, is.1)
+pub attributes-by : (q : Condensed) (r : Request) → accept q.panel r ≡ Ok (wanted_action r) → (i : ℕ) → AttributesOnlyByAConsole q r i
+attributes-by q r e i differs = elim (effect-attrs (with_one_more q) (wanted_action r) i) [
+  | inl is ↦ (asked-by q.panel r e ∙ configures-console (wanted_action r) is.0, is.0, is.1)
   | inr same ↦ absurd (differs same)
 ]

@@ -25,3 +25,4 @@ pub mod SameAttr
 pub mod Refused
 pub mod Sums
 pub mod Taken
+pub mod Untouched

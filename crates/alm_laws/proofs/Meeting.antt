@@ -12,6 +12,7 @@ use Rattle.alm_types.specs.declared.action.Action.{Action}
 use Rattle.alm_types.specs.declared.action.Action.TheVariants.{Clock, Value, Ack, Reset, Shelve, Unshelve, Oos, Design, SetPriority, SetSetpoint}
 use Rattle.alm_types.specs.declared.refusal.Refusal.TheVariants.{PriorityRange, SameValue}
 use Rattle.alm_types.specs.declared.request.Request.{Request}
+use Rattle.alm_types.specs.Wants.{wanted_action}
 use Rattle.alm_types.specs.Actions.{alarm_of}
 use Rattle.alm_types.specs.Changes.{where_passed, with_priority, with_setpoint}
 use Rattle.alm_types.specs.Readings.{is_reading}
@@ -25,9 +26,9 @@ use Rattle.alm_lists.proofs.Sorted.{rises-filter, rises_same}
 use Rattle.alm_model.specs.Plant.{Condensed, Measures}
 use Rattle.alm_model.specs.Accept.{accept, own_refusal, alarm_refusal}
 use Rattle.alm_model.specs.Keeping.{in_brief, ages_after}
-use Rattle.alm_model.specs.Lists.{due, is_due, is_one, passes, deadline, key_of, stamp}
+use Rattle.alm_model.specs.Lists.{due, is_due, is_one, passes, deadline, key_of, stamp, stamp_of}
 use Rattle.alm_model.specs.Step.{touch, unshelve, later, with_one_more, step}
-use Rattle.alm_model.specs.Rules.{KeepsRules, IsAges, stamp_of}
+use Rattle.alm_model.specs.Rules.{KeepsRules, IsAges}
 use Rattle.alm_model.proofs.Kept.{there}
 use Rattle.alm_model.proofs.Listed.{listed-members}
 use Rattle.alm_model.proofs.Measured.{change-length, change-at, change-off}
@@ -37,7 +38,7 @@ use Rattle.alm_model.proofs.Runs.{run_sizes, run_attrs}
 use Rattle.alm_laws.specs.Alarm.{TakesAction, annunciates, shelves}
 use Rattle.alm_laws.specs.Left.{IsLeft, is_annunciated_then, is_shelved_then}
 use Rattle.alm_laws.specs.Plant.{Becomes, configures}
-use Rattle.alm_laws.specs.Steps.{is_reached, is_annunciated_by, IsAnnunciatedBy, deadline_at, AreAnnunciatedInOrder, moment_left, priority_left, setpoint_left, AttrLeft, AgesLeft, IsLeftBehind}
+use Rattle.alm_laws.specs.Steps.{is_reached, is_annunciated_by, IsAnnunciatedBy, shelving_end, AreAnnunciatedInOrder, moment_left, priority_left, setpoint_left, AttrLeft, AgesLeft, IsLeftBehind}
 use Rattle.alm_laws.proofs.AlarmLaws.{annunciated-waits, unless-none}
 use Rattle.alm_laws.proofs.Asking.{touch-keeps, effect-attrs}
 use Rattle.alm_laws.proofs.Clocked.{fold-now, each-counted, priority-set, setpoint-set}
@@ -235,13 +236,13 @@ setpoint-left q k v i a b has after = elim (cases_eq k.0 i) [
 ]
 
 -- an action that sets no attributes
-unset : (q : Condensed) (action : Action) (i : ℕ) (a b : Attr) → configures action ≡ false → slice_get q.panel.attrs i ≡ Some a → slice_get (step q action).panel.attrs i ≡ Some b → b ≡ a
+pub unset : (q : Condensed) (action : Action) (i : ℕ) (a b : Attr) → configures action ≡ false → slice_get q.panel.attrs i ≡ Some a → slice_get (step q action).panel.attrs i ≡ Some b → b ≡ a
 unset q action i a b e has after = elim (effect-attrs (with_one_more q) action i) [
   | inl is ↦ absurd (true≢false (sym is.0 ∙ e))
   | inr same ↦ same_Some _ _ (sym after ∙ same ∙ has)
 ]
 
-attr-left : (q : Condensed) (action : Action) (i : ℕ) (a b : Attr) → own_refusal q.panel action ≡ None → slice_get q.panel.attrs i ≡ Some a → slice_get (step q action).panel.attrs i ≡ Some b → AttrLeft action i a b
+pub attr-left : (q : Condensed) (action : Action) (i : ℕ) (a b : Attr) → own_refusal q.panel action ≡ None → slice_get q.panel.attrs i ≡ Some a → slice_get (step q action).panel.attrs i ≡ Some b → AttrLeft action i a b
 attr-left q (Clock t) i a b free has after = left-same (Clock t) i a b (unset q (Clock t) i a b refl has after) refl refl
 attr-left q (Value k v) i a b free has after = left-same (Value k v) i a b (unset q (Value k v) i a b refl has after) refl refl
 attr-left q (Ack k) i a b free has after = left-same (Ack k) i a b (unset q (Ack k) i a b refl has after) refl refl
@@ -259,14 +260,14 @@ pub rises-keep : (p : ℕ → Bool) (key : ℕ → ℕ) (xs : List ℕ) → Rise
 rises-keep p key [] h = tt
 rises-keep p key (x ∷ xs) h = elim (p x) as (λ b. RisesByRecursion key (cond b (x ∷ filter p xs) (filter p xs))) [ true ↦ (all-filter (Precedes key x) p xs h.0, rises-keep p key xs h.1) | false ↦ rises-keep p key xs h.1 ]
 
-key-same : (o : Option State) → deadline_at o ≡ key_of deadline o
+key-same : (o : Option State) → shelving_end o ≡ key_of deadline o
 key-same None = refl
 key-same (Some s) = refl
 
-by-deadline : (rows : List State) (xs : List ℕ) → RisesByRecursion (λ i. key_of deadline (slice_get rows i)) xs → AllPairs (Precedes (λ i. deadline_at (slice_get rows i))) xs
+by-deadline : (rows : List State) (xs : List ℕ) → RisesByRecursion (λ i. key_of deadline (slice_get rows i)) xs → AllPairs (Precedes (λ i. shelving_end (slice_get rows i))) xs
 by-deadline rows xs h =
     let old : ℕ → ℕ = λ i. key_of deadline (slice_get rows i) in
-    let new : ℕ → ℕ = λ i. deadline_at (slice_get rows i) in
+    let new : ℕ → ℕ = λ i. shelving_end (slice_get rows i) in
     AllPairs-from (Precedes new) xs (each-rises new xs (rises_same old new xs (of_each (λ i. new i ≡ old i) xs (λ i _. key-same (slice_get rows i))) h))
 
 passes-at : (test : Attr → State → Bool) (a : Attr) (s : State) (oa : Option Attr) (os : Option State) → oa ≡ Some a → os ≡ Some s → passes test oa os ≡ test a s
@@ -497,7 +498,7 @@ module _ (q : Condensed) (action : Action) (a : Attr) (s : State) (h : KeepsRule
       let both = effect-both q action a s timeless has row in
       record {
         list = one_if loud (alarm_of action);
-        in_order = record { order = pairs-if (Precedes (λ i. deadline_at (slice_get q.panel.rows i))) loud (alarm_of action); those = named-those };
+        in_order = record { order = pairs-if (Precedes (λ i. shelving_end (slice_get q.panel.rows i))) loud (alarm_of action); those = named-those };
         stamps = named-stamps;
         next = both.1 ∙ ap (λ n. q.panel.next_stamp + n + cond (is_shelved_then (outcome q.panel.now q.panel.next_stamp action a s)) 1 0) (sym (length-if loud (alarm_of action)))
             ∙ ap (λ b. q.panel.next_stamp + length (one_if loud (alarm_of action)) + cond b 1 0) left.shelved;
@@ -529,7 +530,7 @@ timeless-met q action h timeless own free =
     let takes : TakesAction action w.0 w.1 = record { state = at.keeps.state; admitted = admitted-by q action w.0 w.1 timeless own w.2 w.3 } in
     named-met q action w.0 w.1 h timeless w.2 w.3 takes fits
 
-met : (q : Condensed) (action : Action) → KeepsRules q → own_refusal q.panel action ≡ None → IsMet q action
+pub met : (q : Condensed) (action : Action) → KeepsRules q → own_refusal q.panel action ≡ None → IsMet q action
 met q (Clock t) h free = clock-met q t h
 met q (Value k v) h free = timeless-met q (Value k v) h refl free free
 met q (Ack k) h free = timeless-met q (Ack k) h refl free free
@@ -541,24 +542,24 @@ met q (Design k on) h free = timeless-met q (Design k on) h refl free free
 met q (SetPriority k n) h free = timeless-met q (SetPriority k n) h refl free free
 met q (SetSetpoint k v) h free = timeless-met q (SetSetpoint k v) h refl free free
 
-pub step-meets : (q : Condensed) (r : Request) → KeepsRules q → accept q.panel r ≡ Ok r.want → IsLeftBehind q r (step q r.want)
+pub step-meets : (q : Condensed) (r : Request) → KeepsRules q → accept q.panel r ≡ Ok (wanted_action r) → IsLeftBehind q r (step q (wanted_action r))
 step-meets q r h e =
-    let own : own_refusal q.panel r.want ≡ None = own-first (own_refusal q.panel r.want) _ (accepted-parts q.panel r e).1 in
-    let m = met q r.want h own in
-    let sizes = run_sizes q (r.want ∷ []) h.measured in (
+    let own : own_refusal q.panel (wanted_action r) ≡ None = own-first (own_refusal q.panel (wanted_action r)) _ (accepted-parts q.panel r e).1 in
+    let m = met q (wanted_action r) h own in
+    let sizes = run_sizes q ((wanted_action r) ∷ []) h.measured in (
       m.list,
       m.in_order,
       record {
-        moment = time-left q r.want;
-        count = each-counted q r.want;
-        large = record { rows = sizes.0; attrs = run_attrs q (r.want ∷ []) h.measured; moments = m.as_many_moments; floods = sizes.1; ages = m.as_many_ages };
-        attrs = λ i a b has after. attr-left q r.want i a b own has after;
+        moment = time-left q (wanted_action r);
+        count = each-counted q (wanted_action r);
+        large = record { rows = sizes.0; attrs = run_attrs q ((wanted_action r) ∷ []) h.measured; moments = m.as_many_moments; floods = sizes.1; ages = m.as_many_ages };
+        attrs = λ i a b has after. attr-left q (wanted_action r) i a b own has after;
         rows = λ i a s t has before after. (let b : Becomes q r i s t = record { rules = h; accepted = e; before = before; after = after } in (by-action q r i a s t b has, by-clock q r i a s t b has, others-stay q r i s t b));
         stamps = m.stamps;
         next_stamp = m.next;
         annunciated = λ i before c has. m.told i before (Has-from i m.list c) has;
         silent = λ i out. m.silent i (λ x. out (Contains-from i m.list x));
         ages = m.ages;
-        floods = λ area ages before f g. flood-so q r.want area ages before f g;
+        floods = λ area ages before f g. flood-so q (wanted_action r) area ages before f g;
       },
     )

@@ -7,6 +7,7 @@ use Rattle.alm_types.specs.declared.attr.Attr.{Attr}
 use Rattle.alm_types.specs.declared.action.Action.{Action}
 use Rattle.alm_types.specs.declared.action.Action.TheVariants.{Clock, Value, Ack, Reset, Shelve, Unshelve, Oos, Design, SetPriority, SetSetpoint}
 use Rattle.alm_types.specs.declared.request.Request.{Request}
+use Rattle.alm_types.specs.Wants.{wanted_action}
 use Rattle.alm_types.specs.declared.role.Role.TheVariants as role
 use Rattle.alm_types.specs.Actions.{alarm_of}
 use Rattle.alm_state.specs.Rows.{State, IsState, is_suppressed, is_annunciated}
@@ -78,13 +79,13 @@ module _ (q : Condensed) (r : Request) (i : ℕ) (a : Attr) (s t : State) (b : B
 
   pub by-action : LeftByItsAction q r i a s t
   by-action named =
-      let n = names-alarm r.want i named in
-      let has_it : slice_get q.panel.attrs (alarm_of r.want) ≡ Some a = ap (slice_get q.panel.attrs) n.0 ∙ has in
-      let before : slice_get q.panel.rows (alarm_of r.want) ≡ Some s = ap (slice_get q.panel.rows) n.0 ∙ b.before in
-      let after : slice_get (step q r.want).panel.rows (alarm_of r.want) ≡ Some t = ap (slice_get (step q r.want).panel.rows) n.0 ∙ b.after in
-      let free : own_refusal q.panel r.want ≡ None = own-first (own_refusal q.panel r.want) _ (accepted-parts q.panel r b.accepted).1 in
-      let takes : TakesAction r.want a s = record { state = state; admitted = admitted-by q r.want a s n.1 free has_it before } in
-      (outcome q.panel.now q.panel.next_stamp r.want a s, (one-row q.panel.now q.panel.next_stamp r.want a s _ takes fits).1 refl, row-then q r.want a s t n.1 has_it before after)
+      let n = names-alarm (wanted_action r) i named in
+      let has_it : slice_get q.panel.attrs (alarm_of (wanted_action r)) ≡ Some a = ap (slice_get q.panel.attrs) n.0 ∙ has in
+      let before : slice_get q.panel.rows (alarm_of (wanted_action r)) ≡ Some s = ap (slice_get q.panel.rows) n.0 ∙ b.before in
+      let after : slice_get (step q (wanted_action r)).panel.rows (alarm_of (wanted_action r)) ≡ Some t = ap (slice_get (step q (wanted_action r)).panel.rows) n.0 ∙ b.after in
+      let free : own_refusal q.panel (wanted_action r) ≡ None = own-first (own_refusal q.panel (wanted_action r)) _ (accepted-parts q.panel r b.accepted).1 in
+      let takes : TakesAction (wanted_action r) a s = record { state = state; admitted = admitted-by q (wanted_action r) a s n.1 free has_it before } in
+      (outcome q.panel.now q.panel.next_stamp (wanted_action r) a s, (one-row q.panel.now q.panel.next_stamp (wanted_action r) a s _ takes fits).1 refl, row-then q (wanted_action r) a s t n.1 has_it before after)
 
   some-shelving : (o : Option ℕ) (d : ℕ) → o ≡ Some d → is_some o ≡ true
   some-shelving (Some x) d e = refl
@@ -92,7 +93,7 @@ module _ (q : Condensed) (r : Request) (i : ℕ) (a : Attr) (s t : State) (b : B
 
   pub by-clock : LeftByTheClock q r a s t
   by-clock deadline j shelved reached =
-      let moves : Moves q r.want i s t = step-moves q r.want i s t b.rules (accepted-parts q.panel r b.accepted).1 b.before b.after in
+      let moves : Moves q (wanted_action r) i s t = step-moves q (wanted_action r) i s t b.rules (accepted-parts q.panel r b.accepted).1 b.before b.after in
       elim moves [
         | inl h ↦ absurd (true≢false (sym (ap is_clock reached.1) ∙ h.timeless))
         | inr other ↦ elim other [
@@ -172,15 +173,15 @@ resets-console action i e n = absurd (true≢false (sym e))
 
 pub latching-ends : (q : Condensed) (r : Request) (i : ℕ) (a : Attr) (s t : State) → Becomes q r i s t → slice_get q.panel.attrs i ≡ Some a → a.latching ≡ true → EndsOnlyByReset r i s t
 latching-ends q r i a s t b has latch loud quiet =
-    let moves : Moves q r.want i s t = step-moves q r.want i s t b.rules (accepted-parts q.panel r b.accepted).1 b.before b.after in
+    let moves : Moves q (wanted_action r) i s t = step-moves q (wanted_action r) i s t b.rules (accepted-parts q.panel r b.accepted).1 b.before b.after in
     let at = alarm-at q i s b.rules b.before in
     elim moves [
       | inl h ↦
           let same : h.attr ≡ a = same_Some _ _ (sym h.has ∙ has) in
           let fit : IsTrue (suits h.attr.latching s.core) = subst (λ x. IsTrue (suits x.latching s.core)) (same_Some _ _ (sym at.has ∙ h.has)) at.keeps.suits in
-          let left = (one-row q.panel.now q.panel.next_stamp r.want h.attr s _ h.takes fit).1 refl in
-          elim (latching-left q.panel.now q.panel.next_stamp r.want h.attr s _ at.keeps.state left (ap (λ x. x.latching) same ∙ latch) loud (sym (ap (λ x. is_annunciated x.core) h.left) ∙ quiet)) [
-            | inl reset ↦ inl (asked-by q.panel r b.accepted ∙ (resets-console r.want i reset h.named).0, reset, h.named)
+          let left = (one-row q.panel.now q.panel.next_stamp (wanted_action r) h.attr s _ h.takes fit).1 refl in
+          elim (latching-left q.panel.now q.panel.next_stamp (wanted_action r) h.attr s _ at.keeps.state left (ap (λ x. x.latching) same ∙ latch) loud (sym (ap (λ x. is_annunciated x.core) h.left) ∙ quiet)) [
+            | inl reset ↦ inl (asked-by q.panel r b.accepted ∙ (resets-console (wanted_action r) i reset h.named).0, reset, h.named)
             | inr flag ↦ inr (flag, h.named)
           ]
       | inr other ↦ elim other [
@@ -202,8 +203,8 @@ pub shelved-so : (q : Condensed) (r : Request) (i : ℕ) (s t : State) → Becom
 shelved-so q r i s t b none d e =
     let at = alarm-at q i s b.rules b.before in
     let by = shelved-by q r i s t b none (λ x. none-some _ (sym x ∙ e)) in
-    let l = by-action q r i at.attr s t b at.has (shelves-names r.want i by.1 by.2) in
-    (by, until-asked q.panel.now r.want s.shelved_until d none (sym (ap (λ x. x.shelved_until) l.2 ∙ l.1.shelving) ∙ e))
+    let l = by-action q r i at.attr s t b at.has (shelves-names (wanted_action r) i by.1 by.2) in
+    (by, until-asked q.panel.now (wanted_action r) s.shelved_until d none (sym (ap (λ x. x.shelved_until) l.2 ∙ l.1.shelving) ∙ e))
 
 pub shelved-ahead : (q : Condensed) (i d : ℕ) (a : Attr) (s : State) → IsAlarmOf q i a s → s.shelved_until ≡ Some d → (q.panel.now < d) × (d ≤ q.panel.now + a.max_shelve)
 shelved-ahead q i d a s h e =

@@ -9,6 +9,7 @@ use Rattle.alm_types.specs.declared.alarm_id.AlarmId.{AlarmId}
 use Rattle.alm_types.specs.declared.action.Action.{Action}
 use Rattle.alm_types.specs.declared.action.Action.TheVariants.{Clock, Value, Ack, Reset, Shelve, Unshelve, Oos, Design, SetPriority, SetSetpoint}
 use Rattle.alm_types.specs.declared.request.Request.{Request}
+use Rattle.alm_types.specs.Wants.{wanted_action}
 use Rattle.alm_types.specs.Actions.{alarm_of}
 use Rattle.alm_lists.specs.Orders.{Precedes}
 use Rattle.alm_state.specs.Rows.{State, is_suppressed}
@@ -24,7 +25,7 @@ use Rattle.alm_model.proofs.Rising.{one-rising}
 use Rattle.alm_laws.specs.Alarm.{row_left}
 use Rattle.alm_laws.specs.Left.{IsLeft, is_annunciated_then, asks_left, shelving_left}
 use Rattle.alm_laws.specs.Plant.{Names, ClockReaches, asker_of}
-use Rattle.alm_laws.specs.Steps.{is_reached, is_annunciated_by, deadline_at, area_at, AreAnnunciatedInOrder, IsLeftWith, IsLeftBehind}
+use Rattle.alm_laws.specs.Steps.{is_reached, is_annunciated_by, shelving_end, area_at, AreAnnunciatedInOrder, IsLeftWith, IsLeftBehind}
 use Rattle.alm_laws.proofs.Left.{left-only}
 use Rattle.alm_laws.proofs.Meeting.{step-meets}
 use Rattle.alm_laws.proofs.Moving.{is_clock}
@@ -56,7 +57,7 @@ same-plant x y panel kept floods = let same : ◌≡◌ {A = Condensed} (record 
 
 one-order : (q : Condensed) (action : Action) (xs ys : List ℕ) → AreAnnunciatedInOrder q action xs → AreAnnunciatedInOrder q action ys → xs ≡ ys
 one-order q action xs ys h k =
-    let key : ℕ → ℕ = λ i. deadline_at (slice_get q.panel.rows i) in
+    let key : ℕ → ℕ = λ i. shelving_end (slice_get q.panel.rows i) in
     one-rising key xs ys (EachPair-from (Precedes key) xs h.order) (EachPair-from (Precedes key) ys k.order)
     (λ x m. Has-from x ys ((k.those x).1 ((h.those x).0 (Contains-from x xs m)))) (λ x m. Has-from x xs ((h.those x).1 ((k.those x).0 (Contains-from x ys m))))
 
@@ -89,12 +90,12 @@ IsDue r s = (deadline : ℕ) × (s.shelved_until ≡ Some deadline) × ClockReac
 moment-in : (t u : ℕ) → Clock t ≡ Clock u → t ≡ u
 moment-in t u e = cc
 
-due-or : (q : Condensed) (r : Request) (s : State) → accept q.panel r ≡ Ok r.want → IsDue r s ⊎ (IsDue r s → ⊥)
-due-or q r s e = elim (clock-or r.want) [
+due-or : (q : Condensed) (r : Request) (s : State) → accept q.panel r ≡ Ok (wanted_action r) → IsDue r s ⊎ (IsDue r s → ⊥)
+due-or q r s e = elim (clock-or (wanted_action r)) [
   | inl c ↦ shelved s.shelved_until refl c.0 c.1
   | inr isnt ↦ inr (λ h. true≢false (sym (ap is_clock h.2.1) ∙ isnt))
 ] where
-  shelved : (o : Option ℕ) → s.shelved_until ≡ o → (t : ℕ) → r.want ≡ Clock t → IsDue r s ⊎ (IsDue r s → ⊥)
+  shelved : (o : Option ℕ) → s.shelved_until ≡ o → (t : ℕ) → (wanted_action r) ≡ Clock t → IsDue r s ⊎ (IsDue r s → ⊥)
   shelved None is t c = inr (λ h. none-some _ (sym is ∙ h.1))
   shelved (Some d) is t c = elim (cases_lt t d) [
     | inl early ↦ inr (λ h. (let same : d ≡ h.0 = same_Some _ _ (sym is ∙ h.1) in let at : t ≡ h.2.0 = moment-in t h.2.0 (sym c ∙ h.2.1) in let l = h.2.3 in absurd (omega (arith, same, at, l, early))))
@@ -134,7 +135,7 @@ stamp-at-hand : (now n : ℕ) (j : AlarmId) (a : Attr) (s : State) (o : Outcome)
 stamp-at-hand now n j a s o loud h =
     h.stamp ∙ ap (λ b. cond (b || false) n (cond (asks_left now (Unshelve j) a s || is_some (shelving_left now (Unshelve j) s.shelved_until)) s.stamp 0)) loud
 
-module _ (q : Condensed) (r : Request) (rules : KeepsRules q) (e : accept q.panel r ≡ Ok r.want) (list : List ℕ) (order : AreAnnunciatedInOrder q r.want list) (x y : Condensed) (h : IsLeftWith q r list x) (k : IsLeftWith q r list y) where
+module _ (q : Condensed) (r : Request) (rules : KeepsRules q) (e : accept q.panel r ≡ Ok (wanted_action r)) (list : List ℕ) (order : AreAnnunciatedInOrder q (wanted_action r) list) (x y : Condensed) (h : IsLeftWith q r list x) (k : IsLeftWith q r list y) where
   due-same : (i : ℕ) (a : Attr) (s t u : State) → IsDue r s → slice_get q.panel.attrs i ≡ Some a → slice_get q.panel.rows i ≡ Some s → slice_get x.panel.rows i ≡ Some t → slice_get y.panel.rows i ≡ Some u → t ≡ u
   due-same i a s t u (d, until, reached) has row at_x at_y =
       let now : ℕ = q.panel.now in
@@ -144,7 +145,7 @@ module _ (q : Condensed) (r : Request) (rules : KeepsRules q) (e : accept q.pane
         | inl loud ↦
             let free = free-from s.by_design s.out_of_service s.active (is_suppressed s || not s.active) loud in
             let late : is_reached reached.0 s.shelved_until ≡ true = ap (is_reached reached.0) until ∙ (let l = reached.3 in le-leb d reached.0 l) in
-            let by : is_annunciated_by q.panel.now r.want i a s ≡ true = ap (λ w. is_annunciated_by q.panel.now w i a s) reached.1 ∙ and_from (is_reached reached.0 s.shelved_until) (not s.by_design && not s.out_of_service && s.active) late free in
+            let by : is_annunciated_by q.panel.now (wanted_action r) i a s ≡ true = ap (λ w. is_annunciated_by q.panel.now w i a s) reached.1 ∙ and_from (is_reached reached.0 s.shelved_until) (not s.by_design && not s.out_of_service && s.active) late free in
             let place = place-of list i (Has-from i list ((order.those i).1 (a, s, has, row, by))) in
             let first : f.0 ≡ q.panel.next_stamp + place.0 = sym (stamp-at-hand q.panel.now f.0 no-alarm a s f.1 loud f.3) ∙ sym (ap (λ z. z.stamp) f.4) ∙ sym (ap (key_of stamp) at_x) ∙ h.stamps place.0 i place.1 in
             let second : g.0 ≡ q.panel.next_stamp + place.0 = sym (stamp-at-hand q.panel.now g.0 no-alarm a s g.1 loud g.3) ∙ sym (ap (λ z. z.stamp) g.4) ∙ sym (ap (key_of stamp) at_y) ∙ k.stamps place.0 i place.1 in
@@ -163,11 +164,11 @@ module _ (q : Condensed) (r : Request) (rules : KeepsRules q) (e : accept q.pane
       let a = there q.panel.attrs i (let many = rules.attrs in omega (arith, inside, size, many)) in
       let f = h.rows i a.0 s.0 t a.1 s.1 at_x in
       let g = k.rows i a.0 s.0 u a.1 s.1 at_y in
-      elim (names-or r.want i) [
+      elim (names-or (wanted_action r) i) [
         | inl named ↦
             let m = f.0 named in
             let n = g.0 named in
-            m.2 ∙ ap row_left (left-only q.panel.now q.panel.next_stamp r.want a.0 s.0 m.0 m.1 ∙ sym (left-only q.panel.now q.panel.next_stamp r.want a.0 s.0 n.0 n.1)) ∙ sym n.2
+            m.2 ∙ ap row_left (left-only q.panel.now q.panel.next_stamp (wanted_action r) a.0 s.0 m.0 m.1 ∙ sym (left-only q.panel.now q.panel.next_stamp (wanted_action r) a.0 s.0 n.0 n.1)) ∙ sym n.2
         | inr off ↦ elim (due-or q r s.0 e) [
           | inl due ↦ due-same i a.0 s.0 t u due a.1 s.1 at_x at_y
           | inr early ↦ f.2 off (λ d until reached. early (d, until, reached)) ∙ sym (g.2 off (λ d until reached. early (d, until, reached)))
@@ -181,7 +182,7 @@ module _ (q : Condensed) (r : Request) (rules : KeepsRules q) (e : accept q.pane
       let a = there q.panel.attrs i (omega (arith, inside, size)) in
       let f = h.attrs i a.0 b a.1 at_x in
       let g = k.attrs i a.0 c a.1 at_y in
-      elim (cases_eq (alarm_of r.want) i) [
+      elim (cases_eq (alarm_of (wanted_action r)) i) [
         | inl named ↦ same-attr b c (f.kind ∙ sym g.kind) (f.setpoint named ∙ sym (g.setpoint named)) (f.deadband ∙ sym g.deadband) (f.priority named ∙ sym (g.priority named)) (f.area ∙ sym g.area) (f.latching ∙ sym g.latching)
             (f.max_shelve ∙ sym g.max_shelve) (f.tag ∙ sym g.tag) (f.text ∙ sym g.text)
         | inr off ↦ f.others off ∙ sym (g.others off)
@@ -198,7 +199,7 @@ module _ (q : Condensed) (r : Request) (rules : KeepsRules q) (e : accept q.pane
       let before = there q.kept.moments i (omega (arith, inside, size)) in
       let s = there q.panel.rows i (omega (arith, inside, size, many)) in
       let a = there q.panel.attrs i (let more = rules.attrs in omega (arith, inside, size, many, more)) in
-      elim (cases_Bool (is_annunciated_by q.panel.now r.want i a.0 s.0)) [
+      elim (cases_Bool (is_annunciated_by q.panel.now (wanted_action r) i a.0 s.0)) [
         | inl so ↦
             let has = (order.those i).1 (a.0, s.0, a.1, s.1, so) in
             same_Some _ _ (sym at_x ∙ h.annunciated i before.0 has before.1 ∙ ap (λ n. Some (take 3 (n ∷ before.0))) one-now ∙ sym (k.annunciated i before.0 has before.1) ∙ at_y)
@@ -206,7 +207,7 @@ module _ (q : Condensed) (r : Request) (rules : KeepsRules q) (e : accept q.pane
             let out : Contains list i → ⊥ = λ c. (let w = (order.those i).0 c in
             let attr : w.0 ≡ a.0 = same_Some _ _ (sym w.2 ∙ a.1) in
             let state : w.1 ≡ s.0 = same_Some _ _ (sym w.3 ∙ s.1) in
-            true≢false (sym w.4 ∙ ap (λ z. is_annunciated_by q.panel.now r.want i z w.1) attr ∙ ap (is_annunciated_by q.panel.now r.want i a.0) state ∙ isnt)) in
+            true≢false (sym w.4 ∙ ap (λ z. is_annunciated_by q.panel.now (wanted_action r) i z w.1) attr ∙ ap (is_annunciated_by q.panel.now (wanted_action r) i a.0) state ∙ isnt)) in
             same_Some _ _ (sym at_x ∙ h.silent i out ∙ sym (k.silent i out) ∙ at_y)
       ]
 
@@ -242,10 +243,10 @@ module _ (q : Condensed) (r : Request) (rules : KeepsRules q) (e : accept q.pane
       (same-measures x.kept y.kept one-ages (same-lists x.kept.moments y.kept.moments (h.large.moments ∙ sym k.large.moments) moments-same))
       (same-lists x.floods y.floods (h.large.floods ∙ sym k.large.floods) flag-same)
 
-pub plant-left : (q p : Condensed) (r : Request) → KeepsRules q → accept q.panel r ≡ Ok r.want → IsLeftBehind q r p ↔ (p ≡ step q r.want)
+pub plant-left : (q p : Condensed) (r : Request) → KeepsRules q → accept q.panel r ≡ Ok (wanted_action r) → IsLeftBehind q r p ↔ (p ≡ step q (wanted_action r))
 plant-left q p r rules e = (
   λ h. (let m = step-meets q r rules e in
-      let same : m.0 ≡ h.0 = one-order q r.want m.0 h.0 m.1 h.1 in
-      one-plant q r rules e h.0 h.1 p (step q r.want) h.2 (subst (λ l. IsLeftWith q r l (step q r.want)) same m.2)),
+      let same : m.0 ≡ h.0 = one-order q (wanted_action r) m.0 h.0 m.1 h.1 in
+      one-plant q r rules e h.0 h.1 p (step q (wanted_action r)) h.2 (subst (λ l. IsLeftWith q r l (step q (wanted_action r))) same m.2)),
   λ is. subst (IsLeftBehind q r) (sym is) (step-meets q r rules e),
 )

@@ -9,6 +9,7 @@ use Rattle.alm_types.specs.declared.action.Action.TheVariants.{Clock, Value, Ack
 use Rattle.alm_types.specs.declared.refusal.Refusal.{Refusal}
 use Rattle.alm_types.specs.declared.refusal.Refusal.TheVariants.{WrongRole}
 use Rattle.alm_types.specs.declared.request.Request.{Request}
+use Rattle.alm_types.specs.Wants.{wanted_action}
 use Rattle.alm_types.specs.declared.role.Role.{Role}
 use Rattle.alm_types.specs.declared.role.Role.TheVariants as role
 use Rattle.alm_types.specs.Actions.{alarm_of}
@@ -23,7 +24,7 @@ use Rattle.alm_state.proofs.OutcomeLaws.{IsOutcome, outcome-good, unshelved-good
 use Rattle.alm_laws.specs.Alarm.{row_left, annunciates, is_unacknowledged, is_latched, acknowledges, resets, unshelves, suppresses, condition_comes, last_flag_falls, IsAnnunciatedJustThen, WaitsWithStamp}
 use Rattle.alm_laws.proofs.AlarmLaws.{acknowledged-only, latched-until, shelving-ends, annunciated-then, annunciated-waits, unshelved-then, flags-waits, flags-shelving, calm, not-both, under-shelving, unless-none}
 use Rattle.alm_model.specs.Plant.{Panel, Condensed}
-use Rattle.alm_model.specs.Accept.{accept, answer, may_ask, refusal}
+use Rattle.alm_model.specs.Accept.{accept, answer, may_ask, refusal, stamp_refusal}
 use Rattle.alm_laws.specs.Plant.{Becomes, IsAcknowledgedByConsoleOrFlag, IsResetByConsoleOrFlag, ShelvingEndsOnlyByUnshelveOrClock, ClockEndsTheShelving, FreedIsAnnunciatedAnew, AnnunciatedOnlyThen, OthersStay, Names, asker_of}
 use Rattle.alm_laws.proofs.Moving.{Moves, IsNamed, IsEnded, is_clock, alarm-at, step-moves}
 
@@ -49,10 +50,15 @@ pub both-none : (o p : Option Refusal) → or_else o p ≡ None → (o ≡ None)
 both-none None p e = (refl, e)
 both-none (Some r) p e = absurd (none-some _ (sym e))
 
-pub accepted-parts : (p : Panel) (r : Request) → accept p r ≡ Ok r.want → (may_ask (role_of r.slot) r.want ≡ true) × (refusal p r.want ≡ None)
+pub accepted-parts : (p : Panel) (r : Request) → accept p r ≡ Ok (wanted_action r) → (may_ask (role_of r.slot) (wanted_action r) ≡ true) × (refusal p (wanted_action r) ≡ None)
 accepted-parts p r e =
-    let parts = both-none (unless (may_ask (role_of r.slot) r.want) WrongRole) (refusal p r.want) (answer-ok r.want _ e) in
-    (unless-none (may_ask (role_of r.slot) r.want) WrongRole parts.0, parts.1)
+    let parts = both-none (unless (may_ask (role_of r.slot) (wanted_action r)) WrongRole) (or_else (refusal p (wanted_action r)) (stamp_refusal p r.want)) (answer-ok (wanted_action r) _ e) in
+    (unless-none (may_ask (role_of r.slot) (wanted_action r)) WrongRole parts.0, (both-none (refusal p (wanted_action r)) (stamp_refusal p r.want) parts.1).0)
+
+pub standing-part : (p : Panel) (r : Request) → accept p r ≡ Ok (wanted_action r) → stamp_refusal p r.want ≡ None
+standing-part p r e =
+    let parts = both-none (unless (may_ask (role_of r.slot) (wanted_action r)) WrongRole) (or_else (refusal p (wanted_action r)) (stamp_refusal p r.want)) (answer-ok (wanted_action r) _ e) in
+    (both-none (refusal p (wanted_action r)) (stamp_refusal p r.want) parts.1).1
 
 ask-role : (ro : Role) (action : Action) → may_ask ro action ≡ true → ro ≡ asker_of action
 ask-role role.Clock (Clock t) e = refl
@@ -67,8 +73,8 @@ ask-role role.Console (SetPriority i n) e = refl
 ask-role role.Console (SetSetpoint i v) e = refl
 ask-role ro action e = absurd (true≢false (sym e))
 
-pub asked-by : (p : Panel) (r : Request) → accept p r ≡ Ok r.want → role_of r.slot ≡ asker_of r.want
-asked-by p r e = ask-role (role_of r.slot) r.want (accepted-parts p r e).0
+pub asked-by : (p : Panel) (r : Request) → accept p r ≡ Ok (wanted_action r) → role_of r.slot ≡ asker_of (wanted_action r)
+asked-by p r e = ask-role (role_of r.slot) (wanted_action r) (accepted-parts p r e).0
 
 acknowledges-console : (action : Action) → acknowledges action ≡ true → asker_of action ≡ role.Console
 acknowledges-console (Ack i) e = refl
@@ -110,34 +116,34 @@ outcome-stamps a now stamp s (Annunciated t) good = inr (inr good.new)
 outcome-stamps a now stamp s (Shelved t) good = inr (inr good.new)
 
 module _ (q : Condensed) (r : Request) (i : ℕ) (s t : State) (b : Becomes q r i s t) where
-  moves : Moves q r.want i s t
-  moves = step-moves q r.want i s t b.rules (accepted-parts q.panel r b.accepted).1 b.before b.after
+  moves : Moves q (wanted_action r) i s t
+  moves = step-moves q (wanted_action r) i s t b.rules (accepted-parts q.panel r b.accepted).1 b.before b.after
 
   state : IsState s
   state = (alarm-at q i s b.rules b.before).keeps.state
 
-  asked : role_of r.slot ≡ asker_of r.want
+  asked : role_of r.slot ≡ asker_of (wanted_action r)
   asked = asked-by q.panel r b.accepted
 
-  clock-asked : (moment : ℕ) → r.want ≡ Clock moment → role_of r.slot ≡ role.Clock
+  clock-asked : (moment : ℕ) → (wanted_action r) ≡ Clock moment → role_of r.slot ≡ role.Clock
   clock-asked moment e = asked ∙ ap asker_of e
 
-  ended-under : IsEnded q r.want s t → is_suppressed s ≡ true
+  ended-under : IsEnded q (wanted_action r) s t → is_suppressed s ≡ true
   ended-under h = under-shelving s (ap is_some h.shelved)
 
-  named-good : (h : IsNamed q r.want i s t) → IsOutcome h.attr q.panel.now q.panel.next_stamp s (outcome q.panel.now q.panel.next_stamp r.want h.attr s)
+  named-good : (h : IsNamed q (wanted_action r) i s t) → IsOutcome h.attr q.panel.now q.panel.next_stamp s (outcome q.panel.now q.panel.next_stamp (wanted_action r) h.attr s)
   named-good h =
       let at = alarm-at q i s b.rules b.before in
       let same : at.attr ≡ h.attr = same_Some _ _ (sym at.has ∙ h.has) in
-      outcome-good h.attr q.panel.now q.panel.next_stamp r.want s (let f = b.rules.first_stamp in omega arith) state (subst (λ a. IsTrue (suits a.latching s.core)) same at.keeps.suits) h.takes.admitted
+      outcome-good h.attr q.panel.now q.panel.next_stamp (wanted_action r) s (let f = b.rules.first_stamp in omega arith) state (subst (λ a. IsTrue (suits a.latching s.core)) same at.keeps.suits) h.takes.admitted
 
-  ended-good : (h : IsEnded q r.want s t) → IsOutcome (alarm-at q i s b.rules b.before).attr q.panel.now h.stamp s (without_shelving h.stamp s)
+  ended-good : (h : IsEnded q (wanted_action r) s t) → IsOutcome (alarm-at q i s b.rules b.before).attr q.panel.now h.stamp s (without_shelving h.stamp s)
   ended-good h = unshelved-good (alarm-at q i s b.rules b.before).attr q.panel.now h.stamp s (let f = b.rules.first_stamp in let n = h.new in omega arith) state
 
   pub acknowledged-by : IsAcknowledgedByConsoleOrFlag r i s t
   acknowledged-by e f = elim moves [
-    | inl h ↦ elim (or-either (acknowledges r.want) (suppresses r.want) (acknowledged-only q.panel.now q.panel.next_stamp r.want h.attr s h.takes e (sym (ap (λ x. is_unacknowledged x.core) h.left) ∙ f))) [
-      | inl ack ↦ inl (asked ∙ acknowledges-console r.want ack, ack, h.named)
+    | inl h ↦ elim (or-either (acknowledges (wanted_action r)) (suppresses (wanted_action r)) (acknowledged-only q.panel.now q.panel.next_stamp (wanted_action r) h.attr s h.takes e (sym (ap (λ x. is_unacknowledged x.core) h.left) ∙ f))) [
+      | inl ack ↦ inl (asked ∙ acknowledges-console (wanted_action r) ack, ack, h.named)
       | inr flag ↦ inr (flag, h.named)
     ]
     | inr other ↦ elim other [
@@ -148,8 +154,8 @@ module _ (q : Condensed) (r : Request) (i : ℕ) (s t : State) (b : Becomes q r 
 
   pub reset-by : IsResetByConsoleOrFlag r i s t
   reset-by e f = elim moves [
-    | inl h ↦ elim (or-either (resets r.want) (suppresses r.want) (latched-until q.panel.now q.panel.next_stamp r.want h.attr s h.takes e (sym (ap (λ x. x.core) h.left) ∙ f))) [
-      | inl reset ↦ inl (asked ∙ resets-console r.want reset, reset, h.named)
+    | inl h ↦ elim (or-either (resets (wanted_action r)) (suppresses (wanted_action r)) (latched-until q.panel.now q.panel.next_stamp (wanted_action r) h.attr s h.takes e (sym (ap (λ x. x.core) h.left) ∙ f))) [
+      | inl reset ↦ inl (asked ∙ resets-console (wanted_action r) reset, reset, h.named)
       | inr flag ↦ inr (flag, h.named)
     ]
     | inr other ↦ elim other [
@@ -158,13 +164,13 @@ module _ (q : Condensed) (r : Request) (i : ℕ) (s t : State) (b : Becomes q r 
     ]
   ]
 
-  ended-shelving : IsEnded q r.want s t → t.shelved_until ≡ None
+  ended-shelving : IsEnded q (wanted_action r) s t → t.shelved_until ≡ None
   ended-shelving h = ap (λ x. x.shelved_until) h.left ∙ flags-shelving h.stamp (record s { shelved_until = None })
 
   pub shelving-ends-by : ShelvingEndsOnlyByUnshelveOrClock r i s t
   shelving-ends-by deadline e differs = elim moves [
-    | inl h ↦ elim (shelving-ends q.panel.now q.panel.next_stamp r.want h.attr s h.takes (ap is_some e)) [
-      | inl ended ↦ (ap (λ x. x.shelved_until) h.left ∙ ended.1, inl (asked ∙ unshelves-console r.want ended.0, ended.0, h.named))
+    | inl h ↦ elim (shelving-ends q.panel.now q.panel.next_stamp (wanted_action r) h.attr s h.takes (ap is_some e)) [
+      | inl ended ↦ (ap (λ x. x.shelved_until) h.left ∙ ended.1, inl (asked ∙ unshelves-console (wanted_action r) ended.0, ended.0, h.named))
       | inr same ↦ absurd (differs (ap (λ x. x.shelved_until) h.left ∙ same.1 ∙ e))
     ]
     | inr other ↦ elim other [
@@ -194,7 +200,7 @@ module _ (q : Condensed) (r : Request) (i : ℕ) (s t : State) (b : Becomes q r 
 
   pub freed-anew : FreedIsAnnunciatedAnew q s t
   freed-anew falls active = elim moves [
-    | inl h ↦ annunciated-here (outcome q.panel.now q.panel.next_stamp r.want h.attr s) q.panel.next_stamp h.left (annunciated-then q.panel.now q.panel.next_stamp r.want h.attr s h.takes) (annunciated-waits q.panel.now q.panel.next_stamp r.want h.attr s) (omega arith) falls active
+    | inl h ↦ annunciated-here (outcome q.panel.now q.panel.next_stamp (wanted_action r) h.attr s) q.panel.next_stamp h.left (annunciated-then q.panel.now q.panel.next_stamp (wanted_action r) h.attr s h.takes) (annunciated-waits q.panel.now q.panel.next_stamp (wanted_action r) h.attr s) (omega arith) falls active
     | inr other ↦ elim other [
       | inl h ↦ annunciated-here (without_shelving h.stamp s) h.stamp h.left (unshelved-then h.stamp s (ap is_some h.shelved)) (flags-waits h.stamp (record s { shelved_until = None })) h.new falls active
       | inr h ↦ absurd (no-fall (is_suppressed s) t.active (sym (ap (λ x. last_flag_falls s x) h.same) ∙ falls))
@@ -210,7 +216,7 @@ module _ (q : Condensed) (r : Request) (i : ℕ) (s t : State) (b : Becomes q r 
 
   pub annunciated-only : AnnunciatedOnlyThen s t
   annunciated-only loud differs = elim moves [
-    | inl h ↦ only-here (outcome q.panel.now q.panel.next_stamp r.want h.attr s) h.attr q.panel.next_stamp h.left (annunciated-then q.panel.now q.panel.next_stamp r.want h.attr s h.takes) (named-good h) loud differs
+    | inl h ↦ only-here (outcome q.panel.now q.panel.next_stamp (wanted_action r) h.attr s) h.attr q.panel.next_stamp h.left (annunciated-then q.panel.now q.panel.next_stamp (wanted_action r) h.attr s h.takes) (named-good h) loud differs
     | inr other ↦ elim other [
       | inl h ↦ only-here (without_shelving h.stamp s) (alarm-at q i s b.rules b.before).attr h.stamp h.left (unshelved-then h.stamp s (ap is_some h.shelved)) (ended-good h) loud differs
       | inr h ↦ absurd (differs (ap (λ x. x.stamp) h.same))
@@ -219,7 +225,7 @@ module _ (q : Condensed) (r : Request) (i : ℕ) (s t : State) (b : Becomes q r 
 
   pub others-stay : OthersStay r i s t
   others-stay named due = elim moves [
-    | inl h ↦ absurd (named (names-it r.want i h.timeless h.named))
+    | inl h ↦ absurd (named (names-it (wanted_action r) i h.timeless h.named))
     | inr other ↦ elim other [
       | inl h ↦ absurd (due h.deadline h.shelved (h.moment, h.clock, clock-asked h.moment h.clock, h.reached))
       | inr h ↦ h.same

@@ -7,8 +7,11 @@ use Rattle.alm_types.specs.declared.attr.Attr.{Attr}
 use Rattle.alm_types.specs.declared.action.Action.{Action}
 use Rattle.alm_types.specs.declared.action.Action.TheVariants.{Clock, Value, Ack, Reset, Shelve, Unshelve, Oos, Design, SetPriority, SetSetpoint}
 use Rattle.alm_types.specs.declared.refusal.Refusal.{Refusal}
-use Rattle.alm_types.specs.declared.refusal.Refusal.TheVariants.{NoSuchAlarm, NotUnacknowledged, NotResettable, AlreadyShelved, NotShelved, ShelveLength, AlreadySet, NotSet, NoChange, ClockBack, WrongRole, Busy, BadLine, LineTooLong, Stopped, OutOfMemory, NoSuchList, Exhausted, PriorityRange, SameValue}
+use Rattle.alm_types.specs.declared.refusal.Refusal.TheVariants.{NoSuchAlarm, NotUnacknowledged, NotResettable, AlreadyShelved, NotShelved, ShelveLength, AlreadySet, NotSet, NoChange, ClockBack, WrongRole, Busy, BadLine, LineTooLong, Stopped, OutOfMemory, NoSuchList, Exhausted, PriorityRange, SameValue, Forgotten, AnnunciatedAgain}
 use Rattle.alm_types.specs.declared.request.Request.{Request}
+use Rattle.alm_types.specs.declared.want.Want.{Want}
+use Rattle.alm_types.specs.declared.want.Want.TheVariants.{Do, AckSeen}
+use Rattle.alm_types.specs.Wants.{wanted_action}
 use Rattle.alm_types.specs.declared.role.Role.{Role}
 use Rattle.alm_types.specs.declared.role.Role.TheVariants as role
 use Rattle.alm_types.specs.Actions.{alarm_of}
@@ -20,13 +23,14 @@ use Rattle.alm_state.specs.Detection.{detection_of}
 use Rattle.alm_state.specs.Outcome.{row_refusal, flag_refusal, unless, or_else}
 use Rattle.alm_state.specs.Table.{next_core}
 use Rattle.alm_state.specs.declared.happening.Happening.TheVariants as happening
-use Rattle.alm_model.specs.Plant.{Condensed}
-use Rattle.alm_model.specs.Accept.{accept, answer, may_ask, own_refusal, alarm_refusal}
+use Rattle.alm_model.specs.Plant.{Condensed, Panel}
+use Rattle.alm_model.specs.Lists.{stamp_of}
+use Rattle.alm_model.specs.Accept.{accept, answer, may_ask, own_refusal, alarm_refusal, refusal, stamp_refusal}
 use Rattle.alm_model.specs.Rules.{KeepsRules}
 use Rattle.alm_laws.specs.Alarm.{is_unacknowledged, is_latched}
 use Rattle.alm_laws.specs.Left.{condition_left}
 use Rattle.alm_laws.specs.Plant.{asker_of}
-use Rattle.alm_laws.specs.Refused.{where_so, alarm_reasons, reasons_at, own_reasons, same_role, reasons, judged_by, all_refusals}
+use Rattle.alm_laws.specs.Refused.{where_so, alarm_reasons, reasons_at, own_reasons, same_role, stamp_reasons, reasons, judged_by, all_refusals}
 use Rattle.alm_laws.specs.Table.{agree}
 use Rattle.alm_laws.proofs.AlarmLaws.{acknowledge-taken, resets-taken}
 use Rattle.alm_laws.proofs.Taken.{taken-by, value-taken, length-taken, fits-at}
@@ -142,18 +146,28 @@ regroup : (a b c : Option Refusal) → or_else (or_else a b) c ≡ or_else a (or
 regroup None b c = refl
 regroup (Some r) b c = refl
 
-pub first-reason : (q : Condensed) (r : Request) → KeepsRules q → accept q.panel r ≡ judged_by r.want (reasons q.panel r)
+stamp-so : (p : Panel) (w : Want) → first_of_all (stamp_reasons p w) ≡ stamp_refusal p w
+stamp-so p (Do a) = refl
+stamp-so p (AckSeen i stamp) = first-so (not (stamp_of p i.0 == stamp)) (stamp_of p i.0 == stamp) AnnunciatedAgain (twice (stamp_of p i.0 == stamp))
+
+pub first-reason : (q : Condensed) (r : Request) → KeepsRules q → accept q.panel r ≡ judged_by (wanted_action r) (reasons q.panel r)
 first-reason q r h =
-    let role_so = first-so (not (same_role (role_of r.slot) (asker_of r.want))) (may_ask (role_of r.slot) r.want) WrongRole (may-so (role_of r.slot) r.want ∙ twice (same_role (role_of r.slot) (asker_of r.want))) in
+    let role_so = first-so (not (same_role (role_of r.slot) (asker_of (wanted_action r)))) (may_ask (role_of r.slot) (wanted_action r)) WrongRole (may-so (role_of r.slot) (wanted_action r) ∙ twice (same_role (role_of r.slot) (asker_of (wanted_action r)))) in
     let number_so = first-so (not (nat_lt q.panel.count most_actions)) (nat_lt q.panel.count most_actions) Exhausted (twice (nat_lt q.panel.count most_actions)) in
-    let a : List Refusal = where_so (not (same_role (role_of r.slot) (asker_of r.want))) WrongRole in
-    let b : List Refusal = own_reasons q.panel r.want in
+    let a : List Refusal = where_so (not (same_role (role_of r.slot) (asker_of (wanted_action r)))) WrongRole in
+    let b : List Refusal = own_reasons q.panel (wanted_action r) in
     let c : List Refusal = where_so (not (nat_lt q.panel.count most_actions)) Exhausted in
-    let joined : first_of_all (a ++ b ++ c) ≡ or_else (first_of_all a) (or_else (first_of_all b) (first_of_all c)) =
+    let d : List Refusal = stamp_reasons q.panel r.want in
+    let three : first_of_all (a ++ b ++ c) ≡ or_else (first_of_all a) (or_else (first_of_all b) (first_of_all c)) =
     first-join (a ++ b) c ∙ ap (λ o. or_else o (first_of_all c)) (first-join a b) ∙ regroup (first_of_all a) (first_of_all b) (first_of_all c) in
-    sym (judged-so r.want (reasons q.panel r) ∙ ap (answer r.want)
-    (joined ∙ ap (λ o. or_else o (or_else (first_of_all b) (first_of_all c))) role_so ∙ ap (λ o. or_else (unless (may_ask (role_of r.slot) r.want) WrongRole) (or_else o (first_of_all c))) (own-so q r.want h)
-    ∙ ap (λ o. or_else (unless (may_ask (role_of r.slot) r.want) WrongRole) (or_else (own_refusal q.panel r.want) o)) number_so))
+    let joined : first_of_all (a ++ b ++ c ++ d) ≡ or_else (first_of_all a) (or_else (or_else (first_of_all b) (first_of_all c)) (first_of_all d)) =
+    first-join (a ++ b ++ c) d ∙ ap (λ o. or_else o (first_of_all d)) three ∙ regroup (first_of_all a) (or_else (first_of_all b) (first_of_all c)) (first_of_all d) in
+    let asks = unless (may_ask (role_of r.slot) (wanted_action r)) WrongRole in
+    sym (judged-so (wanted_action r) (reasons q.panel r) ∙ ap (answer (wanted_action r))
+    (joined ∙ ap (λ o. or_else o (or_else (or_else (first_of_all b) (first_of_all c)) (first_of_all d))) role_so
+    ∙ ap (λ o. or_else asks (or_else (or_else o (first_of_all c)) (first_of_all d))) (own-so q (wanted_action r) h)
+    ∙ ap (λ o. or_else asks (or_else (or_else (own_refusal q.panel (wanted_action r)) o) (first_of_all d))) number_so
+    ∙ ap (λ o. or_else asks (or_else (refusal q.panel (wanted_action r)) o)) (stamp-so q.panel r.want)))
 
 -- ---- the numbers
 
@@ -178,3 +192,5 @@ each-numbered NoSuchList = (16, omega arith, refl)
 each-numbered Exhausted = (17, omega arith, refl)
 each-numbered PriorityRange = (18, omega arith, refl)
 each-numbered SameValue = (19, omega arith, refl)
+each-numbered Forgotten = (20, omega arith, refl)
+each-numbered AnnunciatedAgain = (21, omega arith, refl)

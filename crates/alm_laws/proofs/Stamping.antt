@@ -21,11 +21,11 @@ use Rattle.alm_laws.specs.Alarm.{row_left, shelves}
 use Rattle.alm_model.specs.Plant.{Panel, RecordedPlant, Condensed}
 use Rattle.alm_model.specs.Accept.{refusal, own_refusal, alarm_refusal}
 use Rattle.alm_model.specs.Keeping.{in_full}
-use Rattle.alm_model.specs.Lists.{due, key_of, stamp, stands_in, passes, list_of}
+use Rattle.alm_model.specs.Lists.{due, key_of, stamp, stands_in, passes, list_of, stamp_of}
 use Rattle.alm_model.specs.declared.list.List.TheVariants.{Priority}
 use Rattle.alm_model.specs.Counted.{run_whole}
 use Rattle.alm_model.specs.Step.{with_outcome, with_touched_alarm, touch, unshelve, later, with_effect, with_one_more, step, run, after}
-use Rattle.alm_model.specs.Rules.{KeepsRules, AreAdmitted, stamp_of}
+use Rattle.alm_model.specs.Rules.{KeepsRules, AreAdmitted}
 use Rattle.alm_model.proofs.Kept.{there, step-keeps, run-keeps}
 use Rattle.alm_model.proofs.Listed.{listed-members}
 use Rattle.alm_model.proofs.Runs.{run_sizes}

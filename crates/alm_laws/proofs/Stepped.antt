@@ -13,9 +13,8 @@ use Rattle.alm_state.specs.declared.outcome.Outcome.{Outcome}
 use Rattle.alm_state.specs.declared.outcome.Outcome.TheVariants.{Changed, Annunciated, Shelved}
 use Rattle.alm_model.specs.Plant.{Panel, Condensed}
 use Rattle.alm_model.specs.Keeping.{in_brief, area_in, area_of, one_younger, recent, change, with_change}
-use Rattle.alm_model.specs.Lists.{key_of, stamp}
+use Rattle.alm_model.specs.Lists.{key_of, stamp, stamp_of}
 use Rattle.alm_model.specs.Step.{with_outcome, with_touched_alarm, touch, unshelve}
-use Rattle.alm_model.specs.Rules.{stamp_of}
 use Rattle.alm_model.proofs.Measured.{change-off}
 use Rattle.alm_model.proofs.Members.{Has, Has-filter, filter-Has}
 use Rattle.alm_model.proofs.Stamps.{get-set-same}

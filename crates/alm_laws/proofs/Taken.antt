@@ -1,16 +1,19 @@
 -- What an alarm takes, and which requests are accepted.
-use Rattle.std.proofs.Common.{◌≡◌, ℕ, ℤ, Bool, true, false, not, ◌&&◌, ◌||◌, cond, is_some, is_none, IsTrue, Option, Some, None, Ok, refl, sym, ap, ◌∙◌, subst, arith, true≢false}
+use Rattle.std.proofs.Common.{◌≡◌, ℕ, ℤ, Bool, true, false, not, ◌&&◌, ◌||◌, cond, is_some, is_none, IsTrue, Option, Some, None, Ok, refl, sym, ap, ◌∙◌, subst, arith, true≢false, eq-eqb}
 use Rattle.std.specs.Prelude.{◌↔◌, slice_get, nat_lt, nat_le, ◌==◌}
 use Rattle.std.specs.Ordering.{int_eq}
-use Rattle.std.proofs.lemmas.Bool.{lt-ltb, ltb-true}
+use Rattle.std.proofs.lemmas.Bool.{lt-ltb, ltb-true, eqb-true}
 use Rattle.std.proofs.lemmas.Bool.Decides.{nat_tests}
 use Rattle.std.proofs.lemmas.Option.{none-some, same_Some}
 use Rattle.alm_types.specs.declared.attr.Attr.{Attr}
 use Rattle.alm_types.specs.declared.action.Action.{Action}
 use Rattle.alm_types.specs.declared.action.Action.TheVariants.{Clock, Value, Ack, Reset, Shelve, Unshelve, Oos, Design, SetPriority, SetSetpoint}
 use Rattle.alm_types.specs.declared.refusal.Refusal.{Refusal}
-use Rattle.alm_types.specs.declared.refusal.Refusal.TheVariants.{WrongRole, Exhausted, NoChange, AlreadyShelved, ShelveLength, PriorityRange, SameValue, ClockBack}
+use Rattle.alm_types.specs.declared.refusal.Refusal.TheVariants.{WrongRole, Exhausted, NoChange, AlreadyShelved, ShelveLength, PriorityRange, SameValue, ClockBack, AnnunciatedAgain}
 use Rattle.alm_types.specs.declared.request.Request.{Request}
+use Rattle.alm_types.specs.declared.want.Want.{Want}
+use Rattle.alm_types.specs.declared.want.Want.TheVariants.{Do, AckSeen}
+use Rattle.alm_types.specs.Wants.{wanted_action}
 use Rattle.alm_types.specs.Actions.{alarm_of}
 use Rattle.alm_types.specs.Slots.{role_of}
 use Rattle.alm_types.specs.Sizes.{most_actions}
@@ -19,16 +22,17 @@ use Rattle.alm_state.specs.Suits.{suits}
 use Rattle.alm_state.specs.Detection.{detection_of}
 use Rattle.alm_state.specs.Outcome.{row_refusal, flag_refusal, unless, or_else}
 use Rattle.alm_model.specs.Plant.{Panel, Condensed}
-use Rattle.alm_model.specs.Accept.{accept, answer, may_ask, refusal, own_refusal, alarm_refusal}
+use Rattle.alm_model.specs.Accept.{accept, answer, may_ask, refusal, own_refusal, alarm_refusal, stamp_refusal}
+use Rattle.alm_model.specs.Lists.{stamp_of}
 use Rattle.alm_model.specs.Rules.{KeepsRules}
 use Rattle.alm_laws.specs.Left.{is_beyond, is_back}
 use Rattle.alm_laws.specs.Plant.{asker_of}
 use Rattle.alm_laws.specs.Table.{agree}
-use Rattle.alm_laws.specs.Taken.{is_taken, IsPossible, IsAcceptable}
+use Rattle.alm_laws.specs.Taken.{is_taken, IsPossible, IsAcceptable, NamesStanding}
 use Rattle.alm_laws.proofs.AlarmLaws.{acknowledge-taken, resets-taken, unless-none}
 use Rattle.alm_laws.proofs.Left.{comes-is, goes-is, back-isnt}
 use Rattle.alm_laws.proofs.Moving.{alarm-at}
-use Rattle.alm_laws.proofs.Plants.{accepted-parts, asked-by, both-none}
+use Rattle.alm_laws.proofs.Plants.{accepted-parts, standing-part, asked-by, both-none}
 
 -- ---- one alarm
 
@@ -154,23 +158,33 @@ may-ask (Design i on) = refl
 may-ask (SetPriority i n) = refl
 may-ask (SetSetpoint i v) = refl
 
-pub acceptable-by : (q : Condensed) (r : Request) → KeepsRules q → accept q.panel r ≡ Ok r.want → IsAcceptable q.panel r
+stands-by : (p : Panel) (w : Want) → stamp_refusal p w ≡ None → NamesStanding p w
+stands-by p (Do a) e = tt
+stands-by p (AckSeen i stamp) e = eqb-true (stamp_of p i.0) stamp (unless-none (stamp_of p i.0 == stamp) AnnunciatedAgain e)
+
+stands-so : (p : Panel) (w : Want) → NamesStanding p w → stamp_refusal p w ≡ None
+stands-so p (Do a) h = refl
+stands-so p (AckSeen i stamp) h = ap (λ b. unless b AnnunciatedAgain) (eq-eqb (stamp_of p i.0) stamp h)
+
+pub acceptable-by : (q : Condensed) (r : Request) → KeepsRules q → accept q.panel r ≡ Ok (wanted_action r) → IsAcceptable q.panel r
 acceptable-by q r h e =
-    let free = both-none (own_refusal q.panel r.want) (unless (nat_lt q.panel.count most_actions) Exhausted) (accepted-parts q.panel r e).1 in
+    let free = both-none (own_refusal q.panel (wanted_action r)) (unless (nat_lt q.panel.count most_actions) Exhausted) (accepted-parts q.panel r e).1 in
     record {
       asker = asked-by q.panel r e;
-      possible = possible-by q r.want h free.0;
+      possible = possible-by q (wanted_action r) h free.0;
       number = ltb-true q.panel.count most_actions (unless-none (nat_lt q.panel.count most_actions) Exhausted free.1);
+      standing = stands-by q.panel r.want (standing-part q.panel r e);
     }
 
-pub acceptable-so : (q : Condensed) (r : Request) → KeepsRules q → IsAcceptable q.panel r → accept q.panel r ≡ Ok r.want
+pub acceptable-so : (q : Condensed) (r : Request) → KeepsRules q → IsAcceptable q.panel r → accept q.panel r ≡ Ok (wanted_action r)
 acceptable-so q r h k =
-    let asks : may_ask (role_of r.slot) r.want ≡ true = ap (λ x. may_ask x r.want) k.asker ∙ may-ask r.want in
+    let asks : may_ask (role_of r.slot) (wanted_action r) ≡ true = ap (λ x. may_ask x (wanted_action r)) k.asker ∙ may-ask (wanted_action r) in
     let numbered : nat_lt q.panel.count most_actions ≡ true = lt-ltb q.panel.count most_actions k.number in
-    ap (answer r.want)
-    (ap (λ b. or_else (unless b WrongRole) (refusal q.panel r.want)) asks
-    ∙ ap (λ o. or_else o (unless (nat_lt q.panel.count most_actions) Exhausted)) (possible-own q r.want h k.possible)
-    ∙ ap (λ b. unless b Exhausted) numbered)
+    ap (answer (wanted_action r))
+    (ap (λ b. or_else (unless b WrongRole) (or_else (refusal q.panel (wanted_action r)) (stamp_refusal q.panel r.want))) asks
+    ∙ ap (λ o. or_else (or_else o (unless (nat_lt q.panel.count most_actions) Exhausted)) (stamp_refusal q.panel r.want)) (possible-own q (wanted_action r) h k.possible)
+    ∙ ap (λ b. or_else (unless b Exhausted) (stamp_refusal q.panel r.want)) numbered
+    ∙ stands-so q.panel r.want k.standing)
 
-pub accepted-so : (q : Condensed) (r : Request) → KeepsRules q → (accept q.panel r ≡ Ok r.want) ↔ IsAcceptable q.panel r
+pub accepted-so : (q : Condensed) (r : Request) → KeepsRules q → (accept q.panel r ≡ Ok (wanted_action r)) ↔ IsAcceptable q.panel r
 accepted-so q r h = (acceptable-by q r h, acceptable-so q r h)

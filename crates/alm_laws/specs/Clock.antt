@@ -3,12 +3,13 @@ use Rattle.std.specs.Prelude.{◌≡◌, ◌⊎◌, ◌<◌, ◌≤◌, ℕ, tru
 use Rattle.alm_types.specs.declared.attr.Attr.{Attr}
 use Rattle.alm_types.specs.declared.action.Action.TheVariants.{Clock}
 use Rattle.alm_types.specs.declared.request.Request.{Request}
+use Rattle.alm_types.specs.Wants.{wanted_action}
 use Rattle.alm_state.specs.Rows.{State, is_annunciated}
 
 -- of two shelvings that one CLOCK ends, the one with the earlier deadline is annunciated first; at one deadline, the lower number
 abbrev pub EndInOrder : Request → ℕ → State → State → ℕ → State → State → Type 0
 EndInOrder r i s t j u v =
-    (moment first second : ℕ) → r.want ≡ Clock moment → s.shelved_until ≡ Some first → u.shelved_until ≡ Some second → second ≤ moment
+    (moment first second : ℕ) → (wanted_action r) ≡ Clock moment → s.shelved_until ≡ Some first → u.shelved_until ≡ Some second → second ≤ moment
     → (first < second) ⊎ ((first ≡ second) × (i < j)) → is_annunciated t.core ≡ true → is_annunciated v.core ≡ true → t.stamp < v.stamp
 
 -- the same attributes, the priority aside

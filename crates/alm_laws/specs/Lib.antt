@@ -11,3 +11,4 @@ pub mod Shown
 pub mod Steps
 pub mod Table
 pub mod Taken
+pub mod Untouched

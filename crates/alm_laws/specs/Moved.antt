@@ -5,6 +5,7 @@ use Rattle.alm_types.specs.declared.alarm_id.AlarmId.{AlarmId}
 use Rattle.alm_types.specs.declared.action.Action.{Action}
 use Rattle.alm_types.specs.declared.action.Action.TheVariants.{Shelve, Unshelve}
 use Rattle.alm_types.specs.declared.request.Request.{Request}
+use Rattle.alm_types.specs.Wants.{wanted_action}
 use Rattle.alm_state.specs.Rows.{State, is_annunciated}
 use Rattle.alm_state.specs.declared.core_state.Core.TheVariants.{Normal}
 use Rattle.alm_state.specs.declared.outcome.Outcome.{Outcome}
@@ -15,7 +16,7 @@ use Rattle.alm_laws.specs.Plant.{Names, ConsoleAsks, FlagIsSet, ClockReaches}
 
 -- the alarm that is named is left as the laws of one alarm say, with the next stamp at hand
 abbrev pub LeftByItsAction : Condensed → Request → ℕ → Attr → State → State → Type 0
-LeftByItsAction q r i a s t = Names r.want i → (o : Outcome) × IsLeft q.panel.now q.panel.next_stamp r.want a s o × (t ≡ row_left o)
+LeftByItsAction q r i a s t = Names (wanted_action r) i → (o : Outcome) × IsLeft q.panel.now q.panel.next_stamp (wanted_action r) a s o × (t ≡ row_left o)
 
 -- one whose deadline has come is left as by UNSHELVE, with a new stamp at hand
 abbrev pub LeftByTheClock : Condensed → Request → Attr → State → State → Type 0
@@ -35,11 +36,11 @@ seconds_of _ = 0
 -- a shelving ends just as many seconds after now as a console asked
 abbrev pub ShelvedAsAsked : Condensed → Request → ℕ → State → State → Type 0
 ShelvedAsAsked q r i s t =
-    s.shelved_until ≡ None → (deadline : ℕ) → t.shelved_until ≡ Some deadline → ConsoleAsks shelves r i × (deadline ≡ q.panel.now + seconds_of r.want)
+    s.shelved_until ≡ None → (deadline : ℕ) → t.shelved_until ≡ Some deadline → ConsoleAsks shelves r i × (deadline ≡ q.panel.now + seconds_of (wanted_action r))
 
 -- the other flags of the alarm that is named are as they were asked
 abbrev pub FlaggedAsAsked : Request → ℕ → State → State → Type 0
-FlaggedAsAsked r i s t = Names r.want i → (t.by_design ≡ design_left r.want s.by_design) × (t.out_of_service ≡ service_left r.want s.out_of_service)
+FlaggedAsAsked r i s t = Names (wanted_action r) i → (t.by_design ≡ design_left (wanted_action r) s.by_design) × (t.out_of_service ≡ service_left (wanted_action r) s.out_of_service)
 
 -- an alarm without a condition, a flag or a stamp
 pub record IsOfNewPlant (s : State) : Type 0 where

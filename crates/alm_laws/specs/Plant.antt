@@ -4,6 +4,7 @@ use Rattle.alm_types.specs.declared.attr.Attr.{Attr}
 use Rattle.alm_types.specs.declared.action.Action.{Action}
 use Rattle.alm_types.specs.declared.action.Action.TheVariants.{Clock, Value, Ack, Reset, Shelve, Unshelve, Oos, Design, SetPriority, SetSetpoint}
 use Rattle.alm_types.specs.declared.request.Request.{Request}
+use Rattle.alm_types.specs.Wants.{wanted_action}
 use Rattle.alm_types.specs.declared.role.Role.{Role}
 use Rattle.alm_types.specs.declared.role.Role.TheVariants as role
 use Rattle.alm_types.specs.Actions.{alarm_of}
@@ -14,14 +15,15 @@ use Rattle.alm_laws.specs.Alarm.{is_unacknowledged, is_latched, acknowledges, re
 use Rattle.alm_model.specs.Plant.{Panel, RecordedPlant, Condensed}
 use Rattle.alm_model.specs.Accept.{accept, refusal}
 use Rattle.alm_model.specs.Step.{step, after}
-use Rattle.alm_model.specs.Rules.{KeepsRules, stamp_of}
+use Rattle.alm_model.specs.Rules.{KeepsRules}
+use Rattle.alm_model.specs.Lists.{stamp_of}
 
 -- a plant that keeps the rules accepts a request, by which an alarm's row becomes another
 pub record Becomes (q : Condensed) (r : Request) (i : ℕ) (s t : State) : Type 0 where
   pub rules : KeepsRules q
-  pub accepted : accept q.panel r ≡ Ok r.want
+  pub accepted : accept q.panel r ≡ Ok (wanted_action r)
   pub before : slice_get q.panel.rows i ≡ Some s
-  pub after : slice_get (step q r.want).panel.rows i ≡ Some t
+  pub after : slice_get (step q (wanted_action r)).panel.rows i ≡ Some t
 
 -- an alarm of a plant that keeps the rules
 pub record IsAlarmOf (q : Condensed) (i : ℕ) (a : Attr) (s : State) : Type 0 where
@@ -44,15 +46,15 @@ asker_of (SetSetpoint i setpoint) = role.Console
 
 -- a console asks for what passes a test, and names the alarm
 abbrev pub ConsoleAsks : (Action → Bool) → Request → ℕ → Type 0
-ConsoleAsks test r i = (role_of r.slot ≡ role.Console) × (test r.want ≡ true) × (alarm_of r.want ≡ i)
+ConsoleAsks test r i = (role_of r.slot ≡ role.Console) × (test (wanted_action r) ≡ true) × (alarm_of (wanted_action r) ≡ i)
 
 -- a flag of the alarm is set
 abbrev pub FlagIsSet : Request → ℕ → Type 0
-FlagIsSet r i = (suppresses r.want ≡ true) × (alarm_of r.want ≡ i)
+FlagIsSet r i = (suppresses (wanted_action r) ≡ true) × (alarm_of (wanted_action r) ≡ i)
 
 -- the clock comes to a shelving's deadline, or past it
 abbrev pub ClockReaches : Request → ℕ → Type 0
-ClockReaches r deadline = (t : ℕ) × (r.want ≡ Clock t) × (role_of r.slot ≡ role.Clock) × (deadline ≤ t)
+ClockReaches r deadline = (t : ℕ) × ((wanted_action r) ≡ Clock t) × (role_of r.slot ≡ role.Clock) × (deadline ≤ t)
 
 -- only the operator acknowledges: an alarm leaves the unacknowledged states by a console's ACK, or by a flag that is
 -- set
@@ -91,11 +93,11 @@ Names action i = alarm_of action ≡ i
 
 -- an alarm that is neither named nor due stays as it is
 abbrev pub OthersStay : Request → ℕ → State → State → Type 0
-OthersStay r i s t = (Names r.want i → ⊥) → ((deadline : ℕ) → s.shelved_until ≡ Some deadline → ClockReaches r deadline → ⊥) → t ≡ s
+OthersStay r i s t = (Names (wanted_action r) i → ⊥) → ((deadline : ℕ) → s.shelved_until ≡ Some deadline → ClockReaches r deadline → ⊥) → t ≡ s
 
 -- the feed asks for what passes a test, and names the alarm
 abbrev pub FeedAsks : (Action → Bool) → Request → ℕ → Type 0
-FeedAsks test r i = (role_of r.slot ≡ role.Feed) × (test r.want ≡ true) × (alarm_of r.want ≡ i)
+FeedAsks test r i = (role_of r.slot ≡ role.Feed) × (test (wanted_action r) ≡ true) × (alarm_of (wanted_action r) ≡ i)
 
 abbrev pub moves_service : Action → Bool
 moves_service (Oos i on) = true
@@ -130,11 +132,11 @@ ConditionOnlyByTheFeed r i s t = t.active ≢ s.active → FeedAsks sends_value 
 
 -- only the clock slot moves the time
 abbrev pub TimeOnlyByTheClock : Condensed → Request → Type 0
-TimeOnlyByTheClock q r = (step q r.want).panel.now ≢ q.panel.now → role_of r.slot ≡ role.Clock
+TimeOnlyByTheClock q r = (step q (wanted_action r)).panel.now ≢ q.panel.now → role_of r.slot ≡ role.Clock
 
 -- only a console gives an alarm other attributes
 abbrev pub AttributesOnlyByAConsole : Condensed → Request → ℕ → Type 0
-AttributesOnlyByAConsole q r i = slice_get (step q r.want).panel.attrs i ≢ slice_get q.panel.attrs i → ConsoleAsks configures r i
+AttributesOnlyByAConsole q r i = slice_get (step q (wanted_action r)).panel.attrs i ≢ slice_get q.panel.attrs i → ConsoleAsks configures r i
 
 -- an alarm keeps its stamp, has none, or one that no alarm had before
 abbrev pub StampsAreNew : Panel → Panel → Type 0

@@ -5,8 +5,11 @@ use Rattle.alm_types.specs.declared.attr.Attr.{Attr}
 use Rattle.alm_types.specs.declared.action.Action.{Action}
 use Rattle.alm_types.specs.declared.action.Action.TheVariants.{Clock, Value, Ack, Reset, Shelve, Unshelve, Oos, Design, SetPriority, SetSetpoint}
 use Rattle.alm_types.specs.declared.refusal.Refusal.{Refusal}
-use Rattle.alm_types.specs.declared.refusal.Refusal.TheVariants.{NoSuchAlarm, NotUnacknowledged, NotResettable, AlreadyShelved, NotShelved, ShelveLength, AlreadySet, NotSet, NoChange, ClockBack, WrongRole, Busy, BadLine, LineTooLong, Stopped, OutOfMemory, NoSuchList, Exhausted, PriorityRange, SameValue}
+use Rattle.alm_types.specs.declared.refusal.Refusal.TheVariants.{NoSuchAlarm, NotUnacknowledged, NotResettable, AlreadyShelved, NotShelved, ShelveLength, AlreadySet, NotSet, NoChange, ClockBack, WrongRole, Busy, BadLine, LineTooLong, Stopped, OutOfMemory, NoSuchList, Exhausted, PriorityRange, SameValue, Forgotten, AnnunciatedAgain}
 use Rattle.alm_types.specs.declared.request.Request.{Request}
+use Rattle.alm_types.specs.declared.want.Want.{Want}
+use Rattle.alm_types.specs.declared.want.Want.TheVariants.{Do, AckSeen}
+use Rattle.alm_types.specs.Wants.{wanted_action}
 use Rattle.alm_types.specs.declared.role.Role.{Role}
 use Rattle.alm_types.specs.declared.role.Role.TheVariants as role
 use Rattle.alm_types.specs.Actions.{alarm_of}
@@ -14,6 +17,7 @@ use Rattle.alm_types.specs.Sizes.{most_actions}
 use Rattle.alm_types.specs.Slots.{role_of}
 use Rattle.alm_state.specs.Rows.{State}
 use Rattle.alm_model.specs.Plant.{Panel}
+use Rattle.alm_model.specs.Lists.{stamp_of}
 use Rattle.alm_laws.specs.Alarm.{is_unacknowledged, is_latched}
 use Rattle.alm_laws.specs.Left.{condition_left}
 use Rattle.alm_laws.specs.Plant.{asker_of}
@@ -52,10 +56,15 @@ same_role role.Feed role.Feed = true
 same_role role.Clock role.Clock = true
 same_role _ _ = false
 
--- all of them: the slot's role, then these, then that no action number is left
+-- the alarm was annunciated again since the annunciation that is to be acknowledged
+abbrev pub stamp_reasons : Panel → Want → List Refusal
+stamp_reasons p (Do a) = []
+stamp_reasons p (AckSeen i stamp) = where_so (not (stamp_of p i.0 == stamp)) AnnunciatedAgain
+
+-- all of them: the slot's role, then these, then that no action number is left, and last the stamp
 abbrev pub reasons : Panel → Request → List Refusal
 reasons p r =
-    where_so (not (same_role (role_of r.slot) (asker_of r.want))) WrongRole ++ own_reasons p r.want ++ where_so (not (nat_lt p.count most_actions)) Exhausted
+    where_so (not (same_role (role_of r.slot) (asker_of (wanted_action r)))) WrongRole ++ own_reasons p (wanted_action r) ++ where_so (not (nat_lt p.count most_actions)) Exhausted ++ stamp_reasons p r.want
 
 -- a request is accepted without a reason against it, and else refused for the first
 abbrev pub judged_by : Action → List Refusal → Result Action Refusal
@@ -66,4 +75,4 @@ judged_by action (first ∷ others) = Err first
 abbrev pub all_refusals : List Refusal
 all_refusals =
     NoSuchAlarm ∷ NotUnacknowledged ∷ NotResettable ∷ AlreadyShelved ∷ NotShelved ∷ ShelveLength ∷ AlreadySet ∷ NotSet ∷ NoChange ∷ ClockBack
-    ∷ WrongRole ∷ Busy ∷ BadLine ∷ LineTooLong ∷ Stopped ∷ OutOfMemory ∷ NoSuchList ∷ Exhausted ∷ PriorityRange ∷ SameValue ∷ []
+    ∷ WrongRole ∷ Busy ∷ BadLine ∷ LineTooLong ∷ Stopped ∷ OutOfMemory ∷ NoSuchList ∷ Exhausted ∷ PriorityRange ∷ SameValue ∷ Forgotten ∷ AnnunciatedAgain ∷ []

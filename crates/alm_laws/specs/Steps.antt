@@ -4,12 +4,13 @@ use Rattle.alm_types.specs.declared.attr.Attr.{Attr}
 use Rattle.alm_types.specs.declared.action.Action.{Action}
 use Rattle.alm_types.specs.declared.action.Action.TheVariants.{Clock, SetPriority, SetSetpoint}
 use Rattle.alm_types.specs.declared.request.Request.{Request}
+use Rattle.alm_types.specs.Wants.{wanted_action}
 use Rattle.alm_types.specs.Actions.{alarm_of}
 use Rattle.alm_types.specs.Readings.{is_reading}
 use Rattle.alm_lists.specs.Orders.{Precedes}
 use Rattle.alm_state.specs.Rows.{State}
 use Rattle.alm_model.specs.Plant.{Condensed}
-use Rattle.alm_model.specs.Rules.{stamp_of}
+use Rattle.alm_model.specs.Lists.{stamp_of}
 use Rattle.alm_laws.specs.Alarm.{shelves}
 use Rattle.alm_laws.specs.Left.{is_annunciated_then}
 use Rattle.alm_laws.specs.Listed.{is_flooded_by}
@@ -32,13 +33,13 @@ IsAnnunciatedBy q action i =
     (a : Attr) × (s : State) × (slice_get q.panel.attrs i ≡ Some a) × (slice_get q.panel.rows i ≡ Some s) × (is_annunciated_by q.panel.now action i a s ≡ true)
 
 -- the deadline of an alarm's shelving, 0 without one
-abbrev pub deadline_at : Option State → ℕ
-deadline_at None = 0
-deadline_at (Some s) = unwrap_or s.shelved_until 0
+abbrev pub shelving_end : Option State → ℕ
+shelving_end None = 0
+shelving_end (Some s) = unwrap_or s.shelved_until 0
 
 -- the list has just the alarms that an action annunciates, by deadline, then by number
 pub record AreAnnunciatedInOrder (q : Condensed) (action : Action) (list : List ℕ) : Type 0 where
-  pub order : AllPairs (Precedes (λ i. deadline_at (slice_get q.panel.rows i))) list
+  pub order : AllPairs (Precedes (λ i. shelving_end (slice_get q.panel.rows i))) list
   pub those : (i : ℕ) → Contains list i ↔ IsAnnunciatedBy q action i
 
 -- the moment: as a CLOCK names it
@@ -88,16 +89,16 @@ pub record IsAsLarge (q p : Condensed) : Type 0 where
 
 -- the plant p is what a request leaves of q, if it annunciates the alarms of the list, in their order
 pub record IsLeftWith (q : Condensed) (r : Request) (list : List ℕ) (p : Condensed) : Type 0 where
-  pub moment : p.panel.now ≡ moment_left r.want q.panel.now
+  pub moment : p.panel.now ≡ moment_left (wanted_action r) q.panel.now
   pub count : p.panel.count ≡ q.panel.count + 1
   pub large : IsAsLarge q p
-  pub attrs : (i : ℕ) (a b : Attr) → slice_get q.panel.attrs i ≡ Some a → slice_get p.panel.attrs i ≡ Some b → AttrLeft r.want i a b
+  pub attrs : (i : ℕ) (a b : Attr) → slice_get q.panel.attrs i ≡ Some a → slice_get p.panel.attrs i ≡ Some b → AttrLeft (wanted_action r) i a b
   -- each alarm: the one that is named, one whose shelving ends, any other
   pub rows : (i : ℕ) (a : Attr) (s t : State) → slice_get q.panel.attrs i ≡ Some a → slice_get q.panel.rows i ≡ Some s → slice_get p.panel.rows i ≡ Some t
       → LeftByItsAction q r i a s t × LeftByTheClock q r a s t × OthersStay r i s t
   -- stamps: the next ones, in order, one for each annunciation and one for a shelving
   pub stamps : (k i : ℕ) → slice_get list k ≡ Some i → stamp_of p.panel i ≡ q.panel.next_stamp + k
-  pub next_stamp : p.panel.next_stamp ≡ q.panel.next_stamp + length list + (if shelves r.want then 1 else 0)
+  pub next_stamp : p.panel.next_stamp ≡ q.panel.next_stamp + length list + (if shelves (wanted_action r) then 1 else 0)
   -- the last three annunciations of each alarm
   pub annunciated : (i : ℕ) (before : List ℕ) → Contains list i → slice_get q.kept.moments i ≡ Some before → slice_get p.kept.moments i ≡ Some (take 3 (p.panel.now ∷ before))
   pub silent : (i : ℕ) → (Contains list i → ⊥) → slice_get p.kept.moments i ≡ slice_get q.kept.moments i
@@ -109,4 +110,4 @@ pub record IsLeftWith (q : Condensed) (r : Request) (list : List ℕ) (p : Conde
 
 -- and it annunciates just those
 abbrev pub IsLeftBehind : Condensed → Request → Condensed → Type 0
-IsLeftBehind q r p = (list : List ℕ) × AreAnnunciatedInOrder q r.want list × IsLeftWith q r list p
+IsLeftBehind q r p = (list : List ℕ) × AreAnnunciatedInOrder q (wanted_action r) list × IsLeftWith q r list p

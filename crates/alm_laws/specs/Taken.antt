@@ -5,11 +5,15 @@ use Rattle.alm_types.specs.declared.attr.Attr.{Attr}
 use Rattle.alm_types.specs.declared.action.Action.{Action}
 use Rattle.alm_types.specs.declared.action.Action.TheVariants.{Clock, Value, Ack, Reset, Shelve, Unshelve, Oos, Design, SetPriority, SetSetpoint}
 use Rattle.alm_types.specs.declared.request.Request.{Request}
+use Rattle.alm_types.specs.declared.want.Want.{Want}
+use Rattle.alm_types.specs.declared.want.Want.TheVariants.{Do, AckSeen}
+use Rattle.alm_types.specs.Wants.{wanted_action}
 use Rattle.alm_types.specs.Actions.{alarm_of}
 use Rattle.alm_types.specs.Sizes.{most_actions}
 use Rattle.alm_types.specs.Slots.{role_of}
 use Rattle.alm_state.specs.Rows.{State}
 use Rattle.alm_model.specs.Plant.{Panel}
+use Rattle.alm_model.specs.Lists.{stamp_of}
 use Rattle.alm_laws.specs.Alarm.{is_unacknowledged, is_latched}
 use Rattle.alm_laws.specs.Left.{condition_left}
 use Rattle.alm_laws.specs.Plant.{asker_of}
@@ -36,8 +40,14 @@ IsPossible p (Clock t) = p.now < t
 IsPossible p action =
     (a : Attr) × (s : State) × (slice_get p.attrs (alarm_of action) ≡ Some a) × (slice_get p.rows (alarm_of action) ≡ Some s) × (is_taken action a s ≡ true)
 
--- a request is accepted if its slot may ask for the action, it is possible, and action numbers are left
+-- if an annunciation is named, it is the one that stands
+abbrev pub NamesStanding : Panel → Want → Type 0
+NamesStanding p (Do a) = Unit {0}
+NamesStanding p (AckSeen i stamp) = stamp_of p i.0 ≡ stamp
+
+-- a request is accepted if its slot may ask for the action, it is possible, action numbers are left, and it names no past annunciation
 pub record IsAcceptable (p : Panel) (r : Request) : Type 0 where
-  pub asker : role_of r.slot ≡ asker_of r.want
-  pub possible : IsPossible p r.want
+  pub asker : role_of r.slot ≡ asker_of (wanted_action r)
+  pub possible : IsPossible p (wanted_action r)
   pub number : p.count < most_actions
+  pub standing : NamesStanding p r.want

@@ -25,6 +25,7 @@
 //! | [`plant::flags_are_as_asked`] | out of service and by design are as was asked last |
 //! | [`askers::each_action_has_its_asker`] and those next to it | only consoles operate, and are heard; only the feed moves conditions, only the clock moves time |
 //! | [`clock`] | the time is as CLOCK says, shelvings end in order, PRIO and SETP set that alone |
+//! | [`events::a_row_changes_only_by_its_events`] | between two looks a row changes only if an action names the alarm, or a CLOCK reaches the deadline that was shown |
 //! | [`stamps::no_stamp_is_given_twice`] | over whole runs no stamp is given to two alarms, or to one again |
 //! | [`stamps::stamps_are_counted`] | over whole runs as many stamps are given as there are annunciations and shelvings |
 //! | [`alarm`] | the same of one alarm that takes an action, whose condition follows the value |
@@ -39,11 +40,14 @@
 //!   overdue (by `an_active_alarm_is_listed`, `consoles_are_heard`, `nobody_acknowledges_for_the_operator`,
 //!   `a_latching_alarm_ends_only_by_reset`, `a_shelved_alarm_comes_back`)
 //! - laws for an alarm engineer: who ends what, who is annunciated, who may ask, stamps of whole runs (by `plant`, `askers`, `clock`, `stamps`)
+//! - between two counts a row differs only if an action between them names the alarm, or a CLOCK reaches the deadline that ROW showed (by
+//!   `a_row_changes_only_by_its_events`)
 #![tactic(auto)]
 
 pub mod alarm;
 pub mod askers;
 pub mod clock;
+pub mod events;
 pub mod lists;
 pub mod plant;
 pub mod showing;

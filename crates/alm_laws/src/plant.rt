@@ -14,6 +14,7 @@ ghost use Rattle.alm_types.specs.Tables.{Listing};
 ghost use Rattle.alm_model.specs.New.{new_plant};
 ghost use Rattle.alm_model.specs.declared.list.List.TheVariants.{Priority};
 ghost use Rattle.alm_types.specs.declared.request.Request.{Request};
+ghost use Rattle.alm_types.specs.Wants.{wanted_action};
 ghost use Rattle.alm_state.specs.Rows.{State};
 ghost use Rattle.alm_model.specs.Plant.{Condensed};
 ghost use Rattle.alm_laws.specs.Steps.{IsLeftBehind};
@@ -48,8 +49,8 @@ pub fn each_alarm_is_left_by_the_laws()
 
 /// What an accepted action leaves is the only plant that meets the sentences on time, alarms, stamps, measures and floods.
 pub fn the_laws_leave_one_plant()
-    ensures { (q p : Condensed) (r : Request) → KeepsRules q → accept q.panel r ≡ Ok r.want →
-        IsLeftBehind q r p ↔ (p ≡ step q r.want) }
+    ensures { (q p : Condensed) (r : Request) → KeepsRules q → accept q.panel r ≡ Ok (wanted_action r) →
+        IsLeftBehind q r p ↔ (p ≡ step q (wanted_action r)) }
 {}
 
 /// What is latched stays until it is reset.

@@ -3,7 +3,8 @@
 ghost use Rattle.std.specs.Prelude.{ℕ, List, ◌≡◌, ◌≢◌, ◌<◌};
 ghost use Rattle.alm_types.specs.declared.action.Action.{Action};
 ghost use Rattle.alm_model.specs.Plant.{RecordedPlant, Condensed};
-ghost use Rattle.alm_model.specs.Rules.{KeepsRules, AreAdmitted, stamp_of};
+ghost use Rattle.alm_model.specs.Rules.{KeepsRules, AreAdmitted};
+ghost use Rattle.alm_model.specs.Lists.{stamp_of};
 ghost use Rattle.alm_model.specs.Step.{run};
 ghost use Rattle.alm_model.specs.Counted.{run_whole};
 ghost use Rattle.alm_laws.specs.Plant.{StampsAreNew, StampsAreOfOneAlarm, AreTaken, StampsAreCounted};

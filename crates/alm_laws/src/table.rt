@@ -7,6 +7,7 @@ ghost use Rattle.std.specs.List.{range_with_len};
 ghost use Rattle.alm_types.specs.Refusals.{number_of};
 ghost use Rattle.alm_types.specs.declared.refusal.Refusal.{Refusal};
 ghost use Rattle.alm_types.specs.declared.request.Request.{Request};
+ghost use Rattle.alm_types.specs.Wants.{wanted_action};
 ghost use Rattle.alm_state.specs.Rows.{State};
 ghost use Rattle.alm_state.specs.Outcome.{outcome, row_refusal};
 ghost use Rattle.alm_state.specs.Suits.{suits};
@@ -44,17 +45,17 @@ pub fn taken_just_then()
     ensures row { (action : Action) (a : Attr) (s : State) → IsTrue (suits a.latching s.core) →
         is_none (row_refusal action a s) ≡ is_taken action a s }
     ensures request { (q : Condensed) (r : Request) → KeepsRules q →
-        (accept q.panel r ≡ Ok r.want) ↔ IsAcceptable q.panel r }
+        (accept q.panel r ≡ Ok (wanted_action r)) ↔ IsAcceptable q.panel r }
 {}
 
 /// A request is refused for the first of the reasons against it, and accepted if there is none.
 pub fn a_refusal_names_the_first_reason()
     ensures { (q : Condensed) (r : Request) → KeepsRules q →
-        accept q.panel r ≡ judged_by r.want (reasons q.panel r) }
+        accept q.panel r ≡ judged_by (wanted_action r) (reasons q.panel r) }
 {}
 
-/// Each refusal has a number of its own, from 1 to 20.
+/// Each refusal has a number of its own, from 1 to 22.
 pub fn refusals_are_numbered()
-    ensures numbers { map number_of all_refusals ≡ range_with_len 1 20 }
+    ensures numbers { map number_of all_refusals ≡ range_with_len 1 22 }
     ensures all { (refusal : Refusal) → Contains all_refusals refusal }
 {}

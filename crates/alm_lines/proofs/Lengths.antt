@@ -1,17 +1,19 @@
 -- The text of a request has room in a line.
-use Rattle.std.proofs.Common.{◌<◌, ◌≤◌, ◌+◌, ◌^◌, ℕ, List, ◌∷◌, ◌++◌, Bool, true, false, arith, length, length-append}
+use Rattle.std.proofs.Common.{◌<◌, ◌≤◌, ◌+◌, ◌^◌, ℕ, List, ◌∷◌, ◌++◌, Bool, true, false, Option, Some, None, arith, length, length-append}
 use Rattle.std.specs.Prelude.{decimal, codes, ℤ, pos, negsuc}
 use Rattle.std.proofs.Math.Facts.{leb_yes}
 use Rattle.std.proofs.lemmas.Fmt.{length-decimal-le}
 use Rattle.alm_types.specs.declared.action.Action.{Action}
 use Rattle.alm_types.specs.declared.action.Action.TheVariants.{Clock, Value, Ack, Reset, Shelve, Unshelve, Oos, Design, SetPriority, SetSetpoint}
+use Rattle.alm_types.specs.declared.want.Want.{Want}
+use Rattle.alm_types.specs.declared.want.Want.TheVariants.{Do, AckSeen}
 use Rattle.alm_types.specs.declared.query.Query.{Query}
 use Rattle.alm_types.specs.declared.query.Query.TheVariants.{State, Priority, Area, Wheel, Flood, Stale, Chatter, Plant, Attributes, Row}
 use Rattle.alm_types.specs.Actions.{IsAction}
 use Rattle.alm_types.specs.Readings.{IsReading}
 use Rattle.alm_lines.specs.declared.ask.Ask.{Ask}
-use Rattle.alm_lines.specs.declared.ask.Ask.TheVariants.{Act, Look, Bad}
-use Rattle.alm_lines.specs.Texts.{value_text, switch_text, with_one, with_two, ask_text, action_words, query_text, request_text, IsAskInRange, IsQueryInRange}
+use Rattle.alm_lines.specs.declared.ask.Ask.TheVariants.{Act, Look, Recall, Bad}
+use Rattle.alm_lines.specs.Texts.{value_text, switch_text, with_one, with_two, ask_text, action_words, want_words, recall_text, query_text, request_text, IsAskInRange, IsWantInRange, IsQueryInRange, IsRecallInRange}
 
 -- a number of 64 bits has at most 20 digits
 number-length : (n : ℕ) → n < 2 ^ 64 → length (decimal n) ≤ 20
@@ -51,6 +53,14 @@ action-length (Design i on) h = two-length (codes "DESIGN") (decimal i.0) (switc
 action-length (SetPriority i n) h = two-length (codes "PRIO") (decimal i.0) (decimal n) (omega arith) (alarm-length i.0 h.alarm) (omega (arith, alarm-length n h.argument))
 action-length (SetSetpoint i v) h = two-length (codes "SETP") (decimal i.0) (value_text v) (omega arith) (alarm-length i.0 h.alarm) (value-length v h.argument)
 
+want-length : (want : Want) → IsWantInRange want → length (want_words want) ≤ 60
+want-length (Do action) h = action-length action h
+want-length (AckSeen i s) h = two-length (codes "ACK") (decimal i.0) (decimal s) (omega arith) (alarm-length i.0 h.0) (omega (arith, number-length s (omega (arith, h.1))))
+
+recall-length : (after : Option ℕ) → IsRecallInRange after → length (recall_text after) ≤ 60
+recall-length None h = omega arith
+recall-length (Some n) h = one-length (codes "SINCE") (decimal n) (omega arith) (omega (arith, number-length n (omega (arith, h))))
+
 query-length : (query : Query) → IsQueryInRange query → length (query_text query) ≤ 60
 query-length (State i) h = one-length (codes "STATE") (decimal i.0) (omega arith) (omega (arith, alarm-length i.0 h))
 query-length (Priority n) h = two-length (codes "LIST") (codes "P") (decimal n) (omega arith) (omega arith) (omega (arith, alarm-length n h))
@@ -64,8 +74,9 @@ query-length (Attributes i) h = one-length (codes "ATTR") (decimal i.0) (omega a
 query-length (Row i) h = one-length (codes "ROW") (decimal i.0) (omega arith) (omega (arith, alarm-length i.0 h))
 
 ask-length : (ask : Ask) → IsAskInRange ask → length (ask_text ask) ≤ 60
-ask-length (Act action) h = action-length action h
+ask-length (Act want) h = want-length want h
 ask-length (Look query) h = query-length query h
+ask-length (Recall after) h = recall-length after h
 ask-length (Bad refusal) h = absurd h
 
 -- so a request has less than 128 bytes, with the end of its line

@@ -10,15 +10,18 @@ use Rattle.std.proofs.Math.Facts.{leb_yes}
 use Rattle.alm_types.specs.declared.alarm_id.AlarmId.{AlarmId}
 use Rattle.alm_types.specs.declared.action.Action.{Action}
 use Rattle.alm_types.specs.declared.action.Action.TheVariants.{Clock, Value, Ack, Reset, Shelve, Unshelve, Oos, Design, SetPriority, SetSetpoint}
+use Rattle.alm_types.specs.declared.want.Want.{Want}
+use Rattle.alm_types.specs.declared.want.Want.TheVariants.{Do, AckSeen}
+use Rattle.alm_types.specs.Sizes.{most_actions}
 use Rattle.alm_types.specs.declared.refusal.Refusal.TheVariants.{BadLine}
 use Rattle.alm_types.specs.declared.query.Query.{Query}
 use Rattle.alm_types.specs.declared.query.Query.TheVariants.{State, Priority, Area, Wheel, Flood, Stale, Chatter, Plant, Attributes, Row}
 use Rattle.alm_lines.specs.declared.ask.Ask.{Ask}
-use Rattle.alm_lines.specs.declared.ask.Ask.TheVariants.{Act, Look, Bad}
-use Rattle.alm_lines.specs.Line.{number, word, alarm, moment_in, negative, reading_from, same, switch, cut_at_space, of_none, of_one, of_letter, of_two, of_fields, of_rest, ask_in, line_under, line_of}
+use Rattle.alm_lines.specs.declared.ask.Ask.TheVariants.{Act, Look, Recall, Bad}
+use Rattle.alm_lines.specs.Line.{number, word, alarm, moment_in, count_in, stamp_number, negative, reading_from, same, switch, cut_at_space, of_none, of_one, of_letter, of_two, of_fields, of_rest, ask_in, line_under, line_of}
 use Rattle.alm_types.specs.Actions.{IsAction}
 use Rattle.alm_types.specs.Readings.{IsReading}
-use Rattle.alm_lines.specs.Texts.{value_text, switch_text, with_one, with_two, ask_text, action_words, query_text, request_text, IsAskInRange, IsQueryInRange, IsAsking}
+use Rattle.alm_lines.specs.Texts.{value_text, switch_text, with_one, with_two, ask_text, action_words, want_words, recall_text, query_text, request_text, IsAskInRange, IsWantInRange, IsQueryInRange, IsRecallInRange, IsAsking}
 use Rattle.alm_lines.proofs.Numerals.{number-decimal, decimal-number}
 use Rattle.alm_lines.proofs.Lengths.{request-length}
 use Rattle.alm_lines.proofs.Cutting.{joined, cut-joined, cut-spaced, cut-alone, spaceless-decimal, is_spaceless, same-is}
@@ -63,15 +66,16 @@ one-alarm f w name first (Some n) e text hit h =
 taken-one : (name first : List ℕ) → Taken (with_one name first) (of_one name first)
 taken-one name first =
     let text = with_one name first in
-    pick (same name (codes "ACK")) _ _ text (one-alarm (λ i. Act (Ack i)) (codes "ACK") name first (word first) refl (λ i. refl))
-    (λ _. pick (same name (codes "RESET")) _ _ text (one-alarm (λ i. Act (Reset i)) (codes "RESET") name first (word first) refl (λ i. refl))
-    (λ _. pick (same name (codes "UNSHELVE")) _ _ text (one-alarm (λ i. Act (Unshelve i)) (codes "UNSHELVE") name first (word first) refl (λ i. refl))
-    (λ _. pick (same name (codes "CLOCK")) _ _ text (one-number (2 ^ 40) (λ t. Act (Clock t)) (codes "CLOCK") name first (moment_in first) refl (omega arith) (λ n. refl))
+    pick (same name (codes "ACK")) _ _ text (one-alarm (λ i. Act (Do (Ack i))) (codes "ACK") name first (word first) refl (λ i. refl))
+    (λ _. pick (same name (codes "RESET")) _ _ text (one-alarm (λ i. Act (Do (Reset i))) (codes "RESET") name first (word first) refl (λ i. refl))
+    (λ _. pick (same name (codes "UNSHELVE")) _ _ text (one-alarm (λ i. Act (Do (Unshelve i))) (codes "UNSHELVE") name first (word first) refl (λ i. refl))
+    (λ _. pick (same name (codes "CLOCK")) _ _ text (one-number (2 ^ 40) (λ t. Act (Do (Clock t))) (codes "CLOCK") name first (moment_in first) refl (omega arith) (λ n. refl))
     (λ _. pick (same name (codes "STATE")) _ _ text (one-alarm (λ i. Look (State i)) (codes "STATE") name first (word first) refl (λ i. refl))
     (λ _. pick (same name (codes "FLOOD")) _ _ text (one-number (2 ^ 32) (λ n. Look (Flood n)) (codes "FLOOD") name first (word first) refl small (λ n. refl))
     (λ _. pick (same name (codes "ATTR")) _ _ text (one-alarm (λ i. Look (Attributes i)) (codes "ATTR") name first (word first) refl (λ i. refl))
     (λ _. pick (same name (codes "ROW")) _ _ text (one-alarm (λ i. Look (Row i)) (codes "ROW") name first (word first) refl (λ i. refl))
-    (λ _. nothing text))))))))
+    (λ _. pick (same name (codes "SINCE")) _ _ text (one-number (2 ^ 48 + 1) (λ n. Recall (Some n)) (codes "SINCE") name first (count_in first) refl (omega arith) (λ n. refl))
+    (λ _. nothing text)))))))))
 
 -- an alarm and a second field of some kind
 two-alarm : {A : Type 0} (f : AlarmId → A → Ask) (w name first second : List ℕ) (spell : A → List ℕ) (o : Option ℕ) (p : Option A)
@@ -126,6 +130,9 @@ switch-text field on e =
 word-text : (field : List ℕ) (n : ℕ) → word field ≡ Some n → field ≡ decimal n
 word-text field n e = decimal-number (2 ^ 32) field n small e
 
+stamp-text : (field : List ℕ) (n : ℕ) → stamp_number field ≡ Some n → field ≡ decimal n
+stamp-text field n e = decimal-number (2 ^ 63) field n (omega arith) e
+
 -- a list and its letter
 letter-text : (first second name : List ℕ) (n : ℕ) → second ≡ decimal n → same name (codes "LIST") ≡ true → Taken (with_two name first second) (of_letter first n)
 letter-text first second name n field hit =
@@ -143,21 +150,23 @@ list-text name first second (Some n) e hit h = letter-text first second name n (
 taken-two : (name first second : List ℕ) → Taken (with_two name first second) (of_two name first second)
 taken-two name first second =
     let text = with_two name first second in
-    pick (same name (codes "VAL")) _ _ text (two-alarm (λ i v. Act (Value i v)) (codes "VAL") name first second value_text (word first) (reading_from second) refl (reading-text second) (λ i v. refl))
-    (λ _. pick (same name (codes "SHELVE")) _ _ text (two-alarm (λ i s. Act (Shelve i s)) (codes "SHELVE") name first second decimal (word first) (word second) refl (word-text second) (λ i s. refl))
-    (λ _. pick (same name (codes "OOS")) _ _ text (two-alarm (λ i on. Act (Oos i on)) (codes "OOS") name first second switch_text (word first) (switch second) refl (switch-text second) (λ i on. refl))
-    (λ _. pick (same name (codes "DESIGN")) _ _ text (two-alarm (λ i on. Act (Design i on)) (codes "DESIGN") name first second switch_text (word first) (switch second) refl (switch-text second) (λ i on. refl))
-    (λ _. pick (same name (codes "PRIO")) _ _ text (two-alarm (λ i n. Act (SetPriority i n)) (codes "PRIO") name first second decimal (word first) (word second) refl (word-text second) (λ i n. refl))
-    (λ _. pick (same name (codes "SETP")) _ _ text (two-alarm (λ i v. Act (SetSetpoint i v)) (codes "SETP") name first second value_text (word first) (reading_from second) refl (reading-text second) (λ i v. refl))
+    pick (same name (codes "VAL")) _ _ text (two-alarm (λ i v. Act (Do (Value i v))) (codes "VAL") name first second value_text (word first) (reading_from second) refl (reading-text second) (λ i v. refl))
+    (λ _. pick (same name (codes "SHELVE")) _ _ text (two-alarm (λ i s. Act (Do (Shelve i s))) (codes "SHELVE") name first second decimal (word first) (word second) refl (word-text second) (λ i s. refl))
+    (λ _. pick (same name (codes "OOS")) _ _ text (two-alarm (λ i on. Act (Do (Oos i on))) (codes "OOS") name first second switch_text (word first) (switch second) refl (switch-text second) (λ i on. refl))
+    (λ _. pick (same name (codes "DESIGN")) _ _ text (two-alarm (λ i on. Act (Do (Design i on))) (codes "DESIGN") name first second switch_text (word first) (switch second) refl (switch-text second) (λ i on. refl))
+    (λ _. pick (same name (codes "PRIO")) _ _ text (two-alarm (λ i n. Act (Do (SetPriority i n))) (codes "PRIO") name first second decimal (word first) (word second) refl (word-text second) (λ i n. refl))
+    (λ _. pick (same name (codes "SETP")) _ _ text (two-alarm (λ i v. Act (Do (SetSetpoint i v))) (codes "SETP") name first second value_text (word first) (reading_from second) refl (reading-text second) (λ i v. refl))
+    (λ _. pick (same name (codes "ACK")) _ _ text (two-alarm (λ i s. Act (AckSeen i s)) (codes "ACK") name first second decimal (word first) (stamp_number second) refl (stamp-text second) (λ i s. refl))
     (λ _. pick (same name (codes "LIST")) _ _ text (list-text name first second (word second) refl)
-    (λ _. nothing text)))))))
+    (λ _. nothing text))))))))
 
 taken-none : (name : List ℕ) → Taken name (of_none name)
 taken-none name =
     pick (same name (codes "STALE")) _ _ name (λ is h. same-is name (codes "STALE") is)
     (λ _. pick (same name (codes "CHATTER")) _ _ name (λ is h. same-is name (codes "CHATTER") is)
     (λ _. pick (same name (codes "PLANT")) _ _ name (λ is h. same-is name (codes "PLANT") is)
-    (λ _. nothing name)))
+    (λ _. pick (same name (codes "SINCE")) _ _ name (λ is h. same-is name (codes "SINCE") is)
+    (λ _. nothing name))))
 
 taken-fields : (name first : List ℕ) (second : Option (List ℕ)) → Taken (name ++ 32 ∷ joined first second) (of_fields name (first, second))
 taken-fields name first None = taken-one name first
@@ -195,6 +204,12 @@ word-read n below = number-decimal (2 ^ 32) n below (omega (arith, below))
 moment-read : (t : ℕ) → t < 2 ^ 40 → moment_in (decimal t) ≡ Some t
 moment-read t below = number-decimal (2 ^ 40) t below (omega (arith, below))
 
+stamp-read : (s : ℕ) → s < 2 ^ 63 → stamp_number (decimal s) ≡ Some s
+stamp-read s below = number-decimal (2 ^ 63) s below (omega (arith, below))
+
+count-read : (n : ℕ) → n ≤ most_actions → count_in (decimal n) ≡ Some n
+count-read n within = number-decimal (2 ^ 48 + 1) n (omega (arith, within)) (omega (arith, within))
+
 switch-read : (on : Bool) → switch (switch_text on) ≡ Some on
 switch-read true = refl
 switch-read false = refl
@@ -219,7 +234,7 @@ reading-read (negsuc n) h =
     let some : (suc n == 0) ≡ false = grind arith in
     rw (number-decimal 1000000000001 (n + 1) below (omega (arith, below)), add-one, some) refl
 
-action-read : (action : Action) → IsAction action → of_rest (cut_at_space (action_words action)) ≡ Some (Act action)
+action-read : (action : Action) → IsAction action → of_rest (cut_at_space (action_words action)) ≡ Some (Act (Do action))
 action-read (Clock t) h = rw (cut-spaced (codes "CLOCK") (decimal t) refl, cut-alone (decimal t) (spaceless-decimal t (omega (arith, h.argument))), moment-read t h.argument) refl
 action-read (Value i v) h =
     rw (cut-spaced (codes "VAL") (decimal i.0 ++ 32 ∷ value_text v) refl, cut-spaced (decimal i.0) (value_text v) (spaceless-decimal i.0 (omega (arith, h.alarm))), alarm-read i h.alarm, reading-read v h.argument) refl
@@ -236,6 +251,15 @@ action-read (SetPriority i n) h =
     rw (cut-spaced (codes "PRIO") (decimal i.0 ++ 32 ∷ decimal n) refl, cut-spaced (decimal i.0) (decimal n) (spaceless-decimal i.0 (omega (arith, h.alarm))), alarm-read i h.alarm, word-read n h.argument) refl
 action-read (SetSetpoint i v) h =
     rw (cut-spaced (codes "SETP") (decimal i.0 ++ 32 ∷ value_text v) refl, cut-spaced (decimal i.0) (value_text v) (spaceless-decimal i.0 (omega (arith, h.alarm))), alarm-read i h.alarm, reading-read v h.argument) refl
+
+want-read : (want : Want) → IsWantInRange want → of_rest (cut_at_space (want_words want)) ≡ Some (Act want)
+want-read (Do action) h = action-read action h
+want-read (AckSeen i s) h =
+    rw (cut-spaced (codes "ACK") (decimal i.0 ++ 32 ∷ decimal s) refl, cut-spaced (decimal i.0) (decimal s) (spaceless-decimal i.0 (omega (arith, h.0))), alarm-read i h.0, stamp-read s h.1) refl
+
+recall-read : (after : Option ℕ) → IsRecallInRange after → of_rest (cut_at_space (recall_text after)) ≡ Some (Recall after)
+recall-read None h = refl
+recall-read (Some n) h = rw (cut-spaced (codes "SINCE") (decimal n) refl, cut-alone (decimal n) (spaceless-decimal n (omega (arith, h))), count-read n h) refl
 
 list-read : (letter : List ℕ) (n : ℕ) → is_spaceless letter ≡ true → n < 2 ^ 32 → of_rest (cut_at_space (with_two (codes "LIST") letter (decimal n))) ≡ of_letter letter n
 list-read letter n e below =
@@ -254,8 +278,9 @@ query-read (Attributes i) h = rw (cut-spaced (codes "ATTR") (decimal i.0) refl, 
 query-read (Row i) h = rw (cut-spaced (codes "ROW") (decimal i.0) refl, cut-alone (decimal i.0) (spaceless-decimal i.0 (omega (arith, h))), alarm-read i h) refl
 
 ask-read : (ask : Ask) → IsAskInRange ask → ask_in (Some (ask_text ask)) ≡ Some ask
-ask-read (Act action) h = action-read action h
+ask-read (Act want) h = want-read want h
 ask-read (Look query) h = query-read query h
+ask-read (Recall after) h = recall-read after h
 ask-read (Bad refusal) h = absurd h
 
 pub request-read : (id : ℕ) (ask : Ask) → id < 2 ^ 32 → IsAskInRange ask → line_of (request_text id ask) ≡ record { id = id; ask = ask }

@@ -3,11 +3,13 @@ use Rattle.std.specs.Prelude.{ℕ, ◌+◌, ◌-◌, ◌*◌, ◌^◌, List, [],
 use Rattle.std.specs.Cmp.Lexicographic.{pointwise}
 use Rattle.alm_types.specs.declared.alarm_id.AlarmId.{AlarmId}
 use Rattle.alm_types.specs.declared.action.Action.TheVariants.{Clock, Value, Ack, Reset, Shelve, Unshelve, Oos, Design, SetPriority, SetSetpoint}
+use Rattle.alm_types.specs.declared.want.Want.TheVariants.{Do, AckSeen}
 use Rattle.alm_types.specs.declared.refusal.Refusal.TheVariants.{BadLine, LineTooLong}
 use Rattle.alm_types.specs.declared.query.Query.TheVariants.{State, Priority, Area, Wheel, Flood, Stale, Chatter, Plant, Attributes, Row}
+use Rattle.alm_types.specs.Sizes.{most_actions}
 use Rattle.alm_lines.specs.declared.line.Line.{Line}
 use Rattle.alm_lines.specs.declared.ask.Ask.{Ask}
-use Rattle.alm_lines.specs.declared.ask.Ask.TheVariants.{Act, Look, Bad}
+use Rattle.alm_lines.specs.declared.ask.Ask.TheVariants.{Act, Look, Recall, Bad}
 
 -- the value of digits after others
 abbrev pub value : ℕ → List ℕ → Option ℕ
@@ -35,6 +37,14 @@ alarm digits = option_map (λ n. record { 0 = n }) (word digits)
 -- a moment
 abbrev pub moment_in : List ℕ → Option ℕ
 moment_in = number (2 ^ 40)
+
+-- how many actions a plant has had
+abbrev pub count_in : List ℕ → Option ℕ
+count_in = number (most_actions + 1)
+
+-- the stamp of an annunciation
+abbrev pub stamp_number : List ℕ → Option ℕ
+stamp_number = number (2 ^ 63)
 
 -- minus and a number that is not 0
 abbrev pub negative : Option ℕ → Option ℤ
@@ -67,19 +77,21 @@ of_none name =
     if same name (codes "STALE") then Some (Look Stale)
     else if same name (codes "CHATTER") then Some (Look Chatter)
     else if same name (codes "PLANT") then Some (Look Plant)
+    else if same name (codes "SINCE") then Some (Recall None)
     else None
 
 -- and of one field
 abbrev pub of_one : List ℕ → List ℕ → Option Ask
 of_one name first =
-    if same name (codes "ACK") then option_map (λ i. Act (Ack i)) (alarm first)
-    else if same name (codes "RESET") then option_map (λ i. Act (Reset i)) (alarm first)
-    else if same name (codes "UNSHELVE") then option_map (λ i. Act (Unshelve i)) (alarm first)
-    else if same name (codes "CLOCK") then option_map (λ t. Act (Clock t)) (moment_in first)
+    if same name (codes "ACK") then option_map (λ i. Act (Do (Ack i))) (alarm first)
+    else if same name (codes "RESET") then option_map (λ i. Act (Do (Reset i))) (alarm first)
+    else if same name (codes "UNSHELVE") then option_map (λ i. Act (Do (Unshelve i))) (alarm first)
+    else if same name (codes "CLOCK") then option_map (λ t. Act (Do (Clock t))) (moment_in first)
     else if same name (codes "STATE") then option_map (λ i. Look (State i)) (alarm first)
     else if same name (codes "FLOOD") then option_map (λ a. Look (Flood a)) (word first)
     else if same name (codes "ATTR") then option_map (λ i. Look (Attributes i)) (alarm first)
     else if same name (codes "ROW") then option_map (λ i. Look (Row i)) (alarm first)
+    else if same name (codes "SINCE") then option_map (λ n. Recall (Some n)) (count_in first)
     else None
 
 -- the list that a letter names
@@ -93,12 +105,13 @@ of_letter letter n =
 -- and of two
 abbrev pub of_two : List ℕ → List ℕ → List ℕ → Option Ask
 of_two name first second =
-    if same name (codes "VAL") then option_and_then (λ i. option_map (λ v. Act (Value i v)) (reading_from second)) (alarm first)
-    else if same name (codes "SHELVE") then option_and_then (λ i. option_map (λ s. Act (Shelve i s)) (word second)) (alarm first)
-    else if same name (codes "OOS") then option_and_then (λ i. option_map (λ on. Act (Oos i on)) (switch second)) (alarm first)
-    else if same name (codes "DESIGN") then option_and_then (λ i. option_map (λ on. Act (Design i on)) (switch second)) (alarm first)
-    else if same name (codes "PRIO") then option_and_then (λ i. option_map (λ n. Act (SetPriority i n)) (word second)) (alarm first)
-    else if same name (codes "SETP") then option_and_then (λ i. option_map (λ v. Act (SetSetpoint i v)) (reading_from second)) (alarm first)
+    if same name (codes "VAL") then option_and_then (λ i. option_map (λ v. Act (Do (Value i v))) (reading_from second)) (alarm first)
+    else if same name (codes "SHELVE") then option_and_then (λ i. option_map (λ s. Act (Do (Shelve i s))) (word second)) (alarm first)
+    else if same name (codes "OOS") then option_and_then (λ i. option_map (λ on. Act (Do (Oos i on))) (switch second)) (alarm first)
+    else if same name (codes "DESIGN") then option_and_then (λ i. option_map (λ on. Act (Do (Design i on))) (switch second)) (alarm first)
+    else if same name (codes "PRIO") then option_and_then (λ i. option_map (λ n. Act (Do (SetPriority i n))) (word second)) (alarm first)
+    else if same name (codes "SETP") then option_and_then (λ i. option_map (λ v. Act (Do (SetSetpoint i v))) (reading_from second)) (alarm first)
+    else if same name (codes "ACK") then option_and_then (λ i. option_map (λ s. Act (AckSeen i s)) (stamp_number second)) (alarm first)
     else if same name (codes "LIST") then option_and_then (of_letter first) (word second)
     else None
 

@@ -13,9 +13,10 @@ use Rattle.alm_types.specs.declared.query.Query.{Query}
 use Rattle.alm_types.specs.declared.query.Query.TheVariants.{State, Priority, Area, Wheel, Flood, Stale, Chatter, Plant, Attributes, Row}
 use Rattle.alm_types.specs.Reports.{Report, alarm, flood, alarms, plant, attributes, row, report}
 use Rattle.std.specs.Fmt.{signed_decimal}
+use Rattle.alm_lines.specs.Since.{recalled_text}
 use Rattle.alm_lines.specs.Texts.{switch_text}
 use Rattle.alm_lines.specs.declared.reply.Reply.{Reply}
-use Rattle.alm_lines.specs.declared.reply.Reply.TheVariants.{Ok, No, Told}
+use Rattle.alm_lines.specs.declared.reply.Reply.TheVariants.{Ok, No, Told, Recalled}
 
 -- the word of what is shown
 abbrev pub shown_word : Shown → List ℕ
@@ -128,3 +129,4 @@ abbrev pub text_of : Reply → List ℕ
 text_of (Ok id n) = ok_text id n
 text_of (No id refusal) = no_text id refusal
 text_of (Told id n query answer) = told_text id n query (report query answer.now)
+text_of (Recalled id n first events) = recalled_text id n first events.now

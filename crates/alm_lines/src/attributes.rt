@@ -23,7 +23,7 @@ fn kind_word(kind: Kind) -> &'static str
 }
 
 /// The word of a switch.
-fn switch_word(on: bool) -> &'static str
+pub fn switch_word(on: bool) -> &'static str
     ensures { result.now ≡ switch_text on }
 {
     if on { "ON" } else { "OFF" }

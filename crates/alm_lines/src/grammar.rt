@@ -1,12 +1,14 @@
 //! What the bytes of a line ask.
 
 ghost use Rattle.std.specs.Prelude.{◌≡◌, ◌+◌, option_map, position, ◌==◌};
+ghost use Rattle.alm_types.specs.declared.want.Want.TheVariants.{Do};
+ghost use Rattle.alm_lines.specs.declared.ask.Ask.TheVariants.{Act};
 ghost use Rattle.alm_lines.specs.Line.{line_of, cut_at_space, ask_in, of_none, of_one, of_two, of_letter};
 
 use crate::ask::Ask;
 use crate::line::Line;
-use crate::numbers::{alarm, moment, reading, switch, word};
-use alm_types::{Action, Query, Refusal};
+use crate::numbers::{alarm, count, moment, reading, stamp, switch, word};
+use alm_types::{Action, Query, Refusal, Want};
 
 /// The most bytes of a line, its LF not counted.
 pub const LINE_LIMIT: usize = 127;
@@ -65,6 +67,13 @@ fn asked(rest: Option<&[u8]>) -> Option<Ask>
     }
 }
 
+/// The request for an action.
+fn act(action: Action) -> Ask
+    ensures { result ≡ Act (Do action) }
+{
+    Ask::Act(Want::Do(action))
+}
+
 /// What a word asks alone.
 fn of_none(name: &[u8]) -> Option<Ask>
     ensures { result ≡ of_none name.now }
@@ -78,6 +87,9 @@ fn of_none(name: &[u8]) -> Option<Ask>
     if name == b"PLANT".as_slice() {
         return Some(Ask::Look(Query::Plant));
     }
+    if name == b"SINCE".as_slice() {
+        return Some(Ask::Recall(None));
+    }
     None
 }
 
@@ -86,16 +98,16 @@ fn of_one(name: &[u8], first: &[u8]) -> Option<Ask>
     ensures { result ≡ of_one name.now first.now }
 {
     if name == b"ACK".as_slice() {
-        return Some(Ask::Act(Action::Ack(alarm(first)?)));
+        return Some(act(Action::Ack(alarm(first)?)));
     }
     if name == b"RESET".as_slice() {
-        return Some(Ask::Act(Action::Reset(alarm(first)?)));
+        return Some(act(Action::Reset(alarm(first)?)));
     }
     if name == b"UNSHELVE".as_slice() {
-        return Some(Ask::Act(Action::Unshelve(alarm(first)?)));
+        return Some(act(Action::Unshelve(alarm(first)?)));
     }
     if name == b"CLOCK".as_slice() {
-        return Some(Ask::Act(Action::Clock(moment(first)?)));
+        return Some(act(Action::Clock(moment(first)?)));
     }
     if name == b"STATE".as_slice() {
         return Some(Ask::Look(Query::State(alarm(first)?)));
@@ -109,6 +121,9 @@ fn of_one(name: &[u8], first: &[u8]) -> Option<Ask>
     if name == b"ROW".as_slice() {
         return Some(Ask::Look(Query::Row(alarm(first)?)));
     }
+    if name == b"SINCE".as_slice() {
+        return Some(Ask::Recall(Some(count(first)?)));
+    }
     None
 }
 
@@ -117,22 +132,25 @@ fn of_two(name: &[u8], first: &[u8], second: &[u8]) -> Option<Ask>
     ensures { result ≡ of_two name.now first.now second.now }
 {
     if name == b"VAL".as_slice() {
-        return Some(Ask::Act(Action::Value(alarm(first)?, reading(second)?)));
+        return Some(act(Action::Value(alarm(first)?, reading(second)?)));
     }
     if name == b"SHELVE".as_slice() {
-        return Some(Ask::Act(Action::Shelve(alarm(first)?, word(second)?)));
+        return Some(act(Action::Shelve(alarm(first)?, word(second)?)));
     }
     if name == b"OOS".as_slice() {
-        return Some(Ask::Act(Action::Oos(alarm(first)?, switch(second)?)));
+        return Some(act(Action::Oos(alarm(first)?, switch(second)?)));
     }
     if name == b"DESIGN".as_slice() {
-        return Some(Ask::Act(Action::Design(alarm(first)?, switch(second)?)));
+        return Some(act(Action::Design(alarm(first)?, switch(second)?)));
     }
     if name == b"PRIO".as_slice() {
-        return Some(Ask::Act(Action::SetPriority(alarm(first)?, word(second)?)));
+        return Some(act(Action::SetPriority(alarm(first)?, word(second)?)));
     }
     if name == b"SETP".as_slice() {
-        return Some(Ask::Act(Action::SetSetpoint(alarm(first)?, reading(second)?)));
+        return Some(act(Action::SetSetpoint(alarm(first)?, reading(second)?)));
+    }
+    if name == b"ACK".as_slice() {
+        return Some(Ask::Act(Want::AckSeen(alarm(first)?, stamp(second)?)));
     }
     if name == b"LIST".as_slice() {
         return of_letter(first, word(second)?);

@@ -12,10 +12,11 @@
 //! <id> FLOOD <area>           <id> STALE
 //! <id> CHATTER                <id> PLANT
 //! <id> ATTR <alarm>           <id> ROW <alarm>
+//! <id> ACK <alarm> <stamp>    <id> SINCE [<n>]
 //! ```
 //!
 //! `id`, `alarm`, `secs`, `num`, `number` and `area` are decimal digits up to 4294967295 without a leading zero; `moment` is
-//! below 2^40; `value` is from -10^12 to 10^12, never `-0`.
+//! below 2^40, `stamp` below 2^63; `n` is at most 2^48; `value` is from -10^12 to 10^12, never `-0`.
 //!
 //! A line that has more than 128 bytes, its LF included, is a `LineTooLong` with id 0. It is answered when its LF
 //! comes. Every line that is neither too long nor one of the above is a `BadLine`. Its id is the one at its start, if a
@@ -33,6 +34,7 @@
 mod ask;
 mod attributes;
 mod decoder;
+mod events;
 mod grammar;
 mod held_line;
 pub mod laws;
@@ -48,6 +50,7 @@ mod writing;
 pub use ask::Ask;
 pub use attributes::{ATTRIBUTE_PARTS, attribute_parts};
 pub use decoder::Decoder;
+pub use events::{EVENT_PARTS, HEAD_PARTS, event_parts, since_head};
 pub use grammar::{LINE_LIMIT, cut, line_of};
 pub use held_line::HeldLine;
 pub use line::Line;

@@ -1,15 +1,15 @@
 //! Numbers in digits.
 
 ghost use Rattle.std.specs.Prelude.{◌≡◌, ◌<◌, ◌≤◌, ◌^◌, length};
-ghost use Rattle.alm_lines.specs.Line.{value, up_to, number, word, alarm, moment_in, reading_from, switch};
+ghost use Rattle.alm_lines.specs.Line.{value, up_to, number, word, alarm, moment_in, count_in, stamp_number, reading_from, switch};
 
-use alm_types::{AlarmId, Moment, Reading};
+use alm_types::{AlarmId, MOST_ACTIONS, Moment, Reading};
 
 /// The value of digits, below a limit.
 #[tactic(auto, using(crate::proofs::Digits::too_large, crate::proofs::Digits::one_more))]
 fn value(digits: &[u8], limit: u64) -> Option<u64>
     requires some { 0 < length digits.now }
-    requires limit { limit ≤ 2 ^ 56 }
+    requires limit { limit ≤ 2 ^ 63 }
     ensures { result ≡ up_to limit (value 0 digits.now) }
 {
     let mut value: u64 = 0;
@@ -17,7 +17,9 @@ fn value(digits: &[u8], limit: u64) -> Option<u64>
         if !digit.is_ascii_digit() {
             return None;
         }
-        value = value * 10 + u64::from(*digit - b'0');
+        value = value
+            .saturating_mul(10)
+            .saturating_add(u64::from(*digit - b'0'));
         if value >= limit {
             return None;
         }
@@ -27,7 +29,7 @@ fn value(digits: &[u8], limit: u64) -> Option<u64>
 
 /// A number below a limit, without leading zeros.
 pub fn number(digits: &[u8], limit: u64) -> Option<u64>
-    requires { limit ≤ 2 ^ 56 }
+    requires { limit ≤ 2 ^ 63 }
     ensures { result ≡ number limit digits.now }
 {
     match digits {
@@ -64,6 +66,20 @@ pub fn moment(digits: &[u8]) -> Option<Moment>
         Some(seconds) => Moment::new(seconds),
         None => None,
     }
+}
+
+/// How many actions a plant has had.
+pub fn count(digits: &[u8]) -> Option<u64>
+    ensures { result ≡ count_in digits.now }
+{
+    number(digits, MOST_ACTIONS + 1)
+}
+
+/// The stamp of an annunciation.
+pub fn stamp(digits: &[u8]) -> Option<u64>
+    ensures { result ≡ stamp_number digits.now }
+{
+    number(digits, 1 << 63)
 }
 
 /// A value of the process, with or without minus.

@@ -7,6 +7,7 @@ ghost use Rattle.alm_lines.specs.Reply.{text_of, shown_word, letters, query_word
 ghost use Rattle.alm_lines.specs.Written.{Prints};
 
 use crate::attributes::attribute_parts;
+use crate::events::print_since;
 use crate::part::{Part, put_each, put_parts};
 use crate::reply::Reply;
 use crate::rows::row_parts;
@@ -252,5 +253,11 @@ pub fn print_reply<W: io::Write>(reply: &Reply<'_>, writer: &mut W) -> io::Resul
             query,
             answer,
         } => print_at_once(id, n, query, answer, writer),
+        Reply::Recalled {
+            id,
+            n,
+            first,
+            events,
+        } => print_since(id, n, first, events, writer),
     }
 }

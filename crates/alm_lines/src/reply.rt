@@ -1,6 +1,6 @@
 //! Replies.
 
-use alm_types::{Answer, Query, Refusal};
+use alm_types::{Answer, Event, Query, Refusal};
 
 /// The answer to a line.
 #[derive(Clone, Copy)]
@@ -21,5 +21,12 @@ pub enum Reply<'a> {
         n: u64,
         query: Query,
         answer: &'a Answer,
+    },
+    /// What happened to a plant of `n` actions, the accepted action of number `first` first.
+    Recalled {
+        id: u32,
+        n: u64,
+        first: u64,
+        events: &'a [Event],
     },
 }

@@ -4,7 +4,7 @@ use crate::told;
 use crate::watched::Watched;
 use alm_model::{Alarms, List};
 use alm_state::Core;
-use alm_types::{Action, AlarmId, Request, Slot, Table};
+use alm_types::{Action, AlarmId, Request, Slot, Table, Want};
 use std::alloc::{AllocError, Global};
 use std::test::Fail;
 
@@ -57,7 +57,11 @@ impl<P: Alarms + Drop> Beside<P> {
     pub fn act(&mut self, want: Action) -> Result<bool, Fail> {
         let slot = Slot::new(slot_of(&want)).ok_or("slot")?;
         let next = self.plant.next_stamp();
-        let Ok(action) = self.plant.check(&Request { slot, want }) else {
+        let Ok(action) = self.plant.check(&Request {
+            slot,
+            want: Want::Do(want),
+        })
+        else {
             return Ok(false);
         };
         self.plant.apply(&action);

@@ -3,7 +3,7 @@ use Rattle.std.proofs.Common.{◌≡◌, ◌+◌, ◌<◌, ℕ, false, List, [],
 use Rattle.std.specs.Prelude.{◌==◌}
 use Rattle.std.specs.List.{range_with_len}
 use Rattle.std.proofs.lemmas.Bool.{cases_Bool, eqb-true}
-use Rattle.std.proofs.lemmas.List.{take_more, take-append-drop, append-nil, map-append}
+use Rattle.std.proofs.lemmas.List.{take_more, take-append-drop, append-nil, map-append, length-map}
 use Rattle.std.proofs.lemmas.List.Elements.{filter-append}
 use Rattle.alm_types.specs.declared.action.Action.{Action}
 use Rattle.alm_types.specs.declared.request.Request.{Request}
@@ -12,12 +12,14 @@ use Rattle.alm_types.specs.declared.verdict.Verdict.{Verdict}
 use Rattle.alm_types.specs.declared.verdict.Verdict.TheVariants.{Accepted, Refused}
 use Rattle.alm_types.specs.declared.entry.Entry.{Entry}
 use Rattle.alm_types.specs.Batches.{Judged}
+use Rattle.alm_types.specs.Wants.{wanted_action}
+use Rattle.alm_types.specs.declared.logged_action.LoggedAction.{LoggedAction}
 use Rattle.alm_state.specs.Outcome.{or_else}
 use Rattle.alm_model.specs.Plant.{Condensed}
 use Rattle.alm_model.specs.Accept.{accept, answer, refusal}
 use Rattle.alm_model.specs.Step.{step, run}
 use Rattle.alm_model.specs.Rules.{AllAdmitted}
-use Rattle.alm_model.specs.Judging.{verdict_from, verdict_of, after_verdict, when_accepted, accepted_of, request_of, requests_of, verdicts_of, verdicts_on, IsLegal, of_slot, wants_of, serials_of, entries_in, firsts_of, firsts_from}
+use Rattle.alm_model.specs.Judging.{verdict_from, verdict_of, after_verdict, when_accepted, accepted_of, logged_if, logged_of, logged_actions, request_of, requests_of, verdicts_of, verdicts_on, IsLegal, of_slot, wants_of, serials_of, entries_in, firsts_of, firsts_from}
 use Rattle.alm_model.proofs.Runs.{run_count, run_append}
 
 -- runs
@@ -41,6 +43,29 @@ accepted_append (e ∷ xs) ys = ap (λ l. when_accepted e.verdict ++ l) (accepte
 pub accepted_snoc : (xs : List Entry) (e : Entry) → accepted_of (xs ++ e ∷ []) ≡ accepted_of xs ++ when_accepted e.verdict
 accepted_snoc xs e = accepted_append xs (e ∷ []) ∙ ap (λ l. accepted_of xs ++ l) (append-nil (when_accepted e.verdict))
 
+pub logged_append : (xs ys : List Entry) → logged_of (xs ++ ys) ≡ logged_of xs ++ logged_of ys
+logged_append [] ys = refl
+logged_append (e ∷ xs) ys = ap (λ l. logged_if e.slot e.serial e.verdict ++ l) (logged_append xs ys) ∙ sym (append_assoc (logged_if e.slot e.serial e.verdict) (logged_of xs) (logged_of ys))
+
+pub logged_snoc : (xs : List Entry) (e : Entry) → logged_of (xs ++ e ∷ []) ≡ logged_of xs ++ logged_if e.slot e.serial e.verdict
+logged_snoc xs e = logged_append xs (e ∷ []) ∙ ap (λ l. logged_of xs ++ l) (append-nil (logged_if e.slot e.serial e.verdict))
+
+pub actions_append : (xs ys : List LoggedAction) → logged_actions (xs ++ ys) ≡ logged_actions xs ++ logged_actions ys
+actions_append xs ys = map-append (λ l. l.action) xs ys
+
+logged_one : (slot serial : ℕ) (v : Verdict) → logged_actions (logged_if slot serial v) ≡ when_accepted v
+logged_one slot serial (Accepted a) = refl
+logged_one slot serial (Refused r n) = refl
+
+-- without their requests they are the accepted actions
+pub actions_logged : (xs : List Entry) → logged_actions (logged_of xs) ≡ accepted_of xs
+actions_logged [] = refl
+actions_logged (e ∷ xs) =
+    actions_append (logged_if e.slot e.serial e.verdict) (logged_of xs) ∙ ap (λ l. l ++ logged_actions (logged_of xs)) (logged_one e.slot e.serial e.verdict) ∙ ap (λ l. when_accepted e.verdict ++ l) (actions_logged xs)
+
+pub logged_length : (xs : List Entry) → length (logged_of xs) ≡ length (accepted_of xs)
+logged_length xs = sym (length-map (logged_of xs) (λ l. l.action)) ∙ ap length (actions_logged xs)
+
 pub verdicts_append : (xs ys : List Entry) → verdicts_of (xs ++ ys) ≡ verdicts_of xs ++ verdicts_of ys
 verdicts_append [] ys = refl
 verdicts_append (e ∷ xs) ys = ap (λ l. e.verdict ∷ l) (verdicts_append xs ys)
@@ -61,15 +86,19 @@ later_none : (o p : Option Refusal) → or_else o p ≡ None → p ≡ None
 later_none None p h = h
 later_none (Some r) p h = absurd (cc h)
 
+first_none : (o p : Option Refusal) → or_else o p ≡ None → o ≡ None
+first_none None p h = refl
+first_none (Some r) p h = absurd (cc h)
+
 from_ok : (n : ℕ) (r : Result Action Refusal) (a : Action) → verdict_from n r ≡ Accepted a → r ≡ Ok a
 from_ok n (Ok b) a h = cc h
 from_ok n (Err e) a h = absurd (cc h)
 
-pub accepted_is : (q : Condensed) (r : Request) (a : Action) → verdict_of q r ≡ Accepted a → (r.want ≡ a) × (refusal q.panel a ≡ None)
+pub accepted_is : (q : Condensed) (r : Request) (a : Action) → verdict_of q r ≡ Accepted a → (wanted_action r ≡ a) × (refusal q.panel a ≡ None)
 unfolding verdict_of
 accepted_is q r a h =
-    let ok = answer_ok r.want a _ (from_ok q.panel.count (accept q.panel r) a h) in
-    (ok.0, ap (refusal q.panel) (sym ok.0) ∙ later_none _ _ ok.1)
+    let ok = answer_ok (wanted_action r) a _ (from_ok q.panel.count (accept q.panel r) a h) in
+    (ok.0, ap (refusal q.panel) (sym ok.0) ∙ first_none _ _ (later_none _ _ ok.1))
 
 step_of : (q : Condensed) (v : Verdict) → run q (when_accepted v) ≡ after_verdict q v
 step_of q (Accepted a) = refl
@@ -123,6 +152,17 @@ take_accepted xs k d a less is = accepted_take xs k d less ∙ ap (λ v. accepte
 
 pub take_refused : (xs : List Entry) (k : ℕ) (d : Entry) (r : Refusal) (n : ℕ) → k < length xs → (get_or xs k d).verdict ≡ Refused r n → accepted_of (take (k + 1) xs) ≡ accepted_of (take k xs)
 take_refused xs k d r n less is = accepted_take xs k d less ∙ (ap (λ v. accepted_of (take k xs) ++ when_accepted v) is ∙ append-nil (accepted_of (take k xs)))
+
+-- the same, with the requests
+logged_take : (xs : List Entry) (k : ℕ) (d : Entry) → k < length xs → d ≡ get_or xs k d → logged_of (take (k + 1) xs) ≡ logged_of (take k xs) ++ logged_if d.slot d.serial d.verdict
+logged_take xs k d less is =
+    ap logged_of (take_more xs k d less) ∙ (logged_snoc (take k xs) (get_or xs k d) ∙ ap (λ e. logged_of (take k xs) ++ logged_if e.slot e.serial e.verdict) (sym is))
+
+pub logged_accepted : (xs : List Entry) (k : ℕ) (d : Entry) (a : Action) → k < length xs → d ≡ get_or xs k d → d.verdict ≡ Accepted a → logged_of (take (k + 1) xs) ≡ logged_of (take k xs) ++ record { slot = d.slot; serial = d.serial; action = a } ∷ []
+logged_accepted xs k d a less here is = logged_take xs k d less here ∙ ap (λ v. logged_of (take k xs) ++ logged_if d.slot d.serial v) is
+
+pub logged_refused : (xs : List Entry) (k : ℕ) (d : Entry) (r : Refusal) (n : ℕ) → k < length xs → d ≡ get_or xs k d → d.verdict ≡ Refused r n → logged_of (take (k + 1) xs) ≡ logged_of (take k xs)
+logged_refused xs k d r n less here is = logged_take xs k d less here ∙ (ap (λ v. logged_of (take k xs) ++ logged_if d.slot d.serial v) is ∙ append-nil (logged_of (take k xs)))
 
 -- entries of a slot
 pub of_slot_append : (s : ℕ) (xs ys : List Entry) → of_slot s (xs ++ ys) ≡ of_slot s xs ++ of_slot s ys

@@ -3,10 +3,12 @@ use Rattle.std.specs.Prelude.{◌≡◌, ℕ, ◌+◌, ◌==◌, List, [], ◌�
 use Rattle.std.specs.List.{filter}
 use Rattle.alm_types.specs.declared.action.Action.{Action}
 use Rattle.alm_types.specs.declared.request.Request.{Request}
+use Rattle.alm_types.specs.declared.want.Want.{Want}
 use Rattle.alm_types.specs.declared.refusal.Refusal.{Refusal}
 use Rattle.alm_types.specs.declared.verdict.Verdict.{Verdict}
 use Rattle.alm_types.specs.declared.verdict.Verdict.TheVariants.{Accepted, Refused}
 use Rattle.alm_types.specs.declared.entry.Entry.{Entry}
+use Rattle.alm_types.specs.declared.logged_action.LoggedAction.{LoggedAction}
 use Rattle.alm_types.specs.Batches.{Judged}
 use Rattle.alm_model.specs.Plant.{Condensed}
 use Rattle.alm_model.specs.Accept.{accept}
@@ -34,6 +36,18 @@ abbrev pub accepted_of : List Entry → List Action
 accepted_of [] = []
 accepted_of (e ∷ entries) = when_accepted e.verdict ++ accepted_of entries
 
+abbrev pub logged_if : ℕ → ℕ → Verdict → List LoggedAction
+logged_if slot serial (Accepted a) = record { slot = slot; serial = serial; action = a } ∷ []
+logged_if slot serial (Refused r n) = []
+
+-- the same, each with its request
+abbrev pub logged_of : List Entry → List LoggedAction
+logged_of [] = []
+logged_of (e ∷ entries) = logged_if e.slot e.serial e.verdict ++ logged_of entries
+
+abbrev pub logged_actions : List LoggedAction → List Action
+logged_actions logged = map (λ l. l.action) logged
+
 abbrev pub request_of : Entry → Request
 request_of e = record { slot = e.slot; want = e.want }
 
@@ -59,7 +73,7 @@ IsLegal base entries = verdicts_of entries ≡ verdicts_on base (requests_of ent
 abbrev pub of_slot : ℕ → List Entry → List Entry
 of_slot slot entries = filter (λ e. e.slot == slot) entries
 
-abbrev pub wants_of : List Entry → List Action
+abbrev pub wants_of : List Entry → List Want
 wants_of entries = map (λ e. e.want) entries
 
 abbrev pub serials_of : List Entry → List ℕ

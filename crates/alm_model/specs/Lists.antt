@@ -34,6 +34,10 @@ alarms_by key test attrs rows = in_order (λ i. key_of key (slice_get rows i)) (
 abbrev pub stamp : State → ℕ
 stamp s = s.stamp
 
+-- the stamp of an alarm, 0 if there is no such alarm
+abbrev pub stamp_of : Panel → ℕ → ℕ
+stamp_of p i = key_of stamp (slice_get p.rows i)
+
 -- when a shelving ends; 0 without one
 abbrev pub deadline : State → ℕ
 deadline s = unwrap_or s.shelved_until 0

@@ -2,6 +2,7 @@
 use Rattle.std.proofs.Common.{◌≡◌, ◌≢◌, ◌<◌, ◌≤◌, ◌+◌, ◌⊎◌, ◌∙◌, ◌++◌, ◌∷◌, [], inl, inr, ℕ, zero, suc, List, length, All, Option, Some, None, slice_get, refl, sym, ap, subst, arith, length-append}
 use Rattle.std.proofs.lemmas.List.Elements.{All-head, All-nil, All-push, All-tail}
 use Rattle.alm_types.specs.declared.action.Action.{Action}
+use Rattle.alm_types.specs.declared.want.Want.{Want}
 use Rattle.alm_types.specs.declared.entry.Entry.{Entry}
 use Rattle.alm_types.specs.declared.verdict.Verdict.{Verdict}
 use Rattle.alm_types.specs.Sizes.{most_entries}
@@ -22,8 +23,8 @@ use Rattle.alm_flush.proofs.Pacing.{accepted_few}
 use Rattle.alm_pipeline.specs.declared.pipeline.Pipeline.{Pipeline}
 use Rattle.alm_pipeline.specs.declared.step.Step.{Step}
 use Rattle.alm_pipeline.specs.declared.step.Step.TheVariants.{Send, Take, Seal, Fetch, Call, Publish, Release, GiveBack, Receive, Look, Crash, Reopen}
-use Rattle.alm_pipeline.specs.declared.event.Event.{Event}
-use Rattle.alm_pipeline.specs.declared.event.Event.TheVariants.{Sent, Took, Sealed, Fetched, More, Committed, Failed, Published, Released, GaveBack, Received, Looked, Crashed, Opened, Skipped}
+use Rattle.alm_pipeline.specs.declared.step_event.StepEvent.{StepEvent}
+use Rattle.alm_pipeline.specs.declared.step_event.StepEvent.TheVariants.{Sent, Took, Sealed, Fetched, More, Committed, Failed, Published, Released, GaveBack, Received, Looked, Crashed, Opened, Skipped}
 use Rattle.alm_pipeline.specs.World.{World, BatchStage, Nothing, Held, Stored, Shown, Answers, IsHeld, after_publish, after_step, closed_world, entries_at, entry_for, fetches, stores, told_more}
 use Rattle.alm_pipeline.specs.Pace.{FitsBatch, FitsBatches, Paces, PacesAll, most_more}
 use Rattle.alm_pipeline.specs.Headline.{after_steps}
@@ -52,7 +53,7 @@ never_in_none Stopped left takes will_take actions is = is
 
 -- ---- no batch has more entries than fit
 
-entry_one : (w : World) (slot : ℕ) (asked : Option Action) (v : Verdict) → length (entry_for w slot asked v) ≤ 1
+entry_one : (w : World) (slot : ℕ) (asked : Option Want) (v : Verdict) → length (entry_for w slot asked v) ≤ 1
 entry_one w slot None v = omega arith
 entry_one w slot (Some a) v = omega arith
 
@@ -82,7 +83,7 @@ told_few (Shown entries n) short = short
 pub none_few : (w : World) → FitsBatches (closed_world w)
 none_few w = (omega arith, All-nil FitsBatch, omega arith)
 
-pub few_after : (w : World) (step : Step) (event : Event) → Answers w step event → FitsBatches w → FitsBatches (after_step w step event)
+pub few_after : (w : World) (step : Step) (event : StepEvent) → Answers w step event → FitsBatches w → FitsBatches (after_step w step event)
 few_after w (Send slot a) (Sent serial) answers few = few
 few_after w (Take slot) (Took v) answers few =
     let es = entry_for w slot (slice_get (w.sent slot) (w.taken slot)) v in
@@ -123,7 +124,7 @@ told_stage (Stored entries) held = refl
 told_stage (Shown entries n) held = absurd held
 
 -- a batch that is held then was held before
-pub still_stage : (w : World) (step : Step) (event : Event) → IsStill step → IsHeld (after_step w step event).stage → (after_step w step event).stage ≡ w.stage
+pub still_stage : (w : World) (step : Step) (event : StepEvent) → IsStill step → IsHeld (after_step w step event).stage → (after_step w step event).stage ≡ w.stage
 still_stage w (Send slot a) (Sent serial) still held = refl
 still_stage w (Take slot) (Took v) still held = refl
 still_stage w Seal Sealed still held = refl
@@ -138,7 +139,7 @@ still_stage w (Receive slot) (Received serial verdict number) still held = refl
 still_stage w (Look slot query) (Looked count) still held = refl
 still_stage w step event still held = refl
 
-still_paces : (calls : ℕ) (w : World) (step : Step) (event : Event) (more : ℕ) → IsStill step → Paces calls w step event more more
+still_paces : (calls : ℕ) (w : World) (step : Step) (event : StepEvent) (more : ℕ) → IsStill step → Paces calls w step event more more
 still_paces calls w Fetch event more still = absurd still
 still_paces calls w Call event more still = absurd still
 still_paces calls w step event more still = omega arith
@@ -187,7 +188,7 @@ module _ {K D : Type 0} {g : Ghosts K D} {d : Disk.Ghosts D} where
   same_in_pace w more p q store held e = record { few = e.few; ends = λ is. commits_as (more + 1) p q store (ap to_commit held) (e.ends is) }
 
   -- a step that leaves the store alone
-  pub still_in_pace : (w : World) (step : Step) (event : Event) (more : ℕ) (p q : Pipeline K D g d) → IsStill step → Answers w step event → MatchesOpenWorld w p → MatchesOpenWorld (after_step w step event) q
+  pub still_in_pace : (w : World) (step : Step) (event : StepEvent) (more : ℕ) (p q : Pipeline K D g d) → IsStill step → Answers w step event → MatchesOpenWorld w p → MatchesOpenWorld (after_step w step event) q
       → q.flusher.store ≡ p.flusher.store → EndsAfter more w p → StepsInPace w step event more q
   still_in_pace w step event more p q still answers old new store e = (
     more,
@@ -246,7 +247,7 @@ module _ {K D : Type 0} {g : Ghosts K D} {d : Disk.Ghosts D} where
 -- ---- runs
 
 -- a run in pace continues by one step
-pub paces_more : (calls : ℕ) (w : World) (more last next : ℕ) (steps : List Step) (trace : List Event) (s : Step) (e : Event) → PacesAll calls w more steps trace last → Paces calls (after_steps w steps trace) s e last next
+pub paces_more : (calls : ℕ) (w : World) (more last next : ℕ) (steps : List Step) (trace : List StepEvent) (s : Step) (e : StepEvent) → PacesAll calls w more steps trace last → Paces calls (after_steps w steps trace) s e last next
     → PacesAll calls w more (steps ++ s ∷ []) (trace ++ e ∷ []) next
 paces_more calls w more last next [] [] s e paces step = (next, subst (λ (n : ℕ). Paces calls w s e n next) paces step, refl)
 paces_more calls w more last next (x ∷ steps) (y ∷ trace) s e paces step = (paces.0, paces.1, paces_more calls (after_step w x y) paces.0 last next steps trace s e paces.2 step)

@@ -17,7 +17,7 @@ use Rattle.alm_types.specs.declared.refusal.Refusal.TheVariants.{OutOfMemory}
 use Rattle.alm_model.specs.Plant.{Condensed}
 use Rattle.alm_model.specs.Look.{look, IsLook}
 use Rattle.alm_pipeline.specs.declared.step.Step.TheVariants.{Look}
-use Rattle.alm_pipeline.specs.declared.event.Event.TheVariants.{Skipped}
+use Rattle.alm_pipeline.specs.declared.step_event.StepEvent.TheVariants.{Skipped}
 use Rattle.alm_pipeline.specs.World.{World, shown_in}
 use Rattle.alm_pipeline.specs.Headline.{Moves}
 use Rattle.alm_pipeline.specs.Matches.{MatchesWorld, MatchesOpenWorld, sight_in}

@@ -17,8 +17,8 @@ use Rattle.alm_pipeline.specs.Named.{names_byte}
 use Rattle.alm_pipeline.specs.World.{World, Answers, Possible, after_step, entries_at, IsHeld}
 use Rattle.alm_pipeline.specs.declared.step.Step.{Step}
 use Rattle.alm_pipeline.specs.declared.step.Step.TheVariants.{Call, Look, Crash, Reopen}
-use Rattle.alm_pipeline.specs.declared.event.Event.{Event}
-use Rattle.alm_pipeline.specs.declared.event.Event.TheVariants.{More, Committed, Failed, Crashed, Opened, Unopened, Skipped}
+use Rattle.alm_pipeline.specs.declared.step_event.StepEvent.{StepEvent}
+use Rattle.alm_pipeline.specs.declared.step_event.StepEvent.TheVariants.{More, Committed, Failed, Crashed, Opened, Unopened, Skipped}
 
 -- ---- runs
 
@@ -52,7 +52,7 @@ module _ (recovers : List ℕ → Condensed → Type 0) (spent : DeviceState →
   -- - A crash leaves the bytes that it names.
   -- - A reopening reads an image, and answers what it encodes, or a fault with its cause.
   -- - No other step touches the device.
-  abbrev pub Moves : World → Step → Event → Sight → Sight → Type 0
+  abbrev pub Moves : World → Step → StepEvent → Sight → Sight → Type 0
   Moves w Call More d d' = MayCall w d × IsCall d.state d'.state × (d'.failures ≡ d.failures) × (d'.phase ≢ Stopped) × (d'.refused ≡ d.refused)
   Moves w Call Committed d d' =
       (0 < length (accepted_of (entries_at w.stage)) → IsCall d.state d'.state) × (accepted_of (entries_at w.stage) ≡ [] → d'.state ≡ d.state) × (d'.failures ≡ d.failures)
@@ -70,14 +70,14 @@ module _ (recovers : List ℕ → Condensed → Type 0) (spent : DeviceState →
 
   -- the world's run of these steps, from a device to a device. Each entry answers its step, the device moves as the step lets it,
   -- and the headline holds before the first step and after each
-  abbrev pub IsRun : World → Sight → List Step → List Event → Sight → Type 0
+  abbrev pub IsRun : World → Sight → List Step → List StepEvent → Sight → Type 0
   IsRun w d [] [] d' = Headline w d.state × (d' ≡ d)
   IsRun w d (step ∷ steps) (event ∷ trace) d' = Headline w d.state × ((m : Sight) × Answers w step event × Moves w step event d m × IsRun (after_step w step event) m steps trace d')
   IsRun w d [] (event ∷ trace) d' = ⊥
   IsRun w d (step ∷ steps) [] d' = ⊥
 
 -- the world after these steps
-abbrev pub after_steps : World → List Step → List Event → World
+abbrev pub after_steps : World → List Step → List StepEvent → World
 after_steps w [] trace = w
 after_steps w (step ∷ steps) [] = w
 after_steps w (step ∷ steps) (event ∷ trace) = after_steps (after_step w step event) steps trace

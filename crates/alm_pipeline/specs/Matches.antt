@@ -1,6 +1,7 @@
 -- The parts of a bench are those of a world. For the proofs: no public call's reader needs it.
 use Rattle.std.specs.Prelude.{◌≡◌, ◌≢◌, ◌<◌, ◌≤◌, ◌+◌, ◌^◌, ℕ, false, List, [], ◌∷◌, ◌++◌, length, slice_get, Some}
 use Rattle.alm_types.specs.declared.action.Action.{Action}
+use Rattle.alm_types.specs.declared.want.Want.{Want}
 use Rattle.alm_types.specs.declared.entry.Entry.{Entry}
 use Rattle.alm_types.specs.Batches.{Judged}
 use Rattle.alm_model.specs.Plant.{Condensed}
@@ -29,8 +30,8 @@ use Rattle.alm_pipeline.specs.declared.pipeline.Pipeline.{Pipeline}
 use Rattle.alm_flush.specs.declared.advance.Advance as A
 use Rattle.alm_pipeline.specs.declared.step.Step.{Step}
 use Rattle.alm_pipeline.specs.declared.step.Step.TheVariants.{Call, Crash, Reopen}
-use Rattle.alm_pipeline.specs.declared.event.Event.{Event}
-use Rattle.alm_pipeline.specs.declared.event.Event.TheVariants.{More, Committed, Failed, Skipped}
+use Rattle.alm_pipeline.specs.declared.step_event.StepEvent.{StepEvent}
+use Rattle.alm_pipeline.specs.declared.step_event.StepEvent.TheVariants.{More, Committed, Failed, Skipped}
 use Rattle.alm_pipeline.specs.World.{World, BatchStage, Nothing, Held, Stored, Shown, Note, IsHeld, after_step}
 use Rattle.alm_pipeline.specs.Pace.{FitsBatches, Paces, most_more}
 use Rattle.alm_pipeline.specs.Headline.{Sight}
@@ -72,7 +73,7 @@ module _ {T : Type 0} {g : ToldGhosts T} where
   notes_of (r ∷ receipts) = note r ∷ notes_of receipts
 
   -- the ends of the slots have these lists
-  pub record Slots (sent : ℕ → List Action) (taken : ℕ → ℕ) (released : ℕ → List Note) (received : ℕ → ℕ) (consoles : List (Console T g)) (inboxes : List Inbox) (outboxes : List (Outbox T g)) : Type 0 where
+  pub record Slots (sent : ℕ → List Want) (taken : ℕ → ℕ) (released : ℕ → List Note) (received : ℕ → ℕ) (consoles : List (Console T g)) (inboxes : List Inbox) (outboxes : List (Outbox T g)) : Type 0 where
     pub requests : (s : ℕ) (c : Console T g) → slice_get consoles s ≡ Some c → sent_of c ≡ sent s
     pub judged : (s : ℕ) → length (taken_by s inboxes) ≡ taken s
     pub notes : (s : ℕ) → notes_of (released_by s outboxes) ≡ released s
@@ -108,7 +109,7 @@ pub record FitLists (plant : Condensed) (accepted stored published : List Action
   pub enough : floor ≤ plant.panel.count + length published
 
 -- the event of a device call
-abbrev pub event_of_call : A.Advance → Event
+abbrev pub event_of_call : A.Advance → StepEvent
 event_of_call A.TheVariants.More = More
 event_of_call A.TheVariants.Committed = Committed
 event_of_call A.TheVariants.Failed = Failed
@@ -143,7 +144,7 @@ module _ {K D : Type 0} {g : Ghosts K D} {d : Disk.Ghosts D} where
     pub trying : ¬ (IsGivenUp p.flusher.held)
 
   -- after a call that failed the parts still fit the world that the failure shuts
-  abbrev pub CallFits : World → Event → Pipeline K D g d → Type 0
+  abbrev pub CallFits : World → StepEvent → Pipeline K D g d → Type 0
   CallFits w Failed p = MatchesWorld w p
   CallFits w event p = MatchesOpenWorld (after_step w Call event) p
 
@@ -157,7 +158,7 @@ module _ {K D : Type 0} {g : Ghosts K D} {d : Disk.Ghosts D} where
     pub ends : IsHeld w.stage → CommitsIn (more + 1) p
 
   -- this step with this answer meets the pace, and the commit ends after as many calls as it leaves
-  abbrev pub StepsInPace : World → Step → Event → (more : ℕ) → Pipeline K D g d → Type 0
+  abbrev pub StepsInPace : World → Step → StepEvent → (more : ℕ) → Pipeline K D g d → Type 0
   StepsInPace w step event more p = (next : ℕ) × Paces most_more w step event more next × EndsAfter next (after_step w step event) p
 
   -- the ends of a slot, and those of the batch rings, know what the others did

@@ -2,6 +2,7 @@
 -- answers, and what the world is then. What a slot has seen is not in it: no answer depends on that.
 use Rattle.std.specs.Prelude.{suc, ◌≡◌, ◌⊎◌, ◌<◌, ◌≤◌, ◌+◌, ◌-◌, ◌^◌, ◌==◌, if◌then◌else◌, ℕ, Bool, true, false, max, List, [], ◌∷◌, ◌++◌, length, take, drop, slice_get, Option, Some, None, is_some, IsOk}
 use Rattle.alm_types.specs.declared.action.Action.{Action}
+use Rattle.alm_types.specs.declared.want.Want.{Want}
 use Rattle.alm_types.specs.declared.entry.Entry.{Entry}
 use Rattle.alm_types.specs.declared.verdict.Verdict.{Verdict}
 use Rattle.alm_model.specs.Plant.{Condensed}
@@ -12,8 +13,8 @@ use Rattle.alm_store.specs.declared.open_fault.OpenFault.{OpenFault}
 use Rattle.alm_store.specs.declared.open_fault.OpenFault.TheVariants as F
 use Rattle.alm_pipeline.specs.declared.step.Step.{Step}
 use Rattle.alm_pipeline.specs.declared.step.Step.TheVariants.{Send, Take, Seal, Fetch, Call, Publish, Release, GiveBack, Receive, Look, Crash, Reopen}
-use Rattle.alm_pipeline.specs.declared.event.Event.{Event}
-use Rattle.alm_pipeline.specs.declared.event.Event.TheVariants.{Sent, Busy, Took, Sealed, Fetched, More, Committed, Failed, Published, Released, GaveBack, Received, Looked, Crashed, Opened, Unopened, Skipped}
+use Rattle.alm_pipeline.specs.declared.step_event.StepEvent.{StepEvent}
+use Rattle.alm_pipeline.specs.declared.step_event.StepEvent.TheVariants.{Sent, Busy, Took, Sealed, Fetched, More, Committed, Failed, Published, Released, GaveBack, Received, Looked, Crashed, Opened, Unopened, Skipped}
 use Rattle.alm_types.specs.Sizes.{most_entries, most_out}
 
 -- ---- the world
@@ -36,7 +37,7 @@ pub record World : Type 0 where
   pub base : Condensed
   pub accepted : List Action
   -- what each slot has sent, and how many of it were taken
-  pub sent : ℕ → List Action
+  pub sent : ℕ → List Want
   pub taken : ℕ → ℕ
   -- what was released to each slot, and how many of it were received
   pub released : ℕ → List Note
@@ -91,11 +92,11 @@ first plant = new_world plant [] plant.panel.count
 -- ---- what is possible, and what is answered
 
 -- what is answered to the request that a slot has sent: it is judged on the plant of all actions accepted before it
-abbrev pub judges : World → ℕ → Option Action → Verdict → Type 0
+abbrev pub judges : World → ℕ → Option Want → Verdict → Type 0
 judges w slot None v = ⊥
 judges w slot (Some a) v = v ≡ verdict_of (live w) (record { slot = slot; want = a })
 
-abbrev pub entry_for : World → ℕ → Option Action → Verdict → List Entry
+abbrev pub entry_for : World → ℕ → Option Want → Verdict → List Entry
 entry_for w slot None v = []
 entry_for w slot (Some a) v = record { slot = slot; serial = w.taken slot + 1; want = a; verdict = v } ∷ []
 
@@ -170,7 +171,7 @@ IsStorageFault (F.Damaged half at) = ⊥
 
 -- the trace entry is an answer of this step. More, Committed or Failed is decided by the device. A Call is also possible if a
 -- checkpoint is open, as the device's own phase says: MayCall and Moves of Headline
-abbrev pub Answers : World → Step → Event → Type 0
+abbrev pub Answers : World → Step → StepEvent → Type 0
 Answers w (Send slot a) (Sent serial) = Possible w (Send slot a) × (length (w.sent slot) < most_out + w.received slot) × (serial ≡ length (w.sent slot) + 1)
 Answers w (Send slot a) Busy = Possible w (Send slot a) × ((most_out + w.received slot ≤ length (w.sent slot)) ⊎ (2 ^ 64 ≤ length (w.sent slot) + 1))
 Answers w (Take slot) (Took v) = Possible w (Take slot) × judges w slot (slice_get (w.sent slot) (w.taken slot)) v
@@ -221,7 +222,7 @@ abbrev pub tells : World → ℕ → List Note → World
 tells w slot notes = record w { stage = told_more w.stage; released = with_at w.released slot (w.released slot ++ notes); floor = raise w.floor notes }
 
 -- the world after a step that was answered so
-abbrev pub after_step : World → Step → Event → World
+abbrev pub after_step : World → Step → StepEvent → World
 after_step w (Send slot a) (Sent serial) = record w { sent = with_at w.sent slot (w.sent slot ++ a ∷ []) }
 after_step w (Take slot) (Took v) = with_entry w slot (entry_for w slot (slice_get (w.sent slot) (w.taken slot)) v)
 after_step w Seal Sealed = record w { sealed = w.sealed ++ w.taking ∷ []; taking = []; free = w.free - 1 }

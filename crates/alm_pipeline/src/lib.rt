@@ -11,7 +11,7 @@
 //! |---|---|
 //! | [`Pipeline`] | the consoles of all slots, the sequencer, and the flusher with its board, over any store |
 //! | [`Step`] | what happens next: a slot sends or receives, a part makes a step, the power fails, the device is opened again |
-//! | [`Event`] | what came of it |
+//! | [`StepEvent`] | what came of it |
 //!
 //! What is used above: each step answers an event. In a world of plain lists (specs/World.antt) that event is the step's answer.
 //! The pipeline is then that of the world after it (`answer` and `fits` of each step). Skipped means that the step isn't possible
@@ -30,11 +30,11 @@
 //! - over any device the calls of a held batch's commit return More at most 646 times (by `fetch`, `call`, `go`)
 #![tactic(auto)]
 
-mod event;
 mod opening;
 mod pipeline;
 mod step;
+mod step_event;
 
-pub use event::Event;
 pub use pipeline::Pipeline;
 pub use step::Step;
+pub use step_event::StepEvent;

@@ -11,15 +11,15 @@ ghost use Rattle.alm_pipeline.specs.World.{World, Answers, after_step};
 ghost use Rattle.alm_pipeline.specs.declared.step.Step.TheVariants as S;
 ghost use Rattle.alm_types.specs.Sizes.{slot_count};
 
-use crate::event::Event;
 use crate::step::Step;
+use crate::step_event::StepEvent;
 use alm_board::{Look, PlainBoard, PlainTold, Seen};
 use alm_flush::{Advance, Fetch, Flusher, Publishes, Release};
 use alm_plant::Plant;
 use alm_rings::{Console, Receipt};
 use alm_seq::{Seal, Sequencer, Take};
 use alm_store::Store;
-use alm_types::{Action, Answer, Query, Slot};
+use alm_types::{Answer, Query, Slot, Want};
 
 /// All parts from request to receipt over a store: the consoles of all slots, the sequencer and the flusher with its board.
 #[derive(Drop)]
@@ -91,23 +91,23 @@ impl<K: Store> Pipeline<K> {
     }
 
     /// A slot sends a request.
-    pub fn send(&mut self, slot: Slot, action: Action) -> Event
-        ensures answer { (w : World) → MatchesOpenWorld w self.old → Answers w (S.Send slot action) result }
+    pub fn send(&mut self, slot: Slot, want: Want) -> StepEvent
+        ensures answer { (w : World) → MatchesOpenWorld w self.old → Answers w (S.Send slot want) result }
         ensures fits { (w : World) → MatchesOpenWorld w self.old →
-            MatchesOpenWorld (after_step w (S.Send slot action) result) self.new }
+            MatchesOpenWorld (after_step w (S.Send slot want) result) self.new }
         ensures store { self.new.flusher.store ≡ self.old.flusher.store }
     {
         self.tell_all(slot);
         let console = &mut self.consoles[slot.number() as usize];
-        match console.send(action) {
-            Ok(serial) => Event::Sent(serial),
-            Err(_) => Event::Busy,
+        match console.send(want) {
+            Ok(serial) => StepEvent::Sent(serial),
+            Err(_) => StepEvent::Busy,
         }
     }
 
     /// The next request of a slot is judged and joins the open batch. First it is checked whether one waits, so Skipped means
     /// that none does.
-    pub fn take(&mut self, slot: Slot) -> Event
+    pub fn take(&mut self, slot: Slot) -> StepEvent
         ensures answer { (w : World) → MatchesOpenWorld w self.old → Answers w (S.Take slot) result }
         ensures fits { (w : World) → MatchesOpenWorld w self.old →
             MatchesOpenWorld (after_step w (S.Take slot) result) self.new }
@@ -115,18 +115,18 @@ impl<K: Store> Pipeline<K> {
     {
         self.tell_all(slot);
         if !self.sequencer.waits(slot) {
-            return Event::Skipped;
+            return StepEvent::Skipped;
         }
         match self.sequencer.take(slot) {
-            Take::Taken(verdict) => Event::Took(verdict),
-            Take::Empty => Event::Skipped,
-            Take::BatchFull => Event::Skipped,
+            Take::Taken(verdict) => StepEvent::Took(verdict),
+            Take::Empty => StepEvent::Skipped,
+            Take::BatchFull => StepEvent::Skipped,
         }
     }
 
     /// The open batch is sealed. Its ends are synchronised once more, so that the batch that was opened is known to have been
     /// free.
-    pub fn seal(&mut self) -> Event
+    pub fn seal(&mut self) -> StepEvent
         ensures answer { (w : World) → MatchesOpenWorld w self.old → Answers w S.Seal result }
         ensures fits { (w : World) → MatchesOpenWorld w self.old →
             MatchesOpenWorld (after_step w S.Seal result) self.new }
@@ -136,15 +136,15 @@ impl<K: Store> Pipeline<K> {
         match self.sequencer.seal() {
             Seal::Sealed => {
                 self.tell_batches();
-                Event::Sealed
+                StepEvent::Sealed
             }
-            Seal::NothingToSeal => Event::Skipped,
-            Seal::NoRoom => Event::Skipped,
+            Seal::NothingToSeal => StepEvent::Skipped,
+            Seal::NoRoom => StepEvent::Skipped,
         }
     }
 
     /// The next sealed batch is fetched.
-    pub fn fetch(&mut self) -> Event
+    pub fn fetch(&mut self) -> StepEvent
         ensures answer { (w : World) → MatchesOpenWorld w self.old → Answers w S.Fetch result }
         ensures fits { (w : World) → MatchesOpenWorld w self.old →
             MatchesOpenWorld (after_step w S.Fetch result) self.new }
@@ -161,16 +161,16 @@ impl<K: Store> Pipeline<K> {
     {
         self.tell_batches();
         if !self.flusher.waits() {
-            return Event::Skipped;
+            return StepEvent::Skipped;
         }
         match self.flusher.fetch() {
             Fetch::Got => {
                 // for the proof: how many calls are left of the store's work, by the contract of `images`
                 self.flusher.keeper().images();
-                Event::Fetched
+                StepEvent::Fetched
             }
-            Fetch::Empty => Event::Skipped,
-            Fetch::Held => Event::Skipped,
+            Fetch::Empty => StepEvent::Skipped,
+            Fetch::Held => StepEvent::Skipped,
         }
     }
 
@@ -216,7 +216,7 @@ impl<K: Store> Pipeline<K> {
     }
 
     /// The committed batch is shown.
-    pub fn publish(&mut self) -> Event
+    pub fn publish(&mut self) -> StepEvent
         ensures answer { (w : World) → MatchesOpenWorld w self.old → Answers w S.Publish result }
         ensures fits { (w : World) → MatchesOpenWorld w self.old →
             MatchesOpenWorld (after_step w S.Publish result) self.new }
@@ -224,32 +224,32 @@ impl<K: Store> Pipeline<K> {
     {
         self.tell_batches();
         match self.flusher.publish(&(), &()) {
-            Publishes::Published => Event::Published,
-            Publishes::OutOfMemory => Event::Skipped,
-            Publishes::NotYet => Event::Skipped,
+            Publishes::Published => StepEvent::Published,
+            Publishes::OutOfMemory => StepEvent::Skipped,
+            Publishes::NotYet => StepEvent::Skipped,
         }
     }
 
     /// The next verdict is released to its slot.
-    pub fn release(&mut self) -> Event
+    pub fn release(&mut self) -> StepEvent
         ensures answer { (w : World) → MatchesOpenWorld w self.old → Answers w S.Release result }
         ensures fits { (w : World) → MatchesOpenWorld w self.old →
             MatchesOpenWorld (after_step w S.Release result) self.new }
         ensures store { self.new.flusher.store ≡ self.old.flusher.store }
     {
         let Some(entry) = self.flusher.next() else {
-            return Event::Skipped;
+            return StepEvent::Skipped;
         };
         self.tell_all(entry.slot);
         match self.flusher.release() {
-            Release::Released(slot) => Event::Released(slot),
-            Release::Full(_) => Event::Skipped,
-            Release::Nothing => Event::Skipped,
+            Release::Released(slot) => StepEvent::Released(slot),
+            Release::Full(_) => StepEvent::Skipped,
+            Release::Nothing => StepEvent::Skipped,
         }
     }
 
     /// The batch is returned after its verdicts are released.
-    pub fn give_back(&mut self) -> Event
+    pub fn give_back(&mut self) -> StepEvent
         ensures answer { (w : World) → MatchesOpenWorld w self.old → Answers w S.GiveBack result }
         ensures fits { (w : World) → MatchesOpenWorld w self.old →
             MatchesOpenWorld (after_step w S.GiveBack result) self.new }
@@ -257,14 +257,14 @@ impl<K: Store> Pipeline<K> {
     {
         self.tell_batches();
         if self.flusher.give_back() {
-            Event::GaveBack
+            StepEvent::GaveBack
         } else {
-            Event::Skipped
+            StepEvent::Skipped
         }
     }
 
     /// A slot receives its next receipt.
-    pub fn receive(&mut self, slot: Slot) -> Event
+    pub fn receive(&mut self, slot: Slot) -> StepEvent
         ensures answer { (w : World) → MatchesOpenWorld w self.old → Answers w (S.Receive slot) result }
         ensures fits { (w : World) → MatchesOpenWorld w self.old →
             MatchesOpenWorld (after_step w (S.Receive slot) result) self.new }
@@ -273,26 +273,27 @@ impl<K: Store> Pipeline<K> {
         self.tell_all(slot);
         let place = slot.number() as usize;
         if !self.consoles[place].waits() {
-            return Event::Skipped;
+            return StepEvent::Skipped;
         }
         let console = &mut self.consoles[place];
         match console.receive() {
             Some(receipt) => {
                 let Receipt {
+                    slot: _,
                     serial,
                     verdict,
                     number,
                     told: _,
                 } = receipt;
-                Event::Received(serial, verdict, number)
+                StepEvent::Received(serial, verdict, number)
             }
-            None => Event::Skipped,
+            None => StepEvent::Skipped,
         }
     }
 
     /// Asks the published plant, for any slot. A look at an existing list is skipped only if a growth of the answer's list was
     /// refused, which the answer counts.
-    pub fn look(&self, query: Query, answer: &mut Answer) -> Event
+    pub fn look(&self, query: Query, answer: &mut Answer) -> StepEvent
         ensures answer { (w : World) (slot : ℕ) → MatchesOpenWorld w self.now →
             Answers w (S.Look slot query) result }
         ensures fits { (w : World) (slot : ℕ) → MatchesOpenWorld w self.now →
@@ -303,13 +304,13 @@ impl<K: Store> Pipeline<K> {
     {
         let mut look = self.flusher.board().looker(Seen::new());
         match look.look(query, answer) {
-            Ok(count) => Event::Looked(count),
-            Err(_) => Event::Skipped,
+            Ok(count) => StepEvent::Looked(count),
+            Err(_) => StepEvent::Skipped,
         }
     }
 
     /// One of the steps that leave the device alone.
-    pub fn go(&mut self, step: &Step, answer: &mut Answer) -> Event
+    pub fn go(&mut self, step: &Step, answer: &mut Answer) -> StepEvent
         requires { IsInner step.now }
         ensures answer { (w : World) → MatchesOpenWorld w self.old → Answers w step.now result }
         ensures fits { (w : World) → MatchesOpenWorld w self.old →

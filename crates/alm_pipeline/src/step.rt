@@ -1,12 +1,12 @@
 //! What may happen next.
 
-use alm_types::{Action, Query, Slot};
+use alm_types::{Query, Slot, Want};
 
 /// What may happen next.
 #[derive(Drop)]
 pub enum Step {
     /// A slot sends a request.
-    Send(Slot, Action),
+    Send(Slot, Want),
     /// The next request of a slot is judged, and joins the open batch.
     Take(Slot),
     /// The open batch is sealed, and an empty one opened.

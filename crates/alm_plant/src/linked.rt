@@ -1,10 +1,11 @@
 //! The plant by linked lists, within an action too.
 
 ghost use Rattle.std.specs.Prelude.{◌≡◌, ◌<◌, ◌≤◌, ◌+◌, ◌*◌, ◌^◌, true, IsTrue, None, Some, IfOk, OnOk, length, slice_get, map, sum, All, fold, vec_capacity};
-ghost use Rattle.alm_model.specs.Accept.{alarm_refusal, own_refusal, refusal, answer, accept};
+ghost use Rattle.alm_model.specs.Accept.{alarm_refusal, own_refusal, refusal, answer, accept, stamp_refusal};
 ghost use Rattle.alm_model.specs.Keeping.{in_brief};
 ghost use Rattle.alm_model.specs.Step.{with_outcome, touch, settle, unshelve, later, with_one_more, with_attributes, step};
-ghost use Rattle.alm_state.specs.Outcome.{outcome, attr_after};
+ghost use Rattle.alm_state.specs.Outcome.{outcome, attr_after, unless};
+ghost use Rattle.alm_types.specs.declared.refusal.Refusal.TheVariants.{AnnunciatedAgain};
 ghost use Rattle.alm_model.specs.Lists.{due, exists, list_of, moments_in};
 ghost use Rattle.alm_model.specs.declared.list.List.TheVariants.{Priority, Area, Wheel, Stale, Chatter};
 ghost use Rattle.alm_model.specs.Measured.{measured_by};
@@ -22,7 +23,7 @@ use alm_links::ListNodes;
 use alm_measure::Measure;
 use alm_model::{AlarmsByNumber, List, PlantParts, WHEEL_SLOTS, fill_by_number, may_ask};
 use alm_state::{Outcome, Row, attr_after, outcome_of, row_refusal};
-use alm_types::{Action, AlarmId, Attr, MOST_ACTIONS, Moment, Refusal, Request, Table};
+use alm_types::{Action, AlarmId, Attr, MOST_ACTIONS, Moment, Refusal, Request, Table, Want};
 use std::alloc::{AllocError, Global};
 use std::marker::Model;
 
@@ -297,17 +298,34 @@ impl Linked {
         }
     }
 
+    // Whether the alarm has the stamp of the annunciation that is to be acknowledged.
+    fn has_stamp(&self, want: Want) -> bool
+        ensures { unless result AnnunciatedAgain ≡ stamp_refusal self.now.panel want }
+    {
+        match want {
+            Want::Do(_) => true,
+            Want::AckSeen(id, stamp) => match self.nodes.rows().get(id.0 as usize) {
+                Some(row) => row.stamp == stamp,
+                None => stamp == 0,
+            },
+        }
+    }
+
     /// The action, or the first reason against the request.
     pub fn check(&self, request: &Request) -> Result<Action, Refusal>
         ensures verdict { result ≡ accept self.now.panel request.now }
         ensures admitted { IfOk result (λ action. refusal self.now.panel action ≡ None) }
         ensures counted { OnOk result (self.now.panel.count < most_actions) }
     {
-        if !may_ask(request.slot, &request.want) {
+        let action = request.want.action();
+        if !may_ask(request.slot, &action) {
             return Err(Refusal::WrongRole);
         }
-        self.admits(&request.want)?;
-        Ok(request.want)
+        self.admits(&action)?;
+        if !self.has_stamp(request.want) {
+            return Err(Refusal::AnnunciatedAgain);
+        }
+        Ok(action)
     }
 
     /// The alarm's row becomes another; whether it is annunciated.

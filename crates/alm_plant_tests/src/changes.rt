@@ -1,8 +1,8 @@
 //! Rows of priorities and setpoints that consoles change.
 
+use crate::asked::Asked::{Clock, SetPriority, SetSetpoint, Shelve, Value};
 use crate::check::{Row, check_all};
 use crate::step::Step::{Attributes, Done, Listed, Refused, State};
-use crate::want::Want::{Clock, SetPriority, SetSetpoint, Shelve, Value};
 use alm_model::List;
 use alm_types::{Refusal, Shown};
 use std::test::Fail;

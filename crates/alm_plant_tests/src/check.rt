@@ -1,11 +1,11 @@
 //! A check of a row.
 
+use crate::asked::Asked;
 use crate::step::Step;
-use crate::want::Want;
 use alm_desk::worked_table;
 use alm_model::{Alarms, List, PlainPlant};
 use alm_plant::Plant;
-use alm_types::{AlarmId, Answer, Refusal, Request, Shown, Slot, Table};
+use alm_types::{AlarmId, Answer, Refusal, Request, Shown, Slot, Table, Want};
 use std::alloc::{AllocError, Global};
 use std::process::Abort;
 use std::test::Fail;
@@ -17,19 +17,24 @@ pub type Row = (&'static str, &'static [Step<'static>]);
 fn is_answered<P: Alarms>(
     plant: &mut P,
     slot: u8,
-    want: Want,
+    want: Asked,
     wanted: Option<Refusal>,
 ) -> Result<bool, Fail> {
     let slot = Slot::new(slot).ok_or("slot")?;
     let want = want.action()?;
     let before = plant.count();
-    Ok(match plant.check(&Request { slot, want }) {
-        Ok(action) => {
-            plant.apply(&action);
-            wanted.is_none() && action == want && plant.count() == before + 1
-        }
-        Err(refusal) => wanted == Some(refusal) && plant.count() == before,
-    })
+    Ok(
+        match plant.check(&Request {
+            slot,
+            want: Want::Do(want),
+        }) {
+            Ok(action) => {
+                plant.apply(&action);
+                wanted.is_none() && action == want && plant.count() == before + 1
+            }
+            Err(refusal) => wanted == Some(refusal) && plant.count() == before,
+        },
+    )
 }
 
 /// Whether a plant shows this of an alarm.

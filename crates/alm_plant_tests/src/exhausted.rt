@@ -1,25 +1,25 @@
 //! A plant that has had all its actions.
 
-use crate::want::Want;
+use crate::asked::Asked;
 use alm_desk::worked_table;
 use alm_model::{Alarms, PlainPlant, PlantParts};
 use alm_plant::Plant;
-use alm_types::{Refusal, Request, Slot};
+use alm_types::{Refusal, Request, Slot, Want};
 use std::alloc::Global;
 use std::test::Fail;
 
 /// What each slot asks of such a plant, and why it is refused: last because no action numbers are left.
-const REFUSED: [(u8, Want, Refusal); 10] = [
-    (17, Want::Clock(5), Refusal::Exhausted),
-    (17, Want::Clock(0), Refusal::ClockBack),
-    (0, Want::Ack(0), Refusal::NotUnacknowledged),
-    (0, Want::Shelve(0, 5), Refusal::Exhausted),
-    (0, Want::SetPriority(0, 2), Refusal::Exhausted),
-    (0, Want::SetPriority(0, 1), Refusal::SameValue),
-    (0, Want::SetPriority(0, 5), Refusal::PriorityRange),
-    (0, Want::SetPriority(4, 5), Refusal::NoSuchAlarm),
-    (0, Want::SetSetpoint(0, 900), Refusal::Exhausted),
-    (0, Want::SetSetpoint(0, 800), Refusal::SameValue),
+const REFUSED: [(u8, Asked, Refusal); 10] = [
+    (17, Asked::Clock(5), Refusal::Exhausted),
+    (17, Asked::Clock(0), Refusal::ClockBack),
+    (0, Asked::Ack(0), Refusal::NotUnacknowledged),
+    (0, Asked::Shelve(0, 5), Refusal::Exhausted),
+    (0, Asked::SetPriority(0, 2), Refusal::Exhausted),
+    (0, Asked::SetPriority(0, 1), Refusal::SameValue),
+    (0, Asked::SetPriority(0, 5), Refusal::PriorityRange),
+    (0, Asked::SetPriority(4, 5), Refusal::NoSuchAlarm),
+    (0, Asked::SetSetpoint(0, 900), Refusal::Exhausted),
+    (0, Asked::SetSetpoint(0, 800), Refusal::SameValue),
 ];
 
 /// A plant of the worked table that has had all its actions.
@@ -30,13 +30,13 @@ fn full<P: Alarms>(alloc: Global) -> Result<P, Fail> {
 }
 
 /// The first of them that such a plant answers otherwise.
-fn first_wrong<P: Alarms + Drop>(alloc: Global) -> Result<Option<Want>, Fail> {
+fn first_wrong<P: Alarms + Drop>(alloc: Global) -> Result<Option<Asked>, Fail> {
     let plant = full::<P>(alloc)?;
     for (slot, want, refusal) in REFUSED {
         let slot = Slot::new(slot).ok_or("slot")?;
         let request = Request {
             slot,
-            want: want.action()?,
+            want: Want::Do(want.action()?),
         };
         if plant.check(&request).err() != Some(refusal) {
             return Ok(Some(want));

@@ -14,6 +14,8 @@
 #![tactic(auto)]
 
 #[cfg(test)]
+mod asked;
+#[cfg(test)]
 mod built;
 #[cfg(test)]
 mod changes;
@@ -37,5 +39,3 @@ mod stamps;
 mod step;
 #[cfg(test)]
 mod tables;
-#[cfg(test)]
-mod want;

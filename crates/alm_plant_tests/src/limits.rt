@@ -3,7 +3,7 @@
 use alm_model::{Alarms, List, PlainPlant, PlantParts};
 use alm_plant::Plant;
 use alm_types::{
-    Action, AlarmId, Attr, Kind, Moment, Reading, Refusal, Request, Settings, Slot, Table,
+    Action, AlarmId, Attr, Kind, Moment, Reading, Refusal, Request, Settings, Slot, Table, Want,
 };
 use std::alloc::Global;
 use std::process::Abort;
@@ -30,7 +30,10 @@ fn table(alloc: Global, rows: u32, areas: u8) -> Result<Table, Fail> {
 /// Asks for an action at a slot.
 fn ask<P: Alarms>(plant: &mut P, slot: u8, want: Action) -> Result<(), Fail> {
     let slot = Slot::new(slot).ok_or("slot")?;
-    let action = plant.check(&Request { slot, want })?;
+    let action = plant.check(&Request {
+        slot,
+        want: Want::Do(want),
+    })?;
     plant.apply(&action);
     Ok(())
 }

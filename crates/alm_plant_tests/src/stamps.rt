@@ -1,9 +1,9 @@
 //! Stamps, and what depends on them.
 
-use crate::want::Want;
+use crate::asked::Asked;
 use alm_model::{Alarms, List, PlainPlant};
 use alm_plant::Plant;
-use alm_types::{AlarmId, Attr, Kind, Request, Settings, Slot, Table};
+use alm_types::{AlarmId, Attr, Kind, Request, Settings, Slot, Table, Want};
 use std::alloc::Global;
 use std::process::Abort;
 use std::test::Fail;
@@ -23,15 +23,18 @@ const ALARM: Settings = Settings {
 fn three<P: Alarms + Drop>(alloc: Global) -> Result<P, Fail> {
     let alarms = vec![in alloc; Attr::new(ALARM, b"T", b"")?; 3]?;
     let mut plant = P::new(alloc, &Table::new(alarms, 1)?)?;
-    ask(&mut plant, 17, Want::Clock(1000))?;
+    ask(&mut plant, 17, Asked::Clock(1000))?;
     Ok(plant)
 }
 
 /// Asks at a slot.
-fn ask<P: Alarms>(plant: &mut P, slot: u8, want: Want) -> Result<(), Fail> {
+fn ask<P: Alarms>(plant: &mut P, slot: u8, want: Asked) -> Result<(), Fail> {
     let slot = Slot::new(slot).ok_or("slot")?;
     let want = want.action()?;
-    let action = plant.check(&Request { slot, want })?;
+    let action = plant.check(&Request {
+        slot,
+        want: Want::Do(want),
+    })?;
     plant.apply(&action);
     Ok(())
 }
@@ -45,12 +48,12 @@ fn shelvings<P: Alarms + Drop, R: Abort + AllocGlobal>(rt: &R) -> Result<(), Fai
     let alloc = rt.alloc();
     let mut plant = three::<P>(alloc)?;
     for alarm in 0..3_u32 {
-        ask(&mut plant, 16, Want::Value(alarm, 1))?;
+        ask(&mut plant, 16, Asked::Value(alarm, 1))?;
     }
     for (alarm, seconds) in [(0, 300), (1, 20), (2, 150)] {
-        ask(&mut plant, 0, Want::Shelve(alarm, seconds))?;
+        ask(&mut plant, 0, Asked::Shelve(alarm, seconds))?;
     }
-    ask(&mut plant, 17, Want::Clock(2000))?;
+    ask(&mut plant, 17, Asked::Clock(2000))?;
     let mut area = Vec::with_capacity(alloc, plant.alarms())?;
     assert!(rt; plant.has_list(List::Area(0)));
     plant.fill(List::Area(0), &mut area);
@@ -67,11 +70,11 @@ fn three_shelvings_end_by_deadline(rt: HostRuntime) -> Result<(), Fail> {
 fn stamp_of_a_normal_alarm<P: Alarms + Drop, R: Abort + AllocGlobal>(rt: &R) -> Result<(), Fail> {
     let mut plant = three::<P>(rt.alloc())?;
     assert_eq!(rt; stamp(&plant, 0), Some(0));
-    ask(&mut plant, 16, Want::Value(0, 1))?;
+    ask(&mut plant, 16, Asked::Value(0, 1))?;
     assert_eq!(rt; stamp(&plant, 0), Some(1));
-    ask(&mut plant, 0, Want::Ack(0))?;
+    ask(&mut plant, 0, Asked::Ack(0))?;
     assert_eq!(rt; stamp(&plant, 0), Some(1));
-    ask(&mut plant, 16, Want::Value(0, 0))?;
+    ask(&mut plant, 16, Asked::Value(0, 0))?;
     assert_eq!(rt; stamp(&plant, 0), Some(0));
     assert_eq!(rt; plant.next_stamp(), 2);
     Ok(())
@@ -85,13 +88,13 @@ fn an_alarm_that_becomes_normal_has_no_stamp(rt: HostRuntime) -> Result<(), Fail
 
 fn stamp_of_a_shelving<P: Alarms + Drop, R: Abort + AllocGlobal>(rt: &R) -> Result<(), Fail> {
     let mut plant = three::<P>(rt.alloc())?;
-    ask(&mut plant, 0, Want::Shelve(2, 60))?;
-    ask(&mut plant, 0, Want::Shelve(1, 60))?;
+    ask(&mut plant, 0, Asked::Shelve(2, 60))?;
+    ask(&mut plant, 0, Asked::Shelve(1, 60))?;
     assert_eq!(rt; stamp(&plant, 2), Some(1));
     assert_eq!(rt; stamp(&plant, 1), Some(2));
-    ask(&mut plant, 0, Want::Oos(2, true))?;
+    ask(&mut plant, 0, Asked::Oos(2, true))?;
     assert_eq!(rt; stamp(&plant, 2), Some(1));
-    ask(&mut plant, 0, Want::Unshelve(2))?;
+    ask(&mut plant, 0, Asked::Unshelve(2))?;
     assert_eq!(rt; stamp(&plant, 2), Some(0));
     Ok(())
 }

@@ -1,6 +1,6 @@
 //! Steps of a row.
 
-use crate::want::Want;
+use crate::asked::Asked;
 use alm_model::List;
 use alm_types::{Refusal, Shown};
 
@@ -8,9 +8,9 @@ use alm_types::{Refusal, Shown};
 #[derive(Clone, Copy)]
 pub enum Step<'a> {
     /// A slot's request is accepted.
-    Done(u8, Want),
+    Done(u8, Asked),
     /// A slot's request is refused.
-    Refused(u8, Want, Refusal),
+    Refused(u8, Asked, Refusal),
     /// What is shown of an alarm, whether it is active, its flags and the end of its shelving.
     State(u32, Shown, bool, u8, Option<u64>),
     /// The priority and the setpoint of an alarm.

@@ -37,7 +37,7 @@ AreJudgedAtDesk plant kept (j ∷ js) later kept_later =
 pub record RunsDesk {D : Type 0} (d : Disk.Ghosts D) (base : Condensed) (honest_before : Type 0) (back : D) (input old new : Option (List ℕ)) (done : Result Unit Fault) (later : DeskState) : Type 0 where
   pub honest : ∥ (honest_before ↔ d.honest back) ∥₁
   pub judged : ∥ ((js : List JudgedAtDesk) × AreJudgedAtDesk (Some base) (base ∷ []) js later.plant later.kept) ∥₁
-  pub printed : OnOk done (IfSome input (λ bytes. IsDesk (standing_of (Some base) (base ∷ []) 0 0) bytes old later new))
+  pub printed : OnOk done (IfSome input (λ bytes. IsDesk (standing_of (Some base) (base ∷ []) 0 0 []) bytes old later new))
   pub holds : d.honest back → (image : List ℕ) → IsImage (d.state back) image → ∥ ((plant : Condensed) × Contains later.kept plant × StandsFor image plant) ∥₁
 
 -- the device was opened by an opening's calls, and reads as one of its images. If what it gave was that, this is the plant that the image

@@ -112,7 +112,7 @@ fn run_backend_between<I: Read + Drop, B: Backend + Drop, W: Write + Drop>(
         (λ end. (later : DeskState) × (B.stands end.back ≡ later.plant) × (B.kept end.back ≡ later.kept) ×
         OnOk end.done
         (IfSome (I.remaining reader.old.inner)
-        (λ input. IsDesk (standing_of (B.stands backend) (B.kept backend) (B.failures backend) 0) input
+        (λ input. IsDesk (standing_of (B.stands backend) (B.kept backend) (B.failures backend) 0 []) input
         (W.contents writer.old.inner) later (W.contents writer.new.inner)))) }
 {
     let mut desk = LocalDesk::new(alloc, backend)?;

@@ -2,9 +2,9 @@
 use Rattle.std.proofs.Common.{◌≡◌, ◌≢◌, ◌≤◌, ◌++◌, inl, inr, ℕ, List, [], ◌∷◌, length, refl, sym, subst, arith}
 use Rattle.std.proofs.lemmas.List.Elements.{All-head, All-tail}
 use Rattle.alm_pipeline.specs.declared.step.Step.{Step}
-use Rattle.alm_pipeline.specs.declared.event.Event.{Event}
+use Rattle.alm_pipeline.specs.declared.step_event.StepEvent.{StepEvent}
 use Rattle.alm_pipeline.specs.declared.step.Step.TheVariants.{Send, Take, Seal, Fetch, Call, Publish, Release, GiveBack, Receive, Look, Crash, Reopen}
-use Rattle.alm_pipeline.specs.declared.event.Event.TheVariants.{Sent, Took, Sealed, Fetched, More, Committed, Failed, Published, Released, GaveBack, Received, Looked, Crashed, Opened}
+use Rattle.alm_pipeline.specs.declared.step_event.StepEvent.TheVariants.{Sent, Took, Sealed, Fetched, More, Committed, Failed, Published, Released, GaveBack, Received, Looked, Crashed, Opened}
 use Rattle.alm_model.specs.Plant.{Condensed}
 use Rattle.alm_pipeline.specs.World.{World, IsHeld, after_step, closed_world, first}
 use Rattle.alm_pipeline.specs.Headline.{after_steps}
@@ -15,12 +15,12 @@ use Rattle.alm_progress.proofs.Kept.{all_kept, shut_kept}
 use Rattle.alm_progress.proofs.Less.{stage_most}
 use Rattle.alm_progress.proofs.Rounds.{fairly, held_or_not, stage_same, stays}
 
-abbrev IsSound : Event → Type 0
+abbrev IsSound : StepEvent → Type 0
 IsSound event = event ≢ Failed
 
 -- ---- a run after another
 
-answers_apart : (w : World) (steps then' : List Step) (trace rest : List Event) → length steps ≡ length trace → AnswersAll w (steps ++ then') (trace ++ rest) → AnswersAll w steps trace × AnswersAll (after_steps w steps trace) then' rest
+answers_apart : (w : World) (steps then' : List Step) (trace rest : List StepEvent) → length steps ≡ length trace → AnswersAll w (steps ++ then') (trace ++ rest) → AnswersAll w steps trace × AnswersAll (after_steps w steps trace) then' rest
 answers_apart w [] then' [] rest same answers = (tt, answers)
 answers_apart w [] then' (event ∷ trace) rest same answers = absurd (omega (arith, same))
 answers_apart w (step ∷ steps) then' [] rest same answers = absurd (omega (arith, same))
@@ -28,14 +28,14 @@ answers_apart w (step ∷ steps) then' (event ∷ trace) rest same answers =
     let a = answers_apart (after_step w step event) steps then' trace rest (omega (arith, same)) answers.1 in
     ((answers.0, a.0), a.1)
 
-after_apart : (w : World) (steps then' : List Step) (trace rest : List Event) → length steps ≡ length trace → after_steps w (steps ++ then') (trace ++ rest) ≡ after_steps (after_steps w steps trace) then' rest
+after_apart : (w : World) (steps then' : List Step) (trace rest : List StepEvent) → length steps ≡ length trace → after_steps w (steps ++ then') (trace ++ rest) ≡ after_steps (after_steps w steps trace) then' rest
 after_apart w [] then' [] rest same = refl
 after_apart w [] then' (event ∷ trace) rest same = absurd (omega (arith, same))
 after_apart w (step ∷ steps) then' [] rest same = absurd (omega (arith, same))
 after_apart w (step ∷ steps) then' (event ∷ trace) rest same = after_apart (after_step w step event) steps then' trace rest (omega (arith, same))
 
 module _ (calls : ℕ) where
-  paces_apart : (w : World) (more : ℕ) (steps then' : List Step) (trace rest : List Event) (last : ℕ) → length steps ≡ length trace → PacesAll calls w more (steps ++ then') (trace ++ rest) last
+  paces_apart : (w : World) (more : ℕ) (steps then' : List Step) (trace rest : List StepEvent) (last : ℕ) → length steps ≡ length trace → PacesAll calls w more (steps ++ then') (trace ++ rest) last
       → (next : ℕ) × PacesAll calls w more steps trace next × PacesAll calls (after_steps w steps trace) next then' rest last
   paces_apart w more [] then' [] rest last same paces = (more, refl, paces)
   paces_apart w more [] then' (event ∷ trace) rest last same paces = absurd (omega (arith, same))
@@ -45,7 +45,7 @@ module _ (calls : ℕ) where
       (a.0, (paces.0, paces.1, a.1), a.2)
 
   -- while a batch is held no more of its calls are left than of any batch's
-  held_few : (w : World) (step : Step) (event : Event) (more next : ℕ) → Paces calls w step event more next → (IsHeld w.stage → more ≤ calls) → IsHeld (after_step w step event).stage → next ≤ calls
+  held_few : (w : World) (step : Step) (event : StepEvent) (more next : ℕ) → Paces calls w step event more next → (IsHeld w.stage → more ≤ calls) → IsHeld (after_step w step event).stage → next ≤ calls
   held_few w Fetch Fetched more next paces few held = paces
   held_few w Call More more next paces few held = omega (arith, paces held, few held)
   held_few w Call Committed more next paces few held = absurd (stored_free w w.stage refl held)
@@ -62,7 +62,7 @@ module _ (calls : ℕ) where
   held_few w (Look slot query) (Looked count) more next paces few held = omega (arith, paces, few held)
   held_few w step event more next paces few held = omega (arith, paces, few held)
 
-  held_still_few : (w : World) (more : ℕ) (steps : List Step) (trace : List Event) (last : ℕ) → PacesAll calls w more steps trace last → (IsHeld w.stage → more ≤ calls) → IsHeld (after_steps w steps trace).stage → last ≤ calls
+  held_still_few : (w : World) (more : ℕ) (steps : List Step) (trace : List StepEvent) (last : ℕ) → PacesAll calls w more steps trace last → (IsHeld w.stage → more ≤ calls) → IsHeld (after_steps w steps trace).stage → last ≤ calls
   held_still_few w more [] [] last paces few held = omega (arith, paces, few held)
   held_still_few w more [] (event ∷ trace) last paces few held = absurd paces
   held_still_few w more (step ∷ steps) [] last paces few held = absurd paces
@@ -72,7 +72,7 @@ module _ (calls : ℕ) where
 -- ---- what is driven
 
 module _ (slots calls : ℕ) where
-  pub goes_driven : (w : World) (more : ℕ) (steps : List Step) (trace : List Event) (last : ℕ) → AllServe slots calls steps → AnswersAll w steps trace → NoneFails trace → PacesAll calls w more steps trace last
+  pub goes_driven : (w : World) (more : ℕ) (steps : List Step) (trace : List StepEvent) (last : ℕ) → AllServe slots calls steps → AnswersAll w steps trace → NoneFails trace → PacesAll calls w more steps trace last
       → Drives slots calls w more steps trace (after_steps w steps trace) last
   goes_driven w more [] [] last serve answers sound paces = (refl, paces)
   goes_driven w more [] (event ∷ trace) last serve answers sound paces = absurd answers
@@ -85,15 +85,15 @@ module _ (slots calls : ℕ) where
   )
 
   -- what is driven one after the other
-  driven_apart : (w : World) (more : ℕ) (steps rest : List Step) (trace : List Event) (end : World) (last : ℕ) → Drives slots calls w more (steps ++ rest) trace end last
-      → (first then' : List Event) × (between : World) × (next : ℕ) × Drives slots calls w more steps first between next × Drives slots calls between next rest then' end last
+  driven_apart : (w : World) (more : ℕ) (steps rest : List Step) (trace : List StepEvent) (end : World) (last : ℕ) → Drives slots calls w more (steps ++ rest) trace end last
+      → (first then' : List StepEvent) × (between : World) × (next : ℕ) × Drives slots calls w more steps first between next × Drives slots calls between next rest then' end last
   driven_apart w more [] rest trace end last d = ([], trace, w, more, (refl, refl), d)
   driven_apart w more (step ∷ steps) rest [] end last d = absurd d
   driven_apart w more (step ∷ steps) rest (event ∷ trace) end last d =
       let r = driven_apart (after_step w step event) d.3.0 steps rest trace end last d.3.2 in
       (event ∷ r.0, r.1, r.2, r.3, (d.0, d.1, d.2, (d.3.0, d.3.1, r.4)), r.5)
 
-  driven_rounds : (w : World) (more : ℕ) (rounds : List (List Step)) (trace : List Event) (end : World) (last : ℕ) → AreRounds slots calls rounds → Drives slots calls w more (steps_of rounds) trace end last → DrivesRounds slots calls w more rounds end last
+  driven_rounds : (w : World) (more : ℕ) (rounds : List (List Step)) (trace : List StepEvent) (end : World) (last : ℕ) → AreRounds slots calls rounds → Drives slots calls w more (steps_of rounds) trace end last → DrivesRounds slots calls w more rounds end last
   driven_rounds w more [] [] end last are d = d
   driven_rounds w more [] (event ∷ trace) end last are d = absurd d
   driven_rounds w more (round ∷ rounds) trace end last are d =
@@ -108,7 +108,7 @@ module _ (slots calls : ℕ) where
       serve_both [] rest serve then' = then'
       serve_both (step ∷ steps) rest serve then' = (serve.0, serve_both steps rest serve.1 then')
 
-  pub fair_run : (w : World) (more : ℕ) (rounds : List (List Step)) (trace : List Event) (last : ℕ) → LosesNothing w → AreRounds slots calls rounds → left_to_do slots calls w more ≤ length rounds
+  pub fair_run : (w : World) (more : ℕ) (rounds : List (List Step)) (trace : List StepEvent) (last : ℕ) → LosesNothing w → AreRounds slots calls rounds → left_to_do slots calls w more ≤ length rounds
       → AnswersAll w (steps_of rounds) trace → NoneFails trace → PacesAll calls w more (steps_of rounds) trace last → AreReceived slots calls w (after_steps w (steps_of rounds) trace)
   fair_run w more rounds trace last l are most answers sound paces =
       let end = after_steps w (steps_of rounds) trace in
@@ -121,7 +121,7 @@ module _ (slots calls : ℕ) where
     | inr idle ↦ stays slots calls w calls more (stage_same slots calls w.stage calls more idle)
   ]
 
-  pub fair_life : (plant : Condensed) (steps : List Step) (rounds : List (List Step)) (trace rest : List Event) (last : ℕ) → length steps ≡ length trace → AnswersAll (closed_world (first plant)) (steps ++ steps_of rounds) (trace ++ rest)
+  pub fair_life : (plant : Condensed) (steps : List Step) (rounds : List (List Step)) (trace rest : List StepEvent) (last : ℕ) → length steps ≡ length trace → AnswersAll (closed_world (first plant)) (steps ++ steps_of rounds) (trace ++ rest)
       → PacesAll calls (closed_world (first plant)) 0 (steps ++ steps_of rounds) (trace ++ rest) last → AreRounds slots calls rounds → NoneFails rest
       → left_to_do slots calls (after_steps (closed_world (first plant)) steps trace) calls ≤ length rounds
       → AreReceived slots calls (after_steps (closed_world (first plant)) steps trace) (after_steps (closed_world (first plant)) (steps ++ steps_of rounds) (trace ++ rest))

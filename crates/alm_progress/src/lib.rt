@@ -27,12 +27,13 @@
 
 ghost use Rattle.std.specs.Prelude.{◌≡◌, ◌<◌, ◌≤◌, ◌+◌, ◌*◌, ◌⊎◌, ◌++◌, ℕ, List, length};
 ghost use Rattle.alm_types.specs.declared.action.Action.{Action};
+ghost use Rattle.alm_types.specs.declared.want.Want.{Want};
 ghost use Rattle.alm_types.specs.declared.query.Query.{Query};
 ghost use Rattle.alm_model.specs.Plant.{Condensed};
 ghost use Rattle.alm_pipeline.specs.declared.step.Step.{Step};
 ghost use Rattle.alm_pipeline.specs.declared.step.Step.TheVariants.{Send, Look};
-ghost use Rattle.alm_pipeline.specs.declared.event.Event.{Event};
-ghost use Rattle.alm_pipeline.specs.declared.event.Event.TheVariants.{Sent};
+ghost use Rattle.alm_pipeline.specs.declared.step_event.StepEvent.{StepEvent};
+ghost use Rattle.alm_pipeline.specs.declared.step_event.StepEvent.TheVariants.{Sent};
 ghost use Rattle.alm_pipeline.specs.World.{World, Answers, Possible, after_step, closed_world, first, new_world};
 ghost use Rattle.alm_pipeline.specs.Headline.{after_steps};
 ghost use Rattle.alm_pipeline.specs.Pace.{Paces, PacesAll};
@@ -42,7 +43,7 @@ ghost use Rattle.alm_progress.specs.Progress.{AllServe, AnswersAll, AreRounds, D
 
 /// Each step of sequencer, flusher or a receiver that is possible leaves less to do, whatever it is answered.
 pub fn each_step_leaves_less()
-    ensures { (slots calls more more_then : ℕ) (w : World) (step : Step) (event : Event) →
+    ensures { (slots calls more more_then : ℕ) (w : World) (step : Step) (event : StepEvent) →
         Serves slots calls step → Possible w step → Answers w step event →
         Paces calls w step event more more_then →
         left_to_do slots calls (after_step w step event) more_then <
@@ -51,15 +52,15 @@ pub fn each_step_leaves_less()
 
 /// A request that is sent adds its own steps: eight, and the calls of its commit that return More.
 pub fn a_request_adds_its_own()
-    ensures { (slots calls more slot serial : ℕ) (w : World) (action : Action) → slot < slots →
+    ensures { (slots calls more slot serial : ℕ) (w : World) (want : Want) → slot < slots →
         w.taken slot ≤ length (w.sent slot) →
-        left_to_do slots calls (after_step w (Send slot action) (Sent serial)) more ≡
+        left_to_do slots calls (after_step w (Send slot want) (Sent serial)) more ≡
         left_to_do slots calls w more + (calls + 8) }
 {}
 
 /// A look doesn't change it.
 pub fn a_look_adds_nothing()
-    ensures { (slots calls more slot : ℕ) (w : World) (query : Query) (event : Event) →
+    ensures { (slots calls more slot : ℕ) (w : World) (query : Query) (event : StepEvent) →
         left_to_do slots calls (after_step w (Look slot query) event) more ≡
         left_to_do slots calls w more }
 {}
@@ -69,9 +70,9 @@ pub fn a_look_adds_nothing()
 pub fn nothing_gets_lost()
     ensures fresh { (plant : Condensed) (kept : List Action) (least : ℕ) →
         LosesNothing (new_world plant kept least) }
-    ensures step { (w : World) (step : Step) (event : Event) → Answers w step event →
+    ensures step { (w : World) (step : Step) (event : StepEvent) → Answers w step event →
         LosesNothing w → LosesNothing (after_step w step event) }
-    ensures runs { (plant : Condensed) (steps : List Step) (trace : List Event) →
+    ensures runs { (plant : Condensed) (steps : List Step) (trace : List StepEvent) →
         AnswersAll (closed_world (first plant)) steps trace →
         LosesNothing (after_steps (closed_world (first plant)) steps trace) }
 {}
@@ -87,7 +88,7 @@ pub fn nothing_is_stuck()
 /// or new request. Each step then counts towards what was left to do. If none is possible any more, or as many were made as were
 /// left, each request is received.
 pub fn all_is_answered_in_time()
-    ensures { (slots calls more last : ℕ) (w : World) (steps : List Step) (trace : List Event) →
+    ensures { (slots calls more last : ℕ) (w : World) (steps : List Step) (trace : List StepEvent) →
         LosesNothing w → StepsPossibly slots calls w more steps trace last →
         (length steps + left_to_do slots calls (after_steps w steps trace) last ≤
         left_to_do slots calls w more) ×
@@ -101,10 +102,10 @@ pub fn all_is_answered_in_time()
 pub fn a_way_leads_to_the_end()
     ensures driven { (slots calls more : ℕ) (w : World) (steps : List Step) →
         AllServe slots calls steps →
-        (trace : List Event) × (end : World) × (last : ℕ) ×
+        (trace : List StepEvent) × (end : World) × (last : ℕ) ×
         Drives slots calls w more steps trace end last }
     ensures way { (slots calls more : ℕ) (w : World) → LosesNothing w →
-        (steps : List Step) × (trace : List Event) × (last : ℕ) ×
+        (steps : List Step) × (trace : List StepEvent) × (last : ℕ) ×
         StepsPossibly slots calls w more steps trace last ×
         AreReceived slots calls w (after_steps w steps trace) }
 {}
@@ -121,17 +122,17 @@ pub fn every_fair_schedule_answers_all()
 /// they are as many rounds as steps were left, each request that was sent before them is received. This holds from any world that
 /// lost nothing, and so after any steps of a life.
 pub fn every_fair_run_answers_all()
-    ensures driven { (slots calls more last : ℕ) (w : World) (steps : List Step) (trace : List Event) →
+    ensures driven { (slots calls more last : ℕ) (w : World) (steps : List Step) (trace : List StepEvent) →
         AllServe slots calls steps → AnswersAll w steps trace → NoneFails trace →
         PacesAll calls w more steps trace last →
         Drives slots calls w more steps trace (after_steps w steps trace) last }
     ensures rounds { (slots calls more last : ℕ) (w : World) (rounds : List (List Step))
-        (trace : List Event) → LosesNothing w → AreRounds slots calls rounds →
+        (trace : List StepEvent) → LosesNothing w → AreRounds slots calls rounds →
         left_to_do slots calls w more ≤ length rounds → AnswersAll w (steps_of rounds) trace →
         NoneFails trace → PacesAll calls w more (steps_of rounds) trace last →
         AreReceived slots calls w (after_steps w (steps_of rounds) trace) }
     ensures lives { (slots calls last : ℕ) (plant : Condensed) (steps : List Step)
-        (rounds : List (List Step)) (trace rest : List Event) → length steps ≡ length trace →
+        (rounds : List (List Step)) (trace rest : List StepEvent) → length steps ≡ length trace →
         AnswersAll (closed_world (first plant)) (steps ++ steps_of rounds) (trace ++ rest) →
         PacesAll calls (closed_world (first plant)) 0 (steps ++ steps_of rounds) (trace ++ rest)
         last → AreRounds slots calls rounds → NoneFails rest →

@@ -1,7 +1,7 @@
 -- The ends of a slot: what went into its rings, what came out, and what each end knows.
 use Rattle.std.specs.Prelude.{◌≡◌, ℕ, List}
 use Rattle.rtrb.specs.Ring.{sent, received, known_free, known_items, IsPair, SameProducer, SameConsumer}
-use Rattle.alm_types.specs.declared.action.Action.{Action}
+use Rattle.alm_types.specs.declared.want.Want.{Want}
 use Rattle.alm_rings.specs.declared.receipt.Receipt.{Receipt}
 use Rattle.alm_rings.specs.declared.told.Told.{Ghosts}
 use Rattle.alm_rings.specs.declared.console.Console.{Console}
@@ -9,11 +9,11 @@ use Rattle.alm_rings.specs.declared.inbox.Inbox.{Inbox}
 use Rattle.alm_rings.specs.declared.outbox.Outbox.{Outbox}
 
 -- all requests that were taken, oldest first
-abbrev pub taken_of : Inbox → List Action
+abbrev pub taken_of : Inbox → List Want
 taken_of i = received i.requests
 
 -- the requests that it knows to wait
-abbrev pub waiting_in : Inbox → List Action
+abbrev pub waiting_in : Inbox → List Want
 waiting_in i = known_items i.requests
 
 -- the same end
@@ -22,7 +22,7 @@ SameInbox a b = SameConsumer a.requests b.requests × (b.slot ≡ a.slot)
 
 module _ {T : Type 0} {g : Ghosts T} where
   -- all requests that were sent, oldest first
-  abbrev pub sent_of : Console T g → List Action
+  abbrev pub sent_of : Console T g → List Want
   sent_of c = sent c.requests
 
   -- all receipts that were received, oldest first

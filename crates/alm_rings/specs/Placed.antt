@@ -1,6 +1,6 @@
 -- Ends by their slots.
 use Rattle.std.specs.Prelude.{◌≡◌, ◌==◌, ℕ, List, [], ◌∷◌, if◌then◌else◌, Option, Some, None, slice_get}
-use Rattle.alm_types.specs.declared.action.Action.{Action}
+use Rattle.alm_types.specs.declared.want.Want.{Want}
 use Rattle.alm_rings.specs.declared.receipt.Receipt.{Receipt}
 use Rattle.alm_rings.specs.declared.told.Told.{Ghosts}
 use Rattle.alm_rings.specs.declared.console.Console.{Console}
@@ -20,20 +20,20 @@ AreApart {E} number ends = (j k : ℕ) (d e : E) → slice_get ends j ≡ Some d
 abbrev pub inbox_at : ℕ → List Inbox → Option Inbox
 inbox_at slot inboxes = end_at (λ i. i.slot) slot inboxes
 
-abbrev pub taken_in : Option Inbox → List Action
+abbrev pub taken_in : Option Inbox → List Want
 taken_in None = []
 taken_in (Some i) = taken_of i
 
-abbrev pub known_to : Option Inbox → List Action
+abbrev pub known_to : Option Inbox → List Want
 known_to None = []
 known_to (Some i) = waiting_in i
 
 -- the requests of a slot that were taken, none if it has no end
-abbrev pub taken_by : ℕ → List Inbox → List Action
+abbrev pub taken_by : ℕ → List Inbox → List Want
 taken_by slot inboxes = taken_in (inbox_at slot inboxes)
 
 -- the requests of a slot that are known to wait
-abbrev pub waiting_by : ℕ → List Inbox → List Action
+abbrev pub waiting_by : ℕ → List Inbox → List Want
 waiting_by slot inboxes = known_to (inbox_at slot inboxes)
 
 -- the same end, or none

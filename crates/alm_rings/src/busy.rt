@@ -1,9 +1,9 @@
 //! Requests that were not sent.
 
-use alm_types::Action;
+use alm_types::Want;
 use thiserror::Error;
 
-/// The action was not sent.
+/// The request was not sent.
 #[derive(Clone, Copy, Debug, PartialEq, Eq, Error)]
-#[error("the action was not sent")]
-pub struct Busy(pub Action);
+#[error("the request was not sent")]
+pub struct Busy(pub Want);

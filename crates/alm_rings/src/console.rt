@@ -8,21 +8,21 @@ use crate::busy::Busy;
 use crate::receipt::Receipt;
 use crate::serials::{LAST_SERIAL, Serials};
 use crate::told::Told;
-use alm_types::{Action, Slot};
+use alm_types::{Slot, Want};
 use rtrb::{Consumer, Producer, PushError};
 use std::alloc::Global;
 
 /// How many requests may be unanswered, and how many each ring of a slot holds.
 pub const MOST_OUT: usize = 64;
 
-/// The console's end of a slot: it sends actions, and receives receipts.
+/// The console's end of a slot: it sends requests, and receives receipts.
 #[derive(Drop)]
 pub struct Console<T: Told + Drop> {
     pub(crate) slot: Slot,
     pub(crate) serial: u64,
     // How many receipts were received, up to the last count.
     pub(crate) receipts: u64,
-    pub(crate) requests: Producer<Action, Global, Serials>,
+    pub(crate) requests: Producer<Want, Global, Serials>,
     pub(crate) replies: Consumer<Receipt<T>>,
     ghost serials: { serial ≡ length (sent requests) },
     ghost count: { receipts ≡ min (length (received replies)) (2 ^ 64 - 1) },
@@ -50,34 +50,34 @@ impl<T: Told + Drop> Console<T> {
         self.serial.saturating_sub(self.receipts)
     }
 
-    /// Sends an action, and gives its serial, from 1.
+    /// Sends a request, and gives its serial, from 1.
     ///
-    /// Changes nothing and returns [`Busy`] with the action if [`MOST_OUT`] requests are unanswered, if no place is known to be
+    /// Changes nothing and returns [`Busy`] with what was wanted if [`MOST_OUT`] requests are unanswered, if no place is known to be
     /// free, or if the serials are used up.
-    pub fn send(&mut self, action: Action) -> Result<u64, Busy>
+    pub fn send(&mut self, want: Want) -> Result<u64, Busy>
         ensures end { SameConsole self.old self.new }
         ensures receipts { (received_of self.new ≡ received_of self.old) ×
             (coming_to self.new ≡ coming_to self.old) }
         ensures sent { IfOk result
-            (λ serial. (sent_of self.new ≡ sent_of self.old ++ action ∷ []) ×
+            (λ serial. (sent_of self.new ≡ sent_of self.old ++ want ∷ []) ×
             (serial ≡ length (sent_of self.new)) × (room_of self.old ≤ room_of self.new + 1)) }
         ensures few { IfOk result
             (λ _. length (sent_of self.old) < most_out + length (received_of self.old)) }
         ensures busy { IfErr result
-            (λ busy. (busy.0 ≡ action) × (sent_of self.new ≡ sent_of self.old) ×
+            (λ busy. (busy.0 ≡ want) × (sent_of self.new ≡ sent_of self.old) ×
             (room_of self.new ≡ room_of self.old)) }
         ensures cause { length (sent_of self.old) < most_out + length (received_of self.old) →
             0 < room_of self.old → length (sent_of self.old) < 2 ^ 64 - 1 → IsOk result }
     {
         if self.unanswered() >= MOST_OUT as u64 || self.serial == LAST_SERIAL {
-            return Err(Busy(action));
+            return Err(Busy(want));
         }
-        match self.requests.push(action) {
+        match self.requests.push(want) {
             Ok(()) => {
                 self.serial += 1;
                 Ok(self.serial)
             }
-            Err(PushError::Full(action)) => Err(Busy(action)),
+            Err(PushError::Full(want)) => Err(Busy(want)),
         }
     }
 

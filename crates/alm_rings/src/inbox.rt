@@ -4,7 +4,7 @@ ghost use Rattle.std.specs.Prelude.{◌≡◌, length};
 ghost use Rattle.rtrb.specs.Ring.{received};
 
 use crate::serials::Serials;
-use alm_types::{Action, Slot};
+use alm_types::{Slot, Want};
 use rtrb::Consumer;
 use std::alloc::Global;
 
@@ -13,7 +13,7 @@ use std::alloc::Global;
 pub struct Inbox {
     pub(crate) slot: Slot,
     pub(crate) serial: u64,
-    pub(crate) requests: Consumer<Action, Global, Serials>,
+    pub(crate) requests: Consumer<Want, Global, Serials>,
     ghost serials: { serial ≡ length (received requests) },
 }
 
@@ -37,7 +37,7 @@ impl Inbox {
     }
 
     /// The next request, after its serial. `None` if no request is known to wait.
-    pub fn take(&mut self) -> Option<(u64, Action)>
+    pub fn take(&mut self) -> Option<(u64, Want)>
         ensures end { SameInbox self.old self.new }
         ensures some { IfSome result
             (λ next. (taken_of self.new ≡ taken_of self.old ++ next.1 ∷ []) ×
@@ -50,9 +50,9 @@ impl Inbox {
         ensures cause { 0 < length (waiting_in self.old) → IsSome result }
     {
         match self.requests.pop() {
-            Ok(action) => {
+            Ok(want) => {
                 self.serial += 1;
-                Some((self.serial, action))
+                Some((self.serial, want))
             }
             Err(_) => None,
         }

@@ -2,7 +2,7 @@
 //!
 //! ```text
 //! let (mut console, mut inbox, mut outbox) = open_slot(alloc, slot)?;
-//! let serial = console.send(action)?; let taken = inbox.take();
+//! let serial = console.send(want)?; let taken = inbox.take();
 //! outbox.release(receipt)?; let receipt = console.receive();
 //! ```
 //!
@@ -24,15 +24,15 @@
 //! other. Every call says that it is still the same end, and what became of these lists. Between threads the two lists
 //! are not related until both ends are in one thread. Then [`beside`], its halves [`requests_beside`] and
 //! [`replies_beside`], [`batches_beside`] and [`close_slot`] say that what came out is a prefix of what went in. A
-//! [`Receipt`] says more by its type, in whatever thread: the list that it reports reaches its number, and an accepted
-//! action is in the list at that number. A batch that is returned has no entries. The holder of the ends of many slots
+//! [`Receipt`] says more by its type, in whatever thread. The list that it reports reaches its number. An accepted action is in
+//! the list at that number, as the one of this slot's request with this serial. A batch that is returned has no entries. The holder of the ends of many slots
 //! finds them by their slots: specs/Placed defines the end of a slot, and what it means that no slot has two ends.
 //!
 //! Not covered: that anything sent is ever taken, or anything released ever received.
 //!
 //! Proved:
-//! - what comes out of a ring is a prefix of what went in. A receipt's list reaches its number, and an accepted action
-//!   stands there (by `Inbox::take`, `beside`, `close_slot`, the type `Receipt`)
+//! - what comes out of a ring is a prefix of what went in. A receipt's list reaches its number, and has an accepted
+//!   action there, as its request's (by `Inbox::take`, `beside`, `close_slot`, the type `Receipt`)
 //! - `Busy` comes only if 64 are unanswered, the ring knew no place, or serials are spent; other ends fail only if their
 //!   ring knew no item or place (by `Console::send`, `receive`, `Outbox::release`, `SealEnds`, `FetchEnds`)
 #![tactic(auto)]

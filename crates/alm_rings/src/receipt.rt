@@ -5,12 +5,13 @@ ghost use Rattle.alm_types.specs.declared.action.Action.{Action};
 ghost use Rattle.alm_types.specs.declared.verdict.Verdict.TheVariants.{Accepted};
 
 use crate::told::Told;
-use alm_types::Verdict;
+use alm_types::{Slot, Verdict};
 
-/// The answer to a request. Its type guarantees that the list it reports reaches its number, and that an accepted
-/// action is in the list at that number.
+/// The answer to a request. By its type the list that it reports reaches its number. An accepted action is in the list at that
+/// number, as the one of this slot's request with this serial.
 #[derive(Drop)]
 pub struct Receipt<T: Told> {
+    pub slot: Slot,
     /// Which of the slot's requests it answers, from 1.
     pub serial: u64,
     pub verdict: Verdict,
@@ -20,4 +21,7 @@ pub struct Receipt<T: Told> {
     pub ghost reaches: { number ≤ T.base_count told + length (T.list told) },
     pub ghost stands: { (a : Action) → verdict ≡ Accepted a →
         (T.base_count told < number) × (slice_get (T.list told) (number - T.base_count told - 1) ≡ Some a) },
+    pub ghost names: { (a : Action) → verdict ≡ Accepted a →
+        slice_get (T.logged told) (number - T.base_count told - 1) ≡
+        Some (record { slot = slot; serial = serial; action = a }) },
 }

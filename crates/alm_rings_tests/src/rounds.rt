@@ -2,7 +2,7 @@
 
 use crate::one::{One, accepted, ack};
 use alm_rings::{Console, Inbox, Outbox, open_slot};
-use alm_types::{Action, Slot};
+use alm_types::{Slot, Want};
 use std::alloc::Global;
 use std::process::Abort;
 use std::test::Fail;
@@ -16,7 +16,7 @@ struct Ends {
 }
 
 /// What a slot sends as its request of this serial: no other slot sends the same.
-fn request(slot: Slot, serial: u8) -> Action {
+fn request(slot: Slot, serial: u8) -> Want {
     ack(told_by(slot, serial))
 }
 
@@ -43,17 +43,18 @@ fn open_all(alloc: Global) -> Result<Vec<Ends>, Fail> {
 /// Each slot sends a request.
 fn send_all(rt: &impl Abort, slots: &mut [Ends], serial: u8) {
     for ends in slots {
-        let action = request(ends.console.slot(), serial);
-        assert_eq!(rt; ends.console.send(action), Ok(u64::from(serial)));
+        let want = request(ends.console.slot(), serial);
+        assert_eq!(rt; ends.console.send(want), Ok(u64::from(serial)));
     }
 }
 
 /// Each slot's request is taken and its receipt released.
 fn answer_all(rt: &impl Abort, slots: &mut [Ends], serial: u8) {
     for ends in slots {
-        let action = request(ends.inbox.slot(), serial);
-        assert_eq!(rt; ends.inbox.take(), Some((u64::from(serial), action)));
-        let receipt = accepted(told_by(ends.outbox.slot(), serial));
+        let want = request(ends.inbox.slot(), serial);
+        assert_eq!(rt; ends.inbox.take(), Some((u64::from(serial), want)));
+        let slot = ends.outbox.slot();
+        let receipt = accepted(slot, told_by(slot, serial));
         assert!(rt; ends.outbox.release(receipt).is_ok());
     }
 }

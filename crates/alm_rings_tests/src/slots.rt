@@ -23,7 +23,8 @@ fn takes(rt: &impl Abort, inbox: &mut Inbox, serial: u64)
 fn releases(rt: &impl Abort, outbox: &mut Outbox<One>, serial: u64)
     ensures { SameOutbox outbox.old outbox.new }
 {
-    assert!(rt; outbox.release(accepted(serial)).is_ok());
+    let receipt = accepted(outbox.slot(), serial);
+    assert!(rt; outbox.release(receipt).is_ok());
 }
 
 fn receives(rt: &impl Abort, console: &mut Console<One>, serial: u64)
@@ -33,8 +34,9 @@ fn receives(rt: &impl Abort, console: &mut Console<One>, serial: u64)
         Some(receipt) => {
             assert_eq!(rt; receipt.serial, serial);
             assert_eq!(rt; receipt.number, 1);
-            assert_eq!(rt; receipt.verdict, Verdict::Accepted(ack(serial)));
-            assert_eq!(rt; receipt.told.action, ack(serial));
+            assert_eq!(rt; receipt.slot, console.slot());
+            assert_eq!(rt; receipt.verdict, Verdict::Accepted(ack(serial).action()));
+            assert_eq!(rt; receipt.told.action, ack(serial).action());
         }
         None => assert!(rt; false, "no receipt {serial}"),
     }
@@ -83,7 +85,8 @@ fn sixty_four_receipts_may_wait(rt: HostRuntime) -> Result<(), Fail> {
     for serial in 1..=64 {
         releases(&rt, &mut outbox, serial);
     }
-    match outbox.release(accepted(65)) {
+    let receipt = accepted(outbox.slot(), 65);
+    match outbox.release(receipt) {
         Ok(()) => assert!(rt; false, "no place"),
         Err(receipt) => assert_eq!(rt; receipt.serial, 65),
     }
@@ -165,6 +168,6 @@ fn a_report_counts_what_went_through(rt: HostRuntime) -> Result<(), Fail> {
 #[test]
 fn busy_says_what_it_is(rt: HostRuntime) -> Result<(), Fail> {
     let text = format!(in rt.alloc(); "{}", Busy(ack(1)))?;
-    assert_eq!(rt; text.as_str(), "the action was not sent");
+    assert_eq!(rt; text.as_str(), "the request was not sent");
     Ok(())
 }

@@ -50,10 +50,11 @@ fn answer(rt: &(impl Abort + Wait), inbox: Inbox, outbox: Outbox<One>) -> (Inbox
             break;
         }
         match inbox.take() {
-            Some((serial, action)) => {
+            Some((serial, want)) => {
                 answered += 1;
-                assert_eq!(rt; (serial, action), (answered, ack(answered)));
-                assert!(rt; outbox.release(accepted(serial)).is_ok());
+                assert_eq!(rt; (serial, want), (answered, ack(answered)));
+                let receipt = accepted(outbox.slot(), serial);
+                assert!(rt; outbox.release(receipt).is_ok());
             }
             None => thread::yield_now(),
         }

@@ -14,7 +14,7 @@ use crate::seal::Seal;
 use crate::take::Take;
 use alm_model::{Alarms, judge};
 use alm_rings::{Console, Inbox, SealEnds, Told, requests_beside};
-use alm_types::{Action, Batch, Entry, Request, SLOTS, Slot, Verdict};
+use alm_types::{Batch, Entry, Request, SLOTS, Slot, Verdict, Want};
 use std::mem::replace;
 use std::snapshot::Snapshot;
 
@@ -83,7 +83,7 @@ fn judge_into<P: Alarms>(
     batch: &mut Batch,
     slot: Slot,
     serial: u64,
-    want: Action,
+    want: Want,
 ) -> Verdict
     requires { length batch.old.entries < most_entries }
     ensures verdict { result ≡

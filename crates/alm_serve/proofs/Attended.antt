@@ -1,13 +1,15 @@
 -- What ports did in a run, by their accounts.
 use Rattle.std.proofs.Common.{◌≡◌, suc, List, [], ◌∷◌, length, map, refl, ap, sym, subst, arith}
 use Rattle.alm_types.specs.declared.action.Action.{Action}
+use Rattle.alm_types.specs.declared.want.Want.{Want}
 use Rattle.alm_model.specs.Plant.{Condensed}
 use Rattle.alm_rings.specs.declared.console.Console.{Console}
 use Rattle.alm_rings.specs.declared.receipt.Receipt.{Receipt}
 use Rattle.alm_rings.specs.declared.told.Told.{Ghosts}
 use Rattle.alm_rings.specs.Ends.{sent_of, received_of}
 use Rattle.alm_session.specs.Sides.{heard_by, heard_of}
-use Rattle.alm_session.specs.Turns.{Heard, Learns, LearnsAll, LineAnswer, Looks, SlotState, bad_line, by_look, by_receipt, look_refused, no_room, stopped, unasked}
+use Rattle.alm_session.specs.Turns.{Learns, LearnsAll, LineAnswer, Looks, SlotState, bad_line, by_look, by_recall, by_receipt, forgotten, look_refused, no_room, recall_stopped, stopped, unasked}
+use Rattle.alm_session.specs.Unanswered.{Heard}
 use Rattle.alm_session.proofs.Steps.{with_looks}
 use Rattle.alm_threads.specs.Slots.{AreNewConsoles}
 use Rattle.alm_threads.specs.Sources.{Accounts, AllAccount, SourceState, TookTurns, reported_of, state_of, states_of}
@@ -26,7 +28,7 @@ module _ {T : Type 0} {g : Ghosts T} where
 
 module _ {R T : Type 0} {g : Ghosts T} where
   -- a turn of a session, as its port's account has it
-  pub attends_as : (looks : Looks) (base : Condensed) (was now : Connection (Unit {0})) (p p' : SlotPort R T) (knew knows sent sent' : List Action) (rs rs' : List (Receipt T g))
+  pub attends_as : (looks : Looks) (base : Condensed) (was now : Connection (Unit {0})) (p p' : SlotPort R T) (knew knows : List Action) (sent sent' : List Want) (rs rs' : List (Receipt T g))
       → Attends looks base was now (side_of p knew sent (map heard_of rs)) (side_of p' knows sent' (map heard_of rs'))
       → Attends looks base was now (side_of p knew sent (map as_heard (map reported_of rs))) (side_of p' knows sent' (map as_heard (map reported_of rs')))
   attends_as looks base was now p p' knew knows sent sent' rs rs' turn =
@@ -35,11 +37,14 @@ module _ {R T : Type 0} {g : Ghosts T} where
 
 -- what is known by some looks is known by any
 learns_any : (looks : Looks) (base : Condensed) (known : List Action) (m : LineAnswer) (next : List Action) → Learns looks base known m next → Learns any_looks base known m next
-learns_any looks base known (by_receipt id heard) next h = h
+learns_any looks base known (by_receipt w heard) next h = h
 learns_any looks base known (by_look id asked list) next h = (tt, h.1, h.2)
 learns_any looks base known (look_refused id asked list hindrance) next h = ((h.0.0, tt, h.0.2), h.1, h.2)
 learns_any looks base known (no_room id asked list) next h = (tt, h.1, h.2, h.3)
 learns_any looks base known (stopped id asked) next h = (tt, h.1, h.2)
+learns_any looks base known (by_recall id after list) next h = (tt, h.1, h.2, h.3)
+learns_any looks base known (forgotten id after list) next h = (tt, h.1, h.2, h.3)
+learns_any looks base known (recall_stopped id after) next h = (tt, h.1)
 learns_any looks base known (bad_line id refusal) next h = h
 learns_any looks base known (unasked heard) next h = h
 
@@ -77,7 +82,7 @@ module _ {R T L : Type 0} {g : Ghosts T} (base : Condensed) (knows : L → List 
         knew = knows look;
         knows = knows one.look;
         before = map (port_of base knows) one.before;
-        turns = subst (λ (xs : List Action). AttendsAll base (port_state was (knows look) xs []) (map (port_of base knows) one.before) (port_state now (knows one.look) (sent_of last) (heard_by last))) sent
+        turns = subst (λ (xs : List Want). AttendsAll base (port_state was (knows look) xs []) (map (port_of base knows) one.before) (port_state now (knows one.look) (sent_of last) (heard_by last))) sent
             (subst (λ (rs : List (Receipt T g)). AttendsAll base (port_state was (knows look) (sent_of first) (map as_heard (map reported_of rs))) (map (port_of base knows) one.before) (port_state now (knows one.look) (sent_of last) (heard_by last))) received
             (subst (λ (h : List Heard). AttendsAll base (port_of base knows (state_of was look first)) (map (port_of base knows) one.before) (port_state now (knows one.look) (sent_of last) h)) (heard_same (received_of last)) all));
       }

@@ -1,14 +1,17 @@
 -- The connections of a slot, by its port's turns.
 use Rattle.std.proofs.Common.{◌≡◌, ◌∙◌, ℕ, List, [], ◌∷◌, ◌++◌, map, refl, ap, sym, subst, append_assoc}
-use Rattle.std.specs.List.{All, flat_map}
+use Rattle.std.specs.List.{All, AllByRecursion, flat_map}
 use Rattle.std.proofs.lemmas.List.{append-nil}
 use Rattle.std.proofs.lemmas.List.Elements.{All-nil, All-push}
 use Rattle.std.proofs.lemmas.Grind.{flat_map-append}
+use Rattle.alm_types.specs.declared.action.Action.{Action}
 use Rattle.alm_model.specs.Plant.{Condensed}
 use Rattle.alm_session.proofs.Joins.{behind}
 use Rattle.alm_session.proofs.Steps.{still}
 use Rattle.alm_session.specs.Intakes.{Untaken, lines_from, lines_in, open_in}
-use Rattle.alm_session.specs.Turns.{Heard, IsTurn, SlotState, action, answer_text, heards, kinds, line_kind, wants}
+use Rattle.alm_session.specs.Turns.{IsByItsReceipt, IsTurn, Learns, LearnsAll, LineAnswer, SlotState, answer_text, bad_line, by_look, by_recall, by_receipt, forgotten, heards, waiting_kind, kinds, line_kind, look_refused, no_room, recall_stopped, stopped, unasked, wants}
+use Rattle.alm_session.specs.Unanswered.{Heard}
+use Rattle.alm_session.specs.declared.unanswered.Unanswered.{Unanswered}
 use Rattle.alm_serve.specs.Ports.{AttendsAll, PortState, any_looks}
 use Rattle.alm_serve.specs.Service.{Attends, IsFresh, IsUntouched}
 use Rattle.alm_serve.specs.Talks.{AreTalks, IsTalk, Talk}
@@ -30,6 +33,22 @@ record Sums (talks : List Talk) (side : SlotState) : Type 0 where
   heard : side.heard ≡ flat_map received_in talks
 
 module _ (base : Condensed) where
+  one_named : (known : List Action) (m : LineAnswer) (next : List Action) → Learns any_looks base known m next → IsByItsReceipt m
+  one_named known (by_receipt w heard) next h = h.2
+  one_named known (by_look id asked list) next h = tt
+  one_named known (look_refused id asked list hindrance) next h = tt
+  one_named known (no_room id asked list) next h = tt
+  one_named known (stopped id asked) next h = tt
+  one_named known (by_recall id after list) next h = tt
+  one_named known (forgotten id after list) next h = tt
+  one_named known (recall_stopped id after) next h = tt
+  one_named known (bad_line id refusal) next h = tt
+  one_named known (unasked heard) next h = tt
+
+  all_named : (known : List Action) (met : List LineAnswer) (later : List Action) → LearnsAll any_looks base known met later → AllByRecursion IsByItsReceipt met
+  all_named known [] later h = tt
+  all_named known (m ∷ met) later (next, (k, ks)) = (one_named known m next k, all_named next met later ks)
+
   -- the session's turns over one connection, from where it began
   record Opened (begin now : SlotState) : Type 0 where
     fresh : IsFresh begin.held begin.waiting begin.left
@@ -44,8 +63,9 @@ module _ (base : Condensed) where
     unanswered = now.waiting;
     unwritten = now.left;
     lines = subst (λ (h : Untaken). lines_in h ++ lines_from (open_in h) o.turns.got ≡ o.turns.taken ++ lines_in now.held) o.fresh.0 o.turns.lines;
-    order = subst (λ (w : List ℕ). map action w ++ map line_kind o.turns.taken ≡ flat_map kinds o.turns.met ++ map action now.waiting) o.fresh.1 o.turns.order;
+    order = subst (λ (w : List Unanswered). map waiting_kind w ++ map line_kind o.turns.taken ≡ flat_map kinds o.turns.met ++ map waiting_kind now.waiting) o.fresh.1 o.turns.order;
     text = subst (λ (l : List ℕ). l ++ flat_map (answer_text base) o.turns.met ≡ o.turns.wrote ++ now.left) o.fresh.2 o.turns.text;
+    named = all_named begin.known o.turns.met now.known o.turns.learnt;
   }
 
   -- with this connection
@@ -73,7 +93,7 @@ module _ (base : Condensed) where
   dropping t got = record { came = t.came; taken = t.taken; met = t.met; written = t.written; dropped = t.dropped ++ got }
 
   is_dropping : (t : Talk) (got : List Heard) → IsTalk base t → IsTalk base (dropping t got)
-  is_dropping t got is = record { untaken = is.untaken; unanswered = is.unanswered; unwritten = is.unwritten; lines = is.lines; order = is.order; text = is.text }
+  is_dropping t got is = record { untaken = is.untaken; unanswered = is.unanswered; unwritten = is.unwritten; lines = is.lines; order = is.order; text = is.text; named = is.named }
 
   dropped_too : (talks : List Talk) (t : Talk) (a b : SlotState) (got : List Heard) → IsUntouched a b → b.heard ≡ a.heard ++ got → Sums (talks ++ t ∷ []) a → Sums (talks ++ dropping t got ∷ []) b
   dropped_too talks t a b got same heard sums =
@@ -93,7 +113,7 @@ module _ (base : Condensed) where
   no_talk = record { came = []; taken = []; met = []; written = []; dropped = [] }
 
   is_none : IsTalk base no_talk
-  is_none = record { untaken = []; unanswered = []; unwritten = []; lines = refl; order = refl; text = refl }
+  is_none = record { untaken = []; unanswered = []; unwritten = []; lines = refl; order = refl; text = refl; named = tt }
 
   with_none : (talks : List Talk) (s : SlotState) → Sums talks s → Sums (talks ++ no_talk ∷ []) s
   with_none talks s sums = record {

@@ -1,9 +1,11 @@
 -- A port that ends its connection, or leaves all as it is.
 use Rattle.std.proofs.Common.{◌≡◌, ◌∙◌, List, None, ap, refl}
 use Rattle.alm_types.specs.declared.action.Action.{Action}
+use Rattle.alm_types.specs.declared.want.Want.{Want}
 use Rattle.alm_model.specs.Plant.{Condensed}
 use Rattle.alm_session.specs.Sides.{slot_state}
-use Rattle.alm_session.specs.Turns.{Heard, IsTurn, Looks, SlotState}
+use Rattle.alm_session.specs.Turns.{IsTurn, Looks, SlotState}
+use Rattle.alm_session.specs.Unanswered.{Heard}
 use Rattle.alm_session.specs.declared.session.Session.{Session}
 use Rattle.alm_session.proofs.Drained.{drained_none}
 use Rattle.alm_session.proofs.Steps.{still}
@@ -31,7 +33,7 @@ ended looks base (Open wire) a = (none looks base a, λ awaits. cc awaits)
 ended looks base Ended a = kept looks base Ended a
 
 -- the side of a port that has the same session and the same bytes
-pub same_side : {R T : Type 0} (p q : SlotPort R T) (known sent : List Action) (heard : List Heard) → q.service.session ≡ p.service.session → traffic_of q ≡ traffic_of p → side_of q known sent heard ≡ side_of p known sent heard
+pub same_side : {R T : Type 0} (p q : SlotPort R T) (known : List Action) (sent : List Want) (heard : List Heard) → q.service.session ≡ p.service.session → traffic_of q ≡ traffic_of p → side_of q known sent heard ≡ side_of p known sent heard
 same_side p q known sent heard session traffic =
     ap (λ (s : Session). slot_state s known (record { came = (traffic_of q).came; coming = None }) (traffic_of q).written sent heard) session
     ∙ ap (λ (t : PortTraffic). slot_state p.service.session known (record { came = t.came; coming = None }) t.written sent heard) traffic

@@ -1,12 +1,14 @@
 -- What the port of a slot did in a run.
 use Rattle.std.specs.Prelude.{◌≡◌, ℕ, List, [], ◌∷◌, None, Some, slice_get}
 use Rattle.alm_types.specs.declared.action.Action.{Action}
+use Rattle.alm_types.specs.declared.want.Want.{Want}
 use Rattle.alm_model.specs.Plant.{Condensed}
 use Rattle.alm_rings.specs.declared.console.Console.{Console}
 use Rattle.alm_rings.specs.declared.told.Told.{Ghosts}
 use Rattle.alm_rings.specs.Ends.{sent_of}
 use Rattle.alm_session.specs.Sides.{slot_state, heard_by}
-use Rattle.alm_session.specs.Turns.{Heard, Looks, SlotState}
+use Rattle.alm_session.specs.Turns.{Looks, SlotState}
+use Rattle.alm_session.specs.Unanswered.{Heard}
 use Rattle.alm_serve.specs.declared.connection.Connection.{Connection}
 use Rattle.alm_serve.specs.declared.connection.Connection.TheVariants.{Awaited, Open}
 use Rattle.alm_serve.specs.declared.slot_port.SlotPort.{SlotPort}
@@ -30,7 +32,7 @@ pub record PortState : Type 0 where
 
 -- looks of a slot, whatever they were
 abbrev pub any_looks : Looks
-any_looks asked result = Unit {0}
+any_looks = record { looked = λ asked result. Unit {0}; recalled = λ after result. Unit {0} }
 
 -- turns led from one state to another, and nothing else did. `before` has the state before each turn, the last turn first
 abbrev pub AttendsAll : Condensed → (from : PortState) → (before : List PortState) → (to : PortState) → Type 0
@@ -50,11 +52,11 @@ module _ {R T : Type 0} where
   traffic_of port = traffic_with port.service.connection port.traffic
 
   -- a slot's side, with the bytes of its connections
-  abbrev pub side_of : SlotPort R T → (known sent : List Action) → List Heard → SlotState
+  abbrev pub side_of : SlotPort R T → (known : List Action) (sent : List Want) → List Heard → SlotState
   side_of port known sent heard =
       slot_state port.service.session known (record { came = (traffic_of port).came; coming = None }) (traffic_of port).written sent heard
 
-  abbrev pub port_state : SlotPort R T → (known sent : List Action) → List Heard → PortState
+  abbrev pub port_state : SlotPort R T → (known : List Action) (sent : List Want) → List Heard → PortState
   port_state port known sent heard = record { connection = stage port.service.connection; side = side_of port known sent heard }
 
   -- nobody is connected at this port, and nobody was

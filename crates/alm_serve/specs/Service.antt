@@ -6,7 +6,9 @@ use Rattle.alm_rings.specs.declared.console.Console.{Console}
 use Rattle.alm_rings.specs.Ends.{sent_of, received_of}
 use Rattle.alm_session.specs.Draining.{IsDrained}
 use Rattle.alm_session.specs.Intakes.{Untaken}
-use Rattle.alm_session.specs.Turns.{Heard, IsTurn, Looks, SlotState}
+use Rattle.alm_session.specs.Turns.{IsTurn, Looks, SlotState}
+use Rattle.alm_session.specs.Unanswered.{Heard}
+use Rattle.alm_session.specs.declared.unanswered.Unanswered.{Unanswered}
 use Rattle.alm_session.specs.declared.turn.Turn.{Turn}
 use Rattle.alm_session.specs.declared.turn.Turn.TheVariants as turn
 use Rattle.alm_threads.specs.Sources.{Reported}
@@ -16,12 +18,12 @@ use Rattle.alm_serve.specs.declared.served.Served.{Served}
 use Rattle.alm_serve.specs.declared.served.Served.TheVariants as served
 
 -- no byte has come, no action waits, and no byte is to be written
-abbrev pub IsFresh : Untaken → List ℕ → List ℕ → Type 0
+abbrev pub IsFresh : Untaken → List Unanswered → List ℕ → Type 0
 IsFresh held waiting left = (held ≡ record { line = None; held = []; rest = [] }) × (waiting ≡ []) × (left ≡ [])
 
 -- a receipt as a session has it
 abbrev pub as_heard : Reported → Heard
-as_heard r = record { serial = r.serial; verdict = r.verdict; number = r.number; list = r.list }
+as_heard r = record { slot = r.slot; serial = r.serial; verdict = r.verdict; number = r.number; opened = r.opened; list = r.list; logged = r.logged }
 
 -- a connection, with this of its wire
 abbrev pub by_wire : {W X : Type 0} → (W → X) → Connection W → Connection X

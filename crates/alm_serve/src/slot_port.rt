@@ -13,7 +13,7 @@ use crate::slot_service::SlotService;
 use crate::slot_stream::SlotStream;
 use crate::stream_wire::StreamWire;
 use crate::traffic::Traffic;
-use alm_board::FreeLook;
+use alm_board::{FreeLook, Recall};
 use alm_rings::{Console, Told};
 use alm_session::Session;
 use alm_threads::{Go, Source};
@@ -157,11 +157,16 @@ impl<'r, R: Clock, T: Told + Drop> SlotPort<'r, R, T> {
     }
 
     /// Does what can be done without waiting, or turns clients away while a device call is stuck: whether there was something.
-    fn step<L: FreeLook<Told = T>>(&mut self, console: &mut Console<T>, look: &mut L) -> bool
+    fn step<L: FreeLook<Told = T> + Recall>(
+        &mut self,
+        console: &mut Console<T>,
+        look: &mut L,
+    ) -> bool
         ensures ends { SameConsole console.old console.new }
         ensures slot { self.new.slot ≡ self.old.slot }
         ensures base { L.Look.base look.new ≡ L.Look.base look.old }
-        ensures attends { Attends (between L.Look.looked look.old look.new) (L.Look.base look.old)
+        ensures attends { Attends (between L.Look.looked L.Recall.recalled look.old look.new)
+            (L.Look.base look.old)
             (stage self.old.service.connection) (stage self.new.service.connection)
             (side_of self.old (L.Look.knows look.old) (sent_of console.old) (heard_by console.old))
             (side_of self.new (L.Look.knows look.new) (sent_of console.new) (heard_by console.new)) }
@@ -205,11 +210,16 @@ impl<'r, R: Clock, T: Told + Drop> SlotPort<'r, R, T> {
     }
 
     /// A turn at its slot's console: ends once all connections are over.
-    fn attend<L: FreeLook<Told = T>>(&mut self, console: &mut Console<T>, look: &mut L) -> Go
+    fn attend<L: FreeLook<Told = T> + Recall>(
+        &mut self,
+        console: &mut Console<T>,
+        look: &mut L,
+    ) -> Go
         ensures ends { SameConsole console.old console.new }
         ensures slot { self.new.slot ≡ self.old.slot }
         ensures base { L.Look.base look.new ≡ L.Look.base look.old }
-        ensures attends { Attends (between L.Look.looked look.old look.new) (L.Look.base look.old)
+        ensures attends { Attends (between L.Look.looked L.Recall.recalled look.old look.new)
+            (L.Look.base look.old)
             (stage self.old.service.connection) (stage self.new.service.connection)
             (side_of self.old (L.Look.knows look.old) (sent_of console.old) (heard_by console.old))
             (side_of self.new (L.Look.knows look.new) (sent_of console.new) (heard_by console.new)) }
@@ -226,7 +236,7 @@ impl<'r, R: Clock, T: Told + Drop> SlotPort<'r, R, T> {
     }
 }
 
-impl<R: Clock, T: Told + Drop, L: FreeLook<Told = T>> Source<T, L> for SlotPort<'_, R, T> {
+impl<R: Clock, T: Told + Drop, L: FreeLook<Told = T> + Recall> Source<T, L> for SlotPort<'_, R, T> {
     ghost use Rattle.std.specs.Prelude.{◌≡◌, Some, map};
     ghost use Rattle.alm_rings.specs.Ends.{SameConsole, received_of, sent_of};
     ghost use Rattle.alm_session.specs.Turns.{between};
@@ -237,7 +247,7 @@ impl<R: Clock, T: Told + Drop, L: FreeLook<Told = T>> Source<T, L> for SlotPort<
     ghost slot = { λ port. Some port.slot };
 
     ghost did = { λ a b. (L.Look.base b.look ≡ L.Look.base a.look) ×
-        Attends (between L.Look.looked a.look b.look) (L.Look.base a.look)
+        Attends (between L.Look.looked L.Recall.recalled a.look b.look) (L.Look.base a.look)
         (stage a.source.service.connection) (stage b.source.service.connection)
         (side_of a.source (L.Look.knows a.look) a.sent (map as_heard a.received))
         (side_of b.source (L.Look.knows b.look) b.sent (map as_heard b.received)) };
@@ -246,7 +256,8 @@ impl<R: Clock, T: Told + Drop, L: FreeLook<Told = T>> Source<T, L> for SlotPort<
         ensures ends { SameConsole console.old console.new }
         ensures slot { self.new.slot ≡ self.old.slot }
         ensures did { (L.Look.base look.new ≡ L.Look.base look.old) ×
-            Attends (between L.Look.looked look.old look.new) (L.Look.base look.old)
+            Attends (between L.Look.looked L.Recall.recalled look.old look.new)
+            (L.Look.base look.old)
             (stage self.old.service.connection) (stage self.new.service.connection)
             (side_of self.old (L.Look.knows look.old) (sent_of console.old) (map as_heard (map reported_of (received_of console.old))))
             (side_of self.new (L.Look.knows look.new) (sent_of console.new) (map as_heard (map reported_of (received_of console.new)))) }

@@ -5,7 +5,7 @@ ghost use Rattle.std.specs.Prelude.{◌≡◌};
 use crate::connection::Connection;
 use crate::served::Served;
 use crate::stream_wire::StreamWire;
-use alm_board::FreeLook;
+use alm_board::{FreeLook, Recall};
 use alm_rings::{Console, Told};
 use alm_session::{Session, Turn, Wire, drain};
 use std::io::{Read, Write};
@@ -83,7 +83,7 @@ impl<W: Wire + Drop> SlotService<W> {
     }
 
     /// Does what can be done without waiting.
-    pub fn step<T: Told + Drop, L: FreeLook<Told = T>>(
+    pub fn step<T: Told + Drop, L: FreeLook<Told = T> + Recall>(
         &mut self,
         console: &mut Console<T>,
         look: &mut L,
@@ -97,7 +97,8 @@ impl<W: Wire + Drop> SlotService<W> {
         // A step of an open connection is a turn of its session over its wire.
         ensures open { (wire : W) → self.old.connection ≡ connection.Open wire →
             (turn : Turn) × ((now : W) × TurnServes turn now result self.new.connection ×
-            IsTurn (between L.Look.looked look.old look.new) (L.Look.base look.old) (least_of turn)
+            IsTurn (between L.Look.looked L.Recall.recalled look.old look.new)
+            (L.Look.base look.old) (least_of turn)
             (slot_state self.old.session (L.Look.knows look.old) (W.input wire) (W.written wire)
             (sent_of console.old) (heard_by console.old))
             (slot_state self.new.session (L.Look.knows look.new) (W.input now) (W.written now)

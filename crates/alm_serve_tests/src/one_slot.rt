@@ -8,7 +8,7 @@ use alm_serve::{Served, SlotService};
 use alm_session::{MemWire, Session};
 use alm_session_tests::playing::{answer, worked_look};
 use alm_session_tests::still::{StillLook, StillTold};
-use alm_types::{Action, AlarmId, Slot};
+use alm_types::{Action, AlarmId, Slot, Want};
 use std::alloc::{AllocError, Global};
 
 /// More steps than any row takes.
@@ -93,7 +93,7 @@ impl OneSlot {
 
     /// How many requests were sent.
     pub fn sent(&mut self) -> u64 {
-        match self.console.send(Action::Ack(AlarmId(0))) {
+        match self.console.send(Want::Do(Action::Ack(AlarmId(0)))) {
             Ok(serial) => serial.saturating_sub(1),
             Err(_) => u64::MAX,
         }

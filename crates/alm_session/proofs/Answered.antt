@@ -30,7 +30,7 @@ pub record IsDenied (looks : Looks) (base : Condensed) (old new : List Action) (
   pub known : Learns looks base old met new
   pub refused : after ≡ refused_next base before met
 
-pub denies : (looks : Looks) (base : Condensed) (old new : List Action) (id : ℕ) (asked : Query) (before after : Answer) (refusal : Refusal) → LookAnswers base old new asked before after (Err refusal) → looks asked (Err refusal)
+pub denies : (looks : Looks) (base : Condensed) (old new : List Action) (id : ℕ) (asked : Query) (before after : Answer) (refusal : Refusal) → LookAnswers base old new asked before after (Err refusal) → looks.looked asked (Err refusal)
     → IsDenied looks base old new id asked refusal before.refused after.refused
 denies looks base old new id asked before after Stopped (same, unchanged, there) made = record {
   met = stopped id asked;

@@ -5,7 +5,8 @@ use Rattle.std.proofs.lemmas.List.{append-nil, map-append}
 use Rattle.alm_types.specs.declared.action.Action.{Action}
 use Rattle.alm_board.specs.Fronts.{IsFront}
 use Rattle.alm_model.specs.Plant.{Condensed}
-use Rattle.alm_session.specs.Turns.{Heard, LineAnswer, unasked, LearnsAll, no_looks}
+use Rattle.alm_session.specs.Turns.{LineAnswer, unasked, LearnsAll, no_looks}
+use Rattle.alm_session.specs.Unanswered.{Heard}
 use Rattle.alm_session.specs.Draining.{IsDrained}
 use Rattle.alm_session.proofs.Joins.{knows-append}
 

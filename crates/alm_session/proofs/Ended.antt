@@ -6,7 +6,9 @@ use Rattle.std.proofs.lemmas.List.{append-nil}
 use Rattle.alm_model.specs.Plant.{Condensed}
 use Rattle.alm_lines.specs.declared.line.Line.{Line}
 use Rattle.alm_session.specs.Intakes.{Untaken, lines_from, lines_in, open_in}
-use Rattle.alm_session.specs.Turns.{action, heards, answer_text, line_kind, kinds, unasked_receipts, Heard, SlotState, IsTurn, Looks}
+use Rattle.alm_session.specs.declared.unanswered.Unanswered.{Unanswered}
+use Rattle.alm_session.specs.Turns.{waiting_kind, heards, answer_text, line_kind, kinds, unasked_receipts, SlotState, IsTurn, Looks}
+use Rattle.alm_session.specs.Unanswered.{Heard}
 use Rattle.alm_session.specs.Ended.{HaveSerials, IsNew, IsFinished, IsAnswered}
 use Rattle.alm_session.proofs.Joins.{joined}
 
@@ -25,8 +27,8 @@ answered_all {looks} base n a b p fresh finished =
     subst (λ (h : Untaken). lines_in h ++ lines_from (open_in h) p.got ≡ p.taken ++ lines_in b.held) fresh.0 p.lines
     ∙ ap (λ (l : List Line). p.taken ++ l) finished.0 ∙ append-nil p.taken in
     let order : map line_kind p.taken ≡ flat_map kinds p.met =
-    subst (λ (w : List ℕ). map action w ++ map line_kind p.taken ≡ flat_map kinds p.met ++ map action b.waiting) fresh.1 p.order
-    ∙ ap (λ (w : List ℕ). flat_map kinds p.met ++ map action w) finished.1 ∙ append-nil (flat_map kinds p.met) in
+    subst (λ (w : List Unanswered). map waiting_kind w ++ map line_kind p.taken ≡ flat_map kinds p.met ++ map waiting_kind b.waiting) fresh.1 p.order
+    ∙ ap (λ (w : List Unanswered). flat_map kinds p.met ++ map waiting_kind w) finished.1 ∙ append-nil (flat_map kinds p.met) in
     let text : flat_map (answer_text base) p.met ≡ p.wrote =
     subst (λ (l : List ℕ). l ++ flat_map (answer_text base) p.met ≡ p.wrote ++ b.left) fresh.2 p.text
     ∙ ap (λ (l : List ℕ). p.wrote ++ l) finished.2 ∙ append-nil p.wrote in

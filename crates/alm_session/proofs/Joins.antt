@@ -1,20 +1,20 @@
 -- Turns, one after the other.
 use Rattle.std.proofs.Common.{◌≡◌, ℕ, ◌+◌, List, [], ◌∷◌, ◌++◌, length, take, refl, ap, sym, subst, ◌∙◌, arith, append_assoc, length-append}
-use Rattle.std.specs.Prelude.{Result, map, if◌then◌else◌}
+use Rattle.std.specs.Prelude.{map, if◌then◌else◌}
 use Rattle.std.specs.List.{flat_map}
 use Rattle.std.proofs.KnownBytes.{Consumes-trans}
 use Rattle.std.proofs.lemmas.List.{map-append}
 use Rattle.std.proofs.lemmas.Grind.{flat_map-append}
 use Rattle.std.proofs.Common.{Bool, true, false}
 use Rattle.alm_types.specs.declared.action.Action.{Action}
-use Rattle.alm_types.specs.declared.query.Query.{Query}
-use Rattle.alm_types.specs.declared.refusal.Refusal.{Refusal}
+use Rattle.alm_types.specs.declared.want.Want.{Want}
 use Rattle.alm_model.specs.Plant.{Condensed}
 use Rattle.alm_lines.specs.declared.line.Line.{Line}
 use Rattle.alm_lines.specs.Line.{line_of}
 use Rattle.alm_lines.specs.Stream.{is_end, held_behind}
 use Rattle.alm_session.specs.Intakes.{lines_from, lines_in, open_in}
-use Rattle.alm_session.specs.Turns.{Heard, LineAnswer, by_receipt, by_look, look_refused, no_room, stopped, bad_line, unasked, answer_text, LineKind, action, line_kind, kinds, heards, unasked_receipts, wants, LearnsAll, refused_next, refused_over, SlotState, IsTurn, Looks, between, looks_of}
+use Rattle.alm_session.specs.Turns.{LineAnswer, by_receipt, by_look, look_refused, no_room, stopped, bad_line, unasked, answer_text, LineKind, waiting_kind, line_kind, kinds, heards, unasked_receipts, wants, LearnsAll, refused_next, refused_over, SlotState, IsTurn, Looks, between, looks_of, Looked, Recalls, by_recall, forgotten, recall_stopped}
+use Rattle.alm_session.specs.Unanswered.{Heard}
 use Rattle.alm_session.proofs.Steps.{with_looks}
 use Rattle.alm_session.proofs.Streams.{fed-append}
 
@@ -54,13 +54,13 @@ joined {looks} {base} {m} {n} {a} {b} {c} p q = record {
   lines = ap (λ (l : List Line). lines_in a.held ++ l) (lines_from-append (open_in a.held) p.got q.got ∙ ap (λ (h : List ℕ). lines_from (open_in a.held) p.got ++ lines_from h q.got) (sym p.open_line))
       ∙ across (lines_in a.held) (lines_in b.held) (lines_in c.held) (lines_from (open_in a.held) p.got) (lines_from (open_in b.held) q.got) p.taken q.taken p.lines q.lines;
   open_line = q.open_line ∙ ap (λ (h : List ℕ). held_behind h q.got) p.open_line ∙ sym (fed-append (open_in a.held) p.got q.got);
-  order = ap (λ (l : List LineKind). map action a.waiting ++ l) (map-append line_kind p.taken q.taken)
-      ∙ across (map action a.waiting) (map action b.waiting) (map action c.waiting) (map line_kind p.taken) (map line_kind q.taken) (flat_map kinds p.met) (flat_map kinds q.met) p.order q.order
-      ∙ ap (λ (l : List LineKind). l ++ map action c.waiting) (sym (flat_map-append kinds p.met q.met));
+  order = ap (λ (l : List LineKind). map waiting_kind a.waiting ++ l) (map-append line_kind p.taken q.taken)
+      ∙ across (map waiting_kind a.waiting) (map waiting_kind b.waiting) (map waiting_kind c.waiting) (map line_kind p.taken) (map line_kind q.taken) (flat_map kinds p.met) (flat_map kinds q.met) p.order q.order
+      ∙ ap (λ (l : List LineKind). l ++ map waiting_kind c.waiting) (sym (flat_map-append kinds p.met q.met));
   text = ap (λ (l : List ℕ). a.left ++ l) (flat_map-append (answer_text base) p.met q.met)
       ∙ across a.left b.left c.left (flat_map (answer_text base) p.met) (flat_map (answer_text base) q.met) p.wrote q.wrote p.text q.text;
   written = longer a.written b.written c.written p.wrote q.wrote p.written q.written;
-  sent = q.sent ∙ ap (λ (l : List Action). l ++ flat_map wants q.taken) p.sent ∙ append_assoc a.sent (flat_map wants p.taken) (flat_map wants q.taken) ∙ ap (λ (l : List Action). a.sent ++ l) (sym (flat_map-append wants p.taken q.taken));
+  sent = q.sent ∙ ap (λ (l : List Want). l ++ flat_map wants q.taken) p.sent ∙ append_assoc a.sent (flat_map wants p.taken) (flat_map wants q.taken) ∙ ap (λ (l : List Want). a.sent ++ l) (sym (flat_map-append wants p.taken q.taken));
   heard = q.heard ∙ ap (λ (l : List Heard). l ++ flat_map heards q.met) p.heard ∙ append_assoc a.heard (flat_map heards p.met) (flat_map heards q.met) ∙ ap (λ (l : List Heard). a.heard ++ l) (sym (flat_map-append heards p.met q.met));
   learnt = knows-append looks base a.known b.known c.known p.met q.met p.learnt q.learnt;
   refused = q.refused ∙ ap (λ (n : ℕ). refused_over base n q.met) p.refused ∙ sym (refused_over-append base a.refused p.met q.met);
@@ -76,16 +76,19 @@ behind {looks} {base} {n} {a} {b} {c} p q = subst (λ (k : ℕ). IsTurn looks ba
     none_more n = omega arith
 
 -- the looks of some turns are among all
-module _ {L : Type 0} (looked : L → Query → Result ℕ Refusal → L → Type 0) (x y : L) where
-  knows_among : (base : Condensed) (known : List Action) (met : List LineAnswer) (later : List Action) → LearnsAll (between looked x y) base known met later → LearnsAll (looks_of looked) base known met later
+module _ {L : Type 0} (looked : Looked L) (recalled : Recalls L) (x y : L) where
+  knows_among : (base : Condensed) (known : List Action) (met : List LineAnswer) (later : List Action) → LearnsAll (between looked recalled x y) base known met later → LearnsAll (looks_of looked recalled) base known met later
   knows_among base known [] later k = k
-  knows_among base known (by_receipt id h ∷ ms) later (next, (k, ks)) = (next, (k, knows_among base next ms later ks))
+  knows_among base known (by_receipt w h ∷ ms) later (next, (k, ks)) = (next, (k, knows_among base next ms later ks))
   knows_among base known (by_look id asked list ∷ ms) later (next, (k, ks)) = (next, (((x, (y, k.0)), k.1, k.2), knows_among base next ms later ks))
   knows_among base known (look_refused id asked list hindrance ∷ ms) later (next, (k, ks)) = (next, (((k.0.0, (x, (y, k.0.1)), k.0.2), k.1, k.2), knows_among base next ms later ks))
   knows_among base known (no_room id asked list ∷ ms) later (next, (k, ks)) = (next, (((x, (y, k.0)), k.1, k.2, k.3), knows_among base next ms later ks))
   knows_among base known (stopped id asked ∷ ms) later (next, (k, ks)) = (next, (((x, (y, k.0)), k.1, k.2), knows_among base next ms later ks))
+  knows_among base known (by_recall id after list ∷ ms) later (next, (k, ks)) = (next, (((x, (y, k.0)), k.1, k.2, k.3), knows_among base next ms later ks))
+  knows_among base known (forgotten id after list ∷ ms) later (next, (k, ks)) = (next, (((x, (y, k.0)), k.1, k.2, k.3), knows_among base next ms later ks))
+  knows_among base known (recall_stopped id after ∷ ms) later (next, (k, ks)) = (next, (((x, (y, k.0)), k.1), knows_among base next ms later ks))
   knows_among base known (bad_line id refusal ∷ ms) later (next, (k, ks)) = (next, (k, knows_among base next ms later ks))
   knows_among base known (unasked h ∷ ms) later (next, (k, ks)) = (next, (k, knows_among base next ms later ks))
 
-  pub among : (base : Condensed) (n : ℕ) (a b : SlotState) → IsTurn (between looked x y) base n a b → IsTurn (looks_of looked) base n a b
-  among base n a b p = with_looks (looks_of looked) p (knows_among base a.known p.met b.known p.learnt)
+  pub among : (base : Condensed) (n : ℕ) (a b : SlotState) → IsTurn (between looked recalled x y) base n a b → IsTurn (looks_of looked recalled) base n a b
+  among base n a b p = with_looks (looks_of looked recalled) p (knows_among base a.known p.met b.known p.learnt)

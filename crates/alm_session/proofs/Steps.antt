@@ -5,6 +5,7 @@ use Rattle.std.specs.List.{flat_map}
 use Rattle.std.specs.Io.KnownBytes.{Consumes}
 use Rattle.std.proofs.lemmas.List.{take-append-drop, append-nil, length-take-le}
 use Rattle.alm_types.specs.declared.action.Action.{Action}
+use Rattle.alm_types.specs.declared.want.Want.{Want}
 use Rattle.alm_model.specs.Plant.{Condensed}
 use Rattle.alm_lines.specs.declared.line.Line.{Line}
 use Rattle.alm_lines.specs.Stream.{held_behind}
@@ -12,7 +13,9 @@ use Rattle.alm_desk.specs.Answers.{verdict_reply}
 use Rattle.alm_board.specs.Fronts.{IsFront}
 use Rattle.alm_session.specs.Intakes.{Untaken, lines_from, lines_in, open_in}
 use Rattle.alm_session.specs.Wires.{WireInput, Gives}
-use Rattle.alm_session.specs.Turns.{Heard, LineAnswer, by_receipt, by_look, look_refused, no_room, stopped, bad_line, unasked, answer_text, LineKind, action, line_kind, kinds, heards, unasked_receipts, wants, LearnsAll, Learns, refused_next, refused_over, SlotState, IsTurn, Looks, no_looks}
+use Rattle.alm_session.specs.Turns.{LineAnswer, by_receipt, by_look, look_refused, no_room, stopped, bad_line, unasked, answer_text, LineKind, waiting_kind, line_kind, kinds, heards, unasked_receipts, wants, LearnsAll, Learns, refused_next, refused_over, SlotState, IsTurn, Looks, no_looks, by_recall, forgotten, recall_stopped}
+use Rattle.alm_session.specs.Unanswered.{Heard, IsAnsweredBy}
+use Rattle.alm_session.specs.declared.unanswered.Unanswered.{Unanswered}
 
 consumes_nil : (o : Option (List ℕ)) → Consumes o o []
 consumes_nil None = tt
@@ -36,7 +39,7 @@ still {looks} base a b lines opens waiting left known input written sent heard r
   read = rw input (gives_nil a.input);
   lines = append-nil (lines_in a.held) ∙ sym lines;
   open_line = opens;
-  order = append-nil (map action a.waiting) ∙ ap (map action) (sym waiting);
+  order = append-nil (map waiting_kind a.waiting) ∙ ap (map waiting_kind) (sym waiting);
   text = append-nil a.left ∙ sym left;
   written = written ∙ sym (append-nil a.written);
   sent = sent ∙ sym (append-nil a.sent);
@@ -48,22 +51,22 @@ still {looks} base a b lines opens waiting left known input written sent heard r
 }
 
 -- a receipt answers the first line that waits
-pub answered : {looks : Looks} (base : Condensed) (a b : SlotState) (id : ℕ) (h : Heard) → b.held ≡ a.held → a.waiting ≡ id ∷ b.waiting → b.left ≡ a.left ++ answer_text base (by_receipt id h) → IsFront a.known b.known → IsFront h.list b.known
-    → b.input ≡ a.input → b.written ≡ a.written → b.sent ≡ a.sent → b.heard ≡ a.heard ++ h ∷ [] → b.refused ≡ a.refused → IsTurn looks base 1 a b
-answered {looks} base a b id h held waiting left known learnt input written sent heard refused = record {
+pub answered : {looks : Looks} (base : Condensed) (a b : SlotState) (w : Unanswered) (h : Heard) → b.held ≡ a.held → a.waiting ≡ w ∷ b.waiting → b.left ≡ a.left ++ answer_text base (by_receipt w h) → IsFront a.known b.known → IsFront h.list b.known
+    → IsAnsweredBy w h → b.input ≡ a.input → b.written ≡ a.written → b.sent ≡ a.sent → b.heard ≡ a.heard ++ h ∷ [] → b.refused ≡ a.refused → IsTurn looks base 1 a b
+answered {looks} base a b w h held waiting left known learnt is input written sent heard refused = record {
   got = [];
   wrote = [];
   taken = [];
-  met = by_receipt id h ∷ [];
+  met = by_receipt w h ∷ [];
   read = rw input (gives_nil a.input);
   lines = append-nil (lines_in a.held) ∙ ap lines_in (sym held);
   open_line = ap open_in held;
-  order = append-nil (map action a.waiting) ∙ ap (map action) waiting;
-  text = one_text base a.left (by_receipt id h) ∙ sym left;
+  order = append-nil (map waiting_kind a.waiting) ∙ ap (map waiting_kind) waiting;
+  text = one_text base a.left (by_receipt w h) ∙ sym left;
   written = written ∙ sym (append-nil a.written);
   sent = sent ∙ sym (append-nil a.sent);
   heard = heard;
-  learnt = (b.known, ((known, learnt), refl));
+  learnt = (b.known, ((known, learnt, is), refl));
   refused = refused;
   balance = omega (arith, ap length sent, ap length waiting, ap length heard, length-append a.heard (h ∷ []));
   moved = omega arith;
@@ -72,14 +75,14 @@ answered {looks} base a b id h held waiting left known learnt input written sent
 no_one : {P : Type 0} → ◌≡◌ {A = ℕ} 1 0 → P
 no_one {P} e = cc
 
-pub nothing_of : (xs : List ℕ) → length xs ≡ 0 → xs ≡ []
+pub nothing_of : {A : Type 0} (xs : List A) → length xs ≡ 0 → xs ≡ []
 nothing_of [] e = refl
 nothing_of (x ∷ xs) e = (let bad_line : ◌≡◌ {A = ℕ} 1 0 = omega (arith, e) in no_one bad_line)
 
--- a receipt comes while no line waits
-pub strayed : {looks : Looks} (base : Condensed) (a b : SlotState) (h : Heard) → b.held ≡ a.held → a.waiting ≡ [] → b.waiting ≡ [] → b.left ≡ a.left → IsFront a.known b.known → IsFront h.list b.known
+-- a receipt comes that is of no action that waits first
+pub strayed : {looks : Looks} (base : Condensed) (a b : SlotState) (h : Heard) → b.held ≡ a.held → b.waiting ≡ a.waiting → b.left ≡ a.left → IsFront a.known b.known → IsFront h.list b.known
     → b.input ≡ a.input → b.written ≡ a.written → b.sent ≡ a.sent → b.heard ≡ a.heard ++ h ∷ [] → b.refused ≡ a.refused → IsTurn looks base 1 a b
-strayed {looks} base a b h held waiting waits left known learnt input written sent heard refused = record {
+strayed {looks} base a b h held waits left known learnt input written sent heard refused = record {
   got = [];
   wrote = [];
   taken = [];
@@ -87,14 +90,14 @@ strayed {looks} base a b h held waiting waits left known learnt input written se
   read = rw input (gives_nil a.input);
   lines = append-nil (lines_in a.held) ∙ ap lines_in (sym held);
   open_line = ap open_in held;
-  order = append-nil (map action a.waiting) ∙ ap (map action) (waiting ∙ sym waits);
+  order = append-nil (map waiting_kind a.waiting) ∙ ap (map waiting_kind) (sym waits);
   text = one_text base a.left (unasked h) ∙ append-nil a.left ∙ sym left;
   written = written ∙ sym (append-nil a.written);
   sent = sent ∙ sym (append-nil a.sent);
   heard = heard;
   learnt = (b.known, ((known, learnt), refl));
   refused = refused;
-  balance = omega (arith, ap length sent, ap length waiting, ap length waits, ap length heard, length-append a.heard (h ∷ []));
+  balance = omega (arith, ap length sent, ap length waits, ap length heard, length-append a.heard (h ∷ []));
   moved = omega arith;
 }
 
@@ -109,7 +112,7 @@ wrote_some {looks} base a b n some within held waiting left known input written 
   read = rw input (gives_nil a.input);
   lines = append-nil (lines_in a.held) ∙ ap lines_in (sym held);
   open_line = ap open_in held;
-  order = append-nil (map action a.waiting) ∙ ap (map action) (sym waiting);
+  order = append-nil (map waiting_kind a.waiting) ∙ ap (map waiting_kind) (sym waiting);
   text = append-nil a.left ∙ sym (ap (λ (t : List ℕ). take n a.left ++ t) left ∙ take-append-drop n a.left);
   written = written;
   sent = sent ∙ sym (append-nil a.sent);
@@ -134,7 +137,7 @@ read_some {looks} base a b none empty held some waiting left known input written
   read = input;
   lines = rw (none, empty) (sym (ap lines_in held ∙ lined a.held b.held.rest none));
   open_line = ap open_in held ∙ opened a.held b.held.rest empty;
-  order = append-nil (map action a.waiting) ∙ ap (map action) (sym waiting);
+  order = append-nil (map waiting_kind a.waiting) ∙ ap (map waiting_kind) (sym waiting);
   text = append-nil a.left ∙ sym left;
   written = written ∙ sym (append-nil a.written);
   sent = sent ∙ sym (append-nil a.sent);
@@ -153,7 +156,7 @@ read_some {looks} base a b none empty held some waiting left known input written
 
 -- a line is taken and answered immediately, or sent
 pub took : {looks : Looks} (base : Condensed) (a b : SlotState) (line : Line) (met : List LineAnswer) → a.held.line ≡ Some line → b.held ≡ record a.held { line = None }
-    → map action a.waiting ++ line_kind line ∷ [] ≡ flat_map kinds met ++ map action b.waiting → b.left ≡ a.left ++ flat_map (answer_text base) met
+    → map waiting_kind a.waiting ++ line_kind line ∷ [] ≡ flat_map kinds met ++ map waiting_kind b.waiting → b.left ≡ a.left ++ flat_map (answer_text base) met
     → b.input ≡ a.input → b.written ≡ a.written → b.sent ≡ a.sent ++ wants line → b.heard ≡ a.heard → flat_map heards met ≡ [] → flat_map unasked_receipts met ≡ [] → LearnsAll looks base a.known met b.known
     → b.refused ≡ refused_over base a.refused met → length (wants line) + length a.waiting ≡ length b.waiting → IsTurn looks base 1 a b
 took {looks} base a b line met held later order left input written sent heard none plain learnt refused count = record {
@@ -167,7 +170,7 @@ took {looks} base a b line met held later order left input written sent heard no
   order = order;
   text = sym left;
   written = written ∙ sym (append-nil a.written);
-  sent = sent ∙ ap (λ (l : List Action). a.sent ++ l) (sym (append-nil (wants line)));
+  sent = sent ∙ ap (λ (l : List Want). a.sent ++ l) (sym (append-nil (wants line)));
   heard = heard ∙ sym (ap (λ (l : List Heard). a.heard ++ l) none ∙ append-nil a.heard);
   learnt = learnt;
   refused = refused;
@@ -181,7 +184,7 @@ took {looks} base a b line met held later order left input written sent heard no
 at_end : (xs ys zs : List ℕ) → xs ≡ zs → ys ≡ [] → xs ≡ ys ++ (zs ++ [])
 at_end xs ys zs e f = rw f (e ∙ sym (append-nil zs))
 
-alone_order : (w v : List ℕ) (s : LineKind) (l : List LineKind) → w ≡ [] → v ≡ [] → l ≡ s ∷ [] → map action w ++ s ∷ [] ≡ (l ++ []) ++ map action v
+alone_order : (w v : List Unanswered) (s : LineKind) (l : List LineKind) → w ≡ [] → v ≡ [] → l ≡ s ∷ [] → map waiting_kind w ++ s ∷ [] ≡ (l ++ []) ++ map waiting_kind v
 alone_order w v s l e f h = rw (e, f, h) refl
 
 -- a line is answered immediately, if no action waits and no byte is to be written
@@ -189,27 +192,20 @@ pub at_once : {looks : Looks} (base : Condensed) (a b : SlotState) (line : Line)
     → kinds m ≡ line_kind line ∷ [] → wants line ≡ [] → heards m ≡ [] → unasked_receipts m ≡ [] → Learns looks base a.known m b.known → b.input ≡ a.input → b.written ≡ a.written → b.sent ≡ a.sent → b.heard ≡ a.heard → b.refused ≡ refused_next base a.refused m → IsTurn looks base 1 a b
 at_once {looks} base a b line m held later waiting waits empty left slip want none plain known input written sent heard refused =
     took base a b line (m ∷ []) held later (alone_order a.waiting b.waiting (line_kind line) (kinds m) waiting waits slip) (at_end b.left a.left (answer_text base m) left empty) input written
-    (sent ∙ sym (append-nil a.sent) ∙ ap (λ (l : List Action). a.sent ++ l) (sym want)) heard (append-nil (heards m) ∙ none) (append-nil (unasked_receipts m) ∙ plain) (b.known, (known, refl))
+    (sent ∙ sym (append-nil a.sent) ∙ ap (λ (l : List Want). a.sent ++ l) (sym want)) heard (append-nil (heards m) ∙ none) (append-nil (unasked_receipts m) ∙ plain) (b.known, (known, refl))
     refused (omega (arith, ap length want, ap length waiting, ap length waits))
-
--- a receipt is received
-pub received : {looks : Looks} (base : Condensed) (a b : SlotState) (h : Heard) → b.held ≡ a.held → (a.waiting ≡ [] → (b.waiting ≡ []) × (b.left ≡ a.left))
-    → ((id : ℕ) (ids : List ℕ) → a.waiting ≡ id ∷ ids → (b.waiting ≡ ids) × (b.left ≡ a.left ++ verdict_reply id h.number h.verdict)) → IsFront a.known b.known → IsFront h.list b.known
-    → b.input ≡ a.input → b.written ≡ a.written → b.sent ≡ a.sent → b.heard ≡ a.heard ++ h ∷ [] → b.refused ≡ a.refused → IsTurn looks base 1 a b
-received {looks} base a b h held none some known learnt input written sent heard refused = by_waiting a.waiting refl
-  where
-    by_waiting : (w : List ℕ) → a.waiting ≡ w → IsTurn looks base 1 a b
-    by_waiting [] e = strayed base a b h held e (none e).0 (none e).1 known learnt input written sent heard refused
-    by_waiting (id ∷ ids) e = answered base a b id h held (e ∙ ap (λ (l : List ℕ). id ∷ l) (sym (some id ids e).0)) (some id ids e).1 known learnt input written sent heard refused
 
 -- turns without a look are turns with any
 knows_more : (looks : Looks) (base : Condensed) (known : List Action) (met : List LineAnswer) (later : List Action) → LearnsAll no_looks base known met later → LearnsAll looks base known met later
 knows_more looks base known [] later k = k
-knows_more looks base known (by_receipt id h ∷ ms) later (next, (k, ks)) = (next, (k, knows_more looks base next ms later ks))
+knows_more looks base known (by_receipt w h ∷ ms) later (next, (k, ks)) = (next, (k, knows_more looks base next ms later ks))
 knows_more looks base known (by_look id asked list ∷ ms) later (next, (k, ks)) = absurd k.0
 knows_more looks base known (look_refused id asked list hindrance ∷ ms) later (next, (k, ks)) = absurd k.0.1
 knows_more looks base known (no_room id asked list ∷ ms) later (next, (k, ks)) = absurd k.0
 knows_more looks base known (stopped id asked ∷ ms) later (next, (k, ks)) = absurd k.0
+knows_more looks base known (by_recall id after list ∷ ms) later (next, (k, ks)) = absurd k.0
+knows_more looks base known (forgotten id after list ∷ ms) later (next, (k, ks)) = absurd k.0
+knows_more looks base known (recall_stopped id after ∷ ms) later (next, (k, ks)) = absurd k.0
 knows_more looks base known (bad_line id refusal ∷ ms) later (next, (k, ks)) = (next, (k, knows_more looks base next ms later ks))
 knows_more looks base known (unasked h ∷ ms) later (next, (k, ks)) = (next, (k, knows_more looks base next ms later ks))
 

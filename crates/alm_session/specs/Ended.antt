@@ -3,7 +3,8 @@ use Rattle.std.specs.Prelude.{◌≡◌, ℕ, ◌+◌, ◌≤◌, List, [], ◌�
 use Rattle.std.specs.List.{flat_map}
 use Rattle.alm_model.specs.Plant.{Condensed}
 use Rattle.alm_session.specs.Intakes.{lines_from, lines_in}
-use Rattle.alm_session.specs.Turns.{Heard, LineAnswer, answer_text, line_kind, kinds, heards, unasked_receipts, LearnsAll, Looks, SlotState}
+use Rattle.alm_session.specs.Turns.{LineAnswer, answer_text, line_kind, kinds, heards, unasked_receipts, LearnsAll, Looks, SlotState}
+use Rattle.alm_session.specs.Unanswered.{Heard}
 use Rattle.alm_session.specs.Wires.{Gives}
 
 -- no bytes have come, none are to be written, and no request of the slot is unanswered

@@ -2,6 +2,7 @@
 use Rattle.std.specs.Prelude.{◌≡◌, ℕ, ◌+◌, ◌-◌, ◌^◌, ◌<◌, ◌≤◌, ◌⊎◌, List, [], Option, None, Some, length, map}
 use Rattle.std.specs.Io.KnownBytes.{IsAtEnd}
 use Rattle.alm_types.specs.declared.action.Action.{Action}
+use Rattle.alm_types.specs.declared.want.Want.{Want}
 use Rattle.alm_lines.specs.declared.ask.Ask.{Ask}
 use Rattle.alm_lines.specs.declared.ask.Ask.TheVariants.{Act}
 use Rattle.alm_lines.specs.declared.line.Line.{Line}
@@ -11,20 +12,21 @@ use Rattle.alm_rings.specs.declared.console.Console.{Console}
 use Rattle.alm_rings.specs.declared.receipt.Receipt.{Receipt}
 use Rattle.alm_rings.specs.Ends.{sent_of, received_of, coming_to, room_of}
 use Rattle.alm_session.specs.Wires.{Counts, WireInput, blocked_read, blocked_write, failed_call}
-use Rattle.alm_session.specs.Turns.{SlotState, Heard}
+use Rattle.alm_session.specs.Turns.{SlotState}
+use Rattle.alm_session.specs.Unanswered.{Heard}
 use Rattle.alm_session.specs.declared.session.Session.{Session}
 use Rattle.alm_session.specs.declared.turn.Turn.{Turn}
 use Rattle.alm_session.specs.declared.turn.Turn.TheVariants.{Went, Idle, Ended, Fault}
 
 module _ {T : Type 0} {g : Ghosts T} where
   abbrev pub heard_of : Receipt T g → Heard
-  heard_of r = record { serial = r.serial; verdict = r.verdict; number = r.number; list = g.list r.told }
+  heard_of r = record { slot = r.slot; serial = r.serial; verdict = r.verdict; number = r.number; opened = g.base_count r.told; list = g.list r.told; logged = g.logged r.told }
 
   abbrev pub heard_by : Console T g → List Heard
   heard_by console = map heard_of (received_of console)
 
 -- one slot's side, with what the slot knows, the bytes of the wire, and all that was sent and received
-abbrev pub slot_state : Session → List Action → WireInput → (written : List ℕ) → List Action → List Heard → SlotState
+abbrev pub slot_state : Session → List Action → WireInput → (written : List ℕ) → List Want → List Heard → SlotState
 slot_state s known input written sent heard = record { held = s.intake; waiting = s.waiting.items; left = s.output.left; refused = s.answer.refused; known = known; input = input; written = written; sent = sent; heard = heard }
 
 -- at least one, if the turn went

@@ -4,9 +4,11 @@ ghost use Rattle.std.specs.Prelude.{◌≡◌, ◌+◌, ◌≤◌, ◌++◌, [],
 ghost use Rattle.alm_lines.specs.Reply.{ok_text, no_text};
 ghost use Rattle.alm_session.specs.Outputs.{output_limit, reply_limit};
 
+use crate::since::put_since;
 use crate::told::put_told;
 use crate::wire::{Wire, WriteTook};
-use alm_types::{Answer, Query, Refusal};
+use alm_events::Recalled;
+use alm_types::{Answer, Event, Query, Refusal};
 use std::alloc::{AllocError, Global};
 use std::marker::Model;
 
@@ -70,7 +72,9 @@ fn put_line(text: &mut Vec<u8>, id: u32, word: &str, number: u64)
 
 impl Output {
     ghost use Rattle.std.specs.Prelude.{◌≡◌, ◌+◌, ◌≤◌, ◌<◌, ◌++◌, [], length, IfOk, drop};
+    ghost use Rattle.alm_events.specs.Events.{most_told};
     ghost use Rattle.alm_lines.specs.Reply.{ok_text, no_text, told_text};
+    ghost use Rattle.alm_lines.specs.Since.{recalled_text};
     ghost use Rattle.alm_types.specs.Reports.{report};
     ghost use Rattle.std.specs.Prelude.{true, false};
     ghost use Rattle.alm_session.specs.Outputs.{Unwritten};
@@ -129,6 +133,17 @@ impl Output {
         }
         self.text.clear();
         false
+    }
+
+    /// Prints what happened, if no byte is to be written.
+    pub fn since(&mut self, id: u32, told: Recalled, events: &[Event])
+        requires empty { self.old.used ≡ 0 }
+        requires few { length events.now ≤ most_told }
+        ensures text { self.new.left ≡ recalled_text id told.count told.first events.now }
+        ensures used { self.new.used ≤ output_limit }
+    {
+        put_since(&mut self.text, id, told, events);
+        self.written = 0;
     }
 
     /// Writes once, if there are bytes to write.

@@ -1,17 +1,20 @@
 //! One slot's connection.
 
-ghost use Rattle.std.specs.Prelude.{◌≡◌, ◌+◌, ◌*◌, ◌≤◌, length};
+ghost use Rattle.std.specs.Prelude.{◌≡◌, ◌+◌, ◌*◌, ◌≤◌, length, vec_capacity};
+ghost use Rattle.alm_events.specs.Events.{most_told};
 ghost use Rattle.arrayvec.specs.ArrayVec.{array_vec_len};
 ghost use Rattle.alm_session.specs.Outputs.{output_limit, reply_limit};
 
 use crate::intake::Intake;
 use crate::output::{Output, Sent};
 use crate::turn::Turn;
+use crate::unanswered::Unanswered;
 use crate::wire::{ReadGave, Wire};
-use alm_board::{FreeLook, Look};
+use alm_board::{FreeLook, Look, Recall};
+use alm_events::MOST_TOLD;
 use alm_lines::{Ask, Line};
-use alm_rings::{Busy, Console, MOST_OUT, Told};
-use alm_types::{Action, Answer, Query, Refusal, Verdict};
+use alm_rings::{Busy, Console, MOST_OUT, Receipt, Told};
+use alm_types::{Answer, Event, Query, Refusal, Verdict, Want};
 use arrayvec::ArrayVec;
 use std::alloc::{AllocError, Global};
 
@@ -19,10 +22,13 @@ use std::alloc::{AllocError, Global};
 #[derive(Drop)]
 pub struct Session {
     intake: Intake,
-    /// The ids of the actions that are unanswered, oldest first.
-    waiting: ArrayVec<u32, MOST_OUT>,
+    /// The actions that are unanswered, oldest first.
+    waiting: ArrayVec<Unanswered, MOST_OUT>,
     output: Output,
     answer: Answer,
+    /// What a reply reports of what happened.
+    events: Vec<Event>,
+    ghost told: { most_told ≤ vec_capacity events },
     ghost room: { output.used + reply_limit * array_vec_len waiting ≤ output_limit },
 }
 
@@ -31,10 +37,13 @@ impl Session {
     ghost use Rattle.arrayvec.specs.ArrayVec.{array_vec_len};
     ghost use Rattle.alm_rings.specs.Ends.{SameConsole, coming_to, received_of, sent_of};
     ghost use Rattle.alm_session.specs.Intakes.{lines_in};
-    ghost use Rattle.alm_session.specs.Turns.{IsTurn, Heard, between, no_looks};
+    ghost use Rattle.alm_session.specs.Turns.{IsTurn, between, no_looks};
+    ghost use Rattle.alm_session.specs.Unanswered.{Heard, IsReceiptOf};
+    ghost use Rattle.alm_session.specs.declared.unanswered.Unanswered.{Unanswered};
     ghost use Rattle.alm_types.specs.declared.action.Action.{Action};
-    ghost use Rattle.alm_session.specs.Sides.{slot_state, heard_by, least_of, IsQuiet, IsStuck, ReadTurns, GoOnTurns, Turns};
-    ghost use Rattle.std.specs.Prelude.{◌++◌, if◌then◌else◌};
+    ghost use Rattle.alm_types.specs.declared.want.Want.{Want};
+    ghost use Rattle.alm_session.specs.Sides.{slot_state, heard_by, heard_of, least_of, IsQuiet, IsStuck, ReadTurns, GoOnTurns, Turns};
+    ghost use Rattle.std.specs.Prelude.{◌++◌, if◌then◌else◌, IsTrue};
     ghost use Rattle.alm_model.specs.Plant.{Condensed};
     ghost use Rattle.alm_lines.specs.Reply.{no_text};
     ghost use Rattle.alm_desk.specs.Answers.{verdict_reply};
@@ -53,6 +62,7 @@ impl Session {
             waiting: ArrayVec::new(),
             output: Output::new(alloc)?,
             answer: Answer::new(alloc),
+            events: Vec::with_capacity(alloc, MOST_TOLD)?,
         })
     }
 
@@ -74,21 +84,36 @@ impl Session {
         ensures answer { self.new.answer ≡ self.old.answer }
         ensures none { self.old.waiting.items ≡ [] →
             (self.new.waiting.items ≡ []) × (self.new.output.left ≡ self.old.output.left) }
-        ensures some { (id : ℕ) (ids : List ℕ) → self.old.waiting.items ≡ id ∷ ids →
-            (self.new.waiting.items ≡ ids) ×
-            (self.new.output.left ≡ self.old.output.left ++ verdict_reply id number verdict) }
+        ensures some { (first : Unanswered) (others : List Unanswered) →
+            self.old.waiting.items ≡ first ∷ others → (self.new.waiting.items ≡ others) ×
+            (self.new.output.left ≡ self.old.output.left ++ verdict_reply first.id number verdict) }
     {
         if self.waiting.is_empty() {
             return;
         }
-        let id = self.waiting.remove(0);
+        let id = self.waiting.remove(0).id;
         match verdict {
             Verdict::Accepted(_) => self.output.ok(id, number),
             Verdict::Refused(refusal, _) => self.output.no(id, refusal),
         }
     }
 
-    /// Receives a receipt, if one is known to wait, learns what it reports and prints the reply.
+    /// Whether a receipt is of the first action that waits.
+    fn is_awaited<T: Told>(&self, receipt: &Receipt<T>) -> bool
+        ensures some { IsTrue result →
+            (first : Unanswered) × ((others : List Unanswered) ×
+            ((self.now.waiting.items ≡ first ∷ others) × IsReceiptOf first (heard_of receipt.now))) }
+        ensures none { result ≡ false → (first : Unanswered) (others : List Unanswered) →
+            self.now.waiting.items ≡ first ∷ others → ¬ (IsReceiptOf first (heard_of receipt.now)) }
+    {
+        match self.waiting.as_slice().first() {
+            Some(first) => first.is_answered_by(receipt),
+            None => false,
+        }
+    }
+
+    /// Receives a receipt, if one is known to wait, and learns what it reports. If it is of the first action that waits it prints the
+    /// reply.
     fn receive<T: Told + Drop, L: FreeLook<Told = T>>(
         &mut self,
         console: &mut Console<T>,
@@ -112,15 +137,18 @@ impl Session {
         let Some(receipt) = console.receive() else {
             return false;
         };
+        let is_awaited = self.is_awaited(&receipt);
         let number = receipt.number;
         let verdict = receipt.verdict;
         look.learn(receipt);
-        self.answer_first(verdict, number);
+        if is_awaited {
+            self.answer_first(verdict, number);
+        }
         true
     }
 
     /// Sends the action of the line that is held.
-    fn send<T: Told + Drop>(&mut self, id: u32, want: Action, console: &mut Console<T>) -> Turn
+    fn send<T: Told + Drop>(&mut self, id: u32, want: Want, console: &mut Console<T>) -> Turn
         requires line { self.old.intake.line ≡ Some (record { id = id; ask = ask.Act want }) }
         requires empty { self.old.output.used ≡ 0 }
         ensures end { SameConsole console.old console.new }
@@ -135,9 +163,17 @@ impl Session {
         if self.waiting.is_full() {
             return Turn::Idle;
         }
-        match console.send(want) {
-            Ok(_) => {
-                self.waiting.push(id);
+        // for the proof: a copy, since the prover does not follow a value after it was moved
+        let asked = want;
+        let slot = console.slot().number();
+        match console.send(asked) {
+            Ok(serial) => {
+                self.waiting.push(Unanswered {
+                    id,
+                    slot,
+                    serial,
+                    want,
+                });
                 self.intake.pass();
                 Turn::Went
             }
@@ -146,16 +182,16 @@ impl Session {
     }
 
     /// Answers the query of the line that is held, if no action waits.
-    fn ask<L: Look>(&mut self, id: u32, query: Query, look: &mut L)
+    fn ask<L: Recall>(&mut self, id: u32, query: Query, look: &mut L)
         requires line { self.old.intake.line ≡ Some (record { id = id; ask = ask.Look query }) }
         requires empty { (self.old.output.left ≡ []) × (self.old.output.used ≡ 0) }
         requires alone { self.old.waiting.items ≡ [] }
-        ensures base { L.base look.new ≡ L.base look.old }
-        ensures turn { (input : WireInput) (written : List ℕ) (sent : List Action)
+        ensures base { L.Look.base look.new ≡ L.Look.base look.old }
+        ensures turn { (input : WireInput) (written : List ℕ) (sent : List Want)
             (heard : List Heard) →
-            IsTurn (between L.looked look.old look.new) (L.base look.old) 1
-            (slot_state self.old (L.knows look.old) input written sent heard)
-            (slot_state self.new (L.knows look.new) input written sent heard) }
+            IsTurn (between L.Look.looked L.recalled look.old look.new) (L.Look.base look.old) 1
+            (slot_state self.old (L.Look.knows look.old) input written sent heard)
+            (slot_state self.new (L.Look.knows look.new) input written sent heard) }
     {
         self.intake.pass();
         match look.look(query, &mut self.answer) {
@@ -164,6 +200,25 @@ impl Session {
                     self.output.no(id, Refusal::OutOfMemory);
                 }
             }
+            Err(refusal) => self.output.no(id, refusal),
+        }
+    }
+
+    /// Reports what happened after the number of the line that is held, if no action waits.
+    fn recall<L: Recall>(&mut self, id: u32, after: Option<u64>, look: &mut L)
+        requires line { self.old.intake.line ≡ Some (record { id = id; ask = ask.Recall after }) }
+        requires empty { (self.old.output.left ≡ []) × (self.old.output.used ≡ 0) }
+        requires alone { self.old.waiting.items ≡ [] }
+        ensures base { L.Look.base look.new ≡ L.Look.base look.old }
+        ensures turn { (input : WireInput) (written : List ℕ) (sent : List Want)
+            (heard : List Heard) →
+            IsTurn (between L.Look.looked L.recalled look.old look.new) (L.Look.base look.old) 1
+            (slot_state self.old (L.Look.knows look.old) input written sent heard)
+            (slot_state self.new (L.Look.knows look.new) input written sent heard) }
+    {
+        self.intake.pass();
+        match look.recall(after, &mut self.events) {
+            Ok(told) => self.output.since(id, told, &self.events),
             Err(refusal) => self.output.no(id, refusal),
         }
     }
@@ -183,7 +238,7 @@ impl Session {
     }
 
     /// Takes the line that is held, if no byte is to be written.
-    fn take<T: Told + Drop, L: FreeLook<Told = T>>(
+    fn take<T: Told + Drop, L: FreeLook<Told = T> + Recall>(
         &mut self,
         line: Line,
         console: &mut Console<T>,
@@ -194,7 +249,7 @@ impl Session {
         ensures base { L.Look.base look.new ≡ L.Look.base look.old }
         ensures end { SameConsole console.old console.new }
         ensures turn { (input : WireInput) (written : List ℕ) →
-            IsTurn (between L.Look.looked look.old look.new) (L.Look.base look.old)
+            IsTurn (between L.Look.looked L.Recall.recalled look.old look.new) (L.Look.base look.old)
             (least_of result)
             (slot_state self.old (L.Look.knows look.old) input written (sent_of console.old)
             (heard_by console.old))
@@ -213,6 +268,13 @@ impl Session {
                 self.ask(id, query, look);
                 Turn::Went
             }
+            Ask::Recall(after) => {
+                if !self.waiting.is_empty() {
+                    return Turn::Idle;
+                }
+                self.recall(id, after, look);
+                Turn::Went
+            }
             Ask::Bad(refusal) => {
                 if !self.waiting.is_empty() {
                     return Turn::Idle;
@@ -227,7 +289,8 @@ impl Session {
     fn read<W: Wire>(&mut self, wire: &mut W) -> Turn
         requires held { (self.old.intake.line ≡ None) × (self.old.intake.rest ≡ []) }
         requires empty { self.old.output.left ≡ [] }
-        ensures turn { (base : Condensed) (known sent : List Action) (heard : List Heard) →
+        ensures turn { (base : Condensed) (known : List Action) (sent : List Want)
+            (heard : List Heard) →
             IsTurn no_looks base (least_of result)
             (slot_state self.old known (W.input wire.old) (W.written wire.old) sent heard)
             (slot_state self.new known (W.input wire.new) (W.written wire.new) sent heard) }
@@ -248,7 +311,7 @@ impl Session {
     }
 
     /// Takes a line, or reads, if no byte is to be written.
-    fn go_on<W: Wire, T: Told + Drop, L: FreeLook<Told = T>>(
+    fn go_on<W: Wire, T: Told + Drop, L: FreeLook<Told = T> + Recall>(
         &mut self,
         wire: &mut W,
         console: &mut Console<T>,
@@ -257,7 +320,7 @@ impl Session {
         requires empty { (self.old.output.left ≡ []) × (self.old.output.used ≡ 0) }
         ensures base { L.Look.base look.new ≡ L.Look.base look.old }
         ensures end { SameConsole console.old console.new }
-        ensures turn { IsTurn (between L.Look.looked look.old look.new) (L.Look.base look.old)
+        ensures turn { IsTurn (between L.Look.looked L.Recall.recalled look.old look.new) (L.Look.base look.old)
             (least_of result)
             (slot_state self.old (L.Look.knows look.old) (W.input wire.old) (W.written wire.old)
             (sent_of console.old) (heard_by console.old))
@@ -275,7 +338,7 @@ impl Session {
     }
 
     /// One turn: what can be done without waiting.
-    pub fn turn<W: Wire, T: Told + Drop, L: FreeLook<Told = T>>(
+    pub fn turn<W: Wire, T: Told + Drop, L: FreeLook<Told = T> + Recall>(
         &mut self,
         wire: &mut W,
         console: &mut Console<T>,
@@ -283,7 +346,7 @@ impl Session {
     ) -> Turn
         ensures base { L.Look.base look.new ≡ L.Look.base look.old }
         ensures end { SameConsole console.old console.new }
-        ensures turn { IsTurn (between L.Look.looked look.old look.new) (L.Look.base look.old)
+        ensures turn { IsTurn (between L.Look.looked L.Recall.recalled look.old look.new) (L.Look.base look.old)
             (least_of result)
             (slot_state self.old (L.Look.knows look.old) (W.input wire.old) (W.written wire.old)
             (sent_of console.old) (heard_by console.old))

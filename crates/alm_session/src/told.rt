@@ -51,7 +51,7 @@ fn put_part(text: &mut Vec<u8>, part: Part<'_>) -> Result<(), AllocError>
 }
 
 /// Puts parts, one after the other.
-fn put_parts(text: &mut Vec<u8>, parts: &[Part<'_>]) -> Result<(), AllocError>
+pub fn put_parts(text: &mut Vec<u8>, parts: &[Part<'_>]) -> Result<(), AllocError>
     ensures items { OnOk result (text.new.items ≡ text.old.items ++ text_of_parts parts.now) }
     ensures full { OnErr result
         (vec_capacity text.old < vec_len text.old + length (text_of_parts parts.now)) }

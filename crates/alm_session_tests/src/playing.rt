@@ -40,7 +40,9 @@ pub fn answer(
 {
     beside(console, inbox, outbox);
     let _ = inbox.take();
+    let slot = outbox.slot();
     let _ = outbox.release(Receipt {
+        slot,
         serial,
         verdict: Verdict::Refused(Refusal::NotUnacknowledged, 0),
         number: 0,

@@ -5,10 +5,11 @@ ghost use Rattle.alm_rings.specs.Ends.{SameConsole};
 use crate::piece_wire::PieceWire;
 use crate::playing::{Course, answer, play, worked_look};
 use crate::still::{StillLook, StillTold};
+use alm_events::Recalled;
 use alm_model::PlainPlant;
 use alm_rings::{Console, open_slot};
-use alm_session::{MemWire, Session, Turn, Wire, drain};
-use alm_types::{Action, AlarmId, Slot};
+use alm_session::{MemWire, Output, Sent, Session, Turn, Wire, drain};
+use alm_types::{Action, AlarmId, Event, Moment, Reading, Slot, Want};
 use std::alloc::{AllocError, Global};
 use std::test::Fail;
 
@@ -170,7 +171,26 @@ fn a_lost_connection(rt: HostRuntime) -> Result<(), Fail> {
     );
     assert_eq!(rt; course.last, Turn::Ended);
     assert_eq!(rt; wire.output(), b"1 STATE 0 NORM 0 - -\n".as_slice());
-    assert!(rt; console.send(Action::Ack(AlarmId(0))) == Ok(4));
+    assert!(rt; console.send(Want::Do(Action::Ack(AlarmId(0)))) == Ok(4));
+    Ok(())
+}
+
+/// A receipt of another request answers no line, and then that of the line's own request does.
+#[test]
+fn a_receipt_of_another_request(rt: HostRuntime) -> Result<(), Fail> {
+    let alloc = rt.alloc();
+    let slot = Slot::new(0).ok_or("slot")?;
+    let (mut console, mut inbox, mut outbox) = open_slot(alloc, slot)?;
+    let mut look = worked_look(alloc)?;
+    let mut session = Session::new(alloc)?;
+    let mut wire = MemWire::new(alloc, bytes(alloc, "7 ACK 0\n1 ST")?, 200)?;
+    let _ = five_turns(&mut session, &mut wire, &mut console, &mut look);
+    answer(&mut console, &mut inbox, &mut outbox, 2);
+    let _ = five_turns(&mut session, &mut wire, &mut console, &mut look);
+    assert_eq!(rt; wire.output(), b"".as_slice());
+    answer(&mut console, &mut inbox, &mut outbox, 1);
+    let _ = five_turns(&mut session, &mut wire, &mut console, &mut look);
+    assert_eq!(rt; wire.output(), b"7 NO 2\n".as_slice());
     Ok(())
 }
 
@@ -197,6 +217,56 @@ fn a_plant_and_its_attributes(rt: HostRuntime) -> Result<(), Fail> {
     let replies =
         "5 PLANT 0 0 4 2\n6 ATTR 0 DISCRETE 1 0 1 1 0 ON XS-201\n4294967295 NO 1\n7 ATTR 0 LOW 100 5 2 0 3600 OFF PI-102\n";
     assert!(rt; is_answered(rt.alloc(), slot, lines, replies, 1, 1)?);
+    Ok(())
+}
+
+/// Nothing has happened at a plant without an action, and an acknowledgement with a stamp is an action as any other.
+#[test]
+fn nothing_happened(rt: HostRuntime) -> Result<(), Fail> {
+    let slot = Slot::new(5).ok_or("slot")?;
+    let lines =
+        "7 SINCE\n8 ACK 0 3\n9 SINCE 0\n10 SINCE 281474976710656\n11 SINCE 281474976710657\n";
+    let replies = "7 SINCE 0 1 0\n8 NO 2\n9 SINCE 0 1 0\n10 SINCE 0 281474976710657 0\n11 NO 13\n";
+    for piece in [1, 7, 4096] {
+        assert!(rt; is_answered(rt.alloc(), slot, lines, replies, piece, piece)?);
+    }
+    Ok(())
+}
+
+/// What happened is reported in one line.
+#[test]
+fn what_happened_is_told(rt: HostRuntime) -> Result<(), Fail> {
+    let alloc = rt.alloc();
+    let moment = Moment::new(1_700_000_000).ok_or("moment")?;
+    let (clock, console) = (Slot::new(17).ok_or("slot")?, Slot::new(4).ok_or("slot")?);
+    let setpoint = Reading::new(-12).ok_or("reading")?;
+    let events = [
+        Event {
+            moment,
+            slot: clock,
+            action: Action::Clock(moment),
+        },
+        Event {
+            moment,
+            slot: console,
+            action: Action::SetSetpoint(AlarmId(16_383), setpoint),
+        },
+    ];
+    let mut output = Output::new(alloc)?;
+    output.since(
+        9,
+        Recalled {
+            count: 12,
+            first: 5,
+        },
+        &events,
+    );
+    let mut wire = MemWire::new(alloc, Vec::new(alloc), 200)?;
+    assert_eq!(rt; output.write(&mut wire), Sent::Some);
+    assert_eq!(rt;
+        wire.output(),
+        b"9 SINCE 12 5 2 1700000000 17 CLOCK 1700000000 1700000000 4 SETP 16383 -12\n".as_slice()
+    );
     Ok(())
 }
 

@@ -1,9 +1,10 @@
 //! A published plant for which no batch was ever published.
 
-use alm_board::{FreeLook, Look};
+use alm_board::{FreeLook, Look, Recall};
+use alm_events::Recalled;
 use alm_model::{Alarms, look};
 use alm_rings::Told;
-use alm_types::{Answer, Query, Refusal};
+use alm_types::{Answer, Event, Query, Refusal};
 
 /// An empty report.
 #[derive(Drop)]
@@ -17,6 +18,8 @@ impl Told for StillTold {
     ghost base_count = { λ told. told.base_count };
 
     ghost list = { λ _. [] };
+
+    ghost logged = { λ _. [] };
 }
 
 /// A plant that stays.
@@ -49,4 +52,24 @@ impl<P: Alarms + Drop> Look for StillLook<P> {
 
 impl<P: Alarms + Drop> FreeLook for StillLook<P> {
     ghost free = { λ _ _. tt };
+}
+
+/// Nothing has happened: what was before isn't remembered.
+impl<P: Alarms + Drop> Recall for StillLook<P> {
+    ghost use Rattle.std.specs.Prelude.{[]};
+
+    ghost logged = { λ _. [] };
+
+    fn recall(&mut self, after: Option<u64>, events: &mut Vec<Event>) -> Result<Recalled, Refusal> {
+        let count = self.plant.count();
+        let after = after.unwrap_or(count);
+        if after < count {
+            return Err(Refusal::Forgotten);
+        }
+        events.clear();
+        Ok(Recalled {
+            count,
+            first: after.saturating_add(1),
+        })
+    }
 }

@@ -2,59 +2,62 @@
 use Rattle.std.proofs.Common.{◌≡◌, ℕ, ◌+◌, ◌-◌, ◌≤◌, ◌<◌, ◌≢◌, List, [], ◌∷◌, ◌++◌, length, take, drop, sym, ◌∙◌, ap, subst, arith, length-append, length-drop, append_assoc}
 use Rattle.std.proofs.lemmas.List.{take-append-drop, drop-append-le, drop_all}
 use Rattle.std.proofs.Math.Seq.{drop-append-add}
-use Rattle.alm_types.specs.declared.action.Action.{Action}
+use Rattle.alm_types.specs.declared.logged_action.LoggedAction.{LoggedAction}
 use Rattle.alm_types.specs.declared.entry.Entry.{Entry}
-use Rattle.alm_model.specs.Judging.{accepted_of}
+use Rattle.alm_model.specs.Judging.{logged_actions, logged_of}
 use Rattle.alm_model.specs.Plant.{Condensed}
 use Rattle.alm_model.specs.Rules.{AllAdmitted}
 use Rattle.alm_model.specs.Step.{run}
 use Rattle.alm_model.proofs.Runs.{run_append}
-use Rattle.alm_model.proofs.Legal.{accepted_append, admitted_append}
+use Rattle.alm_model.proofs.Legal.{actions_append, logged_append, admitted_append}
 use Rattle.alm_board.specs.Fronts.{IsFront}
 use Rattle.alm_board.proofs.FrontLaws.{front_of, front_trans, front_length, rest_of}
 
 pub front_behind : {A : Type 0} (s xs ys : List A) → IsFront xs ys → IsFront (s ++ xs) (s ++ ys)
 front_behind s xs ys p = front_of (s ++ xs) (drop (length xs) ys) (s ++ ys) (append_assoc s xs (drop (length xs) ys) ∙ ap (λ l. s ++ l) (rest_of xs ys p))
 
-pub accepted_front : (xs : List Entry) (k : ℕ) → IsFront (accepted_of (take k xs)) (accepted_of xs)
-accepted_front xs k = front_of (accepted_of (take k xs)) (accepted_of (drop k xs)) (accepted_of xs) (sym (accepted_append (take k xs) (drop k xs)) ∙ ap accepted_of (take-append-drop k xs))
+pub logged_front : (xs : List Entry) (k : ℕ) → IsFront (logged_of (take k xs)) (logged_of xs)
+logged_front xs k = front_of (logged_of (take k xs)) (logged_of (drop k xs)) (logged_of xs) (sym (logged_append (take k xs) (drop k xs)) ∙ ap logged_of (take-append-drop k xs))
 
 -- what begins a history, which continues after what is shown by the first of these actions, begins it also with all of them
-pub handed_front : (s h t acc : List Action) → IsFront s h → IsFront h t → IsFront (drop (length s) t) acc → IsFront h (s ++ acc)
+pub handed_front : {A : Type 0} (s h t acc : List A) → IsFront s h → IsFront h t → IsFront (drop (length s) t) acc → IsFront h (s ++ acc)
 handed_front s h t acc shown handed same =
-    let all : IsFront t (s ++ acc) = subst (λ (l : List Action). IsFront l (s ++ acc)) (rest_of s t (front_trans s h t shown handed)) (front_behind s (drop (length s) t) acc same) in
+    let all : IsFront t (s ++ acc) = subst (λ (l : List _). IsFront l (s ++ acc)) (rest_of s t (front_trans s h t shown handed)) (front_behind s (drop (length s) t) acc same) in
     front_trans h t (s ++ acc) handed all
 
 -- what was handed over of these actions after those that are shown, and the rest of them, are all
-pub handed_rest : (s h acc : List Action) → IsFront s h → IsFront h (s ++ acc) → h ++ drop (length h - length s) acc ≡ s ++ acc
+pub handed_rest : {A : Type 0} (s h acc : List A) → IsFront s h → IsFront h (s ++ acc) → h ++ drop (length h - length s) acc ≡ s ++ acc
 handed_rest s h acc shown handed =
     let long : length h ≡ length s + (length h - length s) = omega (arith, front_length s h shown) in
     let behind : drop (length h) (s ++ acc) ≡ drop (length h - length s) acc = ap (λ n. drop n (s ++ acc)) long ∙ drop-append-add s acc (length h - length s) in
     ap (λ l. h ++ l) (sym behind) ∙ rest_of h (s ++ acc) handed
 
 -- a number of the first are passed over, and then an action more is taken; or it is one of those
-pub one_taken : (before : List Action) (a : Action) (n : ℕ) → n - length before ≡ 0 → drop n (before ++ a ∷ []) ≡ drop n before ++ a ∷ []
+pub one_taken : {A : Type 0} (before : List A) (a : A) (n : ℕ) → n - length before ≡ 0 → drop n (before ++ a ∷ []) ≡ drop n before ++ a ∷ []
 one_taken before a n none = drop-append-le n before (a ∷ []) (omega (arith, none))
 
-pub one_passed : (before : List Action) (a : Action) (n : ℕ) → n - length before ≢ 0 → drop n (before ++ a ∷ []) ≡ drop n before
+pub one_passed : {A : Type 0} (before : List A) (a : A) (n : ℕ) → n - length before ≢ 0 → drop n (before ++ a ∷ []) ≡ drop n before
 one_passed before a n some =
     let less : length before < n = omega (arith, some) in
     drop_all n (before ++ a ∷ []) (omega (arith, less, length-append before (a ∷ []))) ∙ sym (drop_all n before (omega (arith, less)))
 
 -- what a history, which continues after what is shown by the first of these actions, has to grow by
-module _ (s t acc : List Action) (shown : IsFront s t) (same : IsFront (drop (length s) t) acc) where
+module _ (s t acc : List LoggedAction) (shown : IsFront s t) (same : IsFront (drop (length s) t) acc) where
   long : length t - length s ≡ length (drop (length s) t)
   long = sym (length-drop (length s) t)
 
   pub rest_within : length t - length s ≤ length acc
   rest_within = omega (arith, long, front_length (drop (length s) t) acc same)
 
-  pub rest_admitted : (q : Condensed) → AllAdmitted (run q s) acc → AllAdmitted (run q t) (drop (length t - length s) acc)
+  pub rest_admitted : (q : Condensed) → AllAdmitted (run q (logged_actions s)) (logged_actions acc) → AllAdmitted (run q (logged_actions t)) (logged_actions (drop (length t - length s) acc))
   rest_admitted q all =
       let pending = drop (length s) t in
-      let split : acc ≡ pending ++ drop (length t - length s) acc = sym (rest_of pending acc same) ∙ ap (λ n. pending ++ drop n acc) (sym long) in
-      let at : run (run q s) pending ≡ run q t = sym (run_append q s pending) ∙ ap (run q) (rest_of s t shown) in
-      subst (λ p. AllAdmitted p (drop (length t - length s) acc)) at (admitted_append (run q s) pending (drop (length t - length s) acc) (subst (AllAdmitted (run q s)) split all))
+      let left = drop (length t - length s) acc in
+      let split : logged_actions acc ≡ logged_actions pending ++ logged_actions left =
+      ap logged_actions (sym (rest_of pending acc same) ∙ ap (λ n. pending ++ drop n acc) (sym long)) ∙ actions_append pending left in
+      let at : run (run q (logged_actions s)) (logged_actions pending) ≡ run q (logged_actions t) =
+      sym (run_append q (logged_actions s) (logged_actions pending)) ∙ ap (run q) (sym (actions_append s pending) ∙ ap logged_actions (rest_of s t shown)) in
+      subst (λ p. AllAdmitted p (logged_actions left)) at (admitted_append (run q (logged_actions s)) (logged_actions pending) (logged_actions left) (subst (AllAdmitted (run q (logged_actions s))) split all))
 
   pub rest_whole : t ++ drop (length t - length s) acc ≡ s ++ acc
   rest_whole =

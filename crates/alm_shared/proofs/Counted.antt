@@ -2,13 +2,16 @@
 use Rattle.std.proofs.Common.{◌≡◌, ◌+◌, ◌<◌, ◌≤◌, Bool, true, false, List, [], ◌∷◌, length, arith, Option, Some, None, refl}
 use Rattle.std.specs.Prelude.{nat_lt}
 use Rattle.std.proofs.lemmas.Bool.{ltb-true}
+use Rattle.std.proofs.lemmas.List.{length-map}
 use Rattle.alm_types.specs.declared.action.Action.{Action}
+use Rattle.alm_types.specs.declared.logged_action.LoggedAction.{LoggedAction}
 use Rattle.alm_types.specs.declared.refusal.Refusal.{Refusal}
 use Rattle.alm_types.specs.declared.refusal.Refusal.TheVariants.{Exhausted}
 use Rattle.alm_types.specs.Sizes.{most_actions}
 use Rattle.alm_state.specs.Outcome.{or_else, unless}
 use Rattle.alm_model.specs.Plant.{Condensed, Panel}
 use Rattle.alm_model.specs.Accept.{own_refusal, refusal}
+use Rattle.alm_model.specs.Judging.{logged_actions}
 use Rattle.alm_model.specs.Rules.{AllAdmitted}
 use Rattle.alm_model.specs.Step.{step}
 use Rattle.alm_model.proofs.Runs.{step_count}
@@ -29,6 +32,9 @@ counted : (q : Condensed) (a : Action) (actions : List Action) → AllAdmitted q
 counted q a [] all = omega (arith, room q.panel a all.0)
 counted q a (b ∷ actions) all = omega (arith, step_count q a, counted (step q a) b actions all.1)
 
-pub admitted_most : (q : Condensed) (actions : List Action) → AllAdmitted q actions → length actions ≤ most_actions
+admitted_most : (q : Condensed) (actions : List Action) → AllAdmitted q actions → length actions ≤ most_actions
 admitted_most q [] all = omega arith
 admitted_most q (a ∷ actions) all = omega (arith, counted q a actions all)
+
+pub logged_most : (q : Condensed) (logged : List LoggedAction) → AllAdmitted q (logged_actions logged) → length logged ≤ most_actions
+logged_most q logged all = omega (arith, admitted_most q (logged_actions logged) all, length-map logged (λ l. l.action))

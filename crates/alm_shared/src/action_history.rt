@@ -1,6 +1,6 @@
 //! The one writer of a run's history of actions.
 ghost use Rattle.std.specs.Prelude.{◌≡◌, ◌≤◌, ◌++◌, [], length, drop, IfSome};
-ghost use Rattle.alm_model.specs.Judging.{accepted_of};
+ghost use Rattle.alm_model.specs.Judging.{logged_actions, logged_of};
 ghost use Rattle.alm_model.specs.Step.{run};
 
 use crate::append_actions::{AppendActions, Growth, Rest};
@@ -13,8 +13,8 @@ use alm_types::Batch;
 use std::alloc::Global;
 use std::marker::Model;
 
-/// The one writer of a run's history of accepted actions. Each action is admitted at its turn. Contracts see it as all the actions
-/// so far.
+/// The one writer of a run's history of accepted actions, each with its request. Each is admitted at its turn. Contracts see it as
+/// all of them so far.
 #[derive(Drop)]
 pub struct ActionHistory<J: RunId> {
     alloc: Global,
@@ -24,16 +24,17 @@ pub struct ActionHistory<J: RunId> {
 
 impl<J: RunId> Model for ActionHistory<J> {
     ghost use Rattle.std.specs.Prelude.{◌≡◌, List, length};
-    ghost use Rattle.alm_types.specs.declared.action.Action.{Action};
+    ghost use Rattle.alm_types.specs.declared.logged_action.LoggedAction.{LoggedAction};
+    ghost use Rattle.alm_model.specs.Judging.{logged_actions};
     ghost use Rattle.alm_model.specs.Rules.{AllAdmitted};
     ghost use Rattle.alm_shared.specs.Growing.{joined_actions};
 
-    ghost Value = { List Action };
+    ghost Value = { List LoggedAction };
 
     ghost view = { λ h. joined_actions h.writer };
 
     ghost invariant = { λ h. (h.len ≡ length (joined_actions h.writer)) ×
-        AllAdmitted J.base (joined_actions h.writer) };
+        AllAdmitted J.base (logged_actions (joined_actions h.writer)) };
 }
 
 impl<J: RunId> ActionHistory<J> {
@@ -73,10 +74,10 @@ impl<J: RunId> ActionHistory<J> {
 
     // Adds the accepted actions of a batch, without the first `from`. Nobody else adds any, so it is never refused.
     pub(crate) fn extend(&mut self, batch: &Batch, from: u64)
-        requires within { from ≤ length (accepted_of batch.now.entries) }
-        requires admitted { AllAdmitted (run J.base self.old)
-            (drop from (accepted_of batch.now.entries)) }
-        ensures { self.new ≡ self.old ++ drop from (accepted_of batch.now.entries) }
+        requires within { from ≤ length (logged_of batch.now.entries) }
+        requires admitted { AllAdmitted (run J.base (logged_actions self.old))
+            (logged_actions (drop from (logged_of batch.now.entries))) }
+        ensures { self.new ≡ self.old ++ drop from (logged_of batch.now.entries) }
     {
         let more = accepted_in(batch) as u64 - from;
         self.writer

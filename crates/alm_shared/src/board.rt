@@ -15,13 +15,16 @@ use std::sync::Wait;
 
 impl<J: RunId, P: Alarms + Drop> Board
     for Publisher<ShownPlant<J, P>, AppendStep<J>, Front<J>, ActionHistory<J>> {
+    ghost use Rattle.alm_model.specs.Judging.{logged_actions};
     ghost use Rattle.alm_shared.specs.SharedBoards.{board_shown, board_pending};
 
     type Told = Durable<J>;
 
     ghost base = { λ _. J.base };
 
-    ghost published = { λ board. board_shown board };
+    ghost published = { λ board. logged_actions (board_shown board) };
+
+    ghost logged = { λ board. board_shown board };
 
     ghost pending = { λ board. board_pending board };
 

@@ -1,6 +1,7 @@
 //! Published actions that stay on the device.
 ghost use Rattle.std.specs.Prelude.{◌+◌, ◌≤◌, length};
 ghost use mathlib.Core.List.{IsPrefix};
+ghost use Rattle.alm_model.specs.Judging.{logged_actions};
 ghost use Rattle.alm_moments.specs.Moments.{now_of};
 
 use crate::front::Front;
@@ -14,15 +15,20 @@ pub struct Durable<J: RunId> {
     pub front: Front<J>,
     pub moments: Moments<J>,
     /// Its actions are on the device from the last of these moments on,
-    pub ghost held: { J.base.panel.count + length front ≤ (now_of J.base J.first moments).floor },
+    pub ghost held: { J.base.panel.count + length (logged_actions front) ≤
+        (now_of J.base J.first moments).floor },
     /// and they are the first that were accepted.
-    pub ghost within: { ∥ IsPrefix front (now_of J.base J.first moments).accepted ∥₁ },
+    pub ghost within: { ∥ IsPrefix (logged_actions front) (now_of J.base J.first moments).accepted ∥₁ },
 }
 
 impl<J: RunId> Told for Durable<J> {
+    ghost use Rattle.alm_model.specs.Judging.{logged_actions};
+
     ghost base_count = { λ _. J.base.panel.count };
 
-    ghost list = { λ told. told.front };
+    ghost list = { λ told. logged_actions told.front };
+
+    ghost logged = { λ told. told.front };
 }
 
 impl<J: RunId> Durable<J> {

@@ -1,6 +1,7 @@
 //! A prefix of a run's history.
 ghost use Rattle.std.specs.Prelude.{◌≡◌, ◌+◌, ◌≤◌, ◌++◌, ◌⊎◌, ◌↔◌, length, IsTrue};
 ghost use mathlib.Core.List.{IsPrefix};
+ghost use Rattle.alm_model.specs.Judging.{logged_actions};
 ghost use Rattle.alm_model.specs.Rules.{AllAdmitted};
 ghost use Rattle.alm_model.specs.Step.{run};
 ghost use Rattle.alm_types.specs.Sizes.{most_actions};
@@ -12,11 +13,11 @@ use crate::next_shown::NextShown;
 use crate::of_actions::OfActions;
 use alm_history::HistoryPrefix;
 use alm_moments::RunId;
-use alm_types::Action;
+use alm_types::LoggedAction;
 use std::marker::Model;
 
 /// A prefix of a run's history that was seen: eight bytes, however long. Each action is admitted at its turn. Contracts see it as
-/// its actions.
+/// its actions, each with its request.
 #[derive(Drop)]
 pub struct Front<J: RunId> {
     len: u64,
@@ -25,16 +26,17 @@ pub struct Front<J: RunId> {
 
 impl<J: RunId> Model for Front<J> {
     ghost use Rattle.std.specs.Prelude.{◌≡◌, List, length};
-    ghost use Rattle.alm_types.specs.declared.action.Action.{Action};
+    ghost use Rattle.alm_types.specs.declared.logged_action.LoggedAction.{LoggedAction};
+    ghost use Rattle.alm_model.specs.Judging.{logged_actions};
     ghost use Rattle.alm_model.specs.Rules.{AllAdmitted};
     ghost use Rattle.alm_shared.specs.Growing.{joined_actions};
 
-    ghost Value = { List Action };
+    ghost Value = { List LoggedAction };
 
     ghost view = { λ f. joined_actions f.seen };
 
     ghost invariant = { λ f. (f.len ≡ length (joined_actions f.seen)) ×
-        AllAdmitted J.base (joined_actions f.seen) };
+        AllAdmitted J.base (logged_actions (joined_actions f.seen)) };
 }
 
 /// What the next turn of a board shows, if these actions were handed over.
@@ -46,7 +48,7 @@ impl<J: RunId> Front<J> {
     // What was seen, with its length.
     pub(crate) fn new(len: u64, seen: HistoryPrefix<Growth, OfActions<J>>) -> Front<J>
         requires length { len ≡ length (joined_actions seen) }
-        requires admitted { AllAdmitted J.base (joined_actions seen) }
+        requires admitted { AllAdmitted J.base (logged_actions (joined_actions seen)) }
         ensures { result ≡ joined_actions seen }
     {
         Front { len, seen }
@@ -56,7 +58,7 @@ impl<J: RunId> Front<J> {
     pub fn len(&self) -> u64
         ensures length { result ≡ length self.now }
         ensures most { result ≤ most_actions }
-        ensures admitted { AllAdmitted J.base self.now }
+        ensures admitted { AllAdmitted J.base (logged_actions self.now) }
     {
         self.len
     }
@@ -96,11 +98,12 @@ impl<J: RunId> Front<J> {
     }
 
     /// Whether `next` is this prefix with exactly its last actions more, which are `actions`.
-    pub fn is_followed_by(&self, next: &Front<J>, actions: &[Action]) -> bool
+    pub fn is_followed_by(&self, next: &Front<J>, actions: &[LoggedAction]) -> bool
         requires last { HasLast next.now actions.now }
         ensures longer { IsTrue result ↔ (length next.now ≡ length self.now + length actions.now) }
         ensures next { IsTrue result → next.now ≡ self.now ++ actions.now }
-        ensures admitted { IsTrue result → AllAdmitted (run J.base self.now) actions.now }
+        ensures admitted { IsTrue result →
+            AllAdmitted (run J.base (logged_actions self.now)) (logged_actions actions.now) }
     {
         // for the proof: one of two prefixes of a history begins with the other
         drop(self.longer(next));

@@ -1,6 +1,6 @@
 //! A shared board accepts batches, to show them at the next turn.
 ghost use Rattle.std.specs.Prelude.{◌≡◌, ◌+◌, IfOk, drop, length};
-ghost use Rattle.alm_model.specs.Judging.{accepted_of};
+ghost use Rattle.alm_model.specs.Judging.{logged_of};
 
 use crate::action_history::ActionHistory;
 use crate::append_step::AppendStep;
@@ -10,7 +10,7 @@ use crate::publisher::Publisher;
 use crate::shown_plant::ShownPlant;
 use alm_model::Alarms;
 use alm_moments::{Moments, RunId};
-use alm_types::{Action, Batch, Verdict};
+use alm_types::{Batch, LoggedAction, Verdict};
 use std::alloc::{AllocError, Global};
 
 impl<J: RunId, P: Alarms + Drop> Publisher<
@@ -20,7 +20,7 @@ impl<J: RunId, P: Alarms + Drop> Publisher<
     ActionHistory<J>,
 > {
     ghost use Rattle.std.specs.Prelude.{◌≡◌, ◌++◌, ◌↔◌, OnOk, OnErr, IsTrue, MatchResult};
-    ghost use Rattle.alm_model.specs.Judging.{accepted_of};
+    ghost use Rattle.alm_model.specs.Judging.{accepted_of, logged_actions, logged_of};
     ghost use Rattle.alm_model.specs.Rules.{AllAdmitted};
     ghost use Rattle.alm_model.specs.Step.{run};
     ghost use Rattle.alm_board.specs.Fronts.{IsFront};
@@ -40,21 +40,21 @@ impl<J: RunId, P: Alarms + Drop> Publisher<
     // Adds to the history what is left of a batch.
     fn reach(&mut self, batch: &Batch)
         requires ahead { IsFront (board_shown self.old) self.old.extra }
-        requires admitted { AllAdmitted (run J.base (board_shown self.old))
+        requires admitted { AllAdmitted (run J.base (logged_actions (board_shown self.old)))
             (accepted_of batch.now.entries) }
-        requires same { IsFront (board_pending self.old) (accepted_of batch.now.entries) }
+        requires same { IsFront (board_pending self.old) (logged_of batch.now.entries) }
         ensures published { published self.new ≡ published self.old }
         ensures handed { self.new.owner ≡ self.old.owner }
-        ensures reached { self.new.extra ≡ board_shown self.old ++ accepted_of batch.now.entries }
+        ensures reached { self.new.extra ≡ board_shown self.old ++ logged_of batch.now.entries }
     {
         let from = self.extra.len() - self.shown().told.front.len();
         self.extra.extend(batch, from);
     }
 
     // Hands over the actions by which the history is ahead of what was handed over, in one step.
-    fn hand(&mut self, actions: Vec<Action>, moments: &Moments<J>) -> Result<(), AllocError>
+    fn hand(&mut self, actions: Vec<LoggedAction>, moments: &Moments<J>) -> Result<(), AllocError>
         requires next { self.old.extra ≡ self.old.owner ++ actions.items }
-        requires held { AreHeld J.base J.first moments.now self.old.extra }
+        requires held { AreHeld J.base J.first moments.now (logged_actions self.old.extra) }
         ensures published { published self.new ≡ published self.old }
         ensures reached { self.new.extra ≡ self.old.extra }
         ensures handed { MatchResult result (λ _. self.new.owner ≡ self.old.extra)
@@ -77,16 +77,16 @@ impl<J: RunId, P: Alarms + Drop> Publisher<
         batch: &Batch,
         moments: &Moments<J>,
     ) -> Result<(), AllocError>
-        requires admitted { AllAdmitted (run J.base (board_shown self.old))
+        requires admitted { AllAdmitted (run J.base (logged_actions (board_shown self.old)))
             (accepted_of batch.now.entries) }
-        requires same { IsFront (board_pending self.old) (accepted_of batch.now.entries) }
+        requires same { IsFront (board_pending self.old) (logged_of batch.now.entries) }
         requires held { AreHeld J.base J.first moments.now
-            (board_shown self.old ++ accepted_of batch.now.entries) }
+            (logged_actions (board_shown self.old) ++ accepted_of batch.now.entries) }
         ensures published { published self.new ≡ published self.old }
         ensures ok { OnOk result
-            (self.new.owner ≡ board_shown self.old ++ accepted_of batch.now.entries) }
+            (self.new.owner ≡ board_shown self.old ++ logged_of batch.now.entries) }
         ensures clear { OnOk result (self.new.extra ≡ self.new.owner) }
-        ensures err { OnErr result (IsFront (board_pending self.new) (accepted_of batch.now.entries)) }
+        ensures err { OnErr result (IsFront (board_pending self.new) (logged_of batch.now.entries)) }
     {
         if !self.is_ahead() {
             return Err(AllocError);
@@ -104,9 +104,14 @@ impl<J: RunId, P: Alarms + Drop> Publisher<
 }
 
 // The accepted actions of a batch after the first `from` of them: `more` are left.
-fn last_of(alloc: Global, batch: &Batch, from: u64, more: u64) -> Result<Vec<Action>, AllocError>
-    requires more { from + more ≡ length (accepted_of batch.now.entries) }
-    ensures { IfOk result (λ last. last.items ≡ drop from (accepted_of batch.now.entries)) }
+fn last_of(
+    alloc: Global,
+    batch: &Batch,
+    from: u64,
+    more: u64,
+) -> Result<Vec<LoggedAction>, AllocError>
+    requires more { from + more ≡ length (logged_of batch.now.entries) }
+    ensures { IfOk result (λ last. last.items ≡ drop from (logged_of batch.now.entries)) }
 {
     let mut last = Vec::with_capacity(alloc, more as usize)?;
     let mut before = from;
@@ -114,7 +119,11 @@ fn last_of(alloc: Global, batch: &Batch, from: u64, more: u64) -> Result<Vec<Act
         match entry.verdict {
             Verdict::Accepted(action) => {
                 if before == 0 {
-                    last.push_reserved(action);
+                    last.push_reserved(LoggedAction {
+                        slot: entry.slot,
+                        serial: entry.serial,
+                        action,
+                    });
                 } else {
                     before -= 1;
                 }

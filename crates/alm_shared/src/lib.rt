@@ -18,7 +18,7 @@
 //! | [`ActionHistory`] | the one writer of that history |
 //! | [`NewRun`] | the histories of a run, before it has a name |
 //! | [`Publisher`] | any value that is shown to threads |
-//! | [`Sight`] | what a reader knows of its looks |
+//! | [`ReaderSight`] | what a reader knows of its looks |
 //!
 //! What is used above: a look shows the plant of a list of published actions, with its count. Earlier looks by the same reader
 //! saw prefixes of that list, and each receipt that it learnt reported a prefix, whatever thread published it. A refused publish
@@ -59,12 +59,13 @@ mod next_shown;
 mod of_actions;
 mod open;
 mod publisher;
+mod reader_sight;
 mod readers_rule;
 mod shared_board;
 mod shared_look;
+mod shared_recall;
 mod shown_plant;
 mod shows_next;
-mod sight;
 
 pub use action_history::ActionHistory;
 pub use append_actions::Growth;
@@ -76,8 +77,8 @@ pub use new_run::NewRun;
 pub use next_shown::NextShown;
 pub use open::open_board;
 pub use publisher::Publisher;
+pub use reader_sight::ReaderSight;
 pub use readers_rule::ReadersRule;
 pub use shared_board::SharedBoard;
 pub use shared_look::SharedLook;
 pub use shown_plant::ShownPlant;
-pub use sight::Sight;

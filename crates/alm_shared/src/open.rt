@@ -10,6 +10,7 @@ use crate::publisher::Publisher;
 use crate::shared_board::SharedBoard;
 use crate::shared_look::SharedLook;
 use crate::shown_plant::ShownPlant;
+use alm_events::RecentEvents;
 use alm_history::NewHistory;
 use alm_model::Alarms;
 use alm_moments::{Moments, RunId};
@@ -17,7 +18,7 @@ use std::alloc::{AllocError, Global};
 use std::sync::Wait;
 
 /// A board without published actions, which shows the plant that the run begins with, and a number of looks at it. It takes two
-/// of each: the plant and its copy. An error means out of memory.
+/// of each: the plant and its copy, and room for the last 65,536 events. An error means out of memory.
 pub fn open_board<J: RunId, P: Alarms + Drop, R: Wait>(
     rt: &R,
     alloc: Global,
@@ -44,10 +45,12 @@ pub fn open_board<J: RunId, P: Alarms + Drop, R: Wait>(
     };
     let first = ShownPlant {
         plant,
+        recent: RecentEvents::new(alloc)?,
         told: told.again(),
     };
     let second = ShownPlant {
         plant: second,
+        recent: RecentEvents::new(alloc)?,
         told: told.again(),
     };
     let board = Publisher::new(alloc, first, second, lookers, front, history)?;

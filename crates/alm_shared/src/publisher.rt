@@ -2,10 +2,10 @@
 ghost use Rattle.std.specs.Prelude.{◌≡◌, ◌^◌, ◌<◌, [], drop, fold, IfOk, IsOk, MatchResult};
 
 use crate::next_shown::NextShown;
+use crate::reader_sight::ReaderSight;
 use crate::readers_rule::ReadersRule;
 use crate::shows_next::ShowsNext;
-use crate::sight::Sight;
-use alm_types::Action;
+use alm_types::LoggedAction;
 use core::mem::replace_with;
 use left_right::Absorb;
 use left_right::reader::Reader;
@@ -15,8 +15,8 @@ use std::sync::Wait;
 
 /// Shows a value to readers in other threads, by `left_right`. Operations are handed over one by one, and shown together by a
 /// turn, which borrows the handle that it waits by. It isn't `Drop`: end it by [`Publisher::take`].
-pub struct Publisher<T: Absorb<O, State = [Action; 0]> + Drop, O: Drop, X: NextShown, Y> {
-    writer: Writer<T, O, Sight, ReadersRule>,
+pub struct Publisher<T: Absorb<O, State = [LoggedAction; 0]> + Drop, O: Drop, X: NextShown, Y> {
+    writer: Writer<T, O, ReaderSight, ReadersRule>,
     /// What the owner keeps next to it: it knows what the next turn shows.
     pub owner: X,
     /// What else the owner keeps: no call changes it.
@@ -26,10 +26,13 @@ pub struct Publisher<T: Absorb<O, State = [Action; 0]> + Drop, O: Drop, X: NextS
 }
 
 // Shows all that was handed over, or the same as before if out of memory.
-fn show_next<T: Absorb<O, State = [Action; 0]> + Drop, O: Drop, R: Wait>(
+fn show_next<T: Absorb<O, State = [LoggedAction; 0]> + Drop, O: Drop, R: Wait>(
     rt: &R,
-    writer: Writer<T, O, Sight, ReadersRule>,
-) -> (Writer<T, O, Sight, ReadersRule>, Result<(), AllocError>)
+    writer: Writer<T, O, ReaderSight, ReadersRule>,
+) -> (
+    Writer<T, O, ReaderSight, ReadersRule>,
+    Result<(), AllocError>,
+)
     ensures succeeds { T.never_fails → IsOk result.1 }
     ensures values { MatchResult result.1
         (λ _. (T.state result.0.desk.shown.value ≡
@@ -41,7 +44,12 @@ fn show_next<T: Absorb<O, State = [Action; 0]> + Drop, O: Drop, R: Wait>(
     writer.publish_as::<ShowsNext, R>(rt)
 }
 
-impl<T: Absorb<O, State = [Action; 0]> + Drop, O: Drop, X: NextShown, Y> Publisher<T, O, X, Y> {
+impl<T: Absorb<O, State = [LoggedAction; 0]> + Drop, O: Drop, X: NextShown, Y> Publisher<
+    T,
+    O,
+    X,
+    Y,
+> {
     ghost use Rattle.std.specs.Prelude.{◌≡◌, IsOk, OnOk, OnErr, MatchResult};
     ghost use Rattle.alm_shared.specs.Publishers.{published};
 
@@ -71,7 +79,7 @@ impl<T: Absorb<O, State = [Action; 0]> + Drop, O: Drop, X: NextShown, Y> Publish
     }
 
     /// A reader that hasn't looked yet. An error if out of memory, or if all `readers` are taken.
-    pub fn reader(&self) -> Result<Reader<T, Sight, ReadersRule>, AllocError> {
+    pub fn reader(&self) -> Result<Reader<T, ReaderSight, ReadersRule>, AllocError> {
         self.writer.factory().reader()
     }
 

@@ -1,5 +1,6 @@
 //! A slot's view of a shared board.
 ghost use Rattle.std.specs.Prelude.{◌≡◌, ◌≤◌, length, IsOk, OnOk};
+ghost use Rattle.alm_model.specs.Judging.{logged_actions};
 ghost use Rattle.alm_model.specs.Look.{IsLook, look as told};
 ghost use Rattle.alm_model.specs.Step.{run};
 ghost use Rattle.alm_board.specs.Fronts.{IsFront};
@@ -8,9 +9,9 @@ ghost use Rattle.alm_board.specs.Looks.{LookAnswers};
 use crate::durable::Durable;
 use crate::extent::Extent;
 use crate::looks_once::LooksOnce;
+use crate::reader_sight::ReaderSight;
 use crate::readers_rule::ReadersRule;
 use crate::shown_plant::ShownPlant;
-use crate::sight::Sight;
 use alm_board::{FreeLook, Look};
 use alm_model::{Alarms, look};
 use alm_moments::RunId;
@@ -21,7 +22,7 @@ use left_right::reader::Reader;
 #[derive(Drop)]
 pub struct SharedLook<J: RunId, P: Alarms + Drop> {
     // It is there between two looks.
-    pub reader: Option<Reader<ShownPlant<J, P>, Sight, ReadersRule>>,
+    pub reader: Option<Reader<ShownPlant<J, P>, ReaderSight, ReadersRule>>,
     /// What it saw last, or what a receipt reported since.
     pub known: Durable<J>,
     pub(crate) extent: Extent<J>,
@@ -29,6 +30,7 @@ pub struct SharedLook<J: RunId, P: Alarms + Drop> {
 
 impl<J: RunId, P: Alarms + Drop> Look for SharedLook<J, P> {
     ghost use Rattle.std.specs.Prelude.{OnOk, option_map};
+    ghost use Rattle.alm_model.specs.Judging.{logged_actions};
     ghost use Rattle.alm_shared.specs.Sights.{HasLooked};
     ghost use Rattle.left_right.specs.Sides.{view};
 
@@ -36,7 +38,7 @@ impl<J: RunId, P: Alarms + Drop> Look for SharedLook<J, P> {
 
     ghost base = { λ _. J.base };
 
-    ghost knows = { λ look. look.known.front };
+    ghost knows = { λ look. logged_actions look.known.front };
 
     /// An answer is of the list that was published as this very look was made.
     ghost looked = { λ look query result later. OnOk result
@@ -81,11 +83,11 @@ fn look_at<J: RunId, P: Alarms + Drop>(
     answer: &mut Answer,
 ) -> Result<u64, Refusal>
     requires there { IsOk (told J.base query) }
-    ensures later { IsFront known.old.front known.new.front }
-    ensures answer { LookAnswers J.base known.old.front known.new.front query answer.old answer.new
-        result }
+    ensures later { IsFront (logged_actions known.old.front) (logged_actions known.new.front) }
+    ensures answer { LookAnswers J.base (logged_actions known.old.front) (logged_actions known.new.front)
+        query answer.old answer.new result }
     ensures shown { length known.old.front ≤ length shown.now.told.front →
-        IsLook (run J.base shown.now.told.front) query answer.old answer.new result }
+        IsLook (run J.base (logged_actions shown.now.told.front)) query answer.old answer.new result }
     ensures saw { OnOk result (known.new.front ≡ shown.now.told.front) }
 {
     if shown.told.front.len() < known.front.len() {

@@ -1,35 +1,43 @@
 //! A plant with the actions that it comes from.
 ghost use Rattle.std.specs.Prelude.{◌≡◌};
+ghost use Rattle.alm_events.specs.Events.{events_from, last, most_kept};
+ghost use Rattle.alm_model.specs.Judging.{logged_actions};
 ghost use Rattle.alm_model.specs.Step.{run};
 
 use crate::append_step::AppendStep;
 use crate::durable::Durable;
-use alm_model::{Alarms, apply_all};
+use alm_events::{RecentEvents, apply_logged};
+use alm_model::Alarms;
 use alm_moments::RunId;
-use alm_types::Action;
+use alm_types::LoggedAction;
 use left_right::Absorb;
 use std::alloc::AllocError;
 
-/// A plant with the actions that it comes from: what readers are shown.
+/// A plant with the actions that it comes from, and with the last of them: what readers are shown.
 #[derive(Drop)]
 pub struct ShownPlant<J: RunId, P: Alarms + Drop> {
     pub plant: P,
+    /// The last of these actions, as they are reported.
+    pub recent: RecentEvents,
     pub told: Durable<J>,
-    pub ghost is_fold: { P.plant plant ≡ run J.base told.front },
+    pub ghost is_fold: { P.plant plant ≡ run J.base (logged_actions told.front) },
+    pub ghost remembers: { recent ≡ last most_kept (events_from J.base told.front) },
 }
 
 impl<J: RunId, P: Alarms + Drop> ShownPlant<J, P> {
     ghost use Rattle.std.specs.Prelude.{◌≡◌, ◌++◌};
+    ghost use Rattle.alm_model.specs.Judging.{logged_actions};
     ghost use Rattle.alm_model.specs.Rules.{AllAdmitted};
     ghost use Rattle.alm_model.specs.Step.{run};
 
     // The next actions.
-    fn take(&mut self, actions: &[Action], told: Durable<J>)
+    fn take(&mut self, actions: &[LoggedAction], told: Durable<J>)
         requires next { told.front ≡ self.old.told.front ++ actions.now }
-        requires admitted { AllAdmitted (run J.base self.old.told.front) actions.now }
+        requires admitted { AllAdmitted (run J.base (logged_actions self.old.told.front))
+            (logged_actions actions.now) }
         ensures { self.new.told.front ≡ told.front }
     {
-        apply_all(&mut self.plant, actions);
+        apply_logged(&mut self.plant, &mut self.recent, actions);
         self.told = told;
     }
 }
@@ -37,7 +45,7 @@ impl<J: RunId, P: Alarms + Drop> ShownPlant<J, P> {
 impl<J: RunId, P: Alarms + Drop> Absorb<AppendStep<J>> for ShownPlant<J, P> {
     ghost use Rattle.alm_shared.specs.Growing.{next_if_longer};
 
-    type State = [Action; 0];
+    type State = [LoggedAction; 0];
 
     ghost state = { λ s. s.told.front };
 

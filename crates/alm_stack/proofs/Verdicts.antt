@@ -2,6 +2,7 @@
 use Rattle.std.proofs.Common.{◌≡◌, ◌≤◌, ◌∙◌, ◌++◌, [], ℕ, length, Result, Ok, Err, refl, ap, arith}
 use Rattle.std.proofs.lemmas.List.{append-nil}
 use Rattle.alm_types.specs.declared.action.Action.{Action}
+use Rattle.alm_types.specs.declared.want.Want.{Want}
 use Rattle.alm_types.specs.declared.refusal.Refusal.{Refusal}
 use Rattle.alm_types.specs.declared.request.Request.{Request}
 use Rattle.alm_types.specs.declared.verdict.Verdict.{Verdict}
@@ -46,5 +47,5 @@ run_one q (Accepted a) = refl
 run_one q (Refused why n) = refl
 
 -- the plant with a request's action, if it was accepted
-pub live_after : (w : World) (slot : ℕ) (want : Action) (v : Verdict) → live (handed_in w slot want v) ≡ after_verdict (live w) v
+pub live_after : (w : World) (slot : ℕ) (want : Want) (v : Verdict) → live (handed_in w slot want v) ≡ after_verdict (live w) v
 live_after w slot want v = run_append w.base w.accepted (when_accepted v ++ []) ∙ (ap (run (live w)) (append-nil (when_accepted v)) ∙ run_one (live w) v)

@@ -1,6 +1,6 @@
 -- One request as a run of the world's steps.
 use Rattle.std.specs.Prelude.{zero, suc, ◌≡◌, ◌<◌, ◌⊎◌, ◌+◌, false, ℕ, List, [], ◌∷◌, ◌++◌, length, Result, Ok, Err, OnOk}
-use Rattle.alm_types.specs.declared.action.Action.{Action}
+use Rattle.alm_types.specs.declared.want.Want.{Want}
 use Rattle.alm_types.specs.declared.entry.Entry.{Entry}
 use Rattle.alm_types.specs.declared.verdict.Verdict.{Verdict}
 use Rattle.alm_model.specs.Plant.{Condensed}
@@ -14,8 +14,8 @@ use Rattle.alm_desk.specs.declared.judged_request.JudgedRequest.{JudgedRequest}
 use Rattle.alm_desk.specs.declared.stopped.Stopped.{Stopped}
 use Rattle.alm_pipeline.specs.declared.step.Step.{Step}
 use Rattle.alm_pipeline.specs.declared.step.Step.TheVariants.{Send, Take, Seal, Fetch, Call, Publish, Release, GiveBack, Receive}
-use Rattle.alm_pipeline.specs.declared.event.Event.{Event}
-use Rattle.alm_pipeline.specs.declared.event.Event.TheVariants.{Sent, Busy, Took, Sealed, Fetched, More, Committed, Failed, Published, Released, GaveBack, Received}
+use Rattle.alm_pipeline.specs.declared.step_event.StepEvent.{StepEvent}
+use Rattle.alm_pipeline.specs.declared.step_event.StepEvent.TheVariants.{Sent, Busy, Took, Sealed, Fetched, More, Committed, Failed, Published, Released, GaveBack, Received}
 use Rattle.alm_pipeline.specs.declared.pipeline.Pipeline.{Pipeline}
 use Rattle.alm_pipeline.specs.World.{World, Nothing, Held, Answers, after_step, with_at}
 use Rattle.alm_pipeline.specs.Pace.{PacesAll, most_more}
@@ -46,34 +46,34 @@ abbrev pub calls : ℕ → List Step
 calls zero = []
 calls (suc n) = Call ∷ calls n
 
-abbrev pub went_on : ℕ → List Event
+abbrev pub went_on : ℕ → List StepEvent
 went_on zero = []
 went_on (suc n) = More ∷ went_on n
 
 -- a request is sent, judged, sealed and fetched
-abbrev pub hand_in_steps : ℕ → Action → List Step
+abbrev pub hand_in_steps : ℕ → Want → List Step
 hand_in_steps slot want = Send slot want ∷ Take slot ∷ Seal ∷ Fetch ∷ []
 
-abbrev pub hand_in_events : (serial : ℕ) → Verdict → List Event
+abbrev pub hand_in_events : (serial : ℕ) → Verdict → List StepEvent
 hand_in_events serial v = Sent serial ∷ Took v ∷ Sealed ∷ Fetched ∷ []
 
 -- it is shown, and its reply released and received
 abbrev pub answer_steps : ℕ → List Step
 answer_steps slot = Publish ∷ Release ∷ GiveBack ∷ Receive slot ∷ []
 
-abbrev pub answer_events : (slot serial : ℕ) → Verdict → (number : ℕ) → List Event
+abbrev pub answer_events : (slot serial : ℕ) → Verdict → (number : ℕ) → List StepEvent
 answer_events slot serial v number = Published ∷ Released slot ∷ GaveBack ∷ Received serial v number ∷ []
 
 -- what a slot's request came to, by which steps: the reply that was received; or it wasn't sent, or a call failed. A
 -- commit takes as many calls as it may at most
-abbrev pub ComesTo : ℕ → Action → Result JudgedRequest Stopped → List Step → List Event → Type 0
+abbrev pub ComesTo : ℕ → Want → Result JudgedRequest Stopped → List Step → List StepEvent → Type 0
 ComesTo slot want (Ok j) steps trace =
     (n serial : ℕ) × (n < commit_calls) × (steps ≡ hand_in_steps slot want ++ (calls n ++ (Call ∷ answer_steps slot))) × (trace ≡ hand_in_events serial j.verdict ++ (went_on n ++ (Committed ∷ answer_events slot serial j.verdict j.number)))
 ComesTo slot want (Err e) steps trace =
     ((steps ≡ Send slot want ∷ []) × (trace ≡ Busy ∷ [])) ⊎ ((n serial : ℕ) × (v : Verdict) × (n < commit_calls) × (steps ≡ hand_in_steps slot want ++ (calls n ++ (Call ∷ []))) × (trace ≡ hand_in_events serial v ++ (went_on n ++ (Failed ∷ []))))
 
 -- each entry answers its step
-abbrev pub IsTrace : World → List Step → List Event → Type 0
+abbrev pub IsTrace : World → List Step → List StepEvent → Type 0
 IsTrace w [] [] = Unit {0}
 IsTrace w (step ∷ steps) (event ∷ trace) = Answers w step event × IsTrace (after_step w step event) steps trace
 IsTrace w [] (event ∷ trace) = ⊥
@@ -86,11 +86,11 @@ MayWait held verdict = (accepted_of (waiting_of held) ≡ []) ⊎ (accepted_of (
 -- ---- for the proofs: worlds on the way
 
 -- a slot's next entry
-abbrev pub entry_at : World → ℕ → Action → Verdict → Entry
+abbrev pub entry_at : World → ℕ → Want → Verdict → Entry
 entry_at w slot want v = record { slot = slot; serial = w.taken slot + 1; want = want; verdict = v }
 
 -- an idle world in which one request was handed in
-abbrev pub handed_in : World → ℕ → Action → Verdict → World
+abbrev pub handed_in : World → ℕ → Want → Verdict → World
 handed_in w slot want v = let entries = entry_at w slot want v ∷ [] in record w {
   sent = with_at w.sent slot (w.sent slot ++ want ∷ []);
   taken = with_at w.taken slot (w.taken slot + 1);
@@ -105,13 +105,13 @@ handed_in w slot want v = let entries = entry_at w slot want v ∷ [] in record 
 }
 
 -- .. and stored
-abbrev pub stored_world : World → ℕ → Action → Verdict → World
+abbrev pub stored_world : World → ℕ → Want → Verdict → World
 stored_world w slot want v = after_step (handed_in w slot want v) Call Committed
 
 module _ (recovers : List ℕ → Condensed → Type 0) (spent : DeviceState → Type 0) (honest : Type 0) where
   -- these steps, with these answers, lead from a world and its device to another; with an honest device the headline holds before
   -- each
-  abbrev pub Leads : World → Sight → List Step → List Event → World → Sight → Type 0
+  abbrev pub Leads : World → Sight → List Step → List StepEvent → World → Sight → Type 0
   Leads w d [] [] w' d' = (w' ≡ w) × (d' ≡ d)
   Leads w d (step ∷ steps) (event ∷ trace) w' d' =
       (m : Sight) × Answers w step event × (honest → Headline recovers spent w d.state × Moves recovers spent w step event d m) × Leads (after_step w step event) m steps trace w' d'
@@ -128,14 +128,14 @@ module _ {K D : Type 0} {g : Ghosts K D} {d : Disk.Ghosts D} where
   Rests w p = MatchesOpenWorld w p × IsIdle w
 
   -- for the proofs: these steps, with these answers, lead through a pipeline from one world to another
-  abbrev pub IsWay : World → List Step → List Event → World → (old new : Pipeline K D g d) → Type 0
+  abbrev pub IsWay : World → List Step → List StepEvent → World → (old new : Pipeline K D g d) → Type 0
   IsWay w steps trace w' old new = Leads g.recovers g.spent (d.honest (g.disk old.flusher.store)) w (sight_of old) steps trace w' (sight_of new)
 
   -- A slot's request went through it as a run of the world's steps, and with an honest device as one of the headline's. The calls of
   -- its commit meet the pace
-  pub record IsExchange (w : World) (slot : ℕ) (want : Action) (old new : Pipeline K D g d) (result : Result JudgedRequest Stopped) : Type 0 where
+  pub record IsExchange (w : World) (slot : ℕ) (want : Want) (old new : Pipeline K D g d) (result : Result JudgedRequest Stopped) : Type 0 where
     pub steps : List Step
-    pub trace : List Event
+    pub trace : List StepEvent
     pub comes : ComesTo slot want result steps trace
     pub answers : IsTrace w steps trace
     pub run : (d.honest (g.disk old.flusher.store)) → IsRun g.recovers g.spent w (sight_of old) steps trace (sight_of new)

@@ -15,7 +15,7 @@ use Rattle.alm_desk.specs.declared.stopped.Stopped.{Stopped}
 use Rattle.alm_types.specs.declared.query.Query.{Query}
 use Rattle.alm_types.specs.declared.refusal.Refusal.{Refusal}
 use Rattle.alm_pipeline.specs.declared.step.Step.TheVariants.{Look}
-use Rattle.alm_pipeline.specs.declared.event.Event.TheVariants.{Looked}
+use Rattle.alm_pipeline.specs.declared.step_event.StepEvent.TheVariants.{Looked}
 use Rattle.alm_pipeline.specs.World.{World, Answers, after_step}
 use Rattle.alm_stack.specs.Exchanges.{IsExchange, Rests}
 use Rattle.alm_stack.specs.declared.stack.StackOver.{StackOver}

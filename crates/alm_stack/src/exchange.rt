@@ -11,7 +11,7 @@ ghost use Rattle.alm_desk.specs.Answers.{request};
 ghost use Rattle.alm_desk.specs.Backends.{judged_on, if_accepted};
 ghost use Rattle.alm_types.specs.Sizes.{most_entries};
 ghost use Rattle.alm_pipeline.specs.declared.step.Step.TheVariants as S;
-ghost use Rattle.alm_pipeline.specs.declared.event.Event.TheVariants as E;
+ghost use Rattle.alm_pipeline.specs.declared.step_event.StepEvent.TheVariants as E;
 ghost use Rattle.alm_pipeline.specs.World.{World, Held, after_step, live, closed_world};
 ghost use Rattle.alm_pipeline.specs.Matches.{MatchesWorld, MatchesOpenWorld};
 ghost use Rattle.alm_stack.specs.Exchanges.{IsIdle, IsExchange, IsWay, Rests, MayWait};
@@ -19,9 +19,9 @@ ghost use Rattle.alm_stack.specs.Exchanges.{commit_calls, calls, went_on, hand_i
 
 use alm_desk::{JudgedRequest, Stopped};
 use alm_flush::Advance;
-use alm_pipeline::{Event, Pipeline};
+use alm_pipeline::{Pipeline, StepEvent};
 use alm_store::Store;
-use alm_types::{Action, Slot};
+use alm_types::{Slot, Want};
 
 /// A commit is done in at most this number of calls: if a checkpoint is open, and another one has to make the room.
 const MOST_CALLS: u32 = 647;
@@ -29,7 +29,7 @@ const MOST_CALLS: u32 = 647;
 /// Sends a request, and has it judged, sealed and fetched: whether it was sent. It is not if the slot's serials are used up.
 ///
 /// Its clauses also say what a crash leaves before each step.
-fn hand_in<K: Store>(pipeline: &mut Pipeline<K>, slot: Slot, want: Action) -> bool
+fn hand_in<K: Store>(pipeline: &mut Pipeline<K>, slot: Slot, want: Want) -> bool
     ensures honest { K.Device.honest (K.disk pipeline.old.flusher.store) ↔
         K.Device.honest (K.disk pipeline.new.flusher.store) }
     ensures failures { K.Device.failures (K.disk pipeline.new.flusher.store) ≡
@@ -45,19 +45,19 @@ fn hand_in<K: Store>(pipeline: &mut Pipeline<K>, slot: Slot, want: Action) -> bo
 {
     // for the proof: what a crash leaves, here and at each call of `images` below
     pipeline.images();
-    let Event::Sent(_) = pipeline.send(slot, want) else {
+    let StepEvent::Sent(_) = pipeline.send(slot, want) else {
         return false;
     };
     pipeline.images();
-    let Event::Took(_) = pipeline.take(slot) else {
+    let StepEvent::Took(_) = pipeline.take(slot) else {
         return false;
     };
     pipeline.images();
-    let Event::Sealed = pipeline.seal() else {
+    let StepEvent::Sealed = pipeline.seal() else {
         return false;
     };
     pipeline.images();
-    let Event::Fetched = pipeline.fetch() else {
+    let StepEvent::Fetched = pipeline.fetch() else {
         return false;
     };
     true
@@ -106,30 +106,30 @@ fn commit<K: Store>(pipeline: &mut Pipeline<K>) -> bool
 fn hand_out<K: Store>(pipeline: &mut Pipeline<K>, slot: Slot) -> Option<JudgedRequest>
     ensures store { pipeline.new.flusher.store ≡ pipeline.old.flusher.store }
     ensures answered { IfSome result
-        (λ j. (w : World) (want : Action) (v : Verdict) → IsIdle w →
+        (λ j. (w : World) (want : Want) (v : Verdict) → IsIdle w →
         MatchesOpenWorld (stored_world w slot want v) pipeline.old →
         (j.verdict ≡ v) × (w' : World) × Rests w' pipeline.new ×
         (live w' ≡ live (handed_in w slot want v)) × (j.number ≡ (live w').panel.count) ×
         IsWay (stored_world w slot want v) (answer_steps slot)
         (answer_events slot (length (w.sent slot) + 1) v j.number) w' pipeline.old pipeline.new) }
-    ensures sure { IsNone result → (w : World) (want : Action) (v : Verdict) → IsIdle w →
+    ensures sure { IsNone result → (w : World) (want : Want) (v : Verdict) → IsIdle w →
         MatchesOpenWorld (stored_world w slot want v) pipeline.old → ⊥ }
 {
     // for the proof: what a crash leaves, here and at each call of `images` below
     pipeline.images();
-    let Event::Published = pipeline.publish() else {
+    let StepEvent::Published = pipeline.publish() else {
         return None;
     };
     pipeline.images();
-    let Event::Released(_) = pipeline.release() else {
+    let StepEvent::Released(_) = pipeline.release() else {
         return None;
     };
     pipeline.images();
-    let Event::GaveBack = pipeline.give_back() else {
+    let StepEvent::GaveBack = pipeline.give_back() else {
         return None;
     };
     pipeline.images();
-    let Event::Received(_, verdict, number) = pipeline.receive(slot) else {
+    let StepEvent::Received(_, verdict, number) = pipeline.receive(slot) else {
         return None;
     };
     Some(JudgedRequest { verdict, number })
@@ -141,7 +141,7 @@ fn hand_out<K: Store>(pipeline: &mut Pipeline<K>, slot: Slot) -> Option<JudgedRe
 pub fn exchange<K: Store>(
     pipeline: &mut Pipeline<K>,
     slot: Slot,
-    want: Action,
+    want: Want,
 ) -> Result<JudgedRequest, Stopped>
     ensures honest { K.Device.honest (K.disk pipeline.old.flusher.store) ↔
         K.Device.honest (K.disk pipeline.new.flusher.store) }

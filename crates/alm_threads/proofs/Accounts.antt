@@ -1,6 +1,6 @@
 -- Sources that account for their consoles.
 use Rattle.std.proofs.Common.{◌≡◌, ◌∙◌, ◌++◌, List, [], ◌∷◌, map, refl, ap, sym, subst}
-use Rattle.alm_types.specs.declared.action.Action.{Action}
+use Rattle.alm_types.specs.declared.want.Want.{Want}
 use Rattle.alm_rings.specs.declared.console.Console.{Console}
 use Rattle.alm_rings.specs.declared.told.Told.{Ghosts}
 use Rattle.alm_rings.specs.Ends.{sent_of, received_of}
@@ -29,7 +29,7 @@ module _ {S L T : Type 0} {g : Ghosts T} (did : SourceState S L → SourceState 
   account_on from s c d sent received one = record {
     look = one.look;
     before = one.before;
-    turns = subst (λ (xs : List Action). TookTurns did from one.before (record { source = s; look = one.look; sent = xs; received = map reported_of (received_of d) })) (sym sent)
+    turns = subst (λ (xs : List Want). TookTurns did from one.before (record { source = s; look = one.look; sent = xs; received = map reported_of (received_of d) })) (sym sent)
         (subst (λ (rs : List Reported). TookTurns did from one.before (record { source = s; look = one.look; sent = sent_of c; received = rs })) (ap (λ rs. map reported_of rs) (sym received)) one.turns);
   }
 

@@ -4,7 +4,7 @@ use Rattle.std.specs.Prelude.{slice_set, IsSome}
 use Rattle.std.proofs.lemmas.List.{append-nil}
 use Rattle.std.proofs.lemmas.Option.{none-some, same_Some, slice_get_within}
 use Rattle.alm_types.specs.Batches.{Judged as Batch}
-use Rattle.alm_types.specs.declared.action.Action.{Action}
+use Rattle.alm_types.specs.declared.want.Want.{Want}
 use Rattle.alm_types.specs.declared.entry.Entry.{Entry}
 use Rattle.alm_flush.specs.HeldBatch.{batches_of, released_entries}
 use Rattle.alm_flush.specs.Replies.{replies_in, replies_to}
@@ -101,7 +101,7 @@ module _ {T : Type 0} {g : Ghosts T} where
   }
 
   -- all that was fetched was released, and it is all that was taken
-  pub answered_all : (s : ℕ) (before fetched sealed : List Batch) (open' : List Entry) (h : Held) (released : List (Receipt T g)) (taken : List Action)
+  pub answered_all : (s : ℕ) (before fetched sealed : List Batch) (open' : List Entry) (h : Held) (released : List (Receipt T g)) (taken : List Want)
       → h ≡ Nothing → fetched ≡ before ++ batches_of h → fetched ≡ sealed → open' ≡ []
       → replies_in released ≡ replies_to (of_slot s (entries_in before ++ released_entries h)) → wants_of (of_slot s (entries_in sealed ++ open')) ≡ taken → length released ≡ length taken
   answered_all s before fetched sealed open' h released taken none held all empty replies wants =

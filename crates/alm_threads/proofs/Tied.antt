@@ -63,7 +63,7 @@ module _ {T : Type 0} {g : Ghosts T} where
 
   replies_append : (rs ss : List (Receipt T g)) → replies_in (rs ++ ss) ≡ replies_in rs ++ replies_in ss
   replies_append [] ss = refl
-  replies_append (r ∷ rs) ss = ap (λ l. record { serial = r.serial; verdict = r.verdict } ∷ l) (replies_append rs ss)
+  replies_append (r ∷ rs) ss = ap (λ l. record { slot = r.slot; serial = r.serial; verdict = r.verdict } ∷ l) (replies_append rs ss)
 
   pub replies_front : (rs ss : List (Receipt T g)) → IsPrefix rs ss → IsPrefix (replies_in rs) (replies_in ss)
   replies_front rs ss p = (replies_in p.0, sym (replies_append rs p.0) ∙ ap replies_in p.1)

@@ -1,29 +1,34 @@
 -- What a source does at its slot.
 use Rattle.std.specs.Prelude.{◌≡◌, ℕ, List, [], ◌∷◌, map}
 use Rattle.alm_types.specs.declared.action.Action.{Action}
+use Rattle.alm_types.specs.declared.logged_action.LoggedAction.{LoggedAction}
+use Rattle.alm_types.specs.declared.want.Want.{Want}
 use Rattle.alm_types.specs.declared.verdict.Verdict.{Verdict}
 use Rattle.alm_rings.specs.declared.console.Console.{Console}
 use Rattle.alm_rings.specs.declared.receipt.Receipt.{Receipt}
 use Rattle.alm_rings.specs.declared.told.Told.{Ghosts}
 use Rattle.alm_rings.specs.Ends.{sent_of, received_of}
 
--- a receipt, with the list that it reports
+-- a receipt, with the list that it reports, and how many actions there were before that list
 pub record Reported : Type 0 where
+  pub slot : ℕ
   pub serial : ℕ
   pub verdict : Verdict
   pub number : ℕ
+  pub opened : ℕ
   pub list : List Action
+  pub logged : List LoggedAction
 
 -- a source with its look, and all that was sent and received at its console
 pub record SourceState (S L : Type 0) : Type 0 where
   pub source : S
   pub look : L
-  pub sent : List Action
+  pub sent : List Want
   pub received : List Reported
 
 module _ {T : Type 0} {g : Ghosts T} where
   abbrev pub reported_of : Receipt T g → Reported
-  reported_of r = record { serial = r.serial; verdict = r.verdict; number = r.number; list = g.list r.told }
+  reported_of r = record { slot = r.slot; serial = r.serial; verdict = r.verdict; number = r.number; opened = g.base_count r.told; list = g.list r.told; logged = g.logged r.told }
 
   abbrev pub state_of : {S L : Type 0} → S → L → Console T g → SourceState S L
   state_of source look console = record { source = source; look = look; sent = sent_of console; received = map reported_of (received_of console) }

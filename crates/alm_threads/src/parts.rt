@@ -30,6 +30,7 @@ pub struct Parts<T: Told + Drop, L: Look<Told = T> + Drop, B: Board<Told = T>, K
     pub ghost each_looks: { length looks.items ≡ length slots.items },
     pub ghost base: { (K.state middle.flusher.store).stored ≡ B.base board },
     pub ghost published: { B.published board ≡ [] },
+    pub ghost logged: { B.logged board ≡ [] },
     pub ghost pending: { B.pending board ≡ [] },
     pub ghost inboxes: { (k : ℕ) (c : Console _ _) → slice_get consoles.items k ≡ Some c →
         IsSome (inbox_at c.slot middle.rings.inboxes.items) },

@@ -112,6 +112,7 @@ impl<K: Store, T: Told + Drop, B: Board<Told = T>, J: RunId> RecordedFlusher<K, 
         requires idle { (K.state store).phase ≡ Phase.Idle }
         requires stored { (K.state store).stored ≡ B.base board }
         requires published { B.published board ≡ [] }
+        requires logged { B.logged board ≡ [] }
         requires pending { B.pending board ≡ [] }
         requires named { IsNamedAfter J.RunId K.Store K.Device.Disk store }
         requires recorder { recorder ≡ [] }

@@ -72,7 +72,8 @@ where
     requires tied { AreTied (map (λ p. p.console) slot_parts.items) middle.rings.inboxes.items
         middle.flusher.outboxes.items }
     requires base { (K.state middle.flusher.store).stored ≡ B.Board.base board }
-    requires fresh { (B.Board.published board ≡ []) × (B.Board.pending board ≡ []) }
+    requires fresh { (B.Board.published board ≡ []) × (B.Board.pending board ≡ []) ×
+        (B.Board.logged board ≡ []) }
     requires consoles { (room.consoles.items ≡ []) ×
         (vec_len slot_parts ≤ vec_capacity room.consoles) }
     requires sources { (room.sources.items ≡ []) ×
@@ -146,7 +147,8 @@ fn in_scope<
     requires tied { AreTied (map (λ p. p.console) slot_parts.items) middle.rings.inboxes.items
         middle.flusher.outboxes.items }
     requires base { (K.state middle.flusher.store).stored ≡ B.Board.base board }
-    requires fresh { (B.Board.published board ≡ []) × (B.Board.pending board ≡ []) }
+    requires fresh { (B.Board.published board ≡ []) × (B.Board.pending board ≡ []) ×
+        (B.Board.logged board ≡ []) }
     requires consoles { (room.consoles.items ≡ []) ×
         (vec_len slot_parts ≤ vec_capacity room.consoles) }
     requires sources { (room.sources.items ≡ []) ×
@@ -168,6 +170,7 @@ fn in_scope<
                 AreTied (map (λ p. p.console) slot_parts.items) middle.rings.inboxes.items
                 middle.flusher.outboxes.items × ((K.state middle.flusher.store).stored ≡ B.Board.base closing.board) ×
                 (B.Board.published closing.board ≡ []) × (B.Board.pending closing.board ≡ []) ×
+                (B.Board.logged closing.board ≡ []) ×
                 (room.consoles.items ≡ []) × (vec_len slot_parts ≤ vec_capacity room.consoles) ×
                 (room.sources.items ≡ []) × (vec_len slot_parts ≤ vec_capacity room.sources) }
             ensures back { IfOk result

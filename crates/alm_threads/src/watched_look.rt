@@ -1,10 +1,11 @@
 //! A look that reports to a hold.
 ghost use Rattle.std.specs.Prelude.{◌≡◌, IfOk, length};
 
-use alm_board::{FreeLook, Look};
+use alm_board::{FreeLook, Look, Recall};
 use alm_disk::Hold;
+use alm_events::Recalled;
 use alm_rings::Told;
-use alm_types::{Answer, Query, Refusal, Slot};
+use alm_types::{Answer, Event, Query, Refusal, Slot};
 use std::alloc::{AllocError, Global};
 
 /// A slot's look; it reports each answered look to its hold.
@@ -41,6 +42,21 @@ impl<L: Look, H: Hold> Look for WatchedLook<'_, L, H> {
 
 impl<L: FreeLook, H: Hold> FreeLook for WatchedLook<'_, L, H> {
     ghost free = { λ watched told. L.FreeLook.free watched.look told };
+}
+
+impl<L: Recall, H: Hold> Recall for WatchedLook<'_, L, H> {
+    ghost logged = { λ watched. L.Recall.logged watched.look };
+
+    ghost recalled = { λ watched after result later.
+        L.Recall.recalled watched.look after result later.look };
+
+    fn recall(&mut self, after: Option<u64>, events: &mut Vec<Event>) -> Result<Recalled, Refusal> {
+        let result = self.look.recall(after, events);
+        if result.is_ok() {
+            self.hold.looked(self.slot);
+        }
+        result
+    }
 }
 
 /// Makes the looks of these slots report to a hold, in their order.

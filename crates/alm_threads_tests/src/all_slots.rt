@@ -109,7 +109,7 @@ pub fn scripts(
     for place in 0..slots.len() {
         let steps = steps_of(alloc, slots[place], steps)?;
         let gate = Arc::try_clone(gate)?;
-        let script = Script::new(alloc, steps, gate, Arc::try_clone(notes)?);
+        let script = Script::new(alloc, steps, gate, Arc::try_clone(notes)?)?;
         scripts.push(Player::Script(script))?;
     }
     Ok(scripts)

@@ -4,7 +4,7 @@ use crate::notes::Notes;
 use alm_board::FreeLook;
 use alm_rings::{Console, Told};
 use alm_threads::{Go, Source};
-use alm_types::{Action, AlarmId, Moment, Reading, Slot};
+use alm_types::{Action, AlarmId, Moment, Reading, Slot, Want};
 use std::alloc::Global;
 use std::sync::Arc;
 use std::sync::atomic::Ordering;
@@ -77,7 +77,7 @@ impl<T: Told + Drop, L: FreeLook<Told = T>> Source<T, L> for Asker {
             if console.unanswered() == 0 {
                 go = Go::End;
             }
-        } else if console.unanswered() < self.out && console.send(self.next()).is_ok() {
+        } else if console.unanswered() < self.out && console.send(Want::Do(self.next())).is_ok() {
             self.sent = self.sent.wrapping_add(1);
             go = Go::Go;
         }

@@ -5,7 +5,7 @@ use crate::notes::Notes;
 use alm_board::FreeLook;
 use alm_rings::{Console, Receipt, Told};
 use alm_threads::{Go, Source};
-use alm_types::{AlarmId, Answer, Query, Slot, Verdict};
+use alm_types::{AlarmId, Answer, Query, Slot, Verdict, Want};
 use std::alloc::Global;
 use std::sync::Arc;
 use std::sync::atomic::Ordering;
@@ -85,7 +85,10 @@ impl<T: Told + Drop, L: FreeLook<Told = T>> Source<T, L> for Caller {
             go = Go::Go;
         }
         if self.sent < self.each {
-            if console.send(drawn(self.slot, self.sent + 1)).is_ok() {
+            if console
+                .send(Want::Do(drawn(self.slot, self.sent + 1)))
+                .is_ok()
+            {
                 self.sent += 1;
                 go = Go::Go;
             }

@@ -4,7 +4,7 @@ use crate::drawn::drawn;
 use crate::notes::Notes;
 use alm_model::{Alarms, PlainPlant};
 use alm_store::Store;
-use alm_types::{AlarmId, Request, Slot, Table};
+use alm_types::{AlarmId, Request, Slot, Table, Want};
 use std::alloc::Global;
 
 /// No slot sends more.
@@ -17,7 +17,10 @@ fn folded<P: Alarms + Drop>(alloc: Global, table: &Table, notes: &Notes, count: 
     for number in 0..count {
         let (slot, serial) = notes.accepted(number + 1)?;
         let want = drawn(slot, serial);
-        match plant.check(&Request { slot, want }) {
+        match plant.check(&Request {
+            slot,
+            want: Want::Do(want),
+        }) {
             Ok(action) => plant.apply(&action),
             Err(_) => return None,
         }
@@ -47,7 +50,10 @@ fn foretold<P: Alarms + Drop>(alloc: Global, table: &Table, slot: Slot, count: u
             return Some(plant);
         }
         let want = drawn(slot, before + 1);
-        if let Ok(action) = plant.check(&Request { slot, want }) {
+        if let Ok(action) = plant.check(&Request {
+            slot,
+            want: Want::Do(want),
+        }) {
             plant.apply(&action);
         }
     }

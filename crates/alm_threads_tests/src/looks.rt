@@ -3,9 +3,10 @@ ghost use Rattle.std.specs.Prelude.{◌≡◌};
 ghost use Rattle.alm_moments.specs.Naming.{IsNamedAfter};
 
 use crate::devices::formatted;
-use alm_board::Look;
+use alm_board::{Look, Recall};
 use alm_desk::worked_table;
 use alm_disk::MemDisk;
+use alm_events::{MOST_TOLD, Recalled};
 use alm_keeper::{Keeper, Phase};
 use alm_model::Alarms;
 use alm_moments::{Recorder, RunId};
@@ -102,5 +103,78 @@ fn a_look_after_the_owner_is_gone(rt: HostRuntime) -> Result<(), Fail> {
     let disk = formatted(rt.alloc(), &table).ok_or("formatted")?;
     let answered = answered_by::<Keeper<MemDisk>, _>(&rt, rt.alloc(), disk);
     assert_eq!(rt; answered, Some((8, 17)));
+    Ok(())
+}
+
+/// What is reported of a plant without actions after nothing, 0, 7 and the last number, and of 0 after the board's end.
+type Told = [Result<Recalled, Refusal>; 5];
+
+/// The same over a store, with how many events were reported last. `None` if out of memory.
+fn recalled_in_turn<J: RunId, K: Store, R: Wait>(
+    rt: &R,
+    alloc: Global,
+    new: NewRun,
+    store: K,
+) -> Option<(Told, usize)>
+    requires books { (new.history.seen.book ≡ J.book) × (new.moments.seen.book ≡ J.moments) }
+    requires named { IsNamedAfter J.RunId K.Store K.Device.Disk store }
+    requires idle { (K.state store).phase ≡ Phase.Idle }
+{
+    let NewRun { history, moments } = new;
+    let recorder = Recorder::<J>::new(moments, &store)?;
+    let plant = store.stored().copy(alloc).ok()?;
+    let mut events = Vec::with_capacity(alloc, MOST_TOLD).ok()?;
+    let Ok((board, mut looks)) = open_board::<J, Plant, R>(
+        rt,
+        alloc,
+        history,
+        &recorder.moments(),
+        plant,
+        1,
+    ) else {
+        return None;
+    };
+    let Some(look) = looks.get_mut(0) else {
+        drop(board.take(rt));
+        return None;
+    };
+    let first = look.recall(None, &mut events);
+    let zero = look.recall(Some(0), &mut events);
+    let later = look.recall(Some(7), &mut events);
+    let last = look.recall(Some(u64::MAX), &mut events);
+    drop(board.take(rt));
+    let behind = look.recall(Some(0), &mut events);
+    Some(([first, zero, later, last, behind], events.len()))
+}
+
+/// The same of a board over a device.
+fn recalled_by<K: Store, R: Wait>(rt: &R, alloc: Global, disk: K::Device) -> Option<(Told, usize)> {
+    match K::open(alloc, disk) {
+        Ok(store) => {
+            let new = NewRun::new();
+            recalled_in_turn::<Brand, K, R>(rt, alloc, new, store)
+        }
+        Err(_) => None,
+    }
+}
+
+/// Nothing happened, and what would have happened next has this number.
+fn nothing_before(first: u64) -> Result<Recalled, Refusal> {
+    Ok(Recalled { count: 0, first })
+}
+
+#[test]
+fn nothing_has_happened_and_then_the_owner_is_gone(rt: HostRuntime) -> Result<(), Fail> {
+    let table = worked_table(rt.alloc())?;
+    let disk = formatted(rt.alloc(), &table).ok_or("formatted")?;
+    let recalled = recalled_by::<Keeper<MemDisk>, _>(&rt, rt.alloc(), disk);
+    let told = [
+        nothing_before(1),
+        nothing_before(1),
+        nothing_before(8),
+        nothing_before(u64::MAX),
+        Err(Refusal::Stopped),
+    ];
+    assert_eq!(rt; recalled, Some((told, 0)));
     Ok(())
 }

@@ -4,7 +4,7 @@ use crate::asker::Asker;
 use crate::caller::Caller;
 use crate::looker::Looker;
 use crate::script::Script;
-use alm_board::FreeLook;
+use alm_board::{FreeLook, Recall};
 use alm_rings::{Console, Told};
 use alm_threads::{Go, Source};
 
@@ -17,7 +17,7 @@ pub enum Player {
     Script(Script),
 }
 
-impl<T: Told + Drop, L: FreeLook<Told = T>> Source<T, L> for Player {
+impl<T: Told + Drop, L: FreeLook<Told = T> + Recall> Source<T, L> for Player {
     ghost use Rattle.std.specs.Prelude.{None};
 
     ghost slot = { λ _. None };

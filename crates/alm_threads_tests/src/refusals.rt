@@ -15,7 +15,7 @@ use alm_plant::Plant;
 use alm_rings::{SealEnds, SlotEnds, batches_beside, open_batches, open_slots};
 use alm_store::{Phase, Store};
 use alm_threads::{Closes, RecordedFlusher, close_flusher, flush};
-use alm_types::{Action, Batch, Entry, Moment, Slot, Verdict};
+use alm_types::{Action, Batch, Entry, Moment, Slot, Verdict, Want};
 use alm_wake::{Bells, Flags, ThreadBell};
 use std::alloc::{AllocError, Global};
 use std::marker::Brand;
@@ -35,6 +35,8 @@ impl Board for RefusingBoard {
     ghost base = { λ b. ⟦<PlainBoard<Plant> as Board>⟧.base b.board };
 
     ghost published = { λ b. ⟦<PlainBoard<Plant> as Board>⟧.published b.board };
+
+    ghost logged = { λ b. ⟦<PlainBoard<Plant> as Board>⟧.logged b.board };
 
     ghost pending = { λ b. ⟦<PlainBoard<Plant> as Board>⟧.pending b.board };
 
@@ -75,7 +77,7 @@ pub fn seals(ends: &mut SealEnds, clock: Slot, size: u16) -> bool {
         batch.push(Entry {
             slot: clock,
             serial,
-            want: Action::Clock(moment),
+            want: Want::Do(Action::Clock(moment)),
             verdict: Verdict::Accepted(Action::Clock(moment)),
         });
     }

@@ -148,6 +148,7 @@ fn a_look_shows_what_the_receipt_told(rt: HostRuntime) -> Result<(), Fail> {
         (0, Step::Send(Action::Ack(alarm))),
         (0, Step::Learn),
         (0, Step::See(alarm, Shown::Acked)),
+        (0, Step::Recall(1, 0, Action::Ack(alarm))),
         (16, Step::Learn),
     ];
     let row = Row {

@@ -2,11 +2,12 @@
 
 use crate::gate::Gate;
 use crate::notes::Notes;
-use alm_board::FreeLook;
+use alm_board::{FreeLook, Recall};
+use alm_events::MOST_TOLD;
 use alm_rings::{Console, Told};
 use alm_threads::{Go, Source};
-use alm_types::{Action, AlarmId, Answer, Query, Shown};
-use std::alloc::Global;
+use alm_types::{Action, AlarmId, Answer, Event, Query, Shown, Want};
+use std::alloc::{AllocError, Global};
 use std::sync::Arc;
 use std::sync::atomic::Ordering;
 
@@ -23,6 +24,8 @@ pub enum Step {
     Await(AlarmId, Shown),
     /// A look shows an alarm so.
     See(AlarmId, Shown),
+    /// What happened after a number is exactly one action, of a slot.
+    Recall(u64, u8, Action),
     /// Rests until the gate has begun to hold.
     AwaitGate,
     /// Sends, and stays in that turn until another slot has looked.
@@ -37,25 +40,46 @@ pub struct Script {
     place: usize,
     rests: u64,
     answer: Answer,
+    events: Vec<Event>,
     gate: Arc<Gate, Global>,
     notes: Arc<Notes, Global>,
 }
 
 impl Script {
-    /// These steps, none of them played.
+    /// These steps, none of them played. An error only if out of memory.
     pub fn new(
         alloc: Global,
         steps: Vec<Step>,
         gate: Arc<Gate, Global>,
         notes: Arc<Notes, Global>,
-    ) -> Self {
-        Script {
+    ) -> Result<Self, AllocError> {
+        Ok(Script {
             steps,
             place: 0,
             rests: 0,
             answer: Answer::new(alloc),
+            events: Vec::with_capacity(alloc, MOST_TOLD)?,
             gate,
             notes,
+        })
+    }
+
+    // Whether what happened after a number is exactly this.
+    fn recalls<L: Recall>(&mut self, look: &mut L, after: u64, slot: u8, action: Action) -> bool {
+        if self.events.capacity() < MOST_TOLD {
+            return false;
+        }
+        match look.recall(Some(after), &mut self.events) {
+            Ok(told) => match self.events.get(0) {
+                Some(event) => {
+                    self.events.len() == 1
+                        && told.first == after.wrapping_add(1)
+                        && event.slot.number() == slot
+                        && event.action == action
+                }
+                None => false,
+            },
+            Err(_) => false,
         }
     }
 
@@ -79,7 +103,7 @@ impl Script {
     }
 
     // Whether a step is played.
-    fn plays<T: Told + Drop, L: FreeLook<Told = T>>(
+    fn plays<T: Told + Drop, L: FreeLook<Told = T> + Recall>(
         &mut self,
         console: &mut Console<T>,
         look: &mut L,
@@ -88,7 +112,7 @@ impl Script {
         ensures { SameConsole console.old console.new }
     {
         match step {
-            Step::Send(action) => console.send(action).is_ok(),
+            Step::Send(action) => console.send(Want::Do(action)).is_ok(),
             Step::Learn => match console.receive() {
                 Some(receipt) => {
                     look.learn(receipt);
@@ -103,9 +127,15 @@ impl Script {
                 }
                 true
             }
+            Step::Recall(after, slot, action) => {
+                if !self.recalls(look, after, slot, action) {
+                    self.notes.is_wrong();
+                }
+                true
+            }
             Step::AwaitGate => self.gate.has_begun(),
             Step::SendAndLinger(action) => {
-                let is_sent = console.send(action).is_ok();
+                let is_sent = console.send(Want::Do(action)).is_ok();
                 self.gate.linger();
                 is_sent
             }
@@ -125,7 +155,7 @@ impl Script {
 
 ghost use Rattle.alm_rings.specs.Ends.{SameConsole};
 
-impl<T: Told + Drop, L: FreeLook<Told = T>> Source<T, L> for Script {
+impl<T: Told + Drop, L: FreeLook<Told = T> + Recall> Source<T, L> for Script {
     ghost use Rattle.std.specs.Prelude.{None};
 
     ghost slot = { λ _. None };

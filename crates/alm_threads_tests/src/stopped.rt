@@ -42,6 +42,8 @@ impl<B: Board> Board for ShortBoard<B> {
 
     ghost published = { λ b. B.published b.board };
 
+    ghost logged = { λ b. B.logged b.board };
+
     ghost pending = { λ b. B.pending b.board };
 
     fn tell(&self) -> B::Told {

@@ -14,3 +14,4 @@ pub mod Tables
 pub mod Tags
 pub mod Texts
 pub mod TextsKept
+pub mod Wants

@@ -1,7 +1,7 @@
 -- The numbers of the refusals in reply lines.
 use Rattle.std.specs.Prelude.{ℕ}
 use Rattle.alm_types.specs.declared.refusal.Refusal.{Refusal}
-use Rattle.alm_types.specs.declared.refusal.Refusal.TheVariants.{NoSuchAlarm, NotUnacknowledged, NotResettable, AlreadyShelved, NotShelved, ShelveLength, AlreadySet, NotSet, NoChange, ClockBack, WrongRole, Busy, BadLine, LineTooLong, Stopped, OutOfMemory, NoSuchList, Exhausted, PriorityRange, SameValue}
+use Rattle.alm_types.specs.declared.refusal.Refusal.TheVariants.{NoSuchAlarm, NotUnacknowledged, NotResettable, AlreadyShelved, NotShelved, ShelveLength, AlreadySet, NotSet, NoChange, ClockBack, WrongRole, Busy, BadLine, LineTooLong, Stopped, OutOfMemory, NoSuchList, Exhausted, PriorityRange, SameValue, Forgotten, AnnunciatedAgain}
 
 abbrev pub number_of : Refusal → ℕ
 number_of NoSuchAlarm = 1
@@ -24,3 +24,5 @@ number_of NoSuchList = 17
 number_of Exhausted = 18
 number_of PriorityRange = 19
 number_of SameValue = 20
+number_of Forgotten = 21
+number_of AnnunciatedAgain = 22

@@ -1,8 +1,8 @@
 //! Entries of a batch.
 
-use crate::action::Action;
 use crate::slot::Slot;
 use crate::verdict::Verdict;
+use crate::want::Want;
 
 /// A request that was judged.
 #[derive(Clone, Copy, Debug, PartialEq, Eq)]
@@ -11,6 +11,6 @@ pub struct Entry {
     /// Which of the slot's requests it is, from 1.
     pub serial: u64,
     /// What was asked.
-    pub want: Action,
+    pub want: Want,
     pub verdict: Verdict,
 }

@@ -2,7 +2,7 @@
 //!
 //! ```text
 //! let moment = Moment::new(1_700_000_000)?;
-//! let request = Request { slot: Slot::new(0)?, want: Action::Ack(AlarmId(7)) };
+//! let request = Request { slot: Slot::new(0)?, want: Want::Do(Action::Ack(AlarmId(7))) };
 //! let table = Table::new(alarms, 4)?;
 //! ```
 //!
@@ -16,8 +16,8 @@
 //! | [`Table`] | 1 to 16,384 alarms in 1 to 64 areas | `Table::new` |
 //! | [`Batch`] | at most 256 entries, their room reserved | `Batch::new` |
 //!
-//! There are also the values that pass between the parts of the server: [`Action`], [`Request`], [`Verdict`],
-//! [`Refusal`], [`Entry`], [`Query`] and [`Answer`].
+//! There are also the values that pass between the parts of the server: [`Action`], [`Want`], [`Request`],
+//! [`Verdict`], [`Refusal`], [`Entry`], [`LoggedAction`], [`Event`], [`Query`] and [`Answer`].
 //!
 //! What is used above: a value is in its range. Limits, formats and refusals are this project's own.
 //!
@@ -37,8 +37,10 @@ mod attr;
 mod attr_fault;
 mod batch;
 mod entry;
+mod event;
 mod kind;
 mod last_moments;
+mod logged_action;
 mod moment;
 mod printed;
 mod query;
@@ -55,6 +57,7 @@ mod table_fault;
 mod tag;
 mod text;
 mod verdict;
+mod want;
 
 pub use action::{Action, MOST_ACTIONS};
 pub use alarm_id::AlarmId;
@@ -64,8 +67,10 @@ pub use attr::Attr;
 pub use attr_fault::AttrFault;
 pub use batch::{Batch, MOST_ENTRIES};
 pub use entry::Entry;
+pub use event::Event;
 pub use kind::Kind;
 pub use last_moments::LastMoments;
+pub use logged_action::LoggedAction;
 pub use moment::Moment;
 pub use query::Query;
 pub use reading::Reading;
@@ -81,3 +86,4 @@ pub use table_fault::TableFault;
 pub use tag::Tag;
 pub use text::Text;
 pub use verdict::Verdict;
+pub use want::Want;

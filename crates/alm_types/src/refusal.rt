@@ -43,12 +43,16 @@ pub enum Refusal {
     PriorityRange,
     /// The priority or the setpoint is the present one.
     SameValue,
+    /// An action after the number that was asked is no longer remembered.
+    Forgotten,
+    /// The alarm was annunciated again since the annunciation that was to be acknowledged.
+    AnnunciatedAgain,
 }
 
 impl Refusal {
     ghost use Rattle.alm_types.specs.Refusals.{number_of};
 
-    /// Its number in reply lines, 1 to 20.
+    /// Its number in reply lines, 1 to 22.
     pub fn number(self) -> u8
         ensures { result ≡ number_of self }
     {

@@ -1,11 +1,11 @@
 //! Requests.
 
-use crate::action::Action;
 use crate::slot::Slot;
+use crate::want::Want;
 
-/// An action that a slot asks for.
+/// What a slot asks for.
 #[derive(Clone, Copy, Debug, PartialEq, Eq)]
 pub struct Request {
     pub slot: Slot,
-    pub want: Action,
+    pub want: Want,
 }

@@ -2,6 +2,7 @@
 
 use alm_types::{
     Action, AlarmId, Attr, Batch, Entry, Kind, Refusal, Settings, Slot, Table, TableFault, Verdict,
+    Want,
 };
 use std::alloc::Global;
 use std::test::Fail;
@@ -95,7 +96,7 @@ fn a_batch_of_256(rt: HostRuntime) -> Result<(), Fail> {
         batch.push(Entry {
             slot: Slot::new(3).ok_or("slot")?,
             serial,
-            want: Action::Ack(AlarmId(0)),
+            want: Want::Do(Action::Ack(AlarmId(0))),
             verdict: Verdict::Refused(Refusal::NotUnacknowledged, 0),
         });
     }

@@ -1,13 +1,15 @@
 //! Why plain rows refuse an action.
 
 ghost use Rattle.std.specs.Prelude.{◌≡◌, ◌<◌, slice_get, None, IfOk, OnOk};
-ghost use Rattle.alm_model.specs.Accept.{own_refusal, refusal, answer, accept, alarm_refusal};
+ghost use Rattle.alm_model.specs.Accept.{own_refusal, refusal, answer, accept, alarm_refusal, stamp_refusal};
+ghost use Rattle.alm_state.specs.Outcome.{unless};
+ghost use Rattle.alm_types.specs.declared.refusal.Refusal.TheVariants.{AnnunciatedAgain};
 ghost use Rattle.alm_types.specs.Sizes.{most_actions};
 
 use crate::plain_rows::PlainRows;
 use crate::roles::may_ask;
 use alm_state::row_refusal;
-use alm_types::{Action, AlarmId, MOST_ACTIONS, Refusal, Request};
+use alm_types::{Action, AlarmId, MOST_ACTIONS, Refusal, Request, Want};
 
 impl PlainRows {
     fn alarm_refusal(&self, id: AlarmId, action: &Action) -> Option<Refusal>
@@ -56,16 +58,33 @@ impl PlainRows {
         }
     }
 
+    // Whether the alarm has the stamp of the annunciation that is to be acknowledged.
+    fn has_stamp(&self, want: Want) -> bool
+        ensures { unless result AnnunciatedAgain ≡ stamp_refusal self.now.panel want }
+    {
+        match want {
+            Want::Do(_) => true,
+            Want::AckSeen(id, stamp) => match self.rows.get(id.0 as usize) {
+                Some(row) => row.stamp == stamp,
+                None => stamp == 0,
+            },
+        }
+    }
+
     /// The action, or the first reason against the request.
     pub fn check(&self, request: &Request) -> Result<Action, Refusal>
         ensures verdict { result ≡ accept self.now.panel request.now }
         ensures admitted { IfOk result (λ action. refusal self.now.panel action ≡ None) }
         ensures counted { OnOk result (self.now.panel.count < most_actions) }
     {
-        if !may_ask(request.slot, &request.want) {
+        let action = request.want.action();
+        if !may_ask(request.slot, &action) {
             return Err(Refusal::WrongRole);
         }
-        self.admits(&request.want)?;
-        Ok(request.want)
+        self.admits(&action)?;
+        if !self.has_stamp(request.want) {
+            return Err(Refusal::AnnunciatedAgain);
+        }
+        Ok(action)
     }
 }

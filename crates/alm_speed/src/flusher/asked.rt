@@ -1,6 +1,8 @@
 //! What is asked, of which plant.
 
-use alm_types::{Action, AlarmId, Attr, Kind, Moment, Reading, Request, Settings, Slot, Table};
+use alm_types::{
+    Action, AlarmId, Attr, Kind, Moment, Reading, Request, Settings, Slot, Table, Want,
+};
 use anyhow::{Result, anyhow};
 use std::alloc::{AllocError, Global};
 
@@ -68,7 +70,10 @@ fn ask_refused(slots: u8, each: u8, asked: &mut Vec<Request>) -> Result<(), Allo
         for _request in 0..each {
             if let Some(slot) = Slot::new(number) {
                 let want = Action::Ack(AlarmId(0));
-                asked.push(Request { slot, want })?;
+                asked.push(Request {
+                    slot,
+                    want: Want::Do(want),
+                })?;
             }
         }
     }
@@ -90,7 +95,10 @@ fn ask_accepted(
     for number in 0..each {
         if let Some(slot) = Slot::new(16) {
             let want = Action::Value(AlarmId(number), value);
-            asked.push(Request { slot, want })?;
+            asked.push(Request {
+                slot,
+                want: Want::Do(want),
+            })?;
         }
         let second = turn
             .wrapping_mul(u64::from(each))
@@ -98,7 +106,10 @@ fn ask_accepted(
             .wrapping_add(u64::from(number) + 1);
         if let (Some(slot), Some(moment)) = (Slot::new(17), Moment::new(second)) {
             let want = Action::Clock(moment);
-            asked.push(Request { slot, want })?;
+            asked.push(Request {
+                slot,
+                want: Want::Do(want),
+            })?;
         }
     }
     Ok(())

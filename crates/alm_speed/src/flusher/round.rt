@@ -16,7 +16,7 @@ pub fn round<K: Store>(parts: &mut Parts<K>, asked: &[Request]) -> u64 {
 
 fn send<K: Store>(parts: &mut Parts<K>, asked: &[Request]) {
     for request in asked {
-        let _ = parts.send(request.slot, request.want);
+        let _ = parts.send(request.slot, request.want.action());
     }
 }
 

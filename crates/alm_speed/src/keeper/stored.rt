@@ -4,7 +4,7 @@ use alm_disk::Disk;
 use alm_keeper::{Keeper, Progress};
 use alm_model::accepted_in;
 use alm_types::{
-    Action, AlarmId, Attr, Batch, Entry, Kind, Reading, Settings, Slot, Table, Verdict,
+    Action, AlarmId, Attr, Batch, Entry, Kind, Reading, Settings, Slot, Table, Verdict, Want,
 };
 use anyhow::{Result, anyhow};
 use std::alloc::Global;
@@ -53,7 +53,7 @@ fn fill(batch: &mut Batch, alarms: u32, turn: u32) {
                 batch.push(Entry {
                     slot,
                     serial: u64::from(place),
-                    want: Action::Value(id, value),
+                    want: Want::Do(Action::Value(id, value)),
                     verdict: Verdict::Accepted(Action::Value(id, value)),
                 });
             }

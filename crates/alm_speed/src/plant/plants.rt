@@ -1,7 +1,7 @@
 //! The plant that is timed, and who sends to it.
 
 use alm_model::Alarms;
-use alm_types::{Action, Attr, Kind, Moment, Reading, Request, Settings, Slot, Table};
+use alm_types::{Action, Attr, Kind, Moment, Reading, Request, Settings, Slot, Table, Want};
 use anyhow::{Result, anyhow};
 use std::alloc::Global;
 
@@ -58,7 +58,10 @@ impl Senders {
 
 /// Does an action if it is accepted; how many were.
 pub fn send<P: Alarms>(plant: &mut P, slot: Slot, want: Action) -> u32 {
-    match plant.check(&Request { slot, want }) {
+    match plant.check(&Request {
+        slot,
+        want: Want::Do(want),
+    }) {
         Ok(action) => {
             plant.apply(&action);
             1

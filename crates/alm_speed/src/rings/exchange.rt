@@ -5,7 +5,7 @@ ghost use Rattle.alm_rings.specs.Ends.{SameConsole, SameInbox, SameOutbox};
 
 use crate::rings::untold::{Untold, refused};
 use alm_rings::{Console, Inbox, Outbox, SlotReport, close_slot, open_slot};
-use alm_types::{Action, AlarmId, Slot};
+use alm_types::{Action, AlarmId, Slot, Want};
 use std::alloc::{AllocError, Global};
 use std::hint::spin_loop;
 use std::sync::Wait;
@@ -33,7 +33,7 @@ fn send(console: &mut Console<Untold>, requests: u64) -> Option<u64>
         if last == Some(requests) {
             break;
         }
-        let Ok(serial) = console.send(Action::Ack(AlarmId(0))) else {
+        let Ok(serial) = console.send(Want::Do(Action::Ack(AlarmId(0)))) else {
             break;
         };
         last = Some(serial);
@@ -99,9 +99,10 @@ fn answer(
             break;
         }
         match inbox.take() {
-            Some((serial, action)) => {
+            Some((serial, want)) => {
                 answered = serial;
-                let _ = outbox.release(refused(serial, action));
+                let receipt = refused(outbox.slot(), serial, want);
+                let _ = outbox.release(receipt);
             }
             None => thread::yield_now(),
         }

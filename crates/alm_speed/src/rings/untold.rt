@@ -1,7 +1,7 @@
 //! Receipts that report nothing new.
 
 use alm_rings::{Receipt, Told};
-use alm_types::{Action, Refusal, Verdict};
+use alm_types::{Action, Refusal, Slot, Verdict, Want};
 
 /// How many actions the plant had when the server was opened.
 const COUNT: u64 = 1000;
@@ -16,15 +16,18 @@ impl Told for Untold {
     ghost base_count = { λ _. 1000 };
 
     ghost list = { λ _. [] };
+
+    ghost logged = { λ _. [] };
 }
 
 /// The request of this serial was refused, at a count of actions.
-pub fn refused(serial: u64, request: Action) -> Receipt<Untold> {
-    let refusal = match request {
+pub fn refused(slot: Slot, serial: u64, want: Want) -> Receipt<Untold> {
+    let refusal = match want.action() {
         Action::Ack(_) => Refusal::NotUnacknowledged,
         _ => Refusal::NoChange,
     };
     Receipt {
+        slot,
         serial,
         verdict: Verdict::Refused(refusal, COUNT),
         number: COUNT,

@@ -8,5 +8,5 @@ use Rattle.alm_desk.proofs.answering.answer_query.Goals as goal
 
 pub returns-in-Err-clause-text : goal.returns-in-Err-clause-text
 returns-in-Err-clause-text g c =
-    let text : reply_on (g.B.Backend.stands c.args.backend.now) (record { slot = c.args.slot; line = record { id = c.args.id; ask = Look c.args.query } }) Nothing ≡ no_text c.args.id c.in-Err.refusal = search rules in
+    let text : reply_on (g.B.Backend.stands c.args.backend.now) c.args.notebook.now.recent (record { slot = c.args.slot; line = record { id = c.args.id; ask = Look c.args.query } }) Nothing ≡ no_text c.args.id c.in-Err.refusal = search rules in
     prints_same _ _ _ _ (sym text) c.reply-in-Err.ensures.bytes

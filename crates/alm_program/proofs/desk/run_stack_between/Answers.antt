@@ -25,7 +25,7 @@ returns g c =
         printed = subst
             (λ (s : DeskState). OnOk c.in_ok-done.field-0.done (IfSome (g.I.Read.remaining c.args.reader.now.inner)
             (λ bytes. IsDesk s bytes (g.W.Write.contents c.args.writer.now.inner) e.0 (g.W.Write.contents c.run_backend_between.new.writer.inner))))
-            (λ i. standing_of (stands i) (holds i) (sound i) 0) e.3;
+            (λ i. standing_of (stands i) (holds i) (sound i) 0 []) e.3;
         holds = λ honest image is. subst (λ (q : List Condensed). ∥ ((p : Condensed) × Contains q p × StandsFor image p) ∥₁) kept (k.holds honest image is);
       },
     )

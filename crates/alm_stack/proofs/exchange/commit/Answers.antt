@@ -3,8 +3,8 @@ use Rattle.alm_model.specs.Judging.{accepted_of}
 use Rattle.alm_flush.specs.HeldBatch.{to_commit}
 use Rattle.alm_pipeline.specs.declared.step.Step.{Step}
 use Rattle.alm_pipeline.specs.declared.step.Step.TheVariants as S
-use Rattle.alm_pipeline.specs.declared.event.Event.{Event}
-use Rattle.alm_pipeline.specs.declared.event.Event.TheVariants as E
+use Rattle.alm_pipeline.specs.declared.step_event.StepEvent.{StepEvent}
+use Rattle.alm_pipeline.specs.declared.step_event.StepEvent.TheVariants as E
 use Rattle.alm_pipeline.specs.World.{BatchStage, IsHeld, entries_at, after_step, closed_world}
 use Rattle.alm_pipeline.specs.Matches.{CommitsIn}
 use Rattle.alm_stack.specs.Exchanges.{Leads, calls, went_on, sight_of}
@@ -52,7 +52,7 @@ loop-step-preserved g c =
             made.fits w now,
             made.ends (647 - (k + 1)) refl (subst (λ l. 0 < length l) (sym many) some) (subst (λ (n : ℕ). CommitsIn n p) left was.1),
             subst (λ (l : List Step). Leads s.recovers s.spent (g.K.Device.Disk.honest (s.disk old.flusher.store)) w (sight_of old) l (went_on (k + 1)) w (sight_of q)) (calls_more k)
-                (subst (λ (t : List Event). Leads s.recovers s.spent (g.K.Device.Disk.honest (s.disk old.flusher.store)) w (sight_of old) (calls k ++ S.Call ∷ []) t w (sight_of q)) (went_more k) way),
+                (subst (λ (t : List StepEvent). Leads s.recovers s.spent (g.K.Device.Disk.honest (s.disk old.flusher.store)) w (sight_of old) (calls k ++ S.Call ∷ []) t w (sight_of q)) (went_more k) way),
           );
     }
 

@@ -8,8 +8,8 @@ use Rattle.alm_desk.specs.Answers.{request}
 use Rattle.alm_desk.specs.declared.judged_request.JudgedRequest.{JudgedRequest}
 use Rattle.alm_pipeline.specs.declared.step.Step.{Step}
 use Rattle.alm_pipeline.specs.declared.step.Step.TheVariants as S
-use Rattle.alm_pipeline.specs.declared.event.Event.{Event}
-use Rattle.alm_pipeline.specs.declared.event.Event.TheVariants as E
+use Rattle.alm_pipeline.specs.declared.step_event.StepEvent.{StepEvent}
+use Rattle.alm_pipeline.specs.declared.step_event.StepEvent.TheVariants as E
 use Rattle.alm_pipeline.specs.World.{World, live, closed_world}
 use Rattle.alm_stack.specs.Exchanges.{ComesTo, Rests, answer_events, answer_steps, calls, entry_at, hand_in_events, handed_in, hand_in_steps, sight_of, stored_world, went_on}
 use Rattle.alm_stack.proofs.Leading.{leads_after, leads_if, leads_run, leads_then, leads_trace}
@@ -152,7 +152,7 @@ returns-in-Some-clause-run g c = λ w m.
       serial,
       done.1.1,
       ap (λ (l : List Step). hand_in_steps slot want ++ l) (append_assoc (calls n) (S.Call ∷ []) (answer_steps slot)),
-      (λ i. hand_in_events (hi.3 i) (sym out.0 i) ++ (trace2 ++ answer_events slot serial (sym out.0 i) j.number)) ∙ ap (λ (l : List Event). hand_in_events serial j.verdict ++ l) (append_assoc (went_on n) (E.Committed ∷ []) (answer_events slot serial j.verdict j.number)),
+      (λ i. hand_in_events (hi.3 i) (sym out.0 i) ++ (trace2 ++ answer_events slot serial (sym out.0 i) j.number)) ∙ ap (λ (l : List StepEvent). hand_in_events serial j.verdict ++ l) (append_assoc (went_on n) (E.Committed ∷ []) (answer_events slot serial j.verdict j.number)),
     ) in
     record {
       steps = steps;

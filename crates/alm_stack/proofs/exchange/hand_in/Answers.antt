@@ -1,7 +1,7 @@
 use Rattle.std.proofs.Common.{◌≡◌, ◌≤◌, ◌+◌, ◌^◌, ⊎_elim, inl, inr, length, refl, sym, ap, subst, arith}
 use Rattle.alm_pipeline.specs.declared.step.Step.TheVariants as S
-use Rattle.alm_pipeline.specs.declared.event.Event.{Event}
-use Rattle.alm_pipeline.specs.declared.event.Event.TheVariants as E
+use Rattle.alm_pipeline.specs.declared.step_event.StepEvent.{StepEvent}
+use Rattle.alm_pipeline.specs.declared.step_event.StepEvent.TheVariants as E
 use Rattle.alm_pipeline.specs.World.{Answers, after_step}
 use Rattle.alm_pipeline.specs.Matches.{MatchesOpenWorld}
 use Rattle.alm_pipeline.specs.Headline.{Sight}
@@ -67,11 +67,11 @@ returns-in_default-clause-spent g c = λ _ w m.
     let q = c.send.new.self in
     let a = c.send.ensures.answer w m.0 in
     let busy : c.send.result ≡ E.Busy = elim (sent_or_busy w slot want c.send.result m.1.opened a) [ inl x ↦ absurd (c.in_default.not-Sent x.0 x.1) | inr is ↦ is ] in
-    let answer = subst (λ (e : Event). Answers w (S.Send slot want) e) busy a in
+    let answer = subst (λ (e : StepEvent). Answers w (S.Send slot want) e) busy a in
     let full : 2 ^ 64 ≤ length (w.sent slot) + 1 = ⊎_elim (λ x. absurd (omega (arith, x, m.1.received slot))) (λ x. x) answer.1 in
     let sees = λ (k : _). let at : Sight = record { state = g.K.Device.Disk.state (s.disk k); failures = g.K.Device.Disk.failures (s.disk k); phase = (s.state k).phase; refused = 0 } in at in (
       full,
-      subst (λ (e : Event). MatchesOpenWorld (after_step w (S.Send slot want) e) q) busy (c.send.ensures.fits w m.0),
+      subst (λ (e : StepEvent). MatchesOpenWorld (after_step w (S.Send slot want) e) q) busy (c.send.ensures.fits w m.0),
       (sight_of q, answer, (λ h. (c.images.ensures.headline h w m.0.fits, ap sees c.send.ensures.store)), (refl, refl)),
     )
 

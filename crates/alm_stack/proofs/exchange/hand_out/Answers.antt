@@ -1,6 +1,6 @@
 use Rattle.std.proofs.Common.{ℕ, refl, sym, ap, subst, arith}
 use Rattle.alm_pipeline.specs.declared.step.Step.TheVariants as S
-use Rattle.alm_pipeline.specs.declared.event.Event.TheVariants as E
+use Rattle.alm_pipeline.specs.declared.step_event.StepEvent.TheVariants as E
 use Rattle.alm_pipeline.specs.World.{Answers, after_step}
 use Rattle.alm_pipeline.specs.Headline.{Sight}
 use Rattle.alm_pipeline.specs.Matches.{MatchesOpenWorld}

@@ -7,7 +7,7 @@ use Rattle.alm_bench.specs.Stands.{is_sure}
 use Rattle.alm_bench.specs.declared.setup.Setup as T
 use Rattle.alm_bench.specs.declared.setup.Setup.TheVariants.{Open}
 use Rattle.alm_pipeline.specs.declared.step.Step.TheVariants as S
-use Rattle.alm_pipeline.specs.declared.event.Event.TheVariants as E
+use Rattle.alm_pipeline.specs.declared.step_event.StepEvent.TheVariants as E
 use Rattle.alm_bench.proofs.Carried.{carried, failed_alike, failed_between, honest_as, paced_as, same_count, skips_paced, steps_as, still, there, shut_not_open}
 use Rattle.alm_bench.proofs.bench.Bench.call.Goals as goal
 

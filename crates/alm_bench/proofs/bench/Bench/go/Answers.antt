@@ -3,7 +3,7 @@ use Rattle.alm_types.specs.declared.answer.Answer.{Answer}
 use Rattle.alm_keeper.specs.AsStore.{StandsFor, IsLastEpoch}
 use Rattle.alm_pipeline.specs.World.{World, after_step}
 use Rattle.alm_bench.specs.Stands.{IsSetup}
-use Rattle.alm_pipeline.specs.declared.event.Event.TheVariants.{Skipped}
+use Rattle.alm_pipeline.specs.declared.step_event.StepEvent.TheVariants.{Skipped}
 use Rattle.alm_bench.proofs.Carried.{carried, honest_as, paced_as, same_count, skips_paced, steps_as, still, there, inner_skips, inner_stays, after_skipped}
 use Rattle.alm_bench.proofs.bench.Bench.go.Goals as goal
 

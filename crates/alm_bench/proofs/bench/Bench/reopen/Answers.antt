@@ -4,7 +4,7 @@ use Rattle.alm_keeper.specs.AsStore.{StandsFor}
 use Rattle.alm_pipeline.specs.World.{after_step}
 use Rattle.alm_store.specs.Recovery.{IsFrontPlant}
 use Rattle.alm_pipeline.specs.declared.step.Step.TheVariants as S
-use Rattle.alm_pipeline.specs.declared.event.Event.TheVariants as E
+use Rattle.alm_pipeline.specs.declared.step_event.StepEvent.TheVariants as E
 use Rattle.alm_bench.proofs.Carried.{carried, honest_as, open_paced, paced_as, same_count, skips_paced, steps_as, still, there, reopened_between, shut_not_open}
 use Rattle.alm_bench.proofs.Reopened.{storage_fault, found, reaches}
 use Rattle.alm_bench.proofs.bench.Bench.reopen.Goals as goal

@@ -2,7 +2,7 @@ use Rattle.alm_keeper.specs.AsStore.{StandsFor, IsLastEpoch}
 use Rattle.std.proofs.Common.{rules, refl, ◌≡◌, ◌+◌, ◌∙◌, ◌++◌, ◌∷◌, [], List, take, length, ap, sym, subst, arith, length-append}
 use Rattle.std.proofs.lemmas.List.{take_more, take_all}
 use Rattle.alm_pipeline.specs.declared.step.Step.{Step}
-use Rattle.alm_pipeline.specs.declared.event.Event.{Event}
+use Rattle.alm_pipeline.specs.declared.step_event.StepEvent.{StepEvent}
 use Rattle.alm_pipeline.specs.World.{World}
 use Rattle.alm_pipeline.specs.Headline.{IsRun, after_steps}
 use Rattle.alm_pipeline.specs.Pace.{PacesAll, most_more}
@@ -35,7 +35,7 @@ loop-step-preserved g c =
           let was = c.step-event.ensures.honest honest in
           let stood' = inv.stands was w m in
           subst (λ (l : List Step). IsRun StandsFor IsLastEpoch w first l c.push_reserved.new.self.items (bench_sight c.step-event.new.self)) (sym more)
-          (subst (λ (t : List Event). IsRun StandsFor IsLastEpoch w first (take i ss ++ s ∷ []) t (bench_sight c.step-event.new.self)) (sym items)
+          (subst (λ (t : List StepEvent). IsRun StandsFor IsLastEpoch w first (take i ss ++ s ∷ []) t (bench_sight c.step-event.new.self)) (sym items)
           (run_more StandsFor IsLastEpoch w first last (bench_sight c.step-event.new.self) (take i ss) tr s e (inv.run was w m)
           (c.step-event.ensures.answer honest at stood') (c.step-event.ensures.moves honest at stood') (c.step-event.ensures.headline honest at stood')));
       stands = λ honest w m.
@@ -52,7 +52,7 @@ loop-step-preserved g c =
           let trace : tr ++ e ∷ [] ≡ c.push_reserved.new.self.items = sym items in (
             next.0,
             subst (λ (l : List Step). PacesAll most_more w pace l c.push_reserved.new.self.items next.0) steps
-                (subst (λ (t : List Event). PacesAll most_more w pace (take i ss ++ s ∷ []) t next.0) trace (paces_more most_more w pace before.0 next.0 (take i ss) tr s e before.1 next.1)),
+                (subst (λ (t : List StepEvent). PacesAll most_more w pace (take i ss ++ s ∷ []) t next.0) trace (paces_more most_more w pace before.0 next.0 (take i ss) tr s e before.1 next.1)),
             subst (λ (v : World). IsPaced next.0 v c.step-event.new.self)
                 (sym (after_more StandsFor IsLastEpoch w first last (take i ss) tr s e (inv.run was w m)) ∙ (ap (after_steps w (take i ss ++ s ∷ [])) trace ∙ ap (λ (l : List Step). after_steps w l c.push_reserved.new.self.items) steps))
                 next.2,
@@ -67,9 +67,9 @@ loop-step-init g c =
       count = search rules;
       room = search rules;
       honest = λ h. h;
-      run = λ _ w m. subst (λ (t : List Event). IsRun StandsFor IsLastEpoch w here [] t here) (sym c.in_ok-trace.ensures.items) (c.images.ensures.headline w m, refl);
+      run = λ _ w m. subst (λ (t : List StepEvent). IsRun StandsFor IsLastEpoch w here [] t here) (sym c.in_ok-trace.ensures.items) (c.images.ensures.headline w m, refl);
       stands = λ _ w m. m;
-      paces = λ _ w pace m e. (pace, subst (λ (t : List Event). PacesAll most_more w pace [] t pace) (sym c.in_ok-trace.ensures.items) refl, e);
+      paces = λ _ w pace m e. (pace, subst (λ (t : List StepEvent). PacesAll most_more w pace [] t pace) (sym c.in_ok-trace.ensures.items) refl, e);
       there = λ h. h;
     }
 

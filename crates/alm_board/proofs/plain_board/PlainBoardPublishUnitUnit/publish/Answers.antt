@@ -1,11 +1,11 @@
 use Rattle.std.proofs.Common.{◌≡◌, ◌∙◌, ◌++◌, [], ◌∷◌, ap, sym, take, append_assoc}
-use Rattle.alm_model.specs.Judging.{accepted_of}
+use Rattle.alm_model.specs.Judging.{accepted_of, logged_of}
 use Rattle.alm_model.specs.Rules.{AllAdmitted}
 use Rattle.alm_model.specs.Accept.{refusal}
 use Rattle.alm_model.specs.Step.{run}
 use Rattle.alm_model.proofs.Runs.{run_append}
-use Rattle.alm_model.proofs.Legal.{admitted_at, take_accepted, take_refused}
-use Rattle.alm_board.specs.Logs.{actions_of}
+use Rattle.alm_model.proofs.Legal.{admitted_at, take_accepted, take_refused, logged_accepted, logged_refused}
+use Rattle.alm_board.specs.Logs.{actions_of, logged_in}
 use Rattle.alm_board.proofs.plain_board.PlainBoardPublishUnitUnit.publish.Goals as goal
 use Rattle.alm_board.proofs.plain_board.PlainBoardPublishUnitUnit.publish.Goals.{in-Accepted, in-Refused}
 
@@ -30,15 +30,20 @@ loop-entry-preserved g c =
     let old = c.args.self.now in
     let d = c.entry-item.result in
     let before = accepted_of (take k items) in
+    let logged = logged_of (take k items) in
     elim c.match-entry.branch [
       | in-Accepted w ↦ record {
         base = ap (λ b. g.P.Alarms.plant b.base.value) w.self-is ∙ (w.add.ensures.base ∙ c.loop-entry.invariant.base);
         list = ap (λ b. actions_of b.log) w.self-is ∙ (w.add.ensures.published ∙ (ap (λ l. l ++ w.in-Accepted.action ∷ []) c.loop-entry.invariant.list
             ∙ (append_assoc (actions_of old.log) before (w.in-Accepted.action ∷ []) ∙ ap (λ l. actions_of old.log ++ l) (sym (take_accepted items k d w.in-Accepted.action c.loop-entry-test.true (ap (λ e. e.verdict) (sym c.entry-item.is) ∙ w.in-Accepted.is))))));
+        logged = ap (λ b. logged_in b.log) w.self-is ∙ (w.add.ensures.logged ∙ (ap (λ l. l ++ record { slot = d.slot; serial = d.serial; action = w.in-Accepted.action } ∷ []) c.loop-entry.invariant.logged
+            ∙ (append_assoc (logged_in old.log) logged (record { slot = d.slot; serial = d.serial; action = w.in-Accepted.action } ∷ []) ∙ ap (λ l. logged_in old.log ++ l) (sym (logged_accepted items k d w.in-Accepted.action c.loop-entry-test.true c.entry-item.is w.in-Accepted.is)))));
       }
       | in-Refused w ↦ record {
         base = ap (λ b. g.P.Alarms.plant b.base.value) w.self-is ∙ c.loop-entry.invariant.base;
         list = ap (λ b. actions_of b.log) w.self-is ∙ (c.loop-entry.invariant.list
             ∙ ap (λ l. actions_of old.log ++ l) (sym (take_refused items k d w.in-Refused.field-0 w.in-Refused.field-1 c.loop-entry-test.true (ap (λ e. e.verdict) (sym c.entry-item.is) ∙ w.in-Refused.is))));
+        logged = ap (λ b. logged_in b.log) w.self-is ∙ (c.loop-entry.invariant.logged
+            ∙ ap (λ l. logged_in old.log ++ l) (sym (logged_refused items k d w.in-Refused.field-0 w.in-Refused.field-1 c.loop-entry-test.true c.entry-item.is w.in-Refused.is)));
       }
     ]

@@ -1,5 +1,5 @@
 use Rattle.std.proofs.Common.{◌∙◌, ◌++◌, ◌+◌, length, ap, sym, inl, refl}
-use Rattle.alm_model.specs.Judging.{accepted_of, entries_in, of_slot}
+use Rattle.alm_model.specs.Judging.{accepted_of, entries_in, of_slot, logged_of}
 use Rattle.alm_model.specs.Step.{run}
 use Rattle.alm_rings.specs.Batches.{fetched_of}
 use Rattle.alm_flush.specs.Replies.{replies_to}
@@ -25,7 +25,8 @@ invariant_of-self g c =
       held_is = old.held_is ∙ ap (λ h. fetched_of old.before.value ++ batches_of h) was;
       stored = c.in-Committed.ensures.stores.answer.1 ∙ (ap (λ p. run p (accepted_of items)) stood ∙ run_more base before items);
       published = old.published ∙ ap (λ h. accepted_of (before ++ published_entries h)) was;
-      pending = front_nothing (g.B.Board.pending old.board) (accepted_of items) (rw was at old.pending);
+      logged = old.logged ∙ ap (λ h. logged_of (before ++ published_entries h)) was;
+      pending = front_nothing (g.B.Board.pending old.board) (logged_of items) (rw was at old.pending);
       released = λ s. old.released s ∙ ap (λ h. replies_to (of_slot s (before ++ released_entries h))) was;
       number_is = old.number_is ∙ ap (λ h. base.panel.count + length (accepted_of (before ++ released_entries h))) was;
       numbers = old.numbers;

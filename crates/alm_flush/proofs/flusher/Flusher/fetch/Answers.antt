@@ -1,7 +1,7 @@
 use Rattle.std.proofs.Common.{◌∙◌, ◌++◌, ◌+◌, ◌∷◌, [], length, ap, refl, sym, inl, inr, ⊎_elim, arith}
 use Rattle.std.proofs.Math.Logic.{∥∥₁_map}
 use Rattle.std.proofs.lemmas.List.{append-nil}
-use Rattle.alm_model.specs.Judging.{accepted_of, entries_in, of_slot}
+use Rattle.alm_model.specs.Judging.{accepted_of, entries_in, of_slot, logged_of}
 use Rattle.alm_model.specs.Step.{run}
 use Rattle.alm_rings.specs.Batches.{fetched_of}
 use Rattle.alm_flush.specs.Replies.{replies_to}
@@ -29,6 +29,7 @@ invariant_of-self g c =
       held_is = c.in-Some.ensures.some ∙ ap (λ l. l ++ b ∷ []) held;
       stored = stored ∙ (old.stored ∙ ap (λ h. run base (accepted_of (before ++ stored_of h))) was);
       published = old.published ∙ ap (λ h. accepted_of (before ++ published_entries h)) was;
+      logged = old.logged ∙ ap (λ h. logged_of (before ++ published_entries h)) was;
       pending = rw was at old.pending;
       released = λ s. old.released s ∙ ap (λ h. replies_to (of_slot s (before ++ released_entries h))) was;
       number_is = old.number_is ∙ ap (λ h. base.panel.count + length (accepted_of (before ++ released_entries h))) was;

@@ -1,7 +1,7 @@
 use Rattle.std.proofs.Common.{◌≡◌, ◌≤◌, ◌∙◌, ◌++◌, ◌+◌, ◌∷◌, [], length, take, ap, sym, subst, length-append, None}
 use Rattle.std.specs.Prelude.{slice_get}
 use Rattle.std.proofs.lemmas.List.{append-nil}
-use Rattle.alm_model.specs.Judging.{accepted_of, entries_in, of_slot}
+use Rattle.alm_model.specs.Judging.{accepted_of, entries_in, of_slot, logged_of}
 use Rattle.alm_model.specs.Step.{run}
 use Rattle.alm_model.proofs.Legal.{entries_snoc}
 use Rattle.alm_rings.specs.Batches.{fetched_of, given_of}
@@ -37,6 +37,7 @@ invariant_of-self g c =
       held_is = c.in-Ok.ensures.fetched.0 ∙ (old.held_is ∙ (ap (λ h. fetched_of old.before.value ++ batches_of h) was ∙ (sym fetched ∙ (sym (append-nil (fetched_of c.of.result.value)) ∙ ap (λ h. fetched_of c.of.result.value ++ batches_of h) (sym is)))));
       stored = old.stored ∙ ap (λ l. run base (accepted_of l)) (ap (λ h. before ++ stored_of h) was ∙ (sym entries ∙ ap (λ h. entries_in (fetched_of c.of.result.value) ++ stored_of h) (sym is)));
       published = old.published ∙ ap accepted_of (ap (λ h. before ++ published_entries h) was ∙ (sym entries ∙ ap (λ h. entries_in (fetched_of c.of.result.value) ++ published_entries h) (sym is)));
+      logged = old.logged ∙ ap logged_of (ap (λ h. before ++ published_entries h) was ∙ (sym entries ∙ ap (λ h. entries_in (fetched_of c.of.result.value) ++ published_entries h) (sym is)));
       pending = rw is (rw was at old.pending);
       released = λ s. old.released s ∙ ap (λ l. replies_to (of_slot s l)) now;
       number_is = old.number_is ∙ ap (λ l. base.panel.count + length (accepted_of l)) now;

@@ -3,7 +3,7 @@ use Rattle.std.specs.Prelude.{slice_get, slice_set, ◌==◌}
 use Rattle.std.proofs.lemmas.Bool.{cases_lt, cases_Bool, eqb-true, true≢false}
 use Rattle.std.proofs.lemmas.List.{length-set, append-nil}
 use Rattle.std.proofs.lemmas.Option.{slice_get_read, slice_get_within, same_Some, none-some}
-use Rattle.alm_model.specs.Judging.{accepted_of, entries_in, of_slot}
+use Rattle.alm_model.specs.Judging.{accepted_of, entries_in, of_slot, logged_of}
 use Rattle.alm_model.specs.Step.{run}
 use Rattle.alm_rings.specs.declared.outbox.Outbox.{Outbox}
 use Rattle.alm_rings.specs.Batches.{fetched_of}
@@ -49,6 +49,7 @@ invariant_of-result g c =
       held_is = c.requires.fetched ∙ (sym c.requires.fetched ∙ (sym (ap fetched_of c.of.ensures) ∙ sym (append-nil (fetched_of c.of.result.value))));
       stored = c.requires.stored ∙ ap (λ l. run base (accepted_of l)) (sym nothing);
       published = c.requires.published ∙ ap accepted_of (sym nothing);
+      logged = c.requires.logged ∙ ap logged_of (sym nothing);
       pending = rw c.requires.pending refl;
       released = λ s. ap replies_in (c.requires.released s) ∙ ap (λ l. replies_to (of_slot s l)) (sym nothing);
       number_is = c.count.ensures ∙ omega (arith, ap (λ q. q.panel.count) c.requires.stored, ap (λ l. length (accepted_of l)) nothing);

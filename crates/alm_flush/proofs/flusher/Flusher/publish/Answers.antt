@@ -1,10 +1,10 @@
 use Rattle.std.proofs.Common.{◌∙◌, ◌++◌, ◌+◌, [], length, ap, subst, sym, refl}
-use Rattle.alm_model.specs.Judging.{accepted_of, entries_in, of_slot}
+use Rattle.alm_model.specs.Judging.{accepted_of, entries_in, of_slot, logged_of}
 use Rattle.alm_model.specs.Step.{run}
 use Rattle.alm_rings.specs.Batches.{fetched_of}
 use Rattle.alm_flush.specs.Replies.{replies_to}
 use Rattle.alm_flush.specs.HeldBatch.{batches_of, ready_of, published_entries, stored_of, released_entries, waiting_of}
-use Rattle.alm_flush.proofs.HeldLaws.{accepted_more}
+use Rattle.alm_flush.proofs.HeldLaws.{accepted_more, logged_more}
 use Rattle.alm_model.specs.Rules.{admits_all}
 use Rattle.alm_model.proofs.Runs.{admitted_where}
 use Rattle.alm_flush.proofs.flusher.Flusher.publish.Goals as goal
@@ -17,6 +17,7 @@ invariant_of-self g c =
     let before = entries_in (fetched_of old.before.value) in
     let items = c.in-Committed.batch.entries in
     let shown = old.published ∙ ap (λ h. accepted_of (before ++ published_entries h)) was in
+    let logged = old.logged ∙ ap (λ h. logged_of (before ++ published_entries h)) was in
     let store = old.store in
     record {
       placed = old.placed;
@@ -24,6 +25,7 @@ invariant_of-self g c =
       held_is = old.held_is ∙ ap (λ h. fetched_of old.before.value ++ batches_of h) was;
       stored = old.stored ∙ (ap (λ h. run (g.B.Board.base old.board) (accepted_of (before ++ stored_of h))) was ∙ ap (λ b. run b (accepted_of (before ++ items))) (sym same));
       published = c.in-Ok.ensures.ok.0 ∙ (ap (λ l. l ++ accepted_of items) shown ∙ accepted_more before items);
+      logged = c.in-Ok.ensures.logged ∙ (ap (λ l. l ++ logged_of items) logged ∙ logged_more before items);
       pending = rw c.in-Ok.ensures.ok.1 refl;
       released = λ s. old.released s ∙ ap (λ h. replies_to (of_slot s (before ++ released_entries h))) was;
       number_is = old.number_is ∙ (ap (λ h. (g.B.Board.base old.board).panel.count + length (accepted_of (before ++ released_entries h))) was ∙ ap (λ b. b.panel.count + length (accepted_of (before ++ []))) (sym same));

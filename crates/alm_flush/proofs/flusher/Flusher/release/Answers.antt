@@ -3,10 +3,11 @@ use Rattle.std.specs.Prelude.{slice_get, slice_set}
 use Rattle.std.proofs.lemmas.Option.{slice_get_read}
 use Rattle.std.proofs.lemmas.Bool.{true≢false}
 use Rattle.alm_types.specs.declared.action.Action.{Action}
-use Rattle.alm_model.specs.Judging.{accepted_of, when_accepted, entries_in, of_slot}
+use Rattle.alm_types.specs.declared.logged_action.LoggedAction.{LoggedAction}
+use Rattle.alm_model.specs.Judging.{accepted_of, when_accepted, entries_in, of_slot, logged_of, logged_if}
 use Rattle.alm_model.specs.Step.{run}
 use Rattle.alm_model.proofs.Runs.{run_count}
-use Rattle.alm_model.proofs.Legal.{accepted_snoc}
+use Rattle.alm_model.proofs.Legal.{accepted_snoc, logged_length}
 use Rattle.alm_rings.specs.declared.outbox.Outbox.{Outbox}
 use Rattle.alm_rings.specs.Ends.{room_in}
 use Rattle.alm_rings.specs.Batches.{fetched_of}
@@ -14,7 +15,7 @@ use Rattle.alm_rings.specs.Placed.{end_at, released_in, room_at}
 use Rattle.alm_rings.proofs.Slots.{placed_apart, placed_set, back_set, set_by, set_same, set_other, found, same_outboxes}
 use Rattle.alm_flush.specs.Replies.{replies_in, replies_to}
 use Rattle.alm_flush.specs.HeldBatch.{batches_of, ready_of, published_entries, stored_of, released_entries, waiting_of, after_release, left_of}
-use Rattle.alm_flush.proofs.HeldLaws.{shown_stored, published_split, told_snoc, get_middle, stored_pass, shown_pass, waiting_pass, batches_pass, ready_pass, released_more, numbers_more, gave_at, nothing_free}
+use Rattle.alm_flush.proofs.HeldLaws.{shown_stored, published_split, published_logged, logged_left, told_snoc, get_middle, stored_pass, shown_pass, waiting_pass, batches_pass, ready_pass, released_more, numbers_more, gave_at, nothing_free}
 use Rattle.alm_model.specs.Rules.{admits_all}
 use Rattle.alm_flush.proofs.flusher.Flusher.release.Goals as goal
 
@@ -54,6 +55,14 @@ invariant_of-receipt g c =
                 (sym (list ∙ ap (λ v. accepted_of (before ++ released_entries old.held) ++ (when_accepted v ++ left_of old.held)) is))
                 (get_middle (accepted_of (before ++ released_entries old.held)) (left_of old.held) a (c.number_of-number.result - g.T.Told.base_count c.tell-told.result - 1) at),
           );
+      names = λ a is.
+          let one : c.number_of-number.result ≡ old.number + 1 = c.number_of-number.ensures ∙ ap (λ v. old.number + length (when_accepted v)) is in
+          let at : c.number_of-number.result - g.T.Told.base_count c.tell-told.result - 1 ≡ length (logged_of (before ++ released_entries old.held)) =
+          omega (arith, one, count, old.number_is, logged_length (before ++ released_entries old.held)) in
+          let mine : LoggedAction = record { slot = e.slot; serial = e.serial; action = a } in
+          subst (λ (l : List LoggedAction). slice_get l (c.number_of-number.result - g.T.Told.base_count c.tell-told.result - 1) ≡ Some mine)
+          (sym (c.tell-told.ensures.logged ∙ (old.logged ∙ published_logged before old.held e next) ∙ ap (λ v. logged_of (before ++ released_entries old.held) ++ (logged_if e.slot e.serial v ++ logged_left old.held)) is))
+          (get_middle (logged_of (before ++ released_entries old.held)) (logged_left old.held) mine (c.number_of-number.result - g.T.Told.base_count c.tell-told.result - 1) at);
     }
 
 pub invariant_of-self : goal.invariant_of-self
@@ -79,8 +88,9 @@ invariant_of-self g c =
       held_is = old.held_is ∙ ap (λ l. fetched_of old.before.value ++ l) (sym (ap batches_of is ∙ batches_pass old.held));
       stored = old.stored ∙ ap (λ l. run base (accepted_of (before ++ l))) (sym (ap stored_of is ∙ stored_pass old.held));
       published = old.published ∙ ap (λ l. accepted_of (before ++ l)) (sym (ap published_entries is ∙ shown_pass old.held));
+      logged = old.logged ∙ ap (λ l. logged_of (before ++ l)) (sym (ap published_entries is ∙ shown_pass old.held));
       pending = rw (ap ready_of is ∙ ready_pass old.held) old.pending;
-      released = λ s. released_more outboxes k o new (before ++ released_entries old.held) e _ apart at same slot c.in-Ok.ensures.ok.0 refl refl old.released s ∙ ap (λ l. replies_to (of_slot s l)) (sym told);
+      released = λ s. released_more outboxes k o new (before ++ released_entries old.held) e _ apart at same slot c.in-Ok.ensures.ok.0 refl refl refl old.released s ∙ ap (λ l. replies_to (of_slot s l)) (sym told);
       number_is = c.number_of-number.ensures ∙ omega (arith, old.number_is, ap (λ l. length (accepted_of l)) told, ap length (accepted_snoc (before ++ released_entries old.held) e), length-append (accepted_of (before ++ released_entries old.held)) (when_accepted e.verdict));
       numbers = numbers_more outboxes k o new _ old.number c.number_of-number.result apart at same c.in-Ok.ensures.ok.0 refl (omega (arith, c.number_of-number.ensures)) old.numbers;
       idle = λ h. old.idle (ap accepted_of (sym (ap waiting_of is ∙ waiting_pass old.held)) ∙ h);
@@ -112,6 +122,7 @@ invariant_of-self-in-Err-1 g c =
       held_is = old.held_is;
       stored = old.stored;
       published = old.published;
+      logged = old.logged;
       pending = old.pending;
       released = λ s. ap replies_in (still s) ∙ old.released s;
       number_is = old.number_is;
@@ -191,6 +202,7 @@ returns-in-Ok-clause-answer g c =
       released = gave_at _ _ o new _ here now c.in-Ok.ensures.ok.0;
       others = λ s other. set_other (λ o. o.slot) outboxes k o new s at same (λ p. other (p ∙ slot));
       verdict = refl;
+      asker = refl;
       serial = refl;
       list = c.tell-told.ensures.list;
       count = c.tell-told.ensures.base;

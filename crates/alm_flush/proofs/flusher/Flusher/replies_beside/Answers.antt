@@ -38,6 +38,7 @@ invariant_of-self g c =
       held_is = old.held_is;
       stored = old.stored;
       published = old.published;
+      logged = old.logged;
       pending = old.pending;
       released = λ s. ap replies_in (still s) ∙ old.released s;
       number_is = old.number_is;

@@ -2,7 +2,7 @@ use Rattle.std.proofs.Common.{◌≡◌, [], ◌∷◌, ◌++◌, length, length
 use Rattle.std.specs.Prelude.{Some}
 use Rattle.logbook.specs.Pages.{Nib}
 use Rattle.alm_history.specs.declared.marked.Marked.{Marked}
-use Rattle.alm_history.specs.Kept.{entries_of, next_key}
+use Rattle.alm_history.specs.Kept.{added_in, next_key}
 use Rattle.alm_history.proofs.Entries.{entries_append, next_key_is}
 use Rattle.alm_history.proofs.Steps.{adds_moves, nib_is}
 use Rattle.alm_history.proofs.history_writer.HistoryWriter.add.Goals as goal
@@ -41,4 +41,4 @@ returns g c =
     let v = c.self.inside.seen.log in
     let ask = c.plain-offer.result.ask in
     let asked : ask ≡ record { entry = Some (g.M.Adds.entry c.args.about.now); next = c.take_pen-next.result.nib.key } = c.plain-offer.ensures.1 in
-    ap entries_of e.7 ∙ (entries_append v (ask ∷ []) ∙ (ap (λ m. entries_of v ++ entries_of (m ∷ [])) asked ∙ ap (λ l. l ++ g.M.Adds.entry c.args.about.now ∷ []) c.self.view_is))
+    ap added_in e.7 ∙ (entries_append v (ask ∷ []) ∙ (ap (λ m. added_in v ++ added_in (m ∷ [])) asked ∙ ap (λ l. l ++ g.M.Adds.entry c.args.about.now ∷ []) c.self.view_is))

@@ -8,7 +8,7 @@ use Rattle.alm_seq.specs.Spares.{spares}
 use Rattle.alm_pipeline.specs.World.{after_step}
 use Rattle.alm_pipeline.specs.Matches.{entries_of}
 use Rattle.alm_pipeline.specs.declared.step.Step.TheVariants as S
-use Rattle.alm_pipeline.specs.declared.event.Event.TheVariants as E
+use Rattle.alm_pipeline.specs.declared.step_event.StepEvent.TheVariants as E
 use Rattle.alm_pipeline.proofs.Lists.{lists_append, lists_length}
 use Rattle.alm_pipeline.proofs.pipeline.Pipeline.seal.Goals as goal
 

@@ -46,7 +46,7 @@ returns-in-Ok-clause-answer g c = λ w m.
     let sent = ap length (f.slots.requests slot old at) in
     let received = f.slots.receipts slot old at in
     let s = c.in-Ok.ensures.sent in
-    (o.opened, omega (arith, c.in-Ok.ensures.few, sent, received), omega (arith, s.1, ap length s.0, length-append (sent_of old) (c.args.action ∷ []), sent))
+    (o.opened, omega (arith, c.in-Ok.ensures.few, sent, received), omega (arith, s.1, ap length s.0, length-append (sent_of old) (c.args.want ∷ []), sent))
 
 pub returns-in-Ok-clause-fits : goal.returns-in-Ok-clause-fits
 returns-in-Ok-clause-fits g c = λ w m.
@@ -60,7 +60,7 @@ returns-in-Ok-clause-fits g c = λ w m.
     let old = c.index_mut-console.result.now in
     let was = slice_get_read cs _ at old refl (omega (arith, c.number.ensures.limit, p.count)) c.index_mut-console.ensures.value in
     let is = c.number.ensures.number in
-    let more = w.sent slot ++ c.args.action ∷ [] in
+    let more = w.sent slot ++ c.args.want ∷ [] in
     let few = (returns-in-Ok-clause-answer g c w m).1 in
     record {
       opened = o.opened;
@@ -69,7 +69,7 @@ returns-in-Ok-clause-fits g c = λ w m.
       fits = record {
         slots = record {
           requests = λ s k there. elim (set_cases cs s at new k there) [
-            | inl h ↦ ap sent_of (sym h.1) ∙ (c.in-Ok.ensures.sent.0 ∙ (ap (λ l. l ++ c.args.action ∷ []) (f.slots.requests at old was ∙ ap w.sent is) ∙ sym (with_here w.sent slot more s (h.0 ∙ is))))
+            | inl h ↦ ap sent_of (sym h.1) ∙ (c.in-Ok.ensures.sent.0 ∙ (ap (λ l. l ++ c.args.want ∷ []) (f.slots.requests at old was ∙ ap w.sent is) ∙ sym (with_here w.sent slot more s (h.0 ∙ is))))
             | inr n ↦ f.slots.requests s k n.1 ∙ sym (with_there w.sent slot more s (λ q. n.0 (q ∙ sym is)))
           ];
           judged = f.slots.judged;
@@ -79,7 +79,7 @@ returns-in-Ok-clause-fits g c = λ w m.
             | inr n ↦ f.slots.receipts s k n.1
           ];
           few = λ s. elim (same_or_not s slot) [
-            | inl q ↦ omega (arith, few, ap length (with_here w.sent slot more s q), length-append (w.sent slot) (c.args.action ∷ []), ap w.received q)
+            | inl q ↦ omega (arith, few, ap length (with_here w.sent slot more s q), length-append (w.sent slot) (c.args.want ∷ []), ap w.received q)
             | inr n ↦ omega (arith, f.slots.few s, ap length (with_there w.sent slot more s n))
           ];
         };

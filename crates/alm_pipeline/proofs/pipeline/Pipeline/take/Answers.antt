@@ -3,7 +3,7 @@ use Rattle.alm_model.specs.Step.{run}
 use Rattle.alm_model.specs.Judging.{accepted_of, verdict_of, entries_in}
 use Rattle.alm_model.proofs.Legal.{accepted_append}
 use Rattle.alm_model.proofs.Runs.{run_append}
-use Rattle.alm_types.specs.declared.action.Action.{Action}
+use Rattle.alm_types.specs.declared.want.Want.{Want}
 use Rattle.alm_types.specs.declared.entry.Entry.{Entry}
 use Rattle.alm_rings.specs.Ends.{sent_of}
 use Rattle.alm_rings.specs.Placed.{inbox_at, taken_in, taken_by, waiting_by}
@@ -31,12 +31,12 @@ returns-in-Taken-clause-answer g c = λ w m.
     let taken = taken_by slot mid.sequencer.inboxes.items in
     let waiting = waiting_by slot mid.sequencer.inboxes.items in
     let get : slice_get (w.sent slot) (w.taken slot) ≡ Some t.entry.want =
-    ap (λ (l : List Action). slice_get l (w.taken slot)) (sym sent) ∙ (ap (λ (n : ℕ). slice_get (sent_of k.0) n) (sym (f.slots.judged slot))
+    ap (λ (l : List Want). slice_get l (w.taken slot)) (sym sent) ∙ (ap (λ (n : ℕ). slice_get (sent_of k.0) n) (sym (f.slots.judged slot))
     ∙ taken_is taken waiting (sent_of k.0) (waiting_by slot c.take.new.self.inboxes.items) t.entry.want knows some t.next) in
     let lives : live_of mid.sequencer ≡ live w =
     ap (λ b. run b (accepted_of (history_of mid.sequencer))) f.lists.judged_from ∙ (sym (run_append w.base f.lists.opened (accepted_of (history_of mid.sequencer))) ∙ ap (run w.base) (sym f.lists.all)) in (
       (o.opened, omega (arith, ap length knows, length-append taken waiting, some, ap length sent, f.slots.judged slot), omega (arith, c.in-Taken.ensures.answer.0, ap length f.batches.entries)),
-      subst (λ (o : Option Action). judges w slot o c.in-Taken.verdict) (sym get) (t.judged ∙ (λ i. verdict_of (lives i) (record { slot = t.of i; want = t.entry.want }))),
+      subst (λ (o : Option Want). judges w slot o c.in-Taken.verdict) (sym get) (t.judged ∙ (λ i. verdict_of (lives i) (record { slot = t.of i; want = t.entry.want }))),
     )
 
 pub returns-in-Taken-clause-fits : goal.returns-in-Taken-clause-fits
@@ -54,7 +54,7 @@ returns-in-Taken-clause-fits g c = λ w m.
     let taken = taken_by slot mid.sequencer.inboxes.items in
     let waiting = waiting_by slot mid.sequencer.inboxes.items in
     let get : slice_get (w.sent slot) (w.taken slot) ≡ Some t.entry.want =
-    ap (λ (l : List Action). slice_get l (w.taken slot)) (sym (f.slots.requests slot k.0 k.1)) ∙ (ap (λ (n : ℕ). slice_get (sent_of k.0) n) (sym (f.slots.judged slot))
+    ap (λ (l : List Want). slice_get l (w.taken slot)) (sym (f.slots.requests slot k.0 k.1)) ∙ (ap (λ (n : ℕ). slice_get (sent_of k.0) n) (sym (f.slots.judged slot))
     ∙ taken_is taken waiting (sent_of k.0) (waiting_by slot new.inboxes.items) t.entry.want knows some t.next) in
     let more : length (taken_by slot new.inboxes.items) ≡ w.taken slot + 1 = omega (arith, ap length t.taken, length-append taken (t.entry.want ∷ []), f.slots.judged slot) in
     let e : Entry = record { slot = slot; serial = w.taken slot + 1; want = t.entry.want; verdict = c.in-Taken.verdict } in
@@ -63,7 +63,7 @@ returns-in-Taken-clause-fits g c = λ w m.
     let open' : new.batch.entries ≡ mid.sequencer.batch.entries ++ e ∷ [] = t.entries ∙ ap (λ x. mid.sequencer.batch.entries ++ x ∷ []) same in
     let sealed = entries_in (sealed_of mid.sequencer.ends) in
     let up = with_at w.taken slot (w.taken slot + 1) in
-    opened_as _ _ _ (ap (λ (o : Option Action). with_entry w slot (entry_for w slot o c.in-Taken.verdict)) (sym get)) (record {
+    opened_as _ _ _ (ap (λ (o : Option Want). with_entry w slot (entry_for w slot o c.in-Taken.verdict)) (sym get)) (record {
       opened = o.opened;
       going = o.going;
       trying = o.trying;

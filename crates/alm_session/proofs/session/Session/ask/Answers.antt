@@ -20,6 +20,6 @@ returns-else-not-told-clause-turn g c = λ input written sent heard.
 
 pub returns-in-Err-clause-turn : goal.returns-in-Err-clause-turn
 returns-in-Err-clause-turn g c = λ input written sent heard.
-    let d = denies (between g.L.Look.looked c.args.look.now c.look.new.self) _ _ _ c.args.id c.args.query c.args.self.now.answer c.look.new.answer c.in-Err.refusal c.in-Err.ensures.answer c.in-Err.ensures.made in
+    let d = denies (between g.L.Look.looked g.L.Recall.recalled c.args.look.now c.look.new.self) _ _ _ c.args.id c.args.query c.args.self.now.answer c.look.new.answer c.in-Err.refusal c.in-Err.ensures.answer c.in-Err.ensures.made in
     at_once _ _ _ _ d.met c.requires.line c.pass.ensures c.requires.alone c.requires.alone c.requires.empty.0
     (c.no-in-Err.ensures.text ∙ ap (λ l. l ++ no_text c.args.id c.in-Err.refusal) c.requires.empty.0 ∙ sym d.text) d.slip refl d.heard d.plain d.known refl refl refl refl d.refused

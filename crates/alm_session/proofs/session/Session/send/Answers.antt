@@ -1,7 +1,7 @@
 use Rattle.std.proofs.Common.{[], ◌∷◌, length, refl, ap, sym, ◌∙◌, arith, length-append}
 use Rattle.std.specs.Prelude.{map}
 use Rattle.std.proofs.lemmas.List.{append-nil, map-append}
-use Rattle.alm_session.specs.Turns.{action}
+use Rattle.alm_session.specs.Turns.{waiting_kind}
 use Rattle.alm_session.specs.Sides.{heard_of}
 use Rattle.alm_session.proofs.Steps.{still, took}
 use Rattle.alm_session.proofs.session.Session.send.Goals as goal
@@ -16,6 +16,6 @@ returns-in-Err-clause-turn g c = λ base known input written.
 pub returns-in-Ok-clause-turn : goal.returns-in-Ok-clause-turn
 returns-in-Ok-clause-turn g c = λ base known input written.
     let heard = c.in-Ok.ensures.receipts.0 in
-    took base _ _ _ [] c.requires.line c.pass.ensures (sym (ap (map action) c.push.ensures.items ∙ map-append action c.args.self.now.waiting.items (c.args.id ∷ []))) (sym (append-nil c.args.self.now.output.left)) refl refl
+    took base _ _ _ [] c.requires.line c.pass.ensures (sym (ap (map waiting_kind) c.push.ensures.items ∙ map-append waiting_kind c.args.self.now.waiting.items (record { id = c.args.id; slot = c.number-slot.result; serial = c.in-Ok.serial; want = c.args.want } ∷ []))) (sym (append-nil c.args.self.now.output.left)) refl refl
     c.in-Ok.ensures.sent.0 (ap (map heard_of) heard) refl refl refl refl
-    (omega (arith, ap length c.push.ensures.items, length-append c.args.self.now.waiting.items (c.args.id ∷ [])))
+    (omega (arith, ap length c.push.ensures.items, length-append c.args.self.now.waiting.items (record { id = c.args.id; slot = c.args.console.now.slot; serial = c.in-Ok.serial; want = c.args.want } ∷ [])))

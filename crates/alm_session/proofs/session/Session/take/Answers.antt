@@ -10,8 +10,11 @@ returns-then-not-is_empty-clause-turn g c = λ input written. still _ _ _ refl r
 pub returns-then-not-is_empty-2-clause-turn : goal.returns-then-not-is_empty-2-clause-turn
 returns-then-not-is_empty-2-clause-turn g c = λ input written. still _ _ _ refl refl refl refl refl refl refl refl refl refl
 
-pub returns-else-not-is_empty-2-clause-turn : goal.returns-else-not-is_empty-2-clause-turn
-returns-else-not-is_empty-2-clause-turn g c = λ input written.
+pub returns-then-not-is_empty-3-clause-turn : goal.returns-then-not-is_empty-3-clause-turn
+returns-then-not-is_empty-3-clause-turn g c = λ input written. still _ _ _ refl refl refl refl refl refl refl refl refl refl
+
+pub returns-else-not-is_empty-3-clause-turn : goal.returns-else-not-is_empty-3-clause-turn
+returns-else-not-is_empty-3-clause-turn g c = λ input written.
     let zero : length c.args.self.now.waiting.items ≡ 0 = search rules in
     let alone = nothing_of c.args.self.now.waiting.items zero in
     at_once _ _ _ c.args.line (bad_line c.args.line.id c.in-Bad.refusal) c.requires.line c.refuse.ensures.held alone c.refuse.ensures.waiting c.requires.empty.0 c.refuse.ensures.left

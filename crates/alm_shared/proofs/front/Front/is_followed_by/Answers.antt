@@ -1,8 +1,8 @@
-use Rattle.std.proofs.Common.{◌≡◌, ◌++◌, ◌+◌, length, arith, subst, List}
+use Rattle.std.proofs.Common.{◌≡◌, ◌++◌, ◌+◌, length, arith, subst, ap, ◌∙◌}
 use Rattle.std.proofs.lemmas.Bool.Decides.{nat_tests}
-use Rattle.alm_types.specs.declared.action.Action.{Action}
+use Rattle.alm_model.specs.Judging.{logged_actions}
 use Rattle.alm_model.specs.Rules.{AllAdmitted}
-use Rattle.alm_model.proofs.Legal.{admitted_append}
+use Rattle.alm_model.proofs.Legal.{actions_append, admitted_append}
 use Rattle.alm_moments.proofs.Fronts.{prefix_shorter}
 use Rattle.alm_shared.proofs.Fronts.{followed_by}
 use Rattle.alm_shared.proofs.front.Front.is_followed_by.Goals as goal
@@ -20,4 +20,5 @@ returns-clause-admitted g c is =
     let ys = c.args.next.now in
     let long : length ys ≡ length xs + length c.args.actions.now = grind (arith, nat_tests) in
     let next : ys ≡ xs ++ c.args.actions.now = followed_by xs ys c.args.actions.now (prefix_shorter xs ys c.longer.result c.longer.ensures.this c.longer.ensures.that (omega arith)) long c.requires.last in
-    admitted_append g.J.RunId.base xs c.args.actions.now (subst (λ (l : List Action). AllAdmitted g.J.RunId.base l) next c.len.ensures.admitted)
+    admitted_append g.J.RunId.base (logged_actions xs) (logged_actions c.args.actions.now)
+    (subst (λ l. AllAdmitted g.J.RunId.base l) (ap logged_actions next ∙ actions_append xs c.args.actions.now) c.len.ensures.admitted)

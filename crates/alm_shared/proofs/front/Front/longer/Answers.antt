@@ -1,13 +1,13 @@
 use Rattle.std.proofs.Common.{◌≤◌, length, arith, List}
 use mathlib.Core.List.{IsPrefix}
-use Rattle.alm_types.specs.declared.action.Action.{Action}
+use Rattle.alm_types.specs.declared.logged_action.LoggedAction.{LoggedAction}
 use Rattle.alm_moments.proofs.Fronts.{prefix_shorter}
 use Rattle.alm_shared.specs.Growing.{joined_actions}
 use Rattle.alm_shared.proofs.Fronts.{prefix_joined}
 use Rattle.alm_shared.proofs.front.Front.longer.Goals as goal
 
 -- of two prefixes of one history the one of fewer actions is a prefix of the other
-shorter : (v w both : List (List Action)) → IsPrefix v both → IsPrefix w both → length (joined_actions v) ≤ length (joined_actions w) → IsPrefix (joined_actions v) (joined_actions w)
+shorter : (v w both : List (List LoggedAction)) → IsPrefix v both → IsPrefix w both → length (joined_actions v) ≤ length (joined_actions w) → IsPrefix (joined_actions v) (joined_actions w)
 shorter v w both p q le = prefix_shorter (joined_actions v) (joined_actions w) (joined_actions both) (prefix_joined v both p) (prefix_joined w both q) le
 
 pub returns-then-self-other-clause-this : goal.returns-then-self-other-clause-this

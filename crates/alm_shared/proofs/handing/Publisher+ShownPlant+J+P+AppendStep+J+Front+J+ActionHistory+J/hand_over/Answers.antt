@@ -1,6 +1,6 @@
 use Rattle.std.proofs.Common.{◌≡◌, ◌++◌, ◌-◌, List, length, drop, ap, subst, ◌∙◌, sym, refl, arith, length-append}
-use Rattle.alm_types.specs.declared.action.Action.{Action}
-use Rattle.alm_model.specs.Judging.{accepted_of}
+use Rattle.alm_model.specs.Judging.{logged_actions, logged_of}
+use Rattle.alm_model.proofs.Legal.{actions_append, actions_logged}
 use Rattle.alm_moments.specs.Moments.{AreHeld}
 use Rattle.alm_board.specs.Fronts.{IsFront}
 use Rattle.alm_board.proofs.FrontLaws.{front_length}
@@ -13,7 +13,7 @@ last_of-requires g c =
     let old = c.args.self.now in
     let s = board_shown old in
     let h = old.owner in
-    let acc = accepted_of c.args.batch.now.entries in
+    let acc = logged_of c.args.batch.now.entries in
     let ahead = c.if-not-is_ahead.ensures.0 refl in
     let reached = c.reach.ensures in
     let handed : IsFront h (s ++ acc) = handed_front s h old.extra acc ahead.0 ahead.1 c.requires.same in
@@ -27,7 +27,7 @@ hand-requires g c =
     let old = c.args.self.now in
     let s = board_shown old in
     let h = old.owner in
-    let acc = accepted_of c.args.batch.now.entries in
+    let acc = logged_of c.args.batch.now.entries in
     let ahead = c.if-not-is_ahead.ensures.0 refl in
     let reached = c.reach.ensures in
     let handed : IsFront h (s ++ acc) = handed_front s h old.extra acc ahead.0 ahead.1 c.requires.same in
@@ -36,5 +36,6 @@ hand-requires g c =
     let rest : drop (length h - length s) acc ≡ c.in_ok-actions.actions.items = ap (λ n. drop n acc) from ∙ sym c.in_ok-actions.ensures in
     record {
       next = reached.reached ∙ (sym (handed_rest s h acc ahead.0 handed) ∙ (ap (λ l. h ++ l) rest ∙ ap (λ l. l ++ c.in_ok-actions.actions.items) (sym reached.handed)));
-      held = subst (λ (l : List Action). AreHeld g.J.RunId.base g.J.RunId.first c.args.moments.now l) (sym reached.reached) c.requires.held;
+      held = subst (λ l. AreHeld g.J.RunId.base g.J.RunId.first c.args.moments.now l)
+          (sym (ap logged_actions reached.reached ∙ actions_append s acc ∙ ap (λ l. logged_actions s ++ l) (actions_logged c.args.batch.now.entries))) c.requires.held;
     }

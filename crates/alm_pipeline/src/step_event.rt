@@ -5,7 +5,7 @@ use alm_types::{Slot, Verdict};
 
 /// What came of a step.
 #[derive(Clone, Copy, Debug, PartialEq, Eq)]
-pub enum Event {
+pub enum StepEvent {
     /// The request has this serial.
     Sent(u64),
     /// The slot has 64 unanswered requests, or its serials are used up.

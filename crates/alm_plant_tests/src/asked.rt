@@ -5,7 +5,7 @@ use std::test::Fail;
 
 /// What a slot asks for, by numbers, so that a constant can have it.
 #[derive(Clone, Copy, Debug)]
-pub enum Want {
+pub enum Asked {
     Clock(u64),
     Value(u32, i64),
     Ack(u32),
@@ -18,22 +18,22 @@ pub enum Want {
     SetSetpoint(u32, i64),
 }
 
-impl Want {
+impl Asked {
     /// The action of these numbers; an error if a number is out of its range.
     pub fn action(self) -> Result<Action, Fail> {
         Ok(match self {
-            Want::Clock(seconds) => Action::Clock(Moment::new(seconds).ok_or("moment")?),
-            Want::Value(alarm, value) => {
+            Asked::Clock(seconds) => Action::Clock(Moment::new(seconds).ok_or("moment")?),
+            Asked::Value(alarm, value) => {
                 Action::Value(AlarmId(alarm), Reading::new(value).ok_or("reading")?)
             }
-            Want::Ack(alarm) => Action::Ack(AlarmId(alarm)),
-            Want::Reset(alarm) => Action::Reset(AlarmId(alarm)),
-            Want::Shelve(alarm, seconds) => Action::Shelve(AlarmId(alarm), seconds),
-            Want::Unshelve(alarm) => Action::Unshelve(AlarmId(alarm)),
-            Want::Oos(alarm, on) => Action::Oos(AlarmId(alarm), on),
-            Want::Design(alarm, on) => Action::Design(AlarmId(alarm), on),
-            Want::SetPriority(alarm, priority) => Action::SetPriority(AlarmId(alarm), priority),
-            Want::SetSetpoint(alarm, setpoint) => {
+            Asked::Ack(alarm) => Action::Ack(AlarmId(alarm)),
+            Asked::Reset(alarm) => Action::Reset(AlarmId(alarm)),
+            Asked::Shelve(alarm, seconds) => Action::Shelve(AlarmId(alarm), seconds),
+            Asked::Unshelve(alarm) => Action::Unshelve(AlarmId(alarm)),
+            Asked::Oos(alarm, on) => Action::Oos(AlarmId(alarm), on),
+            Asked::Design(alarm, on) => Action::Design(AlarmId(alarm), on),
+            Asked::SetPriority(alarm, priority) => Action::SetPriority(AlarmId(alarm), priority),
+            Asked::SetSetpoint(alarm, setpoint) => {
                 Action::SetSetpoint(AlarmId(alarm), Reading::new(setpoint).ok_or("reading")?)
             }
         })

@@ -4,7 +4,7 @@ use logbook::Pen;
 
 /// A value whose entry is to be added, and the pen that adds the next one.
 #[derive(Drop)]
-pub struct Turn<'a, X> {
+pub struct Addition<'a, X> {
     pub about: &'a X,
     pub next: &'a Pen,
 }
