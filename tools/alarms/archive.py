@@ -1,6 +1,7 @@
 """Keeps the accepted actions of a served plant, and what they annunciated, in SQLite or PostgreSQL.
 
     alm_archive run DEVICE DATABASE --port P        archives what comes, until it is ended
+    alm_archive run DATABASE --port P               the same by the server's lines alone, on any machine
     alm_archive run DEVICE DATABASE --stopped       archives a device that isn't served, up to its end
     alm_archive list DATABASE                       the plants of an archive, their actions and gaps
     alm_archive prune DATABASE --name PLANT --before 2026-01-31     takes away what is older
@@ -14,270 +15,39 @@ failure could take. It asks at a console's slot: 13, or --slot K. After a pause 
 holds. What is gone is kept as a gap, and told. While the server can't be reached it tries again. If the table was
 changed, or an older copy of the device was put in its place, the archive goes on with another plant of the same name.
 
+Which slot asked for an action is archived too, as long as the server remembers it (SINCE): 65,536 actions, and none of
+before its start.
+
+Without DEVICE it asks the server alone, from the rows as they are on. What happened while it was off, or just before
+the server ended, is a gap then, and floods begin and end at the look that sees them.
+
 With --once it archives what is there and ends. With --seconds S it ends after S seconds. With --stopped, before a
 stopped device is put aside, nothing of it is missing; else the archive has a gap with an open end where the next plant
-begins.
+begins. The server's unit does that once it is stopped, with --existing.
 """
 import argparse
 import contextlib
 import fcntl
 import os
 import time
-from typing import Iterator, Optional
+from typing import Iterator
 
 from .client import Lost
-from .arguments import Parser, add_port, add_slot, seconds
+from .arguments import Parser, add_port, add_slot, name_of, seconds
 from .ending import end_of, sayer
+from .archiver import Archiver
 from .device_file import Damaged, NoDevice
 from .judging import read_once
+from .line_follower import LineFollower
 from .mirror import Follower, Served
-from .plant_mirror import Begun, Gap, News, Replaced, Step, fixed
-from .known import known
-from .model import PlantModel
-from .store import Store
+from .store import Store, is_there
 from .upkeep import list_plants, prune
 from .moments import moment_of
-from .archive_rows import (
-    ArchivedPlant,
-    action_row,
-    alarm_rows,
-    archived,
-    change_row,
-    flood_rows,
-    found_rows,
-    last_moment,
-    latest,
-    table_of,
-)
 
-# Seconds between two looks, and steps that are written together.
-PAUSE, STEPS = 0.2, 2000
-BEFORE, LOST = "before the archive", "no longer in the file"
-# Why the end of a plant is missing: its file was read no further, or nobody read it.
-REPLACED, UNSEEN = "replaced before a query showed them", "the plant's end wasn't seen"
-# The same, where bytes of it are others than those that were written.
-DAMAGED = "the device is damaged at byte {}"
+# Seconds between two looks.
+PAUSE = 0.2
 
 say = sayer("alm_archive")
-
-
-class Archiver:
-    """Brings the news of a follower into a store."""
-
-    def __init__(self, store: Store, name: str, follower: Follower):
-        self.store, self.name, self.follower = store, name, follower
-        # the plant that is archived now; none before one is begun
-        self.kept: Optional[ArchivedPlant] = None
-        # the archived actions that the device has to have too, where it is the plant that was archived last
-        self.held: Optional[Iterator[tuple]] = None
-        self.forced = False
-        self.has_brought = False
-        self.actions: list[tuple] = []
-        self.changes: list[tuple] = []
-        self.floods: list[tuple] = []
-
-    def look(self) -> bool:
-        """Archives what is new; whether there was anything."""
-        any_news = False
-        try:
-            for one in self.follower.look():
-                any_news = True
-                if not self.take(one):
-                    break
-        except Damaged:
-            self.write()
-            raise
-        self.write()
-        return any_news
-
-    def take(self, one: News) -> bool:
-        """Archives something new; whether the rest of what is new is of the same plant."""
-        if isinstance(one, Step):
-            return self.step(one)
-        if isinstance(one, Begun):
-            self.begin()
-        elif isinstance(one, Gap):
-            self.gap(one.first, one.last, LOST)
-        else:
-            self.leave(one)
-        return True
-
-    @property
-    def plant(self) -> ArchivedPlant:
-        """The plant that is archived now."""
-        return known(self.kept)
-
-    @property
-    def model(self) -> PlantModel:
-        return self.follower.mirror.plant
-
-    def device(self) -> str:
-        """Which file it is."""
-        there = os.fstat(self.follower.mirror.device.file)
-        return f"{there.st_dev}:{there.st_ino}"
-
-    def begin(self) -> None:
-        """Goes on with the plant that was archived last, if the device's is that one; else begins another of the same
-        name."""
-        self.tags = [alarm.tag for alarm in self.model.table()]
-        last = latest(self.store, self.name)
-        if last is None:
-            return self.new_plant("a new archive")
-        why = self.is_another(last)
-        if why or self.forced:
-            return self.new_plant(why or "its actions aren't those that were archived")
-        self.kept, self.compared = last, 0
-        if self.model.count > last.last:
-            self.gap(last.last + 1, self.model.count, LOST)
-        elif self.model.count < last.last:
-            self.held = archived(self.store, last.number, self.model.count)
-            self.next_held = next(known(self.held), None)
-
-    def is_another(self, last: ArchivedPlant) -> str:
-        """Why the device's plant can't be the one that was archived last, if so."""
-        count, shown = self.model.count, self.follower.served.count
-        if fixed(table_of(self.store, last.number)) != fixed(self.model.table()):
-            return "the table is another one"
-        if shown < last.last:
-            return f"the server has {shown} actions, and {last.last} are archived"
-        if count >= last.last and self.model.now < last.moment:
-            return "its clock is behind what is archived"
-        if count == last.last and self.model.now == last.moment:
-            return ""
-        if count >= last.last and self.device() != last.device:
-            return "the file is another one, and has none of the actions that were archived"
-        return ""
-
-    def new_plant(self, why: str) -> None:
-        """Begins another plant of the name, with what the device holds."""
-        number, before = (self.store.value("SELECT MAX(plant) FROM plant") or 0) + 1, latest(self.store, self.name)
-        model, served = self.model, self.follower.served
-        shown = self.follower.mirror.last() if served.place is None else served.count
-        if before and not before.is_whole:
-            self.open_gap(before, None, UNSEEN)
-        self.store.insert(
-            "plant", [(number, self.name, self.device(), len(model.windows), model.count, shown, model.count, None)]
-        )
-        self.store.insert("alarm", alarm_rows(number, model.table()))
-        self.kept = ArchivedPlant(
-            number, self.device(), model.count, model.count, model.now, shown, None, model.count, None
-        )
-        self.held, self.forced = None, False
-        self.plant.before = last_moment(self.store, self.name, number)
-        self.found(1, BEFORE)
-        say(f"plant {number} of the name {self.name} from action {model.count + 1} on: {why}")
-
-    def found(self, first: int, why: str, began: Optional[int] = None) -> None:
-        """Keeps the state that was found, behind actions that are gone."""
-        model, number = self.model, self.plant.number
-        if model.count >= first:
-            self.store.insert("gap", [(number, first, model.count, began, model.now, why)])
-        self.store.insert("change", found_rows(number, model))
-        self.store.insert("flood", flood_rows(number, model))
-        self.store.commit()
-        self.plant.last, self.plant.moment = model.count, model.now
-
-    def gap(self, first: int, last: int, why: str) -> None:
-        """Actions that are gone."""
-        self.write()
-        first = max(first, self.plant.last + 1)
-        if first <= last:
-            self.found(first, why, self.plant.moment)
-            say(f"actions {first} to {last} of {self.name}: {why}")
-            self.held = None
-
-    def leave(self, replaced: Replaced) -> None:
-        """The device was replaced. What of its end isn't archived is a gap."""
-        self.write()
-        if self.kept and replaced.last is not None:
-            if replaced.last > self.plant.last:
-                self.open_gap(self.plant, replaced.last, REPLACED)
-            self.store.run(
-                "UPDATE plant SET ends = ? WHERE plant = ?", (max(self.plant.last, replaced.last), self.plant.number)
-            )
-            self.store.commit()
-        self.kept = None
-        say("another device is in the place of", self.follower.path)
-
-    def open_gap(self, plant: ArchivedPlant, last: Optional[int], why: str) -> None:
-        """The end of a plant that isn't archived; up to which action and moment may not be known."""
-        self.store.insert("gap", [(plant.number, plant.last + 1, last, plant.moment, None, why)])
-        say(
-            f"actions {plant.last + 1} {'and later' if last is None else f'to {last}'} of {self.name}, plant"
-            f" {plant.number}: {why}"
-        )
-
-    def close(self) -> None:
-        """The device's end is archived."""
-        self.store.run("UPDATE plant SET ends = ? WHERE plant = ?", (self.plant.last, self.plant.number))
-        self.store.commit()
-
-    def close_damaged(self, at: int) -> None:
-        """The device's end isn't archived, since it is damaged there."""
-        if self.kept and not self.store.value(
-            "SELECT COUNT(*) FROM gap WHERE plant = ? AND first = ?", (self.plant.number, self.plant.last + 1)
-        ):
-            self.open_gap(self.plant, None, DAMAGED.format(at))
-            self.close()
-
-    def step(self, step: Step) -> bool:
-        """Archives an action, or holds one against the archive that has it; whether it is of this plant."""
-        if step.number <= self.plant.last:
-            return self.compare(step)
-        self.actions.append(action_row(self.plant.number, step, self.tags))
-        self.changes += [
-            change_row(self.plant.number, step.number, step.moment, change, self.tags) for change in step.changes
-        ]
-        self.floods += [
-            (self.plant.number, one.area, step.number, step.moment, int(one.flooded), one.annunciations)
-            for one in step.floods
-        ]
-        self.plant.last, self.plant.moment = step.number, step.moment
-        if self.plant.before is not None and step.number <= self.plant.shown and step.moment <= self.plant.before:
-            self.plant.counted, self.has_brought = step.number, True
-        if len(self.actions) >= STEPS:
-            self.write()
-        return True
-
-    def compare(self, step: Step) -> bool:
-        """Holds an action of the device against the archived one of its number. Where they differ it is another plant,
-        which the next look begins."""
-        while self.next_held and self.next_held[0] < step.number:
-            self.next_held = next(known(self.held), None)
-        row = action_row(self.plant.number, step, self.tags)
-        if self.next_held and self.next_held[0] == step.number:
-            if self.next_held[1:] != (row[2], row[3], row[4], row[6]):
-                return self.restart()
-            self.compared += 1
-        return step.number < self.plant.last or self.settle()
-
-    def settle(self) -> bool:
-        """The device has all that is archived, so it is that plant, and the file is its file."""
-        self.held = None
-        if not self.compared and self.device() != self.plant.device:
-            return self.restart()
-        self.store.run("UPDATE plant SET device = ? WHERE plant = ?", (self.device(), self.plant.number))
-        self.store.commit()
-        return True
-
-    def restart(self) -> bool:
-        """Begins the device again, as another plant."""
-        self.follower.mirror.close()
-        self.follower.begun = self.kept = self.held = None
-        self.forced = True
-        return False
-
-    def write(self) -> None:
-        """Writes what was gathered, all of it or nothing."""
-        if not self.actions:
-            return
-        for table, rows in (("action", self.actions), ("change", self.changes), ("flood", self.floods)):
-            self.store.insert(table, rows)
-        if self.has_brought:
-            self.store.run("UPDATE plant SET counted = ? WHERE plant = ?", (self.plant.counted, self.plant.number))
-        self.store.commit()
-        self.has_brought = False
-        self.actions, self.changes, self.floods = [], [], []
 
 
 @contextlib.contextmanager
@@ -298,7 +68,9 @@ def stopped(path: str) -> Iterator[None]:
 
 
 def run_stopped(chosen: argparse.Namespace, name: str) -> None:
-    """Archives a stopped device up to its end."""
+    """Archives a stopped device up to its end; with `existing` only where there is an archive."""
+    if chosen.existing and not is_there(chosen.database):
+        return
     with stopped(chosen.device), Store.open(chosen.database, make=True) as store, Follower(
         chosen.device, Served(None, chosen.slot)
     ) as follower:
@@ -319,13 +91,23 @@ def run_stopped(chosen: argparse.Namespace, name: str) -> None:
         print(f"{name}: plant {archiver.plant.number}, {archiver.plant.last} actions, to its end")
 
 
+def name_of_plant(chosen: argparse.Namespace) -> str:
+    """A plant's name where none is given: by its device, or by where its server is."""
+    return os.path.splitext(os.path.basename(chosen.device))[0] if chosen.device else name_of(chosen.port)
+
+
+def follower_of(chosen: argparse.Namespace, served: Served) -> Follower | LineFollower:
+    """What follows the plant: by its device, or where none is given by its server's lines."""
+    return Follower(chosen.device, served) if chosen.device else LineFollower(chosen.port, served)
+
+
 def run(chosen: argparse.Namespace) -> None:
     """Archives until it is ended."""
-    name = chosen.name or os.path.splitext(os.path.basename(chosen.device))[0]
+    name = chosen.name or name_of_plant(chosen)
     if chosen.stopped:
         return run_stopped(chosen, name)
     served = Served(chosen.port, chosen.slot, say)
-    with Store.open(chosen.database, make=True) as store, Follower(chosen.device, served) as follower:
+    with Store.open(chosen.database, make=True) as store, follower_of(chosen, served) as follower:
         archiver = Archiver(store, name, follower)
         if chosen.once:
             served.say = lambda *_: None
@@ -356,11 +138,17 @@ def arguments() -> Parser:
     words = Parser("alm_archive", __doc__)
     commands = words.add_subparsers(required=True, metavar="COMMAND", parser_class=Parser)
     command = commands.add_parser("run", help="archive a served plant")
-    command.add_argument("device", metavar="DEVICE", help="the device file")
+    command.add_argument(
+        "device",
+        metavar="DEVICE",
+        nargs="?",
+        help="the device file; where it is left out the server's lines are enough",
+    )
     command.add_argument("database", metavar="DATABASE", help="a file of SQLite, or a database of PostgreSQL")
     add_port(command, required=False)
     add_slot(command, 13)
     command.add_argument("--stopped", action="store_true", help="the device isn't served: archive it up to its end")
+    command.add_argument("--existing", action="store_true", help="with --stopped: do nothing where there is no archive")
     command.add_argument(
         "--name", metavar="PLANT", help="the plant's name in the archive; the device file's where it is left out"
     )
@@ -389,6 +177,8 @@ def main() -> None:
     chosen = words.parse_args()
     if chosen.does is run and (chosen.port is None) != chosen.stopped:
         words.error("one of --port, --sockets and --stopped is required, and no two of them")
+    if chosen.does is run and chosen.stopped and chosen.device is None:
+        words.error("--stopped wants a DEVICE")
     end_of("alm_archive", lambda: chosen.does(chosen))
 
 

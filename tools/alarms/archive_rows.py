@@ -2,7 +2,7 @@
 from dataclasses import dataclass
 from typing import Iterator, Optional
 from .client import CLOCK, FEED
-from .device_file import Action
+from .actions import Action
 from .table_file import Alarm
 from .plant_mirror import Step
 from .model import AlarmState, Change, PlantModel
@@ -13,7 +13,7 @@ from .store import Store
 CHUNK = 5000
 
 
-# At which slot an action was asked. A device doesn't store which console asked.
+# Which slot asks for an action, where it can be one alone.
 SLOTS = {"CLOCK": CLOCK, "VAL": FEED, "DESIGN": FEED}
 
 
@@ -116,21 +116,12 @@ def alarm_rows(plant: int, alarms: list[Alarm]) -> list[tuple]:
     ]
 
 
-def action_row(plant: int, step: Step, tags: list[str]) -> tuple:
-    """The row of an action."""
+def action_row(plant: int, step: Step, tags: list[str], slot: Optional[int]) -> tuple:
+    """The row of an action, which a slot asked for."""
     action = step.action
     if action.word == "CLOCK":
-        return plant, action.number, step.moment, action.word, None, None, action.argument, CLOCK
-    return (
-        plant,
-        action.number,
-        step.moment,
-        action.word,
-        action.alarm,
-        tags[action.alarm],
-        value_of(action),
-        SLOTS.get(action.word),
-    )
+        return plant, action.number, step.moment, action.word, None, None, action.argument, slot
+    return (plant, action.number, step.moment, action.word, action.alarm, tags[action.alarm], value_of(action), slot)
 
 
 def value_of(action: Action) -> Optional[int]:

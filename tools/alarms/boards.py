@@ -12,8 +12,10 @@ import time
 from dataclasses import dataclass, field, replace
 from typing import Any, Callable, Iterable, NamedTuple, Optional
 
-from .client import PRIORITIES, Client, Lost, Plant, State
+from .client import PRIORITIES, Client, Lost, Plant
 from .details_file import Details
+from .happened import Happened, whole
+from .replies import Entry, Row
 from .table_file import Table
 
 # Seconds to wait for a reply; and after which a plant's clock that hasn't moved, or a server that hasn't answered,
@@ -33,6 +35,7 @@ class View(enum.Enum):
     CHATTERING = "chattering"
     STALE = "stale"
     ALL = "all alarms"
+    HAPPENED = "what happened"
 
     def next(self) -> "View":
         views = list(View)
@@ -62,6 +65,8 @@ class Board:
     stale: dict[int, None] = field(default_factory=dict)
     chattering: dict[int, None] = field(default_factory=dict)
     flags: dict[int, str] = field(default_factory=dict)
+    # What happened; none before it is asked for.
+    happened: Optional[Happened] = None
 
     def again(self, table: Table, connection: int, other: Optional[str]) -> "Board":
         """The board as a new connection begins. Of the same plant it keeps since when each annunciation is known."""
@@ -89,7 +94,12 @@ class Board:
             stale=dict.fromkeys(client.stale().alarms),
             chattering=dict.fromkeys(client.chattering().alarms),
             flags=self.ask_flags(client) if view in FLAG_OF else self.flags,
+            happened=self.ask_happened(client) if view == View.HAPPENED else self.happened,
         )
+
+    def ask_happened(self, client: Client) -> Happened:
+        """Asks for what happened since it was asked last."""
+        return self.happened.goes_on(client) if self.happened else whole(client)
 
     def arrivals(self, lists: dict[int, list[int]]) -> dict[int, float]:
         """Since when each annunciation is known here. A list has their order and no time, and what stood there already
@@ -131,7 +141,12 @@ class Board:
             View.CHATTERING: self.chattering,
             View.STALE: self.stale,
             View.ALL: range(len(self.table.alarms)),
+            View.HAPPENED: (entry.action.alarm for entry in self.entries()),
         }[view]
+
+    def entries(self) -> Iterable[Entry]:
+        """What happened, the newest first."""
+        return reversed(self.happened.entries) if self.happened else ()
 
     def marks(self, alarm: int) -> str:
         """The marks of an alarm, each in its place."""
@@ -197,7 +212,7 @@ class Server:
         self.client: Optional[Client] = None
         self.begun = Board(plant.table)
         self.board = self.begun
-        self.states: dict[int, State] = {}
+        self.states: dict[int, Row] = {}
         self.is_there, self.lost = False, ""
         self.answered = time.monotonic()
         # Whether the lists are newer than the states of the rows on the screen: then these are asked before new lists.
@@ -252,7 +267,7 @@ class Server:
                 lambda states: self.take_states(alarms, states),
                 self.ask,
                 self.board.connection,
-                lambda client: client.states(alarms),
+                lambda client: client.rows(alarms),
             )
 
     def wait(self, seconds: Optional[float]) -> bool:
@@ -276,7 +291,7 @@ class Server:
             self.states = {}
         self.board, self.is_there, self.lost, self.wants_states = board, True, "", True
 
-    def take_states(self, alarms: list[int], states: list[State]) -> None:
+    def take_states(self, alarms: list[int], states: list[Row]) -> None:
         self.states = dict(zip(alarms, states))
 
     def lose(self, lost: Lost) -> None:
@@ -306,15 +321,18 @@ class Server:
 
 
 class ListRow(NamedTuple):
-    """An alarm of a server."""
+    """An alarm of a server; where what happened is shown, that of an entry."""
 
     server: Server
     alarm: int
+    entry: Optional[Entry] = None
 
 
 def rows_of(servers: list[Server], view: View) -> list[ListRow]:
     """The rows of a view, of all servers. What is annunciated is in one order: by priority, the newest first. Else it
     is server by server."""
+    if view == View.HAPPENED:
+        return [ListRow(server, entry.action.alarm, entry) for server in servers for entry in server.board.entries()]
     rows = [ListRow(server, alarm) for server in servers for alarm in server.board.alarms(view)]
     if view == View.ANNUNCIATED and len(servers) > 1:
         # each server's own order stays, as a sort keeps what is equal in its place

@@ -27,6 +27,8 @@ from .known import known
 from .table_file import Alarm, Table, TableFile
 from .connecting import Lost, NoAnswer, PATIENCE, Place, open_slot, places_of
 from .replies import (
+    Entries,
+    Entry,
     Flood,
     Listing,
     Overview,
@@ -35,6 +37,7 @@ from .replies import (
     Row,
     State,
     read_attributes,
+    read_entries,
     read_flood,
     read_listing,
     read_overview,
@@ -144,8 +147,9 @@ class Client:
         _ok, number = self.ask(request)
         return int(number)
 
-    def acknowledge(self, alarm: int) -> int:
-        return self.act(f"ACK {alarm}")
+    def acknowledge(self, alarm: int, stamp: Optional[int] = None) -> int:
+        """Acknowledges an alarm; with a stamp that annunciation alone, and no newer one."""
+        return self.act(acknowledgement(alarm, stamp))
 
     def reset(self, alarm: int) -> int:
         return self.act(f"RESET {alarm}")
@@ -217,9 +221,9 @@ class Client:
     def flood(self, area: int) -> Flood:
         return read_flood(self.ask(f"FLOOD {area}")[1:])
 
-    def floods(self) -> list[Flood]:
-        """The floods of all areas, by number."""
-        replies = self.ask_all(f"FLOOD {area}" for area in range(64))
+    def floods(self, areas: int = 64) -> list[Flood]:
+        """The floods of all areas, or of so many, by number."""
+        replies = self.ask_all(f"FLOOD {area}" for area in range(areas))
         return [read_flood(reply[1:]) for reply in replies if not isinstance(reply, Refused)]
 
     def plant(self) -> Overview:
@@ -230,9 +234,26 @@ class Client:
         """An alarm's attributes, with the priority and the setpoint in force."""
         return read_attributes(self.ask(f"ATTR {alarm}")[1:])
 
+    def row(self, alarm: int) -> Row:
+        """What is shown of an alarm, with its stamp, its limits and its last annunciations."""
+        return read_row(self.ask(f"ROW {alarm}")[1:])
+
     def rows(self, alarms: Iterable[int]) -> list[Row]:
         """The rows of alarms. Each has a count of its own, since others may act meanwhile."""
         return [read_row(granted(reply)[1:]) for reply in self.ask_all(f"ROW {alarm}" for alarm in alarms)]
+
+    def since(self, after: Optional[int] = None) -> Entries:
+        """The accepted actions after this number, at most 256; without one, from the oldest that the server remembers.
+        Its `Refused` by FORGOTTEN says that it no longer has them all."""
+        return read_entries(self.ask("SINCE" if after is None else f"SINCE {after}")[1:])
+
+    def entries(self, after: int) -> Iterator[Entry]:
+        """All accepted actions after this number, up to the last that the server shows."""
+        told = self.since(after)
+        yield from told.entries
+        while not told.are_all:
+            told = self.since(told.last)
+            yield from told.entries
 
     def table(self) -> Table:
         """The plant's table, with the priorities and setpoints in force. The size of its device isn't told."""
@@ -252,6 +273,11 @@ def other_device(count: int, seen: int) -> Optional[str]:
         if count < seen
         else None
     )
+
+
+def acknowledgement(alarm: int, stamp: Optional[int] = None) -> str:
+    """The request that acknowledges an alarm, or one of its annunciations."""
+    return f"ACK {alarm}" if stamp is None else f"ACK {alarm} {stamp}"
 
 
 def switch(on: bool) -> str:

@@ -9,8 +9,9 @@ flooded, S it is stale, C it chatters.
 
     up, down, page up, page down, home, end     select a row
     1 to 7    a view: annunciated, shelved, suppressed by design, out of service, chattering, stale, all alarms
+    8         what happened: the last actions of operators and the feed, the newest first, and which slot asked
     v, f      the next view; only one area
-    a, A      acknowledge the selected alarm; acknowledge all that are on the screen
+    a, A      acknowledge the selected alarm; acknowledge all that are on the screen: what is shown, and nothing newer
     r         reset
     s, u      shelve for some seconds; end the shelving
     o         out of service, or back
@@ -35,8 +36,8 @@ Several servers are one list, with --port or --sockets once for each. PLANT is a
 the last part of its folder. An action goes to the row's own server. Above the list each has a line with its counts, and
 another one if its clock stands or an area is flooded. If a server gives no answer, its line says so and `?` stands
 before its rows: they are of then, and nothing is asked. `f` takes a plant, an area, or both. What is annunciated is by
-priority, then by when this console saw it come, since a server tells no times. What stood there before the console
-began is behind that, server by server. The rows of the other views are server by server.
+priority, then by when this console saw it come, since the plants' clocks may differ. What stood there before the
+console began is behind that, server by server. The rows of the other views are server by server.
 """
 import argparse
 import curses
@@ -45,7 +46,7 @@ import sys
 import time
 from typing import Callable, Optional
 
-from .client import CONSOLES, Client, Lost, Plant, Refused
+from .client import CONSOLES, Client, Lost, Plant, Refused, acknowledgement
 from .arguments import Parser, add_places, name_of, names_of_servers, of_each, places_of_servers
 from .details_file import add_details, load_details
 from .ending import Fault, end_of
@@ -90,7 +91,7 @@ class Console(ListScreen):
 
     def act(self, words: str, action: Callable[[Client, int], int]) -> None:
         """Does an action on the selected alarm, and says what came of it."""
-        tag, (server, alarm) = self.tag, self.row
+        tag, server, alarm = self.tag, self.row.server, self.row.alarm
         try:
             self.message = f"{tag} {words} as action {server.call(lambda client: action(client, alarm))}"
         except Refused as refused:
@@ -107,11 +108,12 @@ class Console(ListScreen):
             row
             for row in self.on_screen
             if not self.is_old(row)
+            and row.entry is None
             and row.alarm in row.server.states
             and row.server.states[row.alarm].is_unacknowledged
         ]
         for server in self.servers:
-            requests = [f"ACK {row.alarm}" for row in rows if row.server is server]
+            requests = [self.acknowledgement(row) for row in rows if row.server is server]
             try:
                 replies = server.call(lambda client: list(client.ask_all(requests))) if requests else []
             except (Lost, NotAsked) as fault:
@@ -120,6 +122,18 @@ class Console(ListScreen):
             refused = sum(isinstance(reply, Refused) for reply in replies)
             done, not_done = done + len(replies) - refused, not_done + refused
         self.message = f"{done} acknowledged" + (f", {not_done} not" if not_done else "") + "".join(lost)
+
+    def acknowledge(self) -> None:
+        """Acknowledges the annunciation of the selected alarm that is shown, and no newer one."""
+        if self.row.alarm not in self.row.server.states:
+            self.message = f"{self.tag}: nothing was asked: its row isn't there yet"
+        else:
+            stamp = self.row.server.states[self.row.alarm].stamp
+            self.act("acknowledged", lambda client, alarm: client.acknowledge(alarm, stamp))
+
+    def acknowledgement(self, row: ListRow) -> str:
+        """The request that acknowledges what is shown of a row."""
+        return acknowledgement(row.alarm, row.server.states[row.alarm].stamp)
 
     def shelve(self) -> None:
         seconds = self.ask_number(f"{self.tag}: shelve for seconds: ")
@@ -149,7 +163,8 @@ class Console(ListScreen):
 
     def setpoint_in_unit(self) -> None:
         """Asks for a setpoint in the operator's unit, and shows the one in force."""
-        tag, (server, alarm), details = self.tag, self.row, details_of(self.row)
+        tag, details = self.tag, details_of(self.row)
+        server, alarm = self.row.server, self.row.alarm
         try:
             now = server.call(lambda client: client.attributes(alarm)).setpoint
             typed = self.ask(f"{tag}: setpoint, now {details.with_unit(now)}: ", 30)
@@ -182,7 +197,7 @@ class Console(ListScreen):
     def actions(self) -> dict[str, Callable[[], None]]:
         """What each key does to the selected alarm."""
         return {
-            "a": lambda: self.act("acknowledged", Client.acknowledge),
+            "a": self.acknowledge,
             "A": self.acknowledge_all,
             "r": lambda: self.act("reset", Client.reset),
             "s": self.shelve,
@@ -193,8 +208,10 @@ class Console(ListScreen):
         }
 
     def do(self, letter: str) -> None:
-        """Does an action, unless the row's server is lost."""
-        if letter != "A" and not self.row.server.is_there:
+        """Does an action, unless the row's server is lost, or what happened is shown and not what is so."""
+        if self.view == View.HAPPENED:
+            self.message = "what happened is shown: press 1 for the alarms as they are, and act there"
+        elif letter != "A" and not self.row.server.is_there:
             self.message = f"{self.row.server.name} gives no answer: nothing was asked"
         else:
             self.actions()[letter]()

@@ -10,6 +10,7 @@ import struct
 from dataclasses import dataclass
 from typing import Callable, Iterator, Optional, TypeVar
 
+from .actions import Action
 from .ending import Fault
 from .device_rules import (
     ACTION,
@@ -29,9 +30,6 @@ from .device_rules import (
     text_fault,
 )
 
-WITH_ARGUMENT = ("VAL", "SHELVE", "PRIO", "SETP")
-WITH_SWITCH = ("OOS", "DESIGN")
-
 
 Read = TypeVar("Read")
 
@@ -49,27 +47,6 @@ class Damaged(NoDevice):
             f"{path} is damaged in {'its header' if half == OF_HEADER else f'half {half}'} at byte {at}: {field}"
         )
         self.half, self.at, self.field, self.before = half, at, field, before
-
-
-@dataclass(frozen=True)
-class Action:
-    """An accepted action, by its number among all."""
-
-    number: int
-    word: str
-    alarm: int
-    argument: int
-
-    def request(self, tags: list[str]) -> str:
-        """The action in the words of a request, with the alarm's tag."""
-        if self.word == "CLOCK":
-            return f"CLOCK {self.argument}"
-        words = [self.word, tags[self.alarm]]
-        if self.word in WITH_ARGUMENT:
-            words.append(str(self.argument))
-        if self.word in WITH_SWITCH:
-            words.append("ON" if self.argument else "OFF")
-        return " ".join(words)
 
 
 @dataclass(frozen=True)

@@ -217,6 +217,7 @@ class Figures:
             self.standing(),
             self.spell_table("suppressions", SUPPRESSIONS),
             self.suppressed(),
+            self.asked(),
             FigureTable(
                 "gaps",
                 ("plant", "first", "last", "began", "ended", "why"),
@@ -235,6 +236,13 @@ class Figures:
             is_setpoint = one.attribute == "setpoint"
             rows.append((*one[:3], told.told(one.value), told.unit) if is_setpoint else (*one, ""))
         return FigureTable("attributes", (*columns, "unit"), rows)
+
+    def asked(self) -> FigureTable:
+        """How many actions each slot asked for, by their words; of the slot none, where it isn't known."""
+        rows = [(word, slot, count) for (word, slot), count in self.life.asked.items()]
+        return FigureTable(
+            "asked", ("word", "slot", "actions"), sorted(rows, key=lambda row: (row[0], row[1] is None, row[1] or 0))
+        )
 
     def bins(self, name: str, bins: Bins, bound: int) -> FigureTable:
         rows = [

@@ -26,26 +26,14 @@ from typing import Iterator, Optional
 from .arguments import Parser, add_port, add_slot, seconds
 from .ending import end_of, sayer
 from .moments import date
-from .device_file import Action, Damaged, DeviceFile, Frame, Head, NoDevice
+from .actions import in_words
+from .device_file import Damaged, DeviceFile, Frame, Head, NoDevice
 from .table_file import TableFile
 from .judging import Reading, read_device
 from .mirror import Follower, Served
 from .plant_mirror import Begun, Gap, Mirror, Replaced, Step
 
 PAUSE = 0.1
-WORDS = {"CLOCK": "clock", "ACK": "acknowledged", "RESET": "reset", "UNSHELVE": "unshelved"}
-SWITCHED = {
-    ("OOS", 1): "out of service",
-    ("OOS", 0): "back in service",
-    ("DESIGN", 1): "suppressed by design",
-    ("DESIGN", 0): "no longer suppressed by design",
-}
-WITH_ARGUMENT = {
-    "VAL": "value {}",
-    "SHELVE": "shelved for {} s",
-    "PRIO": "given priority {}",
-    "SETP": "given setpoint {}",
-}
 
 
 say = sayer("journal")
@@ -183,13 +171,6 @@ class Trail:
         tag = "-" if action.word == "CLOCK" else self.tags[action.alarm]
         said = f"{tag:14}  {in_words(action):32}{self.texts.get(tag, '')}"
         return f"{date(step.moment)}  {action.number:>8}  {said}".rstrip()
-
-
-def in_words(action: Action) -> str:
-    """What was done, for people."""
-    if action.word in WITH_ARGUMENT:
-        return WITH_ARGUMENT[action.word].format(action.argument)
-    return WORDS.get(action.word) or SWITCHED[action.word, action.argument]
 
 
 def follow(trail: Trail, seconds: Optional[float]) -> None:

@@ -11,7 +11,8 @@ import time
 from dataclasses import dataclass
 from typing import Callable, Optional, Union
 
-from .device_file import Action, Damaged, DeviceFile, Frame, Head
+from .actions import Action
+from .device_file import Damaged, DeviceFile, Frame, Head
 from .device_rules import ACTION, COUNTS, FRAME_ACTIONS, FRAME_HEAD, GATE_OPEN
 from .table_file import READING_LIMIT
 from .known import known

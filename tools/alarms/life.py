@@ -87,6 +87,8 @@ class Life:
     acknowledgements: list[Acknowledgement] = field(default_factory=list)
     returns: list[Return] = field(default_factory=list)
     attribute_changes: list[AttributeChange] = field(default_factory=list)
+    # how often each slot asked for each word of an alarm's action; of no slot, where nobody knows who asked
+    asked: collections.Counter[tuple[str, Optional[int]]] = field(default_factory=collections.Counter)
     spells: list[Spell] = field(default_factory=list)
     gaps: list[ArchiveGap] = field(default_factory=list)
     # the alarms at the end, by tag
@@ -339,6 +341,7 @@ def play_plant(store: Store, player: Player, plant: PlantRows) -> None:
     life.attribute_changes += attribute_changes(
         store, number, max(plant.counted, number_at(life.begin)), last, set(life.areas)
     )
+    life.asked += asked_by(store, number, max(plant.counted, number_at(life.begin)), last, set(life.areas))
     life.gaps += [
         ArchiveGap(number, *row)
         for row in store.rows(
@@ -353,6 +356,21 @@ def play_plant(store: Store, player: Player, plant: PlantRows) -> None:
         "SELECT COUNT(*) FROM action WHERE plant = ? AND number > ? AND number <= ?",
         (number, max(plant.counted, number_at(life.begin)), last),
     )
+
+
+def asked_by(
+    store: Store, plant: int, first: int, last: int, areas: set[int]
+) -> collections.Counter[tuple[str, Optional[int]]]:
+    """How often each slot asked for each word behind an action, up to another, of the alarms of some areas."""
+    query = (
+        "SELECT a.word, a.slot, l.area, COUNT(*) FROM action a JOIN alarm l ON l.plant = a.plant AND l.alarm = a.alarm"
+        " WHERE a.plant = ? AND a.number > ? AND a.number <= ? GROUP BY a.word, a.slot, l.area"
+    )
+    found: collections.Counter[tuple[str, Optional[int]]] = collections.Counter()
+    for word, slot, area, count in store.rows(query, (plant, first, last)):
+        if area in areas:
+            found[word, slot] += count
+    return found
 
 
 def attribute_changes(store: Store, plant: int, first: int, last: int, areas: set[int]) -> list[AttributeChange]:

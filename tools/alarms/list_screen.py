@@ -7,13 +7,17 @@ from .client import OtherPlant, Refused
 from .details_file import differences
 from .boards import Board, ListRow, Server, View, rows_of
 from .table_file import NoTable
+from .actions import in_words
+from .happened import who_asked
+from .replies import Entry
 from .screen import alarm_of, details_of, moment, response_of, set_colours
 
 # Seconds for which one of several servers is waited for.
 MOMENT = 0.5
-HELP = "a A ack  r reset  s u shelve  o oos  p prio  t setp  f area  1-7 v view  q quit"
-# The line above the list, with room for one more column.
+HELP = "a A ack  r reset  s u shelve  o oos  p prio  t setp  f area  1-8 v view  q quit"
+# The line above the list, with room for one more column; and that above what happened.
 HEADING = "   P{} TAG            STATE AR FSC UNTIL    TEXT"
+HAPPENED = "  {} TIME      NUMBER ASKED   TAG            ACTION"
 
 
 class ListScreen:
@@ -126,16 +130,21 @@ class ListScreen:
             where = f"{area} of {self.only.name}" if self.only else area
             self.head += [
                 (f"{self.view.value}, {where}", curses.A_BOLD),
-                (HEADING.format(f" {'PLANT':{self.width}}"), curses.A_UNDERLINE),
+                (self.heading.format(f" {'PLANT':{self.width}}"), curses.A_UNDERLINE),
             ]
         else:
             board = self.servers[0].board
             self.head = [
                 (board.head(), 0),
                 (f"{self.view.value}, {area}   {board.clock()}{board.floods()}", curses.A_BOLD),
-                (HEADING.format(""), curses.A_UNDERLINE),
+                (self.heading.format(""), curses.A_UNDERLINE),
             ]
         self.select(0)
+
+    @property
+    def heading(self) -> str:
+        """The line above the rows, with room for one more column."""
+        return HAPPENED if self.view == View.HAPPENED else HEADING
 
     def lines_of(self, server: Server) -> list[tuple[str, int]]:
         """What is so of one of several servers: its counts, or why its rows may be old; and below what else an operator
@@ -190,12 +199,16 @@ class ListScreen:
         old."""
         if self.is_old(row):
             return curses.A_DIM
+        if row.entry:
+            return 0
         state = row.server.states.get(row.alarm)
         colour = curses.color_pair(row.server.board.priorities.get(row.alarm, 0)) if curses.has_colors() else 0
         return colour | (curses.A_REVERSE if state and state.is_unacknowledged else 0)
 
     def line(self, row: ListRow) -> str:
-        """The line of an alarm."""
+        """The line of an alarm, or of an action."""
+        if row.entry:
+            return self.line_of_action(row, row.entry)
         entry, state, board = alarm_of(row), row.server.states.get(row.alarm), row.server.board
         shown, until = (state.shown, moment(state.deadline)) if state else ("", "")
         mark = "?" if self.is_old(row) else "*" if state and state.is_unacknowledged else " "
@@ -203,3 +216,10 @@ class ListScreen:
         priority = board.priorities.get(row.alarm, "-")
         head = f"{mark} {priority}{name} {entry.tag:14.14} {shown:5} {entry.area:2}"
         return f"{head} {board.marks(row.alarm)} {until:8.8} {details_of(row).text or entry.text}"
+
+    def line_of_action(self, row: ListRow, entry: Entry) -> str:
+        """The line of an accepted action."""
+        name = f" {row.server.name:{self.width}}" if self.are_several else ""
+        mark, action = "?" if self.is_old(row) else " ", entry.action
+        head = f"{mark}{name} {moment(entry.moment):8.8} {action.number:>7} {who_asked(entry):7}"
+        return f"{head} {alarm_of(row).tag:14.14} {in_words(action)}"

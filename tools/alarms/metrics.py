@@ -7,10 +7,12 @@ console's slot, by queries alone, and lets the slot go. Where the server doesn't
 else of the plant is there. Where it answers at another slot, another client has this one: then `alarms_up` is 1,
 `alarms_slot_taken` too, and of the plant is there what one query shows.
 
+There are counters too, of annunciations and acknowledgements by priority: those since the exporter began. They go on
+by SINCE, so they need no device. `alarms_uncounted_actions_total` counts what the server no longer remembered by then.
+
 With --device it also reads, from the file, how full the journal is, and the epoch, which grows by one with each
-checkpoint. `alarms_device_damaged` is 1 where bytes of it are damaged, with the half and the place, else 0. From there
-come counters too, of annunciations and acknowledgements by priority: those since the exporter began, up to the last one
-that a query showed. `alarms_rows_denied` is how many alarms have another row by the journal than the server shows.
+checkpoint. `alarms_device_damaged` is 1 where bytes of it are damaged, with the half and the place, else 0.
+`alarms_rows_denied` is how many alarms have another row by the journal than the server shows.
 
 With --table it reads the table file each time, and ends with status 1 where the plant isn't that file's, or is on
 another device than before.
@@ -28,7 +30,8 @@ from .connecting import HOST
 from .device_file import Damaged, DeviceFile, Head, NoDevice
 from .table_file import NoTable
 from .judging import Reading, read_device
-from .metrics_counts import DENIED, DENIED_PAGE, Tally
+from .metrics_counts import Tally
+from .metrics_rows import DENIED, DENIED_PAGE, HeldRows
 
 # Seconds after which a client that says nothing is left.
 SILENCE = 10
@@ -166,7 +169,8 @@ class Exporter(http.server.ThreadingHTTPServer):
     def __init__(self, listen: int, plant: Plant, device: Optional[str]):
         super().__init__((HOST, listen), Handler)
         self.plant, self.device = plant, device
-        self.soundness, self.tally = (Soundness(device), Tally(device)) if device else (None, None)
+        self.tally = Tally()
+        self.soundness, self.held_rows = (Soundness(device), HeldRows(device)) if device else (None, None)
         self.asking = threading.Lock()
         self.moment, self.moved = -1, 0.0
         self.fault: Optional[Exception] = None
@@ -196,31 +200,28 @@ class Exporter(http.server.ThreadingHTTPServer):
         """What the plant shows, whether the server answers, and whether another client has the slot."""
         try:
             with self.plant.connect() as client:
-                return [*shown(client), *self.seen(client.plant()), *self.held(client)], 1, 0
+                plant = client.plant()
+                self.tally.look(client, plant.count)
+                return [*shown(client), *self.still(plant.moment), *self.held(client, plant.count)], 1, 0
         except NoAnswer:
             found = at_another_slot(self.plant)
-            return ([*of_query(*found), *self.seen(found[0])], 1, 1) if found else ([], 0, 0)
+            return ([*of_query(*found), *self.still(found[0].moment)], 1, 1) if found else ([], 0, 0)
         except (Lost, Refused):
             return [], 0, 0
 
-    def seen(self, plant: Overview) -> Iterator[str]:
-        """Takes note of the plant's count and moment."""
-        if self.tally:
-            self.tally.look(plant.count)
-        yield from self.still(plant.moment)
-
-    def held(self, client: Client) -> Iterator[str]:
+    def held(self, client: Client, count: int) -> Iterator[str]:
         """Holds rows of the device's plant against those that the server shows; a server of before ROW shows none."""
-        if self.tally:
+        if self.held_rows:
             try:
-                self.tally.hold(client)
+                self.held_rows.look(count)
+                self.held_rows.hold(client)
             except Refused:
                 return
-            yield from metric(DENIED, "gauge", DENIED_PAGE, {"": len(self.tally.rows.denied)})
+            yield from metric(DENIED, "gauge", DENIED_PAGE, {"": self.held_rows.denied})
 
     def counters(self) -> Iterator[str]:
-        """What was counted so far in the device's file."""
-        for name, page, samples in self.tally.samples() if self.tally else ():
+        """What was counted so far."""
+        for name, page, samples in self.tally.samples():
             yield from metric(name, "counter", page, samples)
 
     def still(self, moment: int) -> Iterator[str]:

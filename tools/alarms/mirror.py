@@ -28,7 +28,8 @@ from .ending import end_of, sayer
 from .device_file import NoDevice
 from .judging import read_device
 from .known import known
-from .plant_mirror import ALL, Ahead, Begun, Mirror, News, OtherTable, Replaced, fixed
+from .plant_mirror import ALL, Ahead, Begun, Mirror, News, OtherTable, Replaced
+from .table_file import fixed
 
 
 class Served:
@@ -110,6 +111,9 @@ class Served:
 
 class Follower:
     """The plant of a served device, and what becomes of it, up to the count that the server shows."""
+
+    # Why actions are gone.
+    lost = "no longer in the file"
 
     def __init__(self, path: str, served: Served):
         self.path, self.served = path, served

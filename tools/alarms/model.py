@@ -12,8 +12,10 @@ import struct
 from dataclasses import replace
 from typing import Callable, Iterable, NamedTuple, Optional
 
-from .device_file import Action, NoDevice
+from .actions import Action
+from .device_file import NoDevice
 from .device_rules import ALARM_IMAGE, AREA_IMAGE, KINDS
+from .replies import Row
 from .table_file import Alarm
 
 CORES = ("NORM", "UNACK", "ACKED", "RTNUN", "LATUN", "LATAK")
@@ -69,6 +71,16 @@ class AlarmState:
         # of the last three annunciations, the newest first
         self.moments: tuple[int, ...] = tuple(moments[: image[141]])
 
+    @classmethod
+    def of_row(cls, number: int, alarm: Alarm, row: Row) -> "AlarmState":
+        """An alarm of a table as its server's row has it."""
+        state = cls.__new__(cls)
+        state.number, state.attributes = number, replace(alarm, priority=row.priority, setpoint=row.setpoint)
+        state.flags = sum(bit for bit, letter, _ in FLAGS if letter in row.flags)
+        state.active, state.core = row.condition, "NORM" if state.flags else row.shown
+        state.deadline, state.stamp, state.moments = row.deadline or 0, row.stamp, row.moments
+        return state
+
     @property
     def shown(self) -> str:
         """The word of its state, as STATE shows it."""
@@ -94,6 +106,11 @@ class AreaWindow:
         # moments with how many annunciations each had, the oldest first
         self.moments = collections.deque([now - age, count] for age, count in reversed(list(enumerate(ages))) if count)
         self.total = sum(ages)
+
+    @classmethod
+    def empty(cls) -> "AreaWindow":
+        """A window of which nothing is known."""
+        return cls(0, bytes(AREA_IMAGE))
 
     def add(self, moment: int) -> None:
         if self.moments and self.moments[-1][0] == moment:

@@ -1,12 +1,13 @@
 """The plant of a device file in memory, which goes on as the file does, and what is new of it."""
 import itertools
 import os
-from dataclasses import dataclass, replace
+from dataclasses import dataclass
 from typing import Iterator, NamedTuple, Optional, Union
 from .ending import Fault
-from .device_file import Action, Damaged, DeviceFile, Frame, Head, NoDevice
+from .actions import Action
+from .device_file import Damaged, DeviceFile, Frame, Head, NoDevice
 from .device_rules import GATE_OPEN, HEADER
-from .table_file import Alarm
+from .table_file import fixed
 from .judging import ClosedGate, closed_gate, is_admitted, judge, not_admitted
 from .model import Change, FloodChange, PlantModel
 
@@ -20,12 +21,13 @@ ALL = 2**64
 
 
 class Step(NamedTuple):
-    """An action, the plant's moment at it, and what it did."""
+    """An action, the plant's moment at it, what it did, and the slot that asked, where that is known."""
 
     action: Action
     moment: int
     changes: list[Change]
     floods: list[FloodChange]
+    slot: Optional[int] = None
 
     @property
     def number(self) -> int:
@@ -65,11 +67,6 @@ class OtherTable(Fault):
     """The file has the plant of another table than before."""
 
 
-def fixed(alarms: list[Alarm]) -> list[Alarm]:
-    """What never changes on a device: the attributes but priority and setpoint."""
-    return [replace(alarm, priority=1, setpoint=0) for alarm in alarms]
-
-
 class Mirror:
     """The plant of a device file, which goes on as the file does.
 
@@ -87,6 +84,11 @@ class Mirror:
 
     def close(self) -> None:
         self.device.close()
+
+    def place(self) -> str:
+        """Which file it is."""
+        there = os.fstat(self.device.file)
+        return f"{there.st_dev}:{there.st_ino}"
 
     @property
     def count(self) -> int:

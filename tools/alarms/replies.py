@@ -1,7 +1,8 @@
 """The server's replies as values."""
 import enum
 from dataclasses import dataclass
-from typing import Optional
+from typing import Iterator, Optional
+from .actions import FIELDS, Action, action_of_words
 from .ending import Fault
 from .table_file import Alarm
 from .connecting import Lost
@@ -33,6 +34,8 @@ class Refusal(enum.IntEnum):
     EXHAUSTED = 18
     PRIORITY_RANGE = 19
     SAME_VALUE = 20
+    FORGOTTEN = 21
+    ANNUNCIATED_AGAIN = 22
 
 
 class Refused(Fault):
@@ -77,6 +80,35 @@ class Listing:
 
     count: int
     alarms: list[int]
+
+
+@dataclass(frozen=True)
+class Entry:
+    """An accepted action, the plant's moment behind it, in seconds, and the slot that asked."""
+
+    moment: int
+    slot: int
+    action: Action
+
+
+@dataclass(frozen=True)
+class Entries:
+    """The accepted actions from number `first` on, or some of them, and the count of actions of the plant that was
+    looked at."""
+
+    count: int
+    first: int
+    entries: list[Entry]
+
+    @property
+    def last(self) -> int:
+        """The number of the last entry; where there is none that before the first."""
+        return self.first + len(self.entries) - 1
+
+    @property
+    def are_all(self) -> bool:
+        """Whether the plant had no further actions."""
+        return self.last >= self.count
 
 
 @dataclass(frozen=True)
@@ -130,6 +162,25 @@ def read_listing(words: list[str]) -> Listing:
     if len(alarms) != int(length):
         raise Lost(f"a list of {length} alarms has {len(alarms)}")
     return Listing(int(count), [int(alarm) for alarm in alarms])
+
+
+def read_entries(words: list[str]) -> Entries:
+    """The entries in the words after SINCE."""
+    count, first, length = map(int, words[:3])
+    entries = list(split_entries(first, words[3:]))
+    if len(entries) != length:
+        raise Lost(f"a reply of {length} entries has {len(entries)}")
+    return Entries(count, first, entries)
+
+
+def split_entries(number: int, words: list[str]) -> Iterator[Entry]:
+    """The entries in words, the first of this number."""
+    at = 0
+    while at < len(words):
+        moment, slot, word = words[at : at + 3]
+        end = at + 3 + FIELDS[word]
+        yield Entry(int(moment), int(slot), action_of_words(number, word, *words[at + 3 : end]))
+        at, number = end, number + 1
 
 
 def read_flood(words: list[str]) -> Flood:

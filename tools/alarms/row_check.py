@@ -4,12 +4,12 @@ A tool that follows the journal has a model of the plant. So it asks the server 
 holds each against the model's at the same count of actions.
 """
 import collections
-from typing import Callable, Iterable, Optional
+from typing import Iterable
 
 from .model import SHELVED, AlarmState, PlantModel
 from .replies import Row
 
-# What is compared of a row, by its name in a message.
+# What is compared of a row, by its name.
 Fields = dict[str, object]
 LETTERS = "SDO"
 
@@ -48,19 +48,17 @@ def of_server(row: Row) -> Fields:
 
 
 class RowCheck:
-    """Holds a plant's rows against the server's. `ours` and `theirs` say what is compared of an alarm and a reply."""
+    """Holds a plant's rows against the server's."""
 
-    def __init__(self, ours: Callable[[AlarmState], Fields] = of_model, theirs: Callable[[Row], Fields] = of_server):
-        self.ours, self.theirs = ours, theirs
+    def __init__(self) -> None:
         self.begin()
 
     def begin(self) -> None:
         """Another plant: nothing is known of its rows."""
         self.next = 0
-        # Replies of a plant that the model hasn't reached, by their count; and what was found of each alarm that is
-        # denied.
+        # Replies of a plant that the model hasn't reached, by their count; and the alarms that the server denies.
         self.waiting: dict[int, list[tuple[int, Row]]] = collections.defaultdict(list)
-        self.denied: dict[int, str] = {}
+        self.denied: set[int] = set()
 
     def due(self, alarms: int, part: int) -> list[int]:
         """The alarms that are asked now: at most so many, one round after the other."""
@@ -86,16 +84,5 @@ class RowCheck:
 
     def compare(self, plant: PlantModel, number: int, row: Row) -> None:
         """Notes whether the server denies an alarm's row."""
-        alarm = plant.alarms[number]
-        ours, theirs = self.ours(alarm), self.theirs(row)
-        wrong = next((name for name in ours if ours[name] != theirs[name]), None)
-        if wrong is None:
-            self.denied.pop(number, None)
-        else:
-            tag = alarm.attributes.tag
-            self.denied[number] = f"{tag}: its {wrong} is {ours[wrong]} here, and {theirs[wrong]} there"
-
-    def fault(self) -> Optional[str]:
-        """What the server denies, if it denies a row."""
-        first = next(iter(self.denied.values()), None)
-        return first and f"the server denies {len(self.denied)} of the rows. {first}"
+        is_right = of_model(plant.alarms[number]) == of_server(row)
+        (self.denied.discard if is_right else self.denied.add)(number)

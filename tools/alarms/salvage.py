@@ -22,7 +22,8 @@ from typing import Iterator, Optional
 
 from .arguments import Parser
 from .ending import Fault, end_of, sayer
-from .device_file import Action, Damaged, DeviceFile, Frame, Head, action_of
+from .actions import Action
+from .device_file import Damaged, DeviceFile, Frame, Head, action_of
 from .device_rules import ACTION, FRAME_HEAD, GATE_OPEN, text_fault
 from .export import lines
 from .plant_lines import KEPT_BACK, TableChange, StoppedPlant, read_plant

@@ -26,6 +26,7 @@ REASONS = {
     Refusal.STOPPED: "the server's storage has stopped: ask again when it is back",
     Refusal.PRIORITY_RANGE: "a priority is 1 to 4",
     Refusal.SAME_VALUE: "it has that already",
+    Refusal.ANNUNCIATED_AGAIN: "it came again, look",
 }
 
 

@@ -263,6 +263,11 @@ class Store:
         self.run("BEGIN" if self.mark == "?" else "SET TRANSACTION ISOLATION LEVEL REPEATABLE READ")
 
 
+def is_there(place: str) -> bool:
+    """Whether there may be an archive at a place: of a database that is asked by the network that isn't known."""
+    return is_postgresql(place) or os.path.exists(place)
+
+
 def open_sqlite(path: str, make: bool) -> Store:
     """The store in a file of SQLite; `StoreFault` says why there is none."""
     if not make and not os.path.isfile(path):

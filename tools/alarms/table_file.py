@@ -1,6 +1,6 @@
 """Table files in Python: what one says, and the size that a device has to have. docs/TABLE.md has the keys."""
 import tomllib
-from dataclasses import dataclass
+from dataclasses import dataclass, replace
 from typing import Any, Optional
 
 from .ending import Fault
@@ -73,6 +73,11 @@ class Table:
 
 # What a text raises that is no table file.
 UNREADABLE = (AttributeError, KeyError, TypeError, ValueError)
+
+
+def fixed(alarms: list[Alarm]) -> list[Alarm]:
+    """What never changes on a device: the attributes but priority and setpoint."""
+    return [replace(alarm, priority=1, setpoint=0) for alarm in alarms]
 
 
 def read_table(text: str) -> Table:

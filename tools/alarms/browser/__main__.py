@@ -1,25 +1,25 @@
 """The alarm list of a served plant in a browser, for up to fifteen operators.
 
-    alm_browser DEVICE --port P --listen 8090
-    alm_browser DEVICE --sockets FOLDER --socket SOCKET --proxy https://alarms.example
-    alm_browser north.device --port 5000 south.device --port 5020 --listen 8090
+    alm_browser --port P --listen 8090
+    alm_browser --sockets FOLDER --socket SOCKET --proxy https://alarms.example
+    alm_browser --port 5000 --port 5020 --name north --name south --listen 8090
 
-It reads the device file, and asks the server at one console's slot: 12, or the first of --slots K.. that answers. With
---listen it is at http://127.0.0.1:8090, and prints the address with the token that lets a browser in; once it was used,
-another one. With --socket it is at a Unix socket. There it wants the token too, or with --proxy trusts the headers
-X-Alarms-User and X-Alarms-Role of a proxy that authenticates. Whoever may write to that socket may then be anybody:
-give it to the proxy's group alone, by --group.
+It asks the server at one console's slot: 12, or the first of --slots K.. that answers. With --listen it is at
+http://127.0.0.1:8090, and prints the address with the token that lets a browser in; once it was used, another one. With
+--socket it is at a Unix socket. There it wants the token too, or with --proxy trusts the headers X-Alarms-User and
+X-Alarms-Role of a proxy that authenticates. Whoever may write to that socket may then be anybody: give it to the
+proxy's group alone, by --group.
 
-It can be two processes, so that the one that the network reaches has no device and no slot. One follows the plants and
-keeps the notes, with --tell SOCKET in the place of --listen or --socket; the other is given that by --from SOCKET in
-the place of the devices. Each takes the words of the other and leaves them alone.
+It can be two processes, so that the one that the network reaches has no slot. One follows the plants and keeps the
+notes, with --tell SOCKET in the place of --listen or --socket; the other is given that by --from SOCKET in the place of
+the servers. Each takes the words of the other and leaves them alone.
 
 Who asked for an action and why is kept by the action's number, with --notes FILE in a file of SQLite, else until it
 ends.
 
-Several plants are one list. Each has its device, its --port or --sockets, and if any has its --name and its --areas, in
-the same order. Slots and notes are for all. An action goes to the alarm's own server, and one server that is lost is
-said by its plant's name while the others go on.
+Several plants are one list. Each has its --port or --sockets, and if any has its --name and its --areas, in the same
+order. Slots and notes are for all. An action goes to the alarm's own server, and one server that is lost is said by its
+plant's name while the others go on.
 """
 import argparse
 import asyncio

@@ -1,11 +1,10 @@
 """The arguments of the alarm list in a browser: the plants that it shows, and where browsers find it."""
 import argparse
 from dataclasses import dataclass
-from pathlib import Path
 from typing import Optional
 from urllib.parse import urlsplit
 
-from ..arguments import Parser, add_places, group_of, listen_port, names_of_servers, of_each, places_of_servers
+from ..arguments import Parser, add_places, group_of, listen_port, name_of, names_of_servers, of_each, places_of_servers
 from ..client import CONSOLES, Place
 from .language import ENGLISH, shipped
 from .orders import ACTIONS, MOST_ALARMS, MOST_AT_ONCE
@@ -14,10 +13,9 @@ from .positions import ROLES
 
 @dataclass(frozen=True)
 class Given:
-    """A plant that is shown: its device and server, its name in the notes and on the page, the file of its areas'
-    names, and that of its alarms' details."""
+    """A plant that is shown: its server, its name in the notes and on the page, the file of its areas' names, and that
+    of its alarms' details."""
 
-    device: str
     place: Place
     name: str
     short: str
@@ -41,7 +39,6 @@ def origin(text: str) -> str:
 def arguments(page: Optional[str]) -> Parser:
     """The parser of the tool, whose page this is."""
     words = Parser("alm_browser", page)
-    words.add_argument("devices", metavar="DEVICE", nargs="*", help="the device file; of several plants that of each")
     add_places(words)
     words.add_argument(
         "--slots",
@@ -62,7 +59,7 @@ def arguments(page: Optional[str]) -> Parser:
         "--from",
         dest="source",
         metavar="SOCKET",
-        help="the socket of an alm_browser with --tell, in the place of devices",
+        help="the socket of an alm_browser with --tell, in the place of servers",
     )
     add_users(words)
     words.add_argument(
@@ -71,7 +68,7 @@ def arguments(page: Optional[str]) -> Parser:
         action="append",
         default=[],
         metavar="PLANT",
-        help="the plant's name in the notes; the device file's where it is left out",
+        help="the plant's name in the notes; its port, or the last part of its folder, where it is left out",
     )
     words.add_argument(
         "--areas", action="append", default=[], metavar="FILE", help="the names of the areas, one a line"
@@ -144,29 +141,18 @@ def given_plants(words: Parser, chosen: argparse.Namespace) -> list[Given]:
     """The plants that the words name. Whom another part tells them has none."""
     if chosen.source:
         return []
-    if not chosen.devices:
-        words.error("the following arguments are required: DEVICE")
     places = places_of_servers(words, chosen)
-    if len(places) != len(chosen.devices):
-        words.error(
-            f"each device has its --port or --sockets: of devices there are {len(chosen.devices)}, and of these"
-            f" {len(places)}"
-        )
-    names = (
-        of_each(words, "--name", chosen.names, len(places))
-        if chosen.names
-        else [Path(device).stem for device in chosen.devices]
-    )
+    names = of_each(words, "--name", chosen.names, len(places)) if chosen.names else list(map(name_of, places))
     short = names_of_servers(words, names) if len(names) > 1 else names
     areas = of_each(words, "--areas", chosen.areas, len(places))
     details = of_each(words, "--details", chosen.details, len(places))
-    return [Given(*one) for one in zip(chosen.devices, places, names, short, areas, details)]
+    return [Given(*one) for one in zip(places, names, short, areas, details)]
 
 
 def judge(words: Parser, chosen: argparse.Namespace) -> None:
     """Refuses words that don't go together."""
-    if chosen.source and (chosen.devices or chosen.tell):
-        words.error("--from is in the place of devices, and of --tell")
+    if chosen.source and (chosen.places or chosen.tell):
+        words.error("--from is in the place of --port and --sockets, and of --tell")
     if chosen.socket is None and chosen.listen is None and chosen.tell is None:
         words.error("one of the arguments --listen --socket --tell is required")
     if chosen.proxy and chosen.listen is not None:

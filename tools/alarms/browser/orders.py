@@ -2,7 +2,7 @@
 from dataclasses import dataclass
 from typing import Any, Callable, NamedTuple, Optional
 
-from ..client import Refusal
+from ..client import Refusal, acknowledgement
 from ..table_file import READING_LIMIT, SHELVE_LIMIT
 
 from .language import fill
@@ -26,6 +26,7 @@ WITH_REASON = ("SHELVE", "OOS", "PRIO", "SETP")
 SEEN = {"ACK": Refusal.NOT_UNACKNOWLEDGED, "RESET": Refusal.NOT_RESETTABLE}
 # Alarms of an order; of one that silences or changes them, where nobody says otherwise; letters of a reason.
 MOST_ALARMS, MOST_AT_ONCE, MOST_REASON = 1000, 20, 200
+AGAIN = "it has come again since it was seen: look again"
 # Why the server refused, for an operator.
 REASONS = {
     Refusal.NO_SUCH_ALARM: "the plant has no such alarm",
@@ -39,14 +40,12 @@ REASONS = {
     Refusal.STOPPED: "the server's storage has stopped: look again when it is back",
     Refusal.PRIORITY_RANGE: "a priority is 1 to 4",
     Refusal.SAME_VALUE: "it has that already",
+    Refusal.ANNUNCIATED_AGAIN: AGAIN,
 }
-AGAIN = "it has come again since it was seen: look again"
-ALSO_AGAIN = "it had come again just before: look at it"
 NO_SERVER = "no server: nothing was asked"
 NO_REPLY = "no reply came: look whether it was done once the server is back"
 OTHER_PLANT = "the plant is another one than was seen: look again"
 OTHER_AREA = "its area is another position's"
-OTHER_DEVICE = "the server has another plant than the device file"
 READING = "the plant is being read"
 NO_POSITION = "take a position first"
 
@@ -111,8 +110,10 @@ class Order:
             "reason": self.asker.reason,
         }
 
-    def request(self, alarm: int) -> str:
-        """The line that asks it of an alarm."""
+    def request(self, alarm: int, stamp: int) -> str:
+        """The line that asks it of an alarm, which was seen with a stamp."""
+        if self.word == "ACK":
+            return acknowledgement(alarm, stamp)
         if self.word == "OOS":
             return f"OOS {alarm} {'ON' if self.value else 'OFF'}"
         return f"{self.word} {alarm}" + ("" if self.value is None else f" {self.value}")

@@ -1,9 +1,9 @@
 """The list between two processes: `Teller` is in the one that follows the plants and asks their servers, `Source` in
 the one that the network reaches.
 
-The first needs the device files, a slot of each server and the notes. The second needs nothing but the first one's
-socket, over which it can have what the page shows, and ask what an operator may. To the second go the events of the
-page's stream, and an event `answers` for each order; from it comes an order a line, in JSON.
+The first needs a slot of each server and the notes. The second needs nothing but the first one's socket, over which it
+can have what the page shows, and ask what an operator may. To the second go the events of the page's stream, and an
+event `answers` for each order; from it comes an order a line, in JSON.
 """
 import asyncio
 import itertools

@@ -26,7 +26,8 @@ from .notes import Notes
 from .orders import MOST_ALARMS, Order, Rules
 from .positions import Desks, area_lines, load_positions
 from .relay import MOST_ORDER, Source, Teller
-from .watch import STOP, WatchedServer, Watch
+from .watch import STOP, Watch
+from .watched_server import WatchedServer
 from .web import Site
 
 say = sayer("alm_browser")
@@ -122,7 +123,7 @@ def follow(
             judge(batch)
         loop.call_soon_threadsafe(board.take, batch)
 
-    return board, Watch(plant.device, shown, notes, tell, fail, desks, number)
+    return board, Watch(shown, notes, tell, fail, desks, number)
 
 
 def followed(

@@ -1,15 +1,17 @@
 """Who suppressed each alarm of a plant, why and since when, whatever the journal still has.
 
 What began is kept beside the notes, by the alarm's tag and the action's word; so it outlasts a restart. A suppression
-that began while nobody followed the plant, and that its device no longer has, isn't known.
+that began while nobody followed the plant, and that its server no longer remembers, isn't known.
 """
 from typing import Any
 
-from ..model import BY_DESIGN, OUT_OF_SERVICE, SHELVED, AlarmState, PlantModel
-from ..plant_mirror import Step
+from ..followed import FollowedPlant
+from ..replies import Entry
+from .batch import BITS
 from .notes import Notes, Suppression
 
-BITS = {"SHELVE": SHELVED, "OOS": OUT_OF_SERVICE, "DESIGN": BY_DESIGN}
+# The letter of the flag that each word sets.
+LETTERS = {"SHELVE": "S", "OOS": "O", "DESIGN": "D"}
 
 
 class Suppressions:
@@ -21,24 +23,25 @@ class Suppressions:
         # What isn't kept yet, by tag and word.
         self.fresh: dict[tuple[str, str], Suppression] = {}
 
-    def begin(self, plant: PlantModel) -> None:
-        """Takes what was kept of each flag that is set. What is ahead of the plant was of another device."""
+    def begin(self, plant: FollowedPlant, moment: int) -> None:
+        """Takes what was kept of each flag that is set. What is ahead of the plant, at a moment, was of another
+        device."""
         kept, self.known, self.fresh = self.notes.suppressions(), {}, {}
-        for alarm in plant.alarms:
-            for word, bit in BITS.items():
-                one = kept.get((alarm.attributes.tag, word)) if alarm.flags & bit else None
-                if one and one.number <= plant.count and one.moment <= plant.now:
-                    self.known[alarm.number, word] = one
+        for number, row in enumerate(plant.rows):
+            for word, letter in LETTERS.items():
+                one = kept.get((plant.table[number].tag, word)) if letter in row.flags else None
+                if one and one.number <= plant.count and one.moment <= moment:
+                    self.known[number, word] = one
 
-    def step(self, step: Step, plant: PlantModel) -> None:
+    def take(self, entry: Entry, plant: FollowedPlant) -> None:
         """Takes an action of the plant, if it suppresses an alarm."""
-        word, number = step.action.word, step.action.alarm
-        if word not in BITS or (word != "SHELVE" and not step.action.argument):
+        action = entry.action
+        if action.word not in LETTERS or (action.word != "SHELVE" and not action.argument):
             return
-        tag = plant.alarms[number].attributes.tag
-        note = self.notes.of(step.number, step.moment, word, tag)
-        one = Suppression(step.number, step.moment, *((note.user, note.reason) if note else ("", "")))
-        self.known[number, word] = self.fresh[tag, word] = one
+        tag = plant.table[action.alarm].tag
+        note = self.notes.of(action.number, entry.moment, action.word, tag)
+        one = Suppression(action.number, entry.moment, *((note.user, note.reason) if note else ("", "")))
+        self.known[action.alarm, action.word] = self.fresh[tag, action.word] = one
 
     def keep(self) -> None:
         """Keeps what is new."""
@@ -46,9 +49,7 @@ class Suppressions:
             self.notes.keep_suppressions(self.fresh)
         self.fresh = {}
 
-    def of(self, alarm: AlarmState) -> list[list[Any]]:
+    def of(self, number: int, flags: str) -> list[list[Any]]:
         """Of each flag that an alarm has: the flag, since when, who and why."""
-        if not alarm.flags:
-            return []
-        found = [(bit, self.known.get((alarm.number, word))) for word, bit in BITS.items() if alarm.flags & bit]
+        found = [(BITS[letter], self.known.get((number, word))) for word, letter in LETTERS.items() if letter in flags]
         return [[bit, one.moment, one.user, one.reason] for bit, one in found if one]

@@ -1,66 +1,34 @@
 """The thread that follows the plant and asks for what operators want, over one slot of the server.
 
-Nothing is shown but what a query of the server has shown: the mirror bounds itself by that count. Before an order the
-plant is looked at, so an action never goes to a server whose device isn't the one that is shown: a new connection
-counts only once a look behind it found the same device and the same alarms.
+It goes by the server's lines alone: rows by ROW, what happened by SINCE. So nothing is shown but what a query of the
+server has shown. Before an order the plant is looked at, so an action never goes to a server whose plant isn't the one
+that is shown.
 """
-import itertools
-import math
 import queue
 import secrets
 import threading
-import time
 from typing import Any, Callable, Iterable, Iterator, Optional
 
-from ..client import Lost, OtherPlant, Place, Plant, Refusal, Refused
-from ..device_file import NoDevice
-
+from ..client import Client, Flood, Lost, OtherPlant, Refusal, Refused, ServerClient
+from ..followed import FollowedPlant, Happenings
 from ..known import known
-from ..mirror import Follower, Served
-from ..plant_mirror import Begun, News, Replaced, Step, fixed
-from ..model import PlantModel
-from ..row_check import RowCheck
-from .batch import EVENTS, Batch, drawn_of, row_of, standing, table_of, told_of
+from ..replies import Entry
+from ..table_file import fixed
+from .batch import EVENTS, Batch, is_annunciated, row_of, standing, table_of
+from .drawn import DrawnCheck
 from .notes import LOST, OK, Notes
-from .orders import AGAIN, ALSO_AGAIN, NO_REPLY, NO_SERVER, OTHER_AREA, OTHER_DEVICE, OTHER_PLANT, READING, REASONS
+from .orders import AGAIN, NO_REPLY, NO_SERVER, OTHER_AREA, OTHER_PLANT, READING, REASONS
 from .orders import SEEN, Answer, Order
 from .positions import Desks
 from .suppressed import Suppressions
+from .watched_server import PATIENCE, WatchedServer
 
-# Seconds between two looks; and to wait for the reply to a query, and to an action, which has to be stored.
-PERIOD, PATIENCE, ACTION_PATIENCE = 0.1, 1.2, 5.0
+# Seconds between two looks, and to wait for the reply to an action, which has to be stored.
+PERIOD, ACTION_PATIENCE = 0.1, 5.0
+# Why nothing is shown of a server that knows no ROW or no SINCE.
+EARLIER = "the server is of an earlier release than this tool"
 # Actions that are asked before the plant is looked at again.
 PART = 64
-# Seconds in which each row is held against the server's once, and the most rows that are asked at a look.
-ROUND, ROWS = 20.0, 64
-# Acknowledgements whose annunciation is remembered.
-REMEMBERED = 4096
-
-
-class WatchedServer(Served):
-    """The count that the server shows, asked at the first of some slots that answers."""
-
-    def __init__(self, place: Place, slots: list[int], say: Callable[..., None]):
-        super().__init__(place, slots[0], say)
-        self.slots = itertools.cycle(slots[1:] + slots[:1])
-        self.plant = Plant(place, self.slot, patience=PATIENCE)
-        self.answered = -1e9
-
-    def look(self) -> int:
-        count = super().look()
-        if self.is_there:
-            self.answered = time.monotonic()
-        return count
-
-    def end(self) -> None:
-        """Ends the connection. Where there was none, the next slot is tried."""
-        if not self.is_there:
-            self.slot = self.asked.slot = next(self.slots)
-        super().end()
-
-    def forget(self) -> None:
-        super().forget()
-        self.asked.patience = PATIENCE
 
 
 class Watch:
@@ -68,7 +36,6 @@ class Watch:
 
     def __init__(
         self,
-        device: str,
         shown: WatchedServer,
         notes: Notes,
         tell: Callable[[Batch], None],
@@ -78,16 +45,19 @@ class Watch:
     ):
         self.desks, self.number = desks, number
         self.thread = threading.Thread(target=self.run, daemon=True)
-        self.follower, self.shown, self.notes = Follower(device, shown), shown, notes
+        self.shown, self.notes = shown, notes
         self.suppressed = Suppressions(notes)
-        self.rows = RowCheck(drawn_of, told_of)
         self.tell, self.fail = tell, fail
         self.orders: "queue.SimpleQueue[Optional[Order]]" = queue.SimpleQueue()
+        # The plant that is shown and its era; none before one was read. Which connection has told all that is shown.
+        self.plant: Optional[FollowedPlant] = None
         self.era: Optional[str] = None
-        # The connection whose plant was held against the device's, and whether they are the same.
-        self.compared: Any = None
-        self.is_same = False
+        self.client: Optional[ServerClient] = None
+        self.moment = 0
+        self.floods: list[Flood] = []
+        self.values: dict[int, int] = {}
         self.head: dict[str, Any] = {}
+        self.check = DrawnCheck()
         self.begin(whole=True)
 
     def begin(self, whole: bool) -> None:
@@ -97,22 +67,19 @@ class Watch:
         self.events: list[list[Any]] = []
         self.moments: list[tuple[int, int]] = []
 
-    @property
-    def plant(self) -> Optional[PlantModel]:
-        return self.follower.begun.plant if self.follower.begun else None
-
     def run(self) -> None:
         try:
-            with self.follower:
-                while True:
-                    self.look()
-                    order = self.next_order()
-                    if order is STOP:
-                        return
-                    if order:
-                        self.do(order)
+            while True:
+                self.look()
+                order = self.next_order()
+                if order is STOP:
+                    return
+                if order:
+                    self.do(order)
         except Exception as fault:
             self.fail(fault)
+        finally:
+            self.shown.end()
 
     def next_order(self) -> Optional[Order]:
         try:
@@ -123,172 +90,169 @@ class Watch:
     def look(self) -> None:
         """Takes what is new, and tells it."""
         try:
-            for one in self.follower.look():
-                self.take(one)
-        except (NoDevice, FileNotFoundError) as fault:
-            self.shown.say_once(str(fault), "- trying again")
-        self.compare()
-        self.hold_rows()
+            self.follow()
+        except (Lost, Refused, OtherPlant) as fault:
+            is_earlier = isinstance(fault, Refused) and fault.refusal == Refusal.BAD_LINE
+            self.shown.end()
+            self.check.lost()
+            self.shown.say_once(EARLIER if is_earlier else str(fault), "- trying again")
+        self.client = self.shown.client
         self.notes.came(self.moments)
         self.suppressed.keep()
         self.publish()
 
-    def compare(self) -> None:
-        """Holds a new connection's plant against the device's, once a look behind it has taken the device that is there
-        now, and all that is shown of it."""
-        client, plant = self.client, self.plant
-        if client and plant and client is not self.compared and plant.count == self.shown.count:
-            self.compared = client
-            self.is_same = plant.now == self.shown.moment and fixed(plant.table()) == fixed(
-                self.shown.asked.table.alarms
-            )
+    def follow(self) -> None:
+        """Asks for what is new. A new connection may have found another plant."""
+        client, is_new = self.shown.connect(), self.shown.client is not self.client
+        overview = client.plant()
+        self.moment = overview.moment
+        if is_new and self.is_other():
+            self.read_plant(client)
+        elif is_new or known(self.plant).count != overview.count:
+            self.take_news(client, known(self.plant), is_new)
+        self.hold_rows(client, known(self.plant))
+        self.shown.heard()
 
-    def hold_rows(self) -> None:
-        """Asks the server for some rows, and holds what is drawn against them."""
-        client, plant = self.client, self.plant
-        if not client or not plant or client is not self.compared or not self.is_same:
-            return
-        alarms = len(plant.alarms)
-        numbers = self.rows.due(alarms, min(ROWS, math.ceil(alarms * PERIOD / ROUND)))
-        try:
-            self.rows.came(plant, list(zip(numbers, client.rows(numbers))))
-        except Refused:  # its storage has stopped, or it is one of before ROW
-            return
-        except (Lost, OtherPlant):
-            self.shown.end()
-            return
-        fault = self.rows.fault()
+    def hold_rows(self, client: Client, plant: FollowedPlant) -> None:
+        """Holds what is drawn against the rows that were asked at the last look, and asks for others."""
+        self.check.compare(plant.table)
+        fault = self.check.news()
         if fault:
-            self.shown.say_once(fault)
+            self.shown.say(fault)
+        self.check.ask(client, len(plant.rows), PERIOD)
 
-    @property
-    def client(self) -> Any:
-        """The connection, if there is one."""
-        return self.shown.asked.client if self.shown.is_there else None
+    def is_other(self) -> bool:
+        """Whether a new connection has another plant than the one that is shown."""
+        found = self.shown.plant
+        if self.era is None or self.plant is None or found.other:
+            return True
+        return fixed(found.table.alarms) != fixed(self.plant.table)
 
-    def take(self, one: News) -> None:
-        """Takes something new of the plant."""
-        if isinstance(one, Step):
-            self.step(one)
-        elif isinstance(one, Replaced):
-            self.era = self.compared = None
-            self.whole = True
-        else:
-            self.take_image(self.follower.mirror.plant)
-            if isinstance(one, Begun):
-                self.era, self.compared, self.events = secrets.token_hex(8), None, []
-                self.notes.load()
-                self.suppressed.begin(self.follower.mirror.plant)
-            else:
-                self.events.append(
-                    [one.last, known(self.plant).now, None, "GAP", one.last - one.first + 1, None, None, None, None]
-                )
-
-    def take_image(self, plant: PlantModel) -> None:
-        """The plant is that of an image: what led to it isn't known."""
-        self.whole = True
-        self.rows.begin()
-        self.values: dict[int, int] = {}
-        self.stamps = {alarm.number: alarm.stamp for alarm in plant.alarms if alarm.core != "NORM"}
-        self.acknowledged: dict[int, int] = {}
-
-    def step(self, step: Step) -> None:
-        """Takes an action of the plant, which is just behind it."""
-        action, plant = step.action, known(self.plant)
-        if action.word == "VAL":
-            self.values[action.alarm] = action.argument
-        if action.word == "ACK":
-            self.acknowledged[action.number] = self.stamps.get(action.alarm, 0)
-            if len(self.acknowledged) > REMEMBERED:
-                del self.acknowledged[next(iter(self.acknowledged))]
-        for change in step.changes:
-            self.changed.add(change.alarm)
-            if change.annunciated:
-                self.stamps[change.alarm] = plant.alarms[change.alarm].stamp
-        self.suppressed.step(step, plant)
-        self.rows.reached(plant)
-        self.note_events(step)
-
-    def note_events(self, step: Step) -> None:
-        """The lines of the journal: the action's number, moment, alarm, word and value, the states before and after,
-        who asked and why."""
-        action = step.action
-        for change in step.changes:
-            note = self.notes.of(action.number, step.moment, action.word, plant_tag(known(self.plant), change.alarm))
-            if note and note.moment is None:
-                self.moments.append((action.number, step.moment))
-            who = (note.user, note.reason) if note else (None, None)
-            self.events.append(
-                [
-                    action.number,
-                    step.moment,
-                    change.alarm,
-                    action.word,
-                    action.argument,
-                    change.before,
-                    change.after,
-                    *who,
-                ]
-            )
-        for flood in step.floods:
-            word = "FLOOD" if flood.flooded else "FLOOD END"
-            self.events.append(
-                [action.number, step.moment, None, word, flood.area, flood.annunciations, None, None, None]
-            )
+    def read_plant(self, client: Client) -> None:
+        """Begins with the connection's plant: all of its rows, and what its server remembers."""
+        plant = self.plant = FollowedPlant(self.shown.plant.table.alarms)
+        self.era, self.values = None, {}
+        self.begin(whole=True)
+        plant.begin(client)
+        self.check.begin()
+        self.notes.load()
+        self.suppressed.begin(plant, self.moment)
+        for entry in client.entries(client.since().first - 1):
+            if entry.action.number <= plant.count and entry.action.word != "CLOCK":
+                self.take(entry)
+                self.note_event(entry, entry.action.alarm, None, None)
         del self.events[:-EVENTS]
+        self.floods = client.floods(self.shown.plant.table.areas)
+        self.era = secrets.token_hex(8)
+
+    def take_news(self, client: Client, plant: FollowedPlant, is_new: bool) -> None:
+        """Takes what happened since the last look. By a new connection all rows are asked again."""
+        last, is_known = plant.count, True
+        try:
+            self.take_happenings(plant.look(client))
+        except Refused as refused:
+            if refused.refusal != Refusal.FORGOTTEN:
+                raise
+            is_known = False
+        if is_new or not is_known:
+            plant.begin(client)
+            self.check.lost()
+            self.whole = True
+        if not is_known:
+            self.events.append([plant.count, self.moment, None, "GAP", plant.count - last, *[None] * 5])
+        self.take_floods(client.floods(len(self.floods)))
+
+    def take_happenings(self, news: Happenings) -> None:
+        """Takes actions, and the lines of the journal that they make. A state is known before the first and behind the
+        last action of an alarm."""
+        rows, before = known(self.plant).rows, news.before
+        last = {alarm: entry.action.number for entry, alarms in news.entries for alarm in alarms}
+        shown = {alarm: row.shown for alarm, row in before.items()}
+        self.changed.update(before)
+        for entry, alarms in news.entries:
+            self.take(entry)
+            self.check.leave_out(alarms)
+            for alarm in alarms:
+                after = rows[alarm].shown if last[alarm] == entry.action.number else None
+                self.note_event(entry, alarm, shown.pop(alarm, None), after)
+        del self.events[:-EVENTS]
+
+    def take(self, entry: Entry) -> None:
+        """Takes an action of the plant."""
+        if entry.action.word == "VAL":
+            self.values[entry.action.alarm] = entry.action.argument
+        self.suppressed.take(entry, known(self.plant))
+
+    def note_event(self, entry: Entry, alarm: int, before: Optional[str], after: Optional[str]) -> None:
+        """A line of the journal: the action's number, moment, alarm, word and value, the states before and after, who
+        asked and why, and at which slot."""
+        action = entry.action
+        note = self.notes.of(action.number, entry.moment, action.word, self.tag(alarm))
+        if note and note.moment is None:
+            self.moments.append((action.number, entry.moment))
+        who = (note.user, note.reason) if note else (None, None)
+        what = [action.number, entry.moment, alarm, action.word, action.argument, before, after]
+        self.events.append([*what, *who, entry.slot])
+
+    def take_floods(self, floods: list[Flood]) -> None:
+        """Takes the areas' windows, and the lines of the journal where a flood began or ended."""
+        for area, (before, flood) in enumerate(zip(self.floods, floods)):
+            if before.flooded != flood.flooded:
+                word = "FLOOD" if flood.flooded else "FLOOD END"
+                self.events.append([flood.count, self.moment, None, word, area, flood.window, *[None] * 4])
+        self.floods = floods
 
     def publish(self) -> None:
         """Tells what is new, if anything is."""
         plant = self.plant if self.era else None
         head = self.head_of(plant)
         if self.whole or self.changed or self.events or head != self.head:
-            alarms = plant.alarms if plant else []
-            numbers: Iterable[int] = range(len(alarms)) if self.whole else self.changed if plant else ()
-            why = self.suppressed.of
-            rows = {one: row_of(alarms[one], self.values.get(one), why(alarms[one])) for one in numbers}
-            table = table_of(plant) if plant and self.whole else []
+            numbers: Iterable[int] = (range(len(plant.rows)) if self.whole else self.changed) if plant else ()
+            rows = {number: self.row_of(known(plant), number) for number in numbers}
+            self.check.drawn.update(rows)
+            table = table_of(plant.table) if plant and self.whole else []
             self.tell(Batch(self.era if plant else None, self.whole, rows, self.events, head, table))
         self.head = head
         self.begin(whole=False)
 
-    def head_of(self, plant: Optional[PlantModel]) -> dict[str, Any]:
+    def row_of(self, plant: FollowedPlant, number: int) -> list[Any]:
+        """What the page shows of an alarm."""
+        row = plant.rows[number]
+        why = self.suppressed.of(number, row.flags)
+        return row_of(number, plant.table[number], row, self.values.get(number), why)
+
+    def head_of(self, plant: Optional[FollowedPlant]) -> dict[str, Any]:
         """What is shown of the plant beside its alarms."""
         head: dict[str, Any] = {"fault": self.notes.fault, "trouble": self.trouble(), "denied": self.denied()}
         if self.desks:
             head["held"] = self.desks.holders()
         if plant:
-            head |= {
-                "now": plant.now,
-                "count": plant.count,
-                "floods": [[window.total, int(window.flooded)] for window in plant.windows],
-            }
+            floods = [[flood.window, int(flood.flooded)] for flood in self.floods]
+            head |= {"now": self.moment, "count": plant.count, "floods": floods}
         return head
 
     def denied(self) -> list[str]:
         """The tags of the alarms whose row the server denies."""
-        return [plant_tag(known(self.plant), number) for number in self.rows.denied]
+        return [self.tag(alarm) for alarm in self.check.denied]
 
     def trouble(self) -> str:
-        """Why the list may be old although a server answers; empty where it isn't."""
-        if not self.client:
-            return self.shown.said
-        if self.compared is not self.client or self.plant is None or self.plant.count < self.shown.count:
-            return self.shown.said or READING
-        return "" if self.is_same else OTHER_DEVICE
+        """Why the list may be old; empty where it isn't."""
+        return "" if self.client and self.era else self.shown.said or READING
 
     def blocked(self, order: Order) -> str:
         """Why nothing can be asked; empty where it can."""
         if not self.client:
             return NO_SERVER
-        if order.era != self.era or self.plant is None or self.compared is not self.client or not self.is_same:
-            return OTHER_PLANT
-        return ""
+        return OTHER_PLANT if order.era != self.era else ""
+
+    def tag(self, alarm: int) -> str:
+        return known(self.plant).table[alarm].tag
 
     def note_shift(self, order: Order) -> None:
         """Notes that a position was taken or left, and what stands there, once that is shown."""
         position, plant = known(self.desks).positions[known(order.value)], self.plant
         stands = standing(plant, position, self.number) if plant else []
-        self.notes.shift(order.asker, position.name, order.word, plant.now if plant else None, stands)
+        self.notes.shift(order.asker, position.name, order.word, self.moment if plant else None, stands)
         self.look()
         order.answer([Answer(0, "done", None, "")])
 
@@ -302,8 +266,7 @@ class Watch:
             why = self.blocked(order)
             answers += [Answer(alarm, "refused", None, why) for alarm, _ in part] if why else self.do_part(order, part)
         self.look()
-        seen = dict(order.alarms)
-        order.answer([self.judged(order, answer, seen[answer.alarm]) for answer in answers])
+        order.answer(answers)
 
     def do_part(self, order: Order, part: list[tuple[int, int]]) -> list[Answer]:
         """Asks for the actions whose annunciation is the one that was seen."""
@@ -311,10 +274,11 @@ class Watch:
             Answer(alarm, "refused", None, why) for alarm, stamp in part if (why := self.unfit(order, alarm, stamp))
         ]
         kept = {answer.alarm for answer in unfit}
-        fit = [alarm for alarm, _ in part if alarm not in kept]
-        words = [(order.word, plant_tag(known(self.plant), alarm), order.value) for alarm in fit]
+        fit = [(alarm, stamp) for alarm, stamp in part if alarm not in kept]
+        words = [(order.word, self.tag(alarm), order.value) for alarm, _ in fit]
         rows = self.notes.asking(order.asker, words)
-        answers = [answer_of(alarm, reply) for alarm, reply in zip(fit, self.ask(list(map(order.request, fit))))]
+        replies = self.ask([order.request(alarm, stamp) for alarm, stamp in fit])
+        answers = [answer_of(alarm, reply) for (alarm, _), reply in zip(fit, replies)]
         outcomes = [OK if one.number else LOST if one.outcome == "lost" else one.said for one in answers]
         self.notes.answered(
             order.asker,
@@ -328,19 +292,20 @@ class Watch:
     def unfit(self, order: Order, alarm: int, stamp: int) -> str:
         """Why an action isn't asked: the alarm isn't there, or isn't annunciated as it was seen where the action is
         bound to that. Else empty."""
-        if alarm >= len(known(self.plant).alarms):
+        plant = known(self.plant)
+        if alarm >= len(plant.rows):
             return REASONS[Refusal.NO_SUCH_ALARM]
-        found = known(self.plant).alarms[alarm]
-        if order.areas is not None and (self.number, found.attributes.area) not in order.areas:
+        row = plant.rows[alarm]
+        if order.areas is not None and (self.number, plant.table[alarm].area) not in order.areas:
             return OTHER_AREA
-        if order.word not in SEEN or (found.core != "NORM" and found.stamp == stamp):
+        if order.word not in SEEN or (is_annunciated(row) and row.stamp == stamp):
             return ""
-        return REASONS[SEEN[order.word]] if found.core == "NORM" else AGAIN
+        return AGAIN if is_annunciated(row) else REASONS[SEEN[order.word]]
 
     def ask(self, requests: list[str]) -> list[Any]:
         """The replies to requests; none for those that had none."""
         replies: list[Any] = []
-        client = known(self.shown.asked.client)
+        client = known(self.shown.client)
         try:
             client.socket.settimeout(ACTION_PATIENCE)
             for reply in client.ask_all(requests):
@@ -350,19 +315,9 @@ class Watch:
             self.shown.end()
         return replies + [None] * (len(requests) - len(replies))
 
-    def judged(self, order: Order, answer: Answer, stamp: int) -> Answer:
-        """Says so where an acknowledgement took an annunciation that nobody had seen: it came between the look and the
-        action."""
-        taken = self.acknowledged.get(answer.number) if order.word == "ACK" and answer.number else None
-        return answer if taken in (None, stamp) else answer._replace(said=ALSO_AGAIN)
-
 
 # In the place of an order: the thread ends.
 STOP: Any = object()
-
-
-def plant_tag(plant: PlantModel, alarm: int) -> str:
-    return plant.alarms[alarm].attributes.tag
 
 
 def parts(alarms: list[tuple[int, int]]) -> Iterator[list[tuple[int, int]]]:

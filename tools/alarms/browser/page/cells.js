@@ -5,7 +5,7 @@ import {BY_DESIGN, SHELVED, WORDS, isAnnunciated, isChattering, isStale} from ".
 import {alarmOf, areSeveral, areaName, isLeftOut} from "./state.js";
 import {shownValue} from "./values.js";
 import {columns, whyOf} from "./views.js";
-import {happening, span, time} from "./words.js";
+import {asker, happening, span, time} from "./words.js";
 /** @typedef {import("./model.js").Row} Row */
 /** @typedef {import("./model.js").Event} Event */
 
@@ -73,7 +73,7 @@ export function textsOf(/** @type {Event} */ event) {
   return [["time", time(event.moment, plant)], ["number", String(event.number)],
     ...(areSeveral() ? [/** @type {[string, string]} */ (["plant", plant.name])] : []),
     ["tag", alarm === null ? "" : plant.table[alarm].tag], ["text", happening(event)],
-    ["state", t(WORDS[event.after ?? ""] ?? "")], ["user", event.user ?? ""], ["reason", event.reason ?? ""]];
+    ["state", t(WORDS[event.after ?? ""] ?? "")], ["user", asker(event)], ["reason", event.reason ?? ""]];
 }
 
 /** The cells of an event. */

@@ -3,6 +3,8 @@ import {w} from "./language.js";
 
 /** How many alarms and areas a plant has at most: by these the ids of several plants go on. */
 export const ALARMS = 16384, AREAS = 64;
+/** The slots of consoles are those below. */
+export const CONSOLES = 16;
 /** The flags of a row. */
 export const SHELVED = 1, BY_DESIGN = 2, OUT_OF_SERVICE = 4;
 /** @type {Record<string, string>} */
@@ -11,6 +13,7 @@ export const WORDS = {
   LATAK: w("Latched"), SHLVD: w("Shelved"), DSUPR: w("By design"), OOSRV: w("Out of service"),
 };
 export const UNACKNOWLEDGED = new Set(["UNACK", "RTNUN", "LATUN"]);
+export const SUPPRESSED = new Set(["SHLVD", "DSUPR", "OOSRV"]);
 export const ANNUNCIATED = new Set([...UNACKNOWLEDGED, "ACKED", "LATAK"]);
 /** Seconds of a day. */
 export const DAY = 86400;
@@ -90,10 +93,11 @@ export const DAY = 86400;
  * @property {number | null} alarm
  * @property {string} word
  * @property {number} value
- * @property {string | null} before
- * @property {string | null} after
+ * @property {string | null} before none where it isn't known
+ * @property {string | null} after none where it isn't known
  * @property {string | null} user
  * @property {string | null} reason
+ * @property {number | null} slot which asked
  * @property {Plant} plant
  */
 
@@ -147,8 +151,8 @@ export function readAlarm(told, details) {
  * @returns {Event}
  */
 export function readEvent(told, plant) {
-  const [number, moment, alarm, word, value, before, after, user, reason] = told;
-  return {number, moment, alarm, word, value, before, after, user, reason, plant};
+  const [number, moment, alarm, word, value, before, after, user, reason, slot] = told;
+  return {number, moment, alarm, word, value, before, after, user, reason, slot, plant};
 }
 
 export const isUnacknowledged = (/** @type {Row} */ row) => UNACKNOWLEDGED.has(row.shown);

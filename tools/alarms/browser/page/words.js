@@ -1,6 +1,6 @@
 // Moments, spans and events in words.
 import {t} from "./language.js";
-import {DAY} from "./model.js";
+import {CONSOLES, DAY, SUPPRESSED} from "./model.js";
 import {areaName} from "./state.js";
 import {withUnit} from "./values.js";
 /** @typedef {import("./model.js").Plant} Plant */
@@ -39,7 +39,8 @@ const valueOf = (/** @type {Event} */ event) => withUnit(event.plant.table[event
 const HAPPENINGS = {
   VAL: event => {
     const value = valueOf(event);
-    if (event.after === event.before) return t("value {value}, suppressed", {value});
+    if (event.after === null) return t("value {value}", {value});
+    if (SUPPRESSED.has(event.after)) return t("value {value}, suppressed", {value});
     return event.after === "UNACK" ? t("came at {value}", {value}) : t("returned at {value}", {value});
   },
   ACK: () => t("acknowledged"),
@@ -55,6 +56,12 @@ const HAPPENINGS = {
   "FLOOD END": event => t("{area}: the flood ended", {area: areaName(event.plant, event.value)}),
   GAP: event => t("{count} actions aren't known: the file no longer has them", {count: event.value}),
 };
+
+/** Who asked, as far as that is known: a user of this list, or the slot of another console. */
+export function asker(/** @type {Event} */ event) {
+  const {user, slot} = event, isConsole = slot !== null && slot < CONSOLES;
+  return user ?? (isConsole ? t("slot {slot}", {slot}) : "");
+}
 
 /** What happened, in words. */
 export const happening = (/** @type {Event} */ event) => (HAPPENINGS[event.word] ?? HAPPENINGS.GAP)(event);
