@@ -57,7 +57,8 @@ class List:
     def __init__(self, yard: Yard, device: str, port: int, *words: object, listen: bool = True):
         self.folder = yard.folder
         places = ("--listen", "0") if listen else ()
-        self.words = module("browser", device, "--port", port, *places, *words)
+        names = () if "--name" in words else ("--name", os.path.splitext(os.path.basename(device))[0])
+        self.words = module("browser", "--port", port, *names, *places, *words)
         self.start()
 
     def start(self) -> None:

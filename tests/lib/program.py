@@ -17,8 +17,10 @@ from .places import EXAMPLES, TESTS
 
 PLANT = str(EXAMPLES / "plant.toml")
 
-# What drawn lines ask besides actions.
+# What drawn lines ask besides plain actions. Each reply is of the plant alone: what SINCE tells of the actions up to a
+# count goes by the program that counts them, so here it has no entry, or the number is none.
 QUERIES = ["LIST P 1", "LIST A 0", "STATE 0", "CHATTER", "NOTHING", "FLOOD 1", "ATTR 1", "ROW 1", "PLANT"]
+QUERIES += ["SINCE 281474976710656", "SINCE 281474976710657", "SINCE 01"]
 
 # Where the first of a server's ports is looked for: below those that the system gives to clients.
 PORTS = (10_000, 32_000)
@@ -122,9 +124,10 @@ def ends(run, fault, *words):
     return name
 
 
-def run_words(program, words, loaded=None, lines=b""):
+def run_words(program, words, loaded=None, lines=b"", patience=60):
+    """The program's run with these words, over so many seconds at most."""
     return subprocess.run(
-        [program, *words], input=lines, capture_output=True, env={**os.environ, **(loaded or {})}, timeout=60
+        [program, *words], input=lines, capture_output=True, env={**os.environ, **(loaded or {})}, timeout=patience
     )
 
 
@@ -154,7 +157,7 @@ def draw_lines(seed, count):
         if kind < 7:
             line = f"16 {number} VAL {alarm} {dice.choice([0, 1, 49, 50, 90, 110, 789, 790, 800, 900])}"
         elif kind < 10:
-            line = f"{console} {number} ACK {alarm}"
+            line = f"{console} {number} ACK {alarm}" + dice.choice(["", f" {dice.randrange(1, 2 + number // 3)}"])
         elif kind == 10:
             line = f"{console} {number} SHELVE {alarm} {dice.randrange(1, 4000)}"
         elif kind == 11:

@@ -30,6 +30,7 @@ NUMBERS = {
     "alarms-feed": 64_002,
     "alarms-clock": 64_003,
     "alarms-metrics": 64_004,
+    "alarms-list": 64_006,
 }
 # Who connects: user, own group, further groups; and to which slots they may.
 WHO = [
@@ -39,6 +40,7 @@ WHO = [
     ("the feed", 64_002, 64_002, [], {FEED}),
     ("the clock", 64_003, 64_003, [], {CLOCK}),
     ("the metrics", 64_004, 64_004, [], {15}),
+    ("the alarm list", 64_006, 64_007, [], {12}),
     ("the server's own user", 64_005, 64_005, [], set()),
     ("another user", 64_011, 64_011, [], set()),
 ]

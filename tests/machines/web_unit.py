@@ -72,6 +72,8 @@ def web_part():
             found.st_gid,
         )
     await_true("the list by the web part", lambda: b'"TI-101"' in told_by_web())
+    runs_as = os.stat(f"/proc/{output('systemctl', 'show', '-P', 'MainPID', LIST_UNIT).strip()}").st_uid
+    check(runs_as == int(output("id", "-u", "alarms-list")), "the list's unit runs as", runs_as)
     found = broken_into()
     uids = {name: int(output("id", "-u", name)) for name in ("alarms", "alarms-web")}
     check(found.pop("uid") == uids["alarms-web"] != uids["alarms"], "it runs as", found)

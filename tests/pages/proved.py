@@ -18,6 +18,7 @@ GROUPS = {
         "alm_types",
         "alm_state",
         "alm_model",
+        "alm_events",
         "alm_laws",
         "alm_links",
         "alm_wheel",

@@ -2,10 +2,10 @@
 """The built program over each example: what it prints, and its status.
 
 Each folder of examples/ with a `stdin` has a `stdout` beside it: what the desk prints for it, over a copy of
-`plant.device` where the folder has one. Without words the program says `fault usage`. `refinery.toml` is what
-`make_refinery.py` prints. Each fault of a table file that docs/TABLE.md lists is told by its line, and but for
-`too-small` no file is made. `alarms_alone` of deploy/standby/ resumes nothing that the other machine's switch doesn't
-allow: switch and DRBD are played by scripts.
+`plant.device` where the folder has one. The desk answers the blocks of docs/PROTOCOL.md as they stand. Without words
+the program says `fault usage`. `refinery.toml` is what `make_refinery.py` prints. Each fault of a table file that
+docs/TABLE.md lists is told by its line, and but for `too-small` no file is made. `alarms_alone` of deploy/standby/
+resumes nothing that the other machine's switch doesn't allow: switch and DRBD are played by scripts.
 """
 import os
 import re
@@ -17,6 +17,8 @@ from lib.places import AT_TOOLS, DEPLOY, DOCS, EXAMPLES
 from lib.program import Wrong, begin, check, finish, run_words
 
 TABLE = DOCS / "TABLE.md"
+# A block of a page in which a desk is asked and answers, and its lines.
+EXCHANGE = re.compile(rb"```\n((?:[<>] [^\n]+\n)+)```")
 # A whole table, and for each row of the page changes of it with the line that each of them brings about.
 HEAD, FIRST = (
     "size = 28997\nareas = 2\n",
@@ -81,6 +83,18 @@ def run_example(program, name, folder):
     run = run_words(program, words_of(example, folder), lines=read(example, "stdin"))
     check((run.returncode, run.stderr) == (0, b""), name, run.returncode, run.stderr)
     check(run.stdout == read(example, "stdout"), name, "printed", run.stdout)
+
+
+def run_exchanges(program):
+    """The desk over the lines of each block of the page about them, from a new plant on; how many blocks there are."""
+    blocks = EXCHANGE.findall(read(DOCS, "PROTOCOL.md"))
+    for block in blocks:
+        lines = block.splitlines(True)
+        asked, told = ([line[2:] for line in lines if line[:1] == mark] for mark in (b">", b"<"))
+        run = run_words(program, ["desk"], lines=b"".join(asked))
+        check(run.stdout.splitlines(True) == told, "of the page's lines", asked, "it printed", run.stdout)
+    check(len(blocks) == 3, "the page has other blocks of lines:", len(blocks))
+    return len(blocks)
 
 
 def run_without_words(program):
@@ -171,6 +185,7 @@ def main():
         check(len(found) >= 2, "examples are missing:", found)
         for name in found:
             run_example(program, name, folder)
+        blocks = run_exchanges(program)
         run_without_words(program)
         run_maker()
         run_faults(program, folder)
@@ -183,8 +198,8 @@ def main():
         "examples",
         folder,
         (
-            f"{len(found)} examples, no words, the refinery, {len(FAULTS)} faults of tables, and {len(ALONE)} words of"
-            " a switch"
+            f"{len(found)} examples, {blocks} blocks of a page, no words, the refinery, {len(FAULTS)} faults of tables,"
+            f" and {len(ALONE)} words of a switch"
         ),
     )
 

@@ -8,7 +8,8 @@ dropped or lengthened, a space, a zero or a carriage return too many. The readin
 It says which lines are bad or too long, and with which id they are refused; which roles may ask what; what a reply to a
 good line may look like. Where the line alone decides the refusal, it has to be that one. Each action has to be accepted
 in a run, and refused in each of its ways. Each good line that this leaves open has to be answered as plain_plant.py
-answers it after the lines before, to the byte.
+answers it after the lines before, to the byte. Before that a desk accepts more actions than it remembers, and is opened
+again.
 """
 import multiprocessing
 import os
@@ -17,35 +18,14 @@ import re
 import sys
 import time
 
-from plain_plant import Plant
-from lib.program import Wrong, begin, check, finish, run_words
+from drawn_lines import draw_line
+from plain_plant import REMEMBERED, Plant
+from lib.program import PLANT, Wrong, begin, check, finish, run_words
 
 CHUNK = 20_000
+# Seconds that a desk may take for its lines.
+PATIENCE = 600
 
-NUMBERS = [
-    0,
-    1,
-    2,
-    3,
-    4,
-    9,
-    10,
-    99,
-    255,
-    256,
-    3600,
-    3601,
-    65535,
-    2**31,
-    2**32 - 1,
-    2**32,
-    2**40 - 1,
-    2**40,
-    10**12,
-    10**12 + 1,
-    2**64,
-    2**64 + 1,
-]
 # The actions of each role, and the refusals that an alarm's state brings about.
 CONSOLE = {
     b"ACK": b"2",
@@ -62,6 +42,7 @@ ROLES = [*[CONSOLE] * 16, FEED, CLOCK]
 ACTIONS = {**CONSOLE, **FEED, **CLOCK}
 # Refusals that a line decides alone.
 BESIDES = {b"PRIO": b"19"}
+DECIDED = (b"NO 13", b"NO 14", b"NO 11", b"NO 1", b"NO 17")
 # Priorities, the alarm that latches, those that may be shelved, and for how long.
 RANKS, LATCHING, SHELVABLE, SECONDS = range(1, 5), (2,), (0, 1), range(1, 3601)
 
@@ -71,6 +52,7 @@ NUM = rb"(?:0|[1-9]\d*)"
 REQUEST = re.compile(
     rb"(?P<id>NUM) (?:"
     rb"(?P<one>ACK|RESET|UNSHELVE|STATE|ATTR|ROW) (?P<alarm>NUM)"
+    rb"|(?P<bound>ACK) (?P<acked>NUM) (?P<stamp>NUM)"
     rb"|(?P<shelve>SHELVE) (?P<shelved>NUM) (?P<secs>NUM)"
     rb"|(?P<flag>OOS|DESIGN) (?P<flagged>NUM) (?P<how>ON|OFF)"
     rb"|(?P<prio>PRIO) (?P<ranked>NUM) (?P<rank>NUM)"
@@ -78,13 +60,17 @@ REQUEST = re.compile(
     rb"|(?P<clock>CLOCK) (?P<moment>NUM)"
     rb"|(?P<list>LIST) (?P<which>[PAS]) (?P<number>NUM)"
     rb"|(?P<flood>FLOOD) (?P<area>NUM)"
+    rb"|(?P<since>SINCE)(?: (?P<after>NUM))?"
     rb"|(?P<all>STALE|CHATTER|PLANT))".replace(b"NUM", rb"(?:0|[1-9]\d*)")
 )
-WORDS = ("one", "shelve", "flag", "prio", "val", "clock", "list", "flood", "all")
-ALARMS = ("alarm", "shelved", "flagged", "ranked", "valued")
+WORDS = ("one", "bound", "shelve", "flag", "prio", "val", "clock", "list", "flood", "since", "all")
+ALARMS = ("alarm", "acked", "shelved", "flagged", "ranked", "valued")
 LIMITS = [
     ("id", 2**32),
     ("alarm", 2**32),
+    ("acked", 2**32),
+    ("stamp", 2**63),
+    ("after", 2**48 + 1),
     ("shelved", 2**32),
     ("secs", 2**32),
     ("flagged", 2**32),
@@ -150,6 +136,8 @@ def read_action(word, found):
         if int(found["secs"]) not in SECONDS:
             return refusals_of(refusals.split())
         refusals = b"4"
+    if found["bound"]:
+        refusals = b"2 22"
     if found["how"]:
         refusals = b"7" if found["how"] == b"ON" else b"8"
     return b"(?:OK [1-9]\\d*|" + refusals_of(refusals.split()) + b")"
@@ -166,8 +154,10 @@ def outcomes(word):
 
 
 def outcome(line, reply):
-    """A line's word, and the reply's or its refusal."""
+    """A line's word, and the reply's or its refusal; of a reply to SINCE how many entries it has."""
     words = reply.split(b" ")[2:]
+    if words[0] == b"SINCE":
+        return b"SINCE", {b"0": b"none", b"256": b"most"}.get(words[3], b"some")
     return line.split(b" ")[2], b" ".join(words) if words[0] == b"NO" else words[0]
 
 
@@ -179,6 +169,8 @@ def read_query(word, found):
         return rb"ATTR \d+ [^\n]+"
     if word == b"ROW":
         return rb"ROW \d+ [A-Z]{4,5} [01] (?:-|O?D?S?) (?:-|\d+) \d+ [1-4] -?\d+ (?:0|1 \d+|2(?: \d+){2}|3(?: \d+){3})"
+    if word == b"SINCE":
+        return rb"SINCE \d+ [1-9]\d* (?:0|[1-9]\d*(?: \d+ \d+ [A-Z]+(?: -?\d+| ON| OFF){1,2})+)"
     if word == b"PLANT":
         return rb"PLANT \d+ \d+ 4 2"
     low, high = lists[found["which"]] if found["which"] else (0, 1)
@@ -190,154 +182,108 @@ def read_query(word, found):
     return word + rb" \d+ (?:0|1 [0-3]|2(?: [0-3]){2}|3(?: [0-3]){3}|4(?: [0-3]){4})"
 
 
-def is_as_modelled(plant, line, reply):
-    """Whether a reply to a good line is the model's. Refusals by slot, number of alarm or of list are read from the
-    line alone."""
-    asked, told = line.decode().split(" ")[2:], reply.decode().split(" ", 2)[2]
-    return told in ("NO 11", "NO 1", "NO 17") or told == plant.answer(asked)
+def modelled(plant, line, wanted):
+    """The model's reply to a line; that which is wanted where it is a refusal by the line alone: of a bad line, by
+    slot, number of alarm or of list."""
+    if wanted.endswith(DECIDED):
+        return wanted.replace(b"\\", b"")
+    slot, number, *asked = line.decode().split(" ")
+    return f"{slot} {number} {plant.answer(asked, int(slot))}".encode()
 
 
-def draw_number(dice):
-    kind = dice.randrange(8)
-    if kind < 5:
-        return dice.randrange(4)
-    return dice.choice(NUMBERS) if kind < 7 else dice.getrandbits(dice.randrange(1, 72))
+def draw_chunk(seed):
+    """Drawn lines: each with the pattern of its reply, and the model's reply behind the lines before."""
+    dice, plant = random.Random(seed), Plant()
+    for _ in range(CHUNK):
+        line = draw_line(dice, plant)
+        wanted = read(line)
+        yield line, wanted, modelled(plant, line, wanted)
 
 
-def draw_request(dice):
-    """A drawn request: its word and its numbers, most of which are fit."""
-    word = dice.choice(
-        [
-            "ACK",
-            "RESET",
-            "SHELVE",
-            "UNSHELVE",
-            "OOS",
-            "DESIGN",
-            "PRIO",
-            "SETP",
-            "VAL",
-            "VAL",
-            "CLOCK",
-            "STATE",
-            "LIST",
-            "FLOOD",
-            "STALE",
-            "CHATTER",
-            "PLANT",
-            "ATTR",
-            "ROW",
-            "ROW",
-            "ROW",
-        ]
-    )
-    fields = [word]
-    if word == "LIST":
-        fields.append(dice.choice("PAS"))
-    if word not in ("STALE", "CHATTER", "PLANT"):
-        fields.append(str(2 if word == "RESET" and dice.randrange(2) else draw_number(dice)))
-    if word in ("SHELVE", "PRIO"):
-        fields.append(str(draw_number(dice)))
-    if word in ("VAL", "SETP"):
-        fields.append(dice.choice(["", "", "-"]) + str(draw_number(dice)))
-    if word in ("OOS", "DESIGN"):
-        fields.append(dice.choice(["ON", "OFF"]))
-    return fields
-
-
-def break_fields(dice, fields):
-    at, kind = dice.randrange(len(fields)), dice.randrange(6)
-    if kind == 0:
-        fields.insert(at, fields[at])
-    elif kind == 1:
-        del fields[at]
-    elif kind == 2:
-        fields[at] += dice.choice([" ", "\r", "0", "\t", "\0", "-"])
-    elif kind == 3:
-        fields[at] = dice.choice([" ", "0", "-", "+"]) + fields[at]
-    elif kind == 4:
-        fields[at] = fields[at].lower()
-    else:
-        fields[at] += "7" * dice.randrange(1, 140)
-
-
-def break_bytes(dice, line):
-    at = dice.randrange(len(line) + 1)
-    kind = dice.randrange(4)
-    if kind == 0 and at < len(line):
-        line[at] ^= 1 << dice.randrange(8)
-    elif kind == 1:
-        line[at:at] = bytes([dice.randrange(256)])
-    elif kind == 2:
-        del line[at : at + 1]
-    else:
-        line += b"A" * (dice.randrange(124, 135) - len(line))
-
-
-def draw_line(dice):
-    """A line without its LF."""
-    fields = [
-        str(dice.choice([0, 15, 16, 16, 16, 17, 17, 18, dice.randrange(20)])),
-        str(draw_number(dice)),
-        *draw_request(dice),
-    ]
-    if dice.randrange(3) == 0:
-        break_fields(dice, fields)
-    line = bytearray(" ".join(fields), "latin-1")
-    if dice.randrange(4) == 0:
-        break_bytes(dice, line)
-    return bytes(line).replace(b"\n", b"")
+def run_desk(program, lines, *device):
+    """A desk's replies to lines."""
+    run = run_words(program, ["desk", *device], lines=b"".join(line + b"\n" for line in lines), patience=PATIENCE)
+    check(run.returncode == 0 and run.stderr == b"", run.returncode, run.stderr)
+    replies = run.stdout.split(b"\n")
+    check(len(replies) == len(lines) + 1, len(replies), "replies to", len(lines), "lines")
+    return replies
 
 
 def try_chunk(job):
     """How many of a chunk's lines were good and how actions were answered, or what is wrong."""
     program, seed = job
-    dice = random.Random(seed)
-    lines = [draw_line(dice) for _ in range(CHUNK)]
-    run = run_words(program, ["desk"], lines=b"".join(line + b"\n" for line in lines))
+    drawn = list(draw_chunk(seed))
     try:
-        check(run.returncode == 0 and run.stderr == b"", seed, run.returncode, run.stderr)
-        replies = run.stdout.split(b"\n")
-        check(len(replies) == CHUNK + 1, seed, len(replies))
-        good, seen, plant = 0, set(), Plant()
-        for line, reply in zip(lines, replies):
-            wanted = read(line)
+        good, seen = 0, set()
+        for (line, wanted, by_model), reply in zip(drawn, run_desk(program, [line for line, _, _ in drawn])):
             check(re.fullmatch(wanted, reply), seed, line, "was answered", reply, "and not", wanted)
+            check(reply == by_model, seed, line, "was answered", reply, "and by the model", by_model)
             if not wanted.endswith((b"NO 13", b"NO 14")):
                 good += 1
                 seen.add(outcome(line, reply))
-                check(
-                    is_as_modelled(plant, line, reply),
-                    seed,
-                    line,
-                    "was answered",
-                    reply,
-                    "in the state of",
-                    vars(plant),
-                )
         return good, seen
     except Wrong as wrong:
-        return str(wrong)
+        return f"{seed}: {wrong}"
+
+
+def looks(count):
+    """Looks at the ends of what may be remembered behind this number of actions."""
+    oldest = max(0, count - REMEMBERED)
+    numbers = ["", 0, max(0, oldest - 1), oldest, oldest + 1, max(0, count - 256), max(0, count - 1), count, count + 1]
+    return [f"0 2 SINCE {number}".rstrip().encode() for number in numbers]
+
+
+def answers_as_modelled(program, plant, last, *device):
+    """Moves a plant's clock in a desk up to an action, and looks at what is remembered; how many lines were answered as
+    the model answers them, to the byte."""
+    lines = looks(plant.count)
+    for moment in range(plant.count + 1, last + 1):
+        lines.append(b"17 1 CLOCK %d" % moment)
+        if moment in (1, 257, REMEMBERED - 1, REMEMBERED, REMEMBERED + 1, last):
+            lines += looks(moment)
+    for line, reply in zip(lines, run_desk(program, lines, *device)):
+        by_model = modelled(plant, line, b"")
+        check(reply == by_model, "of", plant.count, line, "was answered", reply, "and by the model", by_model)
+    return len(lines)
+
+
+def remembers(program, folder):
+    """More actions than are remembered; and a device that is opened again. How many lines were answered."""
+    asked = answers_as_modelled(program, Plant(), REMEMBERED + 300)
+    device, plant = os.path.join(folder, "device"), Plant()
+    run = run_words(program, ["format", device, PLANT])
+    check(run.returncode == 0, "format", run.stderr)
+    for last in (300, 300, 310):
+        asked += answers_as_modelled(program, plant, last, device)
+        plant.begin()
+    return asked
 
 
 def main():
     program, lines, folder = begin("lines", sys.argv, 10_000_000, 200_000)
     started = time.monotonic()
     good, seen = 0, set()
-    with multiprocessing.Pool(os.cpu_count()) as pool:
-        for answer in pool.imap_unordered(try_chunk, [(program, seed) for seed in range(lines // CHUNK)]):
-            if isinstance(answer, str):
-                sys.exit(f"lines: {answer}")
-            good, seen = good + answer[0], seen | answer[1]
+    try:
+        with multiprocessing.Pool(os.cpu_count()) as pool:
+            remembering = pool.apply_async(remembers, (program, folder))
+            for answer in pool.imap_unordered(try_chunk, [(program, seed) for seed in range(lines // CHUNK)]):
+                if isinstance(answer, str):
+                    sys.exit(f"lines: {answer}")
+                good, seen = good + answer[0], seen | answer[1]
+            asked = remembering.get()
+    except Wrong as wrong:
+        sys.exit(f"lines: {wrong}")
     queries = {(b"ATTR", b"ATTR"), (b"ATTR", b"NO 1"), (b"PLANT", b"PLANT")}
-    queries |= {(b"ROW", b"ROW"), (b"ROW", b"NO 1")}
+    queries |= {(b"ROW", b"ROW"), (b"ROW", b"NO 1"), (b"ACK", b"NO 22")}
+    queries |= {(b"SINCE", length) for length in (b"none", b"some", b"most")}
     missing = ({(word, how) for word in ACTIONS for how in outcomes(word)} | queries) - seen
     if missing:
         sys.exit(f"lines: never seen: {sorted(missing)}")
     finish(
         "lines",
         folder,
-        f"{lines} lines, {good} of them good, none read in another way, {time.monotonic() - started:.0f} s",
+        f"{lines} lines, {good} of them good, and {asked} around what is remembered: none read in another way,"
+        f" {time.monotonic() - started:.0f} s",
     )
 
 

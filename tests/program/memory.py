@@ -38,6 +38,8 @@ from lib.program import (
 )
 
 LISTS = (b"LIST", b"STALE", b"CHATTER")
+# The first words of the replies that a desk has to have given without a request for memory.
+KINDS = b"OK NO STATE LIST FLOOD CHATTER PLANT ATTR ROW SINCE".split()
 OUT = 64  # so many requests of a connection may be unanswered
 
 
@@ -175,6 +177,11 @@ class CountedServer:
                     return struct.unpack("<Q", first)[0]
 
 
+def with_looks(lines):
+    """Desk lines, with a look at what is remembered behind each tenth."""
+    return [part for at, line in enumerate(lines) for part in ([line] if at % 10 else [line, b"0 1 SINCE\n"])]
+
+
 class Steady:
     """Counts requests for memory behind the first few hundred lines."""
 
@@ -200,17 +207,15 @@ class Steady:
 
     def desk(self, body=""):
         """Whether more lines made no more requests. They have actions, refusals, queries and checkpoints among them."""
-        few = draw_lines(11, 400)
-        lines = draw_lines(11, 400 + self.more)
-        check(lines[:400] == few, "the lines don't begin alike")
+        few = with_looks(draw_lines(11, 400))
+        lines = with_looks(draw_lines(11, 400 + self.more))
+        check(lines[: len(few)] == few, "the lines don't begin alike")
         first, _ = self.desk_requests(few, body)
         all_of_them, replies = self.desk_requests(lines, body)
-        kinds = collections.Counter(reply.split()[2] for reply in replies[400:])
-        check(
-            min(kinds[word] for word in b"OK NO STATE LIST FLOOD CHATTER PLANT ATTR ROW".split()) >= self.more // 400,
-            "too few of",
-            kinds,
-        )
+        kinds = collections.Counter(reply.split()[2] for reply in replies[len(few) :])
+        check(min(kinds[word] for word in KINDS) >= self.more // 800, "too few of", kinds)
+        longest = max(int(reply.split()[5]) for reply in replies if reply.split()[2] == b"SINCE")
+        check(longest == 256, "no reply to SINCE has 256 entries")
         epoch = int(run_words(self.program, ["show", self.device]).stdout.split()[5])
         check(epoch > 5, "no checkpoints, epoch", epoch)
         return first == all_of_them
@@ -220,9 +225,8 @@ class Steady:
         checkpoints."""
         self.fresh()
         values = [(16, f"VAL 0 {800 if number % 2 else 700}") for number in range(self.more // 4)]
-        others = [
-            (0, request) for request in ("STATE 0", "RESET 0", "FLOOD 1", "LIST P 1", "LIST A 0", "CHATTER", "ACK 9")
-        ]
+        asked = "STATE 0;RESET 0;FLOOD 1;LIST P 1;LIST A 0;CHATTER;ACK 9;ACK 0 0;SINCE".split(";")
+        others = [(0, request) for request in asked]
         with CountedServer(self.program, self.device, self.library, body) as server:
             server.requests(values[:100] + others)
             actions, replies = server.requests(values)
@@ -230,7 +234,7 @@ class Steady:
             clocks, replies = server.requests((17, f"CLOCK {number}") for number in range(1, 101))
             check(replies["OK"] == 100, "refused", replies)
             none, replies = server.requests(others * 50)
-            check(replies["NO"] == 100, "not refused", replies)
+            check((replies["NO"], replies["SINCE"]) == (150, 50), "not refused, or not told", replies)
             batched, refused = server.together(0, "ACK 9", 50)
             check(refused, "not refused")
         return (actions, clocks, none, batched) == (len(values), 100, 0, 0)

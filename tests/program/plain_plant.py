@@ -12,6 +12,8 @@ TABLE = [
     ("HIGH", 50, 0, 3, 1, 0, "OFF", "LI-202"),
 ]
 AREAS = 2
+# How many accepted actions are remembered, and how many of them a reply to SINCE tells.
+REMEMBERED, TOLD = 65_536, 256
 
 
 class Alarm:
@@ -56,10 +58,18 @@ class Plant:
         self.now, self.count, self.orders = 0, 0, 0
         self.alarms = [Alarm(*attributes) for attributes in TABLE]
         self.flooded, self.annunciated = [False] * AREAS, [[] for _ in range(AREAS)]
+        self.begin()
 
-    def answer(self, words):
-        """What a good line is answered whose slot may ask it and whose alarm or list there is."""
+    def begin(self):
+        """A program opens the plant: of the actions before it nothing is remembered. Each later one has an entry: the
+        moment behind it, the slot that asked, and the words."""
+        self.opened, self.entries = self.count, []
+
+    def answer(self, words, slot):
+        """What a good line of a slot is answered which may ask it, and whose alarm or list there is."""
         word, numbers = words[0], [int(field) for field in words[1:] if field.lstrip("-").isdigit()]
+        if word == "SINCE":
+            return self.since(*numbers)
         query = getattr(self, f"look_{word.lower()}", None)
         if query is not None:
             return " ".join(str(field) for field in [word, self.count, *query(words, numbers)])
@@ -67,10 +77,23 @@ class Plant:
         refusal = self.refusal(word, words[-1] == "ON", alarm, numbers[-1])
         if refusal:
             return f"NO {refusal}"
+        if word == "ACK" and numbers[1:] not in ([], [alarm.order]):
+            return "NO 22"
         self.count += 1
         self.act(word, words[-1] == "ON", alarm, numbers[-1])
         self.settle()
+        self.entries.append([self.now, slot, *(words[:2] if word == "ACK" else words)])
         return f"OK {self.count}"
+
+    def since(self, after=None):
+        """What a look at the actions after a number is answered; without one, at all that are remembered."""
+        oldest = max(self.opened, self.count - REMEMBERED)
+        after = oldest if after is None else after
+        if after < oldest:
+            return "NO 21"
+        told = self.entries[after - self.opened :][:TOLD]
+        fields = [self.count, after + 1, len(told), *(field for entry in told for field in entry)]
+        return " ".join(["SINCE", *map(str, fields)])
 
     def refusal(self, word, on, alarm, number):
         """The number of the refusal, or 0."""

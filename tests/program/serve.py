@@ -29,6 +29,8 @@ import threading
 import time
 
 import lines as grammar
+from drawn_lines import draw_line
+from plain_plant import Plant
 from lib.calls import Layout, check_list, commits, on_device, opening, read_calls, split_opening
 from lib.places import TOP
 from lib.program import PLANT, PORTS, Fault, Wrong, begin, check, finish, preload, run_words, state
@@ -315,10 +317,10 @@ class Serving:
         device = os.path.join(self.folder, "device")
         shutil.copyfile(self.fresh, device)
         server = self.start(device)
-        dice = random.Random(seed)
+        dice, plant = random.Random(seed), Plant()
         drawn = []
         while len(drawn) < count:
-            line = grammar.draw_line(dice).partition(b" ")[2]
+            line = draw_line(dice, plant).partition(b" ")[2]
             drawn.append(line)
         slot = dice.choice(SLOTS)
         text = b"".join(line + b"\n" for line in drawn)

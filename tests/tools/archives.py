@@ -11,7 +11,7 @@ import subprocess
 import sys
 import time
 from typing import Callable, Iterator
-from lib.drawn_plants import Hand, module
+from lib.drawn_plants import CONSOLE, Hand, module
 from lib.places import AT_TOOLS, EXAMPLES
 from lib.program import check
 from slow_count import Shown, change_rows, flood_rows, replay
@@ -125,8 +125,8 @@ def judge(yard: Yard, table: Table, select: Callable[[str], list[tuple]], hand: 
         "other slots",
     )
     check(
-        {row[5] for row in actions if row[2] in ("ACK", "SHELVE", "OOS", "PRIO")} <= {None},
-        "a console's slot, which nobody stored",
+        {row[5] for row in actions if row[2] in ("ACK", "SHELVE", "OOS", "PRIO")} <= {None, CONSOLE},
+        "a console's slot that asked for nothing",
     )
     wanted, there = change_rows(shown, table), select(CHANGES)
     check(

@@ -1,4 +1,4 @@
-"""The rows of a page, held against the server's own. tests/tools/browser.py runs these checks."""
+"""What a page draws, held against the server's own rows. tests/tools/browser.py runs these checks."""
 import sys
 import time
 
@@ -8,18 +8,24 @@ from lib.tools import Yard, slowness
 
 # Seconds in which a row that the server denies has to be found: those of a round and some.
 WITHIN = 30
-# A page's server that draws one field of one alarm's row otherwise than its model has it.
+# A page's server that draws one field of one alarm's row otherwise than it was told, and one that misses what was
+# acknowledged.
 FALSIFIED = """
-import sys
 from alarms.browser import batch, watch
-place, wrong = int(sys.argv.pop(1)), eval(sys.argv.pop(1))
 true = batch.row_of
-def row_of(alarm, value, suppressed):
-    row = true(alarm, value, suppressed)
-    if alarm.attributes.tag == "TI-101":
-        row[place] = wrong
+def row_of(number, alarm, *told):
+    row = true(number, alarm, *told)
+    if alarm.tag == "TI-101":
+        row[{place}] = {wrong}
     return row
 batch.row_of = watch.row_of = row_of
+"""
+MISSING = """
+from alarms.followed import FollowedPlant
+true = FollowedPlant.named
+FollowedPlant.named = lambda self, entry: [] if entry.action.word == "ACK" else true(self, entry)
+"""
+MAIN = """
 from alarms.browser.__main__ import main
 main()
 """
@@ -38,10 +44,10 @@ FIELDS = {
 
 
 class Falsified(List):
-    """alm_browser that draws a wrong field of TI-101."""
+    """alm_browser behind a change of its code."""
 
-    def __init__(self, yard: Yard, plant: Plant, place: int, wrong: object):
-        self.wrong = [sys.executable, "-c", FALSIFIED, str(place), repr(wrong)]
+    def __init__(self, yard: Yard, plant: Plant, change: str):
+        self.wrong = [sys.executable, "-c", change + MAIN]
         super().__init__(yard, plant.device, plant.port, "--role", "engineer")
 
     def start(self) -> None:
@@ -58,13 +64,24 @@ def await_said(listed: List, text: str) -> None:
         time.sleep(0.1)
 
 
+def missed(yard: Yard, plant: Plant) -> None:
+    """A change that the page's server misses is found too."""
+    listed = Falsified(yard, plant, MISSING)
+    page = Page(yard, listed.url)
+    page.shows("TI-102", "Unack")
+    plant.console.acknowledge(plant.numbers["TI-102"])
+    await_said(listed, "the server denies 1 of the rows. TI-102: its state is UNACK here, and ACKED there")
+    page.end()
+    listed.end()
+
+
 def denied(yard: Yard, _count: int) -> str:
     """Each field of a drawn row that isn't the server's is found, and said on the page and in the log. Rows that are
     the server's are denied by nobody, while the plant moves on."""
     plant = Plant(yard)
     plant.comes("TI-101", "TI-102")
     for place, (name, wrong) in FIELDS.items():
-        listed = Falsified(yard, plant, place, wrong)
+        listed = Falsified(yard, plant, FALSIFIED.format(place=place, wrong=repr(wrong)))
         await_said(listed, f"the server denies 1 of the rows. TI-101: its {name} is")
         if place == 3:
             page = Page(yard, listed.url)
@@ -72,6 +89,7 @@ def denied(yard: Yard, _count: int) -> str:
             check("first TI-101" in page.of("#trouble"), "it says", page.of("#trouble"))
             page.end()
         listed.end()
+    missed(yard, plant)
     listed = engineer(yard, plant)
     page = Page(yard, listed.url)
     page.shows("TI-101", "Unack")
@@ -83,7 +101,7 @@ def denied(yard: Yard, _count: int) -> str:
     page.end()
     listed.end()
     plant.end()
-    return f"{len(FIELDS)} wrong fields, each found"
+    return f"{len(FIELDS)} wrong fields and a missed change, each found"
 
 
 CHECKS = {"denied": denied}

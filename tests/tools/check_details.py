@@ -99,7 +99,7 @@ def are_refused(yard: Yard, plant: Plant) -> int:
     files = [(yard.write(f"wrong{at}.csv", text), said) for at, (text, said) in enumerate(WRONG)]
     files.append((yard.path("none.csv"), "No such file"))
     for path, said in files:
-        words = module("browser", plant.device, "--port", plant.port, "--listen", "0", "--details", path)
+        words = module("browser", "--port", plant.port, "--listen", "0", "--details", path)
         run = subprocess.run(words, env=AT_TOOLS, capture_output=True, text=True, timeout=60)
         check(run.returncode == 1 and f"{path}: {said}" in run.stderr and run.stderr.count("\n") == 1, path, run.stderr)
     return len(files)

@@ -308,7 +308,7 @@ def words(yard: Yard, _count: int) -> str:
             (at, 2, "--listen"),
             ((*at, "--listen", "x"), 2, "is no port"),
             ((*at, "--listen", "0", "--proxy", "https://a.example"), 2, "--proxy wants --socket"),
-            ((*at, "--from", yard.path("s"), "--listen", "0"), 2, "in the place of devices"),
+            ((*at, "--from", yard.path("s"), "--listen", "0"), 2, "in the place of --port"),
             ((*at, "--socket", yard.path("s")), 2, "--proxy or --origin"),
             ((*at, "--socket", yard.path("s"), "--proxy", "a.example"), 2, "is no origin"),
             ((*at, "--listen", "0", "--slots", "16"), 2, "invalid choice"),
@@ -318,13 +318,11 @@ def words(yard: Yard, _count: int) -> str:
             ((*at, "--listen", "0", "--notes", text), 1, "not a database"),
             ((*at, "--listen", "0", "--areas", yard.path("none")), 1, "No such file"),
             ((*at, "--listen", "0", "--group", "root"), 2, "--group wants --socket"),
-            ((plant.device, *at, "--listen", "0"), 2, "each device has its --port"),
-            ((*at, plant.device, *at, "--listen", "0"), 2, "2 servers are called plant"),
-            ((*at, "other.device", *at, "--listen", "0", "--name", "x"), 2, "--name is given 1 times"),
+            ((plant.device, *at, "--listen", "0"), 2, "unrecognized arguments"),
+            ((*at, *at, "--listen", "0"), 2, f"2 servers are called {plant.port}"),
+            ((*at, *at, "--listen", "0", "--name", "x"), 2, "--name is given 1 times"),
         ):
-            run = subprocess.run(
-                module("browser", plant.device, *given), env=AT_TOOLS, capture_output=True, text=True, timeout=60
-            )
+            run = subprocess.run(module("browser", *given), env=AT_TOOLS, capture_output=True, text=True, timeout=60)
             check(
                 run.returncode == status
                 and said in run.stderr
@@ -335,14 +333,6 @@ def words(yard: Yard, _count: int) -> str:
                 run.stderr,
             )
     other.close()
-    run = subprocess.run(
-        module("browser", yard.folder, *at, "--listen", "0"), env=AT_TOOLS, capture_output=True, text=True, timeout=60
-    )
-    check(
-        run.returncode == 1 and "directory" in run.stderr and "Traceback" not in run.stderr,
-        "of a folder it says",
-        run.stderr,
-    )
     plant.end()
     return "its words"
 

@@ -61,7 +61,7 @@ def snippets(yard: Yard) -> str:
         check(run.returncode == 0 and not run.stderr, code, run.stderr)
         printed.append(run.stdout)
     server.end()
-    check(printed == ["0 UNACK\n", "UNACK\n"], "the clients of the page print", printed)
+    check(printed == ["0 UNACK\n1 0 16 VAL\n2 0 3 ACK\n", "ACKED\n"], "the clients of the page print", printed)
     return "the page's clients"
 
 

@@ -184,7 +184,7 @@ def language(yard: Yard, _count: int) -> str:
     paths = [(yard.write(f"wrong{at}.toml", text), said) for at, (text, said) in enumerate(WRONG)]
     paths.append((yard.path("none.toml"), "No such file"))
     for path, said in paths:
-        words = module("browser", plant.device, "--port", plant.port, "--listen", "0", "--language", path)
+        words = module("browser", "--port", plant.port, "--listen", "0", "--language", path)
         run = subprocess.run(words, env=AT_TOOLS, capture_output=True, text=True, timeout=60)
         check(run.returncode == 1 and f"{path}: {said}" in run.stderr and run.stderr.count("\n") == 1, path, run.stderr)
     plant.end()

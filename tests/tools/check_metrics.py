@@ -17,6 +17,7 @@ from lib.program import check, free_ports
 from lib.server import Server
 from alarms.table_file import image_length, load_table
 from lib.tools import Yard, await_said, await_true, ended, start, started, stop
+from check_since import act
 
 PLANT, REFINERY = str(EXAMPLES / "plant.toml"), str(EXAMPLES / "refinery.toml")
 MAP = "name,tag,silent,watch\na,TI-101,60,YS-124\n"
@@ -84,6 +85,42 @@ def metrics(yard: Yard) -> str:
     stop(running)
     stops_at_another(yard, device)
     return f"alm_metrics, {checked}"
+
+
+def without_device(yard: Yard) -> str:
+    """Annunciations are counted by the server's lines alone, however they come about, also over a new server; what that
+    one doesn't remember is told."""
+    device = yard.format("counted.device", PLANT)
+    server = yard.serve(device)
+    address = await_said(start("alm_metrics", "--port", server.port, "--listen", 0), "/metrics").split()[1]
+
+    def holds_counts(annunciated: dict[int, int], acknowledged: dict[int, int], uncounted: int) -> None:
+        for name, wanted in (("annunciations", annunciated), ("acknowledgements", acknowledged)):
+            holds(address, *(f'alarms_{name}_total{{priority="{one}"}} {wanted.get(one, 0)}' for one in PRIORITIES))
+        holds(address, f"alarms_uncounted_actions_total {uncounted}")
+
+    act(server, (CLOCK, "CLOCK 1000"), (FEED, "VAL 1 50"), (0, "SHELVE 1 60"))
+    holds_counts({}, {}, 0)  # what was before isn't counted; the shelving is known from the row
+    act(server, (CLOCK, "CLOCK 1060"), (0, "SHELVE 1 60"), (0, "UNSHELVE 1"))
+    act(server, (0, "OOS 1 ON"), (FEED, "DESIGN 1 ON"), (0, "OOS 1 OFF"), (FEED, "DESIGN 1 OFF"))
+    holds_counts({2: 3}, {}, 0)
+    act(server, (0, "PRIO 1 4"), (0, "ACK 1"), (FEED, "VAL 1 200"), (FEED, "VAL 1 50"), (0, "SHELVE 1 9"))
+    act(server, (FEED, "VAL 2 1"), (FEED, "VAL 2 0"), (0, "OOS 2 ON"), (FEED, "VAL 2 1"), (FEED, "VAL 2 0"))
+    act(server, (0, "OOS 2 OFF"), (CLOCK, "CLOCK 1069"))
+    holds_counts({1: 1, 2: 3, 4: 2}, {4: 1}, 0)
+    server.end()
+    server = yard.serve(device, server.port)
+    act(server, (0, "ACK 1"), (FEED, "VAL 3 60"))
+    holds_counts({1: 1, 2: 3, 3: 1, 4: 2}, {4: 2}, 0)
+    act(server, (FEED, "VAL 3 0"), (FEED, "VAL 3 60"), (0, "ACK 3"))
+    server.end()
+    server = yard.serve(device, server.port)
+    act(server, (FEED, "VAL 3 0"))
+    holds_counts({1: 1, 2: 3, 3: 1, 4: 2}, {4: 2}, 4)
+    act(server, (FEED, "VAL 3 60"))
+    holds_counts({1: 1, 2: 3, 3: 2, 4: 2}, {4: 2}, 4)
+    server.end()
+    return "counters without a device"
 
 
 def counts(address: str, annunciated: dict[int, int], acknowledged: dict[int, int]) -> None:

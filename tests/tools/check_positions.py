@@ -255,7 +255,7 @@ def in_two_parts(yard: Yard, plant: Plant, ben: Page, anna: Page, behind: tuple,
     begin = lambda *given: started(
         subprocess.Popen(module("browser", *given), env=AT_TOOLS, stdout=subprocess.PIPE, stderr=errors, text=True)
     )
-    parts = [begin(plant.device, "--port", plant.port, "--tell", socket, *words)]
+    parts = [begin("--port", plant.port, "--name", "plant", "--tell", socket, *words)]
     check(parts[0].stdout.readline() == f"alm_browser: {socket}\n", "it says", yard.read("errors"))
     parts.append(begin("--from", socket, *behind))
     check(parts[1].stdout.readline().startswith("alm_browser: https:"), "it says", yard.read("errors"))
@@ -279,7 +279,7 @@ def are_refused(yard: Yard) -> int:
     files = [(yard.write(f"wrong{at}.toml", text), said) for at, (text, said) in enumerate(WRONG)]
     files.append((yard.path("none.toml"), "No such file"))
     for path, said in files:
-        words = module("browser", yard.path("none.device"), "--port", 5000, "--listen", "0", "--positions", path)
+        words = module("browser", "--port", 5000, "--listen", "0", "--positions", path)
         run = subprocess.run(words, env=AT_TOOLS, capture_output=True, text=True, timeout=60)
         check(run.returncode == 1 and f"{path}: {said}" in run.stderr and run.stderr.count("\n") == 1, path, run.stderr)
     return len(files)

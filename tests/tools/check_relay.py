@@ -50,8 +50,8 @@ class Relay:
 
 
 def between(yard: Yard, _count: int) -> str:
-    """An annunciation between the look and the acknowledgement is told; so is an acknowledgement whose reply never
-    came."""
+    """An annunciation between the look and the acknowledgement stays, and that is said; so is an acknowledgement whose
+    reply never came."""
     plant = Plant(yard)
     plant.comes("TI-101", "LI-208")
     relay = Relay(plant.port, 12)
@@ -62,8 +62,8 @@ def between(yard: Yard, _count: int) -> str:
     relay.before = lambda: (plant.goes("TI-101"), plant.comes("TI-101"))
     page.choose("TI-101")
     page.act("ACK")
-    page.says("TI-101: it had come again just before: look at it")
-    check(plant.shown("TI-101") == "ACKED", "it isn't acknowledged")
+    page.says("TI-101: it has come again since it was seen: look again")
+    check(plant.shown("TI-101") == "UNACK", "an annunciation that nobody saw is acknowledged")
     relay.before, relay.ends = (lambda: None), True
     page.choose("LI-208")
     page.act("ACK")
@@ -73,7 +73,8 @@ def between(yard: Yard, _count: int) -> str:
     page.shows("LI-208", "Acked")
     with sqlite3.connect(yard.path("notes.sqlite")) as kept:
         rows = list(kept.execute("SELECT tag, number IS NULL, outcome, user FROM note ORDER BY id"))
-    check(rows == [("TI-101", 0, "OK", "anna"), ("LI-208", 1, "no reply", "anna")], "the notes are", rows)
+    again = "it has come again since it was seen: look again"
+    check(rows == [("TI-101", 1, again, "anna"), ("LI-208", 1, "no reply", "anna")], "the notes are", rows)
     page.end()
     listed.end()
     plant.end()

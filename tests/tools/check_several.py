@@ -35,7 +35,7 @@ def several(yard: Yard, _count: int) -> str:
         for word in ("--areas", yard.write(f"{name}.txt", f"{name} one\n{name} two\n"))
     ]
     words = ("--role", "engineer", "--user", "anna", *areas, "--notes", yard.path("notes.sqlite"))
-    listed = List(yard, north.device, north.port, south.device, "--port", south.port, *words)
+    listed = List(yard, north.device, north.port, "--name", "north", "--name", "south", "--port", south.port, *words)
     page = Page(yard, listed.url)
     comes_in_one_order(page, north, south)
     goes_to_its_own(page, north, south)

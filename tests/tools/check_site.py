@@ -55,11 +55,8 @@ def site(yard: Yard, _count: int) -> str:
     }
     servers = [serve_at_sockets(yard, name, priorities) for name, priorities in (("north", NORTH), ("south", SOUTH))]
     words = words_of_unit("alm_list@.service", places)
-    check(
-        [word for word in words if word.endswith(".device")] == [yard.path("north.device"), yard.path("south.device")],
-        "the unit's words are",
-        words,
-    )
+    folders = [after for word, after in zip(words, words[1:]) if word == "--sockets"]
+    check(folders == [yard.path("north"), yard.path("south")], "the unit's words are", words)
     parts = []
     for each, said in (
         (words, yard.path("list")),

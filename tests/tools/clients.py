@@ -28,6 +28,7 @@ import check_consoles
 import check_feed
 import check_journal
 import check_metrics
+import check_since
 import check_tables
 import check_units
 from alarms.client import Lost, Refused
@@ -138,6 +139,7 @@ CHECKS: dict[str, Callable[[Yard, int], str]] = {
     "machines": lambda yard, _: check_feed.two_machines(yard),
     "takeover": lambda yard, _: check_feed.takeover(yard),
     "metrics": lambda yard, _: check_metrics.metrics(yard),
+    "counters": lambda yard, _: check_metrics.without_device(yard),
     "rules": lambda yard, _: check_metrics.rules(yard),
     "dashboard": lambda yard, _: check_metrics.dashboard(yard),
     "journal": lambda yard, step: check_journal.journal(yard, 3000 // step),
@@ -150,6 +152,10 @@ CHECKS: dict[str, Callable[[Yard, int], str]] = {
     "client": lambda yard, _: check_feed.demonstration(yard),
     "snippets": lambda yard, _: check_feed.snippets(yard),
     "methods": lambda yard, _: check_feed.methods(yard),
+    "since": lambda yard, _: check_since.since(yard),
+    "seen": lambda yard, _: check_since.seen(yard),
+    "happened": lambda yard, _: tmux(check_since.at_console)(yard),
+    "in_c": lambda yard, _: check_since.in_c(yard) if shutil.which("gcc") else "no gcc: follow.c left out",
     "units": lambda yard, _: units(yard),
     "details": lambda yard, _: check_units.units(yard),
 }

@@ -22,7 +22,17 @@ from lib.tools import Yard, end_all
 from alarms.client import Lost, Refused
 from lib.program import Wrong, begin, finish
 
-PARTS = ("check_archive", "check_tail", "check_week", "check_reports", "check_bounds", "check_mirror")
+PARTS = (
+    "check_archive",
+    "check_askers",
+    "check_followed",
+    "check_line_archive",
+    "check_tail",
+    "check_week",
+    "check_reports",
+    "check_bounds",
+    "check_mirror",
+)
 # How many checks run beside each other.
 BESIDE = 6
 # Actions of a whole run and of a short one.

@@ -1,0 +1,100 @@
+"""A plant that is followed by its server's lines alone, and rows of a device that are held against the server's.
+tests/tools/history.py runs this."""
+import random
+import threading
+from dataclasses import replace
+from typing import Callable
+
+from alarms.client import CLOCK, FEED, Client
+from alarms.followed import FollowedPlant
+from alarms.known import known
+from alarms.metrics_rows import HeldRows
+from alarms.model import AlarmState
+from alarms.replies import Row
+from check_since import act
+from lib.drawn_plants import Hand, draw_plant, new_device
+from lib.program import PLANT, check
+from lib.tools import Yard
+
+ALARMS = 12
+
+
+def rows_of(client: Client) -> list[Row]:
+    """The server's rows, whatever the count."""
+    return without_counts(client.rows(range(ALARMS)))
+
+
+def without_counts(rows: list[Row]) -> list[Row]:
+    return [replace(row, count=0) for row in rows]
+
+
+def looks(plant: FollowedPlant, client: Client) -> list[int]:
+    """One look; the numbers of the actions that it told. What changed was named, as it was before."""
+    before = list(plant.rows)
+    news = plant.look(client)
+    for alarm, (old, new) in enumerate(zip(before, plant.rows)):
+        check(news.before.get(alarm, new) in (old, new), "alarm", alarm, "was", old, "and is told as", news.before)
+        check(alarm in news.before or old == new, "alarm", alarm, "became", new, "and nothing named it")
+    return [entry.action.number for entry, _ in news.entries]
+
+
+def followed(yard: Yard, count: int) -> str:
+    """The rows are the server's behind each look, also where much happens at once and while it looks, and each action
+    is told once."""
+    dice = random.Random(7)
+    table = draw_plant(dice, ALARMS, 3, 400_000)
+    server, hand = yard.serve(new_device(yard, "followed", table)), Hand(dice, table)
+    hand.connect(server)
+    with Client.connect(server.port, 9) as client:
+        plant, told = FollowedPlant(client.table().alarms), list[int]()
+        hand.ask(40)
+        plant.begin(client)
+        begun = plant.count
+        for _ in range(max(20, count // 20)):
+            hand.ask(dice.choice([1, 2, 7, 60]))
+            told += looks(plant, client)
+            check(without_counts(plant.rows) == rows_of(client), "it has", plant.rows, "of", rows_of(client))
+        asking = threading.Thread(target=lambda: [hand.ask(5) for _ in range(40)])
+        asking.start()
+        while asking.is_alive():
+            told += looks(plant, client)
+        told += looks(plant, client)
+        check(without_counts(plant.rows) == rows_of(client), "behind a stream", plant.rows, rows_of(client))
+        check(told == list(range(begun + 1, hand.count() + 1)), "it told", told)
+    hand.leave()
+    server.end()
+    return f"{len(told)} actions followed"
+
+
+# Each field of an alarm that the server has too, and what is another value of it.
+FALSIFIED: dict[str, Callable[[AlarmState], object]] = {
+    "core": lambda alarm: setattr(alarm, "core", "RTNUN"),
+    "active": lambda alarm: setattr(alarm, "active", not alarm.active),
+    "flags": lambda alarm: setattr(alarm, "flags", alarm.flags ^ 2),
+    "stamp": lambda alarm: setattr(alarm, "stamp", alarm.stamp + 1),
+    "moments": lambda alarm: setattr(alarm, "moments", (*alarm.moments, 5)),
+    "priority": lambda alarm: setattr(alarm, "attributes", replace(alarm.attributes, priority=4)),
+    "setpoint": lambda alarm: setattr(alarm, "attributes", replace(alarm.attributes, setpoint=7)),
+}
+
+
+def denied(yard: Yard, _count: int) -> str:
+    """A row of a device's journal that isn't the server's is counted, whatever of it is wrong; and none that is."""
+    device = yard.format("denied.device", PLANT)
+    server = yard.serve(device)
+    act(server, (CLOCK, "CLOCK 1000"), (FEED, "VAL 0 800"), (3, "SHELVE 1 60"))
+    with Client.connect(server.port, 9) as client:
+        for name, falsify in FALSIFIED.items():
+            held = HeldRows(device)
+            held.look(3)
+            held.hold(client)
+            check(held.denied == 0, "of the true rows it denies", held.denied)
+            falsify(known(held.mirror).plant.alarms[0])
+            held.hold(client)
+            check(held.denied == 1, "of a wrong", name, "it denies", held.denied)
+            held.restart()
+    server.end()
+    return f"{len(FALSIFIED)} wrong rows"
+
+
+CHECKS = {"followed": followed, "denied": denied}

@@ -1,0 +1,99 @@
+"""An archive by the server's lines alone. tests/tools/history.py runs this."""
+import os
+import random
+import signal
+import subprocess
+
+from alarms.client import CLOCK, FEED, Client
+from alarms.table_file import Table
+from archives import ACTIONS, CHANGES, PLANT, last_archived, request_of, rows_of, run_tool
+from check_since import act
+from lib.drawn_plants import CONSOLE, Hand, draw_plant, module, new_device
+from lib.places import AT_TOOLS
+from lib.program import check
+from lib.tools import Yard, await_said, await_true, started
+from slow_count import change_rows, replay
+
+FLOOD = "SELECT flooded FROM flood WHERE plant = 1 AND area = ? ORDER BY number DESC LIMIT 1"
+GAPS = "SELECT first, last, began, ended FROM gap WHERE plant = ? ORDER BY first"
+
+
+def archiver(database: str, port: int) -> subprocess.Popen:
+    """An archiver without a device that runs on."""
+    command = module("archive", "run", database, "--port", port, "--name", "plant")
+    return started(subprocess.Popen(command, env=AT_TOOLS, text=True, stdout=subprocess.PIPE, stderr=subprocess.PIPE))
+
+
+def is_exact(yard: Yard, table: Table, database: str, hand: Hand) -> None:
+    """Each action is there once, by its slot, with what the program shows of it."""
+    actions = rows_of(database, ACTIONS, 1)
+    check([row[0] for row in actions] == list(range(1, len(hand.accepted) + 1)), "not each action once", len(actions))
+    numbers = {alarm.tag: number for number, alarm in enumerate(table.alarms)}
+    requests = [request_of(word, numbers.get(tag, -1), value) for _, _, word, tag, value, _ in actions]
+    check(requests == [hand.accepted[number] for number in sorted(hand.accepted)], "others than were accepted")
+    slots = {"CLOCK": CLOCK, "VAL": FEED, "DESIGN": FEED}
+    check([row[5] for row in actions] == [slots.get(row[2], CONSOLE) for row in actions], "other slots")
+    shown = replay(yard, table, requests)
+    check([row[1] for row in actions] == [one.moment for one in shown[1:]], "other moments")
+    wanted, there = change_rows(shown, table), rows_of(database, CHANGES, 1)
+    check(
+        there == wanted, "what actions did is archived as", [one for one in zip(there, wanted) if one[0] != one[1]][:2]
+    )
+
+
+def by_lines(yard: Yard, count: int) -> str:
+    """Without the device each action is archived with what it did and who asked. What comes while nobody asks, and just
+    before a server ends, is a gap with both ends; another table begins another plant."""
+    dice = random.Random(5)
+    table = draw_plant(dice, 10, 2, 400_000)
+    device, database = new_device(yard, "plant", table), yard.path("lines.sqlite")
+    server, hand = yard.serve(device), Hand(dice, table)
+    running = archiver(database, server.port)
+    await_said(running, "a new archive\n")
+    hand.connect(server)
+    while len(hand.accepted) < min(600, count):
+        hand.ask(40)
+    await_true("all of them", lambda: last_archived(database) == len(hand.accepted))
+    is_exact(yard, table, database, hand)
+    with Client.connect(server.port, 9) as console:
+        flooded = [int(flood.flooded) for flood in console.floods(table.areas)]
+    check([rows_of(database, FLOOD, area)[0][0] for area in range(table.areas)] == flooded, "the floods are", flooded)
+    check(rows_of(database, GAPS, 1) == [], "gaps from the first action on", rows_of(database, GAPS, 1))
+    total = len(hand.accepted)
+    running.send_signal(signal.SIGSTOP)
+    hand.ask(20)
+    hand.leave()
+    server.end()
+    server = yard.serve(device, server.port)
+    running.send_signal(signal.SIGCONT)
+    missed = len(hand.accepted)
+    await_true("a gap", lambda: rows_of(database, GAPS, 1) != [])
+    found = rows_of(database, GAPS, 1)
+    check([row[:2] for row in found] == [(total + 1, missed)], "the gap is", found, "and not", total + 1, "to", missed)
+    check(None not in found[0], "an end of it is open", found)
+    with Client.connect(server.port, 3) as console:
+        last = console.priority(0, console.row(0).priority % 4 + 1)
+    await_true("what comes then", lambda: last_archived(database) == last == missed + 1)
+    check(rows_of(database, ACTIONS, 1)[-1][5] == 3, "who asked then", rows_of(database, ACTIONS, 1)[-1])
+    server.end()
+    other_plant(yard, device, database, server.port)
+    running.kill()
+    running.communicate()
+    return f"{total} actions by lines, a gap of {missed - total}"
+
+
+def other_plant(yard: Yard, device: str, database: str, port: int) -> None:
+    """Another table in the device's place."""
+    os.replace(yard.format("other.device", PLANT), device)
+    server = yard.serve(device, port)
+    await_true("another plant", lambda: rows_of(database, "SELECT COUNT(*) FROM plant") == [(2,)])
+    act(server, (CLOCK, "CLOCK 1000"), (FEED, "VAL 0 800"), (7, "ACK 0"))
+    await_true("its actions", lambda: len(rows_of(database, ACTIONS, 2)) == 3)
+    check([row[2:] for row in rows_of(database, ACTIONS, 2)][-1] == ("ACK", "TI-101", None, 7), "its last action")
+    check(rows_of(database, GAPS, 1)[-1][1] is None, "the end of the plant before is known", rows_of(database, GAPS, 1))
+    run = run_tool("archive", "run", database, "--stopped")
+    check(run.returncode == 2 and "--stopped wants a DEVICE" in run.stderr, "a stopped plant without a device", run)
+    server.end()
+
+
+CHECKS = {"by_lines": by_lines}
