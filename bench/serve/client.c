@@ -3,6 +3,7 @@
      client PORT open SECONDS CLIENTS RATE regular       requests come at their own times, so many a second in all, at the same distance
      client PORT open SECONDS CLIENTS RATE random        the same, each at a drawn moment of a drawn client
      client PORT idle SECONDS                            18 connections that say nothing
+   With `redis` as the last word of closed it asks a Redis in place of ours: all at one port, each request a SET.
    One client is the feed, four are the feed and three consoles, 18 all slots. The first tenth of the seconds isn't counted. closed and open
    print: requests a second; their 50th and 99th latency and the greatest, in microseconds; how late the client itself was for 99 of 100;
    how many requests there were, and how many were accepted. A request's latency begins where it was due, so that one who waits to be sent
@@ -37,7 +38,7 @@ struct times {
 };
 
 static struct client clients[SLOTS];
-static int count;
+static int count, asks_redis;
 static double counted; /* the moment from which on requests are counted */
 static struct times latency, lateness;
 
@@ -64,7 +65,7 @@ static void dial_all(int port, int wanted) {
     count = wanted;
     for (int i = 0; i < count; i++) {
         clients[i].slot = i == 0 ? FEED : i == SLOTS - 1 ? CLOCK : i - 1;
-        clients[i].socket = dial(port + clients[i].slot);
+        clients[i].socket = dial(asks_redis ? port : port + clients[i].slot);
     }
 }
 
@@ -92,6 +93,7 @@ static double hundredth(struct times *times, int of_hundred) {
 
 /* Writes line `i` of a slot, and tells its length. */
 static int put_line(char *line, int slot, long i) {
+    if (asks_redis) return sprintf(line, "*3\r\n$3\r\nSET\r\n$2\r\n%02d\r\n$9\r\n%09ld\r\n", slot, i % 1000000000);
     if (slot == CLOCK) return sprintf(line, "%ld CLOCK %ld\n", i, i + 1);
     if (slot == FEED) return sprintf(line, "%ld VAL 0 %d\n", i, i % 2 ? 700 : 800);
     return sprintf(line, "%ld OOS %d %s\n", i, slot, i % 2 ? "OFF" : "ON");
@@ -124,11 +126,11 @@ static void take_replies(struct client *client) {
     double time = now();
     char *from = client->reply, *to = from + client->held + got, *end;
     while ((end = memchr(from, '\n', to - from))) {
-        char *word;
-        if (strtol(from, &word, 10) != client->answered) fail("a reply out of order");
+        char *word = from;
+        if (!asks_redis && strtol(from, &word, 10) != client->answered) fail("a reply out of order");
         double due = client->at[client->answered++ % OUT];
         note(&latency, due, time - due);
-        client->accepted += !strncmp(word, " OK ", 4);
+        client->accepted += !strncmp(word, asks_redis ? "+OK\r" : " OK ", 4);
         from = end + 1;
     }
     client->held = to - from;
@@ -191,6 +193,8 @@ static void print_figures(double end) {
 int main(int words, char **word) {
     if (words < 4) return 1;
     double seconds = atof(word[3]);
+    asks_redis = !strcmp(word[words - 1], "redis");
+    if (asks_redis) words--;
     int is_open = words == 7 && !strcmp(word[2], "open"), is_closed = words == 6 && !strcmp(word[2], "closed");
     dial_all(atoi(word[1]), is_open || is_closed ? atoi(word[4]) : SLOTS);
     double begin = now(), end = begin + seconds;

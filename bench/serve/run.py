@@ -1,13 +1,14 @@
 #!/usr/bin/env python3
 """Servers beside each other, in turns, under the loads that users bring about.
 
-    bench/serve/run.py [NAME=PROGRAM..] [gather] [plain] [--turns 3] [--seconds 2] [--loads WORD,..] [--largest] [--disk
-    BYTES]
+    bench/serve/run.py [NAME=PROGRAM..] [gather] [plain] [redis] [sqlite] [postgres] [--turns 3] [--seconds 2]
+                       [--loads WORD,..] [--largest] [--disk BYTES] [--clock] [--picture FILE]
 
 PROGRAM is a build of alm_server, `plain` the server in C beside this file, `gather` the same where it waits for those
-whom it answered; without names it is this repository's build beside plain. The last one is what the others are compared
-with. Each fdatasync sleeps 0.2 ms (sync.c), and with --disk longer, a microsecond for so many bytes. Servers and
-clients run under one scheduling class (SCHED_RR), each load of each server on a new device, the servers in turn,
+whom it answered; without names it is this repository's build beside plain. The others are what Debian has of them, each
+set so that an answer is durable (others.py); they take the closed loads alone. The last one is what the others are
+compared with. Each fdatasync sleeps 0.2 ms (sync.c), and with --disk longer, a microsecond for so many bytes. Servers
+and clients run under one scheduling class (SCHED_RR), each load of each server on a new device, the servers in turn,
 another of them first in each turn: who comes behind the last one of the turn before is some 2 % slower. A turn of which
 the host stole more than 5 % is made again, twice at most.
 
@@ -15,6 +16,10 @@ Loads (--loads takes names, and beginnings of names): closed_1, closed_4, closed
 closed_18_64 with 64; open_CLIENTS_RATE_regular and _random, requests at their own times, so many a second in all; idle,
 18 connections that say nothing, whose cpu is per cent of a core. --largest: 16,384 alarms in 64 areas and segments of
 452,651 bytes, else 16 alarms and segments of 16 MiB.
+
+--clock notes when each call of a server begins and ends (clock.c), and says from the end of a batch's last sync how
+long it takes to the next batch's write, in tenths, and to the first and last reply and request in between (rounds.py).
+--picture draws the medians as SVG.
 
 A line for each load and server: medians of the turns (the memory and the steal too); beside the last server's, requests
 a second, p50, p99 and the processor's time a request; beside p50 of its own closed_1, p50 and p99. Each turn stands on
@@ -33,11 +38,16 @@ import tempfile
 import time
 from dataclasses import dataclass
 
+import picture
+import rounds
+from others import Others
+
 HERE = pathlib.Path(__file__).resolve().parent
 TOP = HERE.parent.parent
 BUILT = TOP / "crates/alm_server/out/alm_server"
 STEAL_LIMIT, TRIES = 5.0, 3
 CLASS = ["chrt", "-r", "10"]
+OTHERS = ("redis", "sqlite", "postgres")
 FIGURES = ("rate", "p50", "p99", "greatest", "late", "cpu", "batch", "memory", "steal")
 LOADS = {
     "closed_1": "closed 1 1",
@@ -80,14 +90,16 @@ class Bench:
     port: int
     environment: dict[str, str]
 
-    def compile(self, largest: bool) -> None:
-        for name, words in {
+    def compile(self, largest: bool, programs: list[str]) -> None:
+        sources = {
             "client": ["client.c", "-lm"],
             "plain": ["plain.c", "-pthread"],
-            "sync.so": ["sync.c", "-shared", "-fPIC"],
-        }.items():
-            source, *flags = words
-            subprocess.run(["cc", "-O2", "-o", self.folder / name, HERE / source, *flags], check=True)
+            "sync.so": ["sync.c", "clock.c", "-shared", "-fPIC"],
+        }
+        if "sqlite" in programs:
+            sources["sqlite"] = ["sqlite.c", "-pthread", "-lsqlite3"]
+        for name, words in sources.items():
+            subprocess.run(["cc", "-O2", "-o", self.folder / name, *words], check=True, cwd=HERE)
         (self.folder / "plant.toml").write_text(table(largest), encoding="ascii")
 
     def words(self, program: str) -> list[str]:
@@ -112,16 +124,39 @@ class Bench:
 
     def measure(self, program: str, load: str, seconds: float) -> dict[str, float]:
         """A turn of a load."""
-        (self.folder / "count").unlink(missing_ok=True)
+        for left in ("count", "clock"):
+            (self.folder / left).unlink(missing_ok=True)
+        if program in OTHERS:
+            return self.other(program, load.split(), seconds)
         with Server(self, self.words(program)) as server:
             before, took = stolen(), self.idle if load == "idle" else self.load
             figures = took(server, load.split(), seconds)
             after = stolen()
             return {
                 **figures,
+                **self.rounds(),
                 "memory": server.memory(),
                 "steal": 100 * (after[0] - before[0]) / max(1, after[1] - before[1]),
             }
+
+    def rounds(self) -> dict[str, float]:
+        """What the clock says, if one was asked for."""
+        clock = self.folder / "clock"
+        return rounds.figures_of(clock) if clock.exists() else {}
+
+    def preloaded(self) -> dict[str, str]:
+        """What a server's environment has more."""
+        count = str(self.folder / "count")
+        return {"LD_PRELOAD": str(self.folder / "sync.so"), "SYNC_COUNT": count, **self.environment}
+
+    def other(self, name: str, load: list[str], seconds: float) -> dict[str, float]:
+        """A turn of a store that others have made."""
+        before = stolen()
+        others = Others(self.folder, self.port, {**os.environ, **self.preloaded()})
+        figures = others.measure(name, int(load[1]), int(load[2]), seconds)
+        after = stolen()
+        steal = 100 * (after[0] - before[0]) / max(1, after[1] - before[1])
+        return {**figures, **(self.rounds() if name == "redis" else {}), "steal": steal}
 
     def idle(self, server: "Server", _: list[str], seconds: float) -> dict[str, float]:
         """Per cent of a core, from a second behind the connections on."""
@@ -156,11 +191,9 @@ class Server:
     """A server that runs."""
 
     def __init__(self, bench: Bench, words: list[str]):
-        preload = {"LD_PRELOAD": str(bench.folder / "sync.so"), "SYNC_COUNT": str(bench.folder / "count")}
         self.process = subprocess.Popen(
-            [*CLASS, "env", *(f"{name}={value}" for name, value in preload.items()), *words],
+            [*CLASS, "env", *(f"{name}={value}" for name, value in bench.preloaded().items()), *words],
             stdout=subprocess.PIPE,
-            env={**os.environ, **bench.environment},
         )
 
     def __enter__(self) -> "Server":
@@ -199,12 +232,20 @@ def turn(bench: Bench, name: str, program: str, load: str, seconds: float) -> di
     return figures
 
 
-def print_table(names: list[str], turns: dict[tuple[str, str], list[dict[str, float]]]) -> None:
-    """The medians, and what they are beside others."""
-    medians = {
-        key: {figure: statistics.median(made[figure] for made in all_made) for figure in all_made[0]}
+Turns = dict[tuple[str, str], list[dict[str, float]]]
+
+
+def medians_of(turns: Turns) -> dict[tuple[str, str], dict[str, float]]:
+    """The medians of all turns, by load and server."""
+    return {
+        key: {figure: statistics.median(made[figure] for made in all_made if figure in made) for figure in all_made[-1]}
         for key, all_made in turns.items()
     }
+
+
+def print_table(names: list[str], turns: Turns) -> None:
+    """The medians, and what they are beside others."""
+    medians = medians_of(turns)
     print(
         f"{'load':26} {'server':8} {'a second':>9} {'p50 us':>7} {'p99 us':>7} {'greatest':>8} {'late99':>6}"
         f" {'cpu us':>7} {'a batch':>7} {'MB':>5} {'steal%':>6} |"
@@ -215,7 +256,7 @@ def print_table(names: list[str], turns: dict[tuple[str, str], list[dict[str, fl
             f"{figures[figure]:{width}.{places}f}" if figure in figures else "-".rjust(width)
             for figure, width, places in zip(FIGURES, (9, 7, 7, 8, 6, 7, 7, 5, 6), (0, 0, 0, 0, 0, 2, 1, 1, 1))
         ]
-        other, lone = medians[load, names[-1]], medians.get(("closed_1", name))
+        other, lone = medians.get((load, names[-1])), medians.get(("closed_1", name))
         cells += [
             "|",
             *(ratio(figures, figure, other, figure, 5) for figure in ("rate", "p50", "p99", "cpu")),
@@ -226,6 +267,15 @@ def print_table(names: list[str], turns: dict[tuple[str, str], list[dict[str, fl
         print(f"{load:26} {name:8}", *cells)
 
 
+def print_rounds(turns: Turns) -> None:
+    """The medians of what the clock says."""
+    print(f"\n{'load':26} {'server':8}", *(f"{figure:>7}" for figure in rounds.FIGURES))
+    for (load, name), made in turns.items():
+        if noted := [figures for figures in made if "gap" in figures]:
+            cells = (statistics.median(figures[figure] for figures in noted) for figure in rounds.FIGURES)
+            print(f"{load:26} {name:8}", *(f"{cell:7.0f}" for cell in cells))
+
+
 def ratio(figures: dict[str, float], figure: str, others: dict[str, float] | None, other: str, width: int) -> str:
     if not others or not others.get(other) or figure not in figures:
         return "-".rjust(width)
@@ -234,13 +284,15 @@ def ratio(figures: dict[str, float], figure: str, others: dict[str, float] | Non
 
 def main() -> None:
     words = argparse.ArgumentParser(description=__doc__, formatter_class=argparse.RawDescriptionHelpFormatter)
-    words.add_argument("servers", nargs="*", default=[f"ours={BUILT}", "plain"], help="NAME=PROGRAM, gather or plain")
+    words.add_argument("servers", nargs="*", default=[f"ours={BUILT}", "plain"], help="NAME=PROGRAM, or a name")
     words.add_argument("--turns", type=int, default=3)
     words.add_argument("--seconds", type=float, default=2.0, help="of a load")
     words.add_argument("--loads", default="", help="names of loads, or their beginnings, with commas between")
     words.add_argument("--largest", action="store_true", help="the largest plant, with the recommended segment")
     words.add_argument("--disk", type=int, default=0, help="bytes that the disk takes in a microsecond; 0: any")
     words.add_argument("--port", type=int, default=25_000)
+    words.add_argument("--clock", action="store_true", help="where the time of a round goes")
+    words.add_argument("--picture", type=pathlib.Path, help="the file of a picture, SVG")
     chosen = words.parse_args()
     programs = dict(
         (name, str(pathlib.Path(path).resolve()) if path else name)
@@ -253,15 +305,24 @@ def main() -> None:
     ]
     turns = collections.defaultdict(list)
     with tempfile.TemporaryDirectory(prefix="serve", dir="/dev/shm") as folder:
-        bench = Bench(pathlib.Path(folder), chosen.port, {"SYNC_BYTES_A_US": str(chosen.disk)})
-        bench.compile(chosen.largest)
+        environment = {"SYNC_BYTES_A_US": str(chosen.disk)}
+        if chosen.clock:
+            environment["SYNC_CLOCK"] = f"{folder}/clock"
+        bench = Bench(pathlib.Path(folder), chosen.port, environment)
+        bench.compile(chosen.largest, list(programs))
         began, names = time.monotonic(), list(programs)
         for number in range(chosen.turns):
             for load in loads:
                 for name in names[number % len(names) :] + names[: number % len(names)]:
+                    if name in OTHERS and not load.startswith("closed"):
+                        continue
                     turns[load, name].append(turn(bench, name, programs[name], load, chosen.seconds))
             print(f"turn {number + 1} of {chosen.turns}, {time.monotonic() - began:.0f} s", file=sys.stderr, flush=True)
     print_table(list(programs), turns)
+    if chosen.clock:
+        print_rounds(turns)
+    if chosen.picture:
+        chosen.picture.write_text(picture.drawn(medians_of(turns)), encoding="utf-8")
 
 
 if __name__ == "__main__":
