@@ -1,7 +1,8 @@
-"""Stores that others have made, under the loads of run.py, each so that an answer is durable: Redis, SQLite and PostgreSQL.
+"""Stores that others have made, under the loads of run.py: Redis, SQLite and PostgreSQL, each so that an answer is
+durable.
 
-Their syncs take as long as ours: sync.c is preloaded into them too. Each measure returns the figures of a turn as run.py has
-them, but for what a store doesn't tell.
+Their syncs take as long as ours: sync.c is preloaded into them too. Each measure returns the figures of a turn as
+run.py has them, but for what a store doesn't tell.
 """
 import os
 import pathlib
@@ -84,7 +85,8 @@ def figures_of(line: str, cpu: float) -> dict[str, float]:
 
 @dataclass
 class Others:
-    """Where they run: a folder on a memory file system with what is compiled there, a port, and the environment of sync.c."""
+    """Where they run: a folder on a memory file system with what is compiled there, a port, and the environment of
+    sync.c."""
 
     folder: pathlib.Path
     port: int
@@ -170,7 +172,7 @@ class Others:
 
     @staticmethod
     def logged(room: pathlib.Path, window: int, cpu: float) -> dict[str, float]:
-        """The figures of pgbench's log: a line for each transaction, with its microseconds and the moment of its end."""
+        """The figures of pgbench's log: a line for each transaction, with its microseconds and when it ended."""
         took: list[tuple[float, float]] = []
         for log in room.glob("log*"):
             for line in log.read_text(encoding="ascii").splitlines():

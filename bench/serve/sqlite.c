@@ -1,8 +1,8 @@
-/* SQLite under the loads of client.c: `sqlite FILE SECONDS CLIENTS WINDOW`. Each client is a thread with a connection of
-   its own to one database, whose log is synced at each commit (WAL, synchronous=FULL). A transaction inserts WINDOW
+/* SQLite under the loads of client.c: `sqlite FILE SECONDS CLIENTS WINDOW`. Each client is a thread with a connection
+   of its own to one database, whose log is synced at each commit (WAL, synchronous=FULL). A transaction inserts WINDOW
    rows. The first tenth of the seconds isn't counted. Prints what client.c does: rows a second, the 50th and 99th
-   latency of a row and the greatest, in microseconds, 0, how many rows there were, and how many were accepted; and
-   then the nanoseconds of the processor a row. */
+   latency of a row and the greatest, in microseconds, 0, how many rows there were, and how many were accepted; and then
+   the nanoseconds of the processor a row. */
 #include <pthread.h>
 #include <sqlite3.h>
 #include <stdio.h>
@@ -61,12 +61,14 @@ static void *work(void *which) {
     struct client *client = which;
     sqlite3 *base = opened();
     sqlite3_stmt *row;
-    if (sqlite3_prepare_v2(base, "INSERT INTO action VALUES (?, ?)", -1, &row, NULL) != SQLITE_OK) fail(base, "prepare");
+    const char *words = "INSERT INTO action VALUES (?, ?)";
+    if (sqlite3_prepare_v2(base, words, -1, &row, NULL) != SQLITE_OK) fail(base, words);
     for (long serial = 0; now(CLOCK_MONOTONIC) < end; serial++) {
         double due = now(CLOCK_MONOTONIC);
         insert(base, row, client->number, serial);
         client->made++;
-        if (due >= counted && client->count < ROOM) client->took[client->count++] = (now(CLOCK_MONOTONIC) - due) * 1e6;
+        double took = now(CLOCK_MONOTONIC) - due;
+        if (due >= counted && client->count < ROOM) client->took[client->count++] = took * 1e6;
     }
     sqlite3_finalize(row);
     sqlite3_close(base);
@@ -87,8 +89,10 @@ static void print_figures(struct client *clients, int count, double cpu) {
     for (int i = 0; i < count; i++)
         for (long j = 0; j < clients[i].count; j++) took[at++] = clients[i].took[j];
     qsort(took, all, sizeof *took, by_size);
-    printf("%.0f %.0f %.0f %.0f 0 %ld %ld %.0f\n", all * window / (end - counted), took[all / 2], took[all * 99 / 100], took[all - 1], made * window,
-           made * window, 1e9 * cpu / (made * window));
+    long rows = made * window;
+    printf("%.0f %.0f ", all * window / (end - counted), took[all / 2]);
+    printf("%.0f %.0f 0 ", took[all * 99 / 100], took[all - 1]);
+    printf("%ld %ld %.0f\n", rows, rows, 1e9 * cpu / rows);
 }
 
 int main(int count, char **words) {

@@ -1,5 +1,5 @@
 -- What the program says of a server's fault, and of the device's file that it served.
-use Rattle.std.specs.Prelude.{◌≡◌, ◌⊎◌, ℕ, List, Option, Result}
+use Rattle.std.specs.Prelude.{◌≡◌, ◌⊎◌, ℕ, List, Option, Result, Ok, Err}
 use Rattle.alm_disk.specs.declared.disk.Disk
 use Rattle.alm_file.specs.declared.file_fault.FileFault.{FileFault}
 use Rattle.alm_file.specs.Replay.{BeginsAs}
@@ -19,6 +19,11 @@ fault_of_serve Net = program.Net
 fault_of_serve Write = program.Io
 fault_of_serve Memory = program.OutOfMemory
 fault_of_serve Storage = program.Stopped
+
+-- what the program ends with: that fault, or none
+abbrev pub end_of_serving : Result ℕ ServeFault → Result Unit Fault
+end_of_serving (Ok count) = Ok tt
+end_of_serving (Err fault) = Err (fault_of_serve fault)
 
 -- the file held the bytes `start`. A device that began with them was served, and became `back`: its record is longer by each call that
 -- was made since

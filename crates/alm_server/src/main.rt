@@ -12,7 +12,7 @@
 //!
 //! Proved:
 //! - the program ends with status 0 and no line, or with a fault's status and line, or a prefix of it if errors can't be
-//!   written (by `print_fault`, `Fault`, `serve_ordered`, `serve_fault`)
+//!   written (by `print_fault`, `Fault`, `result_of`, `serve_fault`)
 //! - **whatever bytes its file held, if its opening read them: what became of the device that began with them, by the record
 //!   of its calls** (by `serve_file`)
 #![tactic(auto)]

@@ -3,7 +3,7 @@
 ghost use Rattle.std.specs.Process.{exit_status};
 ghost use Rattle.alm_program.specs.Faults.{IsEnd};
 
-use crate::serving::serve_ordered;
+use crate::serving::{result_of, serve_file};
 use alm_file::Unknown;
 use alm_program::{Fault, end_of, run_words};
 use std::env::Env;
@@ -20,7 +20,7 @@ fn run<
     R: Input + Print + Env + Files<File = File> + Net + Threads + Wait + Clock + Sync + AllocGlobal,
 >(rt: &R) -> Result<(), Fault> {
     match run_words(rt)? {
-        Some(order) => serve_ordered(rt, &order, Unknown),
+        Some(order) => result_of(serve_file(rt, &order, Unknown)?),
         None => Ok(()),
     }
 }

@@ -4,7 +4,7 @@ ghost use Rattle.std.specs.Prelude.{◌≡◌, ℕ, List, IfErr, IfOk};
 ghost use Rattle.alm_file.specs.Replay.{BeginsAs};
 ghost use Rattle.alm_keeper.specs.AsStore.{IsLastEpoch, StandsFor};
 ghost use Rattle.alm_serve.specs.Runs.{ServeEnds};
-ghost use Rattle.alm_server.specs.Serving.{IsNotServed, IsServedFrom, fault_of_serve};
+ghost use Rattle.alm_server.specs.Serving.{IsNotServed, IsServedFrom, end_of_serving, fault_of_serve};
 
 use alm_disk::Disk;
 use alm_file::{PlacedDisk, Start};
@@ -88,12 +88,11 @@ pub fn serve_file<
     }
 }
 
-/// Serves as requested. An answer is the server's fault alone.
-pub fn serve_ordered<
-    S: Start,
-    R: Files<File = File> + Print + Net + Threads + Wait + Clock + Sync + AllocGlobal,
->(rt: &R, order: &ServeOrder, start: S) -> Result<(), Fault> {
-    match serve_file(rt, order, start)?.served {
+/// What a server's end is to the program: its fault, if it has one.
+pub fn result_of<D: Drop>(end: ServerEnd<D>) -> Result<(), Fault>
+    ensures { result ≡ end_of_serving end.served }
+{
+    match end.served {
         Ok(_) => Ok(()),
         Err(fault) => Err(serve_fault(fault)),
     }

@@ -1,7 +1,7 @@
 //! The published plant, which threads share.
 //!
 //! ```text
-//! let (mut board, looks) = open_board(rt, alloc, history, &moments, plant, slots)?;
+//! let (mut board, looks) = open_board(alloc, history, &moments, plant, slots)?;
 //! board.publish(rt, &moments, &batch)?; look.learn(receipt);
 //! let count = look.look(query, &mut answer)?;
 //! ```
@@ -25,9 +25,9 @@
 //! leaves the shown list as it was, and the next call continues from there. This is what [`alm_board::Board`],
 //! [`alm_board::Publish`] and [`alm_board::Look`] say, at these types.
 //!
-//! [`open_board`], [`Publisher::turn`], [`Publisher::take`] and a publish may wait for readers of the older plant. A look, and
-//! reporting or learning a list, never wait: their contracts have no handle to wait by. They take no memory, except for the list
-//! that a query asks for.
+//! [`Publisher::turn`], [`Publisher::take`] and a publish may wait for readers of the older plant. Opening a board, a look, and
+//! reporting or learning a list never wait: their contracts have no handle to wait by. The last two take no memory, and a look
+//! only for the list that a query asks for.
 //!
 //! Not covered: which of a look and a publish of another thread comes first, that a publish ever gets its memory, and time.
 //!

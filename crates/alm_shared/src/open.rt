@@ -15,27 +15,22 @@ use alm_history::NewHistory;
 use alm_model::Alarms;
 use alm_moments::{Moments, RunId};
 use std::alloc::{AllocError, Global};
-use std::sync::Wait;
 
-/// A board without published actions, which shows the plant that the run begins with, and a number of looks at it. It takes two
-/// of each: the plant and its copy, and room for the last 65,536 events. An error means out of memory.
-pub fn open_board<J: RunId, P: Alarms + Drop, R: Wait>(
-    rt: &R,
+// A board without published actions, and what its looks know at first.
+fn begin<J: RunId, P: Alarms + Drop>(
     alloc: Global,
     history: NewHistory<Growth>,
     moments: &Moments<J>,
     plant: P,
     lookers: usize,
-) -> Result<(SharedBoard<J, P>, Vec<SharedLook<J, P>>), AllocError>
+) -> Result<(SharedBoard<J, P>, Durable<J>), AllocError>
     requires book { history.seen.book ≡ J.book }
     requires moments { moments.now ≡ [] }
     requires base { P.plant plant ≡ J.base }
     requires lookers { (0 < lookers) × (lookers < 2 ^ 32) }
     ensures published { IfOk result (λ r. board_shown r.0 ≡ []) }
     ensures pending { IfOk result (λ r. board_pending r.0 ≡ []) }
-    ensures lookers { IfOk result (λ r. vec_len r.1 ≡ lookers) }
 {
-    let extent = Extent::new(&plant);
     let second = plant.copy(alloc)?;
     let history = ActionHistory::<J>::new(alloc, history).ok_or(AllocError)?;
     let front = history.front();
@@ -54,12 +49,34 @@ pub fn open_board<J: RunId, P: Alarms + Drop, R: Wait>(
         told: told.again(),
     };
     let board = Publisher::new(alloc, first, second, lookers, front, history)?;
+    Ok((board, told))
+}
+
+/// A board without published actions, which shows the plant that the run begins with, and a number of looks at it. It takes two
+/// of each: the plant and its copy, and room for the last 65,536 events. An error means out of memory, and has the board if it
+/// was begun: end it by [`Publisher::take`].
+pub fn open_board<J: RunId, P: Alarms + Drop>(
+    alloc: Global,
+    history: NewHistory<Growth>,
+    moments: &Moments<J>,
+    plant: P,
+    lookers: usize,
+) -> Result<(SharedBoard<J, P>, Vec<SharedLook<J, P>>), Option<SharedBoard<J, P>>>
+    requires book { history.seen.book ≡ J.book }
+    requires moments { moments.now ≡ [] }
+    requires base { P.plant plant ≡ J.base }
+    requires lookers { (0 < lookers) × (lookers < 2 ^ 32) }
+    ensures published { IfOk result (λ r. board_shown r.0 ≡ []) }
+    ensures pending { IfOk result (λ r. board_pending r.0 ≡ []) }
+    ensures lookers { IfOk result (λ r. vec_len r.1 ≡ lookers) }
+{
+    let extent = Extent::new(&plant);
+    let Ok((board, told)) = begin(alloc, history, moments, plant, lookers) else {
+        return Err(None);
+    };
     match looks(alloc, &board, &told, &extent, lookers) {
         Ok(looks) => Ok((board, looks)),
-        Err(fault) => {
-            drop(board.take(rt));
-            Err(fault)
-        }
+        Err(_) => Err(Some(board)),
     }
 }
 

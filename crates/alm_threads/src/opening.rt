@@ -17,7 +17,7 @@ use alm_history::NewHistory;
 use alm_model::Alarms;
 use alm_moments::{Moments, Recorder, RunId};
 use alm_plant::Plant;
-use alm_rings::{SlotEnds, batches_beside, open_batches};
+use alm_rings::{batches_beside, open_batches};
 use alm_shared::{Durable, Growth, NewRun, SharedBoard, SharedLook, open_board};
 use alm_store::{Phase, Store};
 use alm_types::Slot;
@@ -42,7 +42,14 @@ fn board_of<'h, J: RunId, P: Alarms + Drop, H: Hold, R: Wait>(
     ensures pending { IfOk result (λ r. board_pending r.0 ≡ []) }
     ensures looks { IfOk result (λ r. length r.1.items ≡ length slots.now) }
 {
-    let (board, looks) = open_board::<J, P, R>(rt, alloc, history, moments, plant, slots.len())?;
+    let (board, looks) = match open_board::<J, P>(alloc, history, moments, plant, slots.len()) {
+        Ok(opened) => opened,
+        Err(None) => return Err(AllocError),
+        Err(Some(board)) => {
+            drop(board.take(rt));
+            return Err(AllocError);
+        }
+    };
     match watched(alloc, hold, slots, looks) {
         Ok(looks) => Ok((board, looks)),
         Err(fault) => {
@@ -50,6 +57,13 @@ fn board_of<'h, J: RunId, P: Alarms + Drop, H: Hold, R: Wait>(
             Err(fault)
         }
     }
+}
+
+// A plant's copy for the sequencer, and one for the board.
+fn copies_of<P: Alarms + Drop>(alloc: Global, plant: &P) -> Result<(P, P), AllocError>
+    ensures { IfOk result (λ r. (P.plant r.0 ≡ P.plant plant.now) × (P.plant r.1 ≡ P.plant plant.now)) }
+{
+    Ok((plant.copy(alloc)?, plant.copy(alloc)?))
 }
 
 /// The parts of a run for these slots, over an idle store; each look reports to the hold. The store is returned if out of memory, or
@@ -88,10 +102,7 @@ pub fn parts_of<'h, J: RunId, K: Store, H: Hold, R: Wait>(
         return Err(store);
     };
     batches_beside(&mut ends, &mut fetch);
-    let Ok(plant) = store.stored().copy(alloc) else {
-        return Err(store);
-    };
-    let Ok(shown) = store.stored().copy(alloc) else {
+    let Ok((plant, shown)) = copies_of(alloc, store.stored()) else {
         return Err(store);
     };
     let moments = recorder.moments();
@@ -100,25 +111,22 @@ pub fn parts_of<'h, J: RunId, K: Store, H: Hold, R: Wait>(
     ) else {
         return Err(store);
     };
-    let SlotEnds {
-        consoles,
-        inboxes,
-        outboxes,
-    } = slot_ends;
-    let flusher = FlusherParts {
-        store,
-        outboxes,
-        fetch,
-    };
     Ok(Parts {
         slots,
-        consoles,
+        consoles: slot_ends.consoles,
         looks,
         board,
         middle: Middle {
             plant,
-            rings: Rings { inboxes, ends },
-            flusher,
+            rings: Rings {
+                inboxes: slot_ends.inboxes,
+                ends,
+            },
+            flusher: FlusherParts {
+                store,
+                outboxes: slot_ends.outboxes,
+                fetch,
+            },
             recorder,
         },
     })

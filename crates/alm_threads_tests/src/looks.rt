@@ -68,7 +68,7 @@ fn answered_in_turn<J: RunId, K: Store, R: Wait>(
         return None;
     };
     let mut answer = Answer::new(alloc);
-    match open_board::<J, Plant, R>(rt, alloc, history, &recorder.moments(), plant, 1) {
+    match open_board::<J, Plant>(alloc, history, &recorder.moments(), plant, 1) {
         Ok((board, mut looks)) => {
             let before = looks.get_mut(0).map(|look| answered(look, &mut answer));
             drop(board.take(rt));
@@ -78,7 +78,11 @@ fn answered_in_turn<J: RunId, K: Store, R: Wait>(
                 _ => None,
             }
         }
-        Err(_) => None,
+        Err(None) => None,
+        Err(Some(board)) => {
+            drop(board.take(rt));
+            None
+        }
     }
 }
 
@@ -124,15 +128,14 @@ fn recalled_in_turn<J: RunId, K: Store, R: Wait>(
     let recorder = Recorder::<J>::new(moments, &store)?;
     let plant = store.stored().copy(alloc).ok()?;
     let mut events = Vec::with_capacity(alloc, MOST_TOLD).ok()?;
-    let Ok((board, mut looks)) = open_board::<J, Plant, R>(
-        rt,
-        alloc,
-        history,
-        &recorder.moments(),
-        plant,
-        1,
-    ) else {
-        return None;
+    let moments = recorder.moments();
+    let (board, mut looks) = match open_board::<J, Plant>(alloc, history, &moments, plant, 1) {
+        Ok(opened) => opened,
+        Err(None) => return None,
+        Err(Some(board)) => {
+            drop(board.take(rt));
+            return None;
+        }
     };
     let Some(look) = looks.get_mut(0) else {
         drop(board.take(rt));
