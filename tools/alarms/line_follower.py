@@ -4,6 +4,7 @@ It begins with the plant as it was archived, where the server remembers each act
 they are. Each action of SINCE is played on a model of the plant from there on. What the server no longer remembers is a
 gap. Floods are asked.
 """
+import collections
 from dataclasses import dataclass, field
 from typing import Callable, Iterator, Optional
 
@@ -18,7 +19,7 @@ from .table_file import Table, fixed
 
 # In the place of a file's number.
 LINES = "lines"
-# So many actions that are archived already are asked again: where they are others, it is another plant.
+# So many actions that are known already are asked again at a new connection: where they are others, it is another plant.
 AGAIN = 256
 # The plant of a table as it was archived, behind the action before this number or a later one; none where the archive
 # hasn't each action up to there.
@@ -40,6 +41,7 @@ class LineMirror:
 
     def __init__(self, plant: PlantModel, counts: list[int]):
         self.plant, self.counts = plant, counts
+        self.recent: collections.deque[Entry] = collections.deque(maxlen=AGAIN)
 
     @classmethod
     def of_rows(cls, client: Client, table: Table) -> "LineMirror":
@@ -71,6 +73,7 @@ class LineMirror:
         """Plays an action, unless the plant has it already, or its alarm's row is newer. `NoDevice` says that it is
         none that the plant admits."""
         action = entry.action
+        self.recent.append(entry)
         if action.number <= self.plant.count:
             return Step(action, entry.moment, [], [], entry.slot)
         if action.word == "CLOCK":
@@ -81,6 +84,14 @@ class LineMirror:
         else:
             self.plant.count, self.plant.now, changes = action.number, entry.moment, []
         return Step(action, entry.moment, changes, [], entry.slot)
+
+    def is_of(self, client: Client) -> bool:
+        """Whether a server tells the last actions as they were told before, as far as it remembers them."""
+        start = max(client.since().first - 1, self.count - AGAIN)
+        before = {entry.action.number: entry for entry in self.recent}
+        return start >= self.count or all(
+            before.get(entry.action.number, entry) == entry for entry in client.since(start).entries
+        )
 
     def take_floods(self, floods: list[Flood]) -> list[FloodChange]:
         """Takes what was asked of the areas; which floods began or ended."""
@@ -103,6 +114,8 @@ class LineFollower:
     def __init__(self, place: Place, served: Served):
         self.path, self.served = str(place), served
         self.begun: Optional[LineMirror] = None
+        # the connection at which the plant is known to be the one that is followed
+        self.client: Optional[Client] = None
         self.is_broken = False
         self.kept: Kept = lambda _table, _first: None
 
@@ -141,7 +154,7 @@ class LineFollower:
         client, table = known(self.served.asked.client), self.served.asked.table
         if self.begun is None:
             return self.begin(client, table)
-        if self.served.count < self.mirror.count or fixed(table.alarms) != fixed(self.mirror.plant.table()):
+        if self.is_other(client, table):
             last, self.begun = self.mirror.count, None
             self.served.forget()
             return Told([Replaced(last, None)])
@@ -151,6 +164,16 @@ class LineFollower:
             self.begun, self.is_broken = LineMirror.of_rows(client, table), False
             return Told([Gap(last + 1, self.mirror.count)])
         return told
+
+    def is_other(self, client: Client, table: Table) -> bool:
+        """Whether the server has another plant than the one that is followed. That may be so at a new connection."""
+        if client is self.client:
+            return self.served.count < self.mirror.count
+        has_table = fixed(table.alarms) == fixed(self.mirror.plant.table())
+        if self.served.count < self.mirror.count or not has_table or not self.mirror.is_of(client):
+            return True
+        self.client = client
+        return False
 
     def begin(self, client: Client, table: Table) -> Told:
         """Goes on behind what is archived, where the server remembers what came then."""
