@@ -178,4 +178,37 @@ def other_plant(yard: Yard, device: str, database: str, port: int) -> None:
     server.end()
 
 
-CHECKS = {"by_lines": by_lines, "restarts": restarts}
+def restored(yard: Yard, _count: int) -> str:
+    """An older copy that is restored while an archiver runs, and has more actions by the time it looks again, is
+    another plant."""
+    dice = random.Random(9)
+    table = draw_plant(dice, 6, 1, 400_000)
+    device, database = new_device(yard, "restored", table), yard.path("restored.sqlite")
+    copy, hand = shutil.copyfile(device, yard.path("copy.device")), Hand(dice, table)
+    server = yard.serve(device)
+    running = archiver(database, server.port)
+    await_said(running, "a new archive\n")
+    hand.connect(server)
+    hand.ask(60)
+    await_true("all of them", lambda: last_archived(database) == len(hand.accepted))
+    before = rows_of(database, ACTIONS, 1)
+    running.send_signal(signal.SIGSTOP)
+    hand.leave()
+    server.end()
+    os.replace(copy, device)
+    server = yard.serve(device, server.port)
+    other = Hand(dice, table, hand.moment)
+    other.connect(server)
+    while other.count() < len(hand.accepted) + 20:
+        other.ask(20)
+    running.send_signal(signal.SIGCONT)
+    await_true("another plant", lambda: rows_of(database, "SELECT COUNT(*) FROM plant") == [(2,)])
+    check(rows_of(database, ACTIONS, 1) == before, "the plant before has others", rows_of(database, ACTIONS, 1)[-3:])
+    running.kill()
+    running.communicate()
+    other.leave()
+    server.end()
+    return "a restored copy"
+
+
+CHECKS = {"by_lines": by_lines, "restarts": restarts, "restored": restored}

@@ -77,9 +77,11 @@ def await_server(place: Place, pid: Optional[int], groups: Optional[list[int]], 
         if not runs(pid):
             return
         time.sleep(PAUSE)
-    if groups and isinstance(place, str):
+    if not isinstance(place, str):
+        return
+    if groups:
         share(place, groups)
-    for user, slot in lets if isinstance(place, str) else ():
+    for user, slot in lets:
         let(place, user, slot)
 
 
