@@ -30,7 +30,7 @@ from lib.tools import Yard, await_true, end_all, started, tool
 # The slots of the archivers, with the device and without.
 SLOTS = {"device": 13, "lines": 12}
 # Turns of a day and of a short one, and requests of each client in a turn.
-TURNS, FEW, REQUESTS = 24, 8, 40
+TURNS, FEW, REQUESTS = 24, 10, 40
 SEGMENT = 2_000_000
 # Rows are held against the server's each half a second, and the state is kept each second.
 ARCHIVER = """
