@@ -3,8 +3,8 @@
 
     bench/operators/run.py [PROGRAM] [--seconds 20] [--rates 20,200]
 
-PROGRAM is a build of alm_server, this repository's where it is left out. The plant has 16,384 alarms in 64 areas, and all
-stand unacknowledged; the server remembers its last 65,536 actions. A clock sends each second, and a feed changes a
+PROGRAM is a build of alm_server, this repository's where it is left out. The plant has 16,384 alarms in 64 areas, and
+all stand unacknowledged; the server remembers its last 65,536 actions. A clock sends each second, and a feed changes a
 condition so many times a second. Each operator has the plant's rows, asks SINCE each 90 milliseconds, and ROW for what
 that names, as docs/PROTOCOL.md has it.
 

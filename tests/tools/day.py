@@ -3,11 +3,11 @@
 
     tests/tools/day.py PROGRAM [--short] [--seed N]
 
-All eighteen slots are taken: sixteen clients ask and write down each reply, two are the archivers'. Server and archivers
-are killed at drawn moments, the archivers are off for a while, the table is changed, and an older copy is restored. Then
-each action of each plant is in each archive once, under its number and with who asked, as the clients wrote it down; or
-it lies in a gap that is told, and in one alone. What actions did is what the program shows of them. An action that had
-no reply may be there or not. A seed draws the same day; threads run as they do.
+All eighteen slots are taken: sixteen clients ask and write down each reply, two are the archivers'. Server and
+archivers are killed at drawn moments, the archivers are off for a while, the table is changed, and an older copy is
+restored. Then each action of each plant is in each archive once, under its number and with who asked, as the clients
+wrote it down; or it lies in a gap that is told, and in one alone. What actions did is what the program shows of them.
+An action that had no reply may be there or not. A seed draws the same day; threads run as they do.
 """
 import os
 import random

@@ -1,5 +1,5 @@
-"""Clients of a drawn day: each writes down what it asked, and each reply as it came. A part of day.py, with no code of the
-tools."""
+"""Clients of a drawn day: each writes down what it asked, and each reply as it came. A part of day.py. It asks by no
+code of the tools."""
 import collections
 import random
 import socket

@@ -1,5 +1,5 @@
-"""The plant of an archive as it was behind one of its actions, for an archiver that goes by lines. Started again it goes
-on from there, and no action is missing that the server still remembers."""
+"""The plant of an archive as it was behind one of its actions, for an archiver that goes by lines. Started again it
+goes on from there, and no action is missing that the server still remembers."""
 import json
 from typing import Optional
 

@@ -19,7 +19,8 @@ from .table_file import Table, fixed
 
 # In the place of a file's number.
 LINES = "lines"
-# So many actions that are known already are asked again at a new connection: where they are others, it is another plant.
+# So many actions that are known already are asked again at a new connection: where they are others, the plant is
+# another one.
 AGAIN = 256
 # The plant of a table as it was archived, behind the action before this number or a later one; none where the archive
 # hasn't each action up to there.
