@@ -191,8 +191,8 @@ def count_of_served(server: Server) -> int:
 
 def last_of(database: str, plant: int) -> int:
     """The last action of a plant that is archived, or told as gone."""
-    query = "SELECT MAX(n) FROM (SELECT number n FROM action WHERE plant = {0} UNION SELECT last FROM gap WHERE plant = {0})"
-    return rows_of(database, query.format(plant))[0][0] or 0
+    numbers = "SELECT number AS n FROM action WHERE plant = {0} UNION SELECT last FROM gap WHERE plant = {0}"
+    return rows_of(database, f"SELECT MAX(n) FROM ({numbers.format(plant)})")[0][0] or 0
 
 
 def run_day(yard: Yard, seed: int, turns: int) -> str:
