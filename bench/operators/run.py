@@ -114,9 +114,9 @@ class Plant:
         self.feed, self.clock, self.moment = Client(self.port, FEED), Client(self.port, CLOCK), 1
         self.values = [0] * ALARMS
         self.clock.ask(["CLOCK 1"])
-        for turn in range(REMEMBERED // ALARMS + 1):
+        # an odd number of turns, behind which all stand
+        for _ in range(REMEMBERED // ALARMS | 1):
             self.feed.ask([self.change(alarm) for alarm in range(ALARMS)])
-        assert set(self.values) == {60}, "an odd number of turns"
 
     def change(self, alarm: int) -> str:
         """The next value of an alarm: its condition comes or goes."""

@@ -219,7 +219,7 @@ def run_day(yard: Yard, seed: int, turns: int) -> str:
         check("Traceback" not in one.said(), one.said())
     total = sum(last for _, last in ended)
     check(gone["device"] == 0, "the archive of the device lacks", gone["device"])
-    check(gone["lines"] < total / 2, "the archive by lines lacks", gone["lines"], "of", total)
+    check(gone["lines"] < total * 3 / 4, "the archive by lines lacks", gone["lines"], "of", total)
     return (
         f"{total} actions of {len(ended)} plants, {day.server_kills} kills of the server, "
         f"{sum(one.kills for one in day.archives)} of archivers; by lines {gone['lines']} in gaps"
