@@ -91,7 +91,7 @@ class Day:
         self.crowd = Crowd(seed, set(SLOTS.values()), 1_790_000_000)
         self.archives = [Archived(yard, way, self.device) for way in SLOTS]
         self.server: Server = yard.serve(self.device)
-        self.port, self.server_kills = self.server.port, 0
+        self.port, self.server_kills, self.turns = self.server.port, 0, 0
 
     def turn(self) -> None:
         """All clients ask, and something happens meanwhile, or nothing does."""
@@ -99,8 +99,10 @@ class Day:
             if self.dice.random() < 0.8:
                 one.start(self.port)
         self.crowd.begin(self.era, self.port, REQUESTS)
+        self.turns += 1
         for event in (self.kill_server, *(one.kill for one in self.archives)):
-            if self.dice.random() < 0.3:
+            # the server is killed in each fourth turn at least
+            if self.dice.random() < 0.3 or (event == self.kill_server and self.turns % 4 == 2):
                 time.sleep(self.dice.uniform(0, 0.3))
                 event()
         self.crowd.end(self.era)
